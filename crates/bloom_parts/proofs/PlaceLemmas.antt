@@ -1,0 +1,72 @@
+-- Positions of a hash, one after the other.
+use Rattle.std.proofs.Common.{◌≡◌, ◌↔◌, ℕ, zero, suc, ◌+◌, ◌*◌, ◌/◌, ◌%◌, ◌^◌, ◌<◌, Bool, true, false, ◌||◌, ◌&&◌, eqb, refl, sym, ◌∙◌, ap, subst, arith, inl, inr, lit<}
+use Rattle.std.proofs.lemmas.Bool.{cases_lt, or_cases, and_parts, and_from, or_left, or_right, eqb-true, eq-eqb, both_ways}
+use Rattle.std.proofs.Math.Nat.{div-lt_iff_lt-mul, mul-lt-mul_of_pos_right, mul_comm}
+use Rattle.bloom_parts.specs.Chain.{chain}
+use Rattle.bloom_parts.specs.Places.{place, positions, are_in, IsPosition, IsPart, PositionsLaw, SubsetLaw, RangeLaw}
+
+position-from : (n k hash p : ℕ) → positions n k hash p ≡ true → IsPosition n k hash p
+unfolding positions
+position-from n zero hash p is = absurd (both_ways false refl is)
+position-from n (suc k) hash p is =
+    elim (or_cases (positions n k hash p) (eqb p (place n hash k)) is) [
+      | inl earlier ↦
+          let found = position-from n k hash p earlier in
+          (found.0, omega (arith, found.1), found.2)
+      | inr here ↦ (k, omega arith, sym (eqb-true p (place n hash k) here))
+    ]
+
+position-to : (n k hash p : ℕ) → IsPosition n k hash p → positions n k hash p ≡ true
+unfolding positions
+position-to n zero hash p found = absurd (omega (arith, found.1))
+position-to n (suc k) hash p found = elim (cases_lt found.0 k) [
+  | inl earlier ↦
+      or_left (positions n k hash p) (eqb p (place n hash k))
+      (position-to n k hash p (found.0, earlier, found.2))
+  | inr late ↦
+      let same : found.0 ≡ k = omega (arith, found.1) in
+      or_right (positions n k hash p) (eqb p (place n hash k))
+      (eq-eqb p (place n hash k) (sym found.2 ∙ ap (place n hash) same))
+]
+
+pub positions_law : PositionsLaw
+positions_law n k hash p = (position-from n k hash p, position-to n k hash p)
+
+-- where all are in a set, their positions are a part of it
+pub part-from : (n k hash : ℕ) (A : ℕ → Bool) → are_in n k hash A ≡ true → IsPart (positions n k hash) A
+unfolding positions are_in
+part-from n zero hash A all p is = absurd (both_ways false refl is)
+part-from n (suc k) hash A all p is =
+    let parts = and_parts (are_in n k hash A) (A (place n hash k)) all in
+    elim (or_cases (positions n k hash p) (eqb p (place n hash k)) is) [
+      | inl earlier ↦ part-from n k hash A parts.0 p earlier
+      | inr here ↦ ap A (eqb-true p (place n hash k) here) ∙ parts.1
+    ]
+
+pub part-to : (n k hash : ℕ) (A : ℕ → Bool) → IsPart (positions n k hash) A → are_in n k hash A ≡ true
+unfolding positions are_in
+part-to n zero hash A part = refl
+part-to n (suc k) hash A part =
+    let here = place n hash k in
+    and_from (are_in n k hash A) (A (place n hash k))
+    (part-to n k hash A (λ p is. part p (or_left (positions n k hash p) (eqb p (place n hash k)) is)))
+    (part here (or_right (positions n k hash here) (eqb here here) (eq-eqb here here refl)))
+
+pub subset_law : SubsetLaw
+subset_law n k hash A = (part-from n k hash A, part-to n k hash A)
+
+chain-fits : (hash i : ℕ) → hash < 2 ^ 64 → chain hash i < 2 ^ 64
+unfolding chain
+chain-fits hash zero fits = fits
+chain-fits hash (suc i) fits = omega arith
+
+-- a part of n that is a hash's share of 2^64 is below n
+share-below : (n hash : ℕ) → 0 < n → hash < 2 ^ 64 → hash * n / 2 ^ 64 < n
+share-below n hash some fits =
+    let below : hash * n < 2 ^ 64 * n = mul-lt-mul_of_pos_right fits some in
+    (div-lt_iff_lt-mul (lit< tt)).1 (subst (λ m. hash * n < m) (mul_comm (2 ^ 64) n) below)
+
+pub range_law : RangeLaw
+range_law n k hash p some fits is =
+    let found = position-from n k hash p is in
+    subst (λ q. q < n) found.2 (share-below n (chain hash found.0) some (chain-fits hash found.0 fits))

@@ -1,0 +1,18 @@
+-- Words of 64 bits as a set of positions, the content of a Bloom filter (B. H. Bloom, "Space/time
+-- trade-offs in hash coding with allowable errors", 1970). A position is a number below 64 times the
+-- number of words; where its bit lies is the choice of the crate fastbloom 0.17.0.
+use Rattle.std.specs.Prelude.{ℕ, ◌*◌, ◌/◌, ◌%◌, ◌^◌, Bool, List, slice_index, ◌==◌}
+use Rattle.std.specs.Int.{bit_at}
+
+-- whether the bit of a position is on in its word, where bit 0 is the lowest
+abbrev pub bit_is_on : ℕ → ℕ → Bool
+bit_is_on word p = bit_at word (p % 64) == 1
+
+-- whether a position is on in words: it lies in word p / 64, and past the last word none is on
+unfoldable pub content : List ℕ → ℕ → Bool
+content words p = bit_is_on (slice_index words (p / 64)) p
+
+-- where a hash lies among n positions, by multiply and shift (D. Lemire, "Fast random integer
+-- generation in an interval", 2019, section 3)
+abbrev pub index_of : ℕ → ℕ → ℕ
+index_of n hash = hash * n / 2 ^ 64

@@ -1,0 +1,33 @@
+-- What a list of deciders makes of a set of positions. Plain commands and word steps are deciders
+-- alike. This way to look back through a list is the project's own.
+use Rattle.std.specs.Prelude.{ℕ, Bool, true, false, if◌then◌else◌, List, [], ◌∷◌, Option, Some, None, unwrap_or}
+use Rattle.std.specs.Option.{option_or}
+
+-- what it makes of each position: Some true is on, Some false is off, None leaves it undecided
+abbrev pub Decider : Type 0
+Decider = ℕ → Option Bool
+
+-- leaves every position undecided
+abbrev pub decides_nothing : Decider
+decides_nothing p = None
+
+-- makes the positions of a set on
+abbrev pub makes_on : (ℕ → Bool) → Decider
+makes_on A p = if A p then Some true else None
+
+-- makes every position off
+abbrev pub makes_all_off : Decider
+makes_all_off p = Some false
+
+-- makes every position off that isn't in a set
+abbrev pub makes_off_outside : (ℕ → Bool) → Decider
+makes_off_outside A p = if A p then None else Some false
+
+-- what the last decider of a list that decides a position makes it
+abbrev pub last_decision : List Decider → ℕ → Option Bool
+last_decision [] p = None
+last_decision (d ∷ ds) p = option_or (last_decision ds p) (d p)
+
+-- the set after the deciders: a position that none decides is as it was
+abbrev pub state : (ℕ → Bool) → List Decider → ℕ → Bool
+state A ds p = unwrap_or (last_decision ds p) (A p)

@@ -1,0 +1,38 @@
+-- The positions of a hash in a filter of n bits and k hashes (fastbloom 0.17.0, lib.rs).
+use Rattle.std.specs.Prelude.{◌≡◌, ◌↔◌, ◌<◌, ◌^◌, ℕ, zero, suc, Bool, true, false, ◌||◌, ◌&&◌, ◌==◌}
+use Rattle.bloom_parts.specs.Content.{index_of}
+use Rattle.bloom_parts.specs.Chain.{chain}
+
+-- place i of a hash
+abbrev pub place : ℕ → ℕ → ℕ → ℕ
+place n hash i = index_of n (chain hash i)
+
+-- the set of the first k places of a hash
+unfoldable pub positions : ℕ → ℕ → ℕ → ℕ → Bool
+positions n zero hash p = false
+positions n (suc k) hash p = positions n k hash p || p == place n hash k
+
+-- whether the first k places of a hash are all in a set
+unfoldable pub are_in : ℕ → ℕ → ℕ → (ℕ → Bool) → Bool
+are_in n zero hash A = true
+are_in n (suc k) hash A = are_in n k hash A && A (place n hash k)
+
+-- p is one of the first k places of a hash
+abbrev pub IsPosition : ℕ → ℕ → ℕ → ℕ → Type 0
+IsPosition n k hash p = (i : ℕ) × (i < k) × (place n hash i ≡ p)
+
+-- one set is a part of the other
+abbrev pub IsPart : (ℕ → Bool) → (ℕ → Bool) → Type 0
+IsPart A B = (p : ℕ) → A p ≡ true → B p ≡ true
+
+-- `positions` is the set of the positions
+abbrev pub PositionsLaw : Type 0
+PositionsLaw = (n k hash p : ℕ) → (positions n k hash p ≡ true) ↔ IsPosition n k hash p
+
+-- `are_in` is the subset test
+abbrev pub SubsetLaw : Type 0
+SubsetLaw = (n k hash : ℕ) (A : ℕ → Bool) → (are_in n k hash A ≡ true) ↔ IsPart (positions n k hash) A
+
+-- each position lies within the bits
+abbrev pub RangeLaw : Type 0
+RangeLaw = (n k hash p : ℕ) → 0 < n → hash < 2 ^ 64 → positions n k hash p ≡ true → p < n

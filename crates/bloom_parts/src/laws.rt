@@ -1,0 +1,13 @@
+//! Laws of the definitions that contracts cite. These functions do nothing: their contracts are the laws.
+ghost use Rattle.bloom_parts.specs.Places.{PositionsLaw, SubsetLaw, RangeLaw};
+
+/// The positions of a hash are the first places of its chain, and each lies within the bits.
+pub fn positions_of_hash()
+    ensures members { PositionsLaw }
+    ensures range { RangeLaw }
+{}
+
+/// The test of a hash is whether its positions are a part of the set.
+pub fn test_of_hash()
+    ensures { SubsetLaw }
+{}

@@ -1,0 +1,7 @@
+//! The parts that Bloom filters are made of: words of bits, the chain of a hash, and refusals.
+#![tactic(auto)]
+
+pub mod bit_vector;
+pub mod error;
+pub mod hasher;
+pub mod laws;
