@@ -1,0 +1,3 @@
+mod LawLemmas
+mod PositionLemmas
+mod ReplyLemmas

@@ -1,0 +1,35 @@
+-- What contracts see of a Bloom filter, and what a caller tests of it (B. H. Bloom, 1970).
+use Rattle.std.specs.Prelude.{◌≡◌, ℕ, ◌*◌, Bool, true, ◌||◌, List, length, refl}
+use Rattle.std.specs.Coded.{Coded, code_by, coded×, coded_ℕ, coded_list}
+use Rattle.bloom_parts.specs.Content.{content}
+use Rattle.bloom_parts.specs.Places.{positions, are_in}
+
+-- the words, the number of hashes, and the hasher
+pub record Filter (S : Type 0) : Type 0 where
+  pub words : List ℕ
+  pub hashes : ℕ
+  pub hasher : S
+
+-- a filter is stored as its fields
+abbrev pub filter_code : {S : Type 0} → Coded S → Coded (Filter S)
+filter_code {S} code =
+    code_by (List ℕ × (ℕ × S)) (coded× (coded_list coded_ℕ) (coded× coded_ℕ code))
+    (λ f. (f.words, (f.hashes, f.hasher)))
+    (λ p. record { words = p.0; hashes = p.1.0; hasher = p.1.1 }) (λ _. refl)
+
+-- as many words and as many hashes
+pub record SameShape {S : Type 0} (f g : Filter S) : Type 0 where
+  pub words : length f.words ≡ length g.words
+  pub hashes : f.hashes ≡ g.hashes
+
+-- whether all positions of a hash are on in a filter
+abbrev pub contains : {S : Type 0} → Filter S → ℕ → Bool
+contains f hash = are_in (64 * length f.words) f.hashes hash (content f.words)
+
+-- from old to new the positions of a hash were turned on, and the reply is whether all were on before
+pub record Inserts {S : Type 0} (old : Filter S) (hash : ℕ) (new : Filter S) (reply : Bool) : Type 0 where
+  pub answers : reply ≡ contains old hash
+  pub bits : (p : ℕ) → content new.words p
+      ≡ (content old.words p || positions (64 * length old.words) old.hashes hash p)
+  pub shape : SameShape old new
+  pub hasher : new.hasher ≡ old.hasher

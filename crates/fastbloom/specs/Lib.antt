@@ -1,0 +1,5 @@
+pub mod Builders
+pub mod Commands
+pub mod Filter
+pub mod Laws
+pub mod Replies

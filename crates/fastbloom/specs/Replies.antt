@@ -1,0 +1,37 @@
+-- What commands answer: the subset test just before each of them.
+use Rattle.std.specs.Prelude.{◌≡◌, ℕ, ◌*◌, Bool, List, [], ◌∷◌, ◌++◌, Option, Some, None, length, option_to_list, option_map}
+use Rattle.bloom_parts.specs.Content.{content}
+use Rattle.bloom_parts.specs.Places.{are_in}
+use Rattle.fastbloom.specs.Commands.{Operation, Insert, Contains, Clear, Union, Intersect, state_after}
+use Rattle.fastbloom.specs.Filter.{Filter, SameShape}
+
+-- the hash that a command asks about
+abbrev pub asked_by : Operation → Option ℕ
+asked_by (Insert hash) = Some hash
+asked_by (Contains hash) = Some hash
+asked_by Clear = None
+asked_by (Union other) = None
+asked_by (Intersect other) = None
+
+-- the reply to a command, if it gives one: whether the positions of its hash are in the set just before
+abbrev pub reply : ℕ → ℕ → (ℕ → Bool) → Operation → Option Bool
+reply n k A operation = option_map (λ hash. are_in n k hash A) (asked_by operation)
+
+-- the replies to commands that come after earlier ones
+abbrev pub replies_after : ℕ → ℕ → (ℕ → Bool) → List Operation → List Operation → List Bool
+replies_after n k A earlier [] = []
+replies_after n k A earlier (operation ∷ later) =
+    option_to_list (reply n k (state_after n k A earlier) operation)
+    ++ replies_after n k A (earlier ++ operation ∷ []) later
+
+-- the replies to a list of commands, in order
+abbrev pub replies : ℕ → ℕ → (ℕ → Bool) → List Operation → List Bool
+replies n k A operations = replies_after n k A [] operations
+
+-- the list theorem: from old to new the commands were carried out in order, with these replies
+pub record CarriesOut {S : Type 0} (old : Filter S) (operations : List Operation) (new : Filter S) (given : List Bool) : Type 0 where
+  pub bits : (p : ℕ) → content new.words p
+      ≡ state_after (64 * length old.words) old.hashes (content old.words) operations p
+  pub answers : given ≡ replies (64 * length old.words) old.hashes (content old.words) operations
+  pub shape : SameShape old new
+  pub hasher : new.hasher ≡ old.hasher

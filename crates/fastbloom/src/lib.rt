@@ -1,0 +1,12 @@
+//! Bloom filters: sets of which a look-up may say yes by mistake, and never no.
+#![tactic(auto)]
+
+mod bloom;
+mod builder;
+pub mod laws;
+
+pub use bloom::BloomFilter;
+pub use bloom_parts::bit_vector::Words;
+pub use bloom_parts::error::FilterError;
+pub use bloom_parts::hasher::DefaultHasher;
+pub use builder::BuilderWithBits;
