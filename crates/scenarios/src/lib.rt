@@ -1,0 +1,2 @@
+//! Tests that cross modules: what no contract says, at values from outside.
+#![tactic(auto)]
