@@ -1,9 +1,8 @@
 -- What reading one line took.
-use Rattle.std.proofs.Common.{◌≡◌, ◌≢◌, ℕ, ◌<◌, Bool, true, List, [], ◌∷◌, ◌++◌, length, Option, Some, None, refl, sym, ◌∙◌, ap, append_assoc, append-nil, length-append, arith, inl, inr}
-use Rattle.std.specs.Io.KnownBytes.{Consumes, IsAtEnd, prepend_known}
+use Rattle.std.proofs.Common.{◌≡◌, ◌≢◌, ℕ, ◌<◌, true, List, [], ◌∷◌, ◌++◌, length, Option, Some, None, ◌∙◌, ap, append-nil, length-append, arith, inl, inr}
+use Rattle.std.specs.Io.KnownBytes.{Consumes, IsAtEnd}
 use Rattle.std.proofs.KnownBytes.{Consumes-trans}
-use Rattle.bloom.specs.Lines.{lines_of}
-use Rattle.bloom.specs.Reading.{Takes, has_no_end, TakesLine, TakesLong, Ends}
+use Rattle.bloom.specs.Reading.{has_no_end, TakesLine, TakesLong}
 use Rattle.bloom.proofs.LineLemmas.{lines_of-nil, lines_of-ended, lines_of-last, has_no_end-more, IsEnded-line}
 
 -- the byte at the line's end was taken too

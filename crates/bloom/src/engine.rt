@@ -20,7 +20,8 @@ use text::{put_reply, put_words};
 
 // Carries out a line, and writes its text.
 fn carry_out<W: Write>(filter: &mut BloomFilter, line: Line, output: &mut W) -> Result<(), Fault>
-    ensures carried { OnOk result (Carried filter.old filter.new (W.contents output.old) (W.contents output.new) (line ∷ [])) }
+    ensures carried { OnOk result
+        (Carried filter.old filter.new (W.contents output.old) (W.contents output.new) (line ∷ [])) }
     ensures fault { IfErr result (λ fault. fault ≡ Fault.Output) }
 {
     match line {
@@ -67,8 +68,8 @@ fn serve_lines<R: Read, W: Write>(
 /// What was answered is flushed before each read that may wait, and before the call returns.
 ///
 /// # Errors
-/// `Line` at the first line that isn't a command, with the text of those before it written; `Memory` before
-/// anything was read; `Input` and `Output` where a read, a write or a flush failed.
+/// `Line` at the first line that isn't a command, with the text of those before it written; `Memory`
+/// before anything was read; `Input` and `Output` where a read, a write or a flush failed.
 pub fn serve<R: Read, W: Write>(
     alloc: Global,
     filter: &mut BloomFilter,

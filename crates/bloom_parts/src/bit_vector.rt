@@ -62,7 +62,8 @@ impl BitVec {
     pub fn from_words<I: Iterator<Item = u64>>(alloc: Global, words: I) -> Result<Self, FilterError>
         requires can { I.can_next words }
         requires ends { IsFinite (I.remaining words) }
-        requires fits { EachRunFrom I.next_gives words (λ p. IsTrue p.whole → (1 ≤ length p.items) × (length p.items < 2 ^ 58)) }
+        requires fits { EachRunFrom I.next_gives words
+            (λ p. IsTrue p.whole → (1 ≤ length p.items) × (length p.items < 2 ^ 58)) }
         ensures words { IfOk result (λ v. WholeRun I.next_gives words (λ p. v ≡ p.items)) }
         ensures refused { IsOkUnless result FilterError.Memory }
     {
@@ -84,7 +85,7 @@ impl BitVec {
         ensures value { result ≡ 64 * length self.now }
         ensures least { 64 ≤ result }
     {
-        self.words.len() * 64
+        self.len() * 64
     }
 
     /// The words, word 0 first.
@@ -130,7 +131,7 @@ impl PartialEq for BitVec {
     ghost laws = { partial_equiv_from_equiv nat_list_eq_equiv };
 
     fn eq(&self, other: &Self) -> bool {
-        self.words.as_slice() == other.words.as_slice()
+        self.words == other.words
     }
 }
 

@@ -1,4 +1,5 @@
-//! Laws of the definitions that contracts cite. These functions do nothing: their contracts are the laws.
+//! Laws of the definitions that contracts cite. These functions do nothing: their contracts are the
+//! laws.
 ghost use Rattle.bloom_parts.specs.Places.{PositionsLaw, SubsetLaw, RangeLaw};
 
 /// The positions of a hash are the first places of its chain, and each lies within the bits.

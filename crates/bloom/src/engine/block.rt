@@ -25,7 +25,8 @@ impl Model for Block {
 
     ghost view = { λ b. take (b.end - b.at) (drop b.at b.bytes.items) };
 
-    ghost invariant = { λ b. (b.at ≤ b.end) × (b.end ≤ length b.bytes.items) × (0 < length b.bytes.items) };
+    ghost invariant = { λ b. (b.at ≤ b.end) × (b.end ≤ length b.bytes.items)
+        × (0 < length b.bytes.items) };
 }
 
 impl Block {
@@ -44,7 +45,8 @@ impl Block {
 
     /// Takes the first byte, if there is one.
     pub fn take_byte(&mut self) -> Option<u8>
-        ensures { MatchOption result ((self.old ≡ []) × (self.new ≡ [])) (λ byte. self.old ≡ byte ∷ self.new) }
+        ensures { MatchOption result ((self.old ≡ []) × (self.new ≡ []))
+            (λ byte. self.old ≡ byte ∷ self.new) }
     {
         if self.at == self.end {
             return None;
@@ -68,10 +70,13 @@ impl Block {
     }
 }
 
-// Reads once, and again where the read was interrupted: two counts, so that none ends before the input does.
+// Reads once, and again where the read was interrupted: two counts, so that none ends before the
+// input does.
 fn read_some<R: Read>(input: &mut R, bytes: &mut Vec<u8>) -> Result<usize, Fault>
-    ensures taken { IfOk result (λ n. Consumes (R.remaining input.old) (R.remaining input.new) (take n bytes.new.items)) }
-    ensures end { IfOk result (λ n. n ≡ 0 → 0 < length bytes.new.items → IsAtEnd (R.remaining input.new)) }
+    ensures taken { IfOk result
+        (λ n. Consumes (R.remaining input.old) (R.remaining input.new) (take n bytes.new.items)) }
+    ensures end { IfOk result
+        (λ n. n ≡ 0 → 0 < length bytes.new.items → IsAtEnd (R.remaining input.new)) }
     ensures count { IfOk result (λ n. n ≤ length bytes.new.items) }
     ensures room { length bytes.new.items ≡ length bytes.old.items }
     ensures fault { IfErr result (λ fault. fault ≡ Fault.Input) }
