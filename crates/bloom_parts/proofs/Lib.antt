@@ -1,3 +1,5 @@
 pub mod ContentLemmas
+mod MergeLemmas
 pub mod PlaceLemmas
+mod SetLemmas
 mod StandardFacts
