@@ -3,3 +3,4 @@ mod MergeLemmas
 pub mod PlaceLemmas
 mod SetLemmas
 mod StandardFacts
+mod WordLemmas
