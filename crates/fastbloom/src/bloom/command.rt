@@ -1,0 +1,70 @@
+//! Lists of commands.
+ghost use Rattle.std.specs.Prelude.{◌≡◌, ◌∷◌, [], All, map, option_to_list, IfOk, OnErr, IsOkUnless};
+ghost use Rattle.fastbloom.specs.CommandOf.{operation_of, Fits};
+ghost use Rattle.fastbloom.specs.Replies.{CarriesOut};
+
+use super::BloomFilter;
+use bloom_parts::error::FilterError;
+use std::alloc::Global;
+
+/// One call of a filter, as `replay` takes it.
+#[derive(Debug, Drop)]
+pub enum Command<'a, S> {
+    /// `insert_hash`, which replies.
+    Insert(u64),
+    /// `contains_hash`, which replies.
+    Contains(u64),
+    /// `clear`.
+    Clear,
+    /// `union` with this filter.
+    Union(&'a BloomFilter<S>),
+    /// `intersect` with this filter.
+    Intersect(&'a BloomFilter<S>),
+}
+
+impl<S> BloomFilter<S> {
+    // Carries out one command, and gives its reply if it has one.
+    fn carry_out(&mut self, command: &Command<'_, S>) -> Option<bool>
+        requires { Fits self.old command.now }
+        ensures { CarriesOut self.old (operation_of command.now ∷ []) self.new (option_to_list result) }
+    {
+        match command {
+            Command::Insert(hash) => Some(self.insert_hash(*hash)),
+            Command::Contains(hash) => Some(self.contains_hash(*hash)),
+            Command::Clear => {
+                self.clear();
+                None
+            }
+            Command::Union(other) => {
+                self.union(other);
+                None
+            }
+            Command::Intersect(other) => {
+                self.intersect(other);
+                None
+            }
+        }
+    }
+
+    /// Carries out commands in order, and answers one reply for each `Insert` and `Contains`.
+    ///
+    /// # Errors
+    /// `Memory` where there is no room for the replies, which is made before anything else.
+    pub fn replay(&mut self, alloc: Global, list: &[Command<'_, S>]) -> Result<Vec<bool>, FilterError>
+        // Each filter that the list names has this one's shape, as `same_shape` tests.
+        requires { All (Fits self.old) list.now }
+        ensures ok { IfOk result (λ replies.
+            CarriesOut self.old (map operation_of list.now) self.new replies.items) }
+        ensures refused { IsOkUnless result FilterError.Memory }
+        ensures unchanged { OnErr result (self.new ≡ self.old) }
+    {
+        let mut replies = Vec::with_capacity(alloc, list.len())?;
+        'commands: for command in list {
+            match self.carry_out(command) {
+                Some(reply) => replies.push_reserved(reply),
+                None => {}
+            }
+        }
+        Ok(replies)
+    }
+}
