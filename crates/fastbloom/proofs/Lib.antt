@@ -1,3 +1,4 @@
 mod LawLemmas
+mod ListLemmas
 mod PositionLemmas
 mod ReplyLemmas

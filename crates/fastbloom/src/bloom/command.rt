@@ -50,7 +50,11 @@ impl<S> BloomFilter<S> {
     ///
     /// # Errors
     /// `Memory` where there is no room for the replies, which is made before anything else.
-    pub fn replay(&mut self, alloc: Global, list: &[Command<'_, S>]) -> Result<Vec<bool>, FilterError>
+    pub fn replay(
+        &mut self,
+        alloc: Global,
+        list: &[Command<'_, S>],
+    ) -> Result<Vec<bool>, FilterError>
         // Each filter that the list names has this one's shape, as `same_shape` tests.
         requires { All (Fits self.old) list.now }
         ensures ok { IfOk result (λ replies.
