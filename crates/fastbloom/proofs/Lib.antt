@@ -1,3 +1,5 @@
+mod AlgebraLemmas
+mod FoundLemmas
 mod LawLemmas
 mod ListLemmas
 mod PositionLemmas

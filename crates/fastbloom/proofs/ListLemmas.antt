@@ -2,7 +2,7 @@
 use Rattle.std.proofs.Common.{◌≡◌, ℕ, ◌+◌, ◌*◌, ◌<◌, Bool, List, [], ◌∷◌, ◌++◌, length, take, get_or, map, Option, Some, None, unwrap_or, refl, sym, ◌∙◌, ap, subst, append-nil, append_assoc}
 use Rattle.std.specs.Option.{option_or}
 use Rattle.std.specs.Prelude.{option_to_list}
-use Rattle.std.proofs.lemmas.List.{take_more}
+use Rattle.std.proofs.lemmas.List.{map-append, take_more}
 use Rattle.bloom_parts.specs.Content.{content}
 use Rattle.bloom_parts.specs.Deciders.{Decider, last_decision, state}
 use Rattle.fastbloom.specs.Commands.{Operation, decides, state_after}
@@ -20,10 +20,6 @@ option_or-none (Some x) = refl
 unwrap_or-or : {T : Type 0} (a b : Option T) (x : T) → unwrap_or (option_or a b) x ≡ unwrap_or a (unwrap_or b x)
 unwrap_or-or None b x = refl
 unwrap_or-or (Some y) b x = refl
-
-map-append : {X Y : Type 0} (f : X → Y) (xs ys : List X) → map f (xs ++ ys) ≡ map f xs ++ map f ys
-map-append f [] ys = refl
-map-append f (x ∷ xs) ys = ap (λ l. f x ∷ l) (map-append f xs ys)
 
 -- the later of two lists of deciders decides first
 last_decision-append : (ds es : List Decider) (p : ℕ)
