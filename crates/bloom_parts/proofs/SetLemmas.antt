@@ -1,6 +1,5 @@
 -- What a pass over all words does to positions.
-use Rattle.std.proofs.Common.{◌≡◌, ℕ, zero, suc, ◌/◌, ◌%◌, ◌<◌, min, Bool, true, false, ◌||◌, ◌&&◌, eqb, bit_and, bit_or, List, [], ◌∷◌, length, get_or, replicate, refl, sym, ◌∙◌, ap, arith}
-use Rattle.std.specs.Int.{bit_at}
+use Rattle.std.proofs.Common.{◌≡◌, ℕ, zero, suc, ◌/◌, ◌%◌, ◌<◌, min, false, ◌||◌, ◌&&◌, eqb, bit_and, bit_or, List, [], ◌∷◌, length, get_or, replicate, refl, sym, ◌∙◌, ap, arith}
 use Rattle.std.specs.Simd.Lanes.{zip2}
 use Rattle.std.proofs.lemmas.Nat.Bits.{bit_at_and, bit_at-lt, bit_at-zero}
 use Rattle.bloom_parts.specs.Content.{bit_is_on, content}

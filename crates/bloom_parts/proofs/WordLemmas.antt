@@ -1,5 +1,5 @@
 -- Words and their content determine each other.
-use Rattle.std.proofs.Common.{◌≡◌, ◌↔◌, ℕ, zero, suc, ◌+◌, ◌*◌, ◌/◌, ◌%◌, ◌^◌, ◌<◌, Bool, true, false, eqb, List, length, get_or, refl, sym, ◌∙◌, ap, arith, inl, inr}
+use Rattle.std.proofs.Common.{◌≡◌, ℕ, zero, suc, ◌+◌, ◌*◌, ◌/◌, ◌%◌, ◌^◌, ◌<◌, false, eqb, List, length, get_or, refl, sym, ◌∙◌, ap, arith, inl, inr}
 use Rattle.std.specs.Int.{bit_at}
 use Rattle.std.proofs.lemmas.Nat.Bits.{bit_at-lt, bit_at-zero, same_from_bits_below}
 use Rattle.std.proofs.lemmas.Bool.{cases_lt, both_ways}
@@ -29,11 +29,11 @@ content-at words k i below =
 same_words : (a b : List ℕ) → AreWords a → AreWords b → length a ≡ length b → ((p : ℕ) → content a p ≡ content b p) → a ≡ b
 same_words a b fit fit' long same =
     ext_get_or 0 a b long (λ k within.
-      same_from_bits_below 64 (get_or a k 0) (get_or b k 0)
-      (All-get_or (λ word. word < 2 ^ 64) a k 0 within fit)
-      (All-get_or (λ word. word < 2 ^ 64) b k 0 (omega arith) fit')
-      (λ i below. same_digits _ _ (bit_at-lt _ i) (bit_at-lt _ i)
-        (sym (content-at a k i below) ∙ same (64 * k + i) ∙ content-at b k i below)))
+    same_from_bits_below 64 (get_or a k 0) (get_or b k 0)
+    (All-get_or (λ word. word < 2 ^ 64) a k 0 within fit)
+    (All-get_or (λ word. word < 2 ^ 64) b k 0 (omega arith) fit')
+    (λ i below. same_digits _ _ (bit_at-lt _ i) (bit_at-lt _ i)
+    (sym (content-at a k i below) ∙ same (64 * k + i) ∙ content-at b k i below)))
 
 pub equal_words_law : EqualWordsLaw
 equal_words_law a b fit fit' long = (

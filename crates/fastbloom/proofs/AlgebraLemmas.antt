@@ -1,7 +1,7 @@
 -- Unions and intersections of contents.
 use Rattle.std.proofs.Common.{◌≡◌, Bool, true, false, ◌||◌, ◌&&◌, refl, sym, ◌∙◌, ap}
 use Rattle.bloom_parts.specs.Content.{content}
-use Rattle.fastbloom.specs.Filter.{Filter, Unites, Intersects}
+use Rattle.fastbloom.specs.Filter.{Unites, Intersects}
 use Rattle.fastbloom.specs.Laws.{IsCommutative, IsAssociative, IsIdempotent}
 use Rattle.fastbloom.proofs.PositionLemmas.{or-assoc}
 

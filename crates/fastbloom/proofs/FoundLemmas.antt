@@ -1,5 +1,5 @@
 -- A hash whose positions no later command turns off.
-use Rattle.std.proofs.Common.{◌≡◌, ℕ, zero, suc, ◌*◌, Bool, true, false, cond, length, List, [], ◌∷◌, ◌++◌, map, Option, Some, None, unwrap_or, All, refl, sym, ◌∙◌, ap, subst}
+use Rattle.std.proofs.Common.{◌≡◌, ℕ, ◌*◌, Bool, true, false, cond, length, List, [], ◌∷◌, ◌++◌, map, Option, Some, None, unwrap_or, All, refl, ◌∙◌, ap, subst}
 use Rattle.std.specs.Option.{option_or}
 use Rattle.std.proofs.lemmas.List.{map-append}
 use Rattle.std.proofs.lemmas.List.Elements.{All-head, All-tail, All-map}
@@ -7,11 +7,9 @@ use Rattle.bloom_parts.specs.Content.{content}
 use Rattle.bloom_parts.specs.Deciders.{last_decision}
 use Rattle.bloom_parts.specs.Places.{positions, IsPart}
 use Rattle.fastbloom.specs.CommandOf.{operation_of}
-use Rattle.fastbloom.specs.Commands.{Operation, Insert, Contains, Clear, Union, Intersect, decides, state_after}
-use Rattle.fastbloom.specs.Filter.{Filter, contains}
+use Rattle.fastbloom.specs.Commands.{Operation, Insert, Contains, Clear, Union, Intersect, decides}
 use Rattle.fastbloom.specs.Laws.{Spares, KeptByListLaw, KeptByInsertsLaw, FoundLaw, FoundAfterReplayLaw}
 use Rattle.fastbloom.specs.Replies.{CarriesOut}
-use Rattle.fastbloom.specs.declared.bloom.command.Command.{Command}
 use Rattle.fastbloom.specs.declared.bloom.command.Command.TheVariants as command
 use Rattle.fastbloom.proofs.LawLemmas.{contains-shape}
 use Rattle.fastbloom.proofs.PositionLemmas.{part-from, part-to}

@@ -1,11 +1,11 @@
 -- The laws of filters.
-use Rattle.std.proofs.Common.{◌≡◌, ◌≤◌, ◌↔◌, ℕ, zero, suc, ◌*◌, ◌<◌, Bool, true, false, ◌||◌, ◌&&◌, eqb, nat_eq, length, IsTrue, refl, sym, ◌∙◌, ap, arith, inl, inr}
+use Rattle.std.proofs.Common.{◌≡◌, ℕ, zero, suc, ◌*◌, Bool, true, false, ◌&&◌, nat_eq, length, refl, sym, ◌∙◌, ap, arith, inl, inr}
 use Rattle.std.specs.Cmp.Lexicographic.{pointwise, same_text, nat_list_eq_equiv}
 use Rattle.std.proofs.lemmas.Bool.{or_cases, or_left, or_right, and_parts, and_from, eqb-true, eq-eqb}
 use Rattle.bloom_parts.specs.Content.{content}
-use Rattle.bloom_parts.specs.Places.{are_in, place, positions, IsPart}
-use Rattle.fastbloom.specs.Filter.{Filter, SameShape, contains, Inserts, Clears, Unites, Intersects, same_filter}
-use Rattle.fastbloom.specs.Laws.{InsertLaw, KeptByInsertLaw, KeptByUnionLaw, IntersectionLaw, UnionLaw, ClearLaw, IsCommutative, IsAssociative, IsIdempotent, RebuiltLaw, EqualityLaw}
+use Rattle.bloom_parts.specs.Places.{are_in, place, IsPart}
+use Rattle.fastbloom.specs.Filter.{Filter, SameShape, contains}
+use Rattle.fastbloom.specs.Laws.{InsertLaw, KeptByInsertLaw, KeptByUnionLaw, IntersectionLaw, UnionLaw, ClearLaw, RebuiltLaw, EqualityLaw}
 use Rattle.fastbloom.proofs.PositionLemmas.{part-from, part-to, are_in-off}
 
 -- a look-up in a filter of the same shape

@@ -1,5 +1,5 @@
 -- What contracts see of a Bloom filter, and what a caller tests of it (B. H. Bloom, 1970).
-use Rattle.std.specs.Prelude.{◌≡◌, ℕ, ◌*◌, Bool, true, false, ◌||◌, ◌&&◌, List, length, refl, nat_eq}
+use Rattle.std.specs.Prelude.{◌≡◌, ℕ, ◌*◌, Bool, false, ◌||◌, ◌&&◌, List, length, refl, nat_eq}
 use Rattle.std.specs.Cmp.Lexicographic.{pointwise}
 use Rattle.std.specs.Coded.{Coded, code_by, coded×, coded_ℕ, coded_list}
 use Rattle.bloom_parts.specs.Content.{content}

@@ -30,6 +30,13 @@ impl<S> BloomFilter<S> {
     }
 
     /// Turns on what is on in the other. The hashers aren't looked at.
+    ///
+    /// ```
+    /// bloom.insert_hash(1);
+    /// other.insert_hash(2);
+    /// bloom.union(&other);
+    /// // bloom contains 1 and 2
+    /// ```
     pub fn union(&mut self, other: &Self)
         requires { SameShape self.old other.now }
         ensures unites { Unites self.old other.now self.new }
@@ -40,6 +47,14 @@ impl<S> BloomFilter<S> {
     }
 
     /// Turns off what is off in the other. The hashers aren't looked at.
+    ///
+    /// ```
+    /// bloom.insert_hash(1);
+    /// bloom.insert_hash(2);
+    /// other.insert_hash(2);
+    /// bloom.intersect(&other);
+    /// // bloom contains 2
+    /// ```
     pub fn intersect(&mut self, other: &Self)
         requires { SameShape self.old other.now }
         ensures intersects { Intersects self.old other.now self.new }

@@ -1,4 +1,4 @@
-use Rattle.std.proofs.Common.{◌≡◌, ◌+◌, ◌++◌, ◌∷◌, [], map, take, option_to_list, vec_len, vec_capacity, append-nil, arith, ap, sym, subst, ◌∙◌}
+use Rattle.std.proofs.Common.{◌≡◌, ◌+◌, ◌++◌, map, take, option_to_list, vec_len, vec_capacity, append-nil, arith, ap, sym, subst, ◌∙◌}
 use Rattle.fastbloom.specs.CommandOf.{operation_of}
 use Rattle.fastbloom.specs.Replies.{CarriesOut}
 use Rattle.fastbloom.proofs.ListLemmas.{carries_out-next}
