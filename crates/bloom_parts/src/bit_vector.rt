@@ -138,7 +138,8 @@ impl BitVec {
     /// Turns on what is on in the other.
     pub fn union(&mut self, other: &BitVec)
         requires { length self.old ≡ length other.now }
-        ensures content { (p : ℕ) → content self.new p ≡ (content self.old p || content other.now p) }
+        ensures content { (p : ℕ) → content self.new p
+            ≡ (content self.old p || content other.now p) }
         ensures shape { length self.new ≡ length self.old }
     {
         or_words(&mut self.words, other.words.as_slice());
@@ -147,7 +148,8 @@ impl BitVec {
     /// Turns off what is off in the other.
     pub fn intersect(&mut self, other: &BitVec)
         requires { length self.old ≡ length other.now }
-        ensures content { (p : ℕ) → content self.new p ≡ (content self.old p && content other.now p) }
+        ensures content { (p : ℕ) → content self.new p
+            ≡ (content self.old p && content other.now p) }
         ensures shape { length self.new ≡ length self.old }
     {
         and_words(&mut self.words, other.words.as_slice());

@@ -13,7 +13,7 @@ pub fn test_of_hash()
     ensures { SubsetLaw }
 {}
 
-/// As many words of 64 bits are equal exactly if their contents are, and no position lies past the bits.
+/// As many words are equal exactly if their contents are, and no position lies past the bits.
 pub fn content_of_words()
     ensures equality { EqualWordsLaw }
     ensures range { BoundLaw }

@@ -26,7 +26,8 @@ impl<S> BloomFilter<S> {
     // Carries out one command, and gives its reply if it has one.
     fn carry_out(&mut self, command: &Command<'_, S>) -> Option<bool>
         requires { Fits self.old command.now }
-        ensures { CarriesOut self.old (operation_of command.now ∷ []) self.new (option_to_list result) }
+        ensures { CarriesOut self.old (operation_of command.now ∷ []) self.new
+            (option_to_list result) }
     {
         match command {
             Command::Insert(hash) => Some(self.insert_hash(*hash)),

@@ -41,7 +41,8 @@ impl<S> BloomFilter<S> {
         requires { SameShape self.old other.now }
         ensures unites { Unites self.old other.now self.new }
         // The same, as a list of this one command.
-        ensures same { CarriesOut self.old (operation.Union (content other.now.words) ∷ []) self.new [] }
+        ensures same { CarriesOut self.old
+            (operation.Union (content other.now.words) ∷ []) self.new [] }
     {
         self.bits.union(&other.bits);
     }
@@ -59,7 +60,8 @@ impl<S> BloomFilter<S> {
         requires { SameShape self.old other.now }
         ensures intersects { Intersects self.old other.now self.new }
         // The same, as a list of this one command.
-        ensures same { CarriesOut self.old (operation.Intersect (content other.now.words) ∷ []) self.new [] }
+        ensures same { CarriesOut self.old
+            (operation.Intersect (content other.now.words) ∷ []) self.new [] }
     {
         self.bits.intersect(&other.bits);
     }
@@ -90,7 +92,8 @@ impl<S: Clone> BloomFilter<S> {
 impl<S> PartialEq for BloomFilter<S> {
     ghost eq = { same_filter };
 
-    ghost laws = { partial_equiv_from_equiv (and_equiv (on_equiv (λ f. f.words) nat_list_eq_equiv) (on_equiv (λ f. f.hashes) nat_eq_equiv)) };
+    ghost laws = { partial_equiv_from_equiv (and_equiv
+        (on_equiv (λ f. f.words) nat_list_eq_equiv) (on_equiv (λ f. f.hashes) nat_eq_equiv)) };
 
     fn eq(&self, other: &Self) -> bool {
         self.num_hashes == other.num_hashes && self.bits == other.bits
@@ -98,5 +101,6 @@ impl<S> PartialEq for BloomFilter<S> {
 }
 
 impl<S> Eq for BloomFilter<S> {
-    ghost laws = { and_equiv (on_equiv (λ f. f.words) nat_list_eq_equiv) (on_equiv (λ f. f.hashes) nat_eq_equiv) };
+    ghost laws = { and_equiv
+        (on_equiv (λ f. f.words) nat_list_eq_equiv) (on_equiv (λ f. f.hashes) nat_eq_equiv) };
 }
