@@ -99,12 +99,15 @@ carries_out-append old mid new xs ys r s first second =
     }
 
 -- one more command, which the item at place i of a list says
-pub carries_out-next : {S C : Type 0} (says : C → Operation) (old mid new : Filter S) (list : List C) (i : ℕ) (c : C) (r s : List Bool)
-    → i < length list → c ≡ get_or list i c
+pub carries_out-next : {S C : Type 0} (says : C → Operation) (old mid new : Filter S)
+    (list : List C) (i : ℕ) (c : C) (r s given : List Bool) → i < length list → c ≡ get_or list i c
     → CarriesOut old (map says (take i list)) mid r → CarriesOut mid (says c ∷ []) new s
-    → CarriesOut old (map says (take (i + 1) list)) new (r ++ s)
-carries_out-next says old mid new list i c r s within is first second =
+    → given ≡ r ++ s → CarriesOut old (map says (take (i + 1) list)) new given
+carries_out-next says old mid new list i c r s given within is first second all_given =
     let taken : take (i + 1) list ≡ take i list ++ c ∷ [] =
     take_more list i c within ∙ ap (λ x. take i list ++ x ∷ []) (sym is) in
-    subst (λ l. CarriesOut old l new (r ++ s)) (sym (ap (map says) taken ∙ map-append says (take i list) (c ∷ [])))
-    (carries_out-append old mid new (map says (take i list)) (says c ∷ []) r s first second)
+    let joined : map says (take (i + 1) list) ≡ map says (take i list) ++ says c ∷ [] =
+    ap (map says) taken ∙ map-append says (take i list) (c ∷ []) in
+    subst (λ l. CarriesOut old l new given) (sym joined)
+    (subst (CarriesOut old (map says (take i list) ++ says c ∷ []) new) (sym all_given)
+    (carries_out-append old mid new (map says (take i list)) (says c ∷ []) r s first second))

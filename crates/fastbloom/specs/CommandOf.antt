@@ -1,4 +1,5 @@
--- What the commands of a list say of sets of positions. A filter that a command names counts by its content.
+-- What the commands of a list say of sets of positions. A filter that a command names counts by
+-- its content.
 use Rattle.std.specs.Prelude.{⊤}
 use Rattle.bloom_parts.specs.Content.{content}
 use Rattle.fastbloom.specs.Commands as operation

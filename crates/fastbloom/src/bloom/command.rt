@@ -1,5 +1,5 @@
 //! Lists of commands.
-ghost use Rattle.std.specs.Prelude.{◌≡◌, ◌∷◌, [], All, map, option_to_list, IfOk, OnErr, IsOkUnless};
+ghost use Rattle.std.specs.Prelude.{◌≡◌, ◌+◌, ◌<◌, ◌≤◌, ◌∷◌, ◌++◌, [], All, map, option_to_list, vec_len, vec_capacity, IfOk, OnErr, IsOkUnless};
 ghost use Rattle.fastbloom.specs.CommandOf.{operation_of, Fits};
 ghost use Rattle.fastbloom.specs.Replies.{CarriesOut};
 
@@ -20,6 +20,19 @@ pub enum Command<'a, S> {
     Union(&'a BloomFilter<S>),
     /// `intersect` with this filter.
     Intersect(&'a BloomFilter<S>),
+}
+
+// Adds the reply of a command, if it has one, for which there is room.
+fn add_reply(replies: &mut Vec<bool>, reply: Option<bool>)
+    requires { vec_len replies.old < vec_capacity replies.old }
+    ensures reply { replies.new.items ≡ replies.old.items ++ option_to_list reply }
+    ensures few { vec_len replies.new ≤ vec_len replies.old + 1 }
+    ensures room { vec_capacity replies.new ≡ vec_capacity replies.old }
+{
+    match reply {
+        Some(reply) => replies.push_reserved(reply),
+        None => {}
+    }
 }
 
 impl<S> BloomFilter<S> {
@@ -65,10 +78,8 @@ impl<S> BloomFilter<S> {
     {
         let mut replies = Vec::with_capacity(alloc, list.len())?;
         'commands: for command in list {
-            match self.carry_out(command) {
-                Some(reply) => replies.push_reserved(reply),
-                None => {}
-            }
+            let reply = self.carry_out(command);
+            add_reply(&mut replies, reply);
         }
         Ok(replies)
     }

@@ -76,6 +76,9 @@ impl<S: Clone> BloomFilter<S> {
         ensures words { IfOk result (λ copy. copy.words ≡ self.now.words) }
         ensures hashes { IfOk result (λ copy. copy.hashes ≡ self.now.hashes) }
         ensures hasher { IfOk result (λ copy. S.is_clone self.now.hasher copy.hasher) }
+        // Where clones of hashers equal them, as the default hasher's do, it is the same filter.
+        ensures same { ((h clone : S) → S.is_clone h clone → clone ≡ h)
+            → IfOk result (λ copy. copy ≡ self.now) }
         ensures refused { IsOkUnless result FilterError.Memory }
     {
         let words = self.bits.as_slice().to_vec(alloc)?;
