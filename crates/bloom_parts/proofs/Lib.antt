@@ -1,3 +1,6 @@
 pub mod ContentLemmas
+mod MergeLemmas
 pub mod PlaceLemmas
+mod SetLemmas
 mod StandardFacts
+mod WordLemmas

@@ -1,14 +1,16 @@
 //! Bits in words of 64.
-ghost use Rattle.std.specs.Prelude.{◌≡◌, ℕ, ◌*◌, ◌/◌, ◌%◌, ◌^◌, ◌<◌, ◌≤◌, ◌||◌, ◌==◌, IsTrue, List, length, IfOk, IsOkUnless, nat_eq};
+ghost use Rattle.std.specs.Prelude.{◌≡◌, ℕ, ◌*◌, ◌/◌, ◌%◌, ◌^◌, ◌<◌, ◌≤◌, ◌||◌, ◌&&◌, ◌==◌, false, IsTrue, List, length, IfOk, IsOkUnless, nat_eq};
 ghost use Rattle.std.specs.Cmp.Lexicographic.{pointwise, nat_list_eq_equiv};
 ghost use Rattle.std.specs.Cmp.{partial_equiv_from_equiv};
 ghost use Rattle.std.specs.Iterator.{IsFinite};
 ghost use Rattle.std.specs.Iterator.Runs.{EachRunFrom, WholeRun};
 ghost use Rattle.bloom_parts.specs.Content.{content, index_of};
 
+mod kernels;
 mod words;
 
 use crate::error::FilterError;
+use kernels::{and_words, clear_words, or_words};
 use std::alloc::Global;
 use std::marker::Model;
 pub use words::Words;
@@ -90,7 +92,9 @@ impl BitVec {
 
     /// The words, word 0 first.
     pub fn as_slice(&self) -> &[u64]
-        ensures { result.now ≡ self.now }
+        ensures value { result.now ≡ self.now }
+        ensures least { 1 ≤ length result.now }
+        ensures most { length result.now < 2 ^ 58 }
     {
         self.words.as_slice()
     }
@@ -122,6 +126,34 @@ impl BitVec {
         let was_on = self.words[word] & mask > 0;
         self.words[word] |= mask;
         was_on
+    }
+
+    /// Turns every position off.
+    pub fn clear(&mut self)
+        ensures content { (p : ℕ) → content self.new p ≡ false }
+        ensures shape { length self.new ≡ length self.old }
+    {
+        clear_words(&mut self.words);
+    }
+
+    /// Turns on what is on in the other.
+    pub fn union(&mut self, other: &BitVec)
+        requires { length self.old ≡ length other.now }
+        ensures content { (p : ℕ) → content self.new p
+            ≡ (content self.old p || content other.now p) }
+        ensures shape { length self.new ≡ length self.old }
+    {
+        or_words(&mut self.words, other.words.as_slice());
+    }
+
+    /// Turns off what is off in the other.
+    pub fn intersect(&mut self, other: &BitVec)
+        requires { length self.old ≡ length other.now }
+        ensures content { (p : ℕ) → content self.new p
+            ≡ (content self.old p && content other.now p) }
+        ensures shape { length self.new ≡ length self.old }
+    {
+        and_words(&mut self.words, other.words.as_slice());
     }
 }
 

@@ -1,5 +1,6 @@
 //! Laws of the definitions that contracts cite. These functions do nothing: their contracts are the
 //! laws.
+ghost use Rattle.bloom_parts.specs.Content.{EqualWordsLaw, BoundLaw};
 ghost use Rattle.bloom_parts.specs.Places.{PositionsLaw, SubsetLaw, RangeLaw};
 
 /// The positions of a hash are the first places of its chain, and each lies within the bits.
@@ -11,4 +12,10 @@ pub fn positions_of_hash()
 /// The test of a hash is whether its positions are a part of the set.
 pub fn test_of_hash()
     ensures { SubsetLaw }
+{}
+
+/// As many words are equal exactly if their contents are, and no position lies past the bits.
+pub fn content_of_words()
+    ensures equality { EqualWordsLaw }
+    ensures range { BoundLaw }
 {}

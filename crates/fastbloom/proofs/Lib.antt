@@ -1,3 +1,6 @@
+mod AlgebraLemmas
+mod FoundLemmas
 mod LawLemmas
+mod ListLemmas
 mod PositionLemmas
 mod ReplyLemmas

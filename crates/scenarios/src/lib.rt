@@ -3,3 +3,5 @@
 
 #[cfg(test)]
 mod first;
+#[cfg(test)]
+mod lists;
