@@ -27,6 +27,10 @@ fn carry_out<W: Write>(filter: &mut BloomFilter, line: Line, output: &mut W) -> 
     match line {
         Line::Insert(hash) => put_reply(output, filter.insert_hash(hash)),
         Line::Contains(hash) => put_reply(output, filter.contains_hash(hash)),
+        Line::Clear => {
+            filter.clear();
+            Ok(())
+        }
         Line::Words => put_words(output, filter.as_slice()),
     }
 }

@@ -104,6 +104,14 @@ fn runs_end_as_documented(rt: HostRuntime) -> Result<(), Fail> {
         ("1 2", "i 1\r\n", "", 2, bad_first),
         ("1 2", "\n", "", 2, bad_first),
         ("1 2", "i 0", "false\n", 0, ""),
+        (
+            "1 3",
+            "i 1\nz\nc 1\nw\n",
+            "false\nfalse\n0000000000000000\n",
+            0,
+            "",
+        ),
+        ("1 3", "z 1\n", "", 2, bad_first),
     ];
     for (args, input, output, status, error) in runs {
         let (written, ended, told) = run(&rt, rt.alloc(), args, input)?;
