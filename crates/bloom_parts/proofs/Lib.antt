@@ -1,3 +1,12 @@
 pub mod ContentLemmas
 pub mod PlaceLemmas
+mod BracketLemmas
+mod EndLemmas
+mod HalvingLemmas
+mod PowerBounds
+mod PowerDigits
+mod PowerWidths
+mod RootLemmas
+mod RoundingLemmas
+mod ShareLemmas
 mod StandardFacts
