@@ -1,11 +1,11 @@
 -- Halvings: which are enough, and which are the least.
 use Rattle.std.proofs.Common.{◌≡◌, ◌↔◌, ℕ, zero, suc, ◌+◌, ◌-◌, ◌*◌, ◌/◌, ◌%◌, ◌^◌, ◌<◌, ◌≤◌, inl, inr, refl, ap, arith, subst, sym, ◌∙◌, lit<}
-use Rattle.std.proofs.Math.Nat.{le_of_mul-le-mul_right, mul-zero, pow-le-pow_left, pow-zero, pow-suc}
+use Rattle.std.proofs.Math.Nat.{le_of_mul-le-mul_right, mul-zero, pow-le-pow_left, pow-le-pow_right, two-pow-succ, pow-zero, pow-suc}
 use Rattle.std.proofs.lemmas.Nat.{mul-le, pow-add, mul-pow, shl_whole}
 use Rattle.std.proofs.lemmas.Bool.{cases_lt}
 use Rattle.bloom_parts.specs.Roots.{IsRoot}
 use Rattle.bloom_parts.specs.Sizing.{IsEnough, IsHalvings, CoverLaw, NoneLaw, MostLaw, OneSizeLaw}
-use Rattle.bloom_parts.proofs.RootLemmas.{root-zero, root-least, root-below, one_root}
+use Rattle.bloom_parts.proofs.RootLemmas.{root-zero, root-least, root-below, root-mono, one_root}
 
 -- a power of a power
 pow-pow : (a m n : ℕ) → (a ^ m) ^ n ≡ a ^ (m * n)
@@ -87,6 +87,35 @@ least-halvings num den k enough few = record {
     | inr more ↦ more
   ];
 }
+
+-- no number up to 64 * e + j is enough where that one isn't, since roots grow up to their double
+too-few : (num den e j t other : ℕ) → IsRoot j t → j < 64 → num * 2 ^ e * t < den * 2 ^ 32 →
+    other ≤ 64 * e + j → IsEnough num den other → ⊥
+too-few num den e j t other root within few before (u, is_root, enough) =
+    elim (cases_lt (other / 64) e) [
+      | inl earlier ↦
+          let double : 2 ^ suc (other / 64) ≤ 2 ^ e = pow-le-pow_right (lit< tt) earlier in
+          let less : 2 ^ (other / 64) * u ≤ 2 ^ (other / 64) * 2 ^ 33 =
+          mul-le (2 ^ (other / 64)) u (2 ^ (other / 64)) (2 ^ 33) (omega arith)
+          (omega (arith, root-below (other % 64) u (omega arith) is_root)) in
+          let more : 2 ^ e * 2 ^ 32 ≤ 2 ^ e * t = mul-le (2 ^ e) (2 ^ 32) (2 ^ e) t (omega arith) (root-least j t root) in
+          let all : 2 ^ (other / 64) * u ≤ 2 ^ e * t = omega (arith, two-pow-succ (other / 64), double, less, more) in
+          let scaled : num * (2 ^ (other / 64) * u) ≤ num * (2 ^ e * t) =
+          mul-le num (2 ^ (other / 64) * u) num (2 ^ e * t) (omega arith) all in
+          omega (arith, few, enough, scaled)
+      | inr same ↦
+          let here : other / 64 ≡ e = omega (arith, same, before, within) in
+          let less : u ≤ t = root-mono (other % 64) j u t (omega (arith, here, before)) is_root root in
+          let scaled : num * 2 ^ e * u ≤ num * 2 ^ e * t = mul-le (num * 2 ^ e) u (num * 2 ^ e) t (omega arith) less in
+          omega (arith, few, rw here at enough, scaled)
+    ]
+
+-- the halvings are those that are enough where the number before them isn't
+pub next-halvings : (num den e j t : ℕ) → IsRoot j t → j < 64 → num * 2 ^ e * t < den * 2 ^ 32 →
+    IsEnough num den (64 * e + j + 1) → IsHalvings num den (64 * e + j + 1)
+next-halvings num den e j t root within few enough =
+    least-halvings num den (64 * e + j + 1) enough
+    (λ fewer below. too-few num den e j t fewer root within few (omega (arith, below)))
 
 -- a common factor is left out
 cancel : (d w n e t j : ℕ) → 0 < w → d * w ≤ n * e * t → t ≤ w * j → d ≤ e * j * n

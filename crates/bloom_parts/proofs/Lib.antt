@@ -1,5 +1,6 @@
 pub mod ContentLemmas
 pub mod PlaceLemmas
+mod BracketFacts
 mod BracketLemmas
 mod EndLemmas
 mod HalvingLemmas
@@ -9,4 +10,5 @@ mod PowerWidths
 mod RootLemmas
 mod RoundingLemmas
 mod ShareLemmas
+mod SizingFacts
 mod StandardFacts

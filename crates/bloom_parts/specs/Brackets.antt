@@ -26,3 +26,11 @@ density_low b t = 2 ^ 63 - upper_power_of (div_ceil (2 ^ 63 * (b - 1)) b) t
 -- the upper end of the density
 abbrev pub density_high : ℕ → ℕ → ℕ
 density_high b t = 2 ^ 63 - lower_power_of (2 ^ 63 * (b - 1) / b) t
+
+-- the lower end of the rate: a power of the lower end of the density
+abbrev pub rate_low : ℕ → ℕ → ℕ → ℕ
+rate_low b t k = lower_power_of (density_low b t) k
+
+-- the upper end of the rate: a power of the upper end of the density
+abbrev pub rate_high : ℕ → ℕ → ℕ → ℕ
+rate_high b t k = upper_power_of (density_high b t) k

@@ -8,6 +8,7 @@ ghost use Rattle.fastbloom.specs.Filter.{contains, Inserts};
 ghost use Rattle.fastbloom.specs.Replies.{CarriesOut};
 
 mod positions;
+mod rates;
 
 use crate::builder::BuilderWithBits;
 use bloom_parts::bit_vector::{BitVec, Words};

@@ -57,7 +57,9 @@ impl PartialEq for Rate {
     ghost laws = { partial_equiv_from_equiv same_rate-laws };
 
     fn eq(&self, other: &Self) -> bool {
-        self.num as u128 * other.den as u128 == other.num as u128 * self.den as u128
+        let left = self.num as u128 * other.den as u128;
+        let right = other.num as u128 * self.den as u128;
+        left == right
     }
 }
 
