@@ -1,0 +1,104 @@
+//! Reading one line after the other.
+ghost use Rattle.std.specs.Prelude.{◌≡◌, OnOk, IfOk, IfErr};
+ghost use Rattle.std.specs.Io.KnownBytes.{Keeps, prepend_known};
+ghost use Rattle.bloom.specs.Faults.{IsOfStream};
+ghost use Rattle.bloom.specs.Reading.{Takes, NextLine, NextCommand};
+
+use crate::engine::block::Block;
+use crate::engine::line::{Line, parse};
+use crate::fault::Fault;
+use std::io::{Read, Write};
+
+/// The length of the longest good line, without its end.
+pub const LONGEST: usize = 22;
+
+/// What reading a line found. A short one stands at the front of the buffer, without its end.
+#[derive(Clone, Copy)]
+pub enum Found {
+    End,
+    Short(usize),
+    Long,
+}
+
+/// What the next line comes to.
+#[derive(Clone, Copy)]
+pub enum Next {
+    End,
+    Good(Line),
+    Bad,
+}
+
+// The next byte, or none at the end. Before a read that may wait, what was answered is flushed.
+fn next_byte<R: Read, W: Write>(
+    block: &mut Block,
+    input: &mut R,
+    output: &mut W,
+) -> Result<Option<u8>, Fault>
+    ensures byte { IfOk result (Takes (prepend_known block.old (R.remaining input.old))
+        (prepend_known block.new (R.remaining input.new))) }
+    ensures kept { Keeps (W.contents output.old) (W.contents output.new) }
+    ensures fault { IfErr result IsOfStream }
+{
+    match block.take_byte() {
+        Some(byte) => Ok(Some(byte)),
+        None => {
+            output.flush().map_err(|_| Fault::Output)?;
+            block.fill(input)?;
+            Ok(block.take_byte())
+        }
+    }
+}
+
+// Reads the next line, or 23 bytes of a longer one.
+fn read_line<R: Read, W: Write>(
+    block: &mut Block,
+    input: &mut R,
+    output: &mut W,
+    line: &mut [u8; 22],
+) -> Result<Found, Fault>
+    ensures line { IfOk result (NextLine (prepend_known block.old (R.remaining input.old))
+        (prepend_known block.new (R.remaining input.new)) line.new) }
+    ensures kept { Keeps (W.contents output.old) (W.contents output.new) }
+    ensures fault { IfErr result IsOfStream }
+{
+    'bytes: for at in 0..LONGEST {
+        match next_byte(block, input, output)? {
+            None => {
+                return Ok(if at == 0 {
+                    Found::End
+                } else {
+                    Found::Short(at)
+                });
+            }
+            Some(b'\n') => return Ok(Found::Short(at)),
+            Some(byte) => line[at] = byte,
+        }
+    }
+    match next_byte(block, input, output)? {
+        None => Ok(Found::Short(LONGEST)),
+        Some(b'\n') => Ok(Found::Short(LONGEST)),
+        Some(_) => Ok(Found::Long),
+    }
+}
+
+/// Reads the next line, and what it asks for.
+pub fn next_command<R: Read, W: Write>(
+    block: &mut Block,
+    input: &mut R,
+    output: &mut W,
+    buffer: &mut [u8; 22],
+) -> Result<Next, Fault>
+    ensures next { IfOk result (NextCommand (prepend_known block.old (R.remaining input.old))
+        (prepend_known block.new (R.remaining input.new))) }
+    ensures kept { Keeps (W.contents output.old) (W.contents output.new) }
+    ensures fault { IfErr result IsOfStream }
+{
+    match read_line(block, input, output, buffer)? {
+        Found::End => Ok(Next::End),
+        Found::Short(len) => match parse(&buffer[..len]) {
+            Some(line) => Ok(Next::Good(line)),
+            None => Ok(Next::Bad),
+        },
+        Found::Long => Ok(Next::Bad),
+    }
+}
