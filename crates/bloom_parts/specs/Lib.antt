@@ -1,6 +1,13 @@
+pub mod Brackets
 pub mod Chain
 pub mod Codes
 pub mod Content
 pub mod Deciders
 pub mod Keys
 pub mod Places
+pub mod Powers
+pub mod RateLaws
+pub mod Rates
+pub mod Roots
+pub mod Shares
+pub mod Sizing

@@ -1,7 +1,13 @@
 //! Laws of the definitions that contracts cite. These functions do nothing: their contracts are the
 //! laws.
+ghost use Rattle.std.specs.Prelude.{ℕ, ◌<◌, slice_index};
 ghost use Rattle.bloom_parts.specs.Content.{EqualWordsLaw, BoundLaw};
 ghost use Rattle.bloom_parts.specs.Places.{PositionsLaw, SubsetLaw, RangeLaw};
+ghost use Rattle.bloom_parts.specs.Roots.{IsRoot};
+ghost use Rattle.bloom_parts.specs.Shares.{ShareLaw, ReachedLaw, EvenLaw};
+ghost use Rattle.bloom_parts.specs.Sizing.{HalfUpLaw, CoverLaw, NoneLaw, MostLaw, OneSizeLaw};
+
+use crate::math::ROOTS;
 
 /// The positions of a hash are the first places of its chain, and each lies within the bits.
 pub fn positions_of_hash()
@@ -18,4 +24,33 @@ pub fn test_of_hash()
 pub fn content_of_words()
     ensures equality { EqualWordsLaw }
     ensures range { BoundLaw }
+{}
+
+/// With one hash a position has one run of the hashes, and runs are as long as each other or nearly.
+pub fn shares_of_positions()
+    ensures share { ShareLaw }
+    ensures reached { ReachedLaw }
+    ensures even { EvenLaw }
+{}
+
+/// Each of the 64 roots of the table is the greatest number whose power to 64 is at most 2^(2048 + j).
+pub fn roots_of_table()
+    ensures { (j : ℕ) → j < 64 → IsRoot j (slice_index ROOTS j) }
+{}
+
+/// The halvings of a rate are never too few, none for a rate of one or more, and at most 4096.
+pub fn halvings_of_rate()
+    ensures cover { CoverLaw }
+    ensures none { NoneLaw }
+    ensures most { MostLaw }
+{}
+
+/// One number alone is the size for items and a rate, so what is answered and refused is decided.
+pub fn size_of_rate()
+    ensures { OneSizeLaw }
+{}
+
+/// A quotient rounded half up is the greatest whole number that is at most a half above it.
+pub fn half_up_of_quotient()
+    ensures { HalfUpLaw }
 {}

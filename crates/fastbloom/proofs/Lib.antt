@@ -3,4 +3,5 @@ mod FoundLemmas
 mod LawLemmas
 mod ListLemmas
 mod PositionLemmas
+mod RateLemmas
 mod ReplyLemmas

@@ -9,6 +9,7 @@ ghost use Rattle.fastbloom.specs.Replies.{CarriesOut};
 
 mod command;
 mod positions;
+mod rates;
 mod sets;
 
 use crate::builder::BuilderWithBits;

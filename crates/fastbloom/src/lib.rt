@@ -9,4 +9,7 @@ pub use bloom::{BloomFilter, Command};
 pub use bloom_parts::bit_vector::Words;
 pub use bloom_parts::error::FilterError;
 pub use bloom_parts::hasher::DefaultHasher;
+pub use bloom_parts::math::{
+    Bracket, Rate, expected_density, expected_false_pos, optimal_hashes, optimal_size,
+};
 pub use builder::BuilderWithBits;

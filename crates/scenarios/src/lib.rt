@@ -5,3 +5,5 @@
 mod first;
 #[cfg(test)]
 mod lists;
+#[cfg(test)]
+mod sizing;

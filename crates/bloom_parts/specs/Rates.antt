@@ -1,0 +1,13 @@
+-- Rates, which are fractions above zero. That their parts stay as given is this project's choice.
+use Rattle.std.specs.Prelude.{ℕ, ◌*◌, Bool, ◌||◌, ◌==◌, nat_eq, Option, Some, None, if◌then◌else◌}
+use Rattle.bloom_parts.specs.declared.error.FilterError.{FilterError}
+use Rattle.bloom_parts.specs.declared.error.FilterError.TheVariants.{ZeroRate}
+use Rattle.bloom_parts.specs.declared.math.rate.Rate.{Rate}
+
+-- why a rate of these parts is refused, if it is
+abbrev pub rate_refusal : ℕ → ℕ → Option FilterError
+rate_refusal num den = if nat_eq num 0 || nat_eq den 0 then Some ZeroRate else None
+
+-- whether two rates are one fraction: their cross products are equal
+abbrev pub same_rate : Rate → Rate → Bool
+same_rate a b = a.num * b.den == b.num * a.den

@@ -1,0 +1,35 @@
+//! The rate of false positives that is expected of a filter.
+ghost use Rattle.std.specs.Prelude.{◌≡◌, ◌+◌, ◌*◌, ◌<◌, ◌≤◌, length};
+ghost use Rattle.bloom_parts.specs.Brackets.{HoldsRate, rate_low, rate_high};
+
+use super::BloomFilter;
+use bloom_parts::math::{Bracket, expected_density, expected_false_pos};
+
+// The rate with this many hashes and bits, after this many items.
+pub(crate) fn expected_rate(num_hashes: u32, num_bits: usize, num_items: usize) -> Bracket
+    requires { 0 < num_bits }
+    ensures holds { HoldsRate result num_bits (num_hashes * num_items) num_hashes }
+    ensures low { result.low ≡ rate_low num_bits (num_hashes * num_items) num_hashes }
+    ensures high { result.high ≡ rate_high num_bits (num_hashes * num_items) num_hashes }
+    ensures width { result.high ≤ result.low + 2 * (num_hashes * num_items) * num_hashes }
+{
+    let density = expected_density(num_hashes, num_bits, num_items);
+    expected_false_pos(num_hashes, density)
+}
+
+impl<S> BloomFilter<S> {
+    /// The rate of false positives to expect once `num_items` items are in the filter.
+    pub fn expected_false_pos(&self, num_items: usize) -> Bracket
+        ensures holds { let k = self.now.hashes in
+            HoldsRate result (64 * length self.now.words) (k * num_items) k }
+        // The ends are exact.
+        ensures low { let k = self.now.hashes in
+            result.low ≡ rate_low (64 * length self.now.words) (k * num_items) k }
+        ensures high { let k = self.now.hashes in
+            result.high ≡ rate_high (64 * length self.now.words) (k * num_items) k }
+        ensures width { let k = self.now.hashes in
+            result.high ≤ result.low + 2 * (k * num_items) * k }
+    {
+        expected_rate(self.num_hashes, self.num_bits(), num_items)
+    }
+}
