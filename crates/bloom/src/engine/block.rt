@@ -1,7 +1,9 @@
 //! Bytes that were read and wait to be taken.
-ghost use Rattle.std.specs.Prelude.{◌≡◌, ◌≢◌, ◌<◌, ◌≤◌, [], ◌∷◌, take, length, IfOk, OnOk, IfErr, IsOkUnless, MatchOption};
+ghost use Rattle.std.specs.Prelude.{◌≡◌, ◌≢◌, ◌<◌, ◌≤◌, [], ◌∷◌, take, drop, length, IfSome, IfOk, OnOk, IfErr, IsOkUnless, MatchOption};
 ghost use Rattle.std.specs.Io.KnownBytes.{Consumes, IsAtEnd};
+ghost use Rattle.bloom.specs.Reading.{IsFirstLine};
 
+use crate::engine::line::LONGEST;
 use crate::fault::Fault;
 use std::alloc::Global;
 use std::io::{ErrorKind, Read};
@@ -56,6 +58,29 @@ impl Block {
         Some(byte)
     }
 
+    /// How long the first line is, where it is short and the block has its end.
+    pub fn line_length(&self) -> Option<usize>
+        ensures { IfSome result (IsFirstLine self.now) }
+    {
+        first_end(&self.bytes.as_slice()[self.at..self.end])
+    }
+
+    /// The first bytes.
+    pub fn front(&self, count: usize) -> &[u8]
+        requires { count ≤ length self.now }
+        ensures { result.now ≡ take count self.now }
+    {
+        &self.bytes.as_slice()[self.at..self.at + count]
+    }
+
+    /// Takes the first bytes.
+    pub fn skip(&mut self, count: usize)
+        requires { count ≤ length self.old }
+        ensures { self.new ≡ drop count self.old }
+    {
+        self.at += count;
+    }
+
     /// Reads a new block, in place of one that is empty. It is empty only at the end of the input.
     pub fn fill<R: Read>(&mut self, input: &mut R) -> Result<(), Fault>
         requires { self.old ≡ [] }
@@ -68,6 +93,21 @@ impl Block {
         self.end = count;
         Ok(())
     }
+}
+
+// Where the first line ends, if that is within the longest good line.
+fn first_end(bytes: &[u8]) -> Option<usize>
+    ensures { IfSome result (IsFirstLine bytes.now) }
+{
+    'bytes: for (at, byte) in bytes.iter().enumerate() {
+        if at > LONGEST {
+            return None;
+        }
+        if *byte == b'\n' {
+            return Some(at);
+        }
+    }
+    None
 }
 
 // Reads once, and again where the read was interrupted: two counts, so that none ends before the

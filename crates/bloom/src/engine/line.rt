@@ -4,6 +4,9 @@ ghost use Rattle.bloom.specs.Lines.{line_of, alone, numbered};
 
 use crate::command_line::number;
 
+/// The length of the longest good line, without its end.
+pub const LONGEST: usize = 22;
+
 /// What a good line asks for.
 #[derive(Clone, Copy, Debug, PartialEq, Eq)]
 pub enum Line {
