@@ -7,6 +7,7 @@ use crate::fault::Fault;
 use fastbloom::BloomFilter;
 use sessions::SESSIONS;
 use std::alloc::{AllocError, Global};
+use std::cell::Cell;
 use std::io;
 use std::io::{Read, Write};
 use std::process::Abort;
@@ -234,5 +235,93 @@ fn a_write_or_a_flush_that_fails_ends_the_run(rt: HostRuntime) -> Result<(), Fai
     );
     assert_eq!(rt; Fault::Memory.status(), 3);
     assert_eq!(rt; Fault::Memory.to_string(rt.alloc())?.as_str(), "no memory");
+    Ok(())
+}
+
+// Holds what was written until a flush, and counts in a cell how many bytes wait for one.
+#[derive(Drop)]
+struct Held<'a> {
+    written: Vec<u8>,
+    waiting: &'a Cell<usize>,
+}
+
+impl<'a> Write for Held<'a> {
+    fn write(&mut self, buf: &[u8]) -> io::Result<usize> {
+        self.written.extend_from_slice(buf)?;
+        self.waiting
+            .set(self.waiting.get().saturating_add(buf.len()));
+        Ok(buf.len())
+    }
+
+    fn flush(&mut self) -> io::Result<()> {
+        self.waiting.set(0);
+        Ok(())
+    }
+}
+
+// Gives one piece a read, and counts in a cell the reads at which something waited for a flush.
+#[derive(Drop)]
+struct Watching<'a> {
+    pieces: Pieces<'a>,
+    waiting: &'a Cell<usize>,
+    early: &'a Cell<usize>,
+}
+
+impl<'a> Read for Watching<'a> {
+    fn read(&mut self, buf: &mut [u8]) -> io::Result<usize> {
+        if self.waiting.get() > 0 {
+            self.early.set(self.early.get().saturating_add(1));
+        }
+        self.pieces.read(buf)
+    }
+}
+
+#[test]
+fn answers_are_there_before_a_read_waits(rt: HostRuntime) -> Result<(), Fail> {
+    for piece in 1..16 {
+        let (waiting, early) = (Cell::new(0), Cell::new(0));
+        let mut filter = filter_of(&rt, rt.alloc(), 1, 2)?;
+        let mut output = Held {
+            written: Vec::new(rt.alloc()),
+            waiting: &waiting,
+        };
+        let mut input = Watching {
+            pieces: in_pieces("i 1\nc 1\nw\nz\nc 1\nx\n", piece, false),
+            waiting: &waiting,
+            early: &early,
+        };
+        let ended = serve(rt.alloc(), &mut filter, &mut input, &mut output);
+        assert_eq!(rt; ended, Err(Fault::Line(6)));
+        assert_eq!(rt; early.get(), 0, "in pieces of {piece}");
+        assert_eq!(rt; waiting.get(), 0, "in pieces of {piece}");
+        let text = b"false\ntrue\n0000000000100001\nfalse\n".as_slice();
+        assert_eq!(rt; output.written.as_slice(), text);
+    }
+    Ok(())
+}
+
+// One line without an end, of ten million bytes.
+#[derive(Drop)]
+struct LongLine {
+    left: usize,
+}
+
+impl Read for LongLine {
+    fn read(&mut self, buf: &mut [u8]) -> io::Result<usize> {
+        let count = self.left.min(buf.len());
+        buf[..count].fill(b'1');
+        self.left -= count;
+        Ok(count)
+    }
+}
+
+#[test]
+fn a_long_line_is_bad_at_once(rt: HostRuntime) -> Result<(), Fail> {
+    let mut filter = filter_of(&rt, rt.alloc(), 1, 2)?;
+    let mut output = Vec::new(rt.alloc());
+    let mut input = LongLine { left: 10_000_000 };
+    let ended = serve(rt.alloc(), &mut filter, &mut input, &mut output);
+    assert_eq!(rt; ended, Err(Fault::Line(1)));
+    assert!(rt; input.left > 9_900_000, "little of the line was read");
     Ok(())
 }
