@@ -1,5 +1,5 @@
 -- When digits spell a number.
-use Rattle.std.proofs.Common.{◌≡◌, ℕ, zero, suc, ◌+◌, ◌<◌, ◌≤◌, ◌^◌, Bool, true, false, ◌&&◌, cond, leb, ltb, List, [], ◌∷◌, length, get_or, Option, Some, None, Result, Ok, Err, refl, sym, ◌∙◌, ap, arith, inl, inr}
+use Rattle.std.proofs.Common.{◌≡◌, ℕ, ◌<◌, ◌≤◌, ◌^◌, true, false, ◌&&◌, cond, leb, ltb, List, length, get_or, Some, None, Result, Ok, Err, sym, ◌∙◌, ap, arith, inl, inr}
 use Rattle.std.specs.Prelude.{OkIff}
 use Rattle.std.specs.Result.{result_ok}
 use Rattle.std.specs.List.{list_all}

@@ -1,12 +1,12 @@
 -- From lines taken and carried out to what serving promises.
-use Rattle.std.proofs.Common.{◌≡◌, ℕ, ◌+◌, ◌<◌, ◌≤◌, ◌^◌, ◌-◌, min, Bool, true, false, ◌&&◌, cond, eqb, leb, List, [], ◌∷◌, ◌++◌, length, map, Option, Some, None, IfSome, refl, sym, ◌∙◌, ap, append_assoc, append-nil, length-append, arith, inl, inr, ◌⊎◌, subst}
-use Rattle.std.specs.Io.KnownBytes.{Consumes, Keeps, Appends, prepend_known}
+use Rattle.std.proofs.Common.{◌≡◌, ℕ, ◌+◌, ◌<◌, ◌^◌, ◌-◌, min, Bool, true, false, cond, eqb, leb, List, [], ◌∷◌, ◌++◌, length, map, Option, Some, None, IfSome, refl, sym, ◌∙◌, ap, append_assoc, append-nil, length-append, arith, inl, inr, ◌⊎◌, subst}
+use Rattle.std.specs.Io.KnownBytes.{Keeps, Appends, prepend_known}
 use Rattle.std.proofs.lemmas.Bool.{and_left, and_right, cond-false, lt-leb}
 use Rattle.fastbloom.specs.Filter.{Filter}
 use Rattle.bloom.specs.declared.engine.line.Line.{Line}
 use Rattle.bloom.specs.declared.engine.reading.Next.TheVariants as next
 use Rattle.bloom.specs.Lines.{lines_of, line_of, number_of, is_number, value_of, numbered}
-use Rattle.bloom.specs.Reading.{IsEnded, has_no_end, TakesLine, TakesLong, Ends, NextCommand, TakesGood, IsUnderWay}
+use Rattle.bloom.specs.Reading.{IsEnded, has_no_end, Ends, NextCommand, TakesGood, IsUnderWay}
 use Rattle.bloom.specs.Served.{Carried, IsReadWhole, IsReadUpTo, ServedAll, ServedUpTo}
 use Rattle.bloom.proofs.LineLemmas.{lines_of-front}
 use Rattle.bloom.proofs.CarriedLemmas.{Carried-nil, Carried-more}

@@ -1,15 +1,10 @@
 -- Good lines taken, one after the other.
-use Rattle.std.proofs.Common.{◌≡◌, ℕ, ◌+◌, ◌<◌, ◌≤◌, ◌^◌, ◌-◌, min, Bool, true, false, ◌&&◌, cond, eqb, leb, List, [], ◌∷◌, ◌++◌, length, map, Option, Some, None, IfSome, refl, sym, ◌∙◌, ap, append_assoc, append-nil, length-append, arith, inl, inr, ◌⊎◌}
-use Rattle.std.specs.Io.KnownBytes.{Consumes, Keeps, Appends, prepend_known}
-use Rattle.std.proofs.lemmas.Bool.{and_left, and_right, cond-false, lt-leb}
-use Rattle.fastbloom.specs.Filter.{Filter}
+use Rattle.std.proofs.Common.{◌≡◌, ℕ, List, [], ◌∷◌, ◌++◌, map, Option, Some, None, refl, sym, ◌∙◌, ap, append_assoc, inl, inr, ◌⊎◌}
+use Rattle.std.specs.Io.KnownBytes.{prepend_known}
 use Rattle.bloom.specs.declared.engine.line.Line.{Line}
-use Rattle.bloom.specs.declared.engine.reading.Next.TheVariants as next
-use Rattle.bloom.specs.Lines.{lines_of, line_of, number_of, is_number, value_of, numbered}
-use Rattle.bloom.specs.Reading.{IsEnded, TakesLine, TakesLong, Ends, NextCommand, TakesGood, IsUnderWay}
-use Rattle.bloom.specs.Served.{Carried, IsReadWhole, IsReadUpTo, ServedAll, ServedUpTo}
-use Rattle.bloom.proofs.LineLemmas.{lines_of-nil, lines_of-front, IsEnded-nil, IsEnded-append}
-use Rattle.bloom.proofs.CarriedLemmas.{Carried-nil, Carried-more}
+use Rattle.bloom.specs.Lines.{lines_of, line_of}
+use Rattle.bloom.specs.Reading.{IsEnded, TakesLine, TakesGood}
+use Rattle.bloom.proofs.LineLemmas.{lines_of-nil, IsEnded-nil, IsEnded-append}
 
 map-append : {X Y : Type 0} (f : X → Y) (xs ys : List X) → map f (xs ++ ys) ≡ map f xs ++ map f ys
 map-append f [] ys = refl

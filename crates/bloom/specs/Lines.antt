@@ -5,7 +5,7 @@ use Rattle.std.specs.Char.{is_ascii_digit}
 use Rattle.fastbloom.specs.Commands as command
 use Rattle.fastbloom.specs.Commands.{Operation}
 use Rattle.bloom.specs.declared.engine.line.Line.{Line}
-use Rattle.bloom.specs.declared.engine.line.Line.TheVariants.{Insert, Contains, Words}
+use Rattle.bloom.specs.declared.engine.line.Line.TheVariants.{Insert, Contains, Clear, Words}
 
 -- a byte at the front of the first line
 abbrev pub onto_first : ℕ → List (List ℕ) → List (List ℕ)
@@ -37,16 +37,21 @@ numbered letter None = None
 numbered letter (Some n) =
     if letter == 105 then Some (Insert n) else if letter == 99 then Some (Contains n) else None
 
--- what a line asks for, if it is good: a letter, one space and a number, or the letter `w` alone
+-- a letter that stands alone: `z` clears, `w` writes the words
+abbrev pub alone : ℕ → Option Line
+alone letter = if letter == 122 then Some Clear else if letter == 119 then Some Words else None
+
+-- what a line asks for, if it is good: a letter, one space and a number, or a letter alone
 unfoldable pub line_of : List ℕ → Option Line
 line_of [] = None
-line_of (letter ∷ []) = if letter == 119 then Some Words else None
+line_of (letter ∷ []) = alone letter
 line_of (letter ∷ space ∷ text) = if space == 32 then numbered letter (number_of text) else None
 
 -- the command to the filter that a line is
 abbrev pub operation_of : Line → Option Operation
 operation_of (Insert hash) = Some (command.Insert hash)
 operation_of (Contains hash) = Some (command.Contains hash)
+operation_of Clear = Some command.Clear
 operation_of Words = None
 
 -- the commands to the filter among lines

@@ -1,5 +1,5 @@
 -- What reading one line takes, from what a block and a reader have left.
-use Rattle.std.specs.Prelude.{◌≡◌, ◌⊎◌, ℕ, ◌+◌, ◌-◌, ◌^◌, ◌<◌, min, ◌≤◌, ◌==◌, List, [], ◌∷◌, ◌++◌, length, take, map, Bool, true, not, ◌&&◌, Option, Some, None}
+use Rattle.std.specs.Prelude.{◌≡◌, ◌⊎◌, ℕ, ◌+◌, ◌-◌, ◌^◌, ◌<◌, min, ◌≤◌, ◌==◌, List, [], ◌∷◌, ◌++◌, length, take, slice_index, map, Bool, true, not, ◌&&◌, Option, Some, None}
 use Rattle.std.specs.Io.KnownBytes.{Consumes, IsAtEnd}
 use Rattle.fastbloom.specs.Filter.{Filter}
 use Rattle.bloom.specs.declared.engine.line.Line.{Line}
@@ -19,6 +19,13 @@ Takes old new (Some byte) = Consumes old new (byte ∷ [])
 abbrev pub has_no_end : List ℕ → Bool
 has_no_end [] = true
 has_no_end (b ∷ bytes) = not (b == 10) && has_no_end bytes
+
+-- the first line of these bytes has n bytes, at most 22, and its end is there too
+pub record IsFirstLine (bytes : List ℕ) (n : ℕ) : Type 0 where
+  pub within : n < length bytes
+  pub short : n ≤ 22
+  pub ended : slice_index bytes n ≡ 10
+  pub inside : has_no_end (take n bytes) ≡ true
 
 -- what comes after these bytes is cut into lines of its own
 abbrev pub IsEnded : List ℕ → Type 0

@@ -1,6 +1,6 @@
 -- What a run over lines did to the filter, the reader and the writer. What a reader has left and
 -- what a writer holds is Some of the bytes, or None where it doesn't tell.
-use Rattle.std.specs.Prelude.{◌≡◌, ◌≢◌, ◌⊎◌, ℕ, ◌+◌, ◌*◌, ◌-◌, ◌^◌, ◌<◌, min, List, [], ◌∷◌, ◌++◌, length, map, Option, Some, None, IfSome}
+use Rattle.std.specs.Prelude.{◌≡◌, ◌⊎◌, ℕ, ◌+◌, ◌*◌, ◌-◌, ◌^◌, ◌<◌, min, List, [], ◌∷◌, ◌++◌, length, map, Option, Some, None, IfSome}
 use Rattle.std.specs.Io.KnownBytes.{Appends, Consumes}
 use Rattle.bloom_parts.specs.Content.{content}
 use Rattle.fastbloom.specs.Filter.{Filter, SameShape}

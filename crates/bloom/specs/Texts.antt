@@ -3,7 +3,7 @@ use Rattle.std.specs.Prelude.{ℕ, ◌+◌, ◌*◌, ◌/◌, ◌%◌, ◌^◌, 
 use Rattle.bloom_parts.specs.Places.{are_in}
 use Rattle.fastbloom.specs.Commands.{state_after}
 use Rattle.bloom.specs.declared.engine.line.Line.{Line}
-use Rattle.bloom.specs.declared.engine.line.Line.TheVariants.{Insert, Contains, Words}
+use Rattle.bloom.specs.declared.engine.line.Line.TheVariants.{Insert, Contains, Clear, Words}
 use Rattle.bloom.specs.Lines.{operations}
 
 -- a digit of base 16, in lower case
@@ -37,6 +37,7 @@ words_of A (suc w) = words_of A w ++ word_of (λ bit. A (64 * w + bit)) 64 ∷ [
 abbrev pub answer : ℕ → ℕ → (ℕ → Bool) → Line → List ℕ
 answer w k A (Insert hash) = reply_text (are_in (64 * w) k hash A)
 answer w k A (Contains hash) = reply_text (are_in (64 * w) k hash A)
+answer w k A Clear = []
 answer w k A Words = words_text (words_of A w)
 
 -- what lines write that come after earlier ones

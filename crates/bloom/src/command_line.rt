@@ -6,6 +6,9 @@ ghost use Rattle.bloom.specs.Lines.{number_of};
 
 use crate::fault::Fault;
 
+// The most digits of a number.
+const MOST_DIGITS: usize = 20;
+
 // The greatest number of words that the program takes.
 const MAX_WORDS: u64 = 1_048_576;
 
@@ -43,7 +46,7 @@ fn limited(words: Option<u64>, hashes: Option<u64>) -> Option<(usize, u32)>
 pub fn number(text: &[u8]) -> Option<u64>
     ensures { result ≡ number_of text.now }
 {
-    if text.is_empty() || text.len() > 20 {
+    if text.is_empty() || text.len() > MOST_DIGITS {
         return None;
     }
     let mut value: u128 = 0;

@@ -12,20 +12,25 @@ mod text;
 use crate::fault::Fault;
 use block::Block;
 use fastbloom::BloomFilter;
-use line::Line;
-use reading::{LONGEST, Next, next_command};
+use line::{LONGEST, Line};
+use reading::{Next, next_command};
 use std::alloc::Global;
 use std::io::{Read, Write};
 use text::{put_reply, put_words};
 
 // Carries out a line, and writes its text.
 fn carry_out<W: Write>(filter: &mut BloomFilter, line: Line, output: &mut W) -> Result<(), Fault>
-    ensures carried { OnOk result (Carried filter.old filter.new (W.contents output.old) (W.contents output.new) (line ∷ [])) }
+    ensures carried { OnOk result
+        (Carried filter.old filter.new (W.contents output.old) (W.contents output.new) (line ∷ [])) }
     ensures fault { IfErr result (λ fault. fault ≡ Fault.Output) }
 {
     match line {
         Line::Insert(hash) => put_reply(output, filter.insert_hash(hash)),
         Line::Contains(hash) => put_reply(output, filter.contains_hash(hash)),
+        Line::Clear => {
+            filter.clear();
+            Ok(())
+        }
         Line::Words => put_words(output, filter.as_slice()),
     }
 }
@@ -67,8 +72,8 @@ fn serve_lines<R: Read, W: Write>(
 /// What was answered is flushed before each read that may wait, and before the call returns.
 ///
 /// # Errors
-/// `Line` at the first line that isn't a command, with the text of those before it written; `Memory` before
-/// anything was read; `Input` and `Output` where a read, a write or a flush failed.
+/// `Line` at the first line that isn't a command, with the text of those before it written; `Memory`
+/// before anything was read; `Input` and `Output` where a read, a write or a flush failed.
 pub fn serve<R: Read, W: Write>(
     alloc: Global,
     filter: &mut BloomFilter,

@@ -9,7 +9,7 @@ use std::fmt;
 pub enum Fault {
     /// The arguments aren't two numbers within their limits.
     Usage,
-    /// The line with this number isn't a command. Lines count from 1, and the count stays at 2^64 - 1.
+    /// The line with this number isn't a command. Lines count from 1; the count stays at 2^64 - 1.
     Line(u64),
     /// There is no room.
     Memory,

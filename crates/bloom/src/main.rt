@@ -7,6 +7,8 @@ ghost use Rattle.bloom_parts.specs.Keys.{HasKey};
 mod command_line;
 mod engine;
 mod fault;
+#[cfg(test)]
+mod tests;
 
 use command_line::arguments;
 use engine::serve;

@@ -1,5 +1,7 @@
-//! Laws of the definitions that contracts cite. These functions do nothing: their contracts are the laws.
+//! Laws of the definitions that contracts cite. These functions do nothing: their contracts are the
+//! laws.
 ghost use Rattle.std.specs.Prelude.{ℕ, ◌<◌, slice_index};
+ghost use Rattle.bloom_parts.specs.Content.{EqualWordsLaw, BoundLaw};
 ghost use Rattle.bloom_parts.specs.Places.{PositionsLaw, SubsetLaw, RangeLaw};
 ghost use Rattle.bloom_parts.specs.Roots.{IsRoot};
 ghost use Rattle.bloom_parts.specs.Shares.{ShareLaw, ReachedLaw, EvenLaw};
@@ -16,6 +18,12 @@ pub fn positions_of_hash()
 /// The test of a hash is whether its positions are a part of the set.
 pub fn test_of_hash()
     ensures { SubsetLaw }
+{}
+
+/// As many words are equal exactly if their contents are, and no position lies past the bits.
+pub fn content_of_words()
+    ensures equality { EqualWordsLaw }
+    ensures range { BoundLaw }
 {}
 
 /// With one hash each position has a run of the hashes, and runs differ in length by one at most.

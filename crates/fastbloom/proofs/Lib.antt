@@ -1,4 +1,7 @@
+mod AlgebraLemmas
+mod FoundLemmas
 mod LawLemmas
+mod ListLemmas
 mod PositionLemmas
 mod RateLemmas
 mod ReplyLemmas

@@ -1,4 +1,5 @@
 pub mod Builders
+pub mod CommandOf
 pub mod Commands
 pub mod Filter
 pub mod Laws

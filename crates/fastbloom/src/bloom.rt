@@ -7,13 +7,16 @@ ghost use Rattle.fastbloom.specs.Commands as operation;
 ghost use Rattle.fastbloom.specs.Filter.{contains, Inserts};
 ghost use Rattle.fastbloom.specs.Replies.{CarriesOut};
 
+mod command;
 mod positions;
 mod rates;
+mod sets;
 
 use crate::builder::BuilderWithBits;
 use bloom_parts::bit_vector::{BitVec, Words};
 use bloom_parts::error::FilterError;
 use bloom_parts::hasher::DefaultHasher;
+pub use command::Command;
 use positions::{contains_positions, insert_positions};
 use std::marker::Model;
 

@@ -1,7 +1,66 @@
 //! Laws of filters. These functions do nothing: their contracts are the laws.
-ghost use Rattle.fastbloom.specs.Laws.{InsertLaw};
+ghost use Rattle.fastbloom.specs.Filter.{Unites, Intersects};
+ghost use Rattle.fastbloom.specs.Laws.{InsertLaw, KeptByInsertLaw, KeptByUnionLaw, KeptByListLaw, KeptByInsertsLaw, IntersectionLaw, UnionLaw, ClearLaw, IsCommutative, IsAssociative, IsIdempotent, RebuiltLaw, EqualityLaw, JoinedListsLaw, FoundLaw, FoundAfterReplayLaw};
 
 /// An insert answers what a look-up would have, and afterwards the hash is contained.
 pub fn insert_answers_contains<S>()
     ensures { InsertLaw S }
+{}
+
+/// What is contained stays so under inserts, unions, and lists that spare it.
+pub fn contained_stays<S>()
+    ensures insert { KeptByInsertLaw S }
+    ensures union { KeptByUnionLaw S }
+    ensures list { KeptByListLaw S }
+    ensures inserts { KeptByInsertsLaw S }
+{}
+
+/// After an intersection exactly those hashes are contained that both filters contained.
+pub fn intersection_contains<S>()
+    ensures { IntersectionLaw S }
+{}
+
+/// After a union every hash is contained that either filter contained. Others may be too.
+pub fn union_contains<S>()
+    ensures { UnionLaw S }
+{}
+
+/// Unions of contents commute, associate, and change nothing where both are the same.
+pub fn union_of_contents<S>()
+    ensures commutative { IsCommutative S Unites }
+    ensures associative { IsAssociative S Unites }
+    ensures idempotent { IsIdempotent S Unites }
+{}
+
+/// Intersections of contents commute, associate, and change nothing where both are the same.
+pub fn intersection_of_contents<S>()
+    ensures commutative { IsCommutative S Intersects }
+    ensures associative { IsAssociative S Intersects }
+    ensures idempotent { IsIdempotent S Intersects }
+{}
+
+/// After a clear no hash is contained.
+pub fn clear_contains_nothing<S>()
+    ensures { ClearLaw S }
+{}
+
+/// A filter that is made of another's words, number of hashes and hasher answers every hash alike.
+pub fn rebuilt_answers_alike<S>()
+    ensures { RebuiltLaw S }
+{}
+
+/// Filters are equal exactly if their words and numbers of hashes are.
+pub fn equality_of_filters<S>()
+    ensures { EqualityLaw S }
+{}
+
+/// Calls one after the other do what one list of them does, since each is a list of one command.
+pub fn lists_join<S>()
+    ensures { JoinedListsLaw S }
+{}
+
+/// An inserted hash stays found, through lists that later neither clear nor intersect it away.
+pub fn inserted_stays_found<S>()
+    ensures operations { FoundLaw S }
+    ensures replay { FoundAfterReplayLaw S }
 {}

@@ -5,7 +5,7 @@ mod bloom;
 mod builder;
 pub mod laws;
 
-pub use bloom::BloomFilter;
+pub use bloom::{BloomFilter, Command};
 pub use bloom_parts::bit_vector::Words;
 pub use bloom_parts::error::FilterError;
 pub use bloom_parts::hasher::DefaultHasher;

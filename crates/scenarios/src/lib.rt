@@ -2,4 +2,8 @@
 #![tactic(auto)]
 
 #[cfg(test)]
+mod first;
+#[cfg(test)]
+mod lists;
+#[cfg(test)]
 mod sizing;

@@ -1,8 +1,11 @@
 //! Good lines.
-ghost use Rattle.std.specs.Prelude.{◌≡◌, [], ◌∷◌};
-ghost use Rattle.bloom.specs.Lines.{line_of, numbered};
+ghost use Rattle.std.specs.Prelude.{◌≡◌};
+ghost use Rattle.bloom.specs.Lines.{line_of, alone, numbered};
 
 use crate::command_line::number;
+
+/// The length of the longest good line, without its end.
+pub const LONGEST: usize = 22;
 
 /// What a good line asks for.
 #[derive(Clone, Copy, Debug, PartialEq, Eq)]
@@ -11,6 +14,8 @@ pub enum Line {
     Insert(u64),
     /// To look up a hash.
     Contains(u64),
+    /// To turn every position off.
+    Clear,
     /// To write the words.
     Words,
 }
@@ -22,7 +27,7 @@ pub fn parse(line: &[u8]) -> Option<Line>
 {
     match line {
         [] => None,
-        [letter] => alone(*letter),
+        [letter] => short(*letter),
         [letter, space, text @ ..] => {
             if *space == b' ' {
                 with_number(*letter, number(text))
@@ -34,11 +39,11 @@ pub fn parse(line: &[u8]) -> Option<Line>
 }
 
 // What a letter alone asks for.
-#[tactic(auto, unfolding(crate::specs::Lines::line_of))]
-fn alone(letter: u8) -> Option<Line>
-    ensures { result ≡ line_of (letter ∷ []) }
+fn short(letter: u8) -> Option<Line>
+    ensures { result ≡ alone letter }
 {
     match letter {
+        b'z' => Some(Line::Clear),
         b'w' => Some(Line::Words),
         _ => None,
     }

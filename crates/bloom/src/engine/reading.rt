@@ -1,16 +1,14 @@
 //! Reading one line after the other.
-ghost use Rattle.std.specs.Prelude.{◌≡◌, OnOk, IfOk, IfErr};
+ghost use Rattle.std.specs.Prelude.{◌≡◌, ◌+◌, take, drop, IfOk, IfErr, MatchOption};
 ghost use Rattle.std.specs.Io.KnownBytes.{Keeps, prepend_known};
 ghost use Rattle.bloom.specs.Faults.{IsOfStream};
-ghost use Rattle.bloom.specs.Reading.{Takes, NextLine, NextCommand};
+ghost use Rattle.bloom.specs.Lines.{line_of};
+ghost use Rattle.bloom.specs.Reading.{Takes, IsFirstLine, NextLine, NextCommand};
 
 use crate::engine::block::Block;
-use crate::engine::line::{Line, parse};
+use crate::engine::line::{LONGEST, Line, parse};
 use crate::fault::Fault;
 use std::io::{Read, Write};
-
-/// The length of the longest good line, without its end.
-pub const LONGEST: usize = 22;
 
 /// What reading a line found. A short one stands at the front of the buffer, without its end.
 #[derive(Clone, Copy)]
@@ -49,7 +47,7 @@ fn next_byte<R: Read, W: Write>(
     }
 }
 
-// Reads the next line, or 23 bytes of a longer one.
+// Reads the next line byte by byte, or 23 bytes of a longer one.
 fn read_line<R: Read, W: Write>(
     block: &mut Block,
     input: &mut R,
@@ -81,8 +79,23 @@ fn read_line<R: Read, W: Write>(
     }
 }
 
-/// Reads the next line, and what it asks for.
-pub fn next_command<R: Read, W: Write>(
+// What the line asks for that the block has whole.
+fn next_in_block(block: &mut Block, length: usize) -> Next
+    requires { IsFirstLine block.old length }
+    ensures text { MatchOption (line_of (take length block.old)) (result ≡ Next.Bad)
+        (λ line. result ≡ Next.Good line) }
+    ensures taken { block.new ≡ drop (length + 1) block.old }
+{
+    let command = parse(block.front(length));
+    block.skip(length + 1);
+    match command {
+        Some(line) => Next::Good(line),
+        None => Next::Bad,
+    }
+}
+
+// What the line asks for that is read byte by byte.
+fn next_across_blocks<R: Read, W: Write>(
     block: &mut Block,
     input: &mut R,
     output: &mut W,
@@ -100,5 +113,23 @@ pub fn next_command<R: Read, W: Write>(
             None => Ok(Next::Bad),
         },
         Found::Long => Ok(Next::Bad),
+    }
+}
+
+/// Reads the next line, and what it asks for.
+pub fn next_command<R: Read, W: Write>(
+    block: &mut Block,
+    input: &mut R,
+    output: &mut W,
+    buffer: &mut [u8; 22],
+) -> Result<Next, Fault>
+    ensures next { IfOk result (NextCommand (prepend_known block.old (R.remaining input.old))
+        (prepend_known block.new (R.remaining input.new))) }
+    ensures kept { Keeps (W.contents output.old) (W.contents output.new) }
+    ensures fault { IfErr result IsOfStream }
+{
+    match block.line_length() {
+        Some(length) => Ok(next_in_block(block, length)),
+        None => next_across_blocks(block, input, output, buffer),
     }
 }

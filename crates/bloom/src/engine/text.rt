@@ -17,7 +17,8 @@ fn put<W: Write>(output: &mut W, text: &[u8]) -> Result<(), Fault>
 
 /// Writes a reply on a line.
 pub fn put_reply<W: Write>(output: &mut W, reply: bool) -> Result<(), Fault>
-    ensures text { OnOk result (Appends (W.contents output.old) (W.contents output.new) (reply_text reply)) }
+    ensures text { OnOk result
+        (Appends (W.contents output.old) (W.contents output.new) (reply_text reply)) }
     ensures fault { IfErr result (λ fault. fault ≡ Fault.Output) }
 {
     if reply {
@@ -30,7 +31,8 @@ pub fn put_reply<W: Write>(output: &mut W, reply: bool) -> Result<(), Fault>
 /// Writes each word on a line.
 #[tactic(auto, using(crate::proofs::WordLemmas::words_of_content))]
 pub fn put_words<W: Write>(output: &mut W, words: &[u64]) -> Result<(), Fault>
-    ensures text { OnOk result (Appends (W.contents output.old) (W.contents output.new) (words_text words.now)) }
+    ensures text { OnOk result
+        (Appends (W.contents output.old) (W.contents output.new) (words_text words.now)) }
     ensures same { words_of (content words.now) (length words.now) ≡ words.now }
     ensures fault { IfErr result (λ fault. fault ≡ Fault.Output) }
 {

@@ -1,4 +1,4 @@
-use Rattle.std.proofs.Common.{◌≡◌, ℕ, subst}
+use Rattle.std.proofs.Common.{◌≡◌, subst}
 use Rattle.bloom.specs.Served.{ServedUpTo}
 use Rattle.bloom.proofs.ServedLemmas.{under_way-nil, under_way-more, served_all, served_upto}
 use Rattle.bloom.proofs.engine.serve_lines.Goals as goal

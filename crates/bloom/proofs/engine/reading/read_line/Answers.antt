@@ -1,4 +1,4 @@
-use Rattle.std.proofs.Common.{◌≡◌, ◌+◌, ◌<◌, ◌≤◌, ◌∷◌, [], ◌++◌, ap, ◌∙◌, sym, subst, arith, length, take, set, true, length-set, length-take}
+use Rattle.std.proofs.Common.{◌≡◌, ◌+◌, ◌<◌, ◌∷◌, [], ◌++◌, ap, ◌∙◌, sym, subst, arith, length, take, set, true, length-set, length-take}
 use Rattle.std.proofs.lemmas.List.{take_more_set}
 use Rattle.std.proofs.KnownBytes.{Consumes-trans, Keeps-trans}
 use Rattle.std.specs.Io.KnownBytes.{Consumes, prepend_known}

@@ -1,4 +1,4 @@
-use Rattle.std.proofs.Common.{◌≡◌, ◌+◌, ◌-◌, ◌*◌, ◌/◌, ◌%◌, ◌^◌, ◌<◌, ◌++◌, ◌∷◌, [], ℕ, suc, List, length, take, drop, set, arith, ap, sym, ◌∙◌, refl, append_assoc, append-nil, length-set, take-append-drop}
+use Rattle.std.proofs.Common.{◌≡◌, ◌+◌, ◌-◌, ◌*◌, ◌/◌, ◌%◌, ◌^◌, ◌<◌, ◌++◌, ◌∷◌, [], ℕ, suc, length, take, drop, arith, ap, sym, ◌∙◌, refl, append_assoc, append-nil, length-set, take-append-drop}
 use Rattle.std.proofs.lemmas.List.{take_more_set, drop-set-lt}
 use Rattle.bloom.specs.Texts.{hex_text, hex_digit_of}
 use Rattle.bloom.proofs.engine.text.hex_line.Goals as goal
