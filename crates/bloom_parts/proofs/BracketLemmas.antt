@@ -6,7 +6,7 @@ use Rattle.std.proofs.lemmas.Grind.{div_ceil_times}
 use Rattle.std.proofs.lemmas.Nat.{mul-le, div_below}
 use Rattle.bloom_parts.specs.declared.math.bracket.Bracket.{Bracket}
 use Rattle.bloom_parts.specs.Powers.{lower_power_of, upper_power_of}
-use Rattle.bloom_parts.specs.Brackets.{Holds, HoldsDensity, density_low, density_high}
+use Rattle.bloom_parts.specs.Brackets.{width_of, Holds, HoldsDensity, density_low, density_high}
 use Rattle.bloom_parts.proofs.EndLemmas.{lower-holds, upper-holds, ends-apart, ends-ordered, upper-none}
 use Rattle.bloom_parts.proofs.RoundingLemmas.{div_ceil-le}
 use Rattle.bloom_parts.proofs.PowerWidths.{AreApart}
@@ -48,22 +48,23 @@ missing-above u low whole part fits small below =
 
 pub sets-fit : (hashes items : ℕ) → hashes < 2 ^ 32 → items < 2 ^ 64 → hashes * items < 2 ^ 128
 sets-fit hashes items hashes_fit items_fit =
-    omega (arith, mul-le hashes items (2 ^ 32) (2 ^ 64) (omega (arith, hashes_fit)) (omega (arith, items_fit)))
+    let few : hashes ≤ 2 ^ 32 = omega (arith, hashes_fit) in
+    let many : items ≤ 2 ^ 64 = omega (arith, items_fit) in
+    omega (arith, mul-le hashes items (2 ^ 32) (2 ^ 64) few many)
 
 -- what the bracket of a density promises
 pub record IsDensity (bracket : Bracket) (b t : ℕ) : Type 0 where
   pub holds : HoldsDensity bracket b t
-  pub width : 0 < t → bracket.high ≤ bracket.low + (2 * t - 1)
-  pub width_none : t ≡ 0 → bracket.high ≡ bracket.low
+  pub width : 0 < t → width_of bracket ≤ 2 * t - 1
+  pub width_none : t ≡ 0 → width_of bracket ≡ 0
 
 module _ (b t : ℕ) (some : 0 < b) (fits : t < 2 ^ 128) where
-  pub density-ordered : density_low b t ≤ density_high b t
-  density-ordered =
-      let kept = kept-ends b some in
-      omega (arith, ends-ordered (2 ^ 63 * (b - 1) / b) (div_ceil (2 ^ 63 * (b - 1)) b) t fits kept.ordered)
+  pub kept-ordered : lower_power_of (2 ^ 63 * (b - 1) / b) t
+      ≤ upper_power_of (div_ceil (2 ^ 63 * (b - 1)) b) t
+  kept-ordered = ends-ordered _ _ t fits (kept-ends b some).ordered
 
-  pub is-density : (bracket : Bracket) → bracket.low ≡ density_low b t → bracket.high ≡ density_high b t →
-      IsDensity bracket b t
+  pub is-density : (bracket : Bracket) → bracket.low ≡ density_low b t →
+      bracket.high ≡ density_high b t → IsDensity bracket b t
   is-density bracket low_is high_is =
       let kept = kept-ends b some in
       let off_low : ℕ = 2 ^ 63 * (b - 1) / b in
@@ -79,15 +80,17 @@ module _ (b t : ℕ) (some : 0 < b) (fits : t < 2 ^ 128) where
               rw high_is (missing-above (2 ^ 63) (lower_power_of off_low t) (b ^ t) ((b - 1) ^ t)
               apart.low_fits less (lower-holds off_low t (b - 1) b fits kept.below));
         };
-        width = λ above. omega (arith, low_is, high_is, apart.some above, apart.low_fits, apart.high_fits);
-        width_none = λ none. omega (arith, low_is, high_is, (apart.none none).0, (apart.none none).1);
+        width = λ above.
+            omega (arith, low_is, high_is, apart.some above, apart.low_fits, apart.high_fits);
+        width_none = λ none.
+            omega (arith, low_is, high_is, (apart.none none).0, (apart.none none).1);
       }
 
 -- what the bracket of a power promises of the one of its base
 pub record IsPower (base bracket : Bracket) (k : ℕ) : Type 0 where
   pub holds : (p q : ℕ) → 0 < q → Holds base p q → Holds bracket (p ^ k) (q ^ k)
-  pub width : bracket.high ≤ bracket.low + k * (base.high - base.low + 1)
-  pub width_none : 0 < k → base.high ≡ 0 → bracket.high ≡ bracket.low
+  pub width : width_of bracket ≤ k * (width_of base + 1)
+  pub width_none : 0 < k → base.high ≡ 0 → width_of bracket ≡ 0
 
 module _ (base : Bracket) (k : ℕ) (fits : k < 2 ^ 128) where
   pub power-ordered : lower_power_of base.low k ≤ upper_power_of base.high k
@@ -96,15 +99,16 @@ module _ (base : Bracket) (k : ℕ) (fits : k < 2 ^ 128) where
   pub is-power : (bracket : Bracket) → bracket.low ≡ lower_power_of base.low k →
       bracket.high ≡ upper_power_of base.high k → IsPower base bracket k
   is-power bracket low_is high_is =
+      let low_fits : base.low ≤ 2 ^ 63 = omega (arith, base.ordered, base.in_range) in
+      let near : base.high ≤ base.low + (base.high - base.low) = omega (arith, base.ordered) in
       let apart =
-      ends-apart base.low base.high (base.high - base.low) k fits (omega (arith, base.ordered, base.in_range))
-      base.in_range (omega (arith, base.ordered)) in
+      ends-apart base.low base.high (base.high - base.low) k fits low_fits base.in_range near in
       record {
         holds = λ p q _ is. record {
           at_least = rw low_is (lower-holds base.low k p q fits is.at_least);
           at_most = rw high_is (upper-holds base.high k p q fits is.at_most);
         };
-        width = rw (low_is, high_is) (within k apart);
+        width = omega (arith, low_is, high_is, within k apart);
         width_none = λ some none.
             let nothing : upper_power_of base.high k ≡ 0 = rw none (upper-none k fits some) in
             omega (arith, low_is, high_is, nothing, power-ordered);

@@ -41,12 +41,14 @@ upper-holds base e p q fits bound =
 pub ends-apart : (a b d e : ℕ) → e < 2 ^ 128 → a ≤ 2 ^ 63 → b ≤ 2 ^ 63 → b ≤ a + d →
     AreApart (2 ^ 63) d (lower_power_of a e) (upper_power_of b e) e
 ends-apart a b d e fits a_fits b_fits apart =
-    power-apart (2 ^ 63) (lit< tt) down_of up_of rounds-down rounds-up a b d a_fits b_fits apart 128 e fits
+    power-apart (2 ^ 63) (lit< tt) down_of up_of rounds-down rounds-up a b d a_fits b_fits apart
+    128 e fits
 
 -- the power rounded down is at most the one rounded up
 pub ends-ordered : (a b e : ℕ) → e < 2 ^ 128 → a ≤ b → lower_power_of a e ≤ upper_power_of b e
 ends-ordered a b e fits ordered =
-    let low : lower_power_of a e * (2 ^ 63) ^ e ≤ 2 ^ 63 * a ^ e = lower-holds a e a (2 ^ 63) fits (omega arith) in
+    let low : lower_power_of a e * (2 ^ 63) ^ e ≤ 2 ^ 63 * a ^ e =
+    lower-holds a e a (2 ^ 63) fits (omega arith) in
     let high : 2 ^ 63 * a ^ e ≤ upper_power_of b e * (2 ^ 63) ^ e =
     upper-holds b e a (2 ^ 63) fits (omega (arith, ordered)) in
     let some : 1 ≤ (2 ^ 63) ^ e = one-le-pow e (2 ^ 63) (lit< tt) in

@@ -11,9 +11,11 @@ use Rattle.bloom_parts.proofs.RootLemmas.{root-zero, root-least, root-below, roo
 pow-pow : (a m n : ℕ) → (a ^ m) ^ n ≡ a ^ (m * n)
 pow-pow a m zero = rw (mul-zero, pow-zero a, pow-zero (a ^ m)) refl
 pow-pow a m (suc n) =
-    pow-suc (a ^ m) n ∙ ap (λ v. v * a ^ m) (pow-pow a m n) ∙ sym (pow-add a (m * n) m) ∙ ap (λ v. a ^ v) (omega arith)
+    let next : m * n + m ≡ m * suc n = omega arith in
+    pow-suc (a ^ m) n ∙ ap (λ v. v * a ^ m) (pow-pow a m n) ∙ sym (pow-add a (m * n) m)
+    ∙ ap (λ v. a ^ v) next
 
--- what the test of the code does at k sixty-fourths, with n and d read from the rate and t from the table
+-- the test of the code at k sixty-fourths, with n and d read from the rate and t from the table
 pub record IsTest (num den k n d t : ℕ) : Type 0 where
   pub fits : n * 2 ^ (k / 64) % 2 ^ 128 * t < 2 ^ 128
   pub decides : (d * 2 ^ 32 % 2 ^ 128 ≤ n * 2 ^ (k / 64) % 2 ^ 128 * t) ↔ IsEnough num den k
@@ -27,8 +29,8 @@ pub most-enough : (num den : ℕ) → 0 < num → den < 2 ^ 64 → IsEnough num 
 most-enough num den above fits = (2 ^ 32, root-zero, omega (arith, above, fits))
 
 -- the numbers of the test at k sixty-fourths, where no fewer are enough
-module _ (num den k t : ℕ) (num_fits : num < 2 ^ 64) (den_fits : den < 2 ^ 64) (root : IsRoot (k % 64) t)
-    (few : (fewer : ℕ) → fewer < k → IsEnough num den fewer → ⊥) where
+module _ (num den k t : ℕ) (num_fits : num < 2 ^ 64) (den_fits : den < 2 ^ 64)
+    (root : IsRoot (k % 64) t) (few : (fewer : ℕ) → fewer < k → IsEnough num den fewer → ⊥) where
   -- had the shifted rate 66 digits, then one whole halving fewer would be enough
   too_wide : 64 ≤ k → 2 ^ 65 ≤ num * 2 ^ (k / 64) → ⊥
   too_wide large wide =
@@ -36,9 +38,12 @@ module _ (num den k t : ℕ) (num_fits : num < 2 ^ 64) (den_fits : den < 2 ^ 64)
       let next : suc ((k - 64) / 64) ≡ k / 64 = omega (arith, large) in
       let double : num * 2 ^ (k / 64) ≡ 2 * (num * 2 ^ ((k - 64) / 64)) =
       rw (← next, pow-suc 2 ((k - 64) / 64)) (omega arith) in
+      let still_wide : 2 ^ 64 ≤ num * 2 ^ ((k - 64) / 64) = omega (arith, wide, double) in
       let scaled : 2 ^ 64 * 2 ^ 32 ≤ num * 2 ^ ((k - 64) / 64) * t =
-      mul-le (2 ^ 64) (2 ^ 32) (num * 2 ^ ((k - 64) / 64)) t (omega (arith, wide, double)) (root-least (k % 64) t root) in
-      few (k - 64) (omega (arith, large)) (t, subst (λ j. IsRoot j t) place root, omega (arith, scaled, den_fits))
+      mul-le (2 ^ 64) (2 ^ 32) (num * 2 ^ ((k - 64) / 64)) t still_wide
+      (root-least (k % 64) t root) in
+      few (k - 64) (omega (arith, large))
+      (t, subst (λ j. IsRoot j t) place root, omega (arith, scaled, den_fits))
 
   shifted-fits : num * 2 ^ (k / 64) < 2 ^ 65
   shifted-fits = elim (cases_lt k 64) [
@@ -98,15 +103,19 @@ too-few num den e j t other root within few before (u, is_root, enough) =
           let less : 2 ^ (other / 64) * u ≤ 2 ^ (other / 64) * 2 ^ 33 =
           mul-le (2 ^ (other / 64)) u (2 ^ (other / 64)) (2 ^ 33) (omega arith)
           (omega (arith, root-below (other % 64) u (omega arith) is_root)) in
-          let more : 2 ^ e * 2 ^ 32 ≤ 2 ^ e * t = mul-le (2 ^ e) (2 ^ 32) (2 ^ e) t (omega arith) (root-least j t root) in
-          let all : 2 ^ (other / 64) * u ≤ 2 ^ e * t = omega (arith, two-pow-succ (other / 64), double, less, more) in
+          let more : 2 ^ e * 2 ^ 32 ≤ 2 ^ e * t =
+          mul-le (2 ^ e) (2 ^ 32) (2 ^ e) t (omega arith) (root-least j t root) in
+          let all : 2 ^ (other / 64) * u ≤ 2 ^ e * t =
+          omega (arith, two-pow-succ (other / 64), double, less, more) in
           let scaled : num * (2 ^ (other / 64) * u) ≤ num * (2 ^ e * t) =
           mul-le num (2 ^ (other / 64) * u) num (2 ^ e * t) (omega arith) all in
           omega (arith, few, enough, scaled)
       | inr same ↦
           let here : other / 64 ≡ e = omega (arith, same, before, within) in
-          let less : u ≤ t = root-mono (other % 64) j u t (omega (arith, here, before)) is_root root in
-          let scaled : num * 2 ^ e * u ≤ num * 2 ^ e * t = mul-le (num * 2 ^ e) u (num * 2 ^ e) t (omega arith) less in
+          let place : other % 64 ≤ j = omega (arith, here, before) in
+          let less : u ≤ t = root-mono (other % 64) j u t place is_root root in
+          let scaled : num * 2 ^ e * u ≤ num * 2 ^ e * t =
+          mul-le (num * 2 ^ e) u (num * 2 ^ e) t (omega arith) less in
           omega (arith, few, rw here at enough, scaled)
     ]
 
@@ -129,10 +138,13 @@ raised : (num den e j t : ℕ) → IsRoot j t → den * 2 ^ 32 ≤ num * 2 ^ e *
     den ^ 64 ≤ 2 ^ (e * 64) * 2 ^ j * num ^ 64
 raised num den e j t root enough =
     let power : (den * 2 ^ 32) ^ 64 ≤ (num * 2 ^ e * t) ^ 64 = pow-le-pow_left enough 64 in
-    let parts =
-    rw (mul-pow den (2 ^ 32) 64, mul-pow (num * 2 ^ e) t 64, mul-pow num (2 ^ e) 64, pow-pow 2 e 64) at power in
+    let left : (den * 2 ^ 32) ^ 64 ≡ den ^ 64 * (2 ^ 32) ^ 64 = mul-pow den (2 ^ 32) 64 in
+    let right : (num * 2 ^ e * t) ^ 64 ≡ num ^ 64 * 2 ^ (e * 64) * t ^ 64 =
+    rw (mul-pow (num * 2 ^ e) t 64, mul-pow num (2 ^ e) 64, pow-pow 2 e 64) refl in
+    let parts = rw (left, right) at power in
     let small : t ^ 64 ≤ 2 ^ 2048 * 2 ^ j = rw (← pow-add 2 2048 j) root.at_most in
-    cancel (den ^ 64) ((2 ^ 32) ^ 64) (num ^ 64) (2 ^ (e * 64)) (t ^ 64) (2 ^ j) (lit< tt) parts small
+    cancel (den ^ 64) ((2 ^ 32) ^ 64) (num ^ 64) (2 ^ (e * 64)) (t ^ 64) (2 ^ j) (lit< tt)
+    parts small
 
 pub cover_law : CoverLaw
 cover_law num den k is =
@@ -152,7 +164,8 @@ most_law num den k above fits is = is.least 4096 (most-enough num den above fits
 
 -- there are no two least numbers
 one_halvings : (num den k m : ℕ) → IsHalvings num den k → IsHalvings num den m → k ≡ m
-one_halvings num den k m first second = omega (arith, first.least m second.enough, second.least k first.enough)
+one_halvings num den k m first second =
+    omega (arith, first.least m second.enough, second.least k first.enough)
 
 pub one_size_law : OneSizeLaw
 one_size_law items num den size other (k, first, size_is) (m, second, other_is) =

@@ -22,8 +22,9 @@ module _ (Bound : ℕ → ℕ → ℕ → Type 0) (whole : ℕ) (product : ℕ �
       Bound (next_power product base power digit) (p ^ (h + h + digit)) (q ^ (h + h + digit))
   next-bound power h zero small is = rw add-zero (square-bound power h is)
   next-bound power h (suc zero) small is =
+      let square = square-bound power h is in
       rw (add-one, pow-suc p (h + h), pow-suc q (h + h))
-      (times (product power power) base (p ^ (h + h)) p (q ^ (h + h)) q (square-bound power h is) bound)
+      (times (product power power) base (p ^ (h + h)) p (q ^ (h + h)) q square bound)
   next-bound power h (suc (suc digit)) small is = absurd (omega arith)
 
   pub power-bound : (digits e : ℕ) → e < 2 ^ digits →
@@ -34,8 +35,9 @@ module _ (Bound : ℕ → ℕ → ℕ → Type 0) (whole : ℕ) (product : ℕ �
       rw (none, pow-zero p, pow-zero q) start
   power-bound (suc digits) e below =
       let half = rounded_power whole product base digits (e / 2) in
-      subst (λ (x : ℕ). Bound (next_power product base half (e % 2)) (p ^ x) (q ^ x)) (sym (by-half e))
-      (next-bound half (e / 2) (e % 2) (omega arith) (power-bound digits (e / 2) (half-below digits e below)))
+      let is = power-bound digits (e / 2) (half-below digits e below) in
+      subst (λ (x : ℕ). Bound (next_power product base half (e % 2)) (p ^ x) (q ^ x))
+      (sym (by-half e)) (next-bound half (e / 2) (e % 2) (omega arith) is)
 
 -- products rounded down keep lower bounds of fractions in parts of a whole
 module _ (u : ℕ) (some : 0 < u) (product : ℕ → ℕ → ℕ) where
@@ -44,7 +46,8 @@ module _ (u : ℕ) (some : 0 < u) (product : ℕ → ℕ → ℕ) where
   product-below down r s P p Q q first second =
       let rounded : (product r s * u) * (Q * q) ≤ (r * s) * (Q * q) =
       mul-le (product r s * u) (Q * q) (r * s) (Q * q) (down r s) (omega arith) in
-      let exact : (r * Q) * (s * q) ≤ (u * P) * (u * p) = mul-le (r * Q) (s * q) (u * P) (u * p) first second in
+      let exact : (r * Q) * (s * q) ≤ (u * P) * (u * p) =
+      mul-le (r * Q) (s * q) (u * P) (u * p) first second in
       let all : (product r s * (Q * q)) * u ≤ (u * (P * p)) * u = omega (arith, rounded, exact) in
       le_of_mul-le-mul_right all some
 
@@ -54,6 +57,7 @@ module _ (u : ℕ) (some : 0 < u) (product : ℕ → ℕ → ℕ) where
   product-above up r s P p Q q first second =
       let rounded : (r * s) * (Q * q) ≤ (product r s * u) * (Q * q) =
       mul-le (r * s) (Q * q) (product r s * u) (Q * q) (up r s) (omega arith) in
-      let exact : (u * P) * (u * p) ≤ (r * Q) * (s * q) = mul-le (u * P) (u * p) (r * Q) (s * q) first second in
+      let exact : (u * P) * (u * p) ≤ (r * Q) * (s * q) =
+      mul-le (u * P) (u * p) (r * Q) (s * q) first second in
       let all : (u * (P * p)) * u ≤ (product r s * (Q * q)) * u = omega (arith, rounded, exact) in
       le_of_mul-le-mul_right all some

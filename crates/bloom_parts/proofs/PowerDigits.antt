@@ -44,7 +44,8 @@ module _ (whole : ℕ) (product : ℕ → ℕ → ℕ) (base : ℕ) where
 
   -- one digit more
   power-next : (e n i power : ℕ) → 0 < i → i ≤ n → power ≡ power_down_to whole product base e n i →
-      power_down_to whole product base e n (i - 1) ≡ next_power product base power (e / 2 ^ (i - 1) % 2)
+      power_down_to whole product base e n (i - 1)
+      ≡ next_power product base power (e / 2 ^ (i - 1) % 2)
   unfolding rounded_power
   power-next e n i power some within is =
       let digits : n - (i - 1) ≡ suc (n - i) = omega (arith, some, within) in
@@ -75,7 +76,8 @@ module _ (whole : ℕ) (product : ℕ → ℕ → ℕ) (base : ℕ) where
     unfolding rounded_power
     power-none zero e none = refl
     power-none (suc n) e none =
-        let rest : rounded_power whole product base n (e / 2) ≡ whole = power-none n (e / 2) (omega arith) in
+        let rest : rounded_power whole product base n (e / 2) ≡ whole =
+        power-none n (e / 2) (omega arith) in
         let digit : e % 2 ≡ 0 = omega arith in
         rw (digit, rest, exact) refl
 
@@ -94,4 +96,5 @@ module _ (whole : ℕ) (product : ℕ → ℕ → ℕ) (base : ℕ) where
         let none : i ≡ 0 = omega arith in
         let all : digits_of e - i ≡ digits_of e = omega arith in
         let same : e / 2 ^ i ≡ e = rw none (div-one e) in
-        is ∙ rw (all, same) (sym (more-digits (digits_of e) 128 e (omega arith) (digits-enough e fits)))
+        let more = more-digits (digits_of e) 128 e (omega arith) (digits-enough e fits) in
+        is ∙ rw (all, same) (sym more)

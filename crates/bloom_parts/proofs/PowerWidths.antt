@@ -34,7 +34,8 @@ product-apart u high low b a up down w d high_fits a_fits above below first seco
     let two : high * a ≤ (low + w) * a = mul-le high a (low + w) a first (omega arith) in
     let three : w * a ≤ w * u = mul-le w a w u (omega arith) a_fits in
     let four : high * d ≤ u * d = mul-le high d u d high_fits (omega arith) in
-    let all : up * u < (down + (w + d + 2)) * u = omega (arith, above, below, one, two, three, four) in
+    let all : up * u < (down + (w + d + 2)) * u =
+    omega (arith, above, below, one, two, three, four) in
     omega (arith, lt_of_mul-lt-mul_right u all)
 
 -- the powers to e of numbers that are d apart: one whole at 0, and else less than e * (d + 1) apart
@@ -44,8 +45,8 @@ pub record AreApart (u d low high e : ℕ) : Type 0 where
   pub none : e ≡ 0 → (low ≡ u) × (high ≡ u)
   pub some : 0 < e → high + 1 ≤ low + e * (d + 1)
 
-module _ (u : ℕ) (above : 0 < u) (lower upper : ℕ → ℕ → ℕ) (down : Rounds u lower) (up : Rounds u upper)
-    (a b d : ℕ) (a_fits : a ≤ u) (b_fits : b ≤ u) (apart : b ≤ a + d) where
+module _ (u : ℕ) (above : 0 < u) (lower upper : ℕ → ℕ → ℕ) (down : Rounds u lower)
+    (up : Rounds u upper) (a b d : ℕ) (a_fits : a ≤ u) (b_fits : b ≤ u) (apart : b ≤ a + d) where
   square-apart : (low high h : ℕ) → AreApart u d low high h →
       AreApart u d (lower low low) (upper high high) (h + h)
   square-apart low high h are = record {
@@ -53,15 +54,17 @@ module _ (u : ℕ) (above : 0 < u) (lower upper : ℕ → ℕ → ℕ) (down : R
     high_fits = up.fits high high are.high_fits are.high_fits;
     none = λ e.
         let both : (low ≡ u) × (high ≡ u) = are.none (omega (arith, e)) in
-        (rw (both.0) (times-whole u lower above down u), rw (both.1) (times-whole u upper above up u));
+        let low_stays : lower low low ≡ u = rw (both.0) (times-whole u lower above down u) in
+        let high_stays : upper high high ≡ u = rw (both.1) (times-whole u upper above up u) in
+        (low_stays, high_stays);
     some = λ e.
         let before : high + 1 ≤ low + h * (d + 1) = are.some (omega (arith, e)) in
         let least : 1 ≤ h * (d + 1) = mul-le 1 1 h (d + 1) (omega (arith, e)) (omega arith) in
         let w : ℕ = h * (d + 1) - 1 in
         let near : high ≤ low + w = omega (arith, before, least) in
         let after : upper high high ≤ lower low low + (w + w + 1) =
-        product-apart u high low high low (upper high high) (lower low low) w w are.high_fits are.low_fits
-        (up.near_above high high) (down.near_below low low) near near in
+        product-apart u high low high low (upper high high) (lower low low) w w
+        are.high_fits are.low_fits (up.near_above high high) (down.near_below low low) near near in
         omega (arith, after, least);
   }
 
@@ -95,7 +98,8 @@ module _ (u : ℕ) (above : 0 < u) (lower upper : ℕ → ℕ → ℕ) (down : R
       AreApart u d (next_power lower a low digit) (next_power upper b high digit) (h + h + digit)
   next-apart low high h zero small are = rw add-zero (square-apart low high h are)
   next-apart low high h (suc zero) small are =
-      rw add-one (times-apart (lower low low) (upper high high) (h + h) (square-apart low high h are))
+      let square = square-apart low high h are in
+      rw add-one (times-apart (lower low low) (upper high high) (h + h) square)
   next-apart low high h (suc (suc digit)) small are = absurd (omega arith)
 
   pub power-apart : (digits e : ℕ) → e < 2 ^ digits →
@@ -110,7 +114,8 @@ module _ (u : ℕ) (above : 0 < u) (lower upper : ℕ → ℕ → ℕ) (down : R
   power-apart (suc digits) e below =
       let low = rounded_power u lower a digits (e / 2) in
       let high = rounded_power u upper b digits (e / 2) in
+      let are = power-apart digits (e / 2) (half-below digits e below) in
       subst
       (λ (x : ℕ). AreApart u d (next_power lower a low (e % 2)) (next_power upper b high (e % 2)) x)
       (sym (by-half e))
-      (next-apart low high (e / 2) (e % 2) (omega arith) (power-apart digits (e / 2) (half-below digits e below)))
+      (next-apart low high (e / 2) (e % 2) (omega arith) are)

@@ -36,7 +36,8 @@ module _ (n hash : ℕ) (above : 0 < n) where
     | inr more ↦ absurd (omega (arith, div_ceil-le (i * 2 ^ 64) n hash above more))
   ]
 
-  share-to : (i : ℕ) → index_of n hash ≡ i → (share_start n i ≤ hash) × (hash < share_start n (i + 1))
+  share-to : (i : ℕ) → index_of n hash ≡ i →
+      (share_start n i ≤ hash) × (hash < share_start n (i + 1))
   share-to i here = (
     div_ceil-le (i * 2 ^ 64) n hash above (omega (arith, here)),
     elim (cases_lt hash (share_start n (i + 1))) [
@@ -45,7 +46,8 @@ module _ (n hash : ℕ) (above : 0 < n) where
     ],
   )
 
-  share-from : (i : ℕ) → (share_start n i ≤ hash) × (hash < share_start n (i + 1)) → index_of n hash ≡ i
+  share-from : (i : ℕ) → (share_start n i ≤ hash) × (hash < share_start n (i + 1)) →
+      index_of n hash ≡ i
   share-from i (from, before) = omega (arith, start-reached i from, start-missed (i + 1) before)
 
 pub share_law : ShareLaw
@@ -69,6 +71,7 @@ even_law n i j above =
     let near : (share_start n (i + 1) + share_start n j) * n
     < (share_start n (j + 1) + share_start n i + 2) * n =
     omega (arith, start.0, next.1, other_start.1, other_next.0) in
-    let less : share_start n (i + 1) + share_start n j < share_start n (j + 1) + share_start n i + 2 =
+    let less : share_start n (i + 1) + share_start n j
+    < share_start n (j + 1) + share_start n i + 2 =
     lt_of_mul-lt-mul_right n near in
     omega (arith, less)

@@ -5,7 +5,7 @@ use Rattle.bloom_parts.specs.Sizing.{IsHalvings, IsSizeFor, hashes_for, size_for
 use Rattle.bloom_parts.proofs.RootLemmas.{root-zero}
 use Rattle.bloom_parts.proofs.HalvingLemmas.{least-halvings, next-halvings, none-enough}
 
--- roots 0, 16, 32 and 48
+-- roots 0, 16, 32, 48 and 63
 root-first : IsRoot 0 4294967296
 root-first = root-zero
 
@@ -18,23 +18,26 @@ root-middle = record { at_most = lit≤ tt; greatest = lit< tt }
 root-late : IsRoot 48 7223245205
 root-late = record { at_most = lit≤ tt; greatest = lit< tt }
 
+root-last : IsRoot 63 8497403929
+root-last = record { at_most = lit≤ tt; greatest = lit< tt }
+
 -- a half has one halving
 halvings-half : IsHalvings 1 2 64
 halvings-half =
-    next-halvings 1 2 0 63 8497403929 (record { at_most = lit≤ tt; greatest = lit< tt }) (lit< tt) (lit< tt)
-    (2 ^ 32, root-zero, lit≤ tt)
+    next-halvings 1 2 0 63 8497403929 root-last (lit< tt) (lit< tt) (2 ^ 32, root-zero, lit≤ tt)
 
 -- a thousandth has nearly ten
 halvings-thousandth : IsHalvings 1 1000 638
 halvings-thousandth =
-    next-halvings 1 1000 9 61 8315322086 (record { at_most = lit≤ tt; greatest = lit< tt }) (lit< tt) (lit< tt)
-    (8405870006, record { at_most = lit≤ tt; greatest = lit< tt }, lit≤ tt)
+    let before : IsRoot 61 8315322086 = record { at_most = lit≤ tt; greatest = lit< tt } in
+    let root : IsRoot 62 8405870006 = record { at_most = lit≤ tt; greatest = lit< tt } in
+    next-halvings 1 1000 9 61 8315322086 before (lit< tt) (lit< tt) (8405870006, root, lit≤ tt)
 
 -- the least rate has 64
 halvings-least : IsHalvings 1 18446744073709551615 4096
 halvings-least =
-    next-halvings 1 18446744073709551615 63 63 8497403929
-    (record { at_most = lit≤ tt; greatest = lit< tt }) (lit< tt) (lit< tt) (2 ^ 32, root-zero, lit≤ tt)
+    next-halvings 1 18446744073709551615 63 63 8497403929 root-last (lit< tt) (lit< tt)
+    (2 ^ 32, root-zero, lit≤ tt)
 
 -- a rate above one has none
 halvings-above : IsHalvings 3 2 0

@@ -1,14 +1,26 @@
 -- Brackets of the density of a filter and of its rate of false positives, where positions fall on
--- each bit alike (B. H. Bloom, 1970). The unit is 2^-63; that and the exact ends are this project's choice.
+-- each bit alike (B. H. Bloom, 1970). The unit of 2^-63 and the exact ends are this project's own.
 use Rattle.std.specs.Prelude.{ℕ, ◌-◌, ◌*◌, ◌/◌, ◌^◌, ◌≤◌}
 use Rattle.std.specs.Int.{div_ceil}
 use Rattle.bloom_parts.specs.Powers.{lower_power_of, upper_power_of}
 use Rattle.bloom_parts.specs.declared.math.bracket.Bracket.{Bracket}
 
+-- the lower bound of a bracket
+abbrev pub low_of : Bracket → ℕ
+low_of bracket = bracket.low
+
+-- the upper bound of a bracket
+abbrev pub high_of : Bracket → ℕ
+high_of bracket = bracket.high
+
+-- how far the bounds are apart
+abbrev pub width_of : Bracket → ℕ
+width_of bracket = high_of bracket - low_of bracket
+
 -- the fraction p / q lies between the bounds
 pub record Holds (bracket : Bracket) (p q : ℕ) : Type 0 where
-  pub at_least : bracket.low * q ≤ 2 ^ 63 * p
-  pub at_most : 2 ^ 63 * p ≤ bracket.high * q
+  pub at_least : low_of bracket * q ≤ 2 ^ 63 * p
+  pub at_most : 2 ^ 63 * p ≤ high_of bracket * q
 
 -- the share of b bits that is on after t of them were turned on, each time any of them alike:
 -- 1 - ((b - 1) / b)^t

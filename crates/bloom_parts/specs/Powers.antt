@@ -1,5 +1,6 @@
--- Powers of fractions in units of 2^-63, by repeated squares, with each product rounded. This way to
--- compute them decides the exact ends of brackets; it is this project's choice.
+-- Powers of fractions in units of 2^-63, by repeated squares (D. E. Knuth, The Art of Computer
+-- Programming 2, section 4.6.3), with each product rounded. They decide the exact ends of brackets.
+-- The unit and the rounding are this project's choice.
 use Rattle.std.specs.Prelude.{ℕ, zero, suc, ◌*◌, ◌/◌, ◌%◌, ◌^◌}
 use Rattle.std.specs.Int.{div_ceil}
 

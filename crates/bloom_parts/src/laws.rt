@@ -26,14 +26,14 @@ pub fn content_of_words()
     ensures range { BoundLaw }
 {}
 
-/// With one hash a position has one run of the hashes, and runs are as long as each other or nearly.
+/// With one hash each position has a run of the hashes, and runs differ in length by one at most.
 pub fn shares_of_positions()
     ensures share { ShareLaw }
     ensures reached { ReachedLaw }
     ensures even { EvenLaw }
 {}
 
-/// Each of the 64 roots of the table is the greatest number whose power to 64 is at most 2^(2048 + j).
+/// Root `j` of the table is the greatest number whose power to 64 is at most 2^(2048 + j).
 pub fn roots_of_table()
     ensures { (j : ℕ) → j < 64 → IsRoot j (slice_index ROOTS j) }
 {}

@@ -3,7 +3,7 @@ use Rattle.std.proofs.Common.{◌≡◌, ℕ, zero, suc, ◌+◌, ◌-◌, ◌*�
 use Rattle.std.proofs.lemmas.Nat.{mul-le, pow-add}
 use Rattle.std.proofs.Math.Nat.{mul-zero, one-le-pow, pow-suc, pow-zero}
 use Rattle.bloom_parts.specs.declared.math.bracket.Bracket.{Bracket}
-use Rattle.bloom_parts.specs.Brackets.{Holds, HoldsDensity, HoldsRate}
+use Rattle.bloom_parts.specs.Brackets.{width_of, Holds, HoldsDensity, HoldsRate}
 
 -- a power of a power
 pow-pow : (a m n : ℕ) → (a ^ m) ^ n ≡ a ^ (m * n)
@@ -30,16 +30,17 @@ none-on density b is =
 
 -- the width of the rate, from that of the density
 pub rate-width : (density rate : Bracket) (b t k : ℕ) → HoldsDensity density b t →
-    (0 < t → density.high ≤ density.low + (2 * t - 1)) → (t ≡ 0 → density.high ≡ density.low) →
-    rate.high ≤ rate.low + k * (density.high - density.low + 1) →
-    (0 < k → density.high ≡ 0 → rate.high ≡ rate.low) →
-    rate.high ≤ rate.low + 2 * t * k
+    (0 < t → width_of density ≤ 2 * t - 1) → (t ≡ 0 → width_of density ≡ 0) →
+    width_of rate ≤ k * (width_of density + 1) →
+    (0 < k → density.high ≡ 0 → width_of rate ≡ 0) →
+    width_of rate ≤ 2 * t * k
 rate-width density rate b t zero is some none width width_none = omega (arith, width)
 rate-width density rate b zero (suc k) is some none width width_none =
-    let off : density.high ≡ 0 = none refl ∙ none-on density b is in
+    let off : density.high ≡ 0 = omega (arith, none refl, none-on density b is) in
     omega (arith, width_none (omega arith) off)
 rate-width density rate b (suc t) (suc k) is some none width width_none =
-    let near : density.high ≤ density.low + (2 * suc t - 1) = some (omega arith) in
-    let most : suc k * (density.high - density.low + 1) ≤ suc k * (2 * suc t) =
-    mul-le (suc k) (density.high - density.low + 1) (suc k) (2 * suc t) (omega arith) (omega (arith, near)) in
+    let near : width_of density ≤ 2 * suc t - 1 = some (omega arith) in
+    let most : suc k * (width_of density + 1) ≤ suc k * (2 * suc t) =
+    mul-le (suc k) (width_of density + 1) (suc k) (2 * suc t)
+    (omega arith) (omega (arith, near)) in
     omega (arith, width, most)

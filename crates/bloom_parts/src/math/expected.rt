@@ -1,6 +1,6 @@
 //! What share of the bits is on, and how often a look-up errs, as brackets.
 ghost use Rattle.std.specs.Prelude.{◌≡◌, ℕ, ◌+◌, ◌-◌, ◌*◌, ◌^◌, ◌<◌, ◌≤◌};
-ghost use Rattle.bloom_parts.specs.Brackets.{Holds, HoldsDensity, density_low, density_high};
+ghost use Rattle.bloom_parts.specs.Brackets.{low_of, high_of, width_of, Holds, HoldsDensity, density_low, density_high};
 ghost use Rattle.bloom_parts.specs.Powers.{lower_power_of, upper_power_of};
 
 use super::bracket::Bracket;
@@ -11,10 +11,10 @@ pub fn expected_density(hashes: u32, bits: usize, items: usize) -> Bracket
     requires { 0 < bits }
     ensures holds { HoldsDensity result bits (hashes * items) }
     // The ends are exact.
-    ensures low { result.low ≡ density_low bits (hashes * items) }
-    ensures high { result.high ≡ density_high bits (hashes * items) }
-    ensures width { 0 < hashes * items → result.high ≤ result.low + (2 * (hashes * items) - 1) }
-    ensures width_none { hashes * items ≡ 0 → result.high ≡ result.low }
+    ensures low { low_of result ≡ density_low bits (hashes * items) }
+    ensures high { high_of result ≡ density_high bits (hashes * items) }
+    ensures width { 0 < hashes * items → width_of result ≤ 2 * (hashes * items) - 1 }
+    ensures width_none { hashes * items ≡ 0 → width_of result ≡ 0 }
 {
     let sets = hashes as u128 * items as u128;
     let bits = bits as u128;
@@ -31,10 +31,10 @@ pub fn expected_density(hashes: u32, bits: usize, items: usize) -> Bracket
 pub fn expected_false_pos(hashes: u32, density: Bracket) -> Bracket
     ensures holds { (p q : ℕ) → 0 < q → Holds density p q → Holds result (p ^ hashes) (q ^ hashes) }
     // The ends are exact.
-    ensures low { result.low ≡ lower_power_of density.low hashes }
-    ensures high { result.high ≡ upper_power_of density.high hashes }
-    ensures width { result.high ≤ result.low + hashes * (density.high - density.low + 1) }
-    ensures width_none { 0 < hashes → density.high ≡ 0 → result.high ≡ result.low }
+    ensures low { low_of result ≡ lower_power_of (low_of density) hashes }
+    ensures high { high_of result ≡ upper_power_of (high_of density) hashes }
+    ensures width { width_of result ≤ hashes * (width_of density + 1) }
+    ensures width_none { 0 < hashes → high_of density ≡ 0 → width_of result ≡ 0 }
 {
     let (mut products_low, mut products_high) = (0, 0);
     let low = lower_power(density.low(), hashes as u128, &mut products_low);

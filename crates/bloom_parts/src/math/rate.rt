@@ -15,15 +15,15 @@ pub struct Rate {
 impl Rate {
     ghost use Rattle.std.specs.Prelude.{◌≡◌, IfOk};
     ghost use Rattle.std.specs.Result.{result_err};
-    ghost use Rattle.bloom_parts.specs.Rates.{rate_refusal};
+    ghost use Rattle.bloom_parts.specs.Rates.{num_of, den_of, rate_refusal};
 
     /// The rate `num / den`, which may be above one.
     ///
     /// # Errors
     /// `ZeroRate` where a part is zero.
     pub fn new(num: u64, den: u64) -> Result<Rate, FilterError>
-        ensures num { IfOk result (λ rate. rate.num ≡ num) }
-        ensures den { IfOk result (λ rate. rate.den ≡ den) }
+        ensures num { IfOk result (λ rate. num_of rate ≡ num) }
+        ensures den { IfOk result (λ rate. den_of rate ≡ den) }
         ensures refused { result_err result ≡ rate_refusal num den }
     {
         if num == 0 || den == 0 {
@@ -34,14 +34,14 @@ impl Rate {
 
     /// The upper part, as given.
     pub fn num(&self) -> u64
-        ensures { result ≡ self.now.num }
+        ensures { result ≡ num_of self.now }
     {
         self.num
     }
 
     /// The lower part, as given.
     pub fn den(&self) -> u64
-        ensures { result ≡ self.now.den }
+        ensures { result ≡ den_of self.now }
     {
         self.den
     }

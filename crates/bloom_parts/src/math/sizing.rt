@@ -1,5 +1,6 @@
 //! How many hashes a filter has, and how many bits.
 ghost use Rattle.std.specs.Prelude.{◌≡◌, ◌↔◌, ℕ, ◌<◌, ◌≤◌, IfOk, IfErr, IsTrue};
+ghost use Rattle.bloom_parts.specs.Rates.{num_of, den_of};
 ghost use Rattle.bloom_parts.specs.Sizing.{IsEnough, IsHalvings, IsSizeFor, IsTooLarge, hashes_for};
 
 use super::rate::Rate;
@@ -12,8 +13,8 @@ const LN_TWO: u128 = 6_243_314_768_165_359;
 // Whether these sixty-fourths of a halving are enough for the rate, where no fewer are.
 fn is_enough(rate: Rate, k: u32) -> bool
     requires within { k < 4096 }
-    requires few { (fewer : ℕ) → fewer < k → ¬ IsEnough rate.num rate.den fewer }
-    ensures { IsTrue result ↔ IsEnough rate.num rate.den k }
+    requires few { (fewer : ℕ) → fewer < k → ¬ IsEnough (num_of rate) (den_of rate) fewer }
+    ensures { IsTrue result ↔ IsEnough (num_of rate) (den_of rate) k }
 {
     let whole = (rate.den() as u128) << 32;
     let scaled = (rate.num() as u128) << (k / 64);
@@ -22,7 +23,7 @@ fn is_enough(rate: Rate, k: u32) -> bool
 
 // The least number of sixty-fourths of a halving that are enough for the rate.
 fn halvings(rate: Rate) -> u32
-    ensures value { IsHalvings rate.num rate.den result }
+    ensures value { IsHalvings (num_of rate) (den_of rate) result }
     ensures most { result ≤ 4096 }
 {
     'tried: for k in 0..4096 {
@@ -58,9 +59,9 @@ pub fn optimal_hashes(num_bits: usize, num_items: usize) -> u32
 /// # Errors
 /// `SizeOverflow` where the size is 2^64 bits or more.
 pub fn optimal_size(num_items: usize, rate: Rate) -> Result<usize, FilterError>
-    ensures value { IfOk result (λ size. IsSizeFor num_items rate.num rate.den size) }
+    ensures value { IfOk result (λ size. IsSizeFor num_items (num_of rate) (den_of rate) size) }
     ensures refused { IfErr result (λ error. error ≡ FilterError.SizeOverflow) }
-    ensures large { IfErr result (λ _. IsTooLarge num_items rate.num rate.den) }
+    ensures large { IfErr result (λ _. IsTooLarge num_items (num_of rate) (den_of rate)) }
 {
     let steps = num_items as u128 * halvings(rate) as u128 * (1 << 44);
     let size = (8 * steps.div_ceil(LN_TWO)).max(64);

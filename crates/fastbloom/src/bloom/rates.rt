@@ -1,6 +1,6 @@
 //! The rate of false positives that is expected of a filter.
 ghost use Rattle.std.specs.Prelude.{◌≡◌, ◌+◌, ◌*◌, ◌<◌, ◌≤◌, length};
-ghost use Rattle.bloom_parts.specs.Brackets.{HoldsRate, rate_low, rate_high};
+ghost use Rattle.bloom_parts.specs.Brackets.{low_of, high_of, width_of, HoldsRate, rate_low, rate_high};
 
 use super::BloomFilter;
 use bloom_parts::math::{Bracket, expected_density, expected_false_pos};
@@ -9,9 +9,9 @@ use bloom_parts::math::{Bracket, expected_density, expected_false_pos};
 pub(crate) fn expected_rate(num_hashes: u32, num_bits: usize, num_items: usize) -> Bracket
     requires { 0 < num_bits }
     ensures holds { HoldsRate result num_bits (num_hashes * num_items) num_hashes }
-    ensures low { result.low ≡ rate_low num_bits (num_hashes * num_items) num_hashes }
-    ensures high { result.high ≡ rate_high num_bits (num_hashes * num_items) num_hashes }
-    ensures width { result.high ≤ result.low + 2 * (num_hashes * num_items) * num_hashes }
+    ensures low { low_of result ≡ rate_low num_bits (num_hashes * num_items) num_hashes }
+    ensures high { high_of result ≡ rate_high num_bits (num_hashes * num_items) num_hashes }
+    ensures width { width_of result ≤ 2 * (num_hashes * num_items) * num_hashes }
 {
     let density = expected_density(num_hashes, num_bits, num_items);
     expected_false_pos(num_hashes, density)
@@ -24,11 +24,10 @@ impl<S> BloomFilter<S> {
             HoldsRate result (64 * length self.now.words) (k * num_items) k }
         // The ends are exact.
         ensures low { let k = self.now.hashes in
-            result.low ≡ rate_low (64 * length self.now.words) (k * num_items) k }
+            low_of result ≡ rate_low (64 * length self.now.words) (k * num_items) k }
         ensures high { let k = self.now.hashes in
-            result.high ≡ rate_high (64 * length self.now.words) (k * num_items) k }
-        ensures width { let k = self.now.hashes in
-            result.high ≤ result.low + 2 * (k * num_items) * k }
+            high_of result ≡ rate_high (64 * length self.now.words) (k * num_items) k }
+        ensures width { let k = self.now.hashes in width_of result ≤ 2 * (k * num_items) * k }
     {
         expected_rate(self.num_hashes, self.num_bits(), num_items)
     }

@@ -13,8 +13,9 @@ digits-init c = record {
 pub digits-preserved-then-exponent-i-eq1 : goal.digits-preserved-then-exponent-i-eq1
 digits-preserved-then-exponent-i-eq1 c = record {
   value =
-      power-one (2 ^ 63) down_of c.args.base c.args.exponent (digits_of c.args.exponent) c.digits.i _ _ _
-      c.digits-test.true (omega arith) c.digits.invariant.value c.if-exponent-i-eq1.true
+      power-one (2 ^ 63) down_of c.args.base c.args.exponent (digits_of c.args.exponent)
+      c.digits.i _ _ _ c.digits-test.true (omega arith) c.digits.invariant.value
+      c.if-exponent-i-eq1.true
       c.down-power.ensures.value c.down-power-then-exponent-i-eq1.ensures.value;
   products = omega arith;
   fits = c.down-power-then-exponent-i-eq1.ensures.fits;
@@ -23,8 +24,9 @@ digits-preserved-then-exponent-i-eq1 c = record {
 pub digits-preserved : goal.digits-preserved
 digits-preserved c = record {
   value =
-      power-zero (2 ^ 63) down_of c.args.base c.args.exponent (digits_of c.args.exponent) c.digits.i _ _
-      c.digits-test.true (omega arith) c.digits.invariant.value c.if-exponent-i-eq1.false
+      power-zero (2 ^ 63) down_of c.args.base c.args.exponent (digits_of c.args.exponent)
+      c.digits.i _ _ c.digits-test.true (omega arith) c.digits.invariant.value
+      c.if-exponent-i-eq1.false
       c.down-power.ensures.value;
   products = omega arith;
   fits = c.down-power.ensures.fits;
@@ -37,4 +39,5 @@ returns-clause-value c =
 
 pub returns-clause-products : goal.returns-clause-products
 returns-clause-products c digits below =
-    omega (arith, c.digits.invariant.products, digits-needed c.args.exponent digits (omega arith) below)
+    let needed = digits-needed c.args.exponent digits (omega arith) below in
+    omega (arith, c.digits.invariant.products, needed)

@@ -13,4 +13,7 @@ pub overflow_mul-result : goal.overflow_mul-result
 overflow_mul-result c = omega (arith, (test c).fits)
 
 pub returns : goal.returns
-returns c = ((λ is. (test c).decides.0 (leb-true _ _ is)), (λ enough. le-leb _ _ ((test c).decides.1 enough)))
+returns c = (
+  (λ is. (test c).decides.0 (leb-true _ _ is)),
+  (λ enough. le-leb _ _ ((test c).decides.1 enough)),
+)

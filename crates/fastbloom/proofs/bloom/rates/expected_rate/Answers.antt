@@ -10,6 +10,6 @@ returns-clause-holds c =
 pub returns-clause-width : goal.returns-clause-width
 returns-clause-width c =
     let density = c.expected_density-density in
-    rate-width density.result c.expected_false_pos.result _ _ c.args.num_hashes density.ensures.holds
-    density.ensures.width density.ensures.width_none
+    rate-width density.result c.expected_false_pos.result _ _ c.args.num_hashes
+    density.ensures.holds density.ensures.width density.ensures.width_none
     c.expected_false_pos.ensures.width c.expected_false_pos.ensures.width_none
