@@ -1,3 +1,6 @@
+mod BufferLemmas
 pub mod ContentLemmas
+mod HashedLemmas
 pub mod PlaceLemmas
+mod SipLemmas
 mod StandardFacts
