@@ -5,7 +5,7 @@ use Rattle.std.proofs.lemmas.List.Sums.{fold-append}
 use Rattle.std.specs.Prelude.{map}
 use Rattle.std.specs.List.{concat}
 use Rattle.std.specs.Int.{w64, from_le_bytes}
-use Rattle.bloom_parts.specs.Sip.{Words, start, absorb, answer, whole_words, rest, last_word, sip}
+use Rattle.bloom_parts.specs.Sip.{start, absorb, answer, whole_words, rest, last_word, sip}
 use Rattle.bloom_parts.specs.Hashed.{SipState, write, finish, Hashed, Takes, Answers}
 use Rattle.bloom_parts.specs.Laws.{TakesEach, HashesPieces, CuttingLaw, JoiningLaw}
 use Rattle.bloom_parts.proofs.SipLemmas.{AreWords, IsShort, short, GoesOn, goes_on, whole_words-concat, length-concat, length-rest, empty}
@@ -17,7 +17,7 @@ write-append h bytes more =
     let joined : (h.held ++ bytes) ++ more ≡ h.held ++ (bytes ++ more) = append_assoc h.held bytes more in
     let further : GoesOn (h.held ++ bytes) more = goes_on (h.held ++ bytes) more in
     let words : fold absorb (fold absorb h.words (whole_words (h.held ++ bytes))) (whole_words (rest (h.held ++ bytes) ++ more))
-        ≡ fold absorb h.words (whole_words (h.held ++ (bytes ++ more))) =
+    ≡ fold absorb h.words (whole_words (h.held ++ (bytes ++ more))) =
     sym (fold-append absorb h.words (whole_words (h.held ++ bytes)) _)
     ∙ ap (fold absorb h.words) (sym further.words ∙ ap whole_words joined) in
     let held : rest (rest (h.held ++ bytes) ++ more) ≡ rest (h.held ++ (bytes ++ more)) =
@@ -68,7 +68,7 @@ pub write-full : (h : SipState) (bytes : List ℕ) (word : ℕ) → length (h.he
 write-full h bytes word eight is =
     let one : AreWords ((h.held ++ bytes) ∷ []) =
     λ i below. let first : i ≡ 0 = omega arith in
-        ap (λ j. length (get_or ((h.held ++ bytes) ∷ []) j [])) first ∙ eight in
+    ap (λ j. length (get_or ((h.held ++ bytes) ∷ []) j [])) first ∙ eight in
     write-words h bytes ((h.held ++ bytes) ∷ []) one (sym (append-nil (h.held ++ bytes)))
     ∙ ap (λ n. record h { words = absorb h.words n; held = []; count = (h.count + length bytes) % 256 }) (sym is)
 

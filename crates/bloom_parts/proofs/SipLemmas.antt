@@ -92,8 +92,11 @@ pub length-concat : (words : List (List ℕ)) → AreWords words
 length-concat [] each = refl
 length-concat (word ∷ words) each =
     let eight : length word ≡ 8 = each 0 (omega arith) in
-    omega (arith, length-append word (concat words),
-    length-concat words (λ i below. each (suc i) (omega arith)))
+    omega (
+      arith,
+      length-append word (concat words),
+      length-concat words (λ i below. each (suc i) (omega arith)),
+    )
 
 -- a list of no bytes
 pub empty : (bytes : List ℕ) → length bytes ≡ 0 → bytes ≡ []

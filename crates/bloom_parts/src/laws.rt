@@ -1,4 +1,5 @@
 //! Laws of the definitions that contracts cite. These functions do nothing: their contracts are the laws.
+ghost use Rattle.bloom_parts.specs.Laws.{CuttingLaw, JoiningLaw};
 ghost use Rattle.bloom_parts.specs.Places.{PositionsLaw, SubsetLaw, RangeLaw};
 
 /// The positions of a hash are the first places of its chain, and each lies within the bits.
@@ -10,4 +11,10 @@ pub fn positions_of_hash()
 /// The test of a hash is whether its positions are a part of the set.
 pub fn test_of_hash()
     ensures { SubsetLaw }
+{}
+
+/// How bytes are cut into writes doesn't change their hash, which is SipHash of them joined.
+pub fn hash_of_pieces()
+    ensures cutting { CuttingLaw }
+    ensures joining { JoiningLaw }
 {}

@@ -36,21 +36,21 @@ impl Model for RandomDefaultHasher {
     ghost Value = { SipState };
 
     ghost view = { λ h. record {
-        low = h.k0;
-        high = h.k1;
-        words = words_of h.state;
-        held = held_in h.rest h.length;
-        count = h.length;
+      low = h.k0;
+      high = h.k1;
+      words = words_of h.state;
+      held = held_in h.rest h.length;
+      count = h.length;
     } };
 
     ghost invariant = { λ h. IsPadded h.rest h.length × (h.length < 256) };
 
     ghost inverse = { λ s. record {
-        k0 = s.low;
-        k1 = s.high;
-        state = of_words s.words;
-        rest = padded s.held;
-        length = s.count;
+      k0 = s.low;
+      k1 = s.high;
+      state = of_words s.words;
+      rest = padded s.held;
+      length = s.count;
     } };
 
     ghost inverse_ok = { λ h is. ap (λ buffer. record h { rest = buffer }) (sym is.0) };
@@ -135,7 +135,10 @@ impl RandomDefaultHasher {
             state.absorb(u64::from_le_bytes(*word));
         }
         self.state = state;
-        self.length = self.length.wrapping_add((words.len() as u64).wrapping_mul(8)) % 256;
+        self.length = self
+            .length
+            .wrapping_add((words.len() as u64).wrapping_mul(8))
+            % 256;
     }
 }
 

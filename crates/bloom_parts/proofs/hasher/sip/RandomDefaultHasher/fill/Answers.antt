@@ -1,4 +1,4 @@
-use Rattle.std.proofs.Common.{◌≡◌, ℕ, ◌+◌, ◌%◌, ◌^◌, ◌<◌, ◌++◌, [], ◌∷◌, length, take, arith, ap, sym, ◌∙◌, take_all, length-append}
+use Rattle.std.proofs.Common.{◌≡◌, ◌+◌, ◌%◌, ◌^◌, ◌<◌, ◌++◌, [], ◌∷◌, length, take, arith, ap, sym, ◌∙◌, take_all, length-append}
 use Rattle.std.proofs.lemmas.List.{append-nil}
 use Rattle.std.specs.Int.{w64, from_le_bytes}
 use Rattle.bloom_parts.specs.Buffers.{held_in}

@@ -2,7 +2,6 @@ use Rattle.std.proofs.Common.{◌≡◌, ◌+◌, ◌*◌, ◌%◌, ◌^◌, ◌
 use Rattle.std.specs.Prelude.{map}
 use Rattle.std.specs.List.{concat}
 use Rattle.std.specs.Int.{w64, from_le_bytes}
-use Rattle.bloom_parts.specs.Buffers.{held_in}
 use Rattle.bloom_parts.specs.Hashed.{SipState, write}
 use Rattle.bloom_parts.specs.Sip.{absorb}
 use Rattle.bloom_parts.specs.States.{words_of}

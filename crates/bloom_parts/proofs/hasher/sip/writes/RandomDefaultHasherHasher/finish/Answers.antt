@@ -2,7 +2,6 @@ use Rattle.std.proofs.Common.{◌≡◌, ◌+◌, ◌*◌, ◌%◌, ◌^◌, ◌
 use Rattle.std.specs.Int.{w64, from_le_bytes}
 use Rattle.bloom_parts.specs.Hashed.{SipState, finish}
 use Rattle.bloom_parts.specs.Sip.{answer, absorb, last_word}
-use Rattle.bloom_parts.specs.States.{words_of}
 use Rattle.bloom_parts.specs.contracts.hasher.sip.RandomDefaultHasher.{the_view}
 use Rattle.bloom_parts.proofs.BufferLemmas.{topped}
 use Rattle.bloom_parts.proofs.HashedLemmas.{answers}
