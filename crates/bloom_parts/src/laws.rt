@@ -2,6 +2,7 @@
 //! laws.
 ghost use Rattle.std.specs.Prelude.{ℕ, ◌<◌, slice_index};
 ghost use Rattle.bloom_parts.specs.Content.{EqualWordsLaw, BoundLaw};
+ghost use Rattle.bloom_parts.specs.Laws.{CuttingLaw, JoiningLaw};
 ghost use Rattle.bloom_parts.specs.Places.{PositionsLaw, SubsetLaw, RangeLaw};
 ghost use Rattle.bloom_parts.specs.Roots.{IsRoot};
 ghost use Rattle.bloom_parts.specs.Shares.{ShareLaw, ReachedLaw, EvenLaw};
@@ -53,4 +54,10 @@ pub fn size_of_rate()
 /// A quotient rounded half up is the greatest whole number that is at most a half above it.
 pub fn half_up_of_quotient()
     ensures { HalfUpLaw }
+{}
+
+/// How bytes are cut into writes doesn't change their hash, which is SipHash of them joined.
+pub fn hash_of_pieces()
+    ensures cutting { CuttingLaw }
+    ensures joining { JoiningLaw }
 {}

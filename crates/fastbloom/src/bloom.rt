@@ -8,6 +8,7 @@ ghost use Rattle.fastbloom.specs.Filter.{contains, Inserts};
 ghost use Rattle.fastbloom.specs.Replies.{CarriesOut};
 
 mod command;
+mod items;
 mod positions;
 mod rates;
 mod sets;

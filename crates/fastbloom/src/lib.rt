@@ -8,7 +8,7 @@ pub mod laws;
 pub use bloom::{BloomFilter, Command};
 pub use bloom_parts::bit_vector::Words;
 pub use bloom_parts::error::FilterError;
-pub use bloom_parts::hasher::DefaultHasher;
+pub use bloom_parts::hasher::{CloneBuildHasher, DefaultHasher, RandomDefaultHasher};
 pub use bloom_parts::math::{
     Bracket, Rate, expected_density, expected_false_pos, optimal_hashes, optimal_size,
 };

@@ -4,6 +4,8 @@
 #[cfg(test)]
 mod first;
 #[cfg(test)]
+mod hashing;
+#[cfg(test)]
 mod lists;
 #[cfg(test)]
 mod sizing;
