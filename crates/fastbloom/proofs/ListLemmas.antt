@@ -9,7 +9,8 @@ use Rattle.fastbloom.specs.Commands.{Operation, decides, state_after}
 use Rattle.fastbloom.specs.Filter.{Filter, SameShape}
 use Rattle.fastbloom.specs.Replies.{CarriesOut, reply, replies, replies_after}
 
-option_or-assoc : {T : Type 0} (a b c : Option T) → option_or (option_or a b) c ≡ option_or a (option_or b c)
+option_or-assoc : {T : Type 0} (a b c : Option T)
+    → option_or (option_or a b) c ≡ option_or a (option_or b c)
 option_or-assoc None b c = refl
 option_or-assoc (Some x) b c = refl
 
@@ -17,7 +18,8 @@ option_or-none : {T : Type 0} (a : Option T) → option_or a None ≡ a
 option_or-none None = refl
 option_or-none (Some x) = refl
 
-unwrap_or-or : {T : Type 0} (a b : Option T) (x : T) → unwrap_or (option_or a b) x ≡ unwrap_or a (unwrap_or b x)
+unwrap_or-or : {T : Type 0} (a b : Option T) (x : T)
+    → unwrap_or (option_or a b) x ≡ unwrap_or a (unwrap_or b x)
 unwrap_or-or None b x = refl
 unwrap_or-or (Some y) b x = refl
 
@@ -50,7 +52,8 @@ module _ (n k : ℕ) where
       ∙ replies_after-start A xs (earlier ++ y ∷ []) ys)
 
   replies_after-append : (A : ℕ → Bool) (earlier xs ys : List Operation)
-      → replies_after n k A earlier (xs ++ ys) ≡ replies_after n k A earlier xs ++ replies_after n k A (earlier ++ xs) ys
+      → replies_after n k A earlier (xs ++ ys)
+      ≡ replies_after n k A earlier xs ++ replies_after n k A (earlier ++ xs) ys
   replies_after-append A earlier [] ys = ap (λ l. replies_after n k A l ys) (sym (append-nil earlier))
   replies_after-append A earlier (x ∷ xs) ys =
       let first = option_to_list (reply n k (state_after n k A earlier) x) in
