@@ -1,6 +1,10 @@
+mod BufferLemmas
 pub mod ContentLemmas
+mod HashedLemmas
 mod MergeLemmas
 pub mod PlaceLemmas
 mod SetLemmas
+mod SipFacts
+mod SipLemmas
 mod StandardFacts
 mod WordLemmas

@@ -1,6 +1,11 @@
+pub mod Buffers
 pub mod Chain
 pub mod Codes
 pub mod Content
 pub mod Deciders
+pub mod Hashed
 pub mod Keys
+pub mod Laws
 pub mod Places
+pub mod Sip
+pub mod States

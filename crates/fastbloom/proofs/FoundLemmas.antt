@@ -94,7 +94,7 @@ kept_by_list_law S old new operations hash given did all found =
     (λ p is. did.bits p ∙ stays-on _ _ (spares-list n old.hashes P p is operations all) (part p is))
 
 pub kept_by_inserts_law : (S : Type 0) → KeptByInsertsLaw S
-kept_by_inserts_law S old new hashes hash given did =
-    kept_by_list_law S old new (map Insert hashes) hash given did
+kept_by_inserts_law S old new hashes hash did =
+    kept_by_list_law S old new (map Insert hashes) hash did.0 did.1
     (All-map (Spares (positions (64 * length old.words) old.hashes hash)) Insert hashes
     (λ k d within. tt))

@@ -4,3 +4,4 @@ pub mod Commands
 pub mod Filter
 pub mod Laws
 pub mod Replies
+pub mod SourceHash

@@ -1,13 +1,15 @@
 //! Builders of filters.
 ghost use Rattle.std.specs.Prelude.{◌≡◌, vec_len, IfOk, max};
 ghost use Rattle.std.specs.Result.{result_err};
-ghost use Rattle.bloom_parts.specs.Keys.{HasKey};
+ghost use Rattle.std.specs.Int.{w128, to_be_bytes};
+ghost use Rattle.bloom_parts.specs.Keys.{HasKey, key_low, key_high};
 ghost use Rattle.fastbloom.specs.Builders.{words_refusal};
 
 use crate::bloom::BloomFilter;
 use bloom_parts::bit_vector::{BitVec, MAX_WORDS};
 use bloom_parts::error::FilterError;
 use bloom_parts::hasher::DefaultHasher;
+use std::hash::BuildHasher;
 use std::marker::Model;
 
 /// A builder that has the words of the filter. Contracts see the words and the hasher.
@@ -44,6 +46,30 @@ impl BuilderWithBits {
             bits: BitVec::from_vec(words),
             hasher: DefaultHasher::default(),
         })
+    }
+}
+
+impl BuilderWithBits {
+    /// The same builder with the key of a seed, which is its sixteen big-endian bytes.
+    pub fn seed(self, seed: &u128) -> Self
+        ensures words { result.words ≡ self.words }
+        ensures key { let bytes = to_be_bytes w128 seed.now in
+            HasKey result.hasher (key_low bytes) (key_high bytes) }
+    {
+        self.hasher(DefaultHasher::seeded(&seed.to_be_bytes()))
+    }
+}
+
+impl<S: Drop> BuilderWithBits<S> {
+    /// The same builder with another hasher.
+    pub fn hasher<H: BuildHasher>(self, hasher: H) -> BuilderWithBits<H>
+        ensures words { result.words ≡ self.words }
+        ensures hasher { result.hasher ≡ hasher }
+    {
+        BuilderWithBits {
+            bits: self.bits,
+            hasher,
+        }
     }
 }
 

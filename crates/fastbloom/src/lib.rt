@@ -8,5 +8,5 @@ pub mod laws;
 pub use bloom::{BloomFilter, Command};
 pub use bloom_parts::bit_vector::Words;
 pub use bloom_parts::error::FilterError;
-pub use bloom_parts::hasher::DefaultHasher;
+pub use bloom_parts::hasher::{CloneBuildHasher, DefaultHasher, RandomDefaultHasher};
 pub use builder::BuilderWithBits;

@@ -1,0 +1,14 @@
+use Rattle.bloom_parts.specs.Sip.{round}
+use Rattle.bloom_parts.proofs.hasher.sip.state.State.round.Goals as goal
+
+pub returns : goal.returns
+unfolding round
+returns c =
+    simp (
+      c.rotate_left-self-2.ensures,
+      c.rotate_left-4.ensures,
+      c.rotate_left-3.ensures,
+      c.rotate_left-self.ensures,
+      c.rotate_left-2.ensures,
+      c.rotate_left.ensures,
+    )

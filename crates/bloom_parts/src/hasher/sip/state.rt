@@ -1,0 +1,68 @@
+//! The four words of SipHash, and what its rounds make of them.
+ghost use Rattle.std.specs.Prelude.{◌≡◌};
+ghost use Rattle.bloom_parts.specs.States.{words_of};
+ghost use Rattle.bloom_parts.specs.Sip as sip;
+
+// The internal state of SipHash.
+#[derive(Clone, Copy, Debug)]
+pub(super) struct State {
+    v0: u64,
+    v1: u64,
+    v2: u64,
+    v3: u64,
+}
+
+impl State {
+    // The state before the first word, under a key.
+    #[inline]
+    pub(super) fn new(k0: u64, k1: u64) -> Self
+        ensures { words_of result ≡ sip.start k0 k1 }
+    {
+        State {
+            v0: k0 ^ 0x736f_6d65_7073_6575,
+            v1: k1 ^ 0x646f_7261_6e64_6f6d,
+            v2: k0 ^ 0x6c79_6765_6e65_7261,
+            v3: k1 ^ 0x7465_6462_7974_6573,
+        }
+    }
+
+    // One SipRound.
+    #[inline(always)]
+    fn round(&mut self)
+        ensures { words_of self.new ≡ sip.round (words_of self.old) }
+    {
+        self.v0 = self.v0.wrapping_add(self.v1);
+        self.v2 = self.v2.wrapping_add(self.v3);
+        self.v1 = self.v1.rotate_left(13) ^ self.v0;
+        self.v3 = self.v3.rotate_left(16) ^ self.v2;
+        self.v0 = self.v0.rotate_left(32);
+        self.v2 = self.v2.wrapping_add(self.v1);
+        self.v0 = self.v0.wrapping_add(self.v3);
+        self.v1 = self.v1.rotate_left(17) ^ self.v2;
+        self.v3 = self.v3.rotate_left(21) ^ self.v0;
+        self.v2 = self.v2.rotate_left(32);
+    }
+
+    // Takes in a word of the message.
+    #[inline(always)]
+    pub(super) fn absorb(&mut self, word: u64)
+        ensures { words_of self.new ≡ sip.absorb (words_of self.old) word }
+    {
+        self.v3 ^= word;
+        self.round();
+        self.v0 ^= word;
+    }
+
+    // The hash, after the last word.
+    #[inline]
+    pub(super) fn answer(self) -> u64
+        ensures { result ≡ sip.answer (words_of self) }
+    {
+        let mut last = self;
+        last.v2 ^= 0xff;
+        last.round();
+        last.round();
+        last.round();
+        last.v0 ^ last.v1 ^ last.v2 ^ last.v3
+    }
+}
