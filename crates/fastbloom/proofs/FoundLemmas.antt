@@ -8,7 +8,7 @@ use Rattle.bloom_parts.specs.Deciders.{last_decision}
 use Rattle.bloom_parts.specs.Places.{positions, IsPart}
 use Rattle.fastbloom.specs.CommandOf.{operation_of}
 use Rattle.fastbloom.specs.Commands.{Operation, Insert, Contains, Clear, Union, Intersect, decides}
-use Rattle.fastbloom.specs.Laws.{Spares, KeptByListLaw, KeptByInsertsLaw, FoundLaw, FoundAfterReplayLaw}
+use Rattle.fastbloom.specs.Laws.{Spares, KeptByListLaw, KeptByInsertsLaw, FoundLaw, FoundAfterInsertsLaw, FoundAfterReplayLaw}
 use Rattle.fastbloom.specs.Replies.{CarriesOut}
 use Rattle.fastbloom.specs.declared.bloom.command.Command.TheVariants as command
 use Rattle.fastbloom.proofs.LawLemmas.{contains-shape}
@@ -69,6 +69,10 @@ made-on n k hash p is [] later all =
 made-on n k hash p is (o ∷ earlier) later all =
     ap (λ d. option_or d (decides n k o p)) (made-on n k hash p is earlier later all)
 
+-- inserts spare every position
+all_spare : (n k hash : ℕ) (hashes : List ℕ) → All (Spares (positions n k hash)) (map Insert hashes)
+all_spare n k hash hashes = All-map (Spares (positions n k hash)) Insert hashes (λ i d within. tt)
+
 pub found_law : (S : Type 0) → FoundLaw S
 found_law S old new earlier later hash given did all =
     let n = 64 * length old.words in
@@ -84,6 +88,12 @@ found_after_replay_law S old new earlier later hash given did all =
     (map-append operation_of earlier (command.Insert hash ∷ later)) did)
     (All-map (Spares (positions (64 * length old.words) old.hashes hash)) operation_of later all)
 
+pub found_after_inserts_law : (S : Type 0) → FoundAfterInsertsLaw S
+found_after_inserts_law S old new earlier later hash did =
+    found_law S old new (map Insert earlier) (map Insert later) hash did.0
+    (subst (λ os. CarriesOut old os new did.0) (map-append Insert earlier (hash ∷ later)) did.1)
+    (all_spare (64 * length old.words) old.hashes hash later)
+
 pub kept_by_list_law : (S : Type 0) → KeptByListLaw S
 kept_by_list_law S old new operations hash given did all found =
     let n = 64 * length old.words in
@@ -96,5 +106,4 @@ kept_by_list_law S old new operations hash given did all found =
 pub kept_by_inserts_law : (S : Type 0) → KeptByInsertsLaw S
 kept_by_inserts_law S old new hashes hash did =
     kept_by_list_law S old new (map Insert hashes) hash did.0 did.1
-    (All-map (Spares (positions (64 * length old.words) old.hashes hash)) Insert hashes
-    (λ k d within. tt))
+    (all_spare (64 * length old.words) old.hashes hash hashes)

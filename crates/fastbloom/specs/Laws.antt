@@ -111,6 +111,11 @@ FoundLaw S = (old new : Filter S) (earlier later : List Operation) (hash : ℕ) 
     → All (Spares (positions (64 * length old.words) old.hashes hash)) later
     → contains new hash ≡ true
 
+-- each hash of a list of inserts is contained after them
+abbrev pub FoundAfterInsertsLaw : (S : Type 0) → Type 0
+FoundAfterInsertsLaw S = (old new : Filter S) (earlier later : List ℕ) (hash : ℕ)
+    → InsertsAll old (earlier ++ hash ∷ later) new → contains new hash ≡ true
+
 -- the same of a list that `replay` is given
 abbrev pub FoundAfterReplayLaw : (S : Type 0) → Type 0
 FoundAfterReplayLaw S = (old new : Filter S) (earlier later : List (Command S))

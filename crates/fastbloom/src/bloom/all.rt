@@ -16,7 +16,7 @@ impl<S: BuildHasher> BloomFilter<S> {
             × WholeRun I.IntoIter.next_gives it (λ run. InsertsItems (item_hash S.Hasher.write
             S.Hasher.finish S.build_hasher (λ item. T.hash_input item.now)) self.old run.items self.new) }
     {
-        'items: for item in iter {
+        'lent: for item in iter {
             self.insert(item);
         }
     }
@@ -29,7 +29,7 @@ impl<S: BuildHasher> BloomFilter<S> {
             × WholeRun I.IntoIter.next_gives it (λ run. InsertsItems (item_hash S.Hasher.write
             S.Hasher.finish S.build_hasher T.hash_input) self.old run.items self.new) }
     {
-        'items: for item in iter {
+        'given: for item in iter {
             self.insert(&item);
         }
     }
