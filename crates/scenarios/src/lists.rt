@@ -120,9 +120,9 @@ fn a_clone_goes_its_own_way(rt: HostRuntime) -> Result<(), Fail> {
     let filter = filter_of(rt.alloc(), &[0], 4)?;
     let mut copy = filter.try_clone(rt.alloc())?;
     assert!(rt; filter == copy);
-    copy.insert_hash(42);
+    copy.insert(&42);
     assert!(rt; filter != copy);
-    assert!(rt; !filter.contains_hash(42));
+    assert!(rt; !filter.contains(&42));
     Ok(())
 }
 
@@ -132,5 +132,37 @@ fn filters_of_other_hash_counts_differ(rt: HostRuntime) -> Result<(), Fail> {
     let two = filter_of(rt.alloc(), &[5], 2)?;
     assert!(rt; one != two);
     assert!(rt; !one.same_shape(&two));
+    Ok(())
+}
+
+#[test]
+fn filters_of_other_keys_are_equal(rt: HostRuntime) -> Result<(), Fail> {
+    let one = BloomFilter::from_vec(vec![in rt.alloc(); 5]?)?
+        .seed(&1)
+        .hashes(1);
+    let two = BloomFilter::from_vec(vec![in rt.alloc(); 5]?)?
+        .seed(&2)
+        .hashes(1);
+    assert!(rt; one == two);
+    assert!(rt; one.same_shape(&two));
+    assert!(rt; one.source_hash(&42) != two.source_hash(&42));
+    Ok(())
+}
+
+#[test]
+fn many_items_are_inserted_one_by_one(rt: HostRuntime) -> Result<(), Fail> {
+    let items = [1, 2, 3];
+    let mut by_one = filter_of(rt.alloc(), &[0, 0], 4)?;
+    for item in items {
+        by_one.insert(&item);
+    }
+    let mut lent = filter_of(rt.alloc(), &[0, 0], 4)?;
+    lent.insert_all(&items);
+    assert!(rt; lent == by_one);
+    let mut given = filter_of(rt.alloc(), &[0, 0], 4)?;
+    given.extend(items);
+    assert!(rt; given == by_one);
+    given.extend(0..0);
+    assert!(rt; given == by_one, "no item");
     Ok(())
 }
