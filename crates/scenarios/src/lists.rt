@@ -1,12 +1,32 @@
 //! Calls on whole filters, and lists of commands.
+ghost use Rattle.fastbloom.specs.Replies.{InsertsItems};
+ghost use Rattle.fastbloom.specs.SourceHash.{item_hash};
+
 use fastbloom::{BloomFilter, Command, FilterError};
 use std::alloc::Global;
+use std::hash::{BuildHasher, Hash, Hasher};
 use std::test::Fail;
 
 // A filter of these words.
 fn filter_of(alloc: Global, words: &[u64], num_hashes: u32) -> Result<BloomFilter, FilterError> {
     let words = words.to_vec(alloc)?;
     Ok(BloomFilter::from_vec(words)?.hashes(num_hashes))
+}
+
+// The items of a slice, in order: what `insert_all` says of any iterator tells its callers this.
+fn insert_slice<S: BuildHasher, T: Hash>(filter: &mut BloomFilter<S>, items: &[T])
+    ensures { InsertsItems (item_hash S.Hasher.write S.Hasher.finish S.build_hasher T.hash_input)
+        filter.old items.now filter.new }
+{
+    filter.insert_all(items)
+}
+
+// The same of the items of a vector, by `extend`.
+fn insert_vec<S: BuildHasher, T: Hash + Drop>(filter: &mut BloomFilter<S>, items: Vec<T>)
+    ensures { InsertsItems (item_hash S.Hasher.write S.Hasher.finish S.build_hasher T.hash_input)
+        filter.old items.items filter.new }
+{
+    filter.extend(items)
 }
 
 // 5 or 6 is 7, and 5 and 6 is 4.
@@ -157,10 +177,10 @@ fn many_items_are_inserted_one_by_one(rt: HostRuntime) -> Result<(), Fail> {
         by_one.insert(&item);
     }
     let mut lent = filter_of(rt.alloc(), &[0, 0], 4)?;
-    lent.insert_all(&items);
+    insert_slice(&mut lent, &items);
     assert!(rt; lent == by_one);
     let mut given = filter_of(rt.alloc(), &[0, 0], 4)?;
-    given.extend(items);
+    insert_vec(&mut given, Vec::from_array(rt.alloc(), items)?);
     assert!(rt; given == by_one);
     given.extend(0..0);
     assert!(rt; given == by_one, "no item");
