@@ -18,15 +18,18 @@ same_digits zero (suc (suc b)) p q same = absurd (omega arith)
 same_digits (suc zero) (suc (suc b)) p q same = absurd (omega arith)
 
 -- the content at bit i of word k
-content-at : (words : List ℕ) (k i : ℕ) → i < 64 → content words (64 * k + i) ≡ eqb (bit_at (get_or words k 0) i) 1
+content-at : (words : List ℕ) (k i : ℕ) → i < 64
+    → content words (64 * k + i) ≡ eqb (bit_at (get_or words k 0) i) 1
 unfolding content
 content-at words k i below =
     let word : (64 * k + i) / 64 ≡ k = omega arith in
     let bit : (64 * k + i) % 64 ≡ i = omega arith in
-    ap (λ j. bit_is_on (get_or words j 0) (64 * k + i)) word ∙ ap (λ j. eqb (bit_at (get_or words k 0) j) 1) bit
+    ap (λ j. bit_is_on (get_or words j 0) (64 * k + i)) word
+    ∙ ap (λ j. eqb (bit_at (get_or words k 0) j) 1) bit
 
 -- words of the same content are equal, one by one
-same_words : (a b : List ℕ) → AreWords a → AreWords b → length a ≡ length b → ((p : ℕ) → content a p ≡ content b p) → a ≡ b
+same_words : (a b : List ℕ) → AreWords a → AreWords b → length a ≡ length b
+    → ((p : ℕ) → content a p ≡ content b p) → a ≡ b
 same_words a b fit fit' long same =
     ext_get_or 0 a b long (λ k within.
     same_from_bits_below 64 (get_or a k 0) (get_or b k 0)
@@ -47,6 +50,7 @@ bound_law words p on = elim (cases_lt (p / 64) (length words)) [
   | inl within ↦ omega arith
   | inr past ↦
       let off : content words p ≡ false =
-      ap (λ word. bit_is_on word p) (get_or_past words (p / 64) 0 past) ∙ ap (λ d. eqb d 1) (bit_at-zero (p % 64)) in
+      ap (λ word. bit_is_on word p) (get_or_past words (p / 64) 0 past)
+      ∙ ap (λ d. eqb d 1) (bit_at-zero (p % 64)) in
       absurd (both_ways _ off on)
 ]

@@ -30,7 +30,8 @@ and-same true = refl
 and-same false = refl
 
 pub union-comm : (S : Type 0) → IsCommutative S Unites
-union-comm S f g fg gf did did' p = did.bits p ∙ or-comm (content f.words p) (content g.words p) ∙ sym (did'.bits p)
+union-comm S f g fg gf did did' p =
+    did.bits p ∙ or-comm (content f.words p) (content g.words p) ∙ sym (did'.bits p)
 
 pub union-assoc : (S : Type 0) → IsAssociative S Unites
 union-assoc S f g h fg fg_h gh f_gh did_fg did_fg_h did_gh did_f_gh p =
@@ -42,7 +43,8 @@ pub union-same : (S : Type 0) → IsIdempotent S Unites
 union-same S f made did p = did.bits p ∙ or-same (content f.words p)
 
 pub intersection-comm : (S : Type 0) → IsCommutative S Intersects
-intersection-comm S f g fg gf did did' p = did.bits p ∙ and-comm (content f.words p) (content g.words p) ∙ sym (did'.bits p)
+intersection-comm S f g fg gf did did' p =
+    did.bits p ∙ and-comm (content f.words p) (content g.words p) ∙ sym (did'.bits p)
 
 pub intersection-assoc : (S : Type 0) → IsAssociative S Intersects
 intersection-assoc S f g h fg fg_h gh f_gh did_fg did_fg_h did_gh did_f_gh p =

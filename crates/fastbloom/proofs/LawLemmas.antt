@@ -16,16 +16,19 @@ contains-shape old new hash same =
     ∙ ap (λ k. are_in (64 * length old.words) k hash (content new.words)) (sym same.hashes)
 
 -- what is in a set is in a greater one
-pub are_in-greater : (n k hash : ℕ) (A B : ℕ → Bool) → IsPart A B → are_in n k hash A ≡ true → are_in n k hash B ≡ true
+pub are_in-greater : (n k hash : ℕ) (A B : ℕ → Bool) → IsPart A B
+    → are_in n k hash A ≡ true → are_in n k hash B ≡ true
 are_in-greater n k hash A B part all =
     part-to n k hash B (λ p is. part p (part-from n k hash A all p is))
 
 -- the same, of filters of one shape
 pub contains-greater : {S : Type 0} (old new : Filter S) (hash : ℕ) → SameShape old new
-    → IsPart (content old.words) (content new.words) → contains old hash ≡ true → contains new hash ≡ true
+    → IsPart (content old.words) (content new.words)
+    → contains old hash ≡ true → contains new hash ≡ true
 contains-greater old new hash same part found =
     contains-shape old new hash same
-    ∙ are_in-greater (64 * length old.words) old.hashes hash (content old.words) (content new.words) part found
+    ∙ are_in-greater (64 * length old.words) old.hashes hash (content old.words) (content new.words)
+    part found
 
 pub insert_law : (S : Type 0) → InsertLaw S
 insert_law S old new hash reply did = (
@@ -50,7 +53,8 @@ exchange true false false d = refl
 exchange false b c d = refl
 
 -- all are in both of two sets exactly if they are in each
-are_in-both : (n k hash : ℕ) (A B : ℕ → Bool) → are_in n k hash (λ p. A p && B p) ≡ (are_in n k hash A && are_in n k hash B)
+are_in-both : (n k hash : ℕ) (A B : ℕ → Bool)
+    → are_in n k hash (λ p. A p && B p) ≡ (are_in n k hash A && are_in n k hash B)
 unfolding are_in
 are_in-both n zero hash A B = refl
 are_in-both n (suc k) hash A B =
@@ -68,15 +72,16 @@ intersection_law S old other new hash same did =
     ∙ ap (λ b. contains old hash && b) (sym (contains-shape old other hash same))
 
 pub union_law : (S : Type 0) → UnionLaw S
-union_law S old other new hash same did either = elim (or_cases (contains old hash) (contains other hash) either) [
-  | inl found ↦ kept_by_union_law S old other new hash did found
-  | inr found ↦
-      let n = 64 * length old.words in
-      contains-shape old new hash did.shape
-      ∙ are_in-greater n old.hashes hash (content other.words) (content new.words)
-      (λ p on. did.bits p ∙ or_right (content old.words p) (content other.words p) on)
-      (sym (contains-shape old other hash same) ∙ found)
-]
+union_law S old other new hash same did either =
+    elim (or_cases (contains old hash) (contains other hash) either) [
+      | inl found ↦ kept_by_union_law S old other new hash did found
+      | inr found ↦
+          let n = 64 * length old.words in
+          contains-shape old new hash did.shape
+          ∙ are_in-greater n old.hashes hash (content other.words) (content new.words)
+          (λ p on. did.bits p ∙ or_right (content old.words p) (content other.words p) on)
+          (sym (contains-shape old other hash same) ∙ found)
+    ]
 
 pub clear_law : (S : Type 0) → ClearLaw S
 clear_law S old new hash some did =

@@ -3,13 +3,17 @@ use Rattle.std.proofs.Common.{◌≡◌, ℕ, ◌+◌, ◌*◌, ◌<◌, Bool, L
 use Rattle.std.specs.Option.{option_or}
 use Rattle.std.specs.Prelude.{option_to_list}
 use Rattle.std.proofs.lemmas.List.{map-append, take_more}
+use Rattle.std.specs.Iterator.{Yields}
+use Rattle.std.specs.Iterator.Runs.{WholeRun}
+use Rattle.std.proofs.iter.runs.Made.{run_of_exit}
 use Rattle.bloom_parts.specs.Content.{content}
 use Rattle.bloom_parts.specs.Deciders.{Decider, last_decision, state}
-use Rattle.fastbloom.specs.Commands.{Operation, decides, state_after}
+use Rattle.fastbloom.specs.Commands.{Operation, Insert, decides, state_after}
 use Rattle.fastbloom.specs.Filter.{Filter, SameShape}
-use Rattle.fastbloom.specs.Replies.{CarriesOut, reply, replies, replies_after}
+use Rattle.fastbloom.specs.Replies.{CarriesOut, InsertsItems, reply, replies, replies_after}
 
-option_or-assoc : {T : Type 0} (a b c : Option T) → option_or (option_or a b) c ≡ option_or a (option_or b c)
+option_or-assoc : {T : Type 0} (a b c : Option T)
+    → option_or (option_or a b) c ≡ option_or a (option_or b c)
 option_or-assoc None b c = refl
 option_or-assoc (Some x) b c = refl
 
@@ -17,7 +21,8 @@ option_or-none : {T : Type 0} (a : Option T) → option_or a None ≡ a
 option_or-none None = refl
 option_or-none (Some x) = refl
 
-unwrap_or-or : {T : Type 0} (a b : Option T) (x : T) → unwrap_or (option_or a b) x ≡ unwrap_or a (unwrap_or b x)
+unwrap_or-or : {T : Type 0} (a b : Option T) (x : T)
+    → unwrap_or (option_or a b) x ≡ unwrap_or a (unwrap_or b x)
 unwrap_or-or None b x = refl
 unwrap_or-or (Some y) b x = refl
 
@@ -50,7 +55,8 @@ module _ (n k : ℕ) where
       ∙ replies_after-start A xs (earlier ++ y ∷ []) ys)
 
   replies_after-append : (A : ℕ → Bool) (earlier xs ys : List Operation)
-      → replies_after n k A earlier (xs ++ ys) ≡ replies_after n k A earlier xs ++ replies_after n k A (earlier ++ xs) ys
+      → replies_after n k A earlier (xs ++ ys)
+      ≡ replies_after n k A earlier xs ++ replies_after n k A (earlier ++ xs) ys
   replies_after-append A earlier [] ys = ap (λ l. replies_after n k A l ys) (sym (append-nil earlier))
   replies_after-append A earlier (x ∷ xs) ys =
       let first = option_to_list (reply n k (state_after n k A earlier) x) in
@@ -111,3 +117,41 @@ carries_out-next says old mid new list i c r s given within is first second all_
     subst (λ l. CarriesOut old l new given) (sym joined)
     (subst (CarriesOut old (map says (take i list) ++ says c ∷ []) new) (sym all_given)
     (carries_out-append old mid new (map says (take i list)) (says c ∷ []) r s first second))
+
+module _ {S T : Type 0} (hash_of : S → T → ℕ) (old : Filter S) where
+  -- no item
+  pub inserts_items-none : InsertsItems hash_of old [] old
+  inserts_items-none = (
+    [],
+    record {
+      bits = λ p. refl;
+      answers = refl;
+      shape = record { words = refl; hashes = refl };
+      hasher = refl;
+    },
+  )
+
+  -- one more item: inserts keep the hasher, by which it is hashed
+  pub inserts_items-next : (mid new : Filter S) (items : List T) (item : T) (reply : Bool)
+      → InsertsItems hash_of old items mid
+      → CarriesOut mid (Insert (hash_of mid.hasher item) ∷ []) new (reply ∷ [])
+      → InsertsItems hash_of old (items ++ item ∷ []) new
+  inserts_items-next mid new items item reply did next =
+      let hash = hash_of old.hasher in
+      let inserts = map Insert (map hash items) in
+      let joined : map Insert (map hash (items ++ item ∷ [])) ≡ inserts ++ Insert (hash_of mid.hasher item) ∷ [] =
+      ap (map Insert) (map-append hash items (item ∷ []))
+      ∙ map-append Insert (map hash items) (hash item ∷ [])
+      ∙ ap (λ h. inserts ++ Insert (hash_of h item) ∷ []) (sym did.1.hasher) in (
+        did.0 ++ reply ∷ [],
+        subst (λ l. CarriesOut old l new (did.0 ++ reply ∷ [])) (sym joined)
+            (carries_out-append old mid new inserts (Insert (hash_of mid.hasher item) ∷ []) did.0 (reply ∷ []) did.1 next),
+      )
+
+  -- when the iterator has ended, those were all its items
+  pub inserts_items-whole : {I : Type 0} (steps : I → Option T → I → Type 0) (start last end : I)
+      (items : List T) (new : Filter S) → Yields steps start items last → steps last None end
+      → InsertsItems hash_of old items new → WholeRun steps start (λ run. InsertsItems hash_of old run.items new)
+  inserts_items-whole steps start last end items new came ended did =
+      let made = run_of_exit steps start items last came end ended in
+      (made.0, made.1, made.2, subst (λ l. InsertsItems hash_of old l new) (sym made.3.0) did)

@@ -5,7 +5,7 @@ use Rattle.bloom_parts.specs.Places.{positions, IsPart}
 use Rattle.fastbloom.specs.CommandOf.{operation_of}
 use Rattle.fastbloom.specs.Commands.{Operation, Insert, Contains, Clear, Union, Intersect}
 use Rattle.fastbloom.specs.Filter.{Filter, SameShape, contains, Inserts, Clears, Unites, Intersects, same_filter}
-use Rattle.fastbloom.specs.Replies.{CarriesOut}
+use Rattle.fastbloom.specs.Replies.{CarriesOut, InsertsAll}
 use Rattle.fastbloom.specs.declared.bloom.command.Command.{Command}
 use Rattle.fastbloom.specs.declared.bloom.command.Command.TheVariants as command
 
@@ -39,10 +39,9 @@ KeptByListLaw S = (old new : Filter S) (operations : List Operation) (hash : ℕ
     → All (Spares (positions (64 * length old.words) old.hashes hash)) operations
     → contains old hash ≡ true → contains new hash ≡ true
 
--- what is contained stays so under a list of inserts
+-- what is contained stays so under a list of inserts, as `insert_all` and `extend` make
 abbrev pub KeptByInsertsLaw : (S : Type 0) → Type 0
-KeptByInsertsLaw S = (old new : Filter S) (hashes : List ℕ) (hash : ℕ) (given : List Bool)
-    → CarriesOut old (map Insert hashes) new given
+KeptByInsertsLaw S = (old new : Filter S) (hashes : List ℕ) (hash : ℕ) → InsertsAll old hashes new
     → contains old hash ≡ true → contains new hash ≡ true
 
 -- after an intersection a hash is contained exactly if both filters contained it
@@ -111,6 +110,11 @@ FoundLaw S = (old new : Filter S) (earlier later : List Operation) (hash : ℕ) 
     → CarriesOut old (earlier ++ Insert hash ∷ later) new given
     → All (Spares (positions (64 * length old.words) old.hashes hash)) later
     → contains new hash ≡ true
+
+-- each hash of a list of inserts is contained after them
+abbrev pub FoundAfterInsertsLaw : (S : Type 0) → Type 0
+FoundAfterInsertsLaw S = (old new : Filter S) (earlier later : List ℕ) (hash : ℕ)
+    → InsertsAll old (earlier ++ hash ∷ later) new → contains new hash ≡ true
 
 -- the same of a list that `replay` is given
 abbrev pub FoundAfterReplayLaw : (S : Type 0) → Type 0

@@ -7,6 +7,11 @@ use Rattle.std.specs.List.{concat}
 abbrev pub hash_by : {H : Type 0} → (H → List ℕ → H) → (H → ℕ) → H → List (List ℕ) → ℕ
 hash_by write finish fresh writes = finish (fold write fresh writes)
 
+-- the same of an item that writes its input to a hasher that is built for it
+abbrev pub item_hash : {B H T : Type 0} → (H → List ℕ → H) → (H → ℕ) → (B → H) → (T → List (List ℕ))
+    → B → T → ℕ
+item_hash write finish build input hasher item = hash_by write finish (build hasher) (input item)
+
 -- the answer of a hasher is this function of the bytes written, joined
 abbrev pub IsFunctionOfBytes : {H : Type 0} → (H → List ℕ → H) → (H → ℕ) → H → (List ℕ → ℕ) → Type 0
 IsFunctionOfBytes write finish fresh f =

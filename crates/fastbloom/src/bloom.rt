@@ -7,6 +7,7 @@ ghost use Rattle.fastbloom.specs.Commands as operation;
 ghost use Rattle.fastbloom.specs.Filter.{contains, Inserts};
 ghost use Rattle.fastbloom.specs.Replies.{CarriesOut};
 
+mod all;
 mod command;
 mod items;
 mod positions;

@@ -5,7 +5,7 @@ ghost use Rattle.bloom_parts.specs.Keys.{HasKey};
 ghost use Rattle.bloom_parts.specs.Sip.{sip};
 ghost use Rattle.bloom_parts.specs.declared.hasher.CloneBuildHasher.{CloneBuildHasher as Builder};
 ghost use Rattle.fastbloom.specs.Filter.{Unites, Intersects};
-ghost use Rattle.fastbloom.specs.Laws.{InsertLaw, KeptByInsertLaw, KeptByUnionLaw, KeptByListLaw, KeptByInsertsLaw, IntersectionLaw, UnionLaw, ClearLaw, IsCommutative, IsAssociative, IsIdempotent, RebuiltLaw, EqualityLaw, JoinedListsLaw, FoundLaw, FoundAfterReplayLaw};
+ghost use Rattle.fastbloom.specs.Laws.{InsertLaw, KeptByInsertLaw, KeptByUnionLaw, KeptByListLaw, KeptByInsertsLaw, IntersectionLaw, UnionLaw, ClearLaw, IsCommutative, IsAssociative, IsIdempotent, RebuiltLaw, EqualityLaw, JoinedListsLaw, FoundLaw, FoundAfterInsertsLaw, FoundAfterReplayLaw};
 ghost use Rattle.fastbloom.specs.SourceHash.{hash_by, IsFunctionOfBytes};
 
 use bloom_parts::hasher::{DefaultHasher, RandomDefaultHasher};
@@ -72,6 +72,7 @@ pub fn lists_join<S>()
 /// An inserted hash stays found, through lists that later neither clear nor intersect it away.
 pub fn inserted_stays_found<S>()
     ensures operations { FoundLaw S }
+    ensures inserts { FoundAfterInsertsLaw S }
     ensures replay { FoundAfterReplayLaw S }
 {}
 

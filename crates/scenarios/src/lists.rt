@@ -1,12 +1,32 @@
 //! Calls on whole filters, and lists of commands.
+ghost use Rattle.fastbloom.specs.Replies.{InsertsItems};
+ghost use Rattle.fastbloom.specs.SourceHash.{item_hash};
+
 use fastbloom::{BloomFilter, Command, FilterError};
 use std::alloc::Global;
+use std::hash::{BuildHasher, Hash, Hasher};
 use std::test::Fail;
 
 // A filter of these words.
 fn filter_of(alloc: Global, words: &[u64], num_hashes: u32) -> Result<BloomFilter, FilterError> {
     let words = words.to_vec(alloc)?;
     Ok(BloomFilter::from_vec(words)?.hashes(num_hashes))
+}
+
+// The items of a slice, in order: what `insert_all` says of any iterator tells its callers this.
+fn insert_slice<S: BuildHasher, T: Hash>(filter: &mut BloomFilter<S>, items: &[T])
+    ensures { InsertsItems (item_hash S.Hasher.write S.Hasher.finish S.build_hasher T.hash_input)
+        filter.old items.now filter.new }
+{
+    filter.insert_all(items)
+}
+
+// The same of the items of a vector, by `extend`.
+fn insert_vec<S: BuildHasher, T: Hash + Drop>(filter: &mut BloomFilter<S>, items: Vec<T>)
+    ensures { InsertsItems (item_hash S.Hasher.write S.Hasher.finish S.build_hasher T.hash_input)
+        filter.old items.items filter.new }
+{
+    filter.extend(items)
 }
 
 // 5 or 6 is 7, and 5 and 6 is 4.
@@ -120,9 +140,9 @@ fn a_clone_goes_its_own_way(rt: HostRuntime) -> Result<(), Fail> {
     let filter = filter_of(rt.alloc(), &[0], 4)?;
     let mut copy = filter.try_clone(rt.alloc())?;
     assert!(rt; filter == copy);
-    copy.insert_hash(42);
+    copy.insert(&42);
     assert!(rt; filter != copy);
-    assert!(rt; !filter.contains_hash(42));
+    assert!(rt; !filter.contains(&42));
     Ok(())
 }
 
@@ -132,5 +152,37 @@ fn filters_of_other_hash_counts_differ(rt: HostRuntime) -> Result<(), Fail> {
     let two = filter_of(rt.alloc(), &[5], 2)?;
     assert!(rt; one != two);
     assert!(rt; !one.same_shape(&two));
+    Ok(())
+}
+
+#[test]
+fn filters_of_other_keys_are_equal(rt: HostRuntime) -> Result<(), Fail> {
+    let one = BloomFilter::from_vec(vec![in rt.alloc(); 5]?)?
+        .seed(&1)
+        .hashes(1);
+    let two = BloomFilter::from_vec(vec![in rt.alloc(); 5]?)?
+        .seed(&2)
+        .hashes(1);
+    assert!(rt; one == two);
+    assert!(rt; one.same_shape(&two));
+    assert!(rt; one.source_hash(&42) != two.source_hash(&42));
+    Ok(())
+}
+
+#[test]
+fn many_items_are_inserted_one_by_one(rt: HostRuntime) -> Result<(), Fail> {
+    let items = [1, 2, 3];
+    let mut by_one = filter_of(rt.alloc(), &[0, 0], 4)?;
+    for item in items {
+        by_one.insert(&item);
+    }
+    let mut lent = filter_of(rt.alloc(), &[0, 0], 4)?;
+    insert_slice(&mut lent, &items);
+    assert!(rt; lent == by_one);
+    let mut given = filter_of(rt.alloc(), &[0, 0], 4)?;
+    insert_vec(&mut given, Vec::from_array(rt.alloc(), items)?);
+    assert!(rt; given == by_one);
+    given.extend(0..0);
+    assert!(rt; given == by_one, "no item");
     Ok(())
 }

@@ -6,11 +6,13 @@ use Rattle.bloom_parts.proofs.bit_vector.kernels.and_words.Goals as goal
 pub words-preserved : goal.words-preserved
 words-preserved c = record {
   words =
-      merged-next bit_and _ _ _ _ _ c.words.invariant.words (omega (arith, c.requires)) (omega arith) c.index_mut.ensures.value;
+      merged-next bit_and _ _ _ _ _ c.words.invariant.words
+      (omega (arith, c.requires)) (omega arith) c.index_mut.ensures.value;
   shape = c.words.invariant.shape;
 }
 
 pub returns-clause-words : goal.returns-clause-words
 returns-clause-words c =
     c.words.invariant.words
-    ∙ merged-all bit_and c.words.place c.args.words.now.items c.args.other.now (omega arith) (omega arith)
+    ∙ merged-all bit_and c.words.place c.args.words.now.items c.args.other.now
+    (omega arith) (omega arith)
