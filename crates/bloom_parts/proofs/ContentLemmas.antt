@@ -1,7 +1,8 @@
 -- What word operations do to positions.
-use Rattle.std.proofs.Common.{◌≡◌, ℕ, zero, suc, ◌*◌, ◌^◌, ◌/◌, ◌%◌, ◌<◌, max, Bool, true, false, ◌||◌, eqb, ltb, bit_and, bit_or, List, length, get_or, set, refl, sym, ◌∙◌, ap, arith, inl, inr}
+use Rattle.std.proofs.Common.{◌≡◌, ℕ, zero, suc, ◌+◌, ◌*◌, ◌^◌, ◌/◌, ◌%◌, ◌<◌, max, Bool, true, false, ◌||◌, if◌then◌else◌, eqb, ltb, bit_and, bit_or, List, length, get_or, set, refl, sym, ◌∙◌, ap, arith, inl, inr}
 use Rattle.std.specs.Int.{bit_at}
-use Rattle.std.proofs.lemmas.Nat.Bits.{and_pow, bit_at-lt, bit_at_or, bit_at-pow_same, bit_at-pow_other}
+use Rattle.std.specs.Int.Bits.{bit_xor}
+use Rattle.std.proofs.lemmas.Nat.Bits.{and_pow, bit_at-lt, bit_at-zero, bit_at_or, bit_at_xor, bit_at-pow_same, bit_at-pow_other, same_from_bits}
 use Rattle.std.proofs.lemmas.Nat.{pow_pos}
 use Rattle.std.proofs.lemmas.Bool.{cases_eq, eq-eqb, ne_eqb}
 use Rattle.std.proofs.lemmas.List.{get_or-set_same, get_or-set_other}
@@ -34,6 +35,49 @@ pub bit_is_on-or : (a b p : ℕ) → bit_is_on (bit_or a b) p ≡ (bit_is_on a p
 bit_is_on-or a b p =
     ap (λ d. eqb d 1) (bit_at_or a b (p % 64)) ∙ max-digits _ _ (bit_at-lt a (p % 64)) (bit_at-lt b (p % 64))
 
+-- a digit that a bitwise or changes
+changed-digit : (d e : ℕ) → d < 2 → e < 2 → (d + max d e) % 2 ≡ (if eqb d 1 then 0 else e)
+changed-digit zero zero p q = refl
+changed-digit zero (suc zero) p q = refl
+changed-digit (suc zero) zero p q = refl
+changed-digit (suc zero) (suc zero) p q = refl
+changed-digit (suc (suc d)) e p q = absurd (omega arith)
+changed-digit zero (suc (suc e)) p q = absurd (omega arith)
+changed-digit (suc zero) (suc (suc e)) p q = absurd (omega arith)
+
+bit_at-choice : (b : Bool) (m i : ℕ) → bit_at (if b then 0 else m) i ≡ (if b then 0 else bit_at m i)
+bit_at-choice true m i = bit_at-zero i
+bit_at-choice false m i = refl
+
+no-choice : (b : Bool) → ◌≡◌ {A = ℕ} (if b then 0 else 0) 0
+no-choice true = refl
+no-choice false = refl
+
+-- turning a bit on changes that bit alone, and only if it was off
+change-bit : (n k : ℕ) → bit_xor n (bit_or n (2 ^ k)) ≡ (if eqb (bit_at n k) 1 then 0 else 2 ^ k)
+change-bit n k =
+    same_from_bits _ _ (λ i.
+    bit_at_xor n (bit_or n (2 ^ k)) i
+    ∙ ap (λ d. (bit_at n i + d) % 2) (bit_at_or n (2 ^ k) i)
+    ∙ changed-digit (bit_at n i) (bit_at (2 ^ k) i) (bit_at-lt n i) (bit_at-lt (2 ^ k) i)
+    ∙ at i
+    ∙ sym (bit_at-choice (eqb (bit_at n k) 1) (2 ^ k) i))
+  where
+    at : (i : ℕ) → (if eqb (bit_at n i) 1 then 0 else bit_at (2 ^ k) i)
+        ≡ (if eqb (bit_at n k) 1 then 0 else bit_at (2 ^ k) i)
+    at i = elim (cases_eq i k) [
+      | inl here ↦ ap (λ j. if eqb (bit_at n j) 1 then 0 else bit_at (2 ^ k) i) here
+      | inr apart ↦
+          let none : bit_at (2 ^ k) i ≡ 0 = bit_at-pow_other k i apart in
+          ap (λ d. if eqb (bit_at n i) 1 then 0 else d) none ∙ no-choice (eqb (bit_at n i) 1)
+          ∙ sym (ap (λ d. if eqb (bit_at n k) 1 then 0 else d) none ∙ no-choice (eqb (bit_at n k) 1))
+    ]
+
+-- so nothing is changed exactly if it was on
+pub no-change : (b : Bool) (k : ℕ) → eqb (if b then 0 else 2 ^ k) 0 ≡ b
+no-change true k = refl
+no-change false k = ne_eqb (2 ^ k) 0 (λ none. absurd (omega (arith, none, pow_pos k)))
+
 or-false : (b : Bool) → (b || false) ≡ b
 or-false true = refl
 or-false false = refl
@@ -64,6 +108,16 @@ module _ (words : List ℕ) (i mask read position : ℕ) (word : i ≡ position 
       ap (λ x. ltb 0 (bit_and x mask)) value
       ∙ ap (λ x. ltb 0 (bit_and (get_or words (position / 64) 0) x)) is_mask
       ∙ test-bit (get_or words (position / 64) 0) (position % 64)
+
+  -- what turning a position on changes of its word
+  pub content-change : bit_xor read (bit_or read mask) ≡ (if content words position then 0 else 2 ^ (position % 64))
+  unfolding content
+  content-change =
+      let value : read ≡ get_or words (position / 64) 0 =
+      is_read ∙ get_or-default words i read 0 within ∙ ap (λ j. get_or words j 0) word in
+      ap (λ m. bit_xor read (bit_or read m)) is_mask
+      ∙ change-bit read (position % 64)
+      ∙ ap (λ n. if bit_is_on n position then 0 else 2 ^ (position % 64)) value
 
   -- a position that is turned on, and the others
   pub content-set : (p : ℕ) → content (set words i (bit_or read mask)) p ≡ (content words p || eqb p position)

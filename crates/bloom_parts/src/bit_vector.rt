@@ -7,6 +7,7 @@ ghost use Rattle.std.specs.Iterator.Runs.{EachRunFrom, WholeRun};
 ghost use Rattle.bloom_parts.specs.Content.{content, index_of};
 
 mod kernels;
+mod places;
 mod words;
 
 use crate::error::FilterError;

@@ -5,3 +5,4 @@ mod ListLemmas
 mod PositionLemmas
 mod RateLemmas
 mod ReplyLemmas
+mod StretchLemmas

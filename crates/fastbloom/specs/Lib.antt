@@ -5,3 +5,4 @@ pub mod Filter
 pub mod Laws
 pub mod Replies
 pub mod SourceHash
+pub mod Stretches

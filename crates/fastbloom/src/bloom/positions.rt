@@ -1,38 +1,117 @@
-//! The loops over the positions of a hash.
-ghost use Rattle.std.specs.Prelude.{◌≡◌, ℕ, ◌*◌, ◌||◌, length};
+//! The loops over the positions of a hash. They branch as seldom as they can, since no processor
+//! foresees whether one position is on.
+ghost use Rattle.std.specs.Prelude.{◌≡◌, ℕ, ◌+◌, ◌*◌, ◌||◌, ◌==◌, length, IsTrue};
+ghost use Rattle.bloom_parts.specs.Chain.{IsAt};
 ghost use Rattle.bloom_parts.specs.Content.{content};
 ghost use Rattle.bloom_parts.specs.Places.{positions, are_in};
+ghost use Rattle.fastbloom.specs.Stretches.{are_on, TurnsOn};
 
-use bloom_parts::bit_vector::{BitVec, index};
+use bloom_parts::bit_vector::BitVec;
 use bloom_parts::hasher::DoubleHasher;
 
-// Turns on all positions of a hash, and answers whether all were on just before.
+// Turns on the next place of a hash. The answer is 0 exactly if it was on just before.
+fn turn_on_next(bits: &mut BitVec, chain: &mut DoubleHasher) -> u64
+    ensures turns_on { (hash i : ℕ) → IsAt hash i chain.old
+        → TurnsOn i 1 hash bits.old bits.new (result == 0) }
+    ensures moved { (hash i : ℕ) → IsAt hash i chain.old → IsAt hash (i + 1) chain.new }
+{
+    bits.turn_on_hash(chain.next())
+}
+
+// Turns on the next four places of a hash. The answer is 0 exactly if all were on just before.
+fn turn_on_four(bits: &mut BitVec, chain: &mut DoubleHasher) -> u64
+    ensures turns_on { (hash i : ℕ) → IsAt hash i chain.old
+        → TurnsOn i 4 hash bits.old bits.new (result == 0) }
+    ensures moved { (hash i : ℕ) → IsAt hash i chain.old → IsAt hash (i + 4) chain.new }
+{
+    let first = turn_on_next(bits, chain);
+    let second = turn_on_next(bits, chain);
+    let third = turn_on_next(bits, chain);
+    let fourth = turn_on_next(bits, chain);
+    first | second | third | fourth
+}
+
+// Turns on all positions of a hash, and answers whether all were on just before. It takes four in a
+// turn and then the rest, and gathers in one word what was off.
 pub(super) fn insert_positions(bits: &mut BitVec, num_hashes: u32, hash: u64) -> bool
     ensures reply { result ≡ are_in (64 * length bits.old) num_hashes hash (content bits.old) }
     ensures content { (p : ℕ) → content bits.new p
         ≡ (content bits.old p || positions (64 * length bits.old) num_hashes hash p) }
     ensures shape { length bits.new ≡ length bits.old }
 {
-    let num_bits = bits.num_bits();
     let mut chain = DoubleHasher::new(hash);
-    let mut were_on = true;
-    'places: for _place in 0..num_hashes {
-        let was_on = bits.set(index(num_bits, chain.next()));
-        were_on &= was_on;
+    let mut was_off: u64 = 0;
+    'turns: for _turn in 0..num_hashes / 4 {
+        was_off |= turn_on_four(bits, &mut chain);
     }
-    were_on
+    'rest: for _place in 0..num_hashes % 4 {
+        was_off |= turn_on_next(bits, &mut chain);
+    }
+    was_off == 0
 }
 
-// Whether all positions of a hash are on. It stops at the first that is off.
-pub(super) fn contains_positions(bits: &BitVec, num_hashes: u32, hash: u64) -> bool
-    ensures { result ≡ are_in (64 * length bits.now) num_hashes hash (content bits.now) }
+// Whether the next place of a hash is on.
+fn next_is_on(bits: &BitVec, chain: &mut DoubleHasher) -> bool
+    ensures found { (hash i : ℕ) → IsAt hash i chain.old → result ≡ are_on bits.now i 1 hash }
+    ensures moved { (hash i : ℕ) → IsAt hash i chain.old → IsAt hash (i + 1) chain.new }
 {
-    let num_bits = bits.num_bits();
-    let mut chain = DoubleHasher::new(hash);
-    'checks: for _place in 0..num_hashes {
-        if !bits.check(index(num_bits, chain.next())) {
+    bits.check_hash(chain.next())
+}
+
+// Whether the next three places of a hash are on. It counts, which needs no branch.
+fn three_are_on(bits: &BitVec, chain: &mut DoubleHasher) -> bool
+    ensures found { (hash i : ℕ) → IsAt hash i chain.old → result ≡ are_on bits.now i 3 hash }
+    ensures moved { (hash i : ℕ) → IsAt hash i chain.old → IsAt hash (i + 3) chain.new }
+{
+    let first = next_is_on(bits, chain);
+    let second = next_is_on(bits, chain);
+    let third = next_is_on(bits, chain);
+    u32::from(first) + u32::from(second) + u32::from(third) == 3
+}
+
+// Whether the next `count` places of a hash are on. It looks at all of them, without a branch.
+fn all_are_on(bits: &BitVec, chain: &mut DoubleHasher, count: u32) -> bool
+    ensures { (hash i : ℕ) → IsAt hash i chain.old → result ≡ are_on bits.now i count hash }
+{
+    let mut are_on = true;
+    'places: for _place in 0..count {
+        let is_on = next_is_on(bits, chain);
+        are_on &= is_on;
+    }
+    are_on
+}
+
+// Whether the next `count` places of a hash are on. It stops at the first that is off.
+fn each_is_on(bits: &BitVec, chain: &mut DoubleHasher, count: u32) -> bool
+    ensures found { (hash i : ℕ) → IsAt hash i chain.old → result ≡ are_on bits.now i count hash }
+    ensures moved { (hash i : ℕ) → IsAt hash i chain.old → IsTrue result
+        → IsAt hash (i + count) chain.new }
+{
+    'places: for _place in 0..count {
+        if !next_is_on(bits, chain) {
             return false;
         }
     }
     true
+}
+
+// Whether all positions of a hash are on. It takes the first three together, which tell most hashes
+// apart that were never inserted, then stops at the first that is off, and takes the last four
+// together.
+pub(super) fn contains_positions(bits: &BitVec, num_hashes: u32, hash: u64) -> bool
+    ensures { result ≡ are_in (64 * length bits.now) num_hashes hash (content bits.now) }
+{
+    let mut chain = DoubleHasher::new(hash);
+    if num_hashes < 3 {
+        return all_are_on(bits, &mut chain, num_hashes);
+    }
+    if !three_are_on(bits, &mut chain) {
+        return false;
+    }
+    let rest = num_hashes - 3;
+    let alone = rest.saturating_sub(4);
+    if !each_is_on(bits, &mut chain, alone) {
+        return false;
+    }
+    all_are_on(bits, &mut chain, rest - alone)
 }

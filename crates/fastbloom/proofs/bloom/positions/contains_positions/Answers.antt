@@ -1,42 +1,45 @@
-use Rattle.std.proofs.Common.{◌≡◌, ◌*◌, false, length, arith, ap, sym, ◌∙◌}
-use Rattle.bloom_parts.specs.Content.{content, index_of}
-use Rattle.bloom_parts.specs.Places.{place}
-use Rattle.fastbloom.proofs.PositionLemmas.{are_in-zero, are_in-next, are_in-off}
-use Rattle.std.proofs.lemmas.Bool.{and_from}
+use Rattle.std.proofs.Common.{◌≡◌, ◌+◌, ◌-◌, ◌≤◌, true, sym, ◌∙◌, arith}
+use Rattle.fastbloom.proofs.StretchLemmas.{are_on-both, are_on-off, are_on-all}
 use Rattle.fastbloom.proofs.bloom.positions.contains_positions.Goals as goal
 
-pub checks-init : goal.checks-init
-checks-init c = record {
-  chain = c.new-chain.ensures;
-  some = omega (arith, c.num_bits-num_bits.ensures.least);
-  bits = c.num_bits-num_bits.ensures.value;
-  on = are_in-zero _ _ _;
-}
+pub returns-then-num_hashes-lt3 : goal.returns-then-num_hashes-lt3
+returns-then-num_hashes-lt3 c =
+    c.all_are_on.ensures c.args.hash 0 c.new-chain.ensures ∙ are_on-all c.args.bits.now c.args.num_hashes c.args.hash
 
-pub returns-then-not-check : goal.returns-then-not-check
-returns-then-not-check c =
-    let i = c.checks._place in
-    let n = c.num_bits-num_bits.result in
-    let A = content c.args.bits.now in
-    let here : c.index.result ≡ place n c.args.hash i =
-    c.index.ensures.value ∙ ap (index_of n) (c.next.ensures.value c.args.hash i c.checks.invariant.chain) in
-    let off : A (place (64 * length c.args.bits.now) c.args.hash i) ≡ false =
-    ap (λ m. A (place m c.args.hash i)) (sym c.checks.invariant.bits) ∙ ap A (sym here)
-    ∙ sym c.check.ensures ∙ c.if-not-check.true in
-    sym (are_in-off (64 * length c.args.bits.now) c.args.num_hashes c.args.hash A i c.checks-test.true off)
+pub returns-then-not-three_are_on : goal.returns-then-not-three_are_on
+returns-then-not-three_are_on c =
+    let off = sym (c.three_are_on.ensures.found c.args.hash 0 c.new-chain.ensures) ∙ c.if-not-three_are_on.true in
+    let enough : 3 ≤ c.args.num_hashes = c.if-num_hashes-lt3.false in
+    sym (are_on-off c.args.bits.now 0 3 c.args.num_hashes c.args.hash enough off)
+    ∙ are_on-all c.args.bits.now c.args.num_hashes c.args.hash
 
-pub checks-preserved : goal.checks-preserved
-checks-preserved c =
-    let i = c.checks._place in
-    let n = c.num_bits-num_bits.result in
-    let here : c.index.result ≡ place n c.args.hash i =
-    c.index.ensures.value ∙ ap (index_of n) (c.next.ensures.value c.args.hash i c.checks.invariant.chain) in
-    record {
-      chain = c.next.ensures.moved c.args.hash i c.checks.invariant.chain;
-      some = c.checks.invariant.some;
-      bits = c.checks.invariant.bits;
-      on =
-          are_in-next _ _ _ _
-          ∙ and_from _ _ c.checks.invariant.on
-          (ap (content c.args.bits.now) (sym here) ∙ sym c.check.ensures ∙ c.if-not-check.false);
-    }
+pub returns-then-not-each_is_on : goal.returns-then-not-each_is_on
+returns-then-not-each_is_on c =
+    let words = c.args.bits.now in
+    let h = c.args.hash in
+    let alone = c.saturating_sub-alone.result in
+    let first = sym c.if-not-three_are_on.false ∙ c.three_are_on.ensures.found h 0 c.new-chain.ensures in
+    let at_three = c.three_are_on.ensures.moved h 0 c.new-chain.ensures in
+    let off = sym c.if-not-each_is_on.true ∙ c.each_is_on.ensures.found h 3 at_three in
+    let within : 3 + alone ≤ c.args.num_hashes =
+    omega (arith, c.saturating_sub-alone.ensures, c.if-num_hashes-lt3.false) in
+    sym (are_on-off words 0 (3 + alone) c.args.num_hashes h within
+    (sym (are_on-both words 0 3 alone 3 (3 + alone) h _ _ (omega arith) (omega arith) first off)))
+    ∙ are_on-all words c.args.num_hashes h
+
+pub returns : goal.returns
+returns c =
+    let words = c.args.bits.now in
+    let h = c.args.hash in
+    let alone = c.saturating_sub-alone.result in
+    let last = c.args.num_hashes - 3 - alone in
+    let first = sym c.if-not-three_are_on.false ∙ c.three_are_on.ensures.found h 0 c.new-chain.ensures in
+    let at_three = c.three_are_on.ensures.moved h 0 c.new-chain.ensures in
+    let middle = sym c.if-not-each_is_on.false ∙ c.each_is_on.ensures.found h 3 at_three in
+    let at_last = c.each_is_on.ensures.moved h 3 at_three c.if-not-each_is_on.false in
+    let all : c.args.num_hashes ≡ 3 + alone + last =
+    omega (arith, c.saturating_sub-alone.ensures, c.if-num_hashes-lt3.false) in
+    are_on-both words 0 (3 + alone) last (3 + alone) c.args.num_hashes h _ _ (omega arith) all
+    (are_on-both words 0 3 alone 3 (3 + alone) h _ _ (omega arith) (omega arith) first middle)
+    (c.all_are_on-2.ensures h (3 + alone) at_last)
+    ∙ are_on-all words c.args.num_hashes h

@@ -1,43 +1,55 @@
-use Rattle.std.proofs.Common.{◌≡◌, ◌&&◌, ◌||◌, arith, ap, sym, ◌∙◌, eqb, refl}
-use Rattle.bloom_parts.specs.Content.{content, index_of}
-use Rattle.bloom_parts.specs.Places.{are_in, place, positions}
-use Rattle.fastbloom.proofs.PositionLemmas.{are_in-zero, positions-zero, positions-next, reply-next, or-assoc, or-false}
+use Rattle.std.proofs.Common.{◌≡◌, ◌+◌, ◌*◌, ◌/◌, ◌%◌, ◌||◌, eqb, length, subst, sym, ◌∙◌, ap, arith}
+use Rattle.bloom_parts.specs.Chain.{IsAt}
+use Rattle.bloom_parts.specs.Content.{content}
+use Rattle.fastbloom.specs.Stretches.{TurnsOn}
+use Rattle.fastbloom.proofs.StretchLemmas.{turns-on-none, turns-on-both, positions_from-start, are_on-all}
 use Rattle.fastbloom.proofs.bloom.positions.insert_positions.Goals as goal
 
-pub places-init : goal.places-init
-places-init c = record {
+pub turns-init : goal.turns-init
+turns-init c = record {
   chain = c.new-chain.ensures;
-  some = omega (arith, c.num_bits-num_bits.ensures.least);
-  bits = c.num_bits-num_bits.ensures.value;
-  shape = refl;
-  on = λ p.
-      sym (or-false _) ∙ ap (λ b. content c.args.bits.now p || b) (sym (positions-zero c.num_bits-num_bits.result c.args.hash p));
-  reply = sym (are_in-zero _ _ _);
+  turned = turns-on-none 0 c.args.hash c.args.bits.now;
 }
 
-pub places-preserved : goal.places-preserved
-places-preserved c =
-    let i = c.places._place in
-    let n = c.num_bits-num_bits.result in
-    let h = c.args.hash in
-    let old = content c.args.bits.now in
-    let chained = c.next.ensures.value h i c.places.invariant.chain in
-    let here : c.index.result ≡ place n h i = c.index.ensures.value ∙ ap (index_of n) chained in
+pub turns-preserved : goal.turns-preserved
+turns-preserved c =
+    let done = 4 * c.turns._turn in
+    let more : done + 4 ≡ 4 * (c.turns._turn + 1) = omega arith in
     record {
-      chain = c.next.ensures.moved h i c.places.invariant.chain;
-      some = c.places.invariant.some;
-      bits = c.places.invariant.bits;
-      shape = c.set-was_on.ensures.shape ∙ c.places.invariant.shape;
-      on = λ p.
-          c.set-was_on.ensures.content p
-          ∙ ap (λ b. b || eqb p c.index.result) (c.places.invariant.on p)
-          ∙ or-assoc (old p) (positions n i h p) (eqb p c.index.result)
-          ∙ ap (λ q. old p || (positions n i h p || eqb p q)) here
-          ∙ ap (λ b. old p || b) (sym (positions-next n i h p));
-      reply =
-          ap (λ b. b && c.set-was_on.result) c.places.invariant.reply
-          ∙ ap (λ b. are_in n i h old && b)
-          (c.set-was_on.ensures.reply ∙ c.places.invariant.on c.index.result
-          ∙ ap (λ q. old q || positions n i h q) here)
-          ∙ reply-next n i h old;
+      chain = subst (λ m. IsAt c.args.hash m c.turn_on_four-was_off.new.chain) more
+          (c.turn_on_four-was_off.ensures.moved c.args.hash done c.turns.invariant.chain);
+      turned =
+          turns-on-both 0 done 4 done (4 * (c.turns._turn + 1)) c.args.hash _ _ _ _ _ (omega arith) (omega arith)
+          c.turns.invariant.turned
+          (c.turn_on_four-was_off.ensures.turns_on c.args.hash done c.turns.invariant.chain);
     }
+
+pub rest-preserved : goal.rest-preserved
+rest-preserved c =
+    let done = 4 * (c.args.num_hashes / 4) + c.rest._place in
+    let more : done + 1 ≡ 4 * (c.args.num_hashes / 4) + (c.rest._place + 1) = omega arith in
+    record {
+      chain = subst (λ m. IsAt c.args.hash m c.turn_on_next-was_off.new.chain) more
+          (c.turn_on_next-was_off.ensures.moved c.args.hash done c.rest.invariant.chain);
+      turned =
+          turns-on-both 0 done 1 done (4 * (c.args.num_hashes / 4) + (c.rest._place + 1)) c.args.hash _ _ _ _ _
+          (omega arith) (omega arith)
+          c.rest.invariant.turned
+          (c.turn_on_next-was_off.ensures.turns_on c.args.hash done c.rest.invariant.chain);
+    }
+
+-- all places were turned on
+turned : (c : goal.After-rest) → TurnsOn 0 c.args.num_hashes c.args.hash c.args.bits.now c.rest.bits (eqb c.rest.was_off 0)
+turned c =
+    let all : 4 * (c.args.num_hashes / 4) + c.rest._place ≡ c.args.num_hashes =
+    omega (arith, c.rest-test.false, c.rest.auto._place-end) in
+    subst (λ k. TurnsOn 0 k c.args.hash c.args.bits.now c.rest.bits (eqb c.rest.was_off 0)) all c.rest.invariant.turned
+
+pub returns-clause-reply : goal.returns-clause-reply
+returns-clause-reply c = (turned c).answers ∙ are_on-all c.args.bits.now c.args.num_hashes c.args.hash
+
+pub returns-clause-content : goal.returns-clause-content
+returns-clause-content c = λ p.
+    (turned c).bits p
+    ∙ ap (λ b. content c.args.bits.now p || b)
+    (positions_from-start (64 * length c.args.bits.now) c.args.num_hashes c.args.hash p)

@@ -1,16 +1,18 @@
-use Rattle.std.proofs.Common.{◌≡◌, ℕ, ◌*◌, ◌<◌, ◌||◌, length}
+use Rattle.std.proofs.Common.{◌≡◌, ◌+◌, ◌*◌, ◌/◌, ◌==◌}
 use Rattle.bloom_parts.specs.Chain.{IsAt}
-use Rattle.bloom_parts.specs.Content.{content}
-use Rattle.bloom_parts.specs.Places.{positions, are_in}
+use Rattle.fastbloom.specs.Stretches.{TurnsOn}
 use Rattle.fastbloom.proofs.bloom.positions.insert_positions.Given as goal
 
--- the places so far are on, besides what was, and the reply is theirs
-abbrev pub invariant-places : goal.invariant-places
-invariant-places l = record {
-  chain : IsAt l.hash l._place l.chain;
-  some : 0 < l.num_bits;
-  bits : l.num_bits ≡ 64 * length l.fn.bits;
-  shape : length l.bits ≡ length l.fn.bits;
-  on : (p : ℕ) → content l.bits p ≡ (content l.fn.bits p || positions l.num_bits l._place l.hash p);
-  reply : l.were_on ≡ are_in l.num_bits l._place l.hash (content l.fn.bits);
+-- the places of the turns so far were turned on, and the word is 0 exactly if all were on
+abbrev pub invariant-turns : goal.invariant-turns
+invariant-turns l = record {
+  chain : IsAt l.hash (4 * l._turn) l.chain;
+  turned : TurnsOn 0 (4 * l._turn) l.hash l.fn.bits l.bits (l.was_off == 0);
+}
+
+-- the same of all turns and the places of the rest so far
+abbrev pub invariant-rest : goal.invariant-rest
+invariant-rest l = record {
+  chain : IsAt l.hash (4 * (l.num_hashes / 4) + l._place) l.chain;
+  turned : TurnsOn 0 (4 * (l.num_hashes / 4) + l._place) l.hash l.fn.bits l.bits (l.was_off == 0);
 }

@@ -1,0 +1,27 @@
+-- A stretch of the places of a hash: `count` of them, from place i on (the project's own word).
+-- `positions` and `are_in` are those of the stretch from place 0 on.
+use Rattle.std.specs.Prelude.{◌≡◌, ℕ, zero, suc, ◌+◌, ◌*◌, Bool, true, false, ◌||◌, ◌&&◌, ◌==◌, List, length}
+use Rattle.bloom_parts.specs.Content.{content}
+use Rattle.bloom_parts.specs.Places.{place}
+
+-- the set of the places of a stretch
+unfoldable pub positions_from : ℕ → ℕ → ℕ → ℕ → ℕ → Bool
+positions_from n i zero hash p = false
+positions_from n i (suc count) hash p =
+    positions_from n i count hash p || p == place n hash (i + count)
+
+-- whether the places of a stretch are all in a set
+unfoldable pub are_in_from : ℕ → ℕ → ℕ → ℕ → (ℕ → Bool) → Bool
+are_in_from n i zero hash A = true
+are_in_from n i (suc count) hash A = are_in_from n i count hash A && A (place n hash (i + count))
+
+-- whether the places of a stretch are all on in words
+abbrev pub are_on : List ℕ → ℕ → ℕ → ℕ → Bool
+are_on words i count hash = are_in_from (64 * length words) i count hash (content words)
+
+-- from old to new the places of a stretch were turned on, and the reply is whether all were on before
+pub record TurnsOn (i count hash : ℕ) (old new : List ℕ) (reply : Bool) : Type 0 where
+  pub answers : reply ≡ are_on old i count hash
+  pub bits : (p : ℕ) → content new p
+      ≡ (content old p || positions_from (64 * length old) i count hash p)
+  pub shape : length new ≡ length old
