@@ -2,6 +2,7 @@ mod BufferLemmas
 pub mod ContentLemmas
 mod HashedLemmas
 mod MergeLemmas
+mod NumberLemmas
 pub mod PlaceLemmas
 mod SetLemmas
 mod SipFacts

@@ -2,4 +2,7 @@
 #![tactic(auto)]
 
 #[cfg(test)]
+mod hashing;
+
+#[cfg(test)]
 mod lists;

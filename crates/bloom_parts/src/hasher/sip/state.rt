@@ -15,6 +15,7 @@ pub(super) struct State {
 impl State {
     // The state before the first word, under a key.
     #[inline]
+    #[tactic(auto, unfolding(crate::specs::Sip::start))]
     pub(super) fn new(k0: u64, k1: u64) -> Self
         ensures { words_of result ≡ sip.start k0 k1 }
     {
@@ -28,41 +29,44 @@ impl State {
 
     // One SipRound.
     #[inline(always)]
-    fn round(&mut self)
-        ensures { words_of self.new ≡ sip.round (words_of self.old) }
+    #[tactic(auto, unfolding(crate::specs::Sip::round))]
+    fn round(self) -> Self
+        ensures { words_of result ≡ sip.round (words_of self) }
     {
-        self.v0 = self.v0.wrapping_add(self.v1);
-        self.v2 = self.v2.wrapping_add(self.v3);
-        self.v1 = self.v1.rotate_left(13) ^ self.v0;
-        self.v3 = self.v3.rotate_left(16) ^ self.v2;
-        self.v0 = self.v0.rotate_left(32);
-        self.v2 = self.v2.wrapping_add(self.v1);
-        self.v0 = self.v0.wrapping_add(self.v3);
-        self.v1 = self.v1.rotate_left(17) ^ self.v2;
-        self.v3 = self.v3.rotate_left(21) ^ self.v0;
-        self.v2 = self.v2.rotate_left(32);
+        let mut next = self;
+        next.v0 = next.v0.wrapping_add(next.v1);
+        next.v2 = next.v2.wrapping_add(next.v3);
+        next.v1 = next.v1.rotate_left(13) ^ next.v0;
+        next.v3 = next.v3.rotate_left(16) ^ next.v2;
+        next.v0 = next.v0.rotate_left(32);
+        next.v2 = next.v2.wrapping_add(next.v1);
+        next.v0 = next.v0.wrapping_add(next.v3);
+        next.v1 = next.v1.rotate_left(17) ^ next.v2;
+        next.v3 = next.v3.rotate_left(21) ^ next.v0;
+        next.v2 = next.v2.rotate_left(32);
+        next
     }
 
     // Takes in a word of the message.
     #[inline(always)]
+    #[tactic(auto, unfolding(crate::specs::Sip::absorb))]
     pub(super) fn absorb(&mut self, word: u64)
         ensures { words_of self.new ≡ sip.absorb (words_of self.old) word }
     {
         self.v3 ^= word;
-        self.round();
+        *self = self.round();
         self.v0 ^= word;
     }
 
     // The hash, after the last word.
     #[inline]
+    #[tactic(auto, unfolding(crate::specs::Sip::answer))]
     pub(super) fn answer(self) -> u64
         ensures { result ≡ sip.answer (words_of self) }
     {
         let mut last = self;
         last.v2 ^= 0xff;
-        last.round();
-        last.round();
-        last.round();
-        last.v0 ^ last.v1 ^ last.v2 ^ last.v3
+        let end = last.round().round().round();
+        end.v0 ^ end.v1 ^ end.v2 ^ end.v3
     }
 }

@@ -47,44 +47,48 @@ impl Hasher for RandomDefaultHasher {
         ensures state { self.new ≡ fold hashed.write self.old (fed.u8 i) }
         ensures taken { Takes self.old self.new (to_le_bytes w8 i) }
     {
-        self.write(&i.to_le_bytes());
+        self.write(&u8::to_le_bytes(i));
     }
 
     #[inline]
+    #[tactic(auto, using(crate::proofs::NumberLemmas::two_bytes))]
     fn write_u16(&mut self, i: u16)
         ensures state { self.new ≡ fold hashed.write self.old (fed.u16 i) }
         ensures taken { Takes self.old self.new (to_le_bytes w16 i) }
     {
-        self.write(&i.to_le_bytes());
+        self.write(&u16::to_le_bytes(i));
     }
 
     #[inline]
+    #[tactic(auto, using(crate::proofs::NumberLemmas::four_bytes))]
     fn write_u32(&mut self, i: u32)
         ensures state { self.new ≡ fold hashed.write self.old (fed.u32 i) }
         ensures taken { Takes self.old self.new (to_le_bytes w32 i) }
     {
-        self.write(&i.to_le_bytes());
+        self.write(&u32::to_le_bytes(i));
     }
 
     // A whole word is taken in at once where no byte is held.
     #[inline]
+    #[tactic(auto, using(crate::proofs::NumberLemmas::eight_bytes))]
     fn write_u64(&mut self, i: u64)
         ensures state { self.new ≡ fold hashed.write self.old (fed.u64 i) }
         ensures taken { Takes self.old self.new (to_le_bytes w64 i) }
     {
         if self.length % 8 == 0 {
-            self.push_words(&[i.to_le_bytes()]);
+            self.push_words(&[u64::to_le_bytes(i)]);
         } else {
-            self.write(&i.to_le_bytes());
+            self.write(&u64::to_le_bytes(i));
         }
     }
 
     #[inline]
+    #[tactic(auto, using(crate::proofs::NumberLemmas::sixteen_bytes))]
     fn write_u128(&mut self, i: u128)
         ensures state { self.new ≡ fold hashed.write self.old (fed.u128 i) }
         ensures taken { Takes self.old self.new (to_le_bytes w128 i) }
     {
-        self.write(&i.to_le_bytes());
+        self.write(&u128::to_le_bytes(i));
     }
 
     #[inline]

@@ -1,0 +1,376 @@
+//! SipHash-1-3, its keys, and items, at values from outside.
+
+use bloom_parts::hasher::{DefaultHasher, RandomDefaultHasher};
+use fastbloom::{BloomFilter, FilterError};
+use std::alloc::{AllocError, Global};
+use std::hash::{BuildHasher, Hash, Hasher};
+
+// The answers of the crate siphasher 0.3.10 (`SipHasher13`) under the key bytes 0, 1, .., 15, each for the
+// message of so many bytes of which byte i is 3 + 7 * i modulo 256.
+const COUNTING_KEY: [(usize, u64); 15] = [
+    (0, 0xabac_0158_050f_c4dc),
+    (1, 0x2f28_48bd_f070_e448),
+    (2, 0xe831_c51e_23d2_7347),
+    (3, 0xf61a_6302_8077_d0c5),
+    (7, 0xc2b1_c4ef_b962_bfb6),
+    (8, 0x5e53_2924_8666_2ee6),
+    (9, 0x268e_415a_de4e_09d2),
+    (15, 0x57c2_a248_9d64_ff8f),
+    (16, 0x4a03_ed90_335c_4783),
+    (17, 0xaf0a_14aa_9c49_df04),
+    (63, 0xf9c6_4a7e_a2f5_1995),
+    (64, 0xbd84_19e8_0635_ccbe),
+    (255, 0x5457_943c_4de3_c47f),
+    (256, 0x5c6c_72cf_123a_c2e2),
+    (257, 0x4d9d_05e0_926e_27d8),
+];
+
+// The answers of the same crate under keys that were drawn. A key is given by its big-endian number, and a
+// message by two hexadecimal digits a byte.
+const DRAWN_KEYS: [(u128, &str, u64); 25] = [
+    (
+        0x6c82a562cb808d10d632be89c8513ebf,
+        "",
+        0x806d_6265_97df_1c98,
+    ),
+    (
+        0x6c929f34ddfa8c9f63c9960ef6e348a3,
+        "52",
+        0x529a_95ee_d57c_58de,
+    ),
+    (
+        0x8c8a3fcc2f044e39a3fc5b94492f8f03,
+        "2e75",
+        0xa0bb_df9c_90a4_bc0f,
+    ),
+    (
+        0x49a20098f95befd61248a23cd7a81688,
+        "39e91f",
+        0x1205_e82e_a5f2_2d0f,
+    ),
+    (
+        0xdbbfe6476d5eeadf9e9a24b268ab923b,
+        "e9285bda9693",
+        0x01eb_f4f9_7acf_718e,
+    ),
+    (
+        0xc08fdb43ecc4699f455f0c891e9118b3,
+        "78c54b315ef26e",
+        0xc731_4a9e_663b_0c7d,
+    ),
+    (
+        0x3465a93f6127625c36a9e54d42ca5da8,
+        "7e07b03fcb76a872",
+        0x7bf6_8659_f06b_e57b,
+    ),
+    (
+        0x06397b81f3780420e5427a2084a0c14c,
+        "f5d665d475ab6f50af",
+        0xf877_bfa2_d038_3b41,
+    ),
+    (
+        0x7053f265ec5bcbfd6aea47eb340f464e,
+        "8a8f24a2328fc61768e4ff67",
+        0x013d_bfcd_3413_4905,
+    ),
+    (
+        0x21f1b8793374e425f2bb703fb3d6e98b,
+        "3e0ce821490cc5d4aa7418f2cd5a2f",
+        0x163f_b73e_1dde_de61,
+    ),
+    (
+        0x07206dfe8aafe9137abbd8169c6b0f6c,
+        "55462beb6d640251d69031ce4116ba7f",
+        0x15c6_f4e8_996a_1aa9,
+    ),
+    (
+        0x9cd5a43f6387cc6d9103dd06fcb3b3ba,
+        "840ed5ea32b5c47ef6ae39e4efd6de587e",
+        0x067a_b0b3_5751_b758,
+    ),
+    (
+        0x0220c1d7ce63319d5d1464fc6903ecfc,
+        "65ee06eb6ab0b1311592dd4d0aaee5d463efee8594a93ec3",
+        0x63a9_a7b9_5366_8ab7,
+    ),
+    (
+        0xa67b0b7e574d7b6f3f8b488ff05d80dd,
+        "b304600d32b822fb55090cced181c04fa50994b67cc6f508955b9b9558d10f",
+        0x9b38_fb15_ae43_d351,
+    ),
+    (
+        0x4eaf0a813564d5186bedbe3e9e5e8715,
+        "e89aef61b9b722ad66d5c247837bdfcd4067be4c9467737d84e9fbe6c037a08a",
+        0x1f35_ed42_59b4_6ac0,
+    ),
+    (
+        0x8ad6e3148406efdc46e0ae26aa90e9ac,
+        "80a5b12572cb2cdc618f13c1af8cee73ad3ddb1ecae9be7a2ae48b8f31721ff97a",
+        0xad9c_c9b6_2272_e763,
+    ),
+    (
+        0x83ec2671c01f7f866e6691286ff52dc2,
+        "268b1c0bc7ee2cb4204649751dffc49356abe388cd5127033f9198177c2882357c0bc5874696bed1702c8663c4ebdd1b",
+        0xfd66_496b_8858_e9d3,
+    ),
+    (
+        0x4af07104b049f0efc991cedcead1500c,
+        "7d6000328a9d4310824f48a29be2fa20519f1d6d9adda8bcfb44d2a45a593cf77bec7b4598c3862254f4ee014f096da78f03e8897980dbc146c0debea63275",
+        0x3680_3d2b_6a9a_64d3,
+    ),
+    (
+        0xc3503fde7bba52f4fd4b4bf2b7bbb542,
+        "efeb3c25c112beed10a470a8e2f4a559f48e2e6a74b596ea2f7eb592f3369073d61a02d754bf8a24528238e9827f3861d2c2e9a326a7b3429dc2282383b1f503",
+        0x4b9b_df4f_f195_4c32,
+    ),
+    (
+        0x73aa960a777742122f03b1ae69d1b4a2,
+        "ff187fd32ddb697e50f90e9d97c88edccf5d5341b2ee94ee90ba82dea2e56b0e8d1b9b10e6c1937531e292796d150d779a2be3143fc91320727987215498534e6d",
+        0xee8b_ba34_14ae_e3d7,
+    ),
+    (
+        0xfe4e195815b7b9101b679b8ca00d47b0,
+        "7b97ba09e7b22fd5a6ee9f3538d64d564441d701c0dcab4b1d80f22647df7322c7618aac1dc633443a11b8808f0bb2d20e2ec363e566f7df455c6b6d025b5145515a3f6334b0c696ae844e99f4a1dc50bde22132f540b237756ad974359deefd62a37661",
+        0xed36_a7f7_3447_141e,
+    ),
+    (
+        0x5ace6f21ec622d77a088cfa9b9db34b0,
+        "d75a6771d4bf08dbbc51abc39400600ee9e067ebdbd90095898b6d7f2860a26276d44399f9d19b6cc61c20712c7d52344fb09a53a155bf7209b1a4f5a25a71f85ac77f5143062553d94ba7d3a9a4dad592c7a7a9863d226c1ab51080f352c0c3ea8e8196b231c097549e3d713175690fadfc7d160f71828eb75a133198a367",
+        0x8f49_40a5_17ea_f22d,
+    ),
+    (
+        0x7fa3ded555dfce3b0f88ab8cffaf4e4c,
+        "3ffbf149089dc4d0b73e39953719892f265e00f18d7cf925e2bb79f1b8ce232b5bfc425c1862c158437341af160f117bc005ffd097e8bf27238b4ca82d4465cb8ecc13adecf7d198088f2348e2c63cf28e222d4203978b3c724220009d328892a34bdc02a2c0a51e5d874b29881f40d60f6d4ff4e53a181ec155bed0011c7612",
+        0x6ade_97fd_bfc5_401e,
+    ),
+    (
+        0x15d130560fce27ba399479119b082732,
+        "bc7e612361d96a9feb82599598bf8bb290609baf601c321b8414be2100efef47aec8404004a83e9a42cf5257222e3bbeff3dd475aeac0ca75803311c807ef36523473e129cbad2c31e2305fcc595140a9a452528a38dce62408eb70c732c70002e734e6839a6e7ef17516b5d3641a4dfed8c46767eb2c6a257a20958a565e58d28",
+        0x172d_20cc_4f0b_01f3,
+    ),
+    (
+        0x33f873b9c5c3d5f1534b0e147693e634,
+        "a1974e2bf405fc6967d64effff577588cee138f94da9694d82ab57513750b5c883bd618431a15aee92827e2cdcc217538c581c8b3907dbe06d13becafbae87de1a3c10346d2951c011ac35ae27d78807630586827898c38cd229639c097b738df672e531c45e5bdfb77ec5f3bd84a40167ac0fe7b8c2b1e16637af476c873db8b806e82e3e225ca461aad5e8c9a5b7081d17627deebc6913a6a358bc567f597840525d7195f02552fcc8e26371713f3603b82f0493fdfd484947068453088f2099881682a00fbf",
+        0x370f_59fd_2566_ea8b,
+    ),
+];
+
+// A hexadecimal digit as a number.
+fn digit(symbol: u8) -> u8 {
+    match symbol {
+        b'0'..=b'9' => symbol - b'0',
+        b'a'..=b'f' => symbol - b'a' + 10,
+        _ => 0,
+    }
+}
+
+// The bytes of hexadecimal digits, two a byte.
+fn decode(alloc: Global, text: &str) -> Result<Vec<u8>, AllocError> {
+    let mut bytes = Vec::new(alloc);
+    for pair in text.as_bytes().chunks_exact(2) {
+        if let [high, low] = pair {
+            bytes.push(digit(*high) << 4 | digit(*low))?;
+        }
+    }
+    Ok(bytes)
+}
+
+#[test]
+fn vectors_under_the_counting_key(rt: HostRuntime) {
+    let key = [0, 1, 2, 3, 4, 5, 6, 7, 8, 9, 10, 11, 12, 13, 14, 15];
+    let mut message = [0u8; 257];
+    let mut byte = 3u8;
+    for i in 0..257 {
+        message[i] = byte;
+        byte = byte.wrapping_add(7);
+    }
+    for (length, answer) in COUNTING_KEY {
+        let mut hasher = RandomDefaultHasher::seeded(&key);
+        hasher.write(&message[..length.min(257)]);
+        assert_eq!(rt; hasher.finish(), answer, "{length} bytes");
+    }
+}
+
+#[test]
+fn vectors_under_drawn_keys(rt: HostRuntime) -> Result<(), AllocError> {
+    for (key, text, answer) in DRAWN_KEYS {
+        let message = decode(rt.alloc(), text)?;
+        let mut hasher = RandomDefaultHasher::seeded(&key.to_be_bytes());
+        hasher.write(&message);
+        assert_eq!(rt; hasher.finish(), answer, "{} bytes", message.len());
+    }
+    Ok(())
+}
+
+// The hash of no bytes under the key bytes 0 to 15 turns on position 42 of 64 bits.
+#[test]
+fn the_first_vector_is_a_position(rt: HostRuntime) -> Result<(), FilterError> {
+    let key = [0, 1, 2, 3, 4, 5, 6, 7, 8, 9, 10, 11, 12, 13, 14, 15];
+    let hash = RandomDefaultHasher::seeded(&key).finish();
+    assert_eq!(rt; hash, 0xabac_0158_050f_c4dc);
+    let mut filter = BloomFilter::from_vec(vec![in rt.alloc(); 0; 1]?)?.hashes(1);
+    assert!(rt; !filter.insert_hash(hash));
+    assert_eq!(rt; filter.as_slice()[0], 1 << 42);
+    Ok(())
+}
+
+// The hash of the bytes 1 to 5 under the zero key, by Rust's own `std::hash::DefaultHasher` (1.95), which
+// is SipHash-1-3 under that key.
+#[test]
+fn pieces_hash_as_the_whole(rt: HostRuntime) {
+    let mut pieces = RandomDefaultHasher::default();
+    pieces.write(&[1, 2, 3]);
+    pieces.write(&[4, 5]);
+    let mut whole = RandomDefaultHasher::default();
+    whole.write(&[1, 2, 3, 4, 5]);
+    assert_eq!(rt; pieces.finish(), 0xde68_2ee7_0fbe_bc3f);
+    assert_eq!(rt; whole.finish(), 0xde68_2ee7_0fbe_bc3f);
+}
+
+// The hash of the bytes 1 and 2, by Rust's own hasher.
+#[test]
+fn a_number_counts_as_its_lowest_byte_first(rt: HostRuntime) {
+    let mut number = RandomDefaultHasher::default();
+    number.write_u16(0x0201);
+    let mut bytes = RandomDefaultHasher::default();
+    bytes.write(&[1, 2]);
+    assert_eq!(rt; number.finish(), 0x1d6b_2993_44ba_b347);
+    assert_eq!(rt; bytes.finish(), 0x1d6b_2993_44ba_b347);
+}
+
+// The hash of the 94 bytes, by Rust's own hasher.
+#[test]
+fn every_number_write_adds_just_its_bytes(rt: HostRuntime) {
+    let mut pieces = RandomDefaultHasher::default();
+    pieces.write(&[1; 16]);
+    pieces.write_u8(1);
+    pieces.write_u16(1);
+    pieces.write_u32(1);
+    pieces.write_u64(1);
+    pieces.write_u128(1);
+    pieces.write_usize(1);
+    pieces.write_i8(1);
+    pieces.write_i16(1);
+    pieces.write_i32(1);
+    pieces.write_i64(1);
+    pieces.write_i128(1);
+    pieces.write_isize(1);
+    let mut bytes = [0; 94];
+    for i in 0..16 {
+        bytes[i] = 1;
+    }
+    for start in [16, 17, 19, 23, 31, 47, 55, 56, 58, 62, 70, 86] {
+        bytes[start] = 1;
+    }
+    let mut whole = RandomDefaultHasher::default();
+    whole.write(&bytes);
+    assert_eq!(rt; pieces.finish(), 0xa974_2e3c_46eb_4c8f);
+    assert_eq!(rt; whole.finish(), 0xa974_2e3c_46eb_4c8f);
+}
+
+// The hashes of no bytes and of the byte 7, by Rust's own hasher.
+#[test]
+fn an_answer_ends_nothing(rt: HostRuntime) {
+    let mut hasher = RandomDefaultHasher::default();
+    assert_eq!(rt; hasher.finish(), 0xd1fb_a762_150c_532c);
+    hasher.write(&[7]);
+    assert_eq!(rt; hasher.finish(), 0xfff3_eb0c_7071_97bf);
+    assert_eq!(rt; hasher.finish(), 0xfff3_eb0c_7071_97bf);
+}
+
+#[test]
+fn a_seed_is_sixteen_big_endian_bytes(rt: HostRuntime) -> Result<(), FilterError> {
+    let mut key = [0; 16];
+    key[15] = 42;
+    assert_eq!(rt; DefaultHasher::seeded(&key).key(), (0, 3026418949592973312));
+    let seeded = BloomFilter::from_vec(vec![in rt.alloc(); 5; 1]?)?
+        .seed(&42)
+        .hashes(2);
+    let given = BloomFilter::from_vec(vec![in rt.alloc(); 5; 1]?)?
+        .hasher(DefaultHasher::seeded(&key))
+        .hashes(2);
+    assert_eq!(rt; seeded.source_hash(&"42"), given.source_hash(&"42"));
+    assert_eq!(rt; seeded.source_hash(&7u64), given.source_hash(&7u64));
+    Ok(())
+}
+
+#[derive(PartialEq, Eq, Hash)]
+struct Point {
+    x: u32,
+    y: i16,
+}
+
+#[derive(PartialEq, Eq, Hash)]
+enum Shape {
+    Dot,
+    Round(u8),
+    Square { side: u64 },
+}
+
+// An item that writes nothing.
+#[derive(PartialEq, Eq, Hash)]
+struct Empty;
+
+// An item hashes to this under the zero key, and is found once it was inserted and not before.
+fn goes_in<T: Hash>(rt: &HostRuntime, item: &T, hash: u64) -> Result<bool, FilterError> {
+    let mut filter = BloomFilter::from_vec(vec![in rt.alloc(); 0; 4]?)?.hashes(3);
+    let is_new = !filter.contains(item) && !filter.insert(item);
+    Ok(filter.source_hash(item) == hash && is_new && filter.contains(item) && filter.insert(item))
+}
+
+// What Rust's own hasher (1.95) answers for the same items.
+#[test]
+fn items_of_many_types_go_in(rt: HostRuntime) -> Result<(), FilterError> {
+    assert!(rt; goes_in(&rt, &42u64, 0x7b3e_724b_36eb_df51)?);
+    assert!(rt; goes_in(&rt, &-1i32, 0x52c4_0c88_74ca_d6e2)?);
+    assert!(rt; goes_in(&rt, &"42", 0x05ee_89d1_0068_c3d9)?);
+    assert!(rt; goes_in(&rt, &"🦀", 0x75e3_0e0e_d52f_68a3)?);
+    assert!(rt; goes_in(&rt, &(1u8, 2u16), 0x6b1c_fe27_4045_3cce)?);
+    assert!(rt; goes_in(&rt, &Point { x: 1, y: -2 }, 0x7764_59f8_d398_c60e)?);
+    assert!(rt; goes_in(&rt, &Shape::Dot, 0xbd60_acb6_58c7_9e45)?);
+    assert!(rt; goes_in(&rt, &Shape::Round(3), 0x23a5_d0f3_6a07_c6bc)?);
+    assert!(rt; goes_in(&rt, &Shape::Square { side: 9 }, 0xbde4_4376_9258_25d7)?);
+    assert!(rt; goes_in(&rt, &Empty, 0xd1fb_a762_150c_532c)?);
+    Ok(())
+}
+
+// A hasher that looks at nothing and always answers 0.
+#[derive(Clone, Copy)]
+struct Nothing;
+
+impl Hasher for Nothing {
+    ghost write = { λ h bytes. h };
+
+    ghost finish = { λ h. 0 };
+
+    fn finish(&self) -> u64 {
+        0
+    }
+
+    fn write(&mut self, _bytes: &[u8]) {}
+}
+
+impl BuildHasher for Nothing {
+    type Hasher = Nothing;
+
+    ghost build_hasher = { λ h. h };
+
+    fn build_hasher(&self) -> Nothing {
+        Nothing
+    }
+}
+
+#[test]
+fn a_hasher_of_nothing_finds_all_items_alike(rt: HostRuntime) -> Result<(), FilterError> {
+    let mut filter = BloomFilter::from_vec(vec![in rt.alloc(); 0; 1]?)?
+        .hasher(Nothing)
+        .hashes(7);
+    assert_eq!(rt; filter.source_hash(&"42"), 0);
+    assert!(rt; !filter.contains(&1u64));
+    assert!(rt; !filter.insert(&1u64));
+    assert!(rt; filter.contains(&2u64));
+    assert!(rt; filter.contains(&"🦀"));
+    assert!(rt; filter.insert(&(3u8, "42")));
+    assert_eq!(rt; filter.as_slice()[0], 1);
+    Ok(())
+}
