@@ -76,14 +76,16 @@ pub fn inserted_stays_found<S>()
     ensures replay { FoundAfterReplayLaw S }
 {}
 
-/// Under the default hasher the source hash of an item is SipHash-1-3 of the bytes that the item writes.
+/// Under the default hasher a source hash is SipHash-1-3 of the bytes that the item writes.
 pub fn source_hash_by_default<T: Hash>()
     // The default hasher is a function of the bytes written, as `source_hash` asks.
     ensures bytes { (builder : Builder RandomDefaultHasher) (k0 k1 : ℕ) → HasKey builder k0 k1
-        → IsFunctionOfBytes ⟦<RandomDefaultHasher as Hasher>⟧.write ⟦<RandomDefaultHasher as Hasher>⟧.finish
+        → IsFunctionOfBytes ⟦<RandomDefaultHasher as Hasher>⟧.write
+        ⟦<RandomDefaultHasher as Hasher>⟧.finish
         (⟦<DefaultHasher as BuildHasher>⟧.build_hasher builder) (sip k0 k1) }
     // The left side is what `source_hash` answers.
-    ensures item { (builder : Builder RandomDefaultHasher) (k0 k1 : ℕ) (item : T) → HasKey builder k0 k1
+    ensures item { (builder : Builder RandomDefaultHasher) (k0 k1 : ℕ) (item : T)
+        → HasKey builder k0 k1
         → hash_by ⟦<RandomDefaultHasher as Hasher>⟧.write ⟦<RandomDefaultHasher as Hasher>⟧.finish
         (⟦<DefaultHasher as BuildHasher>⟧.build_hasher builder) (T.hash_input item)
         ≡ sip k0 k1 (concat (T.hash_input item)) }
