@@ -1,5 +1,5 @@
--- What contracts see of the hasher of SipHash-1-3, and how it stands to a key and to the bytes that it
--- has taken in. It keeps no history: this account of it is the project's own.
+-- What contracts see of the hasher of SipHash-1-3, and how it stands to a key and to the bytes that
+-- it has taken in. It keeps no history: this account of it is the project's own.
 use Rattle.std.specs.Prelude.{◌≡◌, ℕ, ◌+◌, ◌%◌, List, ◌++◌, length, fold}
 use Rattle.bloom_parts.specs.Sip.{Words, start, absorb, answer, whole_words, rest, last_word, sip}
 

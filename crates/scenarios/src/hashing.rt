@@ -5,8 +5,8 @@ use fastbloom::{BloomFilter, FilterError};
 use std::alloc::{AllocError, Global};
 use std::hash::{BuildHasher, Hash, Hasher};
 
-// The answers of the crate siphasher 0.3.10 (`SipHasher13`) under the key bytes 0, 1, .., 15, each for the
-// message of so many bytes of which byte i is 3 + 7 * i modulo 256.
+// The answers of the crate siphasher 0.3.10 (`SipHasher13`) under the key bytes 0, 1, .., 15, each
+// for the message of so many bytes of which byte i is 3 + 7 * i modulo 256.
 const COUNTING_KEY: [(usize, u64); 15] = [
     (0, 0xabac_0158_050f_c4dc),
     (1, 0x2f28_48bd_f070_e448),
@@ -25,8 +25,8 @@ const COUNTING_KEY: [(usize, u64); 15] = [
     (257, 0x4d9d_05e0_926e_27d8),
 ];
 
-// The answers of the same crate under keys that were drawn. A key is given by its big-endian number, and a
-// message by two hexadecimal digits a byte.
+// The answers of the same crate under keys that were drawn. A key is given by its big-endian number,
+// and a message by two hexadecimal digits a byte.
 const DRAWN_KEYS: [(u128, &str, u64); 25] = [
     (
         0x6c82a562cb808d10d632be89c8513ebf,
