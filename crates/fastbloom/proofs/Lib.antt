@@ -1,3 +1,4 @@
 mod LawLemmas
 mod PositionLemmas
 mod ReplyLemmas
+mod StepLemmas

@@ -2,4 +2,8 @@ pub mod Builders
 pub mod Commands
 pub mod Filter
 pub mod Laws
+pub mod Machines
+pub mod Memories
 pub mod Replies
+pub mod Scripts
+pub mod Steps

@@ -4,9 +4,11 @@
 mod bloom;
 mod builder;
 pub mod laws;
+mod steps;
 
 pub use bloom::BloomFilter;
 pub use bloom_parts::bit_vector::Words;
 pub use bloom_parts::error::FilterError;
 pub use bloom_parts::hasher::DefaultHasher;
 pub use builder::BuilderWithBits;
+pub use steps::{Call, End, Event, Machine, MemoryStore, Record, Step, WordStore, drive};
