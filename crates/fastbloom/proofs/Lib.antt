@@ -1,4 +1,5 @@
 mod LawLemmas
 mod PositionLemmas
 mod ReplyLemmas
+mod RunLemmas
 mod StepLemmas

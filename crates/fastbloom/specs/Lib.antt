@@ -1,9 +1,13 @@
 pub mod Builders
 pub mod Commands
 pub mod Filter
+pub mod Interleavings
 pub mod Laws
 pub mod Machines
 pub mod Memories
+pub mod Moments
 pub mod Replies
 pub mod Scripts
 pub mod Steps
+pub mod Traces
+pub mod Worlds

@@ -40,7 +40,11 @@ abbrev pub after_steps : (ℕ → Bool) → List Taken → ℕ → Bool
 after_steps A taken = state A (map (λ (t : Taken). step_decides t.step) taken)
 
 -- what steps in memory do, one after the other: the last that decides a position makes it
-pub record StepsLaw (before : Memory) (taken : List Taken) (after : Memory) : Type 0 where
+pub record Makes (before : Memory) (taken : List Taken) (after : Memory) : Type 0 where
   pub set : (p : ℕ) → content after.words p ≡ after_steps (content before.words) taken p
   pub count : length after.words ≡ length before.words
   pub other_stays : after.other ≡ before.other
+
+-- steps in memory that are linked make what the last of them says
+abbrev pub MemoryLaw : Type 0
+MemoryLaw = (before after : Memory) (taken : List Taken) → Linked Moves before taken after → Makes before taken after

@@ -11,4 +11,4 @@ pub use bloom_parts::bit_vector::Words;
 pub use bloom_parts::error::FilterError;
 pub use bloom_parts::hasher::DefaultHasher;
 pub use builder::BuilderWithBits;
-pub use steps::{Call, End, Event, Machine, MemoryStore, Record, Step, WordStore, drive};
+pub use steps::{Call, End, Event, Machine, MemoryStore, Record, Step, Trace, WordStore, drive, run};

@@ -7,10 +7,14 @@ mod calls;
 mod driver;
 mod machine;
 mod memory;
+mod runner;
 mod store;
+mod trace;
 
 pub use calls::{Call, End, Event, Record, Step};
 pub use driver::drive;
 pub use machine::Machine;
 pub use memory::MemoryStore;
+pub use runner::run;
 pub use store::WordStore;
+pub use trace::Trace;

@@ -1,6 +1,5 @@
 -- A call that goes on can be brought to its end, so its steps so far are a beginning.
-use Rattle.std.proofs.Common.{[], ◌%◌, ◌*◌, ◌++◌, ◌+◌, ◌-◌, ◌∷◌, ◌≡◌, ◌⊎◌, List, ap, append_assoc, arith, false, inl, inr, length, nat_eq, refl, subst, suc, zero, ℕ}
-use Rattle.std.proofs.lemmas.Nat.Bits.{bit_at-zero}
+use Rattle.std.proofs.Common.{[], ◌*◌, ◌++◌, ◌+◌, ◌-◌, ◌∷◌, ◌≡◌, ◌⊎◌, List, append_assoc, arith, false, inl, inr, length, refl, subst, suc, zero, ℕ}
 use Rattle.bloom_parts.specs.Content.{bit_is_on}
 use Rattle.bloom_parts.specs.Places.{place}
 use Rattle.fastbloom.specs.declared.steps.calls.Call.{Call}
@@ -13,9 +12,7 @@ use Rattle.fastbloom.specs.Scripts.{IsBeginning, IsScript, Taken, most_steps}
 use Rattle.fastbloom.proofs.StepLemmas.Going.{some_step}
 use Rattle.fastbloom.proofs.StepLemmas.Growing.{EndsNext, FitsNext, KeepsOnAt, goes_on-more, length-more, script-more}
 use Rattle.fastbloom.proofs.StepLemmas.Members.{member-seam}
-
-pub zero_off : (p : ℕ) → bit_is_on 0 p ≡ false
-zero_off p = ap (λ b. nat_eq b 1) (bit_at-zero (p % 64))
+use Rattle.fastbloom.proofs.StepLemmas.Writing.{bit_is_on-zero}
 
 -- a call that goes on can be brought to its end: a step that finds 0, and so on
 after : (w k : ℕ) (call : Call) (s : List Taken) (t : Taken) → IsBeginning w k call (s ++ t ∷ [])
@@ -30,7 +27,7 @@ last_end : (w k : ℕ) (call : Call) (s : List Taken) (step : Step)
 last_end w k (Insert h) s step e =
     let t : Taken = record { step = step; found = 0; ended = Answer false } in
     let off : bit_is_on t.found (place (64 * w) h (length s)) ≡ false =
-    zero_off (place (64 * w) h (length s)) in
+    bit_is_on-zero (place (64 * w) h (length s)) in
     (Answer false, (e, (false, refl, ((λ _. (length s, t, member-seam s [] t, off)), (λ _. refl)))))
 last_end w k (Contains h) s step e = (_, (inr e, refl))
 last_end w k Clear s step e = (Done, (e, refl))
@@ -43,7 +40,7 @@ either : (w k : ℕ) (call : Call) (s : List Taken) (step : Step)
     (record { step = step; found = 0; ended = Running }) ⊎ ((e : End) × EndsNext w k call s
     (record { step = step; found = 0; ended = e }))
 either w k (Insert h) s step = inl tt
-either w k (Contains h) s step = inr (_, (inl (zero_off (place (64 * w) h (length s))), refl))
+either w k (Contains h) s step = inr (_, (inl (bit_is_on-zero (place (64 * w) h (length s))), refl))
 either w k Clear s step = inl tt
 either w k Union s step = inl tt
 either w k Intersect s step = inl tt

@@ -1,6 +1,8 @@
 //! Steps over words in memory.
-ghost use Rattle.std.specs.Prelude.{◌≡◌, ℕ, ◌^◌, ◌<◌, ◌≤◌, length};
-ghost use Rattle.fastbloom.specs.Memories.{Moves};
+ghost use Rattle.std.specs.Prelude.{◌≡◌, ℕ, ◌^◌, ◌<◌, ◌≤◌, length, slice_index};
+ghost use Rattle.fastbloom.specs.declared.steps.calls.Step.TheVariants.{Other};
+ghost use Rattle.fastbloom.specs.Memories.{Moves, found_in, words_after};
+ghost use Rattle.fastbloom.specs.Steps.{word_of};
 
 use super::calls::Step;
 use super::store::WordStore;
@@ -55,23 +57,45 @@ impl WordStore for MemoryStore {
     }
 
     fn step(&mut self, step: Step) -> u64 {
-        match step {
-            Step::Load(i) => self.words[i],
-            Step::Or(i, mask) => {
-                let found = self.words[i];
-                self.words[i] = found | mask;
-                found
-            }
-            Step::And(i, mask) => {
-                let found = self.words[i];
-                self.words[i] = found & mask;
-                found
-            }
-            Step::Zero(i) => {
-                self.words[i] = 0;
-                0
-            }
-            Step::Other(i) => self.other[i],
+        let given = word_given(&self.other, step);
+        carry_out(&mut self.words, given, step)
+    }
+}
+
+// The other filter's word, where the step reads it.
+fn word_given(other: &Vec<u64>, step: Step) -> u64
+    requires { word_of step < length other.now.items }
+    ensures { (i : ℕ) → step ≡ Other i → result ≡ slice_index other.now.items i }
+{
+    match step {
+        Step::Other(i) => other[i],
+        _ => 0,
+    }
+}
+
+// Carries out a step on words, and answers the word that it found. The other filter's word is given.
+pub(super) fn carry_out(words: &mut Vec<u64>, given: u64, step: Step) -> u64
+    requires { word_of step < length words.old.items }
+    ensures found { result ≡ found_in words.old.items given step }
+    ensures words { words.new.items ≡ words_after words.old.items step }
+    ensures fits { result < 2 ^ 64 }
+{
+    match step {
+        Step::Load(i) => words[i],
+        Step::Or(i, mask) => {
+            let found = words[i];
+            words[i] = found | mask;
+            found
         }
+        Step::And(i, mask) => {
+            let found = words[i];
+            words[i] = found & mask;
+            found
+        }
+        Step::Zero(i) => {
+            words[i] = 0;
+            0
+        }
+        Step::Other(_) => given,
     }
 }

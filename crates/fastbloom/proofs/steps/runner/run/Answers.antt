@@ -1,0 +1,37 @@
+use Rattle.std.proofs.Common.{[], ◌<◌, ◌≤◌, ◌∙◌, ◌≡◌, arith, length, subst, sym}
+use Rattle.fastbloom.specs.Traces.{FollowsFrom, IsLawful, no_event}
+use Rattle.fastbloom.specs.Worlds.{Grows}
+use Rattle.fastbloom.proofs.RunLemmas.Following.{follows-next, lawful_world}
+use Rattle.fastbloom.proofs.steps.runner.run.Goals as goal
+
+pub events-init : goal.events-init
+events-init c =
+    let world = c.in_ok-world.ensures in
+    record {
+      parties = world.parties;
+      start = world.start;
+      world = world.world;
+      follows = subst (FollowsFrom c.args.parties [] []) (sym world.records) (no_event []);
+      len = omega (arith, world.len);
+      room = omega (arith, world.room);
+    }
+
+pub events-preserved : goal.events-preserved
+events-preserved c =
+    let before = c.events.invariant in
+    let did = c.happen.ensures.happens in
+    record {
+      parties = did.parties ∙ before.parties;
+      start = did.start ∙ before.start;
+      world = did.keeps;
+      follows =
+          follows-next _ c.args.parties c.args.schedule.now c.events.event-index _ _ _ before.parties c.events-test.true
+          before.follows did.grows;
+      len = omega (arith, before.len, c.happen.ensures.count);
+      room = omega (arith, before.room, c.happen.ensures.capacity);
+    }
+
+pub returns-clause-lawful : goal.returns-clause-lawful
+returns-clause-lawful c =
+    subst (IsLawful c.args.num_hashes) (sym c.from_parts.ensures.parts)
+    (lawful_world c.args.num_hashes _ c.events.world.machines.items c.events.invariant.world c.from_parts.ensures.fit)
