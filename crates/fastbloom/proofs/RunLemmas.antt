@@ -1,5 +1,10 @@
 pub mod Calling
+pub mod Changes
 pub mod Following
 pub mod Keeping
 pub mod Newest
+pub mod OwnScripts
 pub mod Parties
+pub mod Positions
+pub mod Segments
+pub mod Telling

@@ -1,7 +1,8 @@
-use Rattle.std.proofs.Common.{[], ◌<◌, ◌≤◌, ◌∙◌, ◌≡◌, arith, length, subst, sym}
-use Rattle.fastbloom.specs.Traces.{FollowsFrom, IsLawful, no_event}
+use Rattle.std.proofs.Common.{[], ◌<◌, ◌≤◌, ◌∙◌, ◌≡◌, ap, arith, length, subst, sym}
+use Rattle.fastbloom.specs.Traces.{Course, FollowsFrom, IsLawful, no_event}
 use Rattle.fastbloom.specs.Worlds.{Grows}
 use Rattle.fastbloom.proofs.RunLemmas.Following.{follows-next, lawful_world}
+use Rattle.fastbloom.proofs.RunLemmas.Telling.{contains_tell, finds_inserted, inserts_tell}
 use Rattle.fastbloom.proofs.steps.runner.run.Goals as goal
 
 pub events-init : goal.events-init
@@ -35,3 +36,19 @@ pub returns-clause-lawful : goal.returns-clause-lawful
 returns-clause-lawful c =
     subst (IsLawful c.args.num_hashes) (sym c.from_parts.ensures.parts)
     (lawful_world c.args.num_hashes _ c.events.world.machines.items c.events.invariant.world c.from_parts.ensures.fit)
+
+-- the run is of as many words as were given, so of some
+some_words : (c : goal.After-drop-world) → 1 ≤ length c.from_parts.result.start
+some_words c =
+    let same : c.from_parts.result.start ≡ c.args.words.now =
+    ap (λ (run : Course). run.start) c.from_parts.ensures.parts ∙ c.events.invariant.start in
+    subst (λ l. 1 ≤ length l) (sym same) c.requires.some_words
+
+pub returns-clause-inserts : goal.returns-clause-inserts
+returns-clause-inserts c = inserts_tell c.args.num_hashes _ (returns-clause-lawful c) (some_words c) c.requires.hashes
+
+pub returns-clause-contains : goal.returns-clause-contains
+returns-clause-contains c = contains_tell c.args.num_hashes _ (returns-clause-lawful c) (some_words c) c.requires.hashes
+
+pub returns-clause-found : goal.returns-clause-found
+returns-clause-found c = finds_inserted c.args.num_hashes _ (returns-clause-lawful c) (some_words c) c.requires.hashes
