@@ -1,6 +1,11 @@
+pub mod Bounds
 pub mod Calling
 pub mod Changes
+pub mod Counting
+pub mod Ending
 pub mod Following
+pub mod Gaining
+pub mod Held
 pub mod Keeping
 pub mod Newest
 pub mod OwnScripts

@@ -1,11 +1,13 @@
 -- What a record changes, and what stays.
-use Rattle.std.proofs.Common.{◌%◌, ◌&&◌, ◌+◌, ◌/◌, ◌<◌, ◌^◌, ◌∙◌, ◌≡◌, ◌≢◌, ◌≤◌, ◌⊎◌, Bool, None, Some, ap, arith, eq-eqb, false, if◌then◌else◌, inl, inr, nat_eq, not, refl, slice_get, subst, suc, sym, take, true, unwrap_or, zero, ℕ}
+use Rattle.std.proofs.Common.{◌%◌, ◌&&◌, ◌+◌, ◌/◌, ◌<◌, ◌^◌, ◌∙◌, ◌≡◌, ◌≢◌, ◌≤◌, ◌⊎◌, Bool, None, Option, Some, ap, arith, eq-eqb, false, if◌then◌else◌, inl, inr, nat_eq, not, refl, slice_get, subst, suc, sym, take, true, unwrap_or, zero, ℕ}
 use Rattle.std.proofs.lemmas.Bool.{and_from, and_parts, both_ways, eqb-true}
 use Rattle.std.proofs.lemmas.Bool.Decides.{eqb_tells}
 use Rattle.std.proofs.lemmas.Nat.Bits.{bit_at-pow_other, bit_at-pow_same}
 use Rattle.bloom_parts.specs.Content.{bit_is_on, content}
 use Rattle.fastbloom.specs.declared.steps.calls.Record.{Record}
 use Rattle.fastbloom.specs.declared.steps.calls.Record.TheVariants.{Did}
+use Rattle.fastbloom.specs.declared.steps.calls.Step.{Step}
+use Rattle.fastbloom.specs.declared.steps.calls.Step.TheVariants.{Or}
 use Rattle.fastbloom.specs.Moments.{moment, turns_off, turns_on}
 use Rattle.fastbloom.specs.Scripts.{Taken}
 use Rattle.fastbloom.specs.Steps.{after_records, load_at, or_at, record_decides, step_decides}
@@ -52,6 +54,18 @@ or_at-decides q j = elim (eqb_tells j q) [
     ],
   )
 ]
+
+-- a step decides nothing of a position, or this
+abbrev pub DecidesOnly : Option Bool → ℕ → Step → Type 0
+DecidesOnly d q step = (step_decides step q ≡ None) ⊎ (step_decides step q ≡ d)
+
+-- a mask that turns bits on makes nothing off
+pub or-decides_only : (i mask q : ℕ) → DecidesOnly (Some true) q (Or i mask)
+or-decides_only i mask q = go (nat_eq (q / 64) i && bit_is_on mask q)
+  where
+    go : (b : Bool) → ((if b then Some true else None) ≡ None) ⊎ ((if b then Some true else None) ≡ Some true)
+    go true = inr refl
+    go false = inl refl
 
 -- a position is turned off by record m
 abbrev pub TurnsOff : Course → ℕ → ℕ → Type 0

@@ -2,7 +2,7 @@
 ghost use Rattle.std.specs.Prelude.{◌≡◌, ℕ, ◌+◌, ◌≤◌, ◌<◌, ◌^◌, [], length, vec_len, vec_capacity, IfOk};
 ghost use Rattle.std.specs.Prelude.{IsOkUnless};
 ghost use Rattle.fastbloom.specs.declared.steps.calls.Event.TheVariants.{Begin, Go};
-ghost use Rattle.fastbloom.specs.Interleavings.{InsertsTell, ContainsTell, FindsInserted};
+ghost use Rattle.fastbloom.specs.Interleavings.{InsertsTell, ContainsTell, FindsInserted, EndsWithAll, CountsGains};
 ghost use Rattle.fastbloom.specs.Traces.{IsLawful, Follows};
 ghost use Rattle.fastbloom.specs.Worlds.{IsWorldOf, Happens, slot_runs};
 
@@ -44,6 +44,9 @@ pub fn run(
     ensures inserts { IfOk result (λ trace. InsertsTell trace) }
     ensures contains { IfOk result (λ trace. ContainsTell num_hashes trace) }
     ensures found { IfOk result (λ trace. FindsInserted num_hashes trace) }
+    // A growing run ends alike in any order, and each position is turned on once.
+    ensures grows { IfOk result (λ trace. EndsWithAll num_hashes trace) }
+    ensures gained { IfOk result (λ trace. CountsGains trace) }
     ensures refused { IsOkUnless result FilterError.Memory }
 {
     let mut world = prepare(alloc, words, num_hashes, parties, schedule.len())?;

@@ -2,6 +2,8 @@ use Rattle.std.proofs.Common.{[], ◌<◌, ◌≤◌, ◌∙◌, ◌≡◌, ap, 
 use Rattle.fastbloom.specs.Traces.{Course, FollowsFrom, IsLawful, no_event}
 use Rattle.fastbloom.specs.Worlds.{Grows}
 use Rattle.fastbloom.proofs.RunLemmas.Following.{follows-next, lawful_world}
+use Rattle.fastbloom.proofs.RunLemmas.Ending.{ends_with_all}
+use Rattle.fastbloom.proofs.RunLemmas.Gaining.{counts_gains}
 use Rattle.fastbloom.proofs.RunLemmas.Telling.{contains_tell, finds_inserted, inserts_tell}
 use Rattle.fastbloom.proofs.steps.runner.run.Goals as goal
 
@@ -52,3 +54,9 @@ returns-clause-contains c = contains_tell c.args.num_hashes _ (returns-clause-la
 
 pub returns-clause-found : goal.returns-clause-found
 returns-clause-found c = finds_inserted c.args.num_hashes _ (returns-clause-lawful c) (some_words c) c.requires.hashes
+
+pub returns-clause-grows : goal.returns-clause-grows
+returns-clause-grows c = ends_with_all c.args.num_hashes _ (returns-clause-lawful c)
+
+pub returns-clause-gained : goal.returns-clause-gained
+returns-clause-gained c = counts_gains c.args.num_hashes _ (returns-clause-lawful c)
