@@ -68,7 +68,7 @@ pub record ActsAs (k : ℕ) (run : Course) (calls : List MadeCall) : Type 0 wher
 
 -- one call at a time behaves as the list of commands
 abbrev pub ActsAsCommands : ℕ → Course → Type 0
-ActsAsCommands k run = OneAtATime run → EveryCallEnded run → ActsAs k run (cut run.records).calls
+ActsAsCommands k run = OneAtATime run.records → EveryCallEnded run.records → ActsAs k run (cut run.records).calls
 
 -- some insert of the run has the position
 abbrev pub IsInserted : ℕ → Course → ℕ → Type 0
@@ -85,7 +85,7 @@ IsFoundInOther run p =
 -- growing runs: where nothing makes a position off, the end does not depend on the order
 abbrev pub EndsWithAll : ℕ → Course → Type 0
 EndsWithAll k run =
-    NoCall run Clear → NoCall run Intersect → EveryCallEnded run
+    NoCall run.records Clear → NoCall run.records Intersect → EveryCallEnded run.records
     → (p : ℕ) → (content run.words p ≡ true)
     ↔ ((content run.start p ≡ true) ⊎ (IsInserted k run p ⊎ IsFoundInOther run p))
 
@@ -138,5 +138,5 @@ found_off _ = false
 -- each position is turned on once: as many steps found their bit off as positions were gained
 abbrev pub CountsGains : Course → Type 0
 CountsGains run =
-    NoCall run Clear → NoCall run Union → NoCall run Intersect
+    NoCall run.records Clear → NoCall run.records Union → NoCall run.records Intersect
     → count_by found_off run.records ≡ count_below (bits_of run) (λ p. content run.words p && not (content run.start p))

@@ -55,15 +55,15 @@ NoneTurnedOff k run hash first last =
 abbrev pub IsUndisturbed : ℕ → Course → ℕ → ℕ → ℕ → Type 0
 IsUndisturbed k run hash began last = NoneTurnedOff k run hash (began + 1) last
 
--- no call of the run is of this kind
-abbrev pub NoCall : Course → Call → Type 0
-NoCall run call = (m party : ℕ) → slice_get run.records m ≢ Some (Began party call)
+-- no call that begins is of this kind
+abbrev pub NoCall : List Record → Call → Type 0
+NoCall records call = (m party : ℕ) → slice_get records m ≢ Some (Began party call)
 
 -- no party runs a call after the last record
-abbrev pub EveryCallEnded : Course → Type 0
-EveryCallEnded run = (party : ℕ) → runs party run.records ≡ false
+abbrev pub EveryCallEnded : List Record → Type 0
+EveryCallEnded records = (party : ℕ) → runs party records ≡ false
 
 -- at each moment at most one party runs a call
-abbrev pub OneAtATime : Course → Type 0
-OneAtATime run =
-    (m p q : ℕ) → runs p (take m run.records) ≡ true → runs q (take m run.records) ≡ true → p ≡ q
+abbrev pub OneAtATime : List Record → Type 0
+OneAtATime records =
+    (m p q : ℕ) → runs p (take m records) ≡ true → runs q (take m records) ≡ true → p ≡ q

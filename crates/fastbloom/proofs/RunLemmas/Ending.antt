@@ -77,7 +77,7 @@ paired w k q s j t is g e on =
     ]
 
 -- a lawful run without clears and intersections
-module _ (k : ℕ) (run : Course) (lawful : IsLawful k run) (no_clear : NoCall run Clear) (no_intersect : NoCall run Intersect) where
+module _ (k : ℕ) (run : Course) (lawful : IsLawful k run) (no_clear : NoCall run.records Clear) (no_intersect : NoCall run.records Intersect) where
   -- no step makes anything off
   pub growing : (q : ℕ) → NoneMakesOff run q
   growing q m p step found e g =
@@ -134,7 +134,7 @@ module _ (k : ℕ) (run : Course) (lawful : IsLawful k run) (no_clear : NoCall r
       (moment-more run m (Did p step found e) q g ∙ ap (λ o. unwrap_or o (moment run m q)) makes)
 
   -- where every call has ended
-  module _ (ended : EveryCallEnded run) where
+  module _ (ended : EveryCallEnded run.records) where
     is_whole : (p : ℕ) (call : Call) (s : List Taken)
         → IsScript (length run.start) k call s ⊎ (IsBeginning (length run.start) k call s × (runs p run.records ≡ true))
         → IsScript (length run.start) k call s

@@ -52,8 +52,8 @@ pub record Stays (A B : ℕ → Bool) (r : Record) : Type 0 where
   pub same : (q : ℕ) → B q ≡ A q
 
 -- a lawful run of inserts and look-ups
-module _ (k : ℕ) (run : Course) (lawful : IsLawful k run) (no_clear : NoCall run Clear) (no_union : NoCall run Union)
-    (no_intersect : NoCall run Intersect) where
+module _ (k : ℕ) (run : Course) (lawful : IsLawful k run) (no_clear : NoCall run.records Clear) (no_union : NoCall run.records Union)
+    (no_intersect : NoCall run.records Intersect) where
   -- whether a position was gained by moment m
   abbrev gained_at : ℕ → ℕ → Bool
   gained_at m q = moment run m q && not (content run.start q)

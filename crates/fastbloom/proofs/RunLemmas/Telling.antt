@@ -14,7 +14,7 @@ use Rattle.fastbloom.specs.Traces.{Course, IsLawful}
 use Rattle.fastbloom.proofs.PositionLemmas.{are_in-off}
 use Rattle.fastbloom.proofs.RunLemmas.Changes.{found-load, found-or, moment-or, not_turned_off, on-or, or_at-decides, persists, turned_on, turning_on}
 use Rattle.fastbloom.proofs.RunLemmas.OwnScripts.{OwnScript, own_script}
-use Rattle.fastbloom.proofs.RunLemmas.Positions.{are_in-all}
+use Rattle.fastbloom.proofs.RunLemmas.Positions.{are_in-all, both_alike}
 use Rattle.fastbloom.proofs.StepLemmas.Members.{some_member}
 
 same-answer : (a b : Bool) → Answer a ≡ Answer b → a ≡ b
@@ -116,10 +116,6 @@ module _ (k : ℕ) (run : Course) (lawful : IsLawful k run) (some_words : 1 ≤ 
         undisturbed = λ calm. both_alike answer (are_in n k hash (moment run last)) (on calm) off;
         off = off;
       }
-    where
-      both_alike : (a b : Bool) → (a ≡ true → b ≡ true) → (a ≡ false → b ≡ false) → a ≡ b
-      both_alike true b on off = sym (on refl)
-      both_alike false b on off = sym (off refl)
 
   -- a finished insert is found
   pub finds_inserted : FindsInserted k run

@@ -2,7 +2,7 @@
 ghost use Rattle.std.specs.Prelude.{◌≡◌, ℕ, ◌+◌, ◌≤◌, ◌<◌, ◌^◌, [], length, vec_len, vec_capacity, IfOk};
 ghost use Rattle.std.specs.Prelude.{IsOkUnless};
 ghost use Rattle.fastbloom.specs.declared.steps.calls.Event.TheVariants.{Begin, Go};
-ghost use Rattle.fastbloom.specs.Interleavings.{InsertsTell, ContainsTell, FindsInserted, EndsWithAll, CountsGains};
+ghost use Rattle.fastbloom.specs.Interleavings.{ActsAsCommands, InsertsTell, ContainsTell, FindsInserted, EndsWithAll, CountsGains};
 ghost use Rattle.fastbloom.specs.Traces.{IsLawful, Follows};
 ghost use Rattle.fastbloom.specs.Worlds.{IsWorldOf, Happens, slot_runs};
 
@@ -40,6 +40,8 @@ pub fn run(
     requires hashes { 1 ≤ num_hashes }
     ensures lawful { IfOk result (λ trace. IsLawful num_hashes trace) }
     ensures follows { IfOk result (λ trace. Follows parties words.now schedule.now trace) }
+    // One call at a time behaves as the list of commands.
+    ensures commands { IfOk result (λ trace. ActsAsCommands num_hashes trace) }
     // An insert answers for its own steps; a look-up is right at one moment; an insert is found.
     ensures inserts { IfOk result (λ trace. InsertsTell trace) }
     ensures contains { IfOk result (λ trace. ContainsTell num_hashes trace) }

@@ -4,6 +4,7 @@ use Rattle.fastbloom.specs.Worlds.{Grows}
 use Rattle.fastbloom.proofs.RunLemmas.Following.{follows-next, lawful_world}
 use Rattle.fastbloom.proofs.RunLemmas.Ending.{ends_with_all}
 use Rattle.fastbloom.proofs.RunLemmas.Gaining.{counts_gains}
+use Rattle.fastbloom.proofs.RunLemmas.Sequel.{acts_as_commands}
 use Rattle.fastbloom.proofs.RunLemmas.Telling.{contains_tell, finds_inserted, inserts_tell}
 use Rattle.fastbloom.proofs.steps.runner.run.Goals as goal
 
@@ -60,3 +61,6 @@ returns-clause-grows c = ends_with_all c.args.num_hashes _ (returns-clause-lawfu
 
 pub returns-clause-gained : goal.returns-clause-gained
 returns-clause-gained c = counts_gains c.args.num_hashes _ (returns-clause-lawful c)
+
+pub returns-clause-commands : goal.returns-clause-commands
+returns-clause-commands c = acts_as_commands c.args.num_hashes _ (returns-clause-lawful c) (some_words c) c.requires.hashes
