@@ -3,6 +3,7 @@ pub mod Answering
 pub mod Bounds
 pub mod Calling
 pub mod Changes
+pub mod Continuing
 pub mod Counting
 pub mod Cutting
 pub mod Ending
@@ -12,6 +13,7 @@ pub mod Held
 pub mod Keeping
 pub mod Lasting
 pub mod Newest
+pub mod OneCourse
 pub mod OwnScripts
 pub mod Pairing
 pub mod Parties
@@ -19,3 +21,4 @@ pub mod Positions
 pub mod Segments
 pub mod Sequel
 pub mod Telling
+pub mod Unique
