@@ -14,9 +14,11 @@ pub mod Keeping
 pub mod Lasting
 pub mod Newest
 pub mod OneCourse
+pub mod Origins
 pub mod OwnScripts
 pub mod Pairing
 pub mod Parties
+pub mod Placing
 pub mod Positions
 pub mod Segments
 pub mod Sequel

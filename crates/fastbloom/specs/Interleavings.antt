@@ -1,5 +1,5 @@
--- What every interleaving of word steps gives, said of the finished course of a run. The theorems are
--- this project's own; what they compare with are the commands on a whole filter.
+-- What every interleaving of word steps gives, said of the finished course of a run. The theorems
+-- are this project's own; what they compare with are the commands on a whole filter.
 use Rattle.std.specs.Prelude.{ℕ, zero, suc, ◌+◌, ◌*◌, ◌/◌, ◌≤◌, ◌<◌, ◌≡◌, ◌↔◌, ◌⊎◌, ◌&&◌, ◌==◌, Bool, true, false, not, List, [], ◌∷◌, ◌++◌, length, Option, Some, None, slice_get, take, map, bit_and, count_by, if◌then◌else◌}
 use Rattle.bloom_parts.specs.Content.{bit_is_on, content}
 use Rattle.bloom_parts.specs.Places.{are_in, IsPosition}
@@ -23,7 +23,7 @@ pub record MadeCall : Type 0 where
   pub call : Call
   pub taken : List Taken
 
--- records cut at each beginning: the steps ahead of the first, and the calls with the steps that follow
+-- records cut at each beginning: the steps ahead of the first, and the calls with their steps
 pub record Cut : Type 0 where
   pub ahead : List Taken
   pub calls : List MadeCall
@@ -34,7 +34,8 @@ cut [] = record { ahead = []; calls = [] }
 cut (Began party call ∷ rs) =
     record { ahead = []; calls = record { call = call; taken = (cut rs).ahead } ∷ (cut rs).calls }
 cut (Did party step found ended ∷ rs) =
-    record { ahead = record { step = step; found = found; ended = ended } ∷ (cut rs).ahead; calls = (cut rs).calls }
+    let t : Taken = record { step = step; found = found; ended = ended } in
+    record { ahead = t ∷ (cut rs).ahead; calls = (cut rs).calls }
 
 -- the word that a step found in the other filter, if it looked there
 abbrev pub found_in_other : Step → ℕ → List ℕ
@@ -63,12 +64,14 @@ pub record ActsAs (k : ℕ) (run : Course) (calls : List MadeCall) : Type 0 wher
   pub bits : (p : ℕ) → content run.words p
       ≡ state_after (bits_of run) k (content run.start) (commands_of calls) p
   pub answers : (i : ℕ) (m : MadeCall) → slice_get calls i ≡ Some m → answer_of m.taken
-      ≡ reply (bits_of run) k (state_after (bits_of run) k (content run.start) (commands_of (take i calls)))
+      ≡ reply (bits_of run) k
+      (state_after (bits_of run) k (content run.start) (commands_of (take i calls)))
       (command_of m.call (content (other_words m.taken)))
 
 -- one call at a time behaves as the list of commands
 abbrev pub ActsAsCommands : ℕ → Course → Type 0
-ActsAsCommands k run = OneAtATime run.records → EveryCallEnded run.records → ActsAs k run (cut run.records).calls
+ActsAsCommands k run =
+    OneAtATime run.records → EveryCallEnded run.records → ActsAs k run (cut run.records).calls
 
 -- some insert of the run has the position
 abbrev pub IsInserted : ℕ → Course → ℕ → Type 0
@@ -79,7 +82,8 @@ IsInserted k run p =
 -- some step that read the other filter found the position on
 abbrev pub IsFoundInOther : Course → ℕ → Type 0
 IsFoundInOther run p =
-    (m party found : ℕ) × (e : End) × (slice_get run.records m ≡ Some (Did party (Other (p / 64)) found e))
+    (m party found : ℕ) × (e : End)
+    × (slice_get run.records m ≡ Some (Did party (Other (p / 64)) found e))
     × (bit_is_on found p ≡ true)
 
 -- growing runs: where nothing makes a position off, the end does not depend on the order
@@ -102,19 +106,22 @@ pub record TurnsOneOn (run : Course) (party began last : ℕ) : Type 0 where
 -- an insert answers for its own steps: false exactly if one of them turned a position on
 abbrev pub InsertsTell : Course → Type 0
 InsertsTell run =
-    (party hash began last : ℕ) (answer : Bool) → IsFinished run party (Insert hash) began last (Answer answer)
+    (party hash began last : ℕ) (answer : Bool) → IsFinished run party (Insert hash) began last
+    (Answer answer)
     → (answer ≡ false) ↔ TurnsOneOn run party began last
 
--- at a moment of its span a look-up is the subset test, if undisturbed; an answer false is right anyway
+-- at a moment of its span a look-up is the subset test if undisturbed; false is right anyway
 pub record IsRightAt (k : ℕ) (run : Course) (hash began last m : ℕ) (answer : Bool) : Type 0 where
   pub within : IsInSpan began last m
-  pub undisturbed : IsUndisturbed k run hash began last → answer ≡ are_in (bits_of run) k hash (moment run m)
+  pub undisturbed : IsUndisturbed k run hash began last
+      → answer ≡ are_in (bits_of run) k hash (moment run m)
   pub off : answer ≡ false → are_in (bits_of run) k hash (moment run m) ≡ false
 
 -- a look-up is right at one moment, that of its last load
 abbrev pub ContainsTell : ℕ → Course → Type 0
 ContainsTell k run =
-    (party hash began last : ℕ) (answer : Bool) → IsFinished run party (Contains hash) began last (Answer answer)
+    (party hash began last : ℕ) (answer : Bool) → IsFinished run party (Contains hash) began last
+    (Answer answer)
     → IsRightAt k run hash began last last answer
 
 -- a finished insert is found, where no record since its beginning turned one of its positions off
@@ -122,7 +129,8 @@ abbrev pub FindsInserted : ℕ → Course → Type 0
 FindsInserted k run =
     (hash : ℕ)
     (inserter first done : ℕ) (ended : End) → IsFinished run inserter (Insert hash) first done ended
-    → (party began last : ℕ) (answer : Bool) → IsFinished run party (Contains hash) began last (Answer answer)
+    → (party began last : ℕ) (answer : Bool)
+    → IsFinished run party (Contains hash) began last (Answer answer)
     → done < began → NoneTurnedOff k run hash first last → answer ≡ true
 
 -- how many numbers below a bound pass a test
@@ -139,4 +147,5 @@ found_off _ = false
 abbrev pub CountsGains : Course → Type 0
 CountsGains run =
     NoCall run.records Clear → NoCall run.records Union → NoCall run.records Intersect
-    → count_by found_off run.records ≡ count_below (bits_of run) (λ p. content run.words p && not (content run.start p))
+    → count_by found_off run.records ≡ count_below (bits_of run)
+    (λ p. content run.words p && not (content run.start p))

@@ -10,4 +10,5 @@ pub mod Replies
 pub mod Scripts
 pub mod Steps
 pub mod Traces
+pub mod Turns
 pub mod Worlds

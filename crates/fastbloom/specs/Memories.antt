@@ -47,4 +47,6 @@ pub record Makes (before : Memory) (taken : List Taken) (after : Memory) : Type 
 
 -- steps in memory that are linked make what the last of them says
 abbrev pub MemoryLaw : Type 0
-MemoryLaw = (before after : Memory) (taken : List Taken) → Linked Moves before taken after → Makes before taken after
+MemoryLaw =
+    (before after : Memory)
+    (taken : List Taken) → Linked Moves before taken after → Makes before taken after

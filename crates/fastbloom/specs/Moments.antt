@@ -1,5 +1,5 @@
--- Moments of a run, the spans of its calls, and what a record turns on and off. All of this is said of
--- the finished course, and is this project's own.
+-- Moments of a run, the spans of its calls, and what a record turns on and off. All of this is said
+-- of the finished course, and is this project's own.
 use Rattle.std.specs.Prelude.{ℕ, ◌+◌, ◌*◌, ◌≤◌, ◌<◌, ◌≡◌, ◌≢◌, ◌&&◌, Bool, true, false, not, List, length, Some, slice_get, take}
 use Rattle.bloom_parts.specs.Content.{content}
 use Rattle.bloom_parts.specs.Places.{IsPosition}
@@ -26,13 +26,16 @@ IsStepAt records m party ended =
     (step : Step) × (found : ℕ) × (slice_get records m ≡ Some (Did party step found ended))
 
 -- a finished call: its beginning and its last step are these records, and between them it runs on
-pub record IsFinished (run : Course) (party : ℕ) (call : Call) (began last : ℕ) (ended : End) : Type 0 where
+pub record IsFinished
+    (run : Course) (party : ℕ) (call : Call) (began last : ℕ) (ended : End) : Type 0 where
   pub begins : slice_get run.records began ≡ Some (Began party call)
   pub order : began < last
   pub ends : IsStepAt run.records last party ended
   pub over : ended ≢ Running
-  pub no_other : (m : ℕ) (other : Call) → began < m → m < last → slice_get run.records m ≢ Some (Began party other)
-  pub still : (m : ℕ) (e : End) → began < m → m < last → IsStepAt run.records m party e → e ≡ Running
+  pub no_other : (m : ℕ) (other : Call) → began < m → m < last
+      → slice_get run.records m ≢ Some (Began party other)
+  pub still : (m : ℕ) (e : End) → began < m → m < last → IsStepAt run.records m party e
+      → e ≡ Running
 
 -- a moment of its span: from just after its beginning to just after its last step
 abbrev pub IsInSpan : ℕ → ℕ → ℕ → Type 0

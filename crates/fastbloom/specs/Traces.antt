@@ -48,7 +48,8 @@ party_of (Did party step found ended) = party
 -- the records of one party, in order
 unfoldable pub records_of : ℕ → List Record → List Record
 records_of party [] = []
-records_of party (r ∷ rs) = if party_of r == party then r ∷ records_of party rs else records_of party rs
+records_of party (r ∷ rs) =
+    if party_of r == party then r ∷ records_of party rs else records_of party rs
 
 -- the records of a party that made these steps
 abbrev pub did : ℕ → List Taken → List Record
@@ -61,7 +62,8 @@ pub data CallAfterCall (w k party : ℕ) : List Record → Type 0 where
   begun_call : (call : Call) (s : List Taken) → IsBeginning w k call s
       → CallAfterCall w k party (Began party call ∷ did party s)
   whole_call : (call : Call) (s : List Taken) (later : List Record) → IsScript w k call s
-      → CallAfterCall w k party later → CallAfterCall w k party (Began party call ∷ (did party s ++ later))
+      → CallAfterCall w k party later
+      → CallAfterCall w k party (Began party call ∷ (did party s ++ later))
 
 -- each word is one of 64 bits
 abbrev pub AreWords : List ℕ → Type 0
@@ -107,7 +109,8 @@ IsStepOf party given added =
 -- a step is recorded exactly where the party runs a call
 abbrev pub GivesStep : List Record → ℕ → ℕ → List Record → Type 0
 GivesStep before party given added =
-    ((runs party before ≡ true) × IsStepOf party given added) ⊎ ((runs party before ≡ false) × (added ≡ []))
+    ((runs party before ≡ true) × IsStepOf party given added)
+    ⊎ ((runs party before ≡ false) × (added ≡ []))
 
 -- what an event adds to the records before it
 abbrev pub Gives : ℕ → List Record → Event → List Record → Type 0
@@ -117,12 +120,14 @@ Gives parties before (Go party given) added = GivesStep before party given added
 -- the records of events in order, after the records before
 pub data FollowsFrom (parties : ℕ) : List Record → List Event → List Record → Type 0 where
   no_event : (before : List Record) → FollowsFrom parties before [] []
-  next_event : (before : List Record) (event : Event) (events : List Event) (added later : List Record)
+  next_event :
+      (before : List Record) (event : Event) (events : List Event) (added later : List Record)
       → Gives parties before event added → FollowsFrom parties (before ++ added) events later
       → FollowsFrom parties before (event ∷ events) (added ++ later)
 
 -- a course that follows a schedule from given words
-pub record Follows (parties : ℕ) (words : List ℕ) (schedule : List Event) (run : Course) : Type 0 where
+pub record Follows
+    (parties : ℕ) (words : List ℕ) (schedule : List Event) (run : Course) : Type 0 where
   pub begins : run.start ≡ words
   pub events : FollowsFrom parties [] schedule run.records
 

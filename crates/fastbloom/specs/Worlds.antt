@@ -33,18 +33,23 @@ PartyAt w k party None records = records ≡ []
 PartyAt w k party (Some m) records = HasCalled w k party m records
 
 -- words, machines and records after some events
-pub record IsWorld (k : ℕ) (start words : List ℕ) (machines : List (Option Machine)) (records : List Record) : Type 0 where
+pub record IsWorld
+    (k : ℕ) (start words : List ℕ) (machines : List (Option Machine))
+    (records : List Record) : Type 0 where
   pub some_words : 1 ≤ length start
   pub few_words : length start < 2 ^ 58
   pub some_hashes : 1 ≤ k
   pub finds : FindsWhatIsThere (content start) records
   pub count : length words ≡ length start
   pub bits : (p : ℕ) → content words p ≡ after_records (content start) records p
-  pub parties : (party : ℕ) → PartyAt (length start) k party (slice_index_or machines party None) (records_of party records)
+  pub parties : (party : ℕ)
+      → PartyAt (length start) k party (slice_index_or machines party None)
+      (records_of party records)
 
 -- the same of the runner's world
 abbrev pub IsWorldOf : ℕ → World → Type 0
-IsWorldOf k world = IsWorld k world.start.items world.words.items world.machines.items world.records.items
+IsWorldOf k world =
+    IsWorld k world.start.items world.words.items world.machines.items world.records.items
 
 -- the records grow by what an event gives
 pub record Grows (parties : ℕ) (event : Event) (before after : List Record) : Type 0 where

@@ -11,4 +11,6 @@ pub use bloom_parts::bit_vector::Words;
 pub use bloom_parts::error::FilterError;
 pub use bloom_parts::hasher::DefaultHasher;
 pub use builder::BuilderWithBits;
-pub use steps::{Call, End, Event, Machine, MemoryStore, Record, Step, Trace, WordStore, drive, run};
+pub use steps::{
+    Call, End, Event, Machine, MemoryStore, Record, Step, Trace, WordStore, drive, run,
+};

@@ -24,7 +24,8 @@ past : (w p : ℕ) (A : ℕ → Bool) (s : List Taken) (q : ℕ) → Fits w A (d
     → (A q ≡ false) × (after_records A (did p s) q ≡ false)
 past w p A s q f l = (
   f.within 0 q (omega arith) l,
-  ap (λ rs. after_records A rs q) (sym (take-length (did p s))) ∙ f.within (length (did p s)) q (omega arith) l,
+  ap (λ rs. after_records A rs q) (sym (take-length (did p s)))
+      ∙ f.within (length (did p s)) q (omega arith) l,
 )
 
 -- a script of w words and k hashes, made by a party
@@ -44,22 +45,27 @@ module _ (w k p : ℕ) (s : List Taken) (A : ℕ → Bool) where
       → after_records A (did p s) q ≡ unwrap_or (made_on (positions (64 * w) k h q)) (A q)
   insert-steps h q is = go (positions (64 * w) k h q) refl
     where
-      go : (b : Bool) → positions (64 * w) k h q ≡ b → after_records A (did p s) q ≡ unwrap_or (made_on b) (A q)
+      go : (b : Bool) → positions (64 * w) k h q ≡ b
+          → after_records A (did p s) q ≡ unwrap_or (made_on b) (A q)
       go true e =
           let at = positions-from (64 * w) k h q e in
           let count = is.count in
           let below = at.1 in
           let t = some_member s at.0 (omega arith) in
-          let makes : step_decides (or_at (place (64 * w) h at.0)) q ≡ Some true = elim (or_at-decides (place (64 * w) h at.0) q) [
+          let makes : step_decides (or_at (place (64 * w) h at.0)) q ≡ Some true =
+          elim (or_at-decides (place (64 * w) h at.0) q) [
             | inl here ↦ here.1
             | inr other ↦ absurd (other.0 (sym at.2))
           ] in
-          steps-some p s A q (Some true) (insert-all h q is) at.0 t.0 t.1 (ap (λ x. step_decides x q) (is.steps at.0 t.0 t.1) ∙ makes)
+          steps-some p s A q (Some true) (insert-all h q is) at.0 t.0 t.1
+          (ap (λ x. step_decides x q) (is.steps at.0 t.0 t.1) ∙ makes)
       go false e = steps-none p s A q (λ i t g. elim (or_at-decides (place (64 * w) h i) q) [
         | inl here ↦
             let inside = slice_get_within s i t g in
             let count = is.count in
-            absurd (both_ways (positions (64 * w) k h q) e (positions-to (64 * w) k h q i (omega arith) here.0))
+            absurd
+            (both_ways (positions (64 * w) k h q) e
+            (positions-to (64 * w) k h q i (omega arith) here.0))
         | inr other ↦ inl (ap (λ x. step_decides x q) (is.steps i t g) ∙ other.1)
       ])
 
@@ -67,17 +73,23 @@ module _ (w k p : ℕ) (s : List Taken) (A : ℕ → Bool) where
   clear-steps q is inside =
       let count = is.count in
       let t = some_member s (q / 64) (omega arith) in
-      steps-some p s A q (Some false) (λ i u g. subst (DecidesOnly (Some false) q) (sym (is.steps i u g)) (either (nat_eq (q / 64) i)))
+      steps-some p s A q (Some false)
+      (λ i u g. subst (DecidesOnly (Some false) q) (sym (is.steps i u g))
+      (either (nat_eq (q / 64) i)))
       (q / 64) t.0 t.1
-      (ap (λ x. step_decides x q) (is.steps (q / 64) t.0 t.1) ∙ ap (λ b. if b then Some false else None) (eq-eqb (q / 64) (q / 64) refl))
+      (ap (λ x. step_decides x q) (is.steps (q / 64) t.0 t.1)
+      ∙ ap (λ b. if b then Some false else None) (eq-eqb (q / 64) (q / 64) refl))
     where
-      either : (b : Bool) → ((if b then Some false else None) ≡ None) ⊎ ((if b then Some false else None) ≡ Some false)
+      either : (b : Bool)
+          → ((if b then Some false else None) ≡ None)
+          ⊎ ((if b then Some false else None) ≡ Some false)
       either true = inr refl
       either false = inl refl
 
   -- the set after a whole call
   pub call-steps : (call : Call) (q : ℕ) → IsScript w k call s → Fits w A (did p s)
-      → after_records A (did p s) q ≡ unwrap_or (decides (64 * w) k (command_of call (content (other_words s))) q) (A q)
+      → after_records A (did p s) q ≡ unwrap_or
+      (decides (64 * w) k (command_of call (content (other_words s))) q) (A q)
   call-steps (Insert h) q is f = insert-steps h q is
   call-steps (Contains h) q is f = steps-none p s A q (contains-all h q is)
   call-steps Clear q is f = elim (cases_lt (q / 64) w) [
@@ -88,13 +100,16 @@ module _ (w k p : ℕ) (s : List Taken) (A : ℕ → Bool) where
     | inl l ↦ pairs-steps Or made_on decides_by-or (λ i x found. refl) w s is.steps is.count p A q l
     | inr l ↦
         let off = past w p A s q f l in
-        let other = other-past Or made_on decides_by-or (λ i x found. refl) w s is.steps is.count q l in
+        let other =
+        other-past Or made_on decides_by-or (λ i x found. refl) w s is.steps is.count q l in
         off.1 ∙ sym (ap (λ b. unwrap_or (made_on b) (A q)) other ∙ off.0)
   ]
   call-steps Intersect q is f = elim (cases_lt (q / 64) w) [
-    | inl l ↦ pairs-steps And made_off decides_by-and (λ i x found. refl) w s is.steps is.count p A q l
+    | inl l ↦
+        pairs-steps And made_off decides_by-and (λ i x found. refl) w s is.steps is.count p A q l
     | inr l ↦
         let off = past w p A s q f l in
-        let other = other-past And made_off decides_by-and (λ i x found. refl) w s is.steps is.count q l in
+        let other =
+        other-past And made_off decides_by-and (λ i x found. refl) w s is.steps is.count q l in
         off.1 ∙ sym (ap (λ b. unwrap_or (made_off b) (A q)) other)
   ]

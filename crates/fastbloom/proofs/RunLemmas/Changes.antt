@@ -24,7 +24,8 @@ mask_alone : (q j : ℕ) → bit_is_on (2 ^ (q % 64)) j ≡ true → j % 64 ≡ 
 mask_alone q j on = elim (eqb_tells (j % 64) (q % 64)) [
   | inl same ↦ same.1
   | inr other ↦
-      let off : bit_is_on (2 ^ (q % 64)) j ≡ false = ap (λ b. nat_eq b 1) (bit_at-pow_other (q % 64) (j % 64) other.1) in
+      let off : bit_is_on (2 ^ (q % 64)) j ≡ false =
+      ap (λ b. nat_eq b 1) (bit_at-pow_other (q % 64) (j % 64) other.1) in
       absurd (both_ways (bit_is_on (2 ^ (q % 64)) j) off on)
 ]
 
@@ -35,12 +36,14 @@ and_cases false b = inr refl
 
 or_at-own : (q : ℕ) → step_decides (or_at q) q ≡ Some true
 or_at-own q =
-    ap (λ b. if b && bit_is_on (2 ^ (q % 64)) q then Some true else None) (eq-eqb (q / 64) (q / 64) refl)
+    ap (λ b. if b && bit_is_on (2 ^ (q % 64)) q then Some true else None)
+    (eq-eqb (q / 64) (q / 64) refl)
     ∙ ap (λ b. if b then Some true else None) (own_mask q)
 
 -- the step that turns a position on makes it so, and leaves the others
 pub or_at-decides : (q j : ℕ)
-    → ((j ≡ q) × (step_decides (or_at q) j ≡ Some true)) ⊎ ((j ≢ q) × (step_decides (or_at q) j ≡ None))
+    → ((j ≡ q) × (step_decides (or_at q) j ≡ Some true))
+    ⊎ ((j ≢ q) × (step_decides (or_at q) j ≡ None))
 or_at-decides q j = elim (eqb_tells j q) [
   | inl same ↦ inl (same.1, ap (step_decides (or_at q)) same.1 ∙ or_at-own q)
   | inr other ↦ inr (
@@ -63,7 +66,8 @@ DecidesOnly d q step = (step_decides step q ≡ None) ⊎ (step_decides step q �
 pub or-decides_only : (i mask q : ℕ) → DecidesOnly (Some true) q (Or i mask)
 or-decides_only i mask q = go (nat_eq (q / 64) i && bit_is_on mask q)
   where
-    go : (b : Bool) → ((if b then Some true else None) ≡ None) ⊎ ((if b then Some true else None) ≡ Some true)
+    go : (b : Bool)
+        → ((if b then Some true else None) ≡ None) ⊎ ((if b then Some true else None) ≡ Some true)
     go true = inr refl
     go false = inl refl
 
@@ -74,9 +78,11 @@ TurnsOff run m p = (moment run m p ≡ true) × (moment run (m + 1) p ≡ false)
 -- a run, whatever its records
 module _ (run : Course) where
   pub not_turned_off : (m p : ℕ) → turns_off run m p ≡ false → TurnsOff run m p → ⊥
-  not_turned_off m p calm off = both_ways (turns_off run m p) calm (and_from (moment run m p) _ off.0 (ap not off.1))
+  not_turned_off m p calm off =
+      both_ways (turns_off run m p) calm (and_from (moment run m p) _ off.0 (ap not off.1))
 
-  pub turned_on : (m p : ℕ) → turns_on run m p ≡ true → (moment run m p ≡ false) × (moment run (m + 1) p ≡ true)
+  pub turned_on : (m p : ℕ) → turns_on run m p ≡ true
+      → (moment run m p ≡ false) × (moment run (m + 1) p ≡ true)
   turned_on m p on =
       let parts = and_parts (not (moment run m p)) (moment run (m + 1) p) on in
       (was (moment run m p) parts.0, parts.1)
@@ -85,7 +91,8 @@ module _ (run : Course) where
       was true e = absurd (both_ways false refl e)
       was false e = refl
 
-  pub turning_on : (m p : ℕ) → moment run m p ≡ false → moment run (m + 1) p ≡ true → turns_on run m p ≡ true
+  pub turning_on : (m p : ℕ) → moment run m p ≡ false → moment run (m + 1) p ≡ true
+      → turns_on run m p ≡ true
   turning_on m p off on = and_from (not (moment run m p)) (moment run (m + 1) p) (ap not off) on
 
   -- a record's decision shows at the next moment
@@ -101,7 +108,8 @@ module _ (run : Course) where
   persists q first zero m e on calm =
       let same : first ≡ m = omega (arith, e) in ap (λ j. moment run j q) (sym same) ∙ on
   persists q first (suc n) m e on calm =
-      let before = persists q first n (first + n) refl on (λ j l u. calm j l (omega (arith, u, e))) in
+      let before =
+      persists q first n (first + n) refl on (λ j l u. calm j l (omega (arith, u, e))) in
       let same : (first + n) + 1 ≡ m = omega (arith, e) in
       ap (λ j. moment run j q) (sym same) ∙ go (moment run ((first + n) + 1) q) refl before
     where
@@ -126,7 +134,8 @@ module _ (k : ℕ) (run : Course) (lawful : IsLawful k run) (m party q : ℕ) (t
       (subst (λ x. MayFind (moment run m) x t.found) step finds).bits q refl
 
   -- what a step that turns a position on does to each
-  pub moment-or : (j : ℕ) → t.step ≡ or_at q → moment run (m + 1) j ≡ unwrap_or (step_decides (or_at q) j) (moment run m j)
+  pub moment-or : (j : ℕ) → t.step ≡ or_at q
+      → moment run (m + 1) j ≡ unwrap_or (step_decides (or_at q) j) (moment run m j)
   moment-or j step =
       moment-more run m (Did party t.step t.found t.ended) j at
       ∙ ap (λ x. unwrap_or (step_decides x j) (moment run m j)) step

@@ -24,13 +24,25 @@ record Inside (p : ℕ) (s : List Taken) (xs : List Record) (t : Taken) : Type 0
   pub parts : s ≡ before ++ t ∷ after
   pub same : xs ≡ did p before
 
+-- the records after a script, and where they go on
+abbrev IsLater : ℕ → List Taken → List Record → List Record → List Record → Taken → Type 0
+IsLater p s later xs ys t =
+    (more : List Record) × (xs ≡ did p s ++ more)
+    × (later ≡ more ++ Did p t.step t.found t.ended ∷ ys)
+
 split-did : (p : ℕ) (s : List Taken) (later xs ys : List Record) (t : Taken)
     → did p s ++ later ≡ xs ++ Did p t.step t.found t.ended ∷ ys
-    → Inside p s xs t ⊎ ((more : List Record) × (xs ≡ did p s ++ more) × (later ≡ more ++ Did p t.step t.found t.ended ∷ ys))
+    → Inside p s xs t ⊎ IsLater p s later xs ys t
 split-did p [] later xs ys t e = inr (xs, refl, e)
 split-did p (u ∷ s) later [] ys t e =
     let first : Did p u.step u.found u.ended ≡ Did p t.step t.found t.ended = cc in
-    inl (record { before = []; after = s; parts = ap (λ v. v ∷ s) (did_of-same p p u t first); same = refl })
+    inl
+    (record {
+      before = [];
+      after = s;
+      parts = ap (λ v. v ∷ s) (did_of-same p p u t first);
+      same = refl;
+    })
 split-did p (u ∷ s) later (x ∷ xs) ys t e =
     let head : Did p u.step u.found u.ended ≡ x = cc in
     elim (split-did p s later xs ys t (cc)) [
@@ -60,7 +72,10 @@ goes_after w k p _ (x ∷ xs) ys t (begun_call call s b) e =
         s = i.before;
         rest = i.after ++ b.0 ∷ b.1;
         same = ap (λ l. x ∷ l) i.same ∙ ap (λ y. y ∷ did p i.before) (sym head);
-        is = subst (IsScript w k call) (ap (λ l. l ++ b.0 ∷ b.1) i.parts ∙ append_assoc i.before (t ∷ i.after) (b.0 ∷ b.1)) b.2;
+        is =
+            subst (IsScript w k call)
+            (ap (λ l. l ++ b.0 ∷ b.1) i.parts
+            ∙ append_assoc i.before (t ∷ i.after) (b.0 ∷ b.1)) b.2;
       }
       | inr m ↦ absurd (no_member m.0 ys _ m.2)
     ]
@@ -86,12 +101,14 @@ goes_after w k p _ (x ∷ xs) ys t (whole_call call s later is more) e =
             same =
                 ap (λ l. x ∷ l) m.1 ∙ ap (λ y. y ∷ (did p s ++ m.0)) (sym head)
                 ∙ ap (λ l. Began p call ∷ (did p s ++ l)) next.same
-                ∙ ap (λ l. Began p call ∷ l) (sym (append_assoc (did p s) next.earlier (Began p next.call ∷ did p next.s)));
+                ∙ ap (λ l. Began p call ∷ l)
+                (sym (append_assoc (did p s) next.earlier (Began p next.call ∷ did p next.s)));
             is = next.is;
           }
     ]
 
-no_beginning : (p : ℕ) (s : List Taken) (xs ys : List Record) (call : Call) → did p s ≡ xs ++ Began p call ∷ ys → ⊥
+no_beginning : (p : ℕ) (s : List Taken) (xs ys : List Record) (call : Call)
+    → did p s ≡ xs ++ Began p call ∷ ys → ⊥
 no_beginning p [] xs ys call e = no_member xs ys (Began p call) e
 no_beginning p (t ∷ s) [] ys call e = cc
 no_beginning p (t ∷ s) (x ∷ xs) ys call e = no_beginning p s xs ys call (cc)

@@ -16,11 +16,13 @@ use Rattle.fastbloom.proofs.RunLemmas.Parties.{records_of-none}
 use Rattle.fastbloom.proofs.StepLemmas.Members.{take-more}
 
 -- what is read at an index is what stands there
-pub slot-read : (machines : List (Option Machine)) (p : ℕ) (o : Option Machine) → p < length machines
+pub slot-read : (machines : List (Option Machine)) (p : ℕ) (o : Option Machine)
+    → p < length machines
     → o ≡ slice_index_or machines p o → slice_index_or machines p None ≡ o
 slot-read machines p o within e = same machines p within ∙ sym e
   where
-    same : (xs : List (Option Machine)) (i : ℕ) → i < length xs → slice_index_or xs i None ≡ slice_index_or xs i o
+    same : (xs : List (Option Machine)) (i : ℕ) → i < length xs
+        → slice_index_or xs i None ≡ slice_index_or xs i o
     same [] i l = absurd (omega arith)
     same (x ∷ xs) zero l = refl
     same (x ∷ xs) (suc i) l = same xs i (omega arith)
@@ -42,8 +44,10 @@ asks-over m e = go m.ended e
     go false f = absurd (none-some _ (sym f))
 
 -- before the first event
-pub first_world : (k : ℕ) (start words : List ℕ) (machines : List (Option Machine)) → 1 ≤ length start
-    → length start < 2 ^ 58 → 1 ≤ k → words ≡ start → ((p : ℕ) → slice_index_or machines p None ≡ None)
+pub first_world : (k : ℕ) (start words : List ℕ) (machines : List (Option Machine))
+    → 1 ≤ length start
+    → length start < 2 ^ 58 → 1 ≤ k → words ≡ start
+    → ((p : ℕ) → slice_index_or machines p None ≡ None)
     → IsWorld k start words machines []
 first_world k start words machines some few hashes same none = record {
   some_words = some;
@@ -52,7 +56,10 @@ first_world k start words machines some few hashes same none = record {
   finds = λ m party step found e g. absurd (none-some _ g);
   count = ap length same;
   bits = λ p. ap (λ l. content l p) same;
-  parties = λ p. subst (λ o. PartyAt (length start) k p o (records_of p [])) (sym (none p)) (records_of-none p);
+  parties =
+      λ p.
+      subst (λ o. PartyAt (length start) k p o (records_of p [])) (sym (none p))
+      (records_of-none p);
 }
 
 -- after the last event the course is lawful
@@ -61,14 +68,17 @@ pub lawful_world : (k : ℕ) (run : Course) (machines : List (Option Machine))
 lawful_world k run machines world fit = record {
   finds = world.finds;
   calls = λ p.
-      calls-party (length run.start) k p (slice_index_or machines p None) (records_of p run.records) (world.parties p);
+      calls-party (length run.start) k p (slice_index_or machines p None) (records_of p run.records)
+      (world.parties p);
   count = world.count;
   bits = world.bits;
   fit = fit;
 }
 
 -- one event more
-pub follows-more : (parties : ℕ) (before : List Record) (es : List Event) (added : List Record) (e : Event) (more : List Record)
+pub follows-more :
+    (parties : ℕ) (before : List Record) (es : List Event) (added : List Record) (e : Event)
+    (more : List Record)
     → FollowsFrom parties before es added → Gives parties (before ++ added) e more
     → FollowsFrom parties before (es ++ e ∷ []) (added ++ more)
 follows-more parties before [] [] e more (no_event _) g =
@@ -78,7 +88,8 @@ follows-more parties before [] [] e more (no_event _) g =
 follows-more parties before [] (a ∷ later) e more x g = elim x [ ]
 follows-more parties before (first ∷ es) _ e more (next_event _ _ _ added later gives rest) g =
     let last = subst (λ l. Gives parties l e more) (sym (append_assoc before added later)) g in
-    subst (λ l. FollowsFrom parties before (first ∷ (es ++ e ∷ [])) l) (sym (append_assoc added later more))
+    subst (λ l. FollowsFrom parties before (first ∷ (es ++ e ∷ [])) l)
+    (sym (append_assoc added later more))
     (next_event before first (es ++ e ∷ []) added (later ++ more) gives
     (follows-more parties (before ++ added) es later e more rest last))
 
@@ -87,9 +98,11 @@ take-read : (xs : List Event) (i : ℕ) (d : Event) → i < length xs
 take-read xs i d within = take-more xs i (slice_index_or xs i d) (slice_get-get_or xs i d within)
 
 -- the next event of a schedule
-pub follows-next : (count parties : ℕ) (schedule : List Event) (i : ℕ) (d : Event) (before after : List Record)
+pub follows-next :
+    (count parties : ℕ) (schedule : List Event) (i : ℕ) (d : Event) (before after : List Record)
     → count ≡ parties → i < length schedule → FollowsFrom parties [] (take i schedule) before
-    → Grows count (slice_index_or schedule i d) before after → FollowsFrom parties [] (take (i + 1) schedule) after
+    → Grows count (slice_index_or schedule i d) before after
+    → FollowsFrom parties [] (take (i + 1) schedule) after
 follows-next count parties schedule i d before after all within so grows =
     let event = slice_index_or schedule i d in
     let g = subst (λ n. Grows n event before after) all grows in

@@ -1,45 +1,33 @@
 -- Each record is of a call whose script, or a beginning of it, stands among the records.
-use Rattle.std.proofs.Common.{[], ◌*◌, ◌++◌, ◌+◌, ◌<◌, ◌∙◌, ◌∷◌, ◌≡◌, ◌⊎◌, Bool, List, Some, ap, arith, inl, inr, length, refl, slice_get, suc, sym, true, zero, ℕ}
-use Rattle.std.proofs.lemmas.Option.{none-some, same_Some, slice_get_within}
-use Rattle.bloom_parts.specs.Places.{place}
+use Rattle.std.proofs.Common.{[], ◌++◌, ◌+◌, ◌∙◌, ◌∷◌, ◌≡◌, ◌⊎◌, Bool, List, Some, inl, inr, length, refl, slice_get, suc, sym, zero, ℕ}
+use Rattle.std.proofs.lemmas.Option.{none-some, same_Some}
 use Rattle.fastbloom.specs.declared.steps.calls.Call.{Call}
-use Rattle.fastbloom.specs.declared.steps.calls.Call.TheVariants.{Clear, Contains, Insert, Intersect, Union}
 use Rattle.fastbloom.specs.declared.steps.calls.End.{End}
 use Rattle.fastbloom.specs.declared.steps.calls.Record.{Record}
 use Rattle.fastbloom.specs.declared.steps.calls.Record.TheVariants.{Began, Did}
 use Rattle.fastbloom.specs.declared.steps.calls.Step.{Step}
-use Rattle.fastbloom.specs.declared.steps.calls.Step.TheVariants.{And, Or, Other, Zero}
-use Rattle.fastbloom.specs.Scripts.{ArePairs, IsBeginning, IsScript, Taken}
-use Rattle.fastbloom.specs.Steps.{load_at, or_at}
+use Rattle.fastbloom.specs.Scripts.{Taken}
 use Rattle.fastbloom.specs.Traces.{CallAfterCall, Course, IsLawful, begun_call, did, last_leaves_running, no_call, party_of, records_of, runs, whole_call}
 use Rattle.fastbloom.proofs.RunLemmas.Newest.{newest-call, newest_kept, still_runs-beginning}
 use Rattle.fastbloom.proofs.RunLemmas.Parties.{did-get, own_of_record, record_of_own}
-use Rattle.fastbloom.proofs.StepLemmas.Going.{parity}
-use Rattle.fastbloom.proofs.StepLemmas.Members.{member-back, member-front, member_of_append, some_member}
-
--- the call that a record is of, among records of which the party's last leaves it running, or not
-pub record Holds (w k p : ℕ) (rs : List Record) (going : Bool) (r : Record) : Type 0 where
-  pub call : Call
-  pub s : List Taken
-  pub began : (n : ℕ) × (slice_get rs n ≡ Some (Began p call))
-  pub members : (i : ℕ) (t : Taken) → slice_get s i ≡ Some t → (n : ℕ) × (slice_get rs n ≡ Some (Did p t.step t.found t.ended))
-  pub kind : IsScript w k call s ⊎ (IsBeginning w k call s × (going ≡ true))
-  pub which : (r ≡ Began p call) ⊎ ((j : ℕ) × (t : Taken) × (slice_get s j ≡ Some t) × (r ≡ Did p t.step t.found t.ended))
+use Rattle.fastbloom.proofs.RunLemmas.Placing.{Holds, IsOneOf, IsPlacedAt, front_of, placed}
+use Rattle.fastbloom.proofs.StepLemmas.Members.{member-back, member-front, member_of_append}
 
 -- a record of a call is its beginning, or one of its steps
-which_of : (p : ℕ) (call : Call) (s : List Taken) (i : ℕ) (r : Record) → slice_get (Began p call ∷ did p s) i ≡ Some r
-    → (r ≡ Began p call) ⊎ ((j : ℕ) × (t : Taken) × (slice_get s j ≡ Some t) × (r ≡ Did p t.step t.found t.ended))
+which_of : (p : ℕ) (call : Call) (s : List Taken) (i : ℕ) (r : Record)
+    → slice_get (Began p call ∷ did p s) i ≡ Some r
+    → (r ≡ Began p call) ⊎ IsOneOf p s r
 which_of p call s zero r g = inl (sym (same_Some _ _ g))
 which_of p call s (suc i) r g = inr (step s i g)
   where
-    step : (s : List Taken) (i : ℕ) → slice_get (did p s) i ≡ Some r
-        → (j : ℕ) × (t : Taken) × (slice_get s j ≡ Some t) × (r ≡ Did p t.step t.found t.ended)
+    step : (s : List Taken) (i : ℕ) → slice_get (did p s) i ≡ Some r → IsOneOf p s r
     step [] i g = absurd (none-some r g)
     step (t ∷ s) zero g = (0, t, refl, sym (same_Some _ _ g))
     step (t ∷ s) (suc i) g = let rest = step s i g in (suc rest.0, rest.1, rest.2, rest.3)
 
 -- among the records of its party
-held_in : (w k p : ℕ) (rs : List Record) (i : ℕ) (r : Record) → CallAfterCall w k p rs → slice_get rs i ≡ Some r
+held_in : (w k p : ℕ) (rs : List Record) (i : ℕ) (r : Record) → CallAfterCall w k p rs
+    → slice_get rs i ≡ Some r
     → Holds w k p rs (last_leaves_running rs) r
 held_in w k p _ i r no_call g = absurd (none-some r g)
 held_in w k p _ i r (begun_call call s b) g = record {
@@ -57,7 +45,12 @@ held_in w k p _ i r (whole_call call s later is more) g =
         call = call;
         s = s;
         began = (0, refl);
-        members = λ j t f. (suc j, member-front (did p s) later (Did p t.step t.found t.ended) j (did-get p s j t f));
+        members =
+            λ j t f. (
+              suc j,
+              member-front (did p s) later (Did p t.step t.found t.ended) j
+                  (did-get p s j t f),
+            );
         kind = inl is;
         which = which_of p call s i r mine;
       }
@@ -70,77 +63,16 @@ held_in w k p _ i r (whole_call call s later is more) g =
             s = rest.s;
             began = (length front + rest.began.0, at rest.began.0 ∙ rest.began.1);
             members = λ j t f. let m = rest.members j t f in (length front + m.0, at m.0 ∙ m.1);
-            kind = elim rest.kind [ inl is ↦ inl is | inr b ↦ inr (b.0, newest_kept front later b.1) ];
+            kind =
+                elim rest.kind [ inl is ↦ inl is | inr b ↦ inr (b.0, newest_kept front later b.1) ];
             which = rest.which;
           }
     ]
 
--- the step at place j of a union or intersection
-pub record IsPairAt (w : ℕ) (op : ℕ → ℕ → Step) (s : List Taken) (t : Taken) : Type 0 where
-  pub i : ℕ
-  pub below : i < w
-  pub either : (t.step ≡ Other i) ⊎ ((u : Taken) × (slice_get s (2 * i) ≡ Some u) × (u.step ≡ Other i) × (t.step ≡ op i u.found))
-
--- the step at place j of a call
-abbrev pub IsPlacedAt : ℕ → ℕ → Call → List Taken → ℕ → Taken → Type 0
-IsPlacedAt w k (Insert h) s j t = (j < k) × (t.step ≡ or_at (place (64 * w) h j))
-IsPlacedAt w k (Contains h) s j t = t.step ≡ load_at (place (64 * w) h j)
-IsPlacedAt w k Clear s j t = (j < w) × (t.step ≡ Zero j)
-IsPlacedAt w k Union s j t = IsPairAt w Or s t
-IsPlacedAt w k Intersect s j t = IsPairAt w And s t
-
--- some steps are a script, or the front of one
-pub record IsFront (w k : ℕ) (call : Call) (s : List Taken) : Type 0 where
-  pub full : List Taken
-  pub is : IsScript w k call full
-  pub front : (i : ℕ) (t : Taken) → slice_get s i ≡ Some t → slice_get full i ≡ Some t
-
-front_of : (w k p : ℕ) (rs : List Record) (going : Bool) (r : Record) (h : Holds w k p rs going r) → IsFront w k h.call h.s
-front_of w k p rs going r h = elim h.kind [
-  | inl is ↦ record { full = h.s; is = is; front = λ i t g. g }
-  | inr b ↦ record {
-    full = h.s ++ b.0.0 ∷ b.0.1;
-    is = b.0.2;
-    front = λ i t g. member-front h.s (b.0.0 ∷ b.0.1) t i g;
-  }
-]
-
-pair-placed : (w : ℕ) (op : ℕ → ℕ → Step) (s full : List Taken) (j : ℕ) (t : Taken) → ArePairs op full → length full ≡ 2 * w
-    → ((i : ℕ) (u : Taken) → slice_get s i ≡ Some u → slice_get full i ≡ Some u) → slice_get s j ≡ Some t → IsPairAt w op s t
-pair-placed w op s full j t pairs l front g =
-    let inside = slice_get_within full j t (front j t g) in
-    elim (parity j) [
-      | inl even ↦
-          let here = ap (slice_get full) (sym even.1) ∙ front j t g in
-          record { i = even.0; below = omega (arith, even.1); either = inl (pairs.loads even.0 t here) }
-      | inr odd ↦
-          let i = odd.0 in
-          let within = slice_get_within s j t g in
-          let there = some_member s (2 * i) (omega (arith, odd.1)) in
-          let u = there.0 in
-          let load = front (2 * i) u there.1 in
-          let here = ap (slice_get full) (sym odd.1) ∙ front j t g in
-          record {
-            i = i;
-            below = omega (arith, odd.1);
-            either = inr (u, there.1, pairs.loads i u load, pairs.writes i u t load here);
-          }
-    ]
-
-placed : (w k : ℕ) (call : Call) (s : List Taken) → IsFront w k call s → (j : ℕ) (t : Taken) → slice_get s j ≡ Some t
-    → IsPlacedAt w k call s j t
-placed w k (Insert h) s f j t g =
-    let inside = slice_get_within f.full j t (f.front j t g) in
-    let count = f.is.count in (omega arith, f.is.steps j t (f.front j t g))
-placed w k (Contains h) s f j t g = f.is.steps j t (f.front j t g)
-placed w k Clear s f j t g =
-    let inside = slice_get_within f.full j t (f.front j t g) in
-    let count = f.is.count in (omega arith, f.is.steps j t (f.front j t g))
-placed w k Union s f j t g = pair-placed w Or s f.full j t f.is.steps f.is.count f.front g
-placed w k Intersect s f j t g = pair-placed w And s f.full j t f.is.steps f.is.count f.front g
-
 -- the call of a step, and its place there
-pub record HoldsStep (w k p : ℕ) (rs : List Record) (going : Bool) (r : Record) (step : Step) (found : ℕ) : Type 0 where
+pub record HoldsStep
+    (w k p : ℕ) (rs : List Record) (going : Bool) (r : Record) (step : Step)
+    (found : ℕ) : Type 0 where
   pub of : Holds w k p rs going r
   pub j : ℕ
   pub t : Taken
@@ -157,19 +89,25 @@ module _ (k : ℕ) (run : Course) (lawful : IsLawful k run) where
   held m r g =
       let p = party_of r in
       let own = own_of_record p run.records m r g refl in
-      let h = held_in (length run.start) k p (records_of p run.records) own.0 r (lawful.calls p) own.1 in
+      let h =
+      held_in (length run.start) k p (records_of p run.records) own.0 r (lawful.calls p) own.1 in
       record {
         call = h.call;
         s = h.s;
         began = record_of_own p run.records h.began.0 (Began p h.call) h.began.1;
-        members = λ i t f. let at = h.members i t f in record_of_own p run.records at.0 (Did p t.step t.found t.ended) at.1;
+        members =
+            λ i t f. let at =
+            h.members i t f in record_of_own p run.records at.0
+            (Did p t.step t.found t.ended) at.1;
         kind = h.kind;
         which = h.which;
       }
 
   -- the call of a step
-  pub step_held : (m p : ℕ) (step : Step) (found : ℕ) (e : End) → slice_get run.records m ≡ Some (Did p step found e)
-      → HoldsStep (length run.start) k p run.records (runs p run.records) (Did p step found e) step found
+  pub step_held : (m p : ℕ) (step : Step) (found : ℕ) (e : End)
+      → slice_get run.records m ≡ Some (Did p step found e)
+      → HoldsStep (length run.start) k p run.records (runs p run.records)
+      (Did p step found e) step found
   step_held m p step found e g =
       let h = held m (Did p step found e) g in
       elim h.which [
@@ -183,6 +121,8 @@ module _ (k : ℕ) (run : Course) (lawful : IsLawful k run) where
               here = at.2;
               same_step = cc;
               same_found = cc;
-              at = placed (length run.start) k h.call h.s (front_of _ k p run.records _ _ h) at.0 at.1 at.2;
+              at =
+                  placed (length run.start) k h.call h.s
+                  (front_of _ k p run.records _ _ h) at.0 at.1 at.2;
             }
       ]

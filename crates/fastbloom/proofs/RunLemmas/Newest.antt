@@ -41,7 +41,8 @@ one_end-later t u s one = record {
   ended = λ i v g l. one.ended (suc i) v g (omega arith);
 }
 
-pub one_end-script : (w k : ℕ) (call : Call) (s : List Taken) → 1 ≤ length s → IsScript w k call s → OneEnd s
+pub one_end-script : (w k : ℕ) (call : Call) (s : List Taken) → 1 ≤ length s → IsScript w k call s
+    → OneEnd s
 one_end-script w k call s some is = record {
   some = some;
   running = is.running;
@@ -55,12 +56,14 @@ newest-append [] ys y = refl
 newest-append (x ∷ []) ys y = refl
 newest-append (x ∷ (z ∷ xs)) ys y = newest-append (z ∷ xs) ys y
 
-leaves-did : (p : ℕ) (step : Step) (found : ℕ) (e : End) → leaves_running (Did p step found e) ≡ is_running e
+leaves-did : (p : ℕ) (step : Step) (found : ℕ) (e : End)
+    → leaves_running (Did p step found e) ≡ is_running e
 leaves-did p step found Running = refl
 leaves-did p step found Done = refl
 leaves-did p step found (Answer b) = refl
 
-newest-did : (p : ℕ) (t : Taken) (s : List Taken) → last_leaves_running (did p (t ∷ s)) ≡ still_runs (t ∷ s)
+newest-did : (p : ℕ) (t : Taken) (s : List Taken)
+    → last_leaves_running (did p (t ∷ s)) ≡ still_runs (t ∷ s)
 newest-did p t [] = leaves-did p t.step t.found t.ended
 newest-did p t (u ∷ s) = newest-did p u s
 
@@ -71,7 +74,8 @@ newest-call p call [] = refl
 newest-call p call (t ∷ s) = newest-did p t s
 
 -- what runs after the later records runs after all
-pub newest_kept : (xs ys : List Record) → last_leaves_running ys ≡ true → last_leaves_running (xs ++ ys) ≡ true
+pub newest_kept : (xs ys : List Record) → last_leaves_running ys ≡ true
+    → last_leaves_running (xs ++ ys) ≡ true
 newest_kept [] ys e = e
 newest_kept (x ∷ []) [] e = absurd (cc)
 newest_kept (x ∷ []) (y ∷ ys) e = e
@@ -79,7 +83,8 @@ newest_kept (x ∷ (z ∷ xs)) ys e = newest_kept (z ∷ xs) ys e
 
 pub runs_after : (p : ℕ) (xs ys : List Record) → runs p ys ≡ true → runs p (xs ++ ys) ≡ true
 runs_after p xs ys e =
-    ap last_leaves_running (records_of-append p xs ys) ∙ newest_kept (records_of p xs) (records_of p ys) e
+    ap last_leaves_running (records_of-append p xs ys)
+    ∙ newest_kept (records_of p xs) (records_of p ys) e
 
 -- where each step leaves the call running it goes on
 still_runs-all : (s : List Taken) → Each s (λ i t. t.ended ≡ Running) → still_runs s ≡ true
@@ -87,8 +92,10 @@ still_runs-all [] all = refl
 still_runs-all (t ∷ []) all = ap is_running (all 0 t refl)
 still_runs-all (t ∷ (u ∷ s)) all = still_runs-all (u ∷ s) (λ i v g. all (suc i) v g)
 
-pub still_runs-beginning : (w k : ℕ) (call : Call) (s : List Taken) → IsBeginning w k call s → still_runs s ≡ true
-still_runs-beginning w k call s begun = still_runs-all s (λ i t g. beginning_runs w k call s i t begun g)
+pub still_runs-beginning : (w k : ℕ) (call : Call) (s : List Taken) → IsBeginning w k call s
+    → still_runs s ≡ true
+still_runs-beginning w k call s begun =
+    still_runs-all s (λ i t g. beginning_runs w k call s i t begun g)
 
 still_runs-last : (s : List Taken) (i : ℕ) (t : Taken) → slice_get s i ≡ Some t → i + 1 ≡ length s
     → still_runs s ≡ is_running t.ended
@@ -104,23 +111,28 @@ not_running Done apart = refl
 not_running (Answer b) apart = refl
 
 -- after a whole script the call has ended
-pub still_runs-script : (w k : ℕ) (call : Call) (s : List Taken) → 1 ≤ w → 1 ≤ k → IsScript w k call s
+pub still_runs-script : (w k : ℕ) (call : Call) (s : List Taken) → 1 ≤ w → 1 ≤ k
+    → IsScript w k call s
     → still_runs s ≡ false
 still_runs-script w k call s some_words some_hashes is =
     let some = script_some w k call s some_words some_hashes is in
     let t = some_member s (length s - 1) (omega arith) in
     let at_end : (length s - 1) + 1 ≡ length s = omega arith in
     still_runs-last s (length s - 1) t.0 t.1 at_end
-    ∙ not_running t.0.ended (last-not_running w call s (length s - 1) t.0 t.1 at_end (is.last (length s - 1) t.0 t.1 at_end))
+    ∙ not_running t.0.ended
+    (last-not_running w call s (length s - 1) t.0 t.1 at_end
+    (is.last (length s - 1) t.0 t.1 at_end))
 
 -- a machine's call goes on exactly if its steps so far leave it running
-pub still_runs-machine : (m : Machine) (w k : ℕ) (call : Call) (s : List Taken) → StandsAt m w k call s
+pub still_runs-machine : (m : Machine) (w k : ℕ) (call : Call) (s : List Taken)
+    → StandsAt m w k call s
     → still_runs s ≡ not m.ended
 still_runs-machine m w k call s st = go m.ended refl
   where
     go : (b : Bool) → m.ended ≡ b → still_runs s ≡ not m.ended
     go true is =
-        still_runs-script w k call s (subst (λ n. 1 ≤ n) st.words m.some_words) (subst (λ n. 1 ≤ n) st.hashes m.some_hashes) (st.whole is)
+        still_runs-script w k call s (subst (λ n. 1 ≤ n) st.words m.some_words)
+        (subst (λ n. 1 ≤ n) st.hashes m.some_hashes) (st.whole is)
         ∙ sym (ap not is)
     go false is =
         let on = st.goes_on is in

@@ -20,20 +20,26 @@ use Rattle.fastbloom.proofs.StepLemmas.Members.{member-seam}
 use Rattle.fastbloom.proofs.StepLemmas.Writing.{content-word}
 
 -- the next record of a party's call is one
-next-same : (w k p given : ℕ) (A : ℕ → Bool) (xs : List Record) (t u : Taken) → GoesAfter w k p xs t → GoesAfter w k p xs u
+next-same : (w k p given : ℕ) (A : ℕ → Bool) (xs : List Record) (t u : Taken) → GoesAfter w k p xs t
+    → GoesAfter w k p xs u
     → MayFind A t.step t.found → MayFind A u.step u.found
-    → ((i : ℕ) → t.step ≡ Other i → t.found ≡ given) → ((i : ℕ) → u.step ≡ Other i → u.found ≡ given)
+    → ((i : ℕ) → t.step ≡ Other i → t.found ≡ given)
+    → ((i : ℕ) → u.step ≡ Other i → u.found ≡ given)
     → Did p t.step t.found t.ended ≡ Did p u.step u.found u.ended
 next-same w k p given A xs t u a b f g x y =
     let one = newest-same p a.earlier b.earlier a.call b.call a.s b.s (sym a.same ∙ b.same) in
     let is : IsScript w k a.call (a.s ++ u ∷ b.rest) =
-    subst (λ c. IsScript w k c (a.s ++ u ∷ b.rest)) (sym one.0) (subst (λ l. IsScript w k b.call (l ++ u ∷ b.rest)) (sym one.1) b.is) in
+    subst (λ c. IsScript w k c (a.s ++ u ∷ b.rest)) (sym one.0)
+    (subst (λ l. IsScript w k b.call (l ++ u ∷ b.rest)) (sym one.1) b.is) in
     let step : t.step ≡ u.step =
-    fits_one w a.call a.s t.step u.step (script_next w k a.call a.s a.rest t a.is) (script_next w k a.call a.s b.rest u is) in
+    fits_one w a.call a.s t.step u.step (script_next w k a.call a.s a.rest t a.is)
+    (script_next w k a.call a.s b.rest u is) in
     let found : t.found ≡ u.found =
-    found-same A given u.step t.found u.found (subst (λ v. MayFind A v t.found) step f) g (λ i e. x i (step ∙ e)) y in
+    found-same A given u.step t.found u.found (subst (λ v. MayFind A v t.found) step f) g
+    (λ i e. x i (step ∙ e)) y in
     let ended = end-same w k a.call a.s a.rest b.rest t u found a.is is in
-    ap (λ v. Did p v t.found t.ended) step ∙ ap (λ v. Did p u.step v t.ended) found ∙ ap (λ v. Did p u.step u.found v) ended
+    ap (λ v. Did p v t.found t.ended) step ∙ ap (λ v. Did p u.step v t.ended) found
+    ∙ ap (λ v. Did p u.step u.found v) ended
 
 -- records that are lawful over a set
 record AreLawful (w k : ℕ) (A : ℕ → Bool) (rs : List Record) : Type 0 where
@@ -42,14 +48,18 @@ record AreLawful (w k : ℕ) (A : ℕ → Bool) (rs : List Record) : Type 0 wher
 
 -- w words and k hashes, and a set
 module _ (w k : ℕ) (A : ℕ → Bool) where
-  after_at : (before later : List Record) (p : ℕ) (t : Taken) → AreLawful w k A (before ++ Did p t.step t.found t.ended ∷ later)
+  after_at : (before later : List Record) (p : ℕ) (t : Taken)
+      → AreLawful w k A (before ++ Did p t.step t.found t.ended ∷ later)
       → GoesAfter w k p (records_of p before) t
   after_at before later p t f =
       let r = Did p t.step t.found t.ended in
-      goes_after w k p (records_of p (before ++ r ∷ later)) (records_of p before) (records_of p later) t (f.calls p)
-      (records_of-append p before (r ∷ later) ∙ ap (λ l. records_of p before ++ l) (records_of-mine p r later refl))
+      goes_after w k p (records_of p (before ++ r ∷ later)) (records_of p before)
+      (records_of p later) t (f.calls p)
+      (records_of-append p before (r ∷ later)
+      ∙ ap (λ l. records_of p before ++ l) (records_of-mine p r later refl))
 
-  found_at : (before later : List Record) (p : ℕ) (t : Taken) → AreLawful w k A (before ++ Did p t.step t.found t.ended ∷ later)
+  found_at : (before later : List Record) (p : ℕ) (t : Taken)
+      → AreLawful w k A (before ++ Did p t.step t.found t.ended ∷ later)
       → MayFind (after_records A before) t.step t.found
   found_at before later p t f =
       let r = Did p t.step t.found t.ended in
@@ -57,7 +67,8 @@ module _ (w k : ℕ) (A : ℕ → Bool) where
       (f.finds (length before) p t.step t.found t.ended (member-seam before later r))
 
   -- a step that is recorded is one
-  step-same : (before : List Record) (p given : ℕ) (a b later other : List Record) → IsStepOf p given a → IsStepOf p given b
+  step-same : (before : List Record) (p given : ℕ) (a b later other : List Record)
+      → IsStepOf p given a → IsStepOf p given b
       → AreLawful w k A (before ++ (a ++ later)) → AreLawful w k A (before ++ (b ++ other)) → a ≡ b
   step-same before p given a b later other x y f g =
       let t : Taken = record { step = x.0; found = x.1; ended = x.2 } in
@@ -65,16 +76,22 @@ module _ (w k : ℕ) (A : ℕ → Bool) where
       let ft = subst (λ l. AreLawful w k A (before ++ (l ++ later))) x.3 f in
       let fu = subst (λ l. AreLawful w k A (before ++ (l ++ other))) y.3 g in
       x.3
-      ∙ ap (λ r. r ∷ []) (next-same w k p given (after_records A before) (records_of p before) t u (after_at before later p t ft)
-      (after_at before other p u fu) (found_at before later p t ft) (found_at before other p u fu) x.4 y.4)
+      ∙ ap (λ r. r ∷ [])
+      (next-same w k p given (after_records A before) (records_of p before) t u
+      (after_at before later p t ft) (after_at before other p u fu) (found_at before later p t ft)
+      (found_at before other p u fu) x.4 y.4)
       ∙ sym y.3
 
   -- what an event adds is one
-  gives-same : (parties : ℕ) (before : List Record) (e : Event) (a b later other : List Record) → Gives parties before e a
-      → Gives parties before e b → AreLawful w k A (before ++ (a ++ later)) → AreLawful w k A (before ++ (b ++ other)) → a ≡ b
+  gives-same : (parties : ℕ) (before : List Record) (e : Event) (a b later other : List Record)
+      → Gives parties before e a
+      → Gives parties before e b → AreLawful w k A (before ++ (a ++ later))
+      → AreLawful w k A (before ++ (b ++ other)) → a ≡ b
   gives-same parties before (Begin p call) a b later other g h f f2 = elim g [
-    | inl x ↦ elim h [ inl y ↦ x.2 ∙ sym y.2 | inr y ↦ absurd (both_ways (runs p before) x.1 (y.0 x.0)) ]
-    | inr x ↦ elim h [ inl y ↦ absurd (both_ways (runs p before) y.1 (x.0 y.0)) | inr y ↦ x.1 ∙ sym y.1 ]
+    | inl x ↦
+        elim h [ inl y ↦ x.2 ∙ sym y.2 | inr y ↦ absurd (both_ways (runs p before) x.1 (y.0 x.0)) ]
+    | inr x ↦
+        elim h [ inl y ↦ absurd (both_ways (runs p before) y.1 (x.0 y.0)) | inr y ↦ x.1 ∙ sym y.1 ]
   ]
   gives-same parties before (Go p given) a b later other g h f f2 = elim g [
     | inl x ↦ elim h [
@@ -85,15 +102,19 @@ module _ (w k : ℕ) (A : ℕ → Bool) where
   ]
 
   -- and so are the records of events
-  follows-same : (parties : ℕ) (before : List Record) (es : List Event) (a b : List Record) → FollowsFrom parties before es a
-      → FollowsFrom parties before es b → AreLawful w k A (before ++ a) → AreLawful w k A (before ++ b) → a ≡ b
-  follows-same parties before [] _ _ (no_event _) (no_event _) f f2 = refl
-  follows-same parties before (e ∷ es) _ _ (next_event _ _ _ a later g more) (next_event _ _ _ b other h more2) f f2 =
-      let same = gives-same parties before e a b later other g h f f2 in
-      let first = subst (AreLawful w k A) (sym (append_assoc before a later)) f in
-      let second = subst (AreLawful w k A) (ap (λ l. before ++ (l ++ other)) (sym same) ∙ sym (append_assoc before a other)) f2 in
-      let follows = subst (λ l. FollowsFrom parties (before ++ l) es other) (sym same) more2 in
-      ap (λ l. l ++ later) same ∙ ap (λ l. b ++ l) (follows-same parties (before ++ a) es later other more follows first second)
+  follows-same : (parties : ℕ) (before : List Record) (es : List Event) (a b : List Record)
+      → FollowsFrom parties before es a
+      → FollowsFrom parties before es b → AreLawful w k A (before ++ a)
+      → AreLawful w k A (before ++ b) → a ≡ b
+  follows-same n before [] _ _ (no_event _) (no_event _) l m = refl
+  follows-same n before (e ∷ es) _ _ (next_event _ _ _ a xs g f) (next_event _ _ _ b ys h i) l m =
+      let same = gives-same n before e a b xs ys g h l m in
+      let first = subst (AreLawful w k A) (sym (append_assoc before a xs)) l in
+      let joined = ap (λ c. before ++ (c ++ ys)) (sym same) ∙ sym (append_assoc before a ys) in
+      let second = subst (AreLawful w k A) joined m in
+      let follows = subst (λ c. FollowsFrom n (before ++ c) es ys) (sym same) i in
+      ap (λ c. c ++ xs) same
+      ∙ ap (λ c. b ++ c) (follows-same n (before ++ a) es xs ys f follows first second)
 
 -- at most one course is lawful and follows a schedule
 pub at_most_one : AtMostOne
@@ -101,12 +122,17 @@ at_most_one parties k words schedule one other lawful follows lawful2 follows2 =
     let begins : one.start ≡ other.start = follows.begins ∙ sym follows2.begins in
     let w = length one.start in
     let A = content one.start in
-    let finds = subst (λ l. FindsWhatIsThere (content l) other.records) (sym begins) lawful2.finds in
-    let calls = subst (λ l. (p : ℕ) → CallAfterCall (length l) k p (records_of p other.records)) (sym begins) lawful2.calls in
+    let finds =
+    subst (λ l. FindsWhatIsThere (content l) other.records) (sym begins) lawful2.finds in
+    let calls =
+    subst (λ l. (p : ℕ) → CallAfterCall (length l) k p (records_of p other.records))
+    (sym begins) lawful2.calls in
     let records : one.records ≡ other.records =
     follows-same w k A parties [] schedule one.records other.records follows.events follows2.events
-    (record { finds = lawful.finds; calls = lawful.calls }) (record { finds = finds; calls = calls }) in
-    let count : length one.words ≡ length other.words = lawful.count ∙ ap length begins ∙ sym lawful2.count in
+    (record { finds = lawful.finds; calls = lawful.calls })
+    (record { finds = finds; calls = calls }) in
+    let count : length one.words ≡ length other.words =
+    lawful.count ∙ ap length begins ∙ sym lawful2.count in
     let bits : (p : ℕ) → content one.words p ≡ content other.words p =
     λ p.
     lawful.bits p ∙ ap (λ l. after_records (content l) one.records p) begins

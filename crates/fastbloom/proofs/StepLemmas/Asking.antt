@@ -6,9 +6,11 @@ use Rattle.fastbloom.specs.declared.steps.calls.Call.TheVariants.{Clear, Contain
 use Rattle.fastbloom.specs.declared.steps.calls.Step.{Step}
 use Rattle.fastbloom.specs.declared.steps.calls.Step.TheVariants.{And, Or, Other, Zero}
 use Rattle.fastbloom.specs.declared.steps.machine.Machine.{Machine}
-use Rattle.fastbloom.specs.Machines.{AsksAfter, HoldsOther, StandsAt, asks, next_of_pairs, next_step}
+use Rattle.fastbloom.specs.Machines.{HoldsOther, StandsAt, asks, next_of_pairs, next_step}
 use Rattle.fastbloom.specs.Scripts.{Taken}
 use Rattle.fastbloom.specs.Steps.{load_at, or_at, word_of}
+use Rattle.fastbloom.specs.Turns.{AsksAfter}
+use Rattle.fastbloom.proofs.RunLemmas.Placing.{placed}
 use Rattle.fastbloom.proofs.StepLemmas.Completing.{finish}
 use Rattle.fastbloom.proofs.StepLemmas.Going.{is_next}
 use Rattle.fastbloom.proofs.StepLemmas.Growing.{FitsNext, IsNextOfPairs}

@@ -4,9 +4,10 @@ use Rattle.std.proofs.lemmas.Option.{none-some, same_Some}
 use Rattle.fastbloom.specs.declared.steps.calls.Call.{Call}
 use Rattle.fastbloom.specs.declared.steps.calls.Step.{Step}
 use Rattle.fastbloom.specs.declared.steps.machine.Machine.{Machine}
-use Rattle.fastbloom.specs.Machines.{AsksAfter, StandsAt}
+use Rattle.fastbloom.specs.Machines.{StandsAt}
 use Rattle.fastbloom.specs.Scripts.{IsScript, Linked, Taken}
 use Rattle.fastbloom.specs.Steps.{word_of}
+use Rattle.fastbloom.specs.Turns.{AsksAfter}
 
 -- one step more at the end
 pub linked-more :

@@ -13,10 +13,9 @@ use Rattle.fastbloom.proofs.StepLemmas.Members.{member-front, member-seam, some_
 pairs_next : (op : ℕ → ℕ → Step) (s rest : List Taken) (t : Taken) → ArePairs op (s ++ t ∷ rest)
     → IsNextOfPairs op s t.step
 pairs_next op s rest t all = (
-  (λ i e.
-      all.loads i t (subst (λ n. slice_get (s ++ t ∷ rest) n ≡ Some t) e (member-seam s rest t))),
-  (λ i u e g.
-      all.writes i u t (member-front s (t ∷ rest) u (2 * i) g)
+  (λ i e. all.loads i t
+      (subst (λ n. slice_get (s ++ t ∷ rest) n ≡ Some t) e (member-seam s rest t))),
+  (λ i u e g. all.writes i u t (member-front s (t ∷ rest) u (2 * i) g)
       (subst (λ n. slice_get (s ++ t ∷ rest) n ≡ Some t) e (member-seam s rest t))),
 )
 

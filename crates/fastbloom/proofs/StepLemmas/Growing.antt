@@ -126,8 +126,8 @@ stops-more w k (Contains h) s t on e =
         | inr q ↦ elim e.0 [
           | inl off ↦
               subst (λ j. bit_is_on u.found (place (64 * w) h j) ≡ false) (sym q.0)
-              (subst (λ (v : Taken).
-              bit_is_on v.found (place (64 * w) h (length s)) ≡ false) (sym q.1) off)
+              (subst (λ (v : Taken). bit_is_on v.found (place (64 * w) h (length s)) ≡ false)
+              (sym q.1) off)
           | inr all ↦ absurd (omega (arith, l, q.0, all))
         ]
       ];
@@ -146,8 +146,7 @@ last-more w k (Contains h) s t e = λ i u g last.
       | inr q ↦
           e.1
           ∙ subst
-          (λ j.
-          Answer (bit_is_on t.found (place (64 * w) h (length s))) ≡ Answer
+          (λ j. Answer (bit_is_on t.found (place (64 * w) h (length s))) ≡ Answer
           (bit_is_on u.found (place (64 * w) h j)))
           (sym q.0)
           (ap (λ (v : Taken). Answer (bit_is_on v.found (place (64 * w) h (length s)))) (sym q.1))

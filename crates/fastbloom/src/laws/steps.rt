@@ -2,7 +2,7 @@
 ghost use Rattle.fastbloom.specs.Memories.{MemoryLaw};
 ghost use Rattle.fastbloom.specs.Traces.{AtMostOne};
 
-/// Steps in memory, one after the other, make each position what the last of them that decides it says.
+/// Steps in memory, one after the other, make each position what the last that decides it says.
 pub fn steps_in_memory()
     ensures { MemoryLaw }
 {}

@@ -52,7 +52,8 @@ fn own_hash(call: Call) -> u64
 impl Machine {
     ghost use Rattle.std.specs.Prelude.{[], Some, IsSome};
     ghost use Rattle.fastbloom.specs.declared.steps.calls.Step.{Step};
-    ghost use Rattle.fastbloom.specs.Machines.{StandsAt, AsksRight, AnswersRight, StandsFurther, Replied, asks, answers, end_of, left};
+    ghost use Rattle.fastbloom.specs.Machines.{StandsAt, asks, answers, end_of};
+    ghost use Rattle.fastbloom.specs.Turns.{AsksRight, AnswersRight, StandsFurther, Replied, left};
     ghost use Rattle.fastbloom.specs.Steps.{word_of};
 
     /// A call at its beginning, on a filter of so many words and hashes.

@@ -73,7 +73,7 @@ fn word_given(other: &Vec<u64>, step: Step) -> u64
     }
 }
 
-// Carries out a step on words, and answers the word that it found. The other filter's word is given.
+// Carries out a step on words, and answers the word found. The other filter's word is given.
 pub(super) fn carry_out(words: &mut Vec<u64>, given: u64, step: Step) -> u64
     requires { word_of step < length words.old.items }
     ensures found { result ≡ found_in words.old.items given step }

@@ -15,7 +15,11 @@ impl Model for Trace {
 
     ghost Value = { Course };
 
-    ghost view = { λ t. record { start = t.start.items; records = t.records.items; words = t.words.items } };
+    ghost view = { λ t. record {
+      start = t.start.items;
+      records = t.records.items;
+      words = t.words.items;
+    } };
 }
 
 impl Trace {
@@ -28,7 +32,11 @@ impl Trace {
             ≡ record { start = start.items; records = records.items; words = words.items } }
         ensures fit { AreWords words.items }
     {
-        Trace { start, records, words }
+        Trace {
+            start,
+            records,
+            words,
+        }
     }
 
     /// The words before the first event, word 0 first.

@@ -1,5 +1,5 @@
 use Rattle.std.proofs.Common.{◌≡◌, ℕ}
-use Rattle.fastbloom.specs.Machines.{left}
+use Rattle.fastbloom.specs.Turns.{left}
 use Rattle.fastbloom.proofs.StepLemmas.Driving.{HasMade}
 use Rattle.fastbloom.proofs.steps.driver.drive.Given as goal
 
@@ -7,7 +7,9 @@ use Rattle.fastbloom.proofs.steps.driver.drive.Given as goal
 abbrev pub invariant-steps : goal.invariant-steps
 invariant-steps g l = record {
   words : g.W.WordStore.count l.store ≡ g.W.WordStore.count l.fn.store;
-  made : HasMade g.W.WordStore.moved (g.W.WordStore.count l.fn.store) l.fn.num_hashes l.fn.call l.fn.store l.store l.machine;
+  made :
+      HasMade g.W.WordStore.moved
+      (g.W.WordStore.count l.fn.store) l.fn.num_hashes l.fn.call l.fn.store l.store l.machine;
 }
 
 abbrev pub decreases-steps : goal.decreases-steps

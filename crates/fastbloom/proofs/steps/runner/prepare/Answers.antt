@@ -11,5 +11,7 @@ returns-clause-world c =
     let some = subst (λ l. 1 ≤ length l) (sym same) c.requires.some_words in
     let few = subst (λ l. length l < 2 ^ 58) (sym same) c.requires.few_words in
     let copies : now ≡ start = c.in_ok-now.ensures.items ∙ sym same in
-    subst (λ l. IsWorld c.args.num_hashes start now c.parties.machines.items l) (sym c.in_ok-records.ensures.items)
-    (first_world c.args.num_hashes start now c.parties.machines.items some few c.requires.hashes copies c.parties.invariant.none)
+    subst (λ l. IsWorld c.args.num_hashes start now c.parties.machines.items l)
+    (sym c.in_ok-records.ensures.items)
+    (first_world c.args.num_hashes start now c.parties.machines.items some few c.requires.hashes
+    copies c.parties.invariant.none)

@@ -29,8 +29,8 @@ events-preserved c =
       start = did.start ∙ before.start;
       world = did.keeps;
       follows =
-          follows-next _ c.args.parties c.args.schedule.now c.events.event-index _ _ _ before.parties c.events-test.true
-          before.follows did.grows;
+          follows-next _ c.args.parties c.args.schedule.now c.events.event-index _ _ _
+          before.parties c.events-test.true before.follows did.grows;
       len = omega (arith, before.len, c.happen.ensures.count);
       room = omega (arith, before.room, c.happen.ensures.capacity);
     }
@@ -38,7 +38,8 @@ events-preserved c =
 pub returns-clause-lawful : goal.returns-clause-lawful
 returns-clause-lawful c =
     subst (IsLawful c.args.num_hashes) (sym c.from_parts.ensures.parts)
-    (lawful_world c.args.num_hashes _ c.events.world.machines.items c.events.invariant.world c.from_parts.ensures.fit)
+    (lawful_world c.args.num_hashes _ c.events.world.machines.items c.events.invariant.world
+    c.from_parts.ensures.fit)
 
 -- the run is of as many words as were given, so of some
 some_words : (c : goal.After-drop-world) → 1 ≤ length c.from_parts.result.start
@@ -48,13 +49,16 @@ some_words c =
     subst (λ l. 1 ≤ length l) (sym same) c.requires.some_words
 
 pub returns-clause-inserts : goal.returns-clause-inserts
-returns-clause-inserts c = inserts_tell c.args.num_hashes _ (returns-clause-lawful c) (some_words c) c.requires.hashes
+returns-clause-inserts c =
+    inserts_tell c.args.num_hashes _ (returns-clause-lawful c) (some_words c) c.requires.hashes
 
 pub returns-clause-contains : goal.returns-clause-contains
-returns-clause-contains c = contains_tell c.args.num_hashes _ (returns-clause-lawful c) (some_words c) c.requires.hashes
+returns-clause-contains c =
+    contains_tell c.args.num_hashes _ (returns-clause-lawful c) (some_words c) c.requires.hashes
 
 pub returns-clause-found : goal.returns-clause-found
-returns-clause-found c = finds_inserted c.args.num_hashes _ (returns-clause-lawful c) (some_words c) c.requires.hashes
+returns-clause-found c =
+    finds_inserted c.args.num_hashes _ (returns-clause-lawful c) (some_words c) c.requires.hashes
 
 pub returns-clause-grows : goal.returns-clause-grows
 returns-clause-grows c = ends_with_all c.args.num_hashes _ (returns-clause-lawful c)
@@ -63,4 +67,5 @@ pub returns-clause-gained : goal.returns-clause-gained
 returns-clause-gained c = counts_gains c.args.num_hashes _ (returns-clause-lawful c)
 
 pub returns-clause-commands : goal.returns-clause-commands
-returns-clause-commands c = acts_as_commands c.args.num_hashes _ (returns-clause-lawful c) (some_words c) c.requires.hashes
+returns-clause-commands c =
+    acts_as_commands c.args.num_hashes _ (returns-clause-lawful c) (some_words c) c.requires.hashes
