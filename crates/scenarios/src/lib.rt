@@ -1,2 +1,5 @@
 //! Tests that cross modules: what no contract says, at values from outside.
 #![tactic(auto)]
+
+#[cfg(test)]
+mod steps;
