@@ -2,6 +2,7 @@
 
 mod counting;
 mod courses;
+mod tables;
 
 use counting::Tally;
 use fastbloom::{Call, Machine, MemoryStore, Step, drive};

@@ -50,7 +50,8 @@ fn own_hash(call: Call) -> u64
 }
 
 impl Machine {
-    ghost use Rattle.std.specs.Prelude.{[], Some, IsSome};
+    ghost use Rattle.std.specs.Prelude.{[], Some, IsSome, ◌/◌, ◌%◌, ◌==◌, if◌then◌else◌};
+    ghost use Rattle.fastbloom.specs.declared.steps.calls.Step.TheVariants.{Other};
     ghost use Rattle.fastbloom.specs.declared.steps.calls.Step.{Step};
     ghost use Rattle.fastbloom.specs.Machines.{StandsAt, asks, answers, end_of};
     ghost use Rattle.fastbloom.specs.Turns.{AsksRight, AnswersRight, StandsFurther, Replied, left};
@@ -99,21 +100,20 @@ impl Machine {
             Call::Insert(_) => Step::Or(self.place / 64, 1 << (self.place % 64)),
             Call::Contains(_) => Step::Load(self.place / 64),
             Call::Clear => Step::Zero(self.turn),
-            Call::Union => {
-                if self.turn % 2 == 0 {
-                    Step::Other(self.turn / 2)
-                } else {
-                    Step::Or(self.turn / 2, self.other)
-                }
-            }
-            Call::Intersect => {
-                if self.turn % 2 == 0 {
-                    Step::Other(self.turn / 2)
-                } else {
-                    Step::And(self.turn / 2, self.other)
-                }
-            }
+            Call::Union => self.read_or(Step::Or(self.turn / 2, self.other)),
+            Call::Intersect => self.read_or(Step::And(self.turn / 2, self.other)),
         })
+    }
+
+    // Of a pair of steps the read of the other filter's word, or else the write.
+    fn read_or(&self, write: Step) -> Step
+        ensures { result ≡ if self.now.turn % 2 == 0 then Other (self.now.turn / 2) else write }
+    {
+        if self.turn % 2 == 0 {
+            Step::Other(self.turn / 2)
+        } else {
+            write
+        }
     }
 
     /// Takes the word that the step asked for found.

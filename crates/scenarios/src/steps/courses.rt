@@ -1,53 +1,6 @@
 //! Runs of calls in an order that a schedule says: courses that were worked out by hand.
-ghost use Rattle.std.specs.Prelude.{◌≤◌, ◌<◌, ◌^◌, length};
-
-use fastbloom::{Call, End, Event, Record, Step, run};
-use std::alloc::Global;
-
-fn begin(party: usize, call: Call) -> Event {
-    Event::Begin { party, call }
-}
-
-fn go(party: usize) -> Event {
-    Event::Go { party, given: 0 }
-}
-
-fn go_given(party: usize, given: u64) -> Event {
-    Event::Go { party, given }
-}
-
-fn began(party: usize, call: Call) -> Record {
-    Record::Began { party, call }
-}
-
-fn did(party: usize, step: Step, found: u64, ended: End) -> Record {
-    Record::Did {
-        party,
-        step,
-        found,
-        ended,
-    }
-}
-
-// Whether a run of a schedule gives these records, and these words in the end.
-fn is_course(
-    alloc: Global,
-    words: &[u64],
-    num_hashes: u32,
-    parties: usize,
-    schedule: &[Event],
-    records: &[Record],
-    after: &[u64],
-) -> bool
-    requires some_words { 1 ≤ length words.now }
-    requires few_words { length words.now < 2 ^ 58 }
-    requires hashes { 1 ≤ num_hashes }
-{
-    let Ok(trace) = run(alloc, words, num_hashes, parties, schedule) else {
-        return false;
-    };
-    trace.start() == words && trace.records() == records && trace.words() == after
-}
+use super::tables::{began, begin, did, go, go_given, is_course};
+use fastbloom::{Call, End, Step};
 
 // Both inserts find one of their bits off, so both answer false: inserts aren't single steps.
 // Two steps found their bit off, and two bits were gained.
@@ -118,7 +71,7 @@ fn a_union_under_way_undoes_a_clear(rt: HostRuntime) {
     assert!(rt; is_course(rt.alloc(), &[5], 1, 2, &schedule, &records, &[5]));
 }
 
-// Hash 1 has the positions 0, 40 and 64 of 128 bits. The clear turns position 64 off after the insert.
+// Hash 1 has the positions 0, 40 and 64 of 128 bits. The clear turns position 64 off.
 #[test]
 fn a_clear_under_way_takes_from_an_insert(rt: HostRuntime) {
     let schedule = [
