@@ -1,9 +1,8 @@
 -- The laws of filters.
-use Rattle.std.proofs.Common.{◌≡◌, ℕ, ◌*◌, true, ◌||◌, length, sym, ◌∙◌, ap}
+use Rattle.std.proofs.Common.{◌≡◌, ◌*◌, true, length, sym, ◌∙◌, ap}
 use Rattle.std.proofs.lemmas.Bool.{or_right}
 use Rattle.bloom_parts.specs.Content.{content}
 use Rattle.bloom_parts.specs.Places.{are_in}
-use Rattle.fastbloom.specs.Filter.{Filter, contains}
 use Rattle.fastbloom.specs.Laws.{InsertLaw}
 use Rattle.fastbloom.proofs.PositionLemmas.{part-to}
 

@@ -1,6 +1,6 @@
 -- What a command to a filter of n bits and k hashes decides. The other filter of a union or an
 -- intersection counts by its content, so that commands and calls made of word steps share one text.
-use Rattle.std.specs.Prelude.{ℕ, Bool, List, Option, Some, None, map}
+use Rattle.std.specs.Prelude.{ℕ, Bool, List, map}
 use Rattle.bloom_parts.specs.Places.{positions}
 use Rattle.bloom_parts.specs.Deciders.{Decider, decides_nothing, makes_on, makes_all_off, makes_off_outside, state}
 

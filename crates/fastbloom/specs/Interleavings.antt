@@ -1,10 +1,10 @@
 -- What every interleaving of word steps gives, said of the finished course of a run. The theorems
 -- are this project's own; what they compare with are the commands on a whole filter.
-use Rattle.std.specs.Prelude.{ℕ, zero, suc, ◌+◌, ◌*◌, ◌/◌, ◌≤◌, ◌<◌, ◌≡◌, ◌↔◌, ◌⊎◌, ◌&&◌, ◌==◌, Bool, true, false, not, List, [], ◌∷◌, ◌++◌, length, Option, Some, None, slice_get, take, map, bit_and, count_by, if◌then◌else◌}
+use Rattle.std.specs.Prelude.{ℕ, zero, suc, ◌+◌, ◌/◌, ◌≤◌, ◌<◌, ◌≡◌, ◌↔◌, ◌⊎◌, ◌&&◌, ◌==◌, Bool, true, false, not, List, [], ◌∷◌, ◌++◌, Some, slice_get, take, map, bit_and, count_by, if◌then◌else◌}
 use Rattle.bloom_parts.specs.Content.{bit_is_on, content}
 use Rattle.bloom_parts.specs.Places.{are_in, IsPosition}
 use Rattle.fastbloom.specs.declared.steps.calls.Step.{Step}
-use Rattle.fastbloom.specs.declared.steps.calls.Step.TheVariants.{Load, Or, And, Zero, Other}
+use Rattle.fastbloom.specs.declared.steps.calls.Step.TheVariants.{Or, Other}
 use Rattle.fastbloom.specs.declared.steps.calls.Call.{Call}
 use Rattle.fastbloom.specs.declared.steps.calls.Call.TheVariants.{Insert, Contains, Clear, Union, Intersect}
 use Rattle.fastbloom.specs.declared.steps.calls.End.{End}

@@ -1,6 +1,6 @@
 -- How a machine's fields stand to a call and the steps made so far. No steps are stored. The
 -- machine is this project's own.
-use Rattle.std.specs.Prelude.{ℕ, ◌+◌, ◌-◌, ◌*◌, ◌/◌, ◌%◌, ◌^◌, ◌<◌, ◌≤◌, ◌≡◌, ◌↔◌, ◌⊎◌, Bool, true, false, not, ◌&&◌, ◌||◌, ◌==◌, List, [], ◌∷◌, ◌++◌, length, Option, Some, None, slice_get, if◌then◌else◌}
+use Rattle.std.specs.Prelude.{ℕ, ◌+◌, ◌*◌, ◌/◌, ◌%◌, ◌<◌, ◌≡◌, ◌↔◌, Bool, true, false, ◌==◌, List, length, Option, Some, None, slice_get, if◌then◌else◌}
 use Rattle.bloom_parts.specs.Chain.{IsAt}
 use Rattle.bloom_parts.specs.Content.{bit_is_on}
 use Rattle.bloom_parts.specs.Places.{place}
@@ -11,8 +11,8 @@ use Rattle.fastbloom.specs.declared.steps.calls.Call.TheVariants.{Insert, Contai
 use Rattle.fastbloom.specs.declared.steps.calls.End.{End}
 use Rattle.fastbloom.specs.declared.steps.calls.End.TheVariants.{Running, Done, Answer}
 use Rattle.fastbloom.specs.declared.steps.machine.Machine.{Machine}
-use Rattle.fastbloom.specs.Steps.{word_of, or_at, load_at}
-use Rattle.fastbloom.specs.Scripts.{Taken, Each, Any, IsScript, IsBeginning, IsNext, AreStepsOf, AllFoundOn, answer_of, most_steps}
+use Rattle.fastbloom.specs.Steps.{or_at, load_at}
+use Rattle.fastbloom.specs.Scripts.{Taken, Each, Any, IsScript, AreStepsOf, AllFoundOn, answer_of, most_steps}
 
 -- the next step of a call that takes the other filter's words in turn
 abbrev pub next_of_pairs : (ℕ → ℕ → Step) → Machine → Step

@@ -1,6 +1,6 @@
 -- What one step on one word decides. That a call is made of such steps, and which kinds there are,
 -- is this project's choice; a bit lies where it does in the crate fastbloom 0.17.0.
-use Rattle.std.specs.Prelude.{ℕ, ◌/◌, ◌%◌, ◌^◌, Bool, true, false, not, ◌&&◌, List, Option, Some, None, map, ◌==◌, if◌then◌else◌}
+use Rattle.std.specs.Prelude.{ℕ, ◌/◌, ◌%◌, ◌^◌, Bool, true, false, not, ◌&&◌, List, Some, None, map, ◌==◌, if◌then◌else◌}
 use Rattle.bloom_parts.specs.Content.{bit_is_on}
 use Rattle.bloom_parts.specs.Deciders.{Decider, decides_nothing, state}
 use Rattle.fastbloom.specs.declared.steps.calls.Step.{Step}

@@ -1,6 +1,6 @@
 use Rattle.std.proofs.Common.{◌∙◌, sym, subst, ◌<◌}
 use Rattle.fastbloom.specs.Steps.{word_of}
-use Rattle.fastbloom.proofs.StepLemmas.Driving.{asked-within, asked-over, linked-more}
+use Rattle.fastbloom.proofs.StepLemmas.Driving.{asked-within, linked-more}
 use Rattle.fastbloom.proofs.steps.driver.drive.Goals as goal
 
 pub step-found-requires : goal.step-found-requires

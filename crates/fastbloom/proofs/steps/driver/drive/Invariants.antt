@@ -1,4 +1,4 @@
-use Rattle.std.proofs.Common.{◌≡◌, ℕ}
+use Rattle.std.proofs.Common.{◌≡◌}
 use Rattle.fastbloom.specs.Turns.{left}
 use Rattle.fastbloom.proofs.StepLemmas.Driving.{HasMade}
 use Rattle.fastbloom.proofs.steps.driver.drive.Given as goal

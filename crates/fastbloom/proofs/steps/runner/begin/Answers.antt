@@ -1,4 +1,4 @@
-use Rattle.std.proofs.Common.{[], ◌∷◌, ◌<◌, ◌≡◌, ◌∙◌, ap, arith, inl, inr, length, length-set, refl, subst, sym}
+use Rattle.std.proofs.Common.{[], ◌∷◌, ◌<◌, ◌≡◌, ◌∙◌, ap, arith, inl, inr, length, length-set, refl, sym}
 use Rattle.std.proofs.lemmas.List.{append-nil}
 use Rattle.fastbloom.specs.declared.steps.calls.Record.TheVariants.{Began}
 use Rattle.fastbloom.specs.Worlds.{slot_runs}

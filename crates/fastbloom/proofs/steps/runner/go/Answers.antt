@@ -1,8 +1,7 @@
-use Rattle.std.proofs.Common.{[], ◌∷◌, ◌++◌, ◌<◌, ◌≡◌, ◌∙◌, ap, arith, inl, inr, length, length-set, refl, subst, sym, None, Some, slice_index_or, slice_set}
-use Rattle.std.proofs.lemmas.List.{append-nil, set-get_or}
+use Rattle.std.proofs.Common.{[], ◌∷◌, ◌++◌, ◌<◌, ◌≡◌, ◌∙◌, ap, arith, inl, inr, length, length-set, refl, sym, None, Some, slice_index_or}
+use Rattle.std.proofs.lemmas.List.{append-nil}
 use Rattle.fastbloom.specs.declared.steps.calls.Record.TheVariants.{Did}
 use Rattle.fastbloom.specs.Memories.{found_in}
-use Rattle.fastbloom.specs.Worlds.{IsWorld}
 use Rattle.fastbloom.proofs.RunLemmas.Following.{asks-going, asks-over, slot-read}
 use Rattle.fastbloom.proofs.RunLemmas.Keeping.{go_keeps, runs-slot, slot_same, step_inside, world-same}
 use Rattle.fastbloom.proofs.steps.runner.go.Goals.{After-ask}

@@ -1,6 +1,5 @@
-use Rattle.std.proofs.Common.{[], ◌<◌, ◌≤◌, ◌∙◌, ◌≡◌, ap, arith, length, subst, sym}
+use Rattle.std.proofs.Common.{[], ◌≤◌, ◌∙◌, ◌≡◌, ap, arith, length, subst, sym}
 use Rattle.fastbloom.specs.Traces.{Course, FollowsFrom, IsLawful, no_event}
-use Rattle.fastbloom.specs.Worlds.{Grows}
 use Rattle.fastbloom.proofs.RunLemmas.Following.{follows-next, lawful_world}
 use Rattle.fastbloom.proofs.RunLemmas.Ending.{ends_with_all}
 use Rattle.fastbloom.proofs.RunLemmas.Gaining.{counts_gains}
