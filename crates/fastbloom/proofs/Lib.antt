@@ -5,3 +5,5 @@ mod ListLemmas
 mod PositionLemmas
 mod RateLemmas
 mod ReplyLemmas
+mod RunLemmas
+mod StepLemmas

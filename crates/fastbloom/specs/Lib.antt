@@ -2,6 +2,15 @@ pub mod Builders
 pub mod CommandOf
 pub mod Commands
 pub mod Filter
+pub mod Interleavings
 pub mod Laws
+pub mod Machines
+pub mod Memories
+pub mod Moments
 pub mod Replies
+pub mod Scripts
 pub mod SourceHash
+pub mod Steps
+pub mod Traces
+pub mod Turns
+pub mod Worlds

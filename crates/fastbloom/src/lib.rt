@@ -4,6 +4,7 @@
 mod bloom;
 mod builder;
 pub mod laws;
+mod steps;
 
 pub use bloom::{BloomFilter, Command};
 pub use bloom_parts::bit_vector::Words;
@@ -13,3 +14,6 @@ pub use bloom_parts::math::{
     Bracket, Rate, expected_density, expected_false_pos, optimal_hashes, optimal_size,
 };
 pub use builder::BuilderWithBits;
+pub use steps::{
+    Call, End, Event, Machine, MemoryStore, Record, Step, Trace, WordStore, drive, run,
+};

@@ -9,3 +9,5 @@ mod hashing;
 mod lists;
 #[cfg(test)]
 mod sizing;
+#[cfg(test)]
+mod steps;
