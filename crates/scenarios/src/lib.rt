@@ -3,6 +3,5 @@
 
 #[cfg(test)]
 mod hashing;
-
 #[cfg(test)]
 mod lists;
