@@ -1,8 +1,12 @@
 -- What builders make.
-use Rattle.std.proofs.Common.{◌≡◌, ℕ, Option, subst}
+use Rattle.std.proofs.Common.{◌≡◌, ℕ, max, Option, ◌∙◌, subst}
+use Rattle.std.proofs.Math.Nat.{max_comm}
 use Rattle.std.specs.Iterator.{Count, size}
 use Rattle.std.specs.Iterator.Runs.{WholeRun}
-use Rattle.fastbloom.specs.Builders.{IsFilledBy}
+use Rattle.bloom_parts.specs.declared.math.rate.Rate.{Rate}
+use Rattle.bloom_parts.specs.Rates.{num_of, den_of}
+use Rattle.bloom_parts.specs.Sizing.{IsSizeFor}
+use Rattle.fastbloom.specs.Builders.{RateStart, IsSizeOf, IsFilledBy}
 use Rattle.fastbloom.specs.Filter.{Filter}
 use Rattle.fastbloom.specs.Replies.{InsertsItems}
 
@@ -18,3 +22,11 @@ filled-by is_made hash_of steps remaining it len start filter is_len made all =
       made = subst (λ n. is_made n start) is_len made;
       inserts = subst (λ i. WholeRun steps i (λ run. InsertsItems hash_of start run.items filter)) all.1 all.2;
     }
+
+-- the number of bits for a builder is that for its rate and its items, of which there is at least one
+pub size_of-builder : {S : Type 0} (start : RateStart S) (rate : Rate) (expected items bits : ℕ)
+    → rate ≡ start.rate → items ≡ max expected 1 → IsSizeFor items (num_of rate) (den_of rate) bits
+    → IsSizeOf start expected bits
+size_of-builder start rate expected items bits is_rate is_items sized =
+    subst (λ r. IsSizeFor (max 1 expected) (num_of r) (den_of r) bits) is_rate
+    (subst (λ i. IsSizeFor i (num_of rate) (den_of rate) bits) (is_items ∙ max_comm expected 1) sized)

@@ -1,6 +1,6 @@
 -- What contracts see of a builder, what it makes, and what it refuses. The filters are those of the crate
 -- fastbloom 0.17.0, builder.rs; the refusals and their order are this project's choice.
-use Rattle.std.specs.Prelude.{◌≡◌, ◌↔◌, ℕ, ◌*◌, ◌^◌, max, Bool, List, length, replicate, IsTrue, Option, Some, None, Result, Err, MatchOption, IsOkUnless, nat_eq, nat_le, if◌then◌else◌, refl}
+use Rattle.std.specs.Prelude.{◌≡◌, ◌↔◌, ℕ, ◌*◌, ◌^◌, max, Bool, List, length, replicate, IsTrue, Option, Some, None, IfSome, nat_eq, nat_le, if◌then◌else◌, refl}
 use Rattle.std.specs.Cmp.Lexicographic.{pointwise}
 use Rattle.std.specs.Coded.{Coded, code_by, coded×, coded_ℕ, coded_list}
 use Rattle.std.specs.Int.{div_ceil}
@@ -79,9 +79,10 @@ size_refusal bits =
     else if nat_le (2 ^ 58) (words_for bits) then Some TooManyWords
     else None
 
--- a call answers the refusal that is listed for it, and where none is, a value or `Memory`
-abbrev pub RefusesAs : {T : Type 0} → Option FilterError → Result T FilterError → Type 0
-RefusesAs listed result = MatchOption listed (IsOkUnless result Memory) (λ error. result ≡ Err error)
+-- the error of a call, if any, is the refusal that is listed for it, or `Memory` where none is listed
+abbrev pub RefusesAs : Option FilterError → Option FilterError → Type 0
+RefusesAs None error = IfSome error (λ e. e ≡ Memory)
+RefusesAs (Some refusal) error = error ≡ Some refusal
 
 -- a filter was made for the length of an iterator, and then each item that the iterator yields was inserted,
 -- in order

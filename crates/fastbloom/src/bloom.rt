@@ -14,10 +14,11 @@ mod positions;
 mod rates;
 mod sets;
 
-use crate::builder::BuilderWithBits;
+use crate::builder::{BuilderWithBits, BuilderWithFalsePositiveRate};
 use bloom_parts::bit_vector::{BitVec, Words};
 use bloom_parts::error::FilterError;
 use bloom_parts::hasher::DefaultHasher;
+use bloom_parts::math::Rate;
 pub use command::Command;
 use positions::{contains_positions, insert_positions};
 use std::alloc::Global;
@@ -55,7 +56,7 @@ impl BloomFilter {
         ensures words { IfOk result (λ builder.
             builder.words ≡ replicate (words_for num_bits) 0) }
         ensures key { IfOk result (λ builder. HasKey builder.hasher 0 0) }
-        ensures refused { RefusesAs (bits_refusal num_bits) result }
+        ensures refused { RefusesAs (bits_refusal num_bits) (result_err result) }
     {
         BuilderWithBits::with_num_bits(alloc, num_bits)
     }
@@ -70,6 +71,14 @@ impl BloomFilter {
         ensures refused { result_err result ≡ words_refusal (vec_len bit_vec) }
     {
         BuilderWithBits::from_vec(bit_vec)
+    }
+
+    /// A builder of a filter that is sized by a rate of false positives, under the zero key.
+    pub fn with_false_pos(rate: Rate) -> BuilderWithFalsePositiveRate
+        ensures rate { result.rate ≡ rate }
+        ensures key { HasKey result.hasher 0 0 }
+    {
+        BuilderWithFalsePositiveRate::new(rate)
     }
 }
 

@@ -6,14 +6,17 @@ ghost use Rattle.std.specs.Iterator.{IsFiniteIterable};
 ghost use Rattle.std.specs.Cmp.Lexicographic.{nat_list_eq_equiv};
 ghost use Rattle.std.specs.Cmp.{on_equiv, partial_equiv_from_equiv};
 ghost use Rattle.bloom_parts.specs.Keys.{HasKey, key_low, key_high};
-ghost use Rattle.fastbloom.specs.Builders.{words_for, words_refusal, bits_refusal, RefusesAs, IsSizedFor, IsFilledBy, same_start};
+ghost use Rattle.fastbloom.specs.Builders.{words_for, words_refusal, bits_refusal, size_refusal, RefusesAs, IsSizedFor, IsFilledBy, same_start};
 ghost use Rattle.fastbloom.specs.SourceHash.{item_hash};
+
+mod rate;
 
 use crate::bloom::BloomFilter;
 use bloom_parts::bit_vector::{BitVec, MAX_WORDS};
 use bloom_parts::error::FilterError;
 use bloom_parts::hasher::DefaultHasher;
 use bloom_parts::math::optimal_hashes;
+pub use rate::BuilderWithFalsePositiveRate;
 use std::alloc::Global;
 use std::hash::{BuildHasher, Hash};
 use std::marker::Model;
@@ -22,7 +25,7 @@ use std::marker::Model;
 fn zero_bits(alloc: Global, num_bits: usize) -> Result<BitVec, FilterError>
     requires { 0 < num_bits }
     ensures words { IfOk result (λ bits. bits ≡ replicate (words_for num_bits) 0) }
-    ensures refused { RefusesAs (bits_refusal num_bits) result }
+    ensures refused { RefusesAs (size_refusal num_bits) (result_err result) }
 {
     let num_words = num_bits.div_ceil(64);
     if num_words > MAX_WORDS {
@@ -55,7 +58,7 @@ impl BuilderWithBits {
         ensures words { IfOk result (λ builder.
             builder.words ≡ replicate (words_for num_bits) 0) }
         ensures key { IfOk result (λ builder. HasKey builder.hasher 0 0) }
-        ensures refused { RefusesAs (bits_refusal num_bits) result }
+        ensures refused { RefusesAs (bits_refusal num_bits) (result_err result) }
     {
         if num_bits == 0 {
             return Err(FilterError::ZeroBits);

@@ -12,4 +12,4 @@ pub use bloom_parts::hasher::{CloneBuildHasher, DefaultHasher, RandomDefaultHash
 pub use bloom_parts::math::{
     Bracket, Rate, expected_density, expected_false_pos, optimal_hashes, optimal_size,
 };
-pub use builder::BuilderWithBits;
+pub use builder::{BuilderWithBits, BuilderWithFalsePositiveRate};
