@@ -1,4 +1,5 @@
 mod AlgebraLemmas
+mod BuilderLemmas
 mod FoundLemmas
 mod LawLemmas
 mod ListLemmas

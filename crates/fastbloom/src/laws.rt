@@ -5,7 +5,7 @@ ghost use Rattle.bloom_parts.specs.Keys.{HasKey};
 ghost use Rattle.bloom_parts.specs.Sip.{sip};
 ghost use Rattle.bloom_parts.specs.declared.hasher.CloneBuildHasher.{CloneBuildHasher as Builder};
 ghost use Rattle.fastbloom.specs.Filter.{Unites, Intersects};
-ghost use Rattle.fastbloom.specs.Laws.{InsertLaw, KeptByInsertLaw, KeptByUnionLaw, KeptByListLaw, KeptByInsertsLaw, IntersectionLaw, UnionLaw, ClearLaw, IsCommutative, IsAssociative, IsIdempotent, RebuiltLaw, EqualityLaw, JoinedListsLaw, FoundLaw, FoundAfterInsertsLaw, FoundAfterReplayLaw};
+ghost use Rattle.fastbloom.specs.Laws.{InsertLaw, KeptByInsertLaw, KeptByUnionLaw, KeptByListLaw, KeptByInsertsLaw, IntersectionLaw, UnionLaw, ClearLaw, IsCommutative, IsAssociative, IsIdempotent, RebuiltLaw, EqualityLaw, EqualStartsLaw, EqualRateStartsLaw, JoinedListsLaw, FoundLaw, FoundAfterInsertsLaw, FoundAfterReplayLaw};
 ghost use Rattle.fastbloom.specs.SourceHash.{hash_by, IsFunctionOfBytes};
 
 use bloom_parts::hasher::{DefaultHasher, RandomDefaultHasher};
@@ -66,6 +66,12 @@ pub fn rebuilt_answers_alike<S>()
 /// Filters are equal exactly if their words and numbers of hashes are.
 pub fn equality_of_filters<S>()
     ensures { EqualityLaw S }
+{}
+
+/// Builders are equal exactly if their words, or their rates as fractions, are.
+pub fn equality_of_builders<S>()
+    ensures words { EqualStartsLaw S }
+    ensures rates { EqualRateStartsLaw S }
 {}
 
 /// Calls one after the other do what one list of them does, since each is a list of one command.
