@@ -1,8 +1,7 @@
 //! Builders: sizes, counts, refusals and items at values worked out by hand from their definitions.
 ghost use Rattle.std.specs.Prelude.{◌≤◌, length};
 ghost use Rattle.std.specs.Iterator.{at_most};
-ghost use Rattle.fastbloom.specs.Builders.{IsSizedFor};
-ghost use Rattle.fastbloom.specs.Filter.{Filter};
+ghost use Rattle.fastbloom.specs.Builders.{sized_filter};
 ghost use Rattle.fastbloom.specs.Replies.{InsertsItems};
 ghost use Rattle.fastbloom.specs.SourceHash.{item_hash};
 
@@ -13,9 +12,8 @@ use std::test::Fail;
 
 // The items of a slice, in order: what `items` says of any iterator tells its callers this.
 fn fill_by_slice<S: BuildHasher, T: Hash>(builder: BuilderWithBits<S>, items: &[T]) -> BloomFilter<S>
-    ensures { (start : Filter S) × IsSizedFor builder (length items.now) start
-        × InsertsItems (item_hash S.Hasher.write S.Hasher.finish S.build_hasher T.hash_input)
-        start items.now result }
+    ensures { InsertsItems (item_hash S.Hasher.write S.Hasher.finish S.build_hasher T.hash_input)
+        (sized_filter builder (length items.now)) items.now result }
 {
     builder.items(items)
 }
