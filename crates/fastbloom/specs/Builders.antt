@@ -4,15 +4,12 @@ use Rattle.std.specs.Prelude.{◌≡◌, ◌↔◌, ℕ, ◌*◌, ◌^◌, max, 
 use Rattle.std.specs.Cmp.Lexicographic.{pointwise}
 use Rattle.std.specs.Coded.{Coded, code_by, coded×, coded_ℕ, coded_list}
 use Rattle.std.specs.Int.{div_ceil}
-use Rattle.std.specs.Iterator.{Count, items_left}
-use Rattle.std.specs.Iterator.Runs.{WholeRun}
 use Rattle.bloom_parts.specs.declared.error.FilterError.{FilterError}
 use Rattle.bloom_parts.specs.declared.error.FilterError.TheVariants.{ZeroBits, EmptyWords, TooManyWords, SizeOverflow, Memory}
 use Rattle.bloom_parts.specs.declared.math.rate.Rate.{Rate}
 use Rattle.bloom_parts.specs.Rates.{num_of, den_of, same_rate}
 use Rattle.bloom_parts.specs.Sizing.{IsSizeFor, hashes_for}
 use Rattle.fastbloom.specs.Filter.{Filter}
-use Rattle.fastbloom.specs.Replies.{InsertsItems}
 
 -- the words and the hasher of the filter to be
 pub record Start (S : Type 0) : Type 0 where
@@ -42,21 +39,26 @@ same_rate_start a b = same_rate a.rate b.rate
 abbrev pub words_for : ℕ → ℕ
 words_for bits = div_ceil bits 64
 
--- a filter of a builder's words, with as many hashes as suit its bits and these items; none counts as one
-pub record IsSizedFor {S : Type 0} (start : Start S) (items : ℕ) (filter : Filter S) : Type 0 where
-  pub words : filter.words ≡ start.words
-  pub hashes : filter.hashes ≡ hashes_for (64 * length filter.words) (max 1 items)
-  pub hasher : filter.hasher ≡ start.hasher
+-- the filter of a builder's words, with as many hashes as suit its bits and these items; none counts as one
+abbrev pub sized_filter : {S : Type 0} → Start S → ℕ → Filter S
+sized_filter start items = record {
+  words = start.words;
+  hashes = hashes_for (64 * length start.words) (max 1 items);
+  hasher = start.hasher;
+}
+
+-- zero words for this many bits, and the hasher of a rate's builder
+abbrev pub empty_start : {S : Type 0} → RateStart S → ℕ → Start S
+empty_start start bits = record { words = replicate (words_for bits) 0; hasher = start.hasher }
 
 -- the number of bits for these items at a builder's rate; no items count as one
 abbrev pub IsSizeOf : {S : Type 0} → RateStart S → ℕ → ℕ → Type 0
 IsSizeOf start items bits = IsSizeFor (max 1 items) (num_of start.rate) (den_of start.rate) bits
 
--- a filter of zero words for these items at a builder's rate, with as many hashes as suit its bits
-pub record IsMadeFor {S : Type 0} (start : RateStart S) (items : ℕ) (filter : Filter S) : Type 0 where
-  pub words : (bits : ℕ) × IsSizeOf start items bits × (filter.words ≡ replicate (words_for bits) 0)
-  pub hashes : filter.hashes ≡ hashes_for (64 * length filter.words) (max 1 items)
-  pub hasher : filter.hasher ≡ start.hasher
+-- the filter of zero words for these items at a builder's rate, with as many hashes as suit its bits
+abbrev pub IsMadeFor : {S : Type 0} → RateStart S → ℕ → Filter S → Type 0
+IsMadeFor start items filter =
+    (bits : ℕ) × IsSizeOf start items bits × (filter ≡ sized_filter (empty_start start bits) items)
 
 -- why this many words are refused, if they are
 abbrev pub words_refusal : ℕ → Option FilterError
@@ -83,11 +85,3 @@ size_refusal bits =
 abbrev pub RefusesAs : Option FilterError → Option FilterError → Type 0
 RefusesAs None error = IfSome error (λ e. e ≡ Memory)
 RefusesAs (Some refusal) error = error ≡ Some refusal
-
--- a filter was made for the length of an iterator, and then each item that the iterator yields was inserted,
--- in order
-pub record IsFilledBy {S T I : Type 0} (is_made : ℕ → Filter S → Type 0) (hash_of : S → T → ℕ)
-    (steps : I → Option T → I → Type 0) (remaining : I → Count) (it : I) (filter : Filter S) : Type 0 where
-  pub start : Filter S
-  pub made : is_made (items_left remaining it) start
-  pub inserts : WholeRun steps it (λ run. InsertsItems hash_of start run.items filter)

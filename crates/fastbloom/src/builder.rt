@@ -2,11 +2,13 @@
 ghost use Rattle.std.specs.Prelude.{◌≡◌, ◌<◌, length, replicate, vec_len, IfOk, max, nat_eq};
 ghost use Rattle.std.specs.Result.{result_err};
 ghost use Rattle.std.specs.Int.{w128, to_be_bytes};
-ghost use Rattle.std.specs.Iterator.{IsFiniteIterable};
+ghost use Rattle.std.specs.Iterator.{IsFiniteIterable, items_left};
+ghost use Rattle.std.specs.Iterator.Runs.{WholeRun};
 ghost use Rattle.std.specs.Cmp.Lexicographic.{nat_list_eq_equiv};
 ghost use Rattle.std.specs.Cmp.{on_equiv, partial_equiv_from_equiv};
 ghost use Rattle.bloom_parts.specs.Keys.{HasKey, key_low, key_high};
-ghost use Rattle.fastbloom.specs.Builders.{words_for, words_refusal, bits_refusal, size_refusal, RefusesAs, IsSizedFor, IsFilledBy, same_start};
+ghost use Rattle.fastbloom.specs.Builders.{words_for, words_refusal, bits_refusal, size_refusal, RefusesAs, sized_filter, same_start};
+ghost use Rattle.fastbloom.specs.Replies.{InsertsItems};
 ghost use Rattle.fastbloom.specs.SourceHash.{item_hash};
 
 mod rate;
@@ -123,7 +125,7 @@ impl<S> BuilderWithBits<S> {
     }
     /// The filter with as many hashes as suit its bits and this many items, where 0 counts as 1.
     pub fn expected_items(self, expected_items: usize) -> BloomFilter<S>
-        ensures { IsSizedFor self expected_items result }
+        ensures { result ≡ sized_filter self expected_items }
     {
         let num_hashes = optimal_hashes(self.bits.num_bits(), expected_items.max(1));
         self.hashes(num_hashes)
@@ -140,8 +142,9 @@ impl<S: BuildHasher> BuilderWithBits<S> {
         ensures words { length result.words ≡ length self.words }
         ensures hasher { result.hasher ≡ self.hasher }
         ensures content { (it : I.IntoIter) × I.into_iter_gives items it
-            × IsFilledBy (IsSizedFor self) (item_hash S.Hasher.write S.Hasher.finish S.build_hasher
-            (λ item. T.hash_input item.now)) I.IntoIter.next_gives I.IntoIter.remaining it result }
+            × WholeRun I.IntoIter.next_gives it (λ run. InsertsItems (item_hash S.Hasher.write
+            S.Hasher.finish S.build_hasher (λ item. T.hash_input item.now))
+            (sized_filter self (items_left I.IntoIter.remaining it)) run.items result) }
     {
         let items = items.into_iter();
         let mut filter = self.expected_items(items.len());

@@ -1,7 +1,7 @@
 //! Builders: sizes, counts, refusals and items at values worked out by hand from their definitions.
-ghost use Rattle.std.specs.Prelude.{◌≡◌, ◌*◌, ◌≤◌, length, max};
+ghost use Rattle.std.specs.Prelude.{◌≤◌, length};
 ghost use Rattle.std.specs.Iterator.{at_most};
-ghost use Rattle.bloom_parts.specs.Sizing.{hashes_for};
+ghost use Rattle.fastbloom.specs.Builders.{sized_filter};
 ghost use Rattle.fastbloom.specs.Replies.{InsertsItems};
 ghost use Rattle.fastbloom.specs.SourceHash.{item_hash};
 
@@ -10,21 +10,13 @@ use std::cell::Cell;
 use std::hash::{BuildHasher, Hash, Hasher};
 use std::test::Fail;
 
-// The items of a slice fill a filter: what `items` says of any iterator tells its callers this.
+// The items of a slice, in order: what `items` says of any iterator tells its callers this.
 fn fill_by_slice<S: BuildHasher, T: Hash>(
     builder: BuilderWithBits<S>,
     items: &[T],
 ) -> BloomFilter<S>
-    ensures hashes { result.hashes
-        ≡ hashes_for (64 * length builder.words) (max 1 (length items.now)) }
-    ensures content { InsertsItems (item_hash S.Hasher.write S.Hasher.finish S.build_hasher
-        T.hash_input) (record {
-          words = builder.words;
-          hashes = hashes_for
-              (64 * length builder.words) (max 1 (length items.now));
-          hasher = builder.hasher;
-        })
-        items.now result }
+    ensures { InsertsItems (item_hash S.Hasher.write S.Hasher.finish S.build_hasher T.hash_input)
+        (sized_filter builder (length items.now)) items.now result }
 {
     builder.items(items)
 }

@@ -3,10 +3,13 @@ ghost use Rattle.std.specs.Prelude.{◌≡◌, ℕ, ◌<◌, length, IfOk};
 ghost use Rattle.std.specs.Result.{result_err};
 ghost use Rattle.std.specs.Int.{w128, to_be_bytes};
 ghost use Rattle.std.specs.Iterator.{IsFiniteIterable, items_left};
+ghost use Rattle.std.specs.Iterator.Runs.{WholeRun};
 ghost use Rattle.std.specs.Cmp.{on_equiv, partial_equiv_from_equiv};
 ghost use Rattle.bloom_parts.specs.Keys.{HasKey, key_low, key_high};
 ghost use Rattle.bloom_parts.specs.RateLaws.{same_rate-laws};
-ghost use Rattle.fastbloom.specs.Builders.{size_refusal, RefusesAs, IsSizeOf, IsMadeFor, IsFilledBy, same_rate_start};
+ghost use Rattle.fastbloom.specs.Builders.{size_refusal, RefusesAs, IsSizeOf, IsMadeFor, same_rate_start};
+ghost use Rattle.fastbloom.specs.Filter.{Filter};
+ghost use Rattle.fastbloom.specs.Replies.{InsertsItems};
 ghost use Rattle.fastbloom.specs.SourceHash.{item_hash};
 
 use super::{BuilderWithBits, zero_bits};
@@ -104,8 +107,10 @@ impl<S: BuildHasher + Drop> BuilderWithFalsePositiveRate<S> {
         requires { IsFiniteIterable I.into_iter_gives I.IntoIter.can_next I.IntoIter.remaining items }
         ensures hasher { IfOk result (λ filter. filter.hasher ≡ self.hasher) }
         ensures content { IfOk result (λ filter. (it : I.IntoIter) × I.into_iter_gives items it
-            × IsFilledBy (IsMadeFor self) (item_hash S.Hasher.write S.Hasher.finish S.build_hasher
-            (λ item. T.hash_input item.now)) I.IntoIter.next_gives I.IntoIter.remaining it filter) }
+            × (made : Filter S) × IsMadeFor self (items_left I.IntoIter.remaining it) made
+            × WholeRun I.IntoIter.next_gives it (λ run. InsertsItems (item_hash S.Hasher.write
+            S.Hasher.finish S.build_hasher (λ item. T.hash_input item.now))
+            made run.items filter)) }
         ensures refused { (it : I.IntoIter) × I.into_iter_gives items it
             × (bits : ℕ) × IsSizeOf self (items_left I.IntoIter.remaining it) bits
             × RefusesAs (size_refusal bits) (result_err result) }
