@@ -8,6 +8,7 @@ pub mod Memories
 pub mod Moments
 pub mod Replies
 pub mod Scripts
+pub mod Sequences
 pub mod Steps
 pub mod Traces
 pub mod Turns
