@@ -1,3 +1,22 @@
+mod BracketFacts
+mod BracketLemmas
+mod BufferLemmas
 pub mod ContentLemmas
+mod EndLemmas
+mod HalvingLemmas
+mod HashedLemmas
+mod MergeLemmas
+mod NumberLemmas
 pub mod PlaceLemmas
+mod PowerBounds
+mod PowerDigits
+mod PowerWidths
+mod RootLemmas
+mod RoundingLemmas
+mod SetLemmas
+mod ShareLemmas
+mod SipFacts
+mod SipLemmas
+mod SizingFacts
 mod StandardFacts
+mod WordLemmas

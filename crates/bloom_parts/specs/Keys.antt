@@ -1,9 +1,19 @@
--- The key of the default hasher: the two little-endian words of sixteen bytes (SipHash, J.-P. Aumasson
--- and D. J. Bernstein, 2012, section 2.1).
-use Rattle.std.specs.Prelude.{◌≡◌, ℕ}
-use Rattle.bloom_parts.specs.declared.hasher.DefaultHasher.{DefaultHasher}
+-- The key of the default hasher: the two little-endian words of sixteen bytes (J.-P. Aumasson and
+-- D. J. Bernstein, "SipHash: a fast short-input PRF", 2012, section 2).
+use Rattle.std.specs.Prelude.{ℕ, List, [], take, drop}
+use Rattle.std.specs.Int.{w64, from_le_bytes}
+use Rattle.bloom_parts.specs.declared.hasher.CloneBuildHasher.{CloneBuildHasher}
+use Rattle.bloom_parts.specs.declared.hasher.sip.RandomDefaultHasher.{RandomDefaultHasher}
+use Rattle.bloom_parts.specs.Hashed.{Hashed}
 
--- the hasher has this key
-pub record HasKey (hasher : DefaultHasher) (k0 k1 : ℕ) : Type 0 where
-  pub low : hasher.k0 ≡ k0
-  pub high : hasher.k1 ≡ k1
+-- the word of the first eight bytes
+abbrev pub key_low : List ℕ → ℕ
+key_low seed = from_le_bytes w64 (take 8 seed)
+
+-- the word of the other eight
+abbrev pub key_high : List ℕ → ℕ
+key_high seed = from_le_bytes w64 (drop 8 seed)
+
+-- each hasher that it builds has this key and has taken in nothing
+abbrev pub HasKey : CloneBuildHasher RandomDefaultHasher → ℕ → ℕ → Type 0
+HasKey builder k0 k1 = Hashed builder.hasher k0 k1 []

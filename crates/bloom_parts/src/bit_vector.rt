@@ -1,14 +1,16 @@
 //! Bits in words of 64.
-ghost use Rattle.std.specs.Prelude.{◌≡◌, ℕ, ◌*◌, ◌/◌, ◌%◌, ◌^◌, ◌<◌, ◌≤◌, ◌||◌, ◌==◌, IsTrue, List, length, IfOk, IsOkUnless, nat_eq};
+ghost use Rattle.std.specs.Prelude.{◌≡◌, ℕ, ◌*◌, ◌/◌, ◌%◌, ◌^◌, ◌<◌, ◌≤◌, ◌||◌, ◌&&◌, ◌==◌, false, IsTrue, List, length, IfOk, IsOkUnless, nat_eq};
 ghost use Rattle.std.specs.Cmp.Lexicographic.{pointwise, nat_list_eq_equiv};
 ghost use Rattle.std.specs.Cmp.{partial_equiv_from_equiv};
 ghost use Rattle.std.specs.Iterator.{IsFinite};
 ghost use Rattle.std.specs.Iterator.Runs.{EachRunFrom, WholeRun};
 ghost use Rattle.bloom_parts.specs.Content.{content, index_of};
 
+mod kernels;
 mod words;
 
 use crate::error::FilterError;
+use kernels::{and_words, clear_words, or_words};
 use std::alloc::Global;
 use std::marker::Model;
 pub use words::Words;
@@ -62,7 +64,8 @@ impl BitVec {
     pub fn from_words<I: Iterator<Item = u64>>(alloc: Global, words: I) -> Result<Self, FilterError>
         requires can { I.can_next words }
         requires ends { IsFinite (I.remaining words) }
-        requires fits { EachRunFrom I.next_gives words (λ p. IsTrue p.whole → (1 ≤ length p.items) × (length p.items < 2 ^ 58)) }
+        requires fits { EachRunFrom I.next_gives words
+            (λ p. IsTrue p.whole → (1 ≤ length p.items) × (length p.items < 2 ^ 58)) }
         ensures words { IfOk result (λ v. WholeRun I.next_gives words (λ p. v ≡ p.items)) }
         ensures refused { IsOkUnless result FilterError.Memory }
     {
@@ -84,12 +87,14 @@ impl BitVec {
         ensures value { result ≡ 64 * length self.now }
         ensures least { 64 ≤ result }
     {
-        self.words.len() * 64
+        self.len() * 64
     }
 
     /// The words, word 0 first.
     pub fn as_slice(&self) -> &[u64]
-        ensures { result.now ≡ self.now }
+        ensures value { result.now ≡ self.now }
+        ensures least { 1 ≤ length result.now }
+        ensures most { length result.now < 2 ^ 58 }
     {
         self.words.as_slice()
     }
@@ -122,6 +127,34 @@ impl BitVec {
         self.words[word] |= mask;
         was_on
     }
+
+    /// Turns every position off.
+    pub fn clear(&mut self)
+        ensures content { (p : ℕ) → content self.new p ≡ false }
+        ensures shape { length self.new ≡ length self.old }
+    {
+        clear_words(&mut self.words);
+    }
+
+    /// Turns on what is on in the other.
+    pub fn union(&mut self, other: &BitVec)
+        requires { length self.old ≡ length other.now }
+        ensures content { (p : ℕ) → content self.new p
+            ≡ (content self.old p || content other.now p) }
+        ensures shape { length self.new ≡ length self.old }
+    {
+        or_words(&mut self.words, other.words.as_slice());
+    }
+
+    /// Turns off what is off in the other.
+    pub fn intersect(&mut self, other: &BitVec)
+        requires { length self.old ≡ length other.now }
+        ensures content { (p : ℕ) → content self.new p
+            ≡ (content self.old p && content other.now p) }
+        ensures shape { length self.new ≡ length self.old }
+    {
+        and_words(&mut self.words, other.words.as_slice());
+    }
 }
 
 impl PartialEq for BitVec {
@@ -130,7 +163,7 @@ impl PartialEq for BitVec {
     ghost laws = { partial_equiv_from_equiv nat_list_eq_equiv };
 
     fn eq(&self, other: &Self) -> bool {
-        self.words.as_slice() == other.words.as_slice()
+        self.words == other.words
     }
 }
 

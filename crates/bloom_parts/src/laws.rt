@@ -1,5 +1,14 @@
-//! Laws of the definitions that contracts cite. These functions do nothing: their contracts are the laws.
+//! Laws of the definitions that contracts cite. These functions do nothing: their contracts are the
+//! laws.
+ghost use Rattle.std.specs.Prelude.{ℕ, ◌<◌, slice_index};
+ghost use Rattle.bloom_parts.specs.Content.{EqualWordsLaw, BoundLaw};
+ghost use Rattle.bloom_parts.specs.Laws.{CuttingLaw, JoiningLaw};
 ghost use Rattle.bloom_parts.specs.Places.{PositionsLaw, SubsetLaw, RangeLaw};
+ghost use Rattle.bloom_parts.specs.Roots.{IsRoot};
+ghost use Rattle.bloom_parts.specs.Shares.{ShareLaw, ReachedLaw, EvenLaw};
+ghost use Rattle.bloom_parts.specs.Sizing.{HalfUpLaw, CoverLaw, NoneLaw, MostLaw, OneSizeLaw};
+
+use crate::math::ROOTS;
 
 /// The positions of a hash are the first places of its chain, and each lies within the bits.
 pub fn positions_of_hash()
@@ -10,4 +19,45 @@ pub fn positions_of_hash()
 /// The test of a hash is whether its positions are a part of the set.
 pub fn test_of_hash()
     ensures { SubsetLaw }
+{}
+
+/// As many words are equal exactly if their contents are, and no position lies past the bits.
+pub fn content_of_words()
+    ensures equality { EqualWordsLaw }
+    ensures range { BoundLaw }
+{}
+
+/// With one hash each position has a run of the hashes, and runs differ in length by one at most.
+pub fn shares_of_positions()
+    ensures share { ShareLaw }
+    ensures reached { ReachedLaw }
+    ensures even { EvenLaw }
+{}
+
+/// Root `j` of the table is the greatest number whose power to 64 is at most 2^(2048 + j).
+pub fn roots_of_table()
+    ensures { (j : ℕ) → j < 64 → IsRoot j (slice_index ROOTS j) }
+{}
+
+/// The halvings of a rate are never too few, none for a rate of one or more, and at most 4096.
+pub fn halvings_of_rate()
+    ensures cover { CoverLaw }
+    ensures none { NoneLaw }
+    ensures most { MostLaw }
+{}
+
+/// One number alone is the size for items and a rate, so what is answered and refused is decided.
+pub fn size_of_rate()
+    ensures { OneSizeLaw }
+{}
+
+/// A quotient rounded half up is the greatest whole number that is at most a half above it.
+pub fn half_up_of_quotient()
+    ensures { HalfUpLaw }
+{}
+
+/// How bytes are cut into writes doesn't change their hash, which is SipHash of them joined.
+pub fn hash_of_pieces()
+    ensures cutting { CuttingLaw }
+    ensures joining { JoiningLaw }
 {}

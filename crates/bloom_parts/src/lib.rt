@@ -5,3 +5,4 @@ pub mod bit_vector;
 pub mod error;
 pub mod hasher;
 pub mod laws;
+pub mod math;

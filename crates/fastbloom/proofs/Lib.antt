@@ -1,5 +1,10 @@
+mod AlgebraLemmas
+mod BuilderLemmas
+mod FoundLemmas
 mod LawLemmas
+mod ListLemmas
 mod PositionLemmas
+mod RateLemmas
 mod ReplyLemmas
 mod RunLemmas
 mod StepLemmas

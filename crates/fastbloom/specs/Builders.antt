@@ -1,8 +1,18 @@
--- What contracts see of a builder, and which words it refuses. The refusals are this project's choice.
-use Rattle.std.specs.Prelude.{ℕ, ◌^◌, List, Option, Some, None, nat_eq, nat_le, if◌then◌else◌, refl}
+-- What contracts see of a builder, what it makes, and what it refuses. The filters are those of the crate
+-- fastbloom 0.17.0, builder.rs; the refusals and their order are this project's choice.
+use Rattle.std.specs.Prelude.{◌≡◌, ◌↔◌, ℕ, ◌*◌, ◌^◌, max, Bool, List, length, replicate, IsTrue, Option, Some, None, IfSome, nat_eq, nat_le, if◌then◌else◌, refl}
+use Rattle.std.specs.Cmp.Lexicographic.{pointwise}
 use Rattle.std.specs.Coded.{Coded, code_by, coded×, coded_ℕ, coded_list}
+use Rattle.std.specs.Int.{div_ceil}
+use Rattle.std.specs.Iterator.{Count, items_left}
+use Rattle.std.specs.Iterator.Runs.{WholeRun}
 use Rattle.bloom_parts.specs.declared.error.FilterError.{FilterError}
-use Rattle.bloom_parts.specs.declared.error.FilterError.TheVariants.{EmptyWords, TooManyWords}
+use Rattle.bloom_parts.specs.declared.error.FilterError.TheVariants.{ZeroBits, EmptyWords, TooManyWords, SizeOverflow, Memory}
+use Rattle.bloom_parts.specs.declared.math.rate.Rate.{Rate}
+use Rattle.bloom_parts.specs.Rates.{num_of, den_of, same_rate}
+use Rattle.bloom_parts.specs.Sizing.{IsSizeFor, hashes_for}
+use Rattle.fastbloom.specs.Filter.{Filter}
+use Rattle.fastbloom.specs.Replies.{InsertsItems}
 
 -- the words and the hasher of the filter to be
 pub record Start (S : Type 0) : Type 0 where
@@ -15,9 +25,69 @@ start_code {S} code =
     code_by (List ℕ × S) (coded× (coded_list coded_ℕ) code)
     (λ b. (b.words, b.hasher)) (λ p. record { words = p.0; hasher = p.1 }) (λ _. refl)
 
+-- the rate of false positives and the hasher of the filter to be
+pub record RateStart (S : Type 0) : Type 0 where
+  pub rate : Rate
+  pub hasher : S
+
+-- whether two builders have equal words
+abbrev pub same_start : {S : Type 0} → Start S → Start S → Bool
+same_start a b = pointwise nat_eq a.words b.words
+
+-- whether two builders have equal rates
+abbrev pub same_rate_start : {S : Type 0} → RateStart S → RateStart S → Bool
+same_rate_start a b = same_rate a.rate b.rate
+
+-- the number of words for this many bits
+abbrev pub words_for : ℕ → ℕ
+words_for bits = div_ceil bits 64
+
+-- a filter of a builder's words, with as many hashes as suit its bits and these items; none counts as one
+pub record IsSizedFor {S : Type 0} (start : Start S) (items : ℕ) (filter : Filter S) : Type 0 where
+  pub words : filter.words ≡ start.words
+  pub hashes : filter.hashes ≡ hashes_for (64 * length filter.words) (max 1 items)
+  pub hasher : filter.hasher ≡ start.hasher
+
+-- the number of bits for these items at a builder's rate; no items count as one
+abbrev pub IsSizeOf : {S : Type 0} → RateStart S → ℕ → ℕ → Type 0
+IsSizeOf start items bits = IsSizeFor (max 1 items) (num_of start.rate) (den_of start.rate) bits
+
+-- a filter of zero words for these items at a builder's rate, with as many hashes as suit its bits
+pub record IsMadeFor {S : Type 0} (start : RateStart S) (items : ℕ) (filter : Filter S) : Type 0 where
+  pub words : (bits : ℕ) × IsSizeOf start items bits × (filter.words ≡ replicate (words_for bits) 0)
+  pub hashes : filter.hashes ≡ hashes_for (64 * length filter.words) (max 1 items)
+  pub hasher : filter.hasher ≡ start.hasher
+
 -- why this many words are refused, if they are
 abbrev pub words_refusal : ℕ → Option FilterError
 words_refusal w =
     if nat_eq w 0 then Some EmptyWords
     else if nat_le (2 ^ 58) w then Some TooManyWords
     else None
+
+-- why this many bits are refused, if they are
+abbrev pub bits_refusal : ℕ → Option FilterError
+bits_refusal bits =
+    if nat_eq bits 0 then Some ZeroBits
+    else if nat_le (2 ^ 58) (words_for bits) then Some TooManyWords
+    else None
+
+-- why a size in bits is refused, if it is
+abbrev pub size_refusal : ℕ → Option FilterError
+size_refusal bits =
+    if nat_le (2 ^ 64) bits then Some SizeOverflow
+    else if nat_le (2 ^ 58) (words_for bits) then Some TooManyWords
+    else None
+
+-- the error of a call, if any, is the refusal that is listed for it, or `Memory` where none is listed
+abbrev pub RefusesAs : Option FilterError → Option FilterError → Type 0
+RefusesAs None error = IfSome error (λ e. e ≡ Memory)
+RefusesAs (Some refusal) error = error ≡ Some refusal
+
+-- a filter was made for the length of an iterator, and then each item that the iterator yields was inserted,
+-- in order
+pub record IsFilledBy {S T I : Type 0} (is_made : ℕ → Filter S → Type 0) (hash_of : S → T → ℕ)
+    (steps : I → Option T → I → Type 0) (remaining : I → Count) (it : I) (filter : Filter S) : Type 0 where
+  pub start : Filter S
+  pub made : is_made (items_left remaining it) start
+  pub inserts : WholeRun steps it (λ run. InsertsItems hash_of start run.items filter)

@@ -1,5 +1,6 @@
 -- What contracts see of a Bloom filter, and what a caller tests of it (B. H. Bloom, 1970).
-use Rattle.std.specs.Prelude.{◌≡◌, ℕ, ◌*◌, Bool, true, ◌||◌, List, length, refl}
+use Rattle.std.specs.Prelude.{◌≡◌, ℕ, ◌*◌, Bool, false, ◌||◌, ◌&&◌, List, length, refl, nat_eq}
+use Rattle.std.specs.Cmp.Lexicographic.{pointwise}
 use Rattle.std.specs.Coded.{Coded, code_by, coded×, coded_ℕ, coded_list}
 use Rattle.bloom_parts.specs.Content.{content}
 use Rattle.bloom_parts.specs.Places.{positions, are_in}
@@ -33,3 +34,25 @@ pub record Inserts {S : Type 0} (old : Filter S) (hash : ℕ) (new : Filter S) (
       ≡ (content old.words p || positions (64 * length old.words) old.hashes hash p)
   pub shape : SameShape old new
   pub hasher : new.hasher ≡ old.hasher
+
+-- from old to new every position was turned off
+pub record Clears {S : Type 0} (old new : Filter S) : Type 0 where
+  pub bits : (p : ℕ) → content new.words p ≡ false
+  pub shape : SameShape old new
+  pub hasher : new.hasher ≡ old.hasher
+
+-- from old to new the positions of the other were turned on
+pub record Unites {S : Type 0} (old other new : Filter S) : Type 0 where
+  pub bits : (p : ℕ) → content new.words p ≡ (content old.words p || content other.words p)
+  pub shape : SameShape old new
+  pub hasher : new.hasher ≡ old.hasher
+
+-- from old to new the positions that the other lacks were turned off
+pub record Intersects {S : Type 0} (old other new : Filter S) : Type 0 where
+  pub bits : (p : ℕ) → content new.words p ≡ (content old.words p && content other.words p)
+  pub shape : SameShape old new
+  pub hasher : new.hasher ≡ old.hasher
+
+-- whether words and hash counts are equal, which is equality of filters
+abbrev pub same_filter : {S : Type 0} → Filter S → Filter S → Bool
+same_filter f g = pointwise nat_eq f.words g.words && nat_eq f.hashes g.hashes

@@ -1,4 +1,5 @@
 pub mod Builders
+pub mod CommandOf
 pub mod Commands
 pub mod Filter
 pub mod Interleavings
@@ -9,6 +10,7 @@ pub mod Moments
 pub mod Replies
 pub mod Scripts
 pub mod Sequences
+pub mod SourceHash
 pub mod Steps
 pub mod Traces
 pub mod Turns

@@ -1,5 +1,5 @@
 -- What commands answer: the subset test just before each of them.
-use Rattle.std.specs.Prelude.{◌≡◌, ℕ, ◌*◌, Bool, List, [], ◌∷◌, ◌++◌, Option, Some, None, length, option_to_list, option_map}
+use Rattle.std.specs.Prelude.{◌≡◌, ℕ, ◌*◌, Bool, List, [], ◌∷◌, ◌++◌, Option, Some, None, length, map, option_to_list, option_map}
 use Rattle.bloom_parts.specs.Content.{content}
 use Rattle.bloom_parts.specs.Places.{are_in}
 use Rattle.fastbloom.specs.Commands.{Operation, Insert, Contains, Clear, Union, Intersect, state_after}
@@ -35,3 +35,11 @@ pub record CarriesOut {S : Type 0} (old : Filter S) (operations : List Operation
   pub answers : given ≡ replies (64 * length old.words) old.hashes (content old.words) operations
   pub shape : SameShape old new
   pub hasher : new.hasher ≡ old.hasher
+
+-- from old to new the hashes of a list were inserted, in order
+abbrev pub InsertsAll : {S : Type 0} → Filter S → List ℕ → Filter S → Type 0
+InsertsAll old hashes new = (given : List Bool) × CarriesOut old (map Insert hashes) new given
+
+-- from old to new the items of a list were inserted, in order, each by its hash under the hasher
+abbrev pub InsertsItems : {S T : Type 0} → (S → T → ℕ) → Filter S → List T → Filter S → Type 0
+InsertsItems hash_of old items new = InsertsAll old (map (hash_of old.hasher) items) new

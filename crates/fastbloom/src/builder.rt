@@ -1,14 +1,39 @@
 //! Builders of filters.
-ghost use Rattle.std.specs.Prelude.{◌≡◌, vec_len, IfOk, max};
+ghost use Rattle.std.specs.Prelude.{◌≡◌, ◌<◌, length, replicate, vec_len, IfOk, max, nat_eq};
 ghost use Rattle.std.specs.Result.{result_err};
-ghost use Rattle.bloom_parts.specs.Keys.{HasKey};
-ghost use Rattle.fastbloom.specs.Builders.{words_refusal};
+ghost use Rattle.std.specs.Int.{w128, to_be_bytes};
+ghost use Rattle.std.specs.Iterator.{IsFiniteIterable};
+ghost use Rattle.std.specs.Cmp.Lexicographic.{nat_list_eq_equiv};
+ghost use Rattle.std.specs.Cmp.{on_equiv, partial_equiv_from_equiv};
+ghost use Rattle.bloom_parts.specs.Keys.{HasKey, key_low, key_high};
+ghost use Rattle.fastbloom.specs.Builders.{words_for, words_refusal, bits_refusal, size_refusal, RefusesAs, IsSizedFor, IsFilledBy, same_start};
+ghost use Rattle.fastbloom.specs.SourceHash.{item_hash};
+
+mod rate;
 
 use crate::bloom::BloomFilter;
 use bloom_parts::bit_vector::{BitVec, MAX_WORDS};
 use bloom_parts::error::FilterError;
 use bloom_parts::hasher::DefaultHasher;
+use bloom_parts::math::optimal_hashes;
+pub use rate::BuilderWithFalsePositiveRate;
+use std::alloc::Global;
+use std::hash::{BuildHasher, Hash};
 use std::marker::Model;
+
+// Zero words for this many bits, in one allocation.
+fn zero_bits(alloc: Global, num_bits: usize) -> Result<BitVec, FilterError>
+    requires { 0 < num_bits }
+    ensures words { IfOk result (λ bits. bits ≡ replicate (words_for num_bits) 0) }
+    ensures refused { RefusesAs (size_refusal num_bits) (result_err result) }
+{
+    let num_words = num_bits.div_ceil(64);
+    if num_words > MAX_WORDS {
+        return Err(FilterError::TooManyWords);
+    }
+    let words = vec![in alloc; 0u64; num_words]?;
+    Ok(BitVec::from_vec(words))
+}
 
 /// A builder that has the words of the filter. Contracts see the words and the hasher.
 #[derive(Debug, Drop)]
@@ -28,6 +53,22 @@ impl<S> Model for BuilderWithBits<S> {
 }
 
 impl BuilderWithBits {
+    // A builder of zero words for this many bits, under the zero key.
+    pub(crate) fn with_num_bits(alloc: Global, num_bits: usize) -> Result<Self, FilterError>
+        ensures words { IfOk result (λ builder.
+            builder.words ≡ replicate (words_for num_bits) 0) }
+        ensures key { IfOk result (λ builder. HasKey builder.hasher 0 0) }
+        ensures refused { RefusesAs (bits_refusal num_bits) (result_err result) }
+    {
+        if num_bits == 0 {
+            return Err(FilterError::ZeroBits);
+        }
+        Ok(BuilderWithBits {
+            bits: zero_bits(alloc, num_bits)?,
+            hasher: DefaultHasher::default(),
+        })
+    }
+
     // A builder of these words, under the zero key.
     pub(crate) fn from_vec(words: Vec<u64>) -> Result<Self, FilterError>
         ensures words { IfOk result (λ builder. builder.words ≡ words.items) }
@@ -47,6 +88,30 @@ impl BuilderWithBits {
     }
 }
 
+impl BuilderWithBits {
+    /// The same builder with the key of a seed, which is its sixteen big-endian bytes.
+    pub fn seed(self, seed: &u128) -> Self
+        ensures words { result.words ≡ self.words }
+        ensures key { let bytes = to_be_bytes w128 seed.now in
+            HasKey result.hasher (key_low bytes) (key_high bytes) }
+    {
+        self.hasher(DefaultHasher::seeded(&seed.to_be_bytes()))
+    }
+}
+
+impl<S: Drop> BuilderWithBits<S> {
+    /// The same builder with another hasher.
+    pub fn hasher<H: BuildHasher>(self, hasher: H) -> BuilderWithBits<H>
+        ensures words { result.words ≡ self.words }
+        ensures hasher { result.hasher ≡ hasher }
+    {
+        BuilderWithBits {
+            bits: self.bits,
+            hasher,
+        }
+    }
+}
+
 impl<S> BuilderWithBits<S> {
     /// The filter with this many hashes, where 0 counts as 1. Its words are those of the builder.
     pub fn hashes(self, num_hashes: u32) -> BloomFilter<S>
@@ -56,4 +121,46 @@ impl<S> BuilderWithBits<S> {
     {
         BloomFilter::from_parts(self.bits, num_hashes, self.hasher)
     }
+    /// The filter with as many hashes as suit its bits and this many items, where 0 counts as 1.
+    pub fn expected_items(self, expected_items: usize) -> BloomFilter<S>
+        ensures { IsSizedFor self expected_items result }
+    {
+        let num_hashes = optimal_hashes(self.bits.num_bits(), expected_items.max(1));
+        self.hashes(num_hashes)
+    }
+}
+
+impl<S: BuildHasher> BuilderWithBits<S> {
+    /// The filter for as many items as the iterator says it has, into which all that come were inserted.
+    pub fn items<'a, T: Hash + 'a, I: IntoIterator<Item = &'a T>>(self, items: I) -> BloomFilter<S>
+    where
+        I::IntoIter: ExactSizeIterator,
+        // The iterator ends.
+        requires { IsFiniteIterable I.into_iter_gives I.IntoIter.can_next I.IntoIter.remaining items }
+        ensures words { length result.words ≡ length self.words }
+        ensures hasher { result.hasher ≡ self.hasher }
+        ensures content { (it : I.IntoIter) × I.into_iter_gives items it
+            × IsFilledBy (IsSizedFor self) (item_hash S.Hasher.write S.Hasher.finish S.build_hasher
+            (λ item. T.hash_input item.now)) I.IntoIter.next_gives I.IntoIter.remaining it result }
+    {
+        let items = items.into_iter();
+        let mut filter = self.expected_items(items.len());
+        filter.insert_all(items);
+        filter
+    }
+}
+
+/// Builders are equal where their words are, whatever their hashers.
+impl<S> PartialEq for BuilderWithBits<S> {
+    ghost eq = { same_start };
+
+    ghost laws = { partial_equiv_from_equiv (on_equiv (λ b. b.words) nat_list_eq_equiv) };
+
+    fn eq(&self, other: &Self) -> bool {
+        self.bits == other.bits
+    }
+}
+
+impl<S> Eq for BuilderWithBits<S> {
+    ghost laws = { on_equiv (λ b. b.words) nat_list_eq_equiv };
 }

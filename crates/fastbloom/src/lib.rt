@@ -6,11 +6,14 @@ mod builder;
 pub mod laws;
 mod steps;
 
-pub use bloom::BloomFilter;
+pub use bloom::{BloomFilter, Command};
 pub use bloom_parts::bit_vector::Words;
 pub use bloom_parts::error::FilterError;
-pub use bloom_parts::hasher::DefaultHasher;
-pub use builder::BuilderWithBits;
+pub use bloom_parts::hasher::{CloneBuildHasher, DefaultHasher, RandomDefaultHasher};
+pub use bloom_parts::math::{
+    Bracket, Rate, expected_density, expected_false_pos, optimal_hashes, optimal_size,
+};
+pub use builder::{BuilderWithBits, BuilderWithFalsePositiveRate};
 pub use steps::{
     Call, End, Event, Machine, MemoryStore, Record, Step, Trace, WordStore, drive, run,
 };

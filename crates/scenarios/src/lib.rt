@@ -2,4 +2,14 @@
 #![tactic(auto)]
 
 #[cfg(test)]
+mod builders;
+#[cfg(test)]
+mod first;
+#[cfg(test)]
+mod hashing;
+#[cfg(test)]
+mod lists;
+#[cfg(test)]
+mod sizing;
+#[cfg(test)]
 mod steps;

@@ -29,7 +29,7 @@ pub(super) fn contains_positions(bits: &BitVec, num_hashes: u32, hash: u64) -> b
 {
     let num_bits = bits.num_bits();
     let mut chain = DoubleHasher::new(hash);
-    'places: for _place in 0..num_hashes {
+    'checks: for _place in 0..num_hashes {
         if !bits.check(index(num_bits, chain.next())) {
             return false;
         }

@@ -5,8 +5,8 @@ use Rattle.bloom_parts.specs.Places.{are_in}
 use Rattle.fastbloom.proofs.bloom.positions.contains_positions.Given as goal
 
 -- the places so far are on
-abbrev pub invariant-places : goal.invariant-places
-invariant-places l = record {
+abbrev pub invariant-checks : goal.invariant-checks
+invariant-checks l = record {
   chain : IsAt l.hash l._place l.chain;
   some : 0 < l.num_bits;
   bits : l.num_bits ≡ 64 * length l.bits;

@@ -1,0 +1,7 @@
+mod CarriedLemmas
+mod LineLemmas
+mod NumberLemmas
+mod ReadingLemmas
+mod ServedLemmas
+mod TakenLemmas
+pub mod WordLemmas

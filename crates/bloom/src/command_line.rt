@@ -1,0 +1,60 @@
+//! The arguments of the program, and numbers in text.
+ghost use Rattle.std.specs.Prelude.{◌≡◌, ◌^◌, ◌≤◌, map, string_bytes, IfOk, IfErr, IfSome};
+ghost use Rattle.std.specs.Result.{result_ok};
+ghost use Rattle.bloom.specs.Arguments.{asked_of, within_limits};
+ghost use Rattle.bloom.specs.Lines.{number_of};
+
+use crate::fault::Fault;
+
+// The most digits of a number.
+const MOST_DIGITS: usize = 20;
+
+// The greatest number of words that the program takes.
+const MAX_WORDS: u64 = 1_048_576;
+
+/// The numbers of words and hashes that the words after the program's name ask for.
+///
+/// # Errors
+/// `Usage` where they aren't two numbers of 1 to 20 digits, or one is past its limit.
+pub fn arguments(args: &[String]) -> Result<(usize, u32), Fault>
+    ensures ok { result_ok result ≡ asked_of (map string_bytes args.now) }
+    ensures limits { IfOk result (λ asked. (1 ≤ asked.0) × (asked.0 ≤ 2 ^ 20)) }
+    ensures err { IfErr result (λ fault. fault ≡ Fault.Usage) }
+{
+    match args {
+        [words, hashes] => {
+            limited(number(words.as_bytes()), number(hashes.as_bytes())).ok_or(Fault::Usage)
+        }
+        _ => Err(Fault::Usage),
+    }
+}
+
+// Both numbers, where there are two and both are within their limits.
+fn limited(words: Option<u64>, hashes: Option<u64>) -> Option<(usize, u32)>
+    ensures value { result ≡ within_limits words hashes }
+    ensures limits { IfSome result (λ asked. (1 ≤ asked.0) × (asked.0 ≤ 2 ^ 20)) }
+{
+    let words = words?;
+    let hashes = hashes?;
+    if words < 1 || words > MAX_WORDS || hashes > 4_294_967_295 {
+        return None;
+    }
+    Some((words as usize, hashes as u32))
+}
+
+/// The number that a text of 1 to 20 decimal digits is, if it is below 2^64.
+pub fn number(text: &[u8]) -> Option<u64>
+    ensures { result ≡ number_of text.now }
+{
+    if text.is_empty() || text.len() > MOST_DIGITS {
+        return None;
+    }
+    let mut value: u128 = 0;
+    'digits: for digit in text {
+        if !digit.is_ascii_digit() {
+            return None;
+        }
+        value = value * 10 + u128::from(*digit - b'0');
+    }
+    u64::try_from(value).ok()
+}

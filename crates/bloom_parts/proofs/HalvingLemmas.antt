@@ -1,0 +1,173 @@
+-- Halvings: which are enough, and which are the least.
+use Rattle.std.proofs.Common.{◌≡◌, ◌↔◌, ℕ, zero, suc, ◌+◌, ◌-◌, ◌*◌, ◌/◌, ◌%◌, ◌^◌, ◌<◌, ◌≤◌, inl, inr, refl, ap, arith, subst, sym, ◌∙◌, lit<}
+use Rattle.std.proofs.Math.Nat.{le_of_mul-le-mul_right, mul-zero, pow-le-pow_left, pow-le-pow_right, two-pow-succ, pow-zero, pow-suc}
+use Rattle.std.proofs.lemmas.Nat.{mul-le, pow-add, mul-pow, shl_whole}
+use Rattle.std.proofs.lemmas.Bool.{cases_lt}
+use Rattle.bloom_parts.specs.Roots.{IsRoot}
+use Rattle.bloom_parts.specs.Sizing.{IsEnough, IsHalvings, CoverLaw, NoneLaw, MostLaw, OneSizeLaw}
+use Rattle.bloom_parts.proofs.RootLemmas.{root-zero, root-least, root-below, root-mono, one_root}
+
+-- a power of a power
+pow-pow : (a m n : ℕ) → (a ^ m) ^ n ≡ a ^ (m * n)
+pow-pow a m zero = rw (mul-zero, pow-zero a, pow-zero (a ^ m)) refl
+pow-pow a m (suc n) =
+    let next : m * n + m ≡ m * suc n = omega arith in
+    pow-suc (a ^ m) n ∙ ap (λ v. v * a ^ m) (pow-pow a m n) ∙ sym (pow-add a (m * n) m)
+    ∙ ap (λ v. a ^ v) next
+
+-- the test of the code at k sixty-fourths, with n and d read from the rate and t from the table
+pub record IsTest (num den k n d t : ℕ) : Type 0 where
+  pub fits : n * 2 ^ (k / 64) % 2 ^ 128 * t < 2 ^ 128
+  pub decides : (d * 2 ^ 32 % 2 ^ 128 ≤ n * 2 ^ (k / 64) % 2 ^ 128 * t) ↔ IsEnough num den k
+
+-- a rate of one or more needs none
+pub none-enough : (num den : ℕ) → den ≤ num → IsEnough num den 0
+none-enough num den more = (2 ^ 32, root-zero, rw (pow-zero 2) (omega (arith, more)))
+
+-- sixty-four whole halvings are always enough
+pub most-enough : (num den : ℕ) → 0 < num → den < 2 ^ 64 → IsEnough num den 4096
+most-enough num den above fits = (2 ^ 32, root-zero, omega (arith, above, fits))
+
+-- the numbers of the test at k sixty-fourths, where no fewer are enough
+module _ (num den k t : ℕ) (num_fits : num < 2 ^ 64) (den_fits : den < 2 ^ 64)
+    (root : IsRoot (k % 64) t) (few : (fewer : ℕ) → fewer < k → IsEnough num den fewer → ⊥) where
+  -- had the shifted rate 66 digits, then one whole halving fewer would be enough
+  too_wide : 64 ≤ k → 2 ^ 65 ≤ num * 2 ^ (k / 64) → ⊥
+  too_wide large wide =
+      let place : k % 64 ≡ (k - 64) % 64 = omega (arith, large) in
+      let next : suc ((k - 64) / 64) ≡ k / 64 = omega (arith, large) in
+      let double : num * 2 ^ (k / 64) ≡ 2 * (num * 2 ^ ((k - 64) / 64)) =
+      rw (← next, pow-suc 2 ((k - 64) / 64)) (omega arith) in
+      let still_wide : 2 ^ 64 ≤ num * 2 ^ ((k - 64) / 64) = omega (arith, wide, double) in
+      let scaled : 2 ^ 64 * 2 ^ 32 ≤ num * 2 ^ ((k - 64) / 64) * t =
+      mul-le (2 ^ 64) (2 ^ 32) (num * 2 ^ ((k - 64) / 64)) t still_wide
+      (root-least (k % 64) t root) in
+      few (k - 64) (omega (arith, large))
+      (t, subst (λ j. IsRoot j t) place root, omega (arith, scaled, den_fits))
+
+  shifted-fits : num * 2 ^ (k / 64) < 2 ^ 65
+  shifted-fits = elim (cases_lt k 64) [
+    | inl small ↦
+        let none : k / 64 ≡ 0 = omega (arith, small) in
+        rw (none, pow-zero 2) (omega (arith, num_fits))
+    | inr large ↦ elim (cases_lt (num * 2 ^ (k / 64)) (2 ^ 65)) [
+      | inl narrow ↦ narrow
+      | inr wide ↦ absurd (too_wide large wide)
+    ]
+  ]
+
+  -- the test of the code loses no digit, and is that of the definition
+  module _ (within : k < 4096) (n d : ℕ) (same_num : n ≡ num) (same_den : d ≡ den) where
+    num-shifted : n * 2 ^ (k / 64) % 2 ^ 128 ≡ num * 2 ^ (k / 64)
+    num-shifted = rw same_num (shl_whole num 64 (k / 64) 128 num_fits (omega (arith, within)))
+
+    den-shifted : d * 2 ^ 32 % 2 ^ 128 ≡ den * 2 ^ 32
+    den-shifted = omega (arith, same_den, den_fits)
+
+    product-fits : n * 2 ^ (k / 64) % 2 ^ 128 * t < 2 ^ 128
+    product-fits =
+        let product : num * 2 ^ (k / 64) * t ≤ 2 ^ 65 * 2 ^ 33 =
+        mul-le (num * 2 ^ (k / 64)) t (2 ^ 65) (2 ^ 33)
+        (omega (arith, shifted-fits)) (omega (arith, root-below (k % 64) t (omega arith) root)) in
+        rw num-shifted (omega (arith, product))
+
+    decides : (d * 2 ^ 32 % 2 ^ 128 ≤ n * 2 ^ (k / 64) % 2 ^ 128 * t) ↔ IsEnough num den k
+    decides = (
+      (λ is. (t, root, rw (den-shifted, num-shifted) at is)),
+      (λ (u, other, enough).
+          let same : u ≡ t = one_root (k % 64) u t other root in
+          rw (den-shifted, num-shifted) (rw same at enough)),
+    )
+
+    pub test-halvings : IsTest num den k n d t
+    test-halvings = record { fits = product-fits; decides = decides }
+
+-- the least is the one that a search upwards finds
+pub least-halvings : (num den k : ℕ) → IsEnough num den k →
+    ((fewer : ℕ) → fewer < k → IsEnough num den fewer → ⊥) → IsHalvings num den k
+least-halvings num den k enough few = record {
+  enough = enough;
+  least = λ other is. elim (cases_lt other k) [
+    | inl less ↦ absurd (few other less is)
+    | inr more ↦ more
+  ];
+}
+
+-- no number up to 64 * e + j is enough where that one isn't, since roots grow up to their double
+too-few : (num den e j t other : ℕ) → IsRoot j t → j < 64 → num * 2 ^ e * t < den * 2 ^ 32 →
+    other ≤ 64 * e + j → IsEnough num den other → ⊥
+too-few num den e j t other root within few before (u, is_root, enough) =
+    elim (cases_lt (other / 64) e) [
+      | inl earlier ↦
+          let double : 2 ^ suc (other / 64) ≤ 2 ^ e = pow-le-pow_right (lit< tt) earlier in
+          let less : 2 ^ (other / 64) * u ≤ 2 ^ (other / 64) * 2 ^ 33 =
+          mul-le (2 ^ (other / 64)) u (2 ^ (other / 64)) (2 ^ 33) (omega arith)
+          (omega (arith, root-below (other % 64) u (omega arith) is_root)) in
+          let more : 2 ^ e * 2 ^ 32 ≤ 2 ^ e * t =
+          mul-le (2 ^ e) (2 ^ 32) (2 ^ e) t (omega arith) (root-least j t root) in
+          let all : 2 ^ (other / 64) * u ≤ 2 ^ e * t =
+          omega (arith, two-pow-succ (other / 64), double, less, more) in
+          let scaled : num * (2 ^ (other / 64) * u) ≤ num * (2 ^ e * t) =
+          mul-le num (2 ^ (other / 64) * u) num (2 ^ e * t) (omega arith) all in
+          omega (arith, few, enough, scaled)
+      | inr same ↦
+          let here : other / 64 ≡ e = omega (arith, same, before, within) in
+          let place : other % 64 ≤ j = omega (arith, here, before) in
+          let less : u ≤ t = root-mono (other % 64) j u t place is_root root in
+          let scaled : num * 2 ^ e * u ≤ num * 2 ^ e * t =
+          mul-le (num * 2 ^ e) u (num * 2 ^ e) t (omega arith) less in
+          omega (arith, few, rw here at enough, scaled)
+    ]
+
+-- the halvings are those that are enough where the number before them isn't
+pub next-halvings : (num den e j t : ℕ) → IsRoot j t → j < 64 → num * 2 ^ e * t < den * 2 ^ 32 →
+    IsEnough num den (64 * e + j + 1) → IsHalvings num den (64 * e + j + 1)
+next-halvings num den e j t root within few enough =
+    least-halvings num den (64 * e + j + 1) enough
+    (λ fewer below. too-few num den e j t fewer root within few (omega (arith, below)))
+
+-- a common factor is left out
+cancel : (d w n e t j : ℕ) → 0 < w → d * w ≤ n * e * t → t ≤ w * j → d ≤ e * j * n
+cancel d w n e t j above first second =
+    let one : n * e * t ≤ n * e * (w * j) = mul-le (n * e) t (n * e) (w * j) (omega arith) second in
+    let two : d * w ≤ (e * j * n) * w = omega (arith, one, first) in
+    le_of_mul-le-mul_right two above
+
+-- the test, to the power 64, with the root's own inequality
+raised : (num den e j t : ℕ) → IsRoot j t → den * 2 ^ 32 ≤ num * 2 ^ e * t →
+    den ^ 64 ≤ 2 ^ (e * 64) * 2 ^ j * num ^ 64
+raised num den e j t root enough =
+    let power : (den * 2 ^ 32) ^ 64 ≤ (num * 2 ^ e * t) ^ 64 = pow-le-pow_left enough 64 in
+    let left : (den * 2 ^ 32) ^ 64 ≡ den ^ 64 * (2 ^ 32) ^ 64 = mul-pow den (2 ^ 32) 64 in
+    let right : (num * 2 ^ e * t) ^ 64 ≡ num ^ 64 * 2 ^ (e * 64) * t ^ 64 =
+    rw (mul-pow (num * 2 ^ e) t 64, mul-pow num (2 ^ e) 64, pow-pow 2 e 64) refl in
+    let parts = rw (left, right) at power in
+    let small : t ^ 64 ≤ 2 ^ 2048 * 2 ^ j = rw (← pow-add 2 2048 j) root.at_most in
+    cancel (den ^ 64) ((2 ^ 32) ^ 64) (num ^ 64) (2 ^ (e * 64)) (t ^ 64) (2 ^ j) (lit< tt)
+    parts small
+
+pub cover_law : CoverLaw
+cover_law num den k is =
+    let (t, root, enough) = is.enough in
+    let raised : den ^ 64 ≤ 2 ^ (k / 64 * 64) * 2 ^ (k % 64) * num ^ 64 =
+    raised num den (k / 64) (k % 64) t root enough in
+    let whole : k ≡ k / 64 * 64 + k % 64 = omega arith in
+    let parts : 2 ^ k ≡ 2 ^ (k / 64 * 64) * 2 ^ (k % 64) =
+    ap (λ v. 2 ^ v) whole ∙ pow-add 2 (k / 64 * 64) (k % 64) in
+    rw parts raised
+
+pub none_law : NoneLaw
+none_law num den k more is = omega (arith, is.least 0 (none-enough num den more))
+
+pub most_law : MostLaw
+most_law num den k above fits is = is.least 4096 (most-enough num den above fits)
+
+-- there are no two least numbers
+one_halvings : (num den k m : ℕ) → IsHalvings num den k → IsHalvings num den m → k ≡ m
+one_halvings num den k m first second =
+    omega (arith, first.least m second.enough, second.least k first.enough)
+
+pub one_size_law : OneSizeLaw
+one_size_law items num den size other (k, first, size_is) (m, second, other_is) =
+    let same : k ≡ m = one_halvings num den k m first second in
+    size_is ∙ rw same (sym other_is)

@@ -1,0 +1,128 @@
+-- How a list of bytes is cut into words: lists that are joined, short lists, and words joined.
+use Rattle.std.proofs.Common.{◌≡◌, ℕ, zero, suc, ◌+◌, ◌*◌, ◌/◌, ◌%◌, ◌<◌, List, [], ◌∷◌, ◌++◌, length, get_or, take, drop, refl, ap, ◌∙◌, sym, arith, length-append, length-take}
+use Rattle.std.proofs.Math.Seq.{take-add}
+use Rattle.std.proofs.lemmas.List.{take-append-drop}
+use Rattle.std.specs.Prelude.{map}
+use Rattle.std.specs.Simd.{first_chunks}
+use Rattle.std.specs.List.{concat}
+use Rattle.std.specs.Int.{w64, from_le_bytes}
+use Rattle.bloom_parts.specs.Sip.{whole_words, rest}
+
+pub length-rest : (bytes : List ℕ) → length (rest bytes) ≡ length bytes % 8
+unfolding rest
+length-rest (a ∷ b ∷ c ∷ d ∷ e ∷ f ∷ g ∷ h ∷ bytes) = omega (arith, length-rest bytes)
+length-rest [] = refl
+length-rest (a ∷ []) = refl
+length-rest (a ∷ b ∷ []) = refl
+length-rest (a ∷ b ∷ c ∷ []) = refl
+length-rest (a ∷ b ∷ c ∷ d ∷ []) = refl
+length-rest (a ∷ b ∷ c ∷ d ∷ e ∷ []) = refl
+length-rest (a ∷ b ∷ c ∷ d ∷ e ∷ f ∷ []) = refl
+length-rest (a ∷ b ∷ c ∷ d ∷ e ∷ f ∷ g ∷ []) = refl
+
+-- fewer than eight bytes are no word, and remain
+pub record IsShort (bytes : List ℕ) : Type 0 where
+  pub words : whole_words bytes ≡ []
+  pub remain : rest bytes ≡ bytes
+
+pub short : (bytes : List ℕ) → length bytes < 8 → IsShort bytes
+unfolding whole_words rest
+short (a ∷ b ∷ c ∷ d ∷ e ∷ f ∷ g ∷ h ∷ bytes) few = absurd (omega arith)
+short [] few = record { words = refl; remain = refl }
+short (a ∷ []) few = record { words = refl; remain = refl }
+short (a ∷ b ∷ []) few = record { words = refl; remain = refl }
+short (a ∷ b ∷ c ∷ []) few = record { words = refl; remain = refl }
+short (a ∷ b ∷ c ∷ d ∷ []) few = record { words = refl; remain = refl }
+short (a ∷ b ∷ c ∷ d ∷ e ∷ []) few = record { words = refl; remain = refl }
+short (a ∷ b ∷ c ∷ d ∷ e ∷ f ∷ []) few = record { words = refl; remain = refl }
+short (a ∷ b ∷ c ∷ d ∷ e ∷ f ∷ g ∷ []) few = record { words = refl; remain = refl }
+
+-- behind a list, more bytes go on from what remained of it
+pub record GoesOn (bytes more : List ℕ) : Type 0 where
+  pub words : whole_words (bytes ++ more) ≡ whole_words bytes ++ whole_words (rest bytes ++ more)
+  pub remain : rest (bytes ++ more) ≡ rest (rest bytes ++ more)
+
+pub goes_on : (bytes more : List ℕ) → GoesOn bytes more
+unfolding whole_words rest
+goes_on (a ∷ b ∷ c ∷ d ∷ e ∷ f ∷ g ∷ h ∷ bytes) more =
+    let further = goes_on bytes more in
+    record {
+      words = ap (λ ws. from_le_bytes w64 (a ∷ b ∷ c ∷ d ∷ e ∷ f ∷ g ∷ h ∷ []) ∷ ws) further.words;
+      remain = further.remain;
+    }
+goes_on [] more = record { words = refl; remain = refl }
+goes_on (a ∷ []) more = record { words = refl; remain = refl }
+goes_on (a ∷ b ∷ []) more = record { words = refl; remain = refl }
+goes_on (a ∷ b ∷ c ∷ []) more = record { words = refl; remain = refl }
+goes_on (a ∷ b ∷ c ∷ d ∷ []) more = record { words = refl; remain = refl }
+goes_on (a ∷ b ∷ c ∷ d ∷ e ∷ []) more = record { words = refl; remain = refl }
+goes_on (a ∷ b ∷ c ∷ d ∷ e ∷ f ∷ []) more = record { words = refl; remain = refl }
+goes_on (a ∷ b ∷ c ∷ d ∷ e ∷ f ∷ g ∷ []) more = record { words = refl; remain = refl }
+
+-- eight bytes are one word, in front of what follows
+word-first : (word bytes : List ℕ) → length word ≡ 8 → whole_words (word ++ bytes) ≡ from_le_bytes w64 word ∷ whole_words bytes
+unfolding whole_words
+word-first (a ∷ b ∷ c ∷ d ∷ e ∷ f ∷ g ∷ h ∷ []) bytes eight = refl
+word-first (a ∷ b ∷ c ∷ d ∷ e ∷ f ∷ g ∷ h ∷ i ∷ word) bytes eight = absurd (omega arith)
+word-first [] bytes eight = absurd (omega arith)
+word-first (a ∷ []) bytes eight = absurd (omega arith)
+word-first (a ∷ b ∷ []) bytes eight = absurd (omega arith)
+word-first (a ∷ b ∷ c ∷ []) bytes eight = absurd (omega arith)
+word-first (a ∷ b ∷ c ∷ d ∷ []) bytes eight = absurd (omega arith)
+word-first (a ∷ b ∷ c ∷ d ∷ e ∷ []) bytes eight = absurd (omega arith)
+word-first (a ∷ b ∷ c ∷ d ∷ e ∷ f ∷ []) bytes eight = absurd (omega arith)
+word-first (a ∷ b ∷ c ∷ d ∷ e ∷ f ∷ g ∷ []) bytes eight = absurd (omega arith)
+
+-- each has eight bytes
+abbrev pub AreWords : List (List ℕ) → Type 0
+AreWords words = (i : ℕ) → i < length words → length (get_or words i []) ≡ 8
+
+-- words joined and cut again are these words
+pub whole_words-concat : (words : List (List ℕ)) → AreWords words
+    → whole_words (concat words) ≡ map (from_le_bytes w64) words
+unfolding whole_words
+whole_words-concat [] each = refl
+whole_words-concat (word ∷ words) each =
+    word-first word (concat words) (each 0 (omega arith))
+    ∙ ap (λ ws. from_le_bytes w64 word ∷ ws)
+    (whole_words-concat words (λ i below. each (suc i) (omega arith)))
+
+pub length-concat : (words : List (List ℕ)) → AreWords words
+    → length (concat words) ≡ 8 * length words
+length-concat [] each = refl
+length-concat (word ∷ words) each =
+    let eight : length word ≡ 8 = each 0 (omega arith) in
+    omega (
+      arith,
+      length-append word (concat words),
+      length-concat words (λ i below. each (suc i) (omega arith)),
+    )
+
+-- a list of no bytes
+pub empty : (bytes : List ℕ) → length bytes ≡ 0 → bytes ≡ []
+empty [] none = refl
+empty (a ∷ bytes) none = absurd (omega arith)
+
+-- the first chunks of eight bytes, joined
+concat-first_chunks : (k : ℕ) (bytes : List ℕ) → concat (first_chunks 8 k bytes) ≡ take (k * 8) bytes
+concat-first_chunks zero bytes = refl
+concat-first_chunks (suc k) bytes =
+    let size : suc k * 8 ≡ 8 + k * 8 = omega arith in
+    ap (λ more. take 8 bytes ++ more) (concat-first_chunks k (drop 8 bytes))
+    ∙ sym (ap (λ n. take n bytes) size ∙ take-add 8 (k * 8) bytes)
+
+-- bytes cut into words, and what remains
+pub record IsCut (bytes : List ℕ) (words : List (List ℕ)) (others : List ℕ) : Type 0 where
+  pub joined : concat words ++ others ≡ bytes
+  pub size : length (concat words) ≡ length bytes / 8 * 8
+
+pub cut : (bytes : List ℕ) (words : List (List ℕ)) (others : List ℕ)
+    → words ≡ first_chunks 8 (length bytes / 8) bytes → others ≡ drop (length bytes / 8 * 8) bytes
+    → IsCut bytes words others
+cut bytes words others front back =
+    let taken : concat words ≡ take (length bytes / 8 * 8) bytes =
+    ap concat front ∙ concat-first_chunks (length bytes / 8) bytes in
+    record {
+      joined = (λ i. taken i ++ back i) ∙ take-append-drop (length bytes / 8 * 8) bytes;
+      size = ap length taken ∙ simp length-take (omega arith);
+    }

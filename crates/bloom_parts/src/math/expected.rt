@@ -1,0 +1,43 @@
+//! What share of the bits is on, and how often a look-up errs, as brackets.
+ghost use Rattle.std.specs.Prelude.{◌≡◌, ℕ, ◌+◌, ◌-◌, ◌*◌, ◌^◌, ◌<◌, ◌≤◌};
+ghost use Rattle.bloom_parts.specs.Brackets.{low_of, high_of, width_of, Holds, HoldsDensity, density_low, density_high};
+ghost use Rattle.bloom_parts.specs.Powers.{lower_power_of, upper_power_of};
+
+use super::bracket::Bracket;
+use super::powers::{UNIT, lower_power, upper_power};
+
+/// The expected share of `bits` bits that is on after `items` items with `hashes` positions each.
+pub fn expected_density(hashes: u32, bits: usize, items: usize) -> Bracket
+    requires { 0 < bits }
+    ensures holds { HoldsDensity result bits (hashes * items) }
+    // The ends are exact.
+    ensures low { low_of result ≡ density_low bits (hashes * items) }
+    ensures high { high_of result ≡ density_high bits (hashes * items) }
+    ensures width { 0 < hashes * items → width_of result ≤ 2 * (hashes * items) - 1 }
+    ensures width_none { hashes * items ≡ 0 → width_of result ≡ 0 }
+{
+    let sets = hashes as u128 * items as u128;
+    let bits = bits as u128;
+    let off = UNIT as u128 * (bits - 1);
+    let off_low = (off / bits) as u64;
+    let off_high = off.div_ceil(bits) as u64;
+    let (mut products_low, mut products_high) = (0, 0);
+    let kept_low = lower_power(off_low, sets, &mut products_low);
+    let kept_high = upper_power(off_high, sets, &mut products_high);
+    Bracket::new(UNIT - kept_high, UNIT - kept_low)
+}
+
+/// The chance that all of `hashes` positions are on by themselves, where each is by this density.
+pub fn expected_false_pos(hashes: u32, density: Bracket) -> Bracket
+    ensures holds { (p q : ℕ) → 0 < q → Holds density p q → Holds result (p ^ hashes) (q ^ hashes) }
+    // The ends are exact.
+    ensures low { low_of result ≡ lower_power_of (low_of density) hashes }
+    ensures high { high_of result ≡ upper_power_of (high_of density) hashes }
+    ensures width { width_of result ≤ hashes * (width_of density + 1) }
+    ensures width_none { 0 < hashes → high_of density ≡ 0 → width_of result ≡ 0 }
+{
+    let (mut products_low, mut products_high) = (0, 0);
+    let low = lower_power(density.low(), hashes as u128, &mut products_low);
+    let high = upper_power(density.high(), hashes as u128, &mut products_high);
+    Bracket::new(low, high)
+}
