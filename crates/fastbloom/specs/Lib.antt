@@ -9,6 +9,7 @@ pub mod Memories
 pub mod Moments
 pub mod Replies
 pub mod Scripts
+pub mod Sequences
 pub mod SourceHash
 pub mod Steps
 pub mod Traces

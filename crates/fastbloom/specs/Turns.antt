@@ -37,14 +37,14 @@ AsksRight m asked =
 -- what a machine answers, wherever it stands
 abbrev pub AnswersRight : Machine → Option Bool → Type 0
 AnswersRight m answer =
-    (w k : ℕ) (call : Call)
-    (s : List Taken) → StandsAt m w k call s → AnswersAfter w k call s answer
+    (w k : ℕ) (call : Call) (s : List Taken) → StandsAt m w k call s
+    → AnswersAfter w k call s answer
 
 -- after a reply the machine stands one step further on
 abbrev pub StandsFurther : Machine → ℕ → Machine → Type 0
 StandsFurther m found n =
-    (w k : ℕ) (call : Call) (s : List Taken)
-    (step : Step) → asks m ≡ Some step → StandsAt m w k call s
+    (w k : ℕ) (call : Call) (s : List Taken) (step : Step)
+    → asks m ≡ Some step → StandsAt m w k call s
     → StandsAt n w k call (s ++ record { step = step; found = found; ended = end_of n } ∷ [])
 
 -- how many steps are left at most

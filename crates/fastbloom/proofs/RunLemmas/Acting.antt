@@ -9,8 +9,8 @@ use Rattle.fastbloom.specs.declared.steps.calls.Call.{Call}
 use Rattle.fastbloom.specs.declared.steps.calls.Call.TheVariants.{Clear, Contains, Insert, Intersect, Union}
 use Rattle.fastbloom.specs.declared.steps.calls.Step.TheVariants.{And, Or}
 use Rattle.fastbloom.specs.Commands.{decides}
-use Rattle.fastbloom.specs.Interleavings.{command_of, other_words}
 use Rattle.fastbloom.specs.Scripts.{IsScript, Taken}
+use Rattle.fastbloom.specs.Sequences.{command_of, other_words}
 use Rattle.fastbloom.specs.Steps.{after_records, or_at, step_decides}
 use Rattle.fastbloom.specs.Traces.{did}
 use Rattle.fastbloom.proofs.RunLemmas.Changes.{DecidesOnly, or_at-decides}

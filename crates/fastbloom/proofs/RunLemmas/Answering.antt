@@ -8,9 +8,9 @@ use Rattle.fastbloom.specs.declared.steps.calls.Call.{Call}
 use Rattle.fastbloom.specs.declared.steps.calls.Call.TheVariants.{Clear, Contains, Insert, Intersect, Union}
 use Rattle.fastbloom.specs.declared.steps.calls.End.TheVariants.{Done}
 use Rattle.fastbloom.specs.declared.steps.calls.Record.TheVariants.{Did}
-use Rattle.fastbloom.specs.Interleavings.{command_of}
 use Rattle.fastbloom.specs.Replies.{reply}
 use Rattle.fastbloom.specs.Scripts.{AllFoundOn, IsScript, Taken, answer_of, answer_of_end}
+use Rattle.fastbloom.specs.Sequences.{command_of}
 use Rattle.fastbloom.specs.Steps.{after_records, step_decides}
 use Rattle.fastbloom.specs.Traces.{MayFind, did}
 use Rattle.fastbloom.proofs.PositionLemmas.{are_in-off}

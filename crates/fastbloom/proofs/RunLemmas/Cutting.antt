@@ -7,9 +7,9 @@ use Rattle.std.proofs.lemmas.List.{append-nil}
 use Rattle.fastbloom.specs.declared.steps.calls.Call.{Call}
 use Rattle.fastbloom.specs.declared.steps.calls.Record.{Record}
 use Rattle.fastbloom.specs.declared.steps.calls.Record.TheVariants.{Began, Did}
-use Rattle.fastbloom.specs.Interleavings.{Cut, MadeCall, cut}
 use Rattle.fastbloom.specs.Moments.{EveryCallEnded, OneAtATime}
 use Rattle.fastbloom.specs.Scripts.{IsScript, Taken}
+use Rattle.fastbloom.specs.Sequences.{Cut, MadeCall, cut}
 use Rattle.fastbloom.specs.Traces.{CallAfterCall, begun_call, did, last_leaves_running, leaves_running, party_of, records_of, runs, whole_call}
 use Rattle.fastbloom.proofs.RunLemmas.Newest.{OneEnd, newest-call, one_end-later, one_end-script, runs_after, still_runs-beginning}
 use Rattle.fastbloom.proofs.RunLemmas.Parties.{mine_or_not, records_of-mine, records_of-none, records_of-other}

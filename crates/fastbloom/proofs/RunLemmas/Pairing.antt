@@ -5,8 +5,8 @@ use Rattle.std.proofs.lemmas.Option.{get_or_from_slice_get, none-some, same_Some
 use Rattle.bloom_parts.specs.Content.{bit_is_on, content}
 use Rattle.fastbloom.specs.declared.steps.calls.Step.{Step}
 use Rattle.fastbloom.specs.declared.steps.calls.Step.TheVariants.{And, Or, Other}
-use Rattle.fastbloom.specs.Interleavings.{found_in_other, other_words}
 use Rattle.fastbloom.specs.Scripts.{ArePairs, Taken}
+use Rattle.fastbloom.specs.Sequences.{found_in_other, other_words}
 use Rattle.fastbloom.specs.Steps.{after_records, step_decides}
 use Rattle.fastbloom.specs.Traces.{did}
 use Rattle.fastbloom.proofs.RunLemmas.Lasting.{AllDecide, steps-some}

@@ -7,9 +7,9 @@ use Rattle.fastbloom.specs.declared.steps.calls.Call.TheVariants.{Clear, Contain
 use Rattle.fastbloom.specs.declared.steps.calls.Record.{Record}
 use Rattle.fastbloom.specs.declared.steps.calls.Record.TheVariants.{Began}
 use Rattle.fastbloom.specs.Commands.{Operation, decides, state_after}
-use Rattle.fastbloom.specs.Interleavings.{ActsAs, ActsAsCommands, Cut, MadeCall, command_of, commands_of, cut, other_words}
 use Rattle.fastbloom.specs.Replies.{reply}
 use Rattle.fastbloom.specs.Scripts.{answer_of}
+use Rattle.fastbloom.specs.Sequences.{ActsAs, ActsAsCommands, Cut, MadeCall, command_of, commands_of, cut, other_words}
 use Rattle.fastbloom.specs.Steps.{after_records}
 use Rattle.fastbloom.specs.Traces.{Course, IsLawful, did}
 use Rattle.fastbloom.proofs.RunLemmas.Acting.{call-steps}

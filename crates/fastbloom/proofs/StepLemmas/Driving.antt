@@ -1,11 +1,11 @@
 -- Steps over a store, one after the other, and a machine that asks for them.
-use Rattle.std.proofs.Common.{[], ◌++◌, ◌<◌, ◌∷◌, List, None, Some, inl, inr, refl, subst, sym, ℕ}
+use Rattle.std.proofs.Common.{[], ◌++◌, ◌<◌, ◌∷◌, List, Some, inl, inr, refl, subst, sym, ℕ}
 use Rattle.std.proofs.lemmas.Option.{none-some, same_Some}
 use Rattle.fastbloom.specs.declared.steps.calls.Call.{Call}
 use Rattle.fastbloom.specs.declared.steps.calls.Step.{Step}
 use Rattle.fastbloom.specs.declared.steps.machine.Machine.{Machine}
 use Rattle.fastbloom.specs.Machines.{StandsAt}
-use Rattle.fastbloom.specs.Scripts.{IsScript, Linked, Taken}
+use Rattle.fastbloom.specs.Scripts.{Linked, Taken}
 use Rattle.fastbloom.specs.Steps.{word_of}
 use Rattle.fastbloom.specs.Turns.{AsksAfter}
 
@@ -33,12 +33,4 @@ asked-within w k call s step asked = elim asked.either [
       let next = asked.begun begun in
       subst (λ x. word_of x < w) (sym (same_Some step next.step next.asks_it)) next.within
   | inr whole ↦ absurd (none-some step (sym (asked.over whole)))
-]
-
--- where no step is asked for the script is whole
-pub asked-over : (w k : ℕ) (call : Call) (s : List Taken) → AsksAfter w k call s None
-    → IsScript w k call s
-asked-over w k call s asked = elim asked.either [
-  | inl begun ↦ absurd (none-some _ (asked.begun begun).asks_it)
-  | inr whole ↦ whole
 ]

@@ -1,8 +1,8 @@
 //! The steps of many calls, in any order.
-ghost use Rattle.std.specs.Prelude.{◌≡◌, ℕ, ◌+◌, ◌≤◌, ◌<◌, ◌^◌, [], length, vec_len, vec_capacity, IfOk};
-ghost use Rattle.std.specs.Prelude.{IsOkUnless};
+ghost use Rattle.std.specs.Prelude.{◌≡◌, ◌+◌, ◌≤◌, ◌<◌, ◌^◌, [], length, vec_len, vec_capacity, IfOk, IsOkUnless};
 ghost use Rattle.fastbloom.specs.declared.steps.calls.Event.TheVariants.{Begin, Go};
-ghost use Rattle.fastbloom.specs.Interleavings.{ActsAsCommands, InsertsTell, ContainsTell, FindsInserted, EndsWithAll, CountsGains};
+ghost use Rattle.fastbloom.specs.Interleavings.{InsertsTell, ContainsTell, FindsInserted, EndsWithAll, CountsGains};
+ghost use Rattle.fastbloom.specs.Sequences.{ActsAsCommands};
 ghost use Rattle.fastbloom.specs.Traces.{IsLawful, Follows};
 ghost use Rattle.fastbloom.specs.Worlds.{IsWorldOf, Happens, slot_runs};
 
@@ -24,7 +24,9 @@ struct World {
 
 /// Makes the steps of calls in the order of a schedule, one step an event, and records each.
 ///
-/// An event that makes no sense, as a step of a party that runs no call, records nothing.
+/// An event that makes no sense, as a step of a party that runs no call, records nothing. Calls may
+/// overlap: two inserts of one fresh hash may both answer false, and a look-up in which another
+/// party turns bits off may answer true though its hash was contained at no moment.
 ///
 /// # Errors
 /// `Memory` where a growth was refused. All room is made before the first event.
