@@ -20,8 +20,8 @@ use text::{put_reply, put_words};
 
 // Carries out a line, and writes its text.
 fn carry_out<W: Write>(filter: &mut BloomFilter, line: Line, output: &mut W) -> Result<(), Fault>
-    ensures carried { OnOk result
-        (Carried filter.old filter.new (W.contents output.old) (W.contents output.new) (line ∷ [])) }
+    ensures carried { OnOk result (Carried filter.old filter.new
+        (W.contents output.old) (W.contents output.new) (line ∷ [])) }
     ensures fault { IfErr result (λ fault. fault ≡ Fault.Output) }
 {
     match line {

@@ -1,4 +1,5 @@
--- A buffer of eight bytes, in which a hasher holds fewer. That zeros follow them is the project's own choice.
+-- A buffer of eight bytes, in which a hasher holds fewer. That zeros follow them is the project's
+-- own choice.
 use Rattle.std.specs.Prelude.{◌≡◌, ℕ, ◌-◌, ◌%◌, ◌<◌, List, ◌++◌, length, slice_index, take, replicate}
 
 -- the items are bytes

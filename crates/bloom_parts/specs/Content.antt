@@ -13,7 +13,7 @@ unfoldable pub content : List ℕ → ℕ → Bool
 content words p = bit_is_on (slice_index words (p / 64)) p
 
 -- where a hash lies among n positions, by multiply and shift (D. Lemire, "Fast random integer
--- generation in an interval", 2019, section 3)
+-- generation in an interval", 2019)
 abbrev pub index_of : ℕ → ℕ → ℕ
 index_of n hash = hash * n / 2 ^ 64
 

@@ -1,9 +1,9 @@
--- What contracts see of the hasher of SipHash-1-3, and how it stands to a key and to the bytes that it has
--- taken in. It keeps no history: this account of it is the project's own.
+-- What contracts see of the hasher of SipHash-1-3, and how it stands to a key and to the bytes that
+-- it has taken in. It keeps no history: this account of it is the project's own.
 use Rattle.std.specs.Prelude.{◌≡◌, ℕ, ◌+◌, ◌%◌, List, ◌++◌, length, fold}
 use Rattle.bloom_parts.specs.Sip.{Words, start, absorb, answer, whole_words, rest, last_word, sip}
 
--- the two words of its key, its state, the bytes since the last whole word, and how many bytes in all modulo 256
+-- its key, its state, the bytes since the last whole word, and how many it took modulo 256
 pub record SipState : Type 0 where
   pub low : ℕ
   pub high : ℕ

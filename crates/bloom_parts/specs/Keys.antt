@@ -1,5 +1,5 @@
--- The key of the default hasher: the two little-endian words of sixteen bytes (SipHash, J.-P. Aumasson
--- and D. J. Bernstein, 2012, section 2).
+-- The key of the default hasher: the two little-endian words of sixteen bytes (J.-P. Aumasson and
+-- D. J. Bernstein, "SipHash: a fast short-input PRF", 2012, section 2).
 use Rattle.std.specs.Prelude.{ℕ, List, [], take, drop}
 use Rattle.std.specs.Int.{w64, from_le_bytes}
 use Rattle.bloom_parts.specs.declared.hasher.CloneBuildHasher.{CloneBuildHasher}

@@ -1,6 +1,6 @@
--- SipHash-1-3 of a whole list of bytes (J.-P. Aumasson and D. J. Bernstein, "SipHash: a fast short-input
--- PRF", 2012, section 2: initialization, compression by one round a word, finalization by three rounds).
--- A byte is a number below 256, and the key is given by its two little-endian words.
+-- SipHash-1-3 of a whole list of bytes (J.-P. Aumasson and D. J. Bernstein, "SipHash: a fast
+-- short-input PRF", 2012, section 2: initialization, compression by one round a word, finalization
+-- by three rounds). A byte is a number below 256; the key is given by its two little-endian words.
 use Rattle.std.specs.Prelude.{ℕ, ◌+◌, ◌*◌, ◌%◌, ◌^◌, List, [], ◌∷◌, ◌++◌, length, fold, bit_xor}
 use Rattle.std.specs.Int.{w64, rotate_left, from_le_bytes}
 

@@ -1,6 +1,6 @@
 -- The number of hashes and the number of bits of a filter. For n bits, i items and the rate p they
 -- follow the formulas n / i * ln 2 and i * log2 (1 / p) / ln 2 (B. H. Bloom, 1970; A. Broder and
--- M. Mitzenmacher, "Network applications of Bloom filters: a survey", 2004, section 2.1). How they
+-- M. Mitzenmacher, "Network applications of Bloom filters: a survey", 2004). How they
 -- are rounded is this project's choice.
 use Rattle.std.specs.Prelude.{◌≡◌, ◌↔◌, ℕ, ◌+◌, ◌-◌, ◌*◌, ◌/◌, ◌%◌, ◌^◌, ◌<◌, ◌≤◌, min, max, nat_eq, if◌then◌else◌}
 use Rattle.std.specs.Int.{div_ceil}

@@ -26,7 +26,7 @@ impl<H: Hasher + Copy> BuildHasher for CloneBuildHasher<H> {
     }
 }
 
-/// What builds the hashers of a filter that was given no other: SipHash-1-3 under a key, by default of zeros.
+/// What builds the hashers of a filter that was given no other. Its default has a key of zeros.
 pub type DefaultHasher = CloneBuildHasher<RandomDefaultHasher>;
 
 impl CloneBuildHasher<RandomDefaultHasher> {

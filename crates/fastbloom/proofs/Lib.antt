@@ -1,8 +1,11 @@
 mod AlgebraLemmas
+mod BuilderLemmas
 mod FoundLemmas
 mod LawLemmas
 mod ListLemmas
 mod PositionLemmas
 mod RateLemmas
 mod ReplyLemmas
+mod RunLemmas
+mod StepLemmas
 mod StretchLemmas

@@ -3,22 +3,6 @@ use Rattle.std.proofs.Common.{◌≡◌, ℕ, zero, suc, ◌+◌, ◌<◌, Bool,
 use Rattle.std.proofs.lemmas.Bool.{cases_lt, or_cases, and_parts, and_from, or_left, or_right, eqb-true, eq-eqb, false_from_ne_true, both_ways}
 use Rattle.bloom_parts.specs.Places.{place, positions, are_in, IsPart}
 
-pub positions-zero : (n h p : ℕ) → positions n 0 h p ≡ false
-unfolding positions
-positions-zero n h p = refl
-
-pub positions-next : (n i h p : ℕ) → positions n (i + 1) h p ≡ (positions n i h p || eqb p (place n h i))
-unfolding positions
-positions-next n i h p = rw add-one refl
-
-pub are_in-zero : (n h : ℕ) (A : ℕ → Bool) → are_in n 0 h A ≡ true
-unfolding are_in
-are_in-zero n h A = refl
-
-pub are_in-next : (n i h : ℕ) (A : ℕ → Bool) → are_in n (i + 1) h A ≡ (are_in n i h A && A (place n h i))
-unfolding are_in
-are_in-next n i h A = rw add-one refl
-
 -- where all are in a set, their positions are a part of it
 pub part-from : (n k h : ℕ) (A : ℕ → Bool) → are_in n k h A ≡ true → IsPart (positions n k h) A
 unfolding positions are_in
@@ -39,20 +23,6 @@ part-to n (suc k) h A part =
     and_from (are_in n k h A) (A (place n h k))
     (part-to n k h A (λ p is. part p (or_left (positions n k h p) (eqb p (place n h k)) is)))
     (part here (or_right (positions n k h here) (eqb here here) (eq-eqb here here refl)))
-
--- a place that an earlier one turned on was off before only if the reply is false already
-pub reply-next : (n i h : ℕ) (A : ℕ → Bool)
-    → (are_in n i h A && (A (place n h i) || positions n i h (place n h i))) ≡ are_in n (i + 1) h A
-reply-next n i h A =
-    both (are_in n i h A) (A (place n h i)) (positions n i h (place n h i))
-    (λ all is. part-from n i h A all (place n h i) is)
-    ∙ sym (are_in-next n i h A)
-  where
-    both : (a b c : Bool) → (a ≡ true → c ≡ true → b ≡ true) → (a && (b || c)) ≡ (a && b)
-    both false b c from = refl
-    both true true c from = refl
-    both true false false from = refl
-    both true false true from = sym (from refl refl)
 
 -- where all are in a set, each is
 pub are_in-at : (n k h : ℕ) (A : ℕ → Bool) (i : ℕ) → i < k → are_in n k h A ≡ true → A (place n h i) ≡ true

@@ -2,6 +2,8 @@
 use Rattle.std.specs.Prelude.{◌≡◌, ◌≤◌, ◌↔◌, ℕ, ◌*◌, Bool, true, false, ◌||◌, ◌&&◌, max, IsTrue, List, ◌∷◌, ◌++◌, length, map, All, ⊤}
 use Rattle.bloom_parts.specs.Content.{content}
 use Rattle.bloom_parts.specs.Places.{positions, IsPart}
+use Rattle.bloom_parts.specs.Rates.{num_of, den_of}
+use Rattle.fastbloom.specs.Builders.{Start, RateStart, same_start, same_rate_start}
 use Rattle.fastbloom.specs.CommandOf.{operation_of}
 use Rattle.fastbloom.specs.Commands.{Operation, Insert, Contains, Clear, Union, Intersect}
 use Rattle.fastbloom.specs.Filter.{Filter, SameShape, contains, Inserts, Clears, Unites, Intersects, same_filter}
@@ -97,6 +99,15 @@ RebuiltLaw S = (f made : Filter S) → 1 ≤ f.hashes → Rebuilds f made
 abbrev pub EqualityLaw : (S : Type 0) → Type 0
 EqualityLaw S = (f g : Filter S)
     → IsTrue (same_filter f g) ↔ ((f.words ≡ g.words) × (f.hashes ≡ g.hashes))
+
+-- builders are equal exactly if their words are, whatever their hashers
+abbrev pub EqualStartsLaw : (S : Type 0) → Type 0
+EqualStartsLaw S = (a b : Start S) → IsTrue (same_start a b) ↔ (a.words ≡ b.words)
+
+-- builders of a rate are equal exactly if the cross products of their rates are, whatever their hashers
+abbrev pub EqualRateStartsLaw : (S : Type 0) → Type 0
+EqualRateStartsLaw S = (a b : RateStart S) → IsTrue (same_rate_start a b)
+    ↔ (num_of a.rate * den_of b.rate ≡ num_of b.rate * den_of a.rate)
 
 -- what two lists of commands do one after the other, one list of both does
 abbrev pub JoinedListsLaw : (S : Type 0) → Type 0

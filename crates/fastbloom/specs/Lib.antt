@@ -2,7 +2,17 @@ pub mod Builders
 pub mod CommandOf
 pub mod Commands
 pub mod Filter
+pub mod Interleavings
 pub mod Laws
+pub mod Machines
+pub mod Memories
+pub mod Moments
 pub mod Replies
+pub mod Scripts
+pub mod Sequences
 pub mod SourceHash
+pub mod Steps
 pub mod Stretches
+pub mod Traces
+pub mod Turns
+pub mod Worlds

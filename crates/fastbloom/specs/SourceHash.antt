@@ -1,5 +1,5 @@
--- The hash that stands for an item (fastbloom 0.17.0, lib.rs). What a hasher does is given by two functions:
--- what it becomes by a write, and what it answers. What an item writes is a list of lists of bytes.
+-- The hash that stands for an item (fastbloom 0.17.0, lib.rs). What a hasher does is given by two
+-- functions: what it becomes by a write, and what it answers. An item writes lists of bytes.
 use Rattle.std.specs.Prelude.{◌≡◌, ℕ, List, fold}
 use Rattle.std.specs.List.{concat}
 

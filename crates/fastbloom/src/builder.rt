@@ -1,16 +1,41 @@
 //! Builders of filters.
-ghost use Rattle.std.specs.Prelude.{◌≡◌, vec_len, IfOk, max};
+ghost use Rattle.std.specs.Prelude.{◌≡◌, ◌<◌, length, replicate, vec_len, IfOk, max, nat_eq};
 ghost use Rattle.std.specs.Result.{result_err};
 ghost use Rattle.std.specs.Int.{w128, to_be_bytes};
+ghost use Rattle.std.specs.Iterator.{IsFiniteIterable, items_left};
+ghost use Rattle.std.specs.Iterator.Runs.{WholeRun};
+ghost use Rattle.std.specs.Cmp.Lexicographic.{nat_list_eq_equiv};
+ghost use Rattle.std.specs.Cmp.{on_equiv, partial_equiv_from_equiv};
 ghost use Rattle.bloom_parts.specs.Keys.{HasKey, key_low, key_high};
-ghost use Rattle.fastbloom.specs.Builders.{words_refusal};
+ghost use Rattle.fastbloom.specs.Builders.{words_for, words_refusal, bits_refusal, size_refusal, RefusesAs, sized_filter, same_start};
+ghost use Rattle.fastbloom.specs.Replies.{InsertsItems};
+ghost use Rattle.fastbloom.specs.SourceHash.{item_hash};
+
+mod rate;
 
 use crate::bloom::BloomFilter;
 use bloom_parts::bit_vector::{BitVec, MAX_WORDS};
 use bloom_parts::error::FilterError;
 use bloom_parts::hasher::DefaultHasher;
-use std::hash::BuildHasher;
+use bloom_parts::math::optimal_hashes;
+pub use rate::BuilderWithFalsePositiveRate;
+use std::alloc::Global;
+use std::hash::{BuildHasher, Hash};
 use std::marker::Model;
+
+// Zero words for this many bits, in one allocation.
+fn zero_bits(alloc: Global, num_bits: usize) -> Result<BitVec, FilterError>
+    requires { 0 < num_bits }
+    ensures words { IfOk result (λ bits. bits ≡ replicate (words_for num_bits) 0) }
+    ensures refused { RefusesAs (size_refusal num_bits) (result_err result) }
+{
+    let num_words = num_bits.div_ceil(64);
+    if num_words > MAX_WORDS {
+        return Err(FilterError::TooManyWords);
+    }
+    let words = vec![in alloc; 0u64; num_words]?;
+    Ok(BitVec::from_vec(words))
+}
 
 /// A builder that has the words of the filter. Contracts see the words and the hasher.
 #[derive(Debug, Drop)]
@@ -30,6 +55,22 @@ impl<S> Model for BuilderWithBits<S> {
 }
 
 impl BuilderWithBits {
+    // A builder of zero words for this many bits, under the zero key.
+    pub(crate) fn with_num_bits(alloc: Global, num_bits: usize) -> Result<Self, FilterError>
+        ensures words { IfOk result (λ builder.
+            builder.words ≡ replicate (words_for num_bits) 0) }
+        ensures key { IfOk result (λ builder. HasKey builder.hasher 0 0) }
+        ensures refused { RefusesAs (bits_refusal num_bits) (result_err result) }
+    {
+        if num_bits == 0 {
+            return Err(FilterError::ZeroBits);
+        }
+        Ok(BuilderWithBits {
+            bits: zero_bits(alloc, num_bits)?,
+            hasher: DefaultHasher::default(),
+        })
+    }
+
     // A builder of these words, under the zero key.
     pub(crate) fn from_vec(words: Vec<u64>) -> Result<Self, FilterError>
         ensures words { IfOk result (λ builder. builder.words ≡ words.items) }
@@ -82,4 +123,47 @@ impl<S> BuilderWithBits<S> {
     {
         BloomFilter::from_parts(self.bits, num_hashes, self.hasher)
     }
+    /// The filter with as many hashes as suit its bits and this many items, where 0 counts as 1.
+    pub fn expected_items(self, expected_items: usize) -> BloomFilter<S>
+        ensures { result ≡ sized_filter self expected_items }
+    {
+        let num_hashes = optimal_hashes(self.bits.num_bits(), expected_items.max(1));
+        self.hashes(num_hashes)
+    }
+}
+
+impl<S: BuildHasher> BuilderWithBits<S> {
+    /// The filter for as many items as the iterator says it has, into which all that come were inserted.
+    pub fn items<'a, T: Hash + 'a, I: IntoIterator<Item = &'a T>>(self, items: I) -> BloomFilter<S>
+    where
+        I::IntoIter: ExactSizeIterator,
+        // The iterator ends.
+        requires { IsFiniteIterable I.into_iter_gives I.IntoIter.can_next I.IntoIter.remaining items }
+        ensures words { length result.words ≡ length self.words }
+        ensures hasher { result.hasher ≡ self.hasher }
+        ensures content { (it : I.IntoIter) × I.into_iter_gives items it
+            × WholeRun I.IntoIter.next_gives it (λ run. InsertsItems (item_hash S.Hasher.write
+            S.Hasher.finish S.build_hasher (λ item. T.hash_input item.now))
+            (sized_filter self (items_left I.IntoIter.remaining it)) run.items result) }
+    {
+        let items = items.into_iter();
+        let mut filter = self.expected_items(items.len());
+        filter.insert_all(items);
+        filter
+    }
+}
+
+/// Builders are equal where their words are, whatever their hashers.
+impl<S> PartialEq for BuilderWithBits<S> {
+    ghost eq = { same_start };
+
+    ghost laws = { partial_equiv_from_equiv (on_equiv (λ b. b.words) nat_list_eq_equiv) };
+
+    fn eq(&self, other: &Self) -> bool {
+        self.bits == other.bits
+    }
+}
+
+impl<S> Eq for BuilderWithBits<S> {
+    ghost laws = { on_equiv (λ b. b.words) nat_list_eq_equiv };
 }

@@ -5,12 +5,16 @@ ghost use Rattle.bloom_parts.specs.Keys.{HasKey};
 ghost use Rattle.bloom_parts.specs.Sip.{sip};
 ghost use Rattle.bloom_parts.specs.declared.hasher.CloneBuildHasher.{CloneBuildHasher as Builder};
 ghost use Rattle.fastbloom.specs.Filter.{Unites, Intersects};
-ghost use Rattle.fastbloom.specs.Laws.{InsertLaw, KeptByInsertLaw, KeptByUnionLaw, KeptByListLaw, KeptByInsertsLaw, IntersectionLaw, UnionLaw, ClearLaw, IsCommutative, IsAssociative, IsIdempotent, RebuiltLaw, EqualityLaw, JoinedListsLaw, FoundLaw, FoundAfterInsertsLaw, FoundAfterReplayLaw};
+ghost use Rattle.fastbloom.specs.Laws.{InsertLaw, KeptByInsertLaw, KeptByUnionLaw, KeptByListLaw, KeptByInsertsLaw, IntersectionLaw, UnionLaw, ClearLaw, IsCommutative, IsAssociative, IsIdempotent, RebuiltLaw, EqualityLaw, EqualStartsLaw, EqualRateStartsLaw, JoinedListsLaw, FoundLaw, FoundAfterInsertsLaw, FoundAfterReplayLaw};
 ghost use Rattle.fastbloom.specs.SourceHash.{hash_by, IsFunctionOfBytes};
 
 use bloom_parts::hasher::{DefaultHasher, RandomDefaultHasher};
 use bloom_parts::laws::hash_of_pieces;
 use std::hash::{BuildHasher, Hash, Hasher};
+
+mod steps;
+
+pub use steps::{at_most_one_course, steps_in_memory};
 
 /// An insert answers what a look-up would have, and afterwards the hash is contained.
 pub fn insert_answers_contains<S>()
@@ -64,6 +68,12 @@ pub fn equality_of_filters<S>()
     ensures { EqualityLaw S }
 {}
 
+/// Builders are equal exactly if their words, or their rates as fractions, are.
+pub fn equality_of_builders<S>()
+    ensures words { EqualStartsLaw S }
+    ensures rates { EqualRateStartsLaw S }
+{}
+
 /// Calls one after the other do what one list of them does, since each is a list of one command.
 pub fn lists_join<S>()
     ensures { JoinedListsLaw S }
@@ -76,14 +86,16 @@ pub fn inserted_stays_found<S>()
     ensures replay { FoundAfterReplayLaw S }
 {}
 
-/// Under the default hasher the source hash of an item is SipHash-1-3 of the bytes that the item writes.
+/// Under the default hasher a source hash is SipHash-1-3 of the bytes that the item writes.
 pub fn source_hash_by_default<T: Hash>()
     // The default hasher is a function of the bytes written, as `source_hash` asks.
     ensures bytes { (builder : Builder RandomDefaultHasher) (k0 k1 : ℕ) → HasKey builder k0 k1
-        → IsFunctionOfBytes ⟦<RandomDefaultHasher as Hasher>⟧.write ⟦<RandomDefaultHasher as Hasher>⟧.finish
+        → IsFunctionOfBytes ⟦<RandomDefaultHasher as Hasher>⟧.write
+        ⟦<RandomDefaultHasher as Hasher>⟧.finish
         (⟦<DefaultHasher as BuildHasher>⟧.build_hasher builder) (sip k0 k1) }
     // The left side is what `source_hash` answers.
-    ensures item { (builder : Builder RandomDefaultHasher) (k0 k1 : ℕ) (item : T) → HasKey builder k0 k1
+    ensures item { (builder : Builder RandomDefaultHasher) (k0 k1 : ℕ) (item : T)
+        → HasKey builder k0 k1
         → hash_by ⟦<RandomDefaultHasher as Hasher>⟧.write ⟦<RandomDefaultHasher as Hasher>⟧.finish
         (⟦<DefaultHasher as BuildHasher>⟧.build_hasher builder) (T.hash_input item)
         ≡ sip k0 k1 (concat (T.hash_input item)) }

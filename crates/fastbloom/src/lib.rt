@@ -4,6 +4,7 @@
 mod bloom;
 mod builder;
 pub mod laws;
+mod steps;
 
 pub use bloom::{BloomFilter, Command};
 pub use bloom_parts::bit_vector::Words;
@@ -12,4 +13,7 @@ pub use bloom_parts::hasher::{CloneBuildHasher, DefaultHasher, RandomDefaultHash
 pub use bloom_parts::math::{
     Bracket, Rate, expected_density, expected_false_pos, optimal_hashes, optimal_size,
 };
-pub use builder::BuilderWithBits;
+pub use builder::{BuilderWithBits, BuilderWithFalsePositiveRate};
+pub use steps::{
+    Call, End, Event, Machine, MemoryStore, Record, Step, Trace, WordStore, drive, run,
+};

@@ -2,6 +2,8 @@
 #![tactic(auto)]
 
 #[cfg(test)]
+mod builders;
+#[cfg(test)]
 mod first;
 #[cfg(test)]
 mod hashing;
@@ -9,3 +11,5 @@ mod hashing;
 mod lists;
 #[cfg(test)]
 mod sizing;
+#[cfg(test)]
+mod steps;

@@ -1,4 +1,4 @@
-//! Sizes, rates and brackets at values worked out by hand from their definitions.
+//! Sizes, rates and brackets at values from outside.
 use fastbloom::{
     BloomFilter, Bracket, FilterError, Rate, expected_density, expected_false_pos, optimal_hashes,
     optimal_size,

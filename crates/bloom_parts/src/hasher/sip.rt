@@ -114,7 +114,7 @@ impl RandomDefaultHasher {
     }
 
     // Takes in bytes where none is held: whole words, and then what remains.
-    #[inline]
+    #[inline(always)]
     fn push(&mut self, bytes: &[u8])
         requires { self.old.held ≡ [] }
         ensures { self.new ≡ hashed.write self.old bytes.now }
@@ -125,7 +125,7 @@ impl RandomDefaultHasher {
     }
 
     // Takes in whole words where no byte is held.
-    #[inline]
+    #[inline(always)]
     fn push_words(&mut self, words: &[[u8; 8]])
         requires { self.old.held ≡ [] }
         ensures { self.new ≡ hashed.write self.old (concat words.now) }

@@ -11,23 +11,25 @@ use std::hash::{BuildHasher, Hash, Hasher};
 
 impl<S: BuildHasher> BloomFilter<S> {
     /// The source hash of an item: the answer of a fresh hasher to which the item was hashed.
-    ///
-    /// Items that are equal have the same source hash under every hasher, by the laws of `Eq` and `Hash`.
     #[inline]
     pub fn source_hash<T: Hash>(&self, val: &T) -> u64
         ensures hash { result ≡ hash_by S.Hasher.write S.Hasher.finish
             (S.build_hasher self.now.hasher) (T.hash_input val.now) }
-        // Where the hasher's answer is a function of the bytes written, it is that of the item's bytes.
+        // Where the hasher answers by a function of the bytes written, it is that of the item's.
         ensures bytes { (f : List ℕ → ℕ)
             → IsFunctionOfBytes S.Hasher.write S.Hasher.finish (S.build_hasher self.now.hasher) f
             → result ≡ f (concat (T.hash_input val.now)) }
+        // An equal item has the same.
+        ensures alike { (other : T) → IsTrue (T.eq val.now other)
+            → result ≡ hash_by S.Hasher.write S.Hasher.finish
+            (S.build_hasher self.now.hasher) (T.hash_input other) }
     {
         let mut state = self.hasher.build_hasher();
         val.hash(&mut state);
         state.finish()
     }
 
-    /// Turns on all positions of an item's source hash, and answers whether all were on just before.
+    /// Turns on all positions of an item's source hash, and answers whether all were on before.
     #[inline]
     pub fn insert<T: Hash>(&mut self, val: &T) -> bool
         ensures inserts { let hash = hash_by S.Hasher.write S.Hasher.finish
@@ -47,7 +49,7 @@ impl<S: BuildHasher> BloomFilter<S> {
         self.insert_hash(hash)
     }
 
-    /// Whether all positions of an item's source hash are on: false means that it was never inserted.
+    /// Whether all positions of an item's source hash are on: false means it was never inserted.
     #[inline]
     pub fn contains<T: Hash>(&self, val: &T) -> bool
         ensures found { result ≡ contains self.now (hash_by S.Hasher.write S.Hasher.finish

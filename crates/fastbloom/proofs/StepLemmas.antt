@@ -1,0 +1,10 @@
+pub mod Asking
+pub mod Completing
+pub mod Deciding
+pub mod Driving
+pub mod Going
+pub mod Growing
+pub mod Members
+pub mod Replying
+pub mod Whole
+pub mod Writing

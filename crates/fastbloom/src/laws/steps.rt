@@ -1,0 +1,13 @@
+//! Laws of word steps.
+ghost use Rattle.fastbloom.specs.Memories.{MemoryLaw};
+ghost use Rattle.fastbloom.specs.Traces.{AtMostOne};
+
+/// Steps in memory, one after the other, make each position what the last that decides it says.
+pub fn steps_in_memory()
+    ensures { MemoryLaw }
+{}
+
+/// At most one course is lawful and follows a given schedule, so a run has no choice.
+pub fn at_most_one_course()
+    ensures { AtMostOne }
+{}

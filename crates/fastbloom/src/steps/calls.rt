@@ -1,0 +1,68 @@
+//! The words that the core of word steps speaks in.
+
+/// One operation on the word of an index.
+#[derive(Clone, Copy, Debug, PartialEq, Eq)]
+pub enum Step {
+    /// Reads a word.
+    Load(usize),
+    /// Turns on the bits of a mask, and finds the word as it was.
+    Or(usize, u64),
+    /// Turns off the bits that a mask lacks, and finds the word as it was.
+    And(usize, u64),
+    /// Turns off a whole word. What it finds is always 0.
+    Zero(usize),
+    /// Reads a word of the other filter.
+    Other(usize),
+}
+
+/// A call on a filter.
+#[derive(Clone, Copy, Debug, PartialEq, Eq)]
+pub enum Call {
+    /// Turns on the positions of a hash.
+    Insert(u64),
+    /// Asks whether the positions of a hash are on.
+    Contains(u64),
+    /// Turns off every position.
+    Clear,
+    /// Turns on what is on in the other filter.
+    Union,
+    /// Turns off what is off in the other filter.
+    Intersect,
+}
+
+/// What a schedule asks of a run.
+#[derive(Clone, Copy, Debug, PartialEq, Eq)]
+pub enum Event {
+    /// A party begins a call.
+    Begin { party: usize, call: Call },
+    /// A party makes one step. The word given counts where the step reads the other filter.
+    Go { party: usize, given: u64 },
+}
+
+/// How a call stands after a step.
+#[derive(Clone, Copy, Debug, PartialEq, Eq)]
+pub enum End {
+    /// It has further steps to make.
+    Running,
+    /// It has ended, and answers nothing.
+    Done,
+    /// It has ended with an answer.
+    Answer(bool),
+}
+
+/// What happened in a run.
+#[derive(Clone, Copy, Debug, PartialEq, Eq)]
+pub enum Record {
+    /// A party began a call.
+    Began {
+        party: usize,
+        call: Call,
+    },
+    /// A party made a step, which found a word and left the call as said.
+    Did {
+        party: usize,
+        step: Step,
+        found: u64,
+        ended: End,
+    },
+}

@@ -1,0 +1,14 @@
+-- A store that counts the steps made on it. It stands for any store that has a relation of its own.
+use Rattle.std.specs.Prelude.{◌≡◌, ◌+◌, ◌%◌, ◌^◌, ℕ}
+use Rattle.fastbloom.specs.declared.steps.calls.Step.{Step}
+use Rattle.fastbloom.specs.Memories.{Memory, Moves}
+
+-- words in memory, and how many steps were made on them
+pub record Counted : Type 0 where
+  pub memory : Memory
+  pub steps : ℕ
+
+-- a step moves the memory as the table says, and the count by one
+pub record Counts (before : Counted) (step : Step) (found : ℕ) (after : Counted) : Type 0 where
+  pub moves : Moves before.memory step found after.memory
+  pub one_more : after.steps ≡ (before.steps + 1) % 2 ^ 64

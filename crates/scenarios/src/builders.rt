@@ -1,0 +1,221 @@
+//! Builders: sizes, counts, refusals and items at values worked out by hand from their definitions.
+ghost use Rattle.std.specs.Prelude.{◌≤◌, length};
+ghost use Rattle.std.specs.Iterator.{at_most};
+ghost use Rattle.fastbloom.specs.Builders.{sized_filter};
+ghost use Rattle.fastbloom.specs.Replies.{InsertsItems};
+ghost use Rattle.fastbloom.specs.SourceHash.{item_hash};
+
+use fastbloom::{BloomFilter, BuilderWithBits, FilterError, Rate};
+use std::cell::Cell;
+use std::hash::{BuildHasher, Hash, Hasher};
+use std::test::Fail;
+
+// The items of a slice, in order: what `items` says of any iterator tells its callers this.
+fn fill_by_slice<S: BuildHasher, T: Hash>(
+    builder: BuilderWithBits<S>,
+    items: &[T],
+) -> BloomFilter<S>
+    ensures { InsertsItems (item_hash S.Hasher.write S.Hasher.finish S.build_hasher T.hash_input)
+        (sized_filter builder (length items.now)) items.now result }
+{
+    builder.items(items)
+}
+
+// Says that it has more items than come, and counts those that are taken.
+#[derive(Drop)]
+struct Overstated<'a> {
+    rest: &'a [u64],
+    said: usize,
+    taken: &'a Cell<usize>,
+    ghost enough: { length rest.now ≤ said },
+}
+
+impl<'a> Iterator for Overstated<'a> {
+    type Item = &'a u64;
+
+    ghost remaining = { λ s. at_most s.said };
+
+    fn next(&mut self) -> Option<&'a u64> {
+        let (first, others) = self.rest.split_first()?;
+        *self = Overstated {
+            rest: others,
+            said: self.said - 1,
+            taken: self.taken,
+        };
+        self.taken.set(self.taken.get().saturating_add(1));
+        Some(first)
+    }
+}
+
+impl<'a> ExactSizeIterator for Overstated<'a> {
+    fn len(&self) -> usize {
+        self.said
+    }
+}
+
+#[test]
+fn bits_are_rounded_up_to_words(rt: HostRuntime) -> Result<(), Fail> {
+    for (asked, bits) in [(1, 64), (64, 64), (65, 128), (1202, 1216), (512000, 512000)] {
+        let filter = BloomFilter::with_num_bits(rt.alloc(), asked)?.hashes(4);
+        assert_eq!(rt; filter.num_bits(), bits, "{asked} bits");
+        assert_eq!(rt; filter.num_hashes(), 4, "{asked} bits");
+        assert!(rt; filter.iter().all(|word| word == 0), "{asked} bits");
+    }
+    Ok(())
+}
+
+#[test]
+fn hashes_are_as_many_as_asked(rt: HostRuntime) -> Result<(), Fail> {
+    let none = BloomFilter::with_num_bits(rt.alloc(), 1)?.hashes(0);
+    assert_eq!(rt; (none.num_bits(), none.num_hashes()), (64, 1));
+    for hashes in 1..1000 {
+        let filter = BloomFilter::with_num_bits(rt.alloc(), 1)?.hashes(hashes);
+        assert_eq!(rt; filter.num_hashes(), hashes);
+    }
+    Ok(())
+}
+
+// No bits, more than 2^58 - 1 words twice, and 2^61 - 8 bytes, which no machine has.
+#[test]
+fn bits_are_refused_in_order(rt: HostRuntime) {
+    for (bits, refused) in [
+        (0, FilterError::ZeroBits),
+        (18446744073709551615, FilterError::TooManyWords),
+        (18446744073709551553, FilterError::TooManyWords),
+        (18446744073709551552, FilterError::Memory),
+    ] {
+        let builder = BloomFilter::with_num_bits(rt.alloc(), bits);
+        assert!(rt; builder == Err(refused), "{bits} bits");
+    }
+}
+
+// The logarithm of 2 times 64 is 44.4, times 1216 / 4 it is 210.7, and times 64 / 500 it is 0.09.
+#[test]
+fn bits_and_items_fix_the_number_of_hashes(rt: HostRuntime) -> Result<(), Fail> {
+    for (bits, items, hashes) in [(64, 1, 44), (64, 0, 44), (1202, 4, 211), (64, 500, 1)] {
+        let mut filter = BloomFilter::with_num_bits(rt.alloc(), bits)?.expected_items(items);
+        assert_eq!(rt; filter.num_hashes(), hashes, "{bits} bits, {items} items");
+        assert!(rt; !filter.insert(&5), "{bits} bits, {items} items");
+    }
+    Ok(())
+}
+
+// A half has one halving, a thousandth nearly ten, 3/2 none. Bits are rounded up to words.
+#[test]
+fn a_rate_and_items_fix_the_shape(rt: HostRuntime) -> Result<(), Fail> {
+    for (num, den, items, bits, hashes) in [
+        (1, 2, 1000, 1472, 1),
+        (1, 2, 0, 64, 44),
+        (3, 2, 1000, 64, 1),
+        (1, 1000, 1000, 14400, 10),
+    ] {
+        let builder = BloomFilter::with_false_pos(Rate::new(num, den)?);
+        let filter = builder.expected_items(rt.alloc(), items)?;
+        assert_eq!(rt; filter.num_bits(), bits, "{num}/{den}, {items} items");
+        assert_eq!(rt; filter.num_hashes(), hashes, "{num}/{den}, {items} items");
+        assert!(rt;
+            filter.iter().all(|word| word == 0),
+            "{num}/{den}, {items} items"
+        );
+    }
+    Ok(())
+}
+
+// The size is 2^64 - 8 bits, and for one item more 2^64.
+#[test]
+fn sizes_for_a_rate_are_refused_in_order(rt: HostRuntime) -> Result<(), Fail> {
+    for (items, refused) in [
+        (12786308645202655226, FilterError::TooManyWords),
+        (12786308645202655227, FilterError::SizeOverflow),
+        (18446744073709551615, FilterError::SizeOverflow),
+    ] {
+        let builder = BloomFilter::with_false_pos(Rate::new(1, 2)?);
+        let filter = builder.expected_items(rt.alloc(), items);
+        assert!(rt; filter == Err(refused), "{items} items");
+    }
+    Ok(())
+}
+
+#[test]
+fn items_size_a_filter_and_go_in(rt: HostRuntime) -> Result<(), Fail> {
+    let texts = ["42", "🦀"];
+    let filter = BloomFilter::with_false_pos(Rate::new(1, 1000)?).items(rt.alloc(), &texts)?;
+    assert_eq!(rt; (filter.num_bits(), filter.num_hashes()), (64, 22));
+    assert!(rt; filter.contains(&"42"));
+    assert!(rt; filter.contains(&"🦀"));
+    let filled = fill_by_slice(BloomFilter::with_num_bits(rt.alloc(), 64)?, &texts);
+    assert!(rt; filled == filter);
+    Ok(())
+}
+
+#[test]
+fn a_filter_of_items_is_built_again_from_its_words(rt: HostRuntime) -> Result<(), Fail> {
+    let builder = BloomFilter::with_false_pos(Rate::new(1, 1000)?).seed(&42);
+    let filter = builder.items(rt.alloc(), &[1, 2])?;
+    let words = filter.as_slice().to_vec(rt.alloc())?;
+    let again = BloomFilter::from_vec(words)?
+        .seed(&42)
+        .hashes(filter.num_hashes());
+    assert!(rt; again == filter);
+    for item in [1, 2] {
+        assert!(rt; filter.contains(&item), "{item}");
+        assert!(rt; again.contains(&item), "{item}");
+    }
+    Ok(())
+}
+
+#[test]
+fn a_clone_of_a_built_filter_goes_its_own_way(rt: HostRuntime) -> Result<(), Fail> {
+    let filter = BloomFilter::with_num_bits(rt.alloc(), 4)?.hashes(4);
+    let mut copy = filter.try_clone(rt.alloc())?;
+    assert!(rt; copy == filter);
+    copy.insert(&42);
+    assert!(rt; copy != filter);
+    Ok(())
+}
+
+// The number of items that an iterator says sizes the filter, and those that come go in.
+#[test]
+fn what_an_iterator_says_sizes_alone(rt: HostRuntime) -> Result<(), Fail> {
+    let taken = Cell::new(0);
+    let items = Overstated {
+        rest: &[1, 2, 3],
+        said: 500,
+        taken: &taken,
+    };
+    let filter = BloomFilter::with_num_bits(rt.alloc(), 64)?.items(items);
+    assert_eq!(rt; filter.num_hashes(), 1);
+    let mut by_one = BloomFilter::with_num_bits(rt.alloc(), 64)?.hashes(1);
+    for item in [1u64, 2, 3] {
+        by_one.insert(&item);
+    }
+    assert!(rt; filter == by_one);
+    assert_eq!(rt; taken.get(), 3);
+    Ok(())
+}
+
+#[test]
+fn a_refused_size_takes_no_item(rt: HostRuntime) -> Result<(), Fail> {
+    let taken = Cell::new(0);
+    let items = Overstated {
+        rest: &[1, 2, 3],
+        said: 18446744073709551615,
+        taken: &taken,
+    };
+    let filter = BloomFilter::with_false_pos(Rate::new(1, 2)?).items(rt.alloc(), items);
+    assert!(rt; filter == Err(FilterError::SizeOverflow));
+    assert_eq!(rt; taken.get(), 0);
+    Ok(())
+}
+
+// The hashers aren't looked at, and rates are compared as fractions.
+#[test]
+fn builders_are_equal_by_words_or_by_rate(rt: HostRuntime) -> Result<(), Fail> {
+    let half = BloomFilter::with_false_pos(Rate::new(1, 2)?).seed(&1);
+    assert!(rt; half == BloomFilter::with_false_pos(Rate::new(2, 4)?).seed(&2));
+    assert!(rt; half != BloomFilter::with_false_pos(Rate::new(1, 3)?).seed(&1));
+    let five = BloomFilter::from_vec(vec![in rt.alloc(); 5]?)?.seed(&1);
+    assert!(rt; five == BloomFilter::from_vec(vec![in rt.alloc(); 5]?)?.seed(&2));
+    assert!(rt; five != BloomFilter::from_vec(vec![in rt.alloc(); 6]?)?.seed(&1));
+    Ok(())
+}
