@@ -11,7 +11,10 @@ use std::hash::{BuildHasher, Hash, Hasher};
 use std::test::Fail;
 
 // The items of a slice, in order: what `items` says of any iterator tells its callers this.
-fn fill_by_slice<S: BuildHasher, T: Hash>(builder: BuilderWithBits<S>, items: &[T]) -> BloomFilter<S>
+fn fill_by_slice<S: BuildHasher, T: Hash>(
+    builder: BuilderWithBits<S>,
+    items: &[T],
+) -> BloomFilter<S>
     ensures { InsertsItems (item_hash S.Hasher.write S.Hasher.finish S.build_hasher T.hash_input)
         (sized_filter builder (length items.now)) items.now result }
 {
