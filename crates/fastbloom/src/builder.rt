@@ -133,12 +133,13 @@ impl<S> BuilderWithBits<S> {
 }
 
 impl<S: BuildHasher> BuilderWithBits<S> {
-    /// The filter for as many items as the iterator says it has, into which all that come were inserted.
+    /// A filter for as many items as the iterator's `len()`, into which all that come were inserted.
     pub fn items<'a, T: Hash + 'a, I: IntoIterator<Item = &'a T>>(self, items: I) -> BloomFilter<S>
     where
         I::IntoIter: ExactSizeIterator,
         // The iterator ends.
-        requires { IsFiniteIterable I.into_iter_gives I.IntoIter.can_next I.IntoIter.remaining items }
+        requires { IsFiniteIterable I.into_iter_gives I.IntoIter.can_next I.IntoIter.remaining
+            items }
         ensures words { length result.words ≡ length self.words }
         ensures hasher { result.hasher ≡ self.hasher }
         ensures content { (it : I.IntoIter) × I.into_iter_gives items it

@@ -92,7 +92,7 @@ impl<S: Drop> BuilderWithFalsePositiveRate<S> {
 }
 
 impl<S: BuildHasher + Drop> BuilderWithFalsePositiveRate<S> {
-    /// The filter for as many items as the iterator says it has, into which all that come were inserted.
+    /// A filter for as many items as the iterator's `len()`, into which all that come were inserted.
     ///
     /// # Errors
     /// Those of `expected_items`, before any item is taken.
@@ -104,7 +104,8 @@ impl<S: BuildHasher + Drop> BuilderWithFalsePositiveRate<S> {
     where
         I::IntoIter: ExactSizeIterator,
         // The iterator ends.
-        requires { IsFiniteIterable I.into_iter_gives I.IntoIter.can_next I.IntoIter.remaining items }
+        requires { IsFiniteIterable I.into_iter_gives I.IntoIter.can_next I.IntoIter.remaining
+            items }
         ensures hasher { IfOk result (λ filter. filter.hasher ≡ self.hasher) }
         ensures content { IfOk result (λ filter. (it : I.IntoIter) × I.into_iter_gives items it
             × (made : Filter S) × IsMadeFor self (items_left I.IntoIter.remaining it) made

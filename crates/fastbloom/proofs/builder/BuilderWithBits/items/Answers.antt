@@ -8,10 +8,12 @@ pub returns-clause-content : goal.returns-clause-content
 returns-clause-content g c =
     let H = g.S.Hasher.Hasher in
     let it = c.into_iter-items in
-    let start = c.expected_items-filter.ensures ∙ ap (sized_filter c.args.self) c.len.ensures.value in (
+    let is_len = ap (sized_filter c.args.self) c.len.ensures.value in (
       it.result,
       it.ensures.into_iter_gives,
       inserts_all-same
-          (item_hash H.write H.finish g.S.BuildHasher.build_hasher (λ item. g.T.Hash.hash_input item.now))
-          g.I.IntoIter.Iterator.next_gives _ _ _ _ start c.insert_all.ensures,
+          (item_hash H.write H.finish g.S.BuildHasher.build_hasher
+          (λ item. g.T.Hash.hash_input item.now))
+          g.I.IntoIter.Iterator.next_gives _ _ _ _
+          (c.expected_items-filter.ensures ∙ is_len) c.insert_all.ensures,
     )
