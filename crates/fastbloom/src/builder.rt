@@ -143,6 +143,7 @@ impl<S: BuildHasher> BuilderWithBits<S> {
             items }
         ensures words { length result.words ≡ length self.words }
         ensures hasher { result.hasher ≡ self.hasher }
+        // `items_left` is the iterator's `len()`, which sizes the filter and no more.
         ensures content { (it : I.IntoIter) × I.into_iter_gives items it
             × WholeRun I.IntoIter.next_gives it (λ run. InsertsItems (item_hash S.Hasher.write
             S.Hasher.finish S.build_hasher (λ item. T.hash_input item.now))
