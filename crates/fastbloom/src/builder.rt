@@ -134,7 +134,7 @@ impl<S> BuilderWithBits<S> {
 }
 
 impl<S: BuildHasher> BuilderWithBits<S> {
-    /// A filter for as many items as the iterator's `len()`, into which all that come were inserted.
+    /// A filter for as many items as the iterator's `len()`, into which all that come are inserted.
     pub fn items<'a, T: Hash + 'a, I: IntoIterator<Item = &'a T>>(self, items: I) -> BloomFilter<S>
     where
         I::IntoIter: ExactSizeIterator,

@@ -93,7 +93,7 @@ impl<S: Drop> BuilderWithFalsePositiveRate<S> {
 }
 
 impl<S: BuildHasher + Drop> BuilderWithFalsePositiveRate<S> {
-    /// A filter for as many items as the iterator's `len()`, into which all that come were inserted.
+    /// A filter for as many items as the iterator's `len()`, into which all that come are inserted.
     ///
     /// # Errors
     /// Those of `expected_items`, before any item is taken.
