@@ -21,7 +21,7 @@ inserts_all-same hash_of steps it start made filter is_made all =
     subst (λ f. WholeRun steps it (λ run. InsertsItems hash_of f run.items filter)) is_made
     (subst (λ i. WholeRun steps i (λ run. InsertsItems hash_of start run.items filter)) all.1 all.2)
 
--- the number of bits for a rate's builder is that for its rate and its items, where none counts as one
+-- the number of bits for a rate's builder is that for its rate and items, where none counts as one
 pub size_of-rate : {S : Type 0} (inside start : RateStart S) (expected items bits : ℕ)
     → inside ≡ start → items ≡ max expected 1
     → IsSizeFor items (num_of inside.rate) (den_of inside.rate) bits → IsSizeOf start expected bits

@@ -1,6 +1,6 @@
--- What contracts see of a builder, what it makes, and what it refuses. The filters made are those of
--- the crate fastbloom 0.17.0, builder.rs; the refusals and their order are this project's choice.
-use Rattle.std.specs.Prelude.{◌≡◌, ◌↔◌, ℕ, ◌*◌, ◌^◌, max, Bool, List, length, replicate, IsTrue, Option, Some, None, IfSome, nat_eq, nat_le, if◌then◌else◌, refl}
+-- What contracts see of a builder, what it makes, and what it refuses. The filters made are those
+-- of the crate fastbloom 0.17.0, builder.rs; the refusals and their order are this project's choice.
+use Rattle.std.specs.Prelude.{◌≡◌, ℕ, ◌*◌, ◌^◌, max, Bool, List, length, replicate, Option, Some, None, IfSome, nat_eq, nat_le, if◌then◌else◌, refl}
 use Rattle.std.specs.Cmp.Lexicographic.{pointwise}
 use Rattle.std.specs.Coded.{Coded, code_by, coded×, coded_ℕ, coded_list}
 use Rattle.std.specs.Int.{div_ceil}
@@ -39,8 +39,8 @@ same_rate_start a b = same_rate a.rate b.rate
 abbrev pub words_for : ℕ → ℕ
 words_for bits = div_ceil bits 64
 
--- the filter of a builder's words, with the number of hashes for its bits and these items, where none
--- counts as one
+-- the filter of a builder's words, with the number of hashes for its bits and these items, where
+-- none counts as one
 abbrev pub sized_filter : {S : Type 0} → Start S → ℕ → Filter S
 sized_filter start items = record {
   words = start.words;
