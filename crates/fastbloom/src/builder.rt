@@ -40,6 +40,14 @@ impl<S> Model for BuilderWithBits<S> {
     ghost view = { λ b. record { words = b.bits; hasher = b.hasher } };
 }
 
+// The default hasher with the key of a seed, which is its sixteen big-endian bytes.
+fn hasher_of_seed(seed: &u128) -> DefaultHasher
+    ensures { let bytes = to_be_bytes w128 seed.now in
+        HasKey result (key_low bytes) (key_high bytes) }
+{
+    DefaultHasher::seeded(&seed.to_be_bytes())
+}
+
 // Zero words for this many bits, in one allocation.
 fn zero_bits(alloc: Global, num_bits: usize) -> Result<BitVec, FilterError>
     requires { 0 < num_bits }
@@ -97,7 +105,7 @@ impl BuilderWithBits {
         ensures key { let bytes = to_be_bytes w128 seed.now in
             HasKey result.hasher (key_low bytes) (key_high bytes) }
     {
-        self.hasher(DefaultHasher::seeded(&seed.to_be_bytes()))
+        self.hasher(hasher_of_seed(seed))
     }
 }
 

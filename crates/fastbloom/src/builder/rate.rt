@@ -12,7 +12,7 @@ ghost use Rattle.fastbloom.specs.Filter.{Filter};
 ghost use Rattle.fastbloom.specs.Replies.{InsertsItems};
 ghost use Rattle.fastbloom.specs.SourceHash.{item_hash};
 
-use super::{BuilderWithBits, zero_bits};
+use super::{BuilderWithBits, hasher_of_seed, zero_bits};
 use crate::bloom::BloomFilter;
 use bloom_parts::error::FilterError;
 use bloom_parts::hasher::DefaultHasher;
@@ -54,7 +54,7 @@ impl BuilderWithFalsePositiveRate {
         ensures key { let bytes = to_be_bytes w128 seed.now in
             HasKey result.hasher (key_low bytes) (key_high bytes) }
     {
-        self.hasher(DefaultHasher::seeded(&seed.to_be_bytes()))
+        self.hasher(hasher_of_seed(seed))
     }
 }
 
