@@ -1,11 +1,14 @@
 //! The calls that take an item.
-ghost use Rattle.std.specs.Prelude.{◌≤◌, length};
+ghost use Rattle.std.specs.Prelude.{◌≤◌};
 
 use crate::filters::filter_for;
 use crate::table::Row;
 use fastbloom::BloomFilter;
 use std::rt::Clock;
 use std::time::Instant;
+
+// The bytes of the longest item.
+const MOST_BYTES: usize = 1000;
 
 // The answers of `source_hash` are counted by their lowest bit.
 #[inline(never)]
@@ -17,28 +20,17 @@ fn hash_numbers(filter: &BloomFilter, keys: u64) -> u64 {
     answers
 }
 
-// Each key is 64 bytes at one of 32 places.
+// Each item is text of so many bytes at one of 32 places.
 #[inline(never)]
-fn hash_short_bytes(filter: &BloomFilter, bytes: &[u8], keys: u64) -> u64
-    requires { 96 ≤ length bytes.now }
+fn hash_texts(filter: &BloomFilter, text: &str, size: usize, keys: u64) -> u64
+    requires { size ≤ MOST_BYTES }
 {
     let mut answers: u64 = 0;
     'keys: for key in 0..keys {
         let from = (key % 32) as usize;
-        answers = answers.wrapping_add(filter.source_hash(&&bytes[from..from + 64]) % 2);
-    }
-    answers
-}
-
-// Each key is 1,000 bytes at one of 32 places.
-#[inline(never)]
-fn hash_long_bytes(filter: &BloomFilter, bytes: &[u8], keys: u64) -> u64
-    requires { 1032 ≤ length bytes.now }
-{
-    let mut answers: u64 = 0;
-    'keys: for key in 0..keys {
-        let from = (key % 32) as usize;
-        answers = answers.wrapping_add(filter.source_hash(&&bytes[from..from + 1000]) % 2);
+        if let Some(item) = text.get(from..from + size) {
+            answers = answers.wrapping_add(filter.source_hash(&item) % 2);
+        }
     }
     answers
 }
@@ -60,12 +52,11 @@ pub fn measure<R: Print + AllocGlobal + Clock>(
     rounds: u32,
 ) -> anyhow::Result<()> {
     let operations = u64::from(keys);
-    let long_operations = operations / 10;
     let mut filter = filter_for(rt.alloc(), keys, 7)?;
-    let bytes = vec![in rt.alloc(); 7u8; 1032]?;
+    let text = "0123456789abcdefghijklmnopqrstuv".repeat(rt.alloc(), 33)?;
     let mut number = Row::new("source_hash, u64", 7, operations);
     let mut short = Row::new("source_hash, 64 B", 7, operations);
-    let mut long = Row::new("source_hash, 1,000 B", 7, long_operations);
+    let mut long = Row::new("source_hash, 1,000 B", 7, operations / 10);
     let mut insert = Row::new("insert, u64", 7, operations);
     'rounds: for _round in 0..rounds {
         filter.clear();
@@ -73,10 +64,10 @@ pub fn measure<R: Print + AllocGlobal + Clock>(
         let answers = hash_numbers(&filter, operations);
         number.add(answers, start.elapsed(rt)?);
         let start = Instant::now(rt)?;
-        let answers = hash_short_bytes(&filter, &bytes, operations);
+        let answers = hash_texts(&filter, &text, 64, operations);
         short.add(answers, start.elapsed(rt)?);
         let start = Instant::now(rt)?;
-        let answers = hash_long_bytes(&filter, &bytes, long_operations);
+        let answers = hash_texts(&filter, &text, MOST_BYTES, operations / 10);
         long.add(answers, start.elapsed(rt)?);
         let start = Instant::now(rt)?;
         let answers = insert_numbers(&mut filter, operations);

@@ -18,14 +18,13 @@ use std::rt::{Clock, Env};
 
 // What is measured where no number is given.
 const KEYS: u32 = 1_000_000;
+
 const ROUNDS: u32 = 10;
 
 // The number that the next argument is, or `missing` where there is none.
 fn number(argument: Option<String>, missing: u32) -> anyhow::Result<u32> {
     match argument {
-        Some(text) => text
-            .parse::<u32>()
-            .context("usage: bench [KEYS [ROUNDS]]"),
+        Some(text) => text.parse::<u32>().context("usage: bench [KEYS [ROUNDS]]"),
         None => Ok(missing),
     }
 }

@@ -36,7 +36,8 @@ impl Row {
     // The best round's time for one operation, in picoseconds.
     fn picoseconds(&self) -> Option<u128> {
         let best = self.best?;
-        best.saturating_mul(1000).checked_div(u128::from(self.operations))
+        best.saturating_mul(1000)
+            .checked_div(u128::from(self.operations))
     }
 
     /// Prints the row. The time is left out where nothing was measured.

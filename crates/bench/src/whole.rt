@@ -22,10 +22,7 @@ fn command_on(key: u64) -> Command<'static, DefaultHasher>
 }
 
 // The commands on so many keys.
-fn commands_on(
-    alloc: Global,
-    keys: u32,
-) -> Result<Vec<Command<'static, DefaultHasher>>, AllocError>
+fn commands_on(alloc: Global, keys: u32) -> Result<Vec<Command<'static, DefaultHasher>>, AllocError>
     ensures { IfOk result (λ commands. All FitsEach commands.items) }
 {
     let mut commands = Vec::new(alloc);
@@ -46,6 +43,14 @@ pub fn measure<R: Print + AllocGlobal + Clock>(
     measure_lists(rt, keys, rounds)
 }
 
+// The number of words, or 0 where there are no keys and nothing is measured.
+fn measured_words(filter: &BloomFilter, keys: u32) -> u64 {
+    if keys == 0 {
+        return 0;
+    }
+    filter.as_slice().len() as u64
+}
+
 // The rows of calls on two filters of one shape. The answers of the calls that have none are those
 // of a look-up right after them.
 fn measure_sets<R: Print + AllocGlobal + Clock>(
@@ -56,7 +61,7 @@ fn measure_sets<R: Print + AllocGlobal + Clock>(
     let mut filter = filter_for(rt.alloc(), keys, 7)?;
     let mut other = filter_for(rt.alloc(), keys, 7)?;
     other.insert_hash(0);
-    let words = filter.as_slice().len() as u64;
+    let words = measured_words(&filter, keys);
     let mut union = Row::new("union, a word", 7, words);
     let mut intersect = Row::new("intersect, a word", 7, words);
     let mut equal = Row::new("==, a word", 7, words);
@@ -92,7 +97,7 @@ fn measure_clones<R: Print + AllocGlobal + Clock>(
 ) -> anyhow::Result<()> {
     let mut filter = filter_for(rt.alloc(), keys, 7)?;
     filter.insert_hash(0);
-    let words = filter.as_slice().len() as u64;
+    let words = measured_words(&filter, keys);
     let mut clone = Row::new("try_clone, a word", 7, words);
     'rounds: for _round in 0..rounds {
         let start = Instant::now(rt)?;

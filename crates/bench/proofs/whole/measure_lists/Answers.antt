@@ -1,4 +1,4 @@
-use Rattle.std.proofs.Common.{◌≡◌, All, sym, subst}
+use Rattle.std.proofs.Common.{All, sym, subst}
 use Rattle.fastbloom.specs.CommandOf.{Fits}
 use Rattle.bench.proofs.whole.measure_lists.Goals as goal
 
