@@ -1,6 +1,6 @@
--- What contracts see of a builder, what it makes, and what it refuses. The filters are those of the crate
--- fastbloom 0.17.0, builder.rs; the refusals and their order are this project's choice.
-use Rattle.std.specs.Prelude.{◌≡◌, ◌↔◌, ℕ, ◌*◌, ◌^◌, max, Bool, List, length, replicate, IsTrue, Option, Some, None, IfSome, nat_eq, nat_le, if◌then◌else◌, refl}
+-- What contracts see of a builder, what it makes, and what it refuses. The filters made are those
+-- of the crate fastbloom 0.17.0, builder.rs; the refusals and their order are this project's choice.
+use Rattle.std.specs.Prelude.{◌≡◌, ℕ, ◌*◌, ◌^◌, max, Bool, List, length, replicate, Option, Some, None, IfSome, nat_eq, nat_le, if◌then◌else◌, refl}
 use Rattle.std.specs.Cmp.Lexicographic.{pointwise}
 use Rattle.std.specs.Coded.{Coded, code_by, coded×, coded_ℕ, coded_list}
 use Rattle.std.specs.Int.{div_ceil}
@@ -39,7 +39,8 @@ same_rate_start a b = same_rate a.rate b.rate
 abbrev pub words_for : ℕ → ℕ
 words_for bits = div_ceil bits 64
 
--- the filter of a builder's words, with as many hashes as suit its bits and these items; none counts as one
+-- the filter of a builder's words, with the number of hashes for its bits and these items, where
+-- none counts as one
 abbrev pub sized_filter : {S : Type 0} → Start S → ℕ → Filter S
 sized_filter start items = record {
   words = start.words;
@@ -51,11 +52,11 @@ sized_filter start items = record {
 abbrev pub empty_start : {S : Type 0} → RateStart S → ℕ → Start S
 empty_start start bits = record { words = replicate (words_for bits) 0; hasher = start.hasher }
 
--- the number of bits for these items at a builder's rate; no items count as one
+-- the number of bits for these items at a builder's rate, where none counts as one
 abbrev pub IsSizeOf : {S : Type 0} → RateStart S → ℕ → ℕ → Type 0
 IsSizeOf start items bits = IsSizeFor (max 1 items) (num_of start.rate) (den_of start.rate) bits
 
--- the filter of zero words for these items at a builder's rate, with as many hashes as suit its bits
+-- the filter of zero words for these items at a builder's rate, with the number of hashes for them
 abbrev pub IsMadeFor : {S : Type 0} → RateStart S → ℕ → Filter S → Type 0
 IsMadeFor start items filter =
     (bits : ℕ) × IsSizeOf start items bits × (filter ≡ sized_filter (empty_start start bits) items)
@@ -81,7 +82,7 @@ size_refusal bits =
     else if nat_le (2 ^ 58) (words_for bits) then Some TooManyWords
     else None
 
--- the error of a call, if any, is the refusal that is listed for it, or `Memory` where none is listed
+-- a call's error, if any, is the refusal that is listed for it, or `Memory` where none is listed
 abbrev pub RefusesAs : Option FilterError → Option FilterError → Type 0
 RefusesAs None error = IfSome error (λ e. e ≡ Memory)
 RefusesAs (Some refusal) error = error ≡ Some refusal

@@ -104,7 +104,7 @@ EqualityLaw S = (f g : Filter S)
 abbrev pub EqualStartsLaw : (S : Type 0) → Type 0
 EqualStartsLaw S = (a b : Start S) → IsTrue (same_start a b) ↔ (a.words ≡ b.words)
 
--- builders of a rate are equal exactly if the cross products of their rates are, whatever their hashers
+-- builders of a rate are equal exactly if the cross products of their rates are
 abbrev pub EqualRateStartsLaw : (S : Type 0) → Type 0
 EqualRateStartsLaw S = (a b : RateStart S) → IsTrue (same_rate_start a b)
     ↔ (num_of a.rate * den_of b.rate ≡ num_of b.rate * den_of a.rate)

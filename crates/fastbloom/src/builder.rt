@@ -23,20 +23,6 @@ use std::alloc::Global;
 use std::hash::{BuildHasher, Hash};
 use std::marker::Model;
 
-// Zero words for this many bits, in one allocation.
-fn zero_bits(alloc: Global, num_bits: usize) -> Result<BitVec, FilterError>
-    requires { 0 < num_bits }
-    ensures words { IfOk result (λ bits. bits ≡ replicate (words_for num_bits) 0) }
-    ensures refused { RefusesAs (size_refusal num_bits) (result_err result) }
-{
-    let num_words = num_bits.div_ceil(64);
-    if num_words > MAX_WORDS {
-        return Err(FilterError::TooManyWords);
-    }
-    let words = vec![in alloc; 0u64; num_words]?;
-    Ok(BitVec::from_vec(words))
-}
-
 /// A builder that has the words of the filter. Contracts see the words and the hasher.
 #[derive(Debug, Drop)]
 pub struct BuilderWithBits<S = DefaultHasher> {
@@ -52,6 +38,28 @@ impl<S> Model for BuilderWithBits<S> {
     ghost coded = { start_code S.code };
 
     ghost view = { λ b. record { words = b.bits; hasher = b.hasher } };
+}
+
+// The default hasher with the key of a seed, which is its sixteen big-endian bytes.
+fn hasher_of_seed(seed: &u128) -> DefaultHasher
+    ensures { let bytes = to_be_bytes w128 seed.now in
+        HasKey result (key_low bytes) (key_high bytes) }
+{
+    DefaultHasher::seeded(&seed.to_be_bytes())
+}
+
+// Zero words for this many bits, in one allocation.
+fn zero_bits(alloc: Global, num_bits: usize) -> Result<BitVec, FilterError>
+    requires { 0 < num_bits }
+    ensures words { IfOk result (λ bits. bits ≡ replicate (words_for num_bits) 0) }
+    ensures refused { RefusesAs (size_refusal num_bits) (result_err result) }
+{
+    let num_words = num_bits.div_ceil(64);
+    if num_words > MAX_WORDS {
+        return Err(FilterError::TooManyWords);
+    }
+    let words = vec![in alloc; 0u64; num_words]?;
+    Ok(BitVec::from_vec(words))
 }
 
 impl BuilderWithBits {
@@ -97,7 +105,7 @@ impl BuilderWithBits {
         ensures key { let bytes = to_be_bytes w128 seed.now in
             HasKey result.hasher (key_low bytes) (key_high bytes) }
     {
-        self.hasher(DefaultHasher::seeded(&seed.to_be_bytes()))
+        self.hasher(hasher_of_seed(seed))
     }
 }
 
@@ -123,6 +131,7 @@ impl<S> BuilderWithBits<S> {
     {
         BloomFilter::from_parts(self.bits, num_hashes, self.hasher)
     }
+
     /// The filter with as many hashes as suit its bits and this many items, where 0 counts as 1.
     pub fn expected_items(self, expected_items: usize) -> BloomFilter<S>
         ensures { result ≡ sized_filter self expected_items }
@@ -133,14 +142,16 @@ impl<S> BuilderWithBits<S> {
 }
 
 impl<S: BuildHasher> BuilderWithBits<S> {
-    /// The filter for as many items as the iterator says it has, into which all that come were inserted.
+    /// A filter for as many items as the iterator's `len()`, into which all that come are inserted.
     pub fn items<'a, T: Hash + 'a, I: IntoIterator<Item = &'a T>>(self, items: I) -> BloomFilter<S>
     where
         I::IntoIter: ExactSizeIterator,
         // The iterator ends.
-        requires { IsFiniteIterable I.into_iter_gives I.IntoIter.can_next I.IntoIter.remaining items }
+        requires { IsFiniteIterable I.into_iter_gives I.IntoIter.can_next I.IntoIter.remaining
+            items }
         ensures words { length result.words ≡ length self.words }
         ensures hasher { result.hasher ≡ self.hasher }
+        // `items_left` is the iterator's `len()`, which sizes the filter and no more.
         ensures content { (it : I.IntoIter) × I.into_iter_gives items it
             × WholeRun I.IntoIter.next_gives it (λ run. InsertsItems (item_hash S.Hasher.write
             S.Hasher.finish S.build_hasher (λ item. T.hash_input item.now))

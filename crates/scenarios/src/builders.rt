@@ -5,7 +5,7 @@ ghost use Rattle.fastbloom.specs.Builders.{sized_filter};
 ghost use Rattle.fastbloom.specs.Replies.{InsertsItems};
 ghost use Rattle.fastbloom.specs.SourceHash.{item_hash};
 
-use fastbloom::{BloomFilter, BuilderWithBits, FilterError, Rate};
+use fastbloom::{BloomFilter, BuilderWithBits, DefaultHasher, FilterError, Rate};
 use std::cell::Cell;
 use std::hash::{BuildHasher, Hash, Hasher};
 use std::test::Fail;
@@ -205,6 +205,20 @@ fn a_refused_size_takes_no_item(rt: HostRuntime) -> Result<(), Fail> {
     let filter = BloomFilter::with_false_pos(Rate::new(1, 2)?).items(rt.alloc(), items);
     assert!(rt; filter == Err(FilterError::SizeOverflow));
     assert_eq!(rt; taken.get(), 0);
+    Ok(())
+}
+
+#[test]
+fn the_hasher_of_a_rate_goes_into_the_filter(rt: HostRuntime) -> Result<(), Fail> {
+    let half = Rate::new(1, 2)?;
+    let plain = BloomFilter::with_false_pos(half).expected_items(rt.alloc(), 1)?;
+    let by_seed = BloomFilter::with_false_pos(half).seed(&42);
+    let by_seed = by_seed.expected_items(rt.alloc(), 1)?;
+    let key = [0, 0, 0, 0, 0, 0, 0, 0, 0, 0, 0, 0, 0, 0, 0, 42];
+    let by_key = BloomFilter::with_false_pos(half).hasher(DefaultHasher::seeded(&key));
+    let by_key = by_key.expected_items(rt.alloc(), 1)?;
+    assert!(rt; by_seed.source_hash(&7) == by_key.source_hash(&7));
+    assert!(rt; by_seed.source_hash(&7) != plain.source_hash(&7));
     Ok(())
 }
 

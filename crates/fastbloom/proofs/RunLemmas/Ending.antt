@@ -10,7 +10,6 @@ use Rattle.fastbloom.specs.declared.steps.calls.End.{End}
 use Rattle.fastbloom.specs.declared.steps.calls.Record.TheVariants.{Began, Did}
 use Rattle.fastbloom.specs.declared.steps.calls.Step.{Step}
 use Rattle.fastbloom.specs.declared.steps.calls.Step.TheVariants.{Other}
-use Rattle.fastbloom.specs.Commands.{decides}
 use Rattle.fastbloom.specs.Interleavings.{EndsWithAll, IsFoundInOther, IsInserted}
 use Rattle.fastbloom.specs.Moments.{EveryCallEnded, NoCall, bits_of, moment}
 use Rattle.fastbloom.specs.Scripts.{IsBeginning, IsScript, Taken}

@@ -10,7 +10,6 @@ use Rattle.fastbloom.specs.Machines.{HoldsOther, StandsAt, asks, next_of_pairs, 
 use Rattle.fastbloom.specs.Scripts.{Taken}
 use Rattle.fastbloom.specs.Steps.{load_at, or_at, word_of}
 use Rattle.fastbloom.specs.Turns.{AsksAfter}
-use Rattle.fastbloom.proofs.RunLemmas.Placing.{placed}
 use Rattle.fastbloom.proofs.StepLemmas.Completing.{finish}
 use Rattle.fastbloom.proofs.StepLemmas.Going.{is_next}
 use Rattle.fastbloom.proofs.StepLemmas.Growing.{FitsNext, IsNextOfPairs}

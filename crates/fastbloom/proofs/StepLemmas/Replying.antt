@@ -10,9 +10,7 @@ use Rattle.fastbloom.specs.declared.steps.calls.Step.{Step}
 use Rattle.fastbloom.specs.declared.steps.machine.Machine.{Machine}
 use Rattle.fastbloom.specs.Machines.{HoldsOther, IsAtPlace, IsPlaced, Keeps, StandsAt, answer_by, asks, end_by, end_of}
 use Rattle.fastbloom.specs.Scripts.{Any, Taken, answer_of, answer_of_end, most_steps}
-use Rattle.fastbloom.specs.Traces.{runs}
 use Rattle.fastbloom.specs.Turns.{Advances, MovesOn, Replied}
-use Rattle.fastbloom.proofs.RunLemmas.Placing.{placed}
 use Rattle.fastbloom.proofs.StepLemmas.Asking.{fits_asked}
 use Rattle.fastbloom.proofs.StepLemmas.Growing.{EndsNext, KeepsOnAt, goes_on-more, length-more, script-more}
 use Rattle.fastbloom.proofs.StepLemmas.Members.{member-front, member-seam, member_of_more}

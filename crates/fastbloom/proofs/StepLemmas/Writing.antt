@@ -1,5 +1,5 @@
 -- What one step does to the content of words.
-use Rattle.std.proofs.Common.{[], ◌%◌, ◌&&◌, ◌/◌, ◌<◌, ◌∙◌, ◌∷◌, ◌≡◌, ◌≢◌, ◌≤◌, Bool, List, None, Option, Some, ap, arith, bit_and, bit_or, eq-eqb, false, get_or-set_other, get_or-set_same, if◌then◌else◌, length, map, max, min, nat_eq, not, refl, set, slice_index, slice_set, sym, true, unwrap_or, ℕ}
+use Rattle.std.proofs.Common.{[], ◌%◌, ◌&&◌, ◌/◌, ◌<◌, ◌∙◌, ◌∷◌, ◌≡◌, ◌≢◌, ◌≤◌, Bool, List, None, Option, Some, ap, arith, bit_and, bit_or, eq-eqb, false, get_or-set_other, get_or-set_same, if◌then◌else◌, length, map, max, min, nat_eq, not, refl, slice_index, slice_set, sym, true, unwrap_or, ℕ}
 use Rattle.std.proofs.lemmas.Bool.{both_ways, eqb-true}
 use Rattle.std.proofs.lemmas.Bool.Decides.{nat_tests}
 use Rattle.std.proofs.lemmas.List.{get_or_past, length-set}

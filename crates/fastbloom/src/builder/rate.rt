@@ -12,7 +12,7 @@ ghost use Rattle.fastbloom.specs.Filter.{Filter};
 ghost use Rattle.fastbloom.specs.Replies.{InsertsItems};
 ghost use Rattle.fastbloom.specs.SourceHash.{item_hash};
 
-use super::{BuilderWithBits, zero_bits};
+use super::{BuilderWithBits, hasher_of_seed, zero_bits};
 use crate::bloom::BloomFilter;
 use bloom_parts::error::FilterError;
 use bloom_parts::hasher::DefaultHasher;
@@ -54,7 +54,7 @@ impl BuilderWithFalsePositiveRate {
         ensures key { let bytes = to_be_bytes w128 seed.now in
             HasKey result.hasher (key_low bytes) (key_high bytes) }
     {
-        self.hasher(DefaultHasher::seeded(&seed.to_be_bytes()))
+        self.hasher(hasher_of_seed(seed))
     }
 }
 
@@ -81,6 +81,7 @@ impl<S: Drop> BuilderWithFalsePositiveRate<S> {
         expected_items: usize,
     ) -> Result<BloomFilter<S>, FilterError>
         ensures made { IfOk result (IsMadeFor self expected_items) }
+        // One number of bits alone is the size, as a law of `bloom_parts` says.
         ensures refused { (bits : ℕ) × IsSizeOf self expected_items bits
             × RefusesAs (size_refusal bits) (result_err result) }
     {
@@ -92,7 +93,7 @@ impl<S: Drop> BuilderWithFalsePositiveRate<S> {
 }
 
 impl<S: BuildHasher + Drop> BuilderWithFalsePositiveRate<S> {
-    /// The filter for as many items as the iterator says it has, into which all that come were inserted.
+    /// A filter for as many items as the iterator's `len()`, into which all that come are inserted.
     ///
     /// # Errors
     /// Those of `expected_items`, before any item is taken.
@@ -104,8 +105,10 @@ impl<S: BuildHasher + Drop> BuilderWithFalsePositiveRate<S> {
     where
         I::IntoIter: ExactSizeIterator,
         // The iterator ends.
-        requires { IsFiniteIterable I.into_iter_gives I.IntoIter.can_next I.IntoIter.remaining items }
+        requires { IsFiniteIterable I.into_iter_gives I.IntoIter.can_next I.IntoIter.remaining
+            items }
         ensures hasher { IfOk result (λ filter. filter.hasher ≡ self.hasher) }
+        // `items_left` is the iterator's `len()`, which sizes the filter and no more.
         ensures content { IfOk result (λ filter. (it : I.IntoIter) × I.into_iter_gives items it
             × (made : Filter S) × IsMadeFor self (items_left I.IntoIter.remaining it) made
             × WholeRun I.IntoIter.next_gives it (λ run. InsertsItems (item_hash S.Hasher.write

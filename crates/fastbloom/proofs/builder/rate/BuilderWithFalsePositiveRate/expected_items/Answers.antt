@@ -1,7 +1,5 @@
-use Rattle.std.proofs.Common.{◌∙◌, ap}
 use Rattle.std.proofs.lemmas.Result.{err_from_is_err_and}
-use Rattle.fastbloom.specs.Builders.{sized_filter, empty_start}
-use Rattle.fastbloom.proofs.BuilderLemmas.{size_of-rate}
+use Rattle.fastbloom.proofs.BuilderLemmas.{size_of-rate, made_for-zeros}
 use Rattle.fastbloom.proofs.builder.rate.BuilderWithFalsePositiveRate.expected_items.Goals as goal
 
 pub returns-in_err-bits-clause-refused : goal.returns-in_err-bits-clause-refused
@@ -15,14 +13,9 @@ returns-in_err-bits-clause-refused g c =
 
 pub returns-clause-made : goal.returns-clause-made
 returns-clause-made g c =
-    let items = c.args.expected_items in
-    let start = c.self.inside in (
-      c.in_ok-size.size,
-      size_of-rate _ _ _ _ _ c.self.view_is c.max.ensures c.in_ok-size.ensures.value,
-      c.expected_items.ensures
-          ∙ ap (λ words. sized_filter (record { words = words; hasher = start.hasher }) items) c.in_ok-bits.ensures.words
-          ∙ ap (λ b. sized_filter (empty_start b c.in_ok-size.size) items) c.self.view_is,
-    )
+    made_for-zeros _ _ _ _ _ _ c.self.view_is
+    (size_of-rate _ _ _ _ _ c.self.view_is c.max.ensures c.in_ok-size.ensures.value)
+    c.in_ok-bits.ensures.words c.expected_items.ensures
 
 pub returns-clause-refused : goal.returns-clause-refused
 returns-clause-refused g c = (

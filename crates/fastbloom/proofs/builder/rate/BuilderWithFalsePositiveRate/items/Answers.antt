@@ -14,6 +14,7 @@ returns-clause-content g c =
       made.filter,
       subst (λ n. IsMadeFor c.args.self n made.filter) c.len.ensures.value made.ensures.made,
       inserts_all-same
-          (item_hash H.write H.finish g.S.BuildHasher.build_hasher (λ item. g.T.Hash.hash_input item.now))
+          (item_hash H.write H.finish g.S.BuildHasher.build_hasher
+          (λ item. g.T.Hash.hash_input item.now))
           g.I.IntoIter.Iterator.next_gives _ _ _ _ refl c.insert_all.ensures,
     )
