@@ -26,11 +26,13 @@ fn contains_keys(filter: &BloomFilter, keys: u64) -> u64 {
     answers
 }
 
+// Each round takes other keys, which no processor can know from the round before.
 #[inline(never)]
-fn contains_foreign_keys(filter: &BloomFilter, keys: u64) -> u64 {
+fn contains_foreign_keys(filter: &BloomFilter, keys: u64, round: u32) -> u64 {
+    let first = keys.wrapping_mul(u64::from(round));
     let mut answers: u64 = 0;
     'keys: for key in 0..keys {
-        let answer = filter.contains_hash(foreign_hash_of(key));
+        let answer = filter.contains_hash(foreign_hash_of(first.wrapping_add(key)));
         answers = answers.wrapping_add(u64::from(answer));
     }
     answers
@@ -48,7 +50,7 @@ pub fn measure<R: Print + AllocGlobal + Clock>(
     let mut insert = Row::new("insert_hash", num_hashes, operations);
     let mut hit = Row::new("contains_hash, hit", num_hashes, operations);
     let mut miss = Row::new("contains_hash, miss", num_hashes, operations);
-    'rounds: for _round in 0..rounds {
+    'rounds: for round in 0..rounds {
         filter.clear();
         let start = Instant::now(rt)?;
         let answers = insert_keys(&mut filter, operations);
@@ -57,7 +59,7 @@ pub fn measure<R: Print + AllocGlobal + Clock>(
         let answers = contains_keys(&filter, operations);
         hit.add(answers, start.elapsed(rt)?);
         let start = Instant::now(rt)?;
-        let answers = contains_foreign_keys(&filter, operations);
+        let answers = contains_foreign_keys(&filter, operations, round);
         miss.add(answers, start.elapsed(rt)?);
     }
     insert.print(rt)?;
