@@ -1,5 +1,5 @@
 -- Stretches of the places of a hash, put together.
-use Rattle.std.proofs.Common.{◌≡◌, ℕ, zero, suc, ◌+◌, ◌-◌, ◌*◌, ◌<◌, ◌≤◌, Bool, true, false, ◌||◌, ◌&&◌, eqb, bit_or, List, length, refl, sym, subst, ◌∙◌, ap, arith, inl, inr}
+use Rattle.std.proofs.Common.{◌≡◌, ℕ, zero, suc, ◌+◌, ◌-◌, ◌*◌, ◌<◌, ◌≤◌, ◌≢◌, Bool, true, false, ◌||◌, ◌&&◌, eqb, bit_or, List, length, refl, sym, subst, ◌∙◌, ap, arith, inl, inr}
 use mir.Val.{bool_byte}
 use Rattle.std.specs.Int.Bits.{or_zero_l}
 use Rattle.std.proofs.lemmas.Nat.{le_or_l, le_or_r}
@@ -12,6 +12,10 @@ use Rattle.fastbloom.proofs.PositionLemmas.{or-false, or-assoc}
 and-true : (b : Bool) → (b && true) ≡ b
 and-true true = refl
 and-true false = refl
+
+and-false : (b : Bool) → (b && false) ≡ false
+and-false true = refl
+and-false false = refl
 
 and-assoc : (a b c : Bool) → ((a && b) && c) ≡ (a && (b && c))
 and-assoc true b c = refl
@@ -188,3 +192,20 @@ three-of-three false true true = refl
 three-of-three false true false = refl
 three-of-three false false true = refl
 three-of-three false false false = refl
+
+-- a digit is 1 at most
+pub digit-most : (b : Bool) → bool_byte b ≤ 1
+digit-most true = omega arith
+digit-most false = omega arith
+
+-- so many of one place more are on: all are, exactly if all before were and this is
+pub one-more : (on places : ℕ) (b : Bool) → on ≤ places → eqb (on + bool_byte b) (places + 1) ≡ (eqb on places && b)
+one-more on places true most = elim (cases_eq on places) [
+  | inl same ↦ eq-eqb (on + 1) (places + 1) (omega arith) ∙ sym (ap (λ c. c && true) (eq-eqb on places same))
+  | inr apart ↦
+      let more : on + 1 ≢ places + 1 = λ same. apart (omega arith) in
+      ne_eqb (on + 1) (places + 1) more ∙ sym (ap (λ c. c && true) (ne_eqb on places apart))
+]
+one-more on places false most =
+    let fewer : on + 0 ≢ places + 1 = λ same. absurd (omega arith) in
+    ne_eqb (on + 0) (places + 1) fewer ∙ sym (and-false (eqb on places))

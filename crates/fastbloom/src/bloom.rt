@@ -127,6 +127,7 @@ impl<S> BloomFilter<S> {
     }
 
     /// Turns on all positions of a hash, and answers whether all were on just before.
+    #[inline(always)]
     pub fn insert_hash(&mut self, hash: u64) -> bool
         ensures inserts { Inserts self.old hash self.new result }
         // The same, as a list of this one command.
@@ -136,6 +137,7 @@ impl<S> BloomFilter<S> {
     }
 
     /// Whether all positions of a hash are on: false means that it was never inserted.
+    #[inline(always)]
     pub fn contains_hash(&self, hash: u64) -> bool
         ensures found { result ≡ contains self.now hash }
         // The same, as a list of this one command.

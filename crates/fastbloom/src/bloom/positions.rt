@@ -33,6 +33,7 @@ fn turn_on_four(bits: &mut BitVec, chain: &mut DoubleHasher) -> u64
 
 // Turns on all positions of a hash, and answers whether all were on just before. It takes four in a
 // turn and then the rest, and gathers in one word what was off.
+#[inline(always)]
 pub(super) fn insert_positions(bits: &mut BitVec, num_hashes: u32, hash: u64) -> bool
     ensures reply { result ≡ are_in (64 * length bits.old) num_hashes hash (content bits.old) }
     ensures content { (p : ℕ) → content bits.new p
@@ -69,16 +70,15 @@ fn three_are_on(bits: &BitVec, chain: &mut DoubleHasher) -> bool
     u32::from(first) + u32::from(second) + u32::from(third) == 3
 }
 
-// Whether the next `count` places of a hash are on. It looks at all of them, without a branch.
+// Whether the next `count` places of a hash are on. It counts, which needs no branch.
 fn all_are_on(bits: &BitVec, chain: &mut DoubleHasher, count: u32) -> bool
     ensures { (hash i : ℕ) → IsAt hash i chain.old → result ≡ are_on bits.now i count hash }
 {
-    let mut are_on = true;
+    let mut on: u32 = 0;
     'places: for _place in 0..count {
-        let is_on = next_is_on(bits, chain);
-        are_on &= is_on;
+        on += u32::from(next_is_on(bits, chain));
     }
-    are_on
+    on == count
 }
 
 // Whether the next `count` places of a hash are on. It stops at the first that is off.
@@ -98,6 +98,7 @@ fn each_is_on(bits: &BitVec, chain: &mut DoubleHasher, count: u32) -> bool
 // Whether all positions of a hash are on. It takes the first three together, which tell most hashes
 // apart that were never inserted, then stops at the first that is off, and takes the last four
 // together.
+#[inline(always)]
 pub(super) fn contains_positions(bits: &BitVec, num_hashes: u32, hash: u64) -> bool
     ensures { result ≡ are_in (64 * length bits.now) num_hashes hash (content bits.now) }
 {

@@ -1,0 +1,31 @@
+//! The filters and the keys that are measured.
+ghost use Rattle.std.specs.Prelude.{◌≡◌, ◌*◌, IfOk, max, replicate};
+ghost use Rattle.fastbloom.specs.Builders.{words_for};
+
+use fastbloom::{BloomFilter, FilterError};
+use std::alloc::Global;
+
+/// An empty filter with ten bits for each key, and one bit at least.
+pub fn filter_for(alloc: Global, keys: u32, num_hashes: u32) -> Result<BloomFilter, FilterError>
+    ensures words { IfOk result (λ filter.
+        filter.words ≡ replicate (words_for (max 1 (keys * 10))) 0) }
+    ensures hashes { IfOk result (λ filter. filter.hashes ≡ max 1 num_hashes) }
+{
+    let builder = BloomFilter::with_num_bits(alloc, (keys as usize * 10).max(1))?;
+    Ok(builder.hashes(num_hashes))
+}
+
+/// The hash of a key: the numbers of keys, spread evenly.
+#[inline]
+pub fn hash_of(key: u64) -> u64 {
+    let word = key.wrapping_add(0x9e37_79b9_7f4a_7c15);
+    let word = (word ^ (word >> 30)).wrapping_mul(0xbf58_476d_1ce4_e5b9);
+    let word = (word ^ (word >> 27)).wrapping_mul(0x94d0_49bb_1331_11eb);
+    word ^ (word >> 31)
+}
+
+/// The hash of a key that is never inserted.
+#[inline]
+pub fn foreign_hash_of(key: u64) -> u64 {
+    hash_of(key.wrapping_add(1 << 40))
+}

@@ -1,0 +1,81 @@
+//! The calls that take an item.
+ghost use Rattle.std.specs.Prelude.{◌≤◌};
+
+use crate::filters::filter_for;
+use crate::table::Row;
+use fastbloom::BloomFilter;
+use std::rt::Clock;
+use std::time::Instant;
+
+// The bytes of the longest item.
+const MOST_BYTES: usize = 1000;
+
+// The answers of `source_hash` are counted by their lowest bit.
+#[inline(never)]
+fn hash_numbers(filter: &BloomFilter, keys: u64) -> u64 {
+    let mut answers: u64 = 0;
+    'keys: for key in 0..keys {
+        answers = answers.wrapping_add(filter.source_hash(&key) % 2);
+    }
+    answers
+}
+
+// Each item is text of so many bytes at one of 32 places.
+#[inline(never)]
+fn hash_texts(filter: &BloomFilter, text: &str, size: usize, keys: u64) -> u64
+    requires { size ≤ MOST_BYTES }
+{
+    let mut answers: u64 = 0;
+    'keys: for key in 0..keys {
+        let from = (key % 32) as usize;
+        if let Some(item) = text.get(from..from + size) {
+            answers = answers.wrapping_add(filter.source_hash(&item) % 2);
+        }
+    }
+    answers
+}
+
+#[inline(never)]
+fn insert_numbers(filter: &mut BloomFilter, keys: u64) -> u64 {
+    let mut answers: u64 = 0;
+    'keys: for key in 0..keys {
+        let answer = filter.insert(&key);
+        answers = answers.wrapping_add(u64::from(answer));
+    }
+    answers
+}
+
+/// The rows of hashing and inserting items, on a filter of seven hashes.
+pub fn measure<R: Print + AllocGlobal + Clock>(
+    rt: &R,
+    keys: u32,
+    rounds: u32,
+) -> anyhow::Result<()> {
+    let operations = u64::from(keys);
+    let mut filter = filter_for(rt.alloc(), keys, 7)?;
+    let text = "0123456789abcdefghijklmnopqrstuv".repeat(rt.alloc(), 33)?;
+    let mut number = Row::new("source_hash, u64", 7, operations);
+    let mut short = Row::new("source_hash, 64 B", 7, operations);
+    let mut long = Row::new("source_hash, 1,000 B", 7, operations / 10);
+    let mut insert = Row::new("insert, u64", 7, operations);
+    'rounds: for _round in 0..rounds {
+        filter.clear();
+        let start = Instant::now(rt)?;
+        let answers = hash_numbers(&filter, operations);
+        number.add(answers, start.elapsed(rt)?);
+        let start = Instant::now(rt)?;
+        let answers = hash_texts(&filter, &text, 64, operations);
+        short.add(answers, start.elapsed(rt)?);
+        let start = Instant::now(rt)?;
+        let answers = hash_texts(&filter, &text, MOST_BYTES, operations / 10);
+        long.add(answers, start.elapsed(rt)?);
+        let start = Instant::now(rt)?;
+        let answers = insert_numbers(&mut filter, operations);
+        insert.add(answers, start.elapsed(rt)?);
+    }
+    number.print(rt)?;
+    short.print(rt)?;
+    long.print(rt)?;
+    insert.print(rt)?;
+    Ok(())
+}

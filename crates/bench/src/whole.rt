@@ -1,0 +1,128 @@
+//! The calls on whole filters, a word, and lists of commands, a command.
+ghost use Rattle.std.specs.Prelude.{All, IfOk};
+ghost use Rattle.bench.specs.Lists.{FitsEach};
+
+use crate::filters::{filter_for, hash_of};
+use crate::table::Row;
+use fastbloom::{BloomFilter, Command, DefaultHasher};
+use std::alloc::{AllocError, Global};
+use std::rt::Clock;
+use std::time::Instant;
+
+// By turns an insert of a key, and a look-up of it.
+fn command_on(key: u64) -> Command<'static, DefaultHasher>
+    ensures { FitsEach result }
+{
+    let hash = hash_of(key / 2);
+    if key % 2 == 0 {
+        Command::Insert(hash)
+    } else {
+        Command::Contains(hash)
+    }
+}
+
+// The commands on so many keys.
+fn commands_on(alloc: Global, keys: u32) -> Result<Vec<Command<'static, DefaultHasher>>, AllocError>
+    ensures { IfOk result (λ commands. All FitsEach commands.items) }
+{
+    let mut commands = Vec::new(alloc);
+    'keys: for key in 0..u64::from(keys) {
+        commands.push(command_on(key))?;
+    }
+    Ok(commands)
+}
+
+/// The rows of the calls on whole filters, and of `replay`.
+pub fn measure<R: Print + AllocGlobal + Clock>(
+    rt: &R,
+    keys: u32,
+    rounds: u32,
+) -> anyhow::Result<()> {
+    measure_sets(rt, keys, rounds)?;
+    measure_clones(rt, keys, rounds)?;
+    measure_lists(rt, keys, rounds)
+}
+
+// The number of words, or 0 where there are no keys and nothing is measured.
+fn measured_words(filter: &BloomFilter, keys: u32) -> u64 {
+    if keys == 0 {
+        return 0;
+    }
+    filter.as_slice().len() as u64
+}
+
+// The rows of calls on two filters of one shape. The answers of the calls that have none are those
+// of a look-up right after them.
+fn measure_sets<R: Print + AllocGlobal + Clock>(
+    rt: &R,
+    keys: u32,
+    rounds: u32,
+) -> anyhow::Result<()> {
+    let mut filter = filter_for(rt.alloc(), keys, 7)?;
+    let mut other = filter_for(rt.alloc(), keys, 7)?;
+    other.insert_hash(0);
+    let words = measured_words(&filter, keys);
+    let mut union = Row::new("union, a word", 7, words);
+    let mut intersect = Row::new("intersect, a word", 7, words);
+    let mut equal = Row::new("==, a word", 7, words);
+    let mut clear = Row::new("clear, a word", 7, words);
+    'rounds: for _round in 0..rounds {
+        if !filter.same_shape(&other) {
+            break;
+        }
+        let start = Instant::now(rt)?;
+        filter.union(&other);
+        union.add(u64::from(filter.contains_hash(0)), start.elapsed(rt)?);
+        let start = Instant::now(rt)?;
+        filter.intersect(&other);
+        intersect.add(u64::from(filter.contains_hash(0)), start.elapsed(rt)?);
+        let start = Instant::now(rt)?;
+        let answer = filter == other;
+        equal.add(u64::from(answer), start.elapsed(rt)?);
+        let start = Instant::now(rt)?;
+        filter.clear();
+        clear.add(u64::from(filter.contains_hash(0)), start.elapsed(rt)?);
+    }
+    union.print(rt)?;
+    intersect.print(rt)?;
+    equal.print(rt)?;
+    clear.print(rt)?;
+    Ok(())
+}
+
+fn measure_clones<R: Print + AllocGlobal + Clock>(
+    rt: &R,
+    keys: u32,
+    rounds: u32,
+) -> anyhow::Result<()> {
+    let mut filter = filter_for(rt.alloc(), keys, 7)?;
+    filter.insert_hash(0);
+    let words = measured_words(&filter, keys);
+    let mut clone = Row::new("try_clone, a word", 7, words);
+    'rounds: for _round in 0..rounds {
+        let start = Instant::now(rt)?;
+        let copy = filter.try_clone(rt.alloc())?;
+        clone.add(u64::from(copy.contains_hash(0)), start.elapsed(rt)?);
+    }
+    clone.print(rt)?;
+    Ok(())
+}
+
+fn measure_lists<R: Print + AllocGlobal + Clock>(
+    rt: &R,
+    keys: u32,
+    rounds: u32,
+) -> anyhow::Result<()> {
+    let mut filter = filter_for(rt.alloc(), keys, 7)?;
+    let commands = commands_on(rt.alloc(), keys)?;
+    let mut replay = Row::new("replay, a command", 7, u64::from(keys));
+    'rounds: for _round in 0..rounds {
+        filter.clear();
+        let start = Instant::now(rt)?;
+        let replies = filter.replay(rt.alloc(), &commands)?;
+        let time = start.elapsed(rt)?;
+        replay.add(replies.iter().filter(|reply| **reply).count() as u64, time);
+    }
+    replay.print(rt)?;
+    Ok(())
+}
