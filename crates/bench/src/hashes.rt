@@ -38,6 +38,55 @@ fn contains_foreign_keys(filter: &BloomFilter, keys: u64, round: u32) -> u64 {
     answers
 }
 
+// The row of inserts. It leaves the keys in the filter.
+fn measure_inserts<R: Print + Clock>(
+    rt: &R,
+    filter: &mut BloomFilter,
+    keys: u64,
+    rounds: u32,
+) -> anyhow::Result<()> {
+    let mut row = Row::new("insert_hash", filter.num_hashes(), keys);
+    'rounds: for _round in 0..rounds {
+        filter.clear();
+        let start = Instant::now(rt)?;
+        let answers = insert_keys(filter, keys);
+        row.add(answers, start.elapsed(rt)?);
+    }
+    Ok(row.print(rt)?)
+}
+
+// The row of look-ups of keys that the filter has.
+fn measure_hits<R: Print + Clock>(
+    rt: &R,
+    filter: &BloomFilter,
+    keys: u64,
+    rounds: u32,
+) -> anyhow::Result<()> {
+    let mut row = Row::new("contains_hash, hit", filter.num_hashes(), keys);
+    'rounds: for _round in 0..rounds {
+        let start = Instant::now(rt)?;
+        let answers = contains_keys(filter, keys);
+        row.add(answers, start.elapsed(rt)?);
+    }
+    Ok(row.print(rt)?)
+}
+
+// The row of look-ups of keys that were never inserted.
+fn measure_misses<R: Print + Clock>(
+    rt: &R,
+    filter: &BloomFilter,
+    keys: u64,
+    rounds: u32,
+) -> anyhow::Result<()> {
+    let mut row = Row::new("contains_hash, miss", filter.num_hashes(), keys);
+    'rounds: for round in 0..rounds {
+        let start = Instant::now(rt)?;
+        let answers = contains_foreign_keys(filter, keys, round);
+        row.add(answers, start.elapsed(rt)?);
+    }
+    Ok(row.print(rt)?)
+}
+
 /// The rows of inserts, of look-ups that hit, and of look-ups that miss, with this many hashes.
 pub fn measure<R: Print + AllocGlobal + Clock>(
     rt: &R,
@@ -45,25 +94,8 @@ pub fn measure<R: Print + AllocGlobal + Clock>(
     rounds: u32,
     num_hashes: u32,
 ) -> anyhow::Result<()> {
-    let operations = u64::from(keys);
     let mut filter = filter_for(rt.alloc(), keys, num_hashes)?;
-    let mut insert = Row::new("insert_hash", num_hashes, operations);
-    let mut hit = Row::new("contains_hash, hit", num_hashes, operations);
-    let mut miss = Row::new("contains_hash, miss", num_hashes, operations);
-    'rounds: for round in 0..rounds {
-        filter.clear();
-        let start = Instant::now(rt)?;
-        let answers = insert_keys(&mut filter, operations);
-        insert.add(answers, start.elapsed(rt)?);
-        let start = Instant::now(rt)?;
-        let answers = contains_keys(&filter, operations);
-        hit.add(answers, start.elapsed(rt)?);
-        let start = Instant::now(rt)?;
-        let answers = contains_foreign_keys(&filter, operations, round);
-        miss.add(answers, start.elapsed(rt)?);
-    }
-    insert.print(rt)?;
-    hit.print(rt)?;
-    miss.print(rt)?;
-    Ok(())
+    measure_inserts(rt, &mut filter, u64::from(keys), rounds)?;
+    measure_hits(rt, &filter, u64::from(keys), rounds)?;
+    measure_misses(rt, &filter, u64::from(keys), rounds)
 }

@@ -45,6 +45,60 @@ fn insert_numbers(filter: &mut BloomFilter, keys: u64) -> u64 {
     answers
 }
 
+// The row of hashing numbers.
+fn measure_numbers<R: Print + AllocGlobal + Clock>(
+    rt: &R,
+    keys: u32,
+    rounds: u32,
+) -> anyhow::Result<()> {
+    let filter = filter_for(rt.alloc(), keys, 7)?;
+    let mut row = Row::new("source_hash, u64", 7, u64::from(keys));
+    'rounds: for _round in 0..rounds {
+        let start = Instant::now(rt)?;
+        let answers = hash_numbers(&filter, u64::from(keys));
+        row.add(answers, start.elapsed(rt)?);
+    }
+    Ok(row.print(rt)?)
+}
+
+// The row of hashing texts of so many bytes.
+fn measure_texts<R: Print + AllocGlobal + Clock>(
+    rt: &R,
+    call: &'static str,
+    size: usize,
+    operations: u64,
+    rounds: u32,
+) -> anyhow::Result<()>
+    requires { size ≤ MOST_BYTES }
+{
+    let filter = filter_for(rt.alloc(), 1, 7)?;
+    let text = "0123456789abcdefghijklmnopqrstuv".repeat(rt.alloc(), 33)?;
+    let mut row = Row::new(call, 7, operations);
+    'rounds: for _round in 0..rounds {
+        let start = Instant::now(rt)?;
+        let answers = hash_texts(&filter, &text, size, operations);
+        row.add(answers, start.elapsed(rt)?);
+    }
+    Ok(row.print(rt)?)
+}
+
+// The row of inserting numbers.
+fn measure_inserts<R: Print + AllocGlobal + Clock>(
+    rt: &R,
+    keys: u32,
+    rounds: u32,
+) -> anyhow::Result<()> {
+    let mut filter = filter_for(rt.alloc(), keys, 7)?;
+    let mut row = Row::new("insert, u64", 7, u64::from(keys));
+    'rounds: for _round in 0..rounds {
+        filter.clear();
+        let start = Instant::now(rt)?;
+        let answers = insert_numbers(&mut filter, u64::from(keys));
+        row.add(answers, start.elapsed(rt)?);
+    }
+    Ok(row.print(rt)?)
+}
+
 /// The rows of hashing and inserting items, on a filter of seven hashes.
 pub fn measure<R: Print + AllocGlobal + Clock>(
     rt: &R,
@@ -52,30 +106,14 @@ pub fn measure<R: Print + AllocGlobal + Clock>(
     rounds: u32,
 ) -> anyhow::Result<()> {
     let operations = u64::from(keys);
-    let mut filter = filter_for(rt.alloc(), keys, 7)?;
-    let text = "0123456789abcdefghijklmnopqrstuv".repeat(rt.alloc(), 33)?;
-    let mut number = Row::new("source_hash, u64", 7, operations);
-    let mut short = Row::new("source_hash, 64 B", 7, operations);
-    let mut long = Row::new("source_hash, 1,000 B", 7, operations / 10);
-    let mut insert = Row::new("insert, u64", 7, operations);
-    'rounds: for _round in 0..rounds {
-        filter.clear();
-        let start = Instant::now(rt)?;
-        let answers = hash_numbers(&filter, operations);
-        number.add(answers, start.elapsed(rt)?);
-        let start = Instant::now(rt)?;
-        let answers = hash_texts(&filter, &text, 64, operations);
-        short.add(answers, start.elapsed(rt)?);
-        let start = Instant::now(rt)?;
-        let answers = hash_texts(&filter, &text, MOST_BYTES, operations / 10);
-        long.add(answers, start.elapsed(rt)?);
-        let start = Instant::now(rt)?;
-        let answers = insert_numbers(&mut filter, operations);
-        insert.add(answers, start.elapsed(rt)?);
-    }
-    number.print(rt)?;
-    short.print(rt)?;
-    long.print(rt)?;
-    insert.print(rt)?;
-    Ok(())
+    measure_numbers(rt, keys, rounds)?;
+    measure_texts(rt, "source_hash, 64 B", 64, operations, rounds)?;
+    measure_texts(
+        rt,
+        "source_hash, 1,000 B",
+        MOST_BYTES,
+        operations / 10,
+        rounds,
+    )?;
+    measure_inserts(rt, keys, rounds)
 }

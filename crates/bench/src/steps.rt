@@ -40,27 +40,45 @@ fn inserts_on(alloc: Global, events: u32) -> Result<Vec<Event>, AllocError> {
     Ok(schedule)
 }
 
+// The row of `drive` over memory.
+fn measure_drive<R: Print + AllocGlobal + Clock>(
+    rt: &R,
+    keys: u32,
+    rounds: u32,
+) -> anyhow::Result<()> {
+    let mut row = Row::new("drive, an insert", 7, u64::from(keys));
+    'rounds: for _round in 0..rounds {
+        let mut store = store_for(rt.alloc(), keys)?;
+        let start = Instant::now(rt)?;
+        let answers = drive_inserts(&mut store, u64::from(keys));
+        row.add(answers, start.elapsed(rt)?);
+    }
+    Ok(row.print(rt)?)
+}
+
+// The row of `run`, whose answer is the number of records.
+fn measure_run<R: Print + AllocGlobal + Clock>(
+    rt: &R,
+    keys: u32,
+    rounds: u32,
+) -> anyhow::Result<()> {
+    let schedule = inserts_on(rt.alloc(), keys)?;
+    let filter = filter_for(rt.alloc(), keys, 7)?;
+    let mut row = Row::new("run, an event", 7, u64::from(keys));
+    'rounds: for _round in 0..rounds {
+        let start = Instant::now(rt)?;
+        let trace = run(rt.alloc(), filter.as_slice(), 7, 1, &schedule)?;
+        row.add(trace.records().len() as u64, start.elapsed(rt)?);
+    }
+    Ok(row.print(rt)?)
+}
+
 /// The rows of `drive` over memory and of `run`.
 pub fn measure<R: Print + AllocGlobal + Clock>(
     rt: &R,
     keys: u32,
     rounds: u32,
 ) -> anyhow::Result<()> {
-    let operations = u64::from(keys);
-    let schedule = inserts_on(rt.alloc(), keys)?;
-    let filter = filter_for(rt.alloc(), keys, 7)?;
-    let mut driven = Row::new("drive, an insert", 7, operations);
-    let mut ran = Row::new("run, an event", 7, operations);
-    'rounds: for _round in 0..rounds {
-        let mut store = store_for(rt.alloc(), keys)?;
-        let start = Instant::now(rt)?;
-        let answers = drive_inserts(&mut store, operations);
-        driven.add(answers, start.elapsed(rt)?);
-        let start = Instant::now(rt)?;
-        let trace = run(rt.alloc(), filter.as_slice(), 7, 1, &schedule)?;
-        ran.add(trace.records().len() as u64, start.elapsed(rt)?);
-    }
-    driven.print(rt)?;
-    ran.print(rt)?;
-    Ok(())
+    measure_drive(rt, keys, rounds)?;
+    measure_run(rt, keys, rounds)
 }

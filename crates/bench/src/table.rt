@@ -4,7 +4,7 @@ use std::io;
 use std::time::Duration;
 
 /// A row of the table: one call, how often a round makes it, and the best round so far.
-#[derive(Drop)]
+#[derive(Clone, Copy)]
 pub struct Row {
     call: &'static str,
     num_hashes: u32,

@@ -32,17 +32,6 @@ fn commands_on(alloc: Global, keys: u32) -> Result<Vec<Command<'static, DefaultH
     Ok(commands)
 }
 
-/// The rows of the calls on whole filters, and of `replay`.
-pub fn measure<R: Print + AllocGlobal + Clock>(
-    rt: &R,
-    keys: u32,
-    rounds: u32,
-) -> anyhow::Result<()> {
-    measure_sets(rt, keys, rounds)?;
-    measure_clones(rt, keys, rounds)?;
-    measure_lists(rt, keys, rounds)
-}
-
 // The number of words, or 0 where there are no keys and nothing is measured.
 fn measured_words(filter: &BloomFilter, keys: u32) -> u64 {
     if keys == 0 {
@@ -51,63 +40,96 @@ fn measured_words(filter: &BloomFilter, keys: u32) -> u64 {
     filter.as_slice().len() as u64
 }
 
-// The rows of calls on two filters of one shape. The answers of the calls that have none are those
-// of a look-up right after them.
-fn measure_sets<R: Print + AllocGlobal + Clock>(
+// The row of unions, each answered by a look-up right after it. They leave both filters equal.
+fn measure_unions<R: Print + Clock>(
     rt: &R,
-    keys: u32,
+    filter: &mut BloomFilter,
+    other: &BloomFilter,
+    words: u64,
     rounds: u32,
 ) -> anyhow::Result<()> {
-    let mut filter = filter_for(rt.alloc(), keys, 7)?;
-    let mut other = filter_for(rt.alloc(), keys, 7)?;
-    other.insert_hash(0);
-    let words = measured_words(&filter, keys);
-    let mut union = Row::new("union, a word", 7, words);
-    let mut intersect = Row::new("intersect, a word", 7, words);
-    let mut equal = Row::new("==, a word", 7, words);
-    let mut clear = Row::new("clear, a word", 7, words);
+    let mut row = Row::new("union, a word", 7, words);
     'rounds: for _round in 0..rounds {
-        if !filter.same_shape(&other) {
+        if !filter.same_shape(other) {
             break;
         }
         let start = Instant::now(rt)?;
-        filter.union(&other);
-        union.add(u64::from(filter.contains_hash(0)), start.elapsed(rt)?);
-        let start = Instant::now(rt)?;
-        filter.intersect(&other);
-        intersect.add(u64::from(filter.contains_hash(0)), start.elapsed(rt)?);
-        let start = Instant::now(rt)?;
-        let answer = filter == other;
-        equal.add(u64::from(answer), start.elapsed(rt)?);
-        let start = Instant::now(rt)?;
-        filter.clear();
-        clear.add(u64::from(filter.contains_hash(0)), start.elapsed(rt)?);
+        filter.union(other);
+        row.add(u64::from(filter.contains_hash(0)), start.elapsed(rt)?);
     }
-    union.print(rt)?;
-    intersect.print(rt)?;
-    equal.print(rt)?;
-    clear.print(rt)?;
-    Ok(())
+    Ok(row.print(rt)?)
 }
 
-fn measure_clones<R: Print + AllocGlobal + Clock>(
+// The row of intersections, each answered by a look-up right after it.
+fn measure_intersections<R: Print + Clock>(
     rt: &R,
-    keys: u32,
+    filter: &mut BloomFilter,
+    other: &BloomFilter,
+    words: u64,
     rounds: u32,
 ) -> anyhow::Result<()> {
-    let mut filter = filter_for(rt.alloc(), keys, 7)?;
-    filter.insert_hash(0);
-    let words = measured_words(&filter, keys);
-    let mut clone = Row::new("try_clone, a word", 7, words);
+    let mut row = Row::new("intersect, a word", 7, words);
+    'rounds: for _round in 0..rounds {
+        if !filter.same_shape(other) {
+            break;
+        }
+        let start = Instant::now(rt)?;
+        filter.intersect(other);
+        row.add(u64::from(filter.contains_hash(0)), start.elapsed(rt)?);
+    }
+    Ok(row.print(rt)?)
+}
+
+// The row of equality.
+fn measure_equality<R: Print + Clock>(
+    rt: &R,
+    filter: &BloomFilter,
+    other: &BloomFilter,
+    words: u64,
+    rounds: u32,
+) -> anyhow::Result<()> {
+    let mut row = Row::new("==, a word", 7, words);
+    'rounds: for _round in 0..rounds {
+        let start = Instant::now(rt)?;
+        let answer = *filter == *other;
+        row.add(u64::from(answer), start.elapsed(rt)?);
+    }
+    Ok(row.print(rt)?)
+}
+
+// The row of clears, each answered by a look-up right after it.
+fn measure_clears<R: Print + Clock>(
+    rt: &R,
+    filter: &mut BloomFilter,
+    words: u64,
+    rounds: u32,
+) -> anyhow::Result<()> {
+    let mut row = Row::new("clear, a word", 7, words);
+    'rounds: for _round in 0..rounds {
+        let start = Instant::now(rt)?;
+        filter.clear();
+        row.add(u64::from(filter.contains_hash(0)), start.elapsed(rt)?);
+    }
+    Ok(row.print(rt)?)
+}
+
+// The row of clones, each answered by a look-up in the copy.
+fn measure_clones<R: Print + AllocGlobal + Clock>(
+    rt: &R,
+    filter: &BloomFilter,
+    words: u64,
+    rounds: u32,
+) -> anyhow::Result<()> {
+    let mut row = Row::new("try_clone, a word", 7, words);
     'rounds: for _round in 0..rounds {
         let start = Instant::now(rt)?;
         let copy = filter.try_clone(rt.alloc())?;
-        clone.add(u64::from(copy.contains_hash(0)), start.elapsed(rt)?);
+        row.add(u64::from(copy.contains_hash(0)), start.elapsed(rt)?);
     }
-    clone.print(rt)?;
-    Ok(())
+    Ok(row.print(rt)?)
 }
 
+// The row of `replay`.
 fn measure_lists<R: Print + AllocGlobal + Clock>(
     rt: &R,
     keys: u32,
@@ -123,6 +145,23 @@ fn measure_lists<R: Print + AllocGlobal + Clock>(
         let time = start.elapsed(rt)?;
         replay.add(replies.iter().filter(|reply| **reply).count() as u64, time);
     }
-    replay.print(rt)?;
-    Ok(())
+    Ok(replay.print(rt)?)
+}
+
+/// The rows of the calls on whole filters, and of `replay`.
+pub fn measure<R: Print + AllocGlobal + Clock>(
+    rt: &R,
+    keys: u32,
+    rounds: u32,
+) -> anyhow::Result<()> {
+    let mut filter = filter_for(rt.alloc(), keys, 7)?;
+    let mut other = filter_for(rt.alloc(), keys, 7)?;
+    other.insert_hash(0);
+    let words = measured_words(&filter, keys);
+    measure_unions(rt, &mut filter, &other, words, rounds)?;
+    measure_intersections(rt, &mut filter, &other, words, rounds)?;
+    measure_equality(rt, &filter, &other, words, rounds)?;
+    measure_clears(rt, &mut filter, words, rounds)?;
+    measure_clones(rt, &other, words, rounds)?;
+    measure_lists(rt, keys, rounds)
 }

@@ -72,8 +72,8 @@ fn serve_lines<R: Read, W: Write>(
 /// What was answered is flushed before each read that may wait, and before the call returns.
 ///
 /// # Errors
-/// `Line` at the first line that isn't a command, with the text of those before it written; `Memory`
-/// before anything was read; `Input` and `Output` where a read, a write or a flush failed.
+/// `Line` at the first line that isn't a command, with the text of those before it written;
+/// `Memory` before anything was read; `Input` and `Output` where a read, a write or a flush failed.
 pub fn serve<R: Read, W: Write>(
     alloc: Global,
     filter: &mut BloomFilter,
@@ -89,7 +89,8 @@ pub fn serve<R: Read, W: Write>(
         filter.old filter.new (W.contents output.old) (W.contents output.new) }
     // Memory is asked for before the first line.
     ensures memory { result ≡ Err Fault.Memory → filter.new ≡ filter.old }
-    ensures kept { result ≡ Err Fault.Memory → Keeps (W.contents output.old) (W.contents output.new) }
+    ensures kept { result ≡ Err Fault.Memory
+        → Keeps (W.contents output.old) (W.contents output.new) }
     ensures usage { result ≢ Err Fault.Usage }
 {
     let mut block = Block::new(alloc)?;

@@ -71,50 +71,54 @@ fn answers_as_the_original_crate(rt: HostRuntime) -> Result<(), Fail> {
     Ok(())
 }
 
+const USAGE: &str = "usage: bloom WORDS HASHES";
+
+const BAD_FIRST: &str = "line 1: bad command";
+
+// Arguments, input, output, status and the text on standard error.
+const RUNS: [(&str, &str, &str, u8, &str); 19] = [
+    ("1 3", "i 1\nx\n", "false\n", 2, "line 2: bad command"),
+    ("0 3", "", "", 2, USAGE),
+    ("1", "", "", 2, USAGE),
+    ("1 2 3", "", "", 2, USAGE),
+    ("1048577 1", "", "", 2, USAGE),
+    ("1 4294967296", "", "", 2, USAGE),
+    ("1 x", "", "", 2, USAGE),
+    ("1 1", "", "", 0, ""),
+    (
+        "2 3",
+        "i 1\nw\n",
+        "false\n0000010000000001\n0000000000000001\n",
+        0,
+        "",
+    ),
+    (
+        "1 2",
+        "i 18446744073709551615\nw\n",
+        "false\n8000080000000000\n",
+        0,
+        "",
+    ),
+    ("1 2", "i 18446744073709551616\n", "", 2, BAD_FIRST),
+    ("1 2", "c 00000000000000000001\n", "false\n", 0, ""),
+    ("1 2", "c 000000000000000000001\n", "", 2, BAD_FIRST),
+    ("1 2", "i  1\n", "", 2, BAD_FIRST),
+    ("1 2", "i 1\r\n", "", 2, BAD_FIRST),
+    ("1 2", "\n", "", 2, BAD_FIRST),
+    ("1 2", "i 0", "false\n", 0, ""),
+    (
+        "1 3",
+        "i 1\nz\nc 1\nw\n",
+        "false\nfalse\n0000000000000000\n",
+        0,
+        "",
+    ),
+    ("1 3", "z 1\n", "", 2, BAD_FIRST),
+];
+
 #[test]
 fn runs_end_as_documented(rt: HostRuntime) -> Result<(), Fail> {
-    let usage = "usage: bloom WORDS HASHES";
-    let bad_first = "line 1: bad command";
-    let runs = [
-        ("1 3", "i 1\nx\n", "false\n", 2, "line 2: bad command"),
-        ("0 3", "", "", 2, usage),
-        ("1", "", "", 2, usage),
-        ("1 2 3", "", "", 2, usage),
-        ("1048577 1", "", "", 2, usage),
-        ("1 4294967296", "", "", 2, usage),
-        ("1 x", "", "", 2, usage),
-        ("1 1", "", "", 0, ""),
-        (
-            "2 3",
-            "i 1\nw\n",
-            "false\n0000010000000001\n0000000000000001\n",
-            0,
-            "",
-        ),
-        (
-            "1 2",
-            "i 18446744073709551615\nw\n",
-            "false\n8000080000000000\n",
-            0,
-            "",
-        ),
-        ("1 2", "i 18446744073709551616\n", "", 2, bad_first),
-        ("1 2", "c 00000000000000000001\n", "false\n", 0, ""),
-        ("1 2", "c 000000000000000000001\n", "", 2, bad_first),
-        ("1 2", "i  1\n", "", 2, bad_first),
-        ("1 2", "i 1\r\n", "", 2, bad_first),
-        ("1 2", "\n", "", 2, bad_first),
-        ("1 2", "i 0", "false\n", 0, ""),
-        (
-            "1 3",
-            "i 1\nz\nc 1\nw\n",
-            "false\nfalse\n0000000000000000\n",
-            0,
-            "",
-        ),
-        ("1 3", "z 1\n", "", 2, bad_first),
-    ];
-    for (args, input, output, status, error) in runs {
+    for (args, input, output, status, error) in RUNS {
         let (written, ended, told) = run(&rt, rt.alloc(), args, input)?;
         assert_eq!(rt; written.as_str(), output, "on {args} and {input:?}");
         assert_eq!(rt; ended, status, "on {args} and {input:?}");

@@ -18,8 +18,8 @@ fn the_first_vector_is_a_position(rt: HostRuntime) -> Result<(), FilterError> {
     Ok(())
 }
 
-// The hash of the bytes 1 to 5 under the zero key, by Rust's own `std::hash::DefaultHasher` (1.95), which
-// is SipHash-1-3 under that key.
+// The hash of the bytes 1 to 5 under the zero key, by Rust's own `std::hash::DefaultHasher` (1.95),
+// which is SipHash-1-3 under that key.
 #[test]
 fn pieces_hash_as_the_whole(rt: HostRuntime) {
     let mut pieces = RandomDefaultHasher::default();

@@ -84,7 +84,8 @@ impl Block {
     /// Reads a new block, in place of one that is empty. It is empty only at the end of the input.
     pub fn fill<R: Read>(&mut self, input: &mut R) -> Result<(), Fault>
         requires { self.old ≡ [] }
-        ensures taken { OnOk result (Consumes (R.remaining input.old) (R.remaining input.new) self.new) }
+        ensures taken { OnOk result
+            (Consumes (R.remaining input.old) (R.remaining input.new) self.new) }
         ensures end { OnOk result (self.new ≡ [] → IsAtEnd (R.remaining input.new)) }
         ensures fault { IfErr result (λ fault. fault ≡ Fault.Input) }
     {

@@ -1,5 +1,6 @@
-//! Answers of the original crate. They were made by the Rust crate fastbloom 0.17.0, built unchanged
-//! but for its default key, 16 zero bytes, and driven by the program's lines, which were drawn.
+//! Answers of the original crate. They were made by the Rust crate fastbloom 0.17.0, built
+//! unchanged but for its default key, 16 zero bytes, and driven by the program's lines, which were
+//! drawn.
 
 /// The arguments of one run of the program, its input, and what it wrote.
 #[derive(Clone, Copy)]

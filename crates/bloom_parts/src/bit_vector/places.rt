@@ -28,7 +28,8 @@ impl BitVec {
 
     /// Turns the position on where a hash lies, and answers the bit that this changed in its word.
     ///
-    /// So the answer is 0 exactly if the position was on. Answers of many calls are gathered by `|`.
+    /// So the answer is 0 exactly if the position was on. The answers of many calls may be gathered
+    /// by `|`.
     pub fn turn_on_hash(&mut self, hash: u64) -> u64
         ensures changed { let position = index_of (64 * length self.old) hash in
             result ≡ (if content self.old position then 0 else 2 ^ (position % 64)) }
