@@ -1,8 +1,8 @@
 -- Stretches of the places of a hash, put together.
-use Rattle.std.proofs.Common.{◌≡◌, ℕ, zero, suc, ◌+◌, ◌-◌, ◌*◌, ◌<◌, ◌≤◌, ◌≢◌, Bool, true, false, ◌||◌, ◌&&◌, eqb, bit_or, List, length, refl, sym, subst, ◌∙◌, ap, arith, inl, inr}
+use Rattle.std.proofs.Common.{◌≡◌, ℕ, zero, suc, ◌+◌, ◌-◌, ◌*◌, ◌≤◌, ◌≢◌, Bool, true, false, ◌||◌, ◌&&◌, eqb, bit_or, List, length, refl, sym, subst, ◌∙◌, ap, arith, inl, inr}
 use mir.Val.{bool_byte}
 use Rattle.std.specs.Int.Bits.{or_zero_l}
-use Rattle.std.proofs.lemmas.Nat.{le_or_l, le_or_r}
+use Rattle.std.proofs.lemmas.Nat.{le_or_l}
 use Rattle.std.proofs.lemmas.Bool.{cases_eq, or_cases, and_parts, eqb-true, ne_eqb, eq-eqb, both_ways}
 use Rattle.bloom_parts.specs.Content.{content}
 use Rattle.bloom_parts.specs.Places.{place, positions, are_in}

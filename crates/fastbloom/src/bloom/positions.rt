@@ -95,24 +95,25 @@ fn each_is_on(bits: &BitVec, chain: &mut DoubleHasher, count: u32) -> bool
     true
 }
 
-// Whether all positions of a hash are on. It takes the first three together, which tell most hashes
-// apart that were never inserted, then stops at the first that is off, and takes the last four
-// together.
+// Whether all positions of a hash are on. Up to three are taken together. Of more, the first three
+// are, which tell most hashes apart that were never inserted; then it stops at the first that is
+// off, and takes the last four, or as many as are left, together. Counts that are bounded by a small
+// number have no loop.
 #[inline(always)]
 pub(super) fn contains_positions(bits: &BitVec, num_hashes: u32, hash: u64) -> bool
     ensures { result ≡ are_in (64 * length bits.now) num_hashes hash (content bits.now) }
 {
     let mut chain = DoubleHasher::new(hash);
-    if num_hashes < 3 {
+    if num_hashes < 4 {
         return all_are_on(bits, &mut chain, num_hashes);
     }
     if !three_are_on(bits, &mut chain) {
         return false;
     }
     let rest = num_hashes - 3;
-    let alone = rest.saturating_sub(4);
-    if !each_is_on(bits, &mut chain, alone) {
+    let last = rest.min(4);
+    if !each_is_on(bits, &mut chain, rest - last) {
         return false;
     }
-    all_are_on(bits, &mut chain, rest - alone)
+    all_are_on(bits, &mut chain, last)
 }

@@ -1,4 +1,4 @@
-use Rattle.std.proofs.Common.{◌≡◌, ◌+◌, ◌*◌, ◌/◌, ◌%◌, ◌||◌, eqb, length, subst, sym, ◌∙◌, ap, arith}
+use Rattle.std.proofs.Common.{◌≡◌, ◌+◌, ◌*◌, ◌/◌, ◌||◌, eqb, length, subst, ◌∙◌, ap, arith}
 use Rattle.bloom_parts.specs.Chain.{IsAt}
 use Rattle.bloom_parts.specs.Content.{content}
 use Rattle.fastbloom.specs.Stretches.{TurnsOn}

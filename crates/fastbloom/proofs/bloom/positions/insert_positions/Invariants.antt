@@ -1,4 +1,4 @@
-use Rattle.std.proofs.Common.{◌≡◌, ◌+◌, ◌*◌, ◌/◌, ◌==◌}
+use Rattle.std.proofs.Common.{◌+◌, ◌*◌, ◌/◌, ◌==◌}
 use Rattle.bloom_parts.specs.Chain.{IsAt}
 use Rattle.fastbloom.specs.Stretches.{TurnsOn}
 use Rattle.fastbloom.proofs.bloom.positions.insert_positions.Given as goal

@@ -1,4 +1,4 @@
-use Rattle.std.proofs.Common.{◌≡◌, ◌*◌, length, ap, sym, ◌∙◌}
+use Rattle.std.proofs.Common.{◌*◌, length, ap, sym, ◌∙◌}
 use Rattle.bloom_parts.specs.Content.{content, index_of}
 use Rattle.fastbloom.proofs.StretchLemmas.{are_in_from-one}
 use Rattle.fastbloom.proofs.bloom.positions.next_is_on.Goals as goal

@@ -1,4 +1,4 @@
-use Rattle.std.proofs.Common.{◌≡◌, ◌*◌, ◌||◌, length, ap, sym, ◌∙◌, eqb}
+use Rattle.std.proofs.Common.{◌*◌, ◌||◌, length, ap, sym, ◌∙◌, eqb}
 use Rattle.bloom_parts.specs.Content.{content, index_of}
 use Rattle.fastbloom.proofs.StretchLemmas.{positions_from-one, are_in_from-one}
 use Rattle.fastbloom.proofs.bloom.positions.turn_on_next.Goals as goal
