@@ -1,7 +1,7 @@
 -- The course of a run: what was recorded, and when it is lawful and follows its schedule. Each rule
 -- speaks of the finished list of records. They are this project's own.
-use Rattle.std.specs.Prelude.{ℕ, ◌/◌, ◌^◌, ◌<◌, ◌≡◌, ◌⊎◌, ◌==◌, Bool, true, false, List, [], ◌∷◌, ◌++◌, length, Some, slice_get, slice_index, take, if◌then◌else◌}
-use Rattle.bloom_parts.specs.Content.{bit_is_on, content}
+use Rattle.std.specs.Prelude.{ℕ, ◌/◌, ◌^◌, ◌<◌, ◌≡◌, ◌⊎◌, ◌==◌, Bool, true, false, List, [], ◌∷◌, ◌++◌, length, Some, slice_get, take, if◌then◌else◌}
+use Rattle.bloom_parts.specs.Content.{AreWords, bit_is_on, content}
 use Rattle.fastbloom.specs.declared.steps.calls.Step.{Step}
 use Rattle.fastbloom.specs.declared.steps.calls.Step.TheVariants.{Load, Or, And, Zero, Other}
 use Rattle.fastbloom.specs.declared.steps.calls.Call.{Call}
@@ -64,10 +64,6 @@ pub data CallAfterCall (w k party : ℕ) : List Record → Type 0 where
   whole_call : (call : Call) (s : List Taken) (later : List Record) → IsScript w k call s
       → CallAfterCall w k party later
       → CallAfterCall w k party (Began party call ∷ (did party s ++ later))
-
--- each word is one of 64 bits
-abbrev pub AreWords : List ℕ → Type 0
-AreWords words = (i : ℕ) → slice_index words i < 2 ^ 64
 
 -- a lawful course, of k hashes
 pub record IsLawful (k : ℕ) (run : Course) : Type 0 where

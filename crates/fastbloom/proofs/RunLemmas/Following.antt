@@ -9,7 +9,8 @@ use Rattle.fastbloom.specs.declared.steps.calls.Record.{Record}
 use Rattle.fastbloom.specs.declared.steps.calls.Step.{Step}
 use Rattle.fastbloom.specs.declared.steps.machine.Machine.{Machine}
 use Rattle.fastbloom.specs.Machines.{asks, next_step}
-use Rattle.fastbloom.specs.Traces.{AreWords, Course, FollowsFrom, Gives, IsLawful, next_event, no_event, records_of}
+use Rattle.bloom_parts.specs.Content.{AreWords}
+use Rattle.fastbloom.specs.Traces.{Course, FollowsFrom, Gives, IsLawful, next_event, no_event, records_of}
 use Rattle.fastbloom.specs.Worlds.{Grows, IsWorld, PartyAt}
 use Rattle.fastbloom.proofs.RunLemmas.Calling.{calls-party}
 use Rattle.fastbloom.proofs.RunLemmas.Parties.{records_of-none}

@@ -1,9 +1,8 @@
 -- At most one course is lawful and follows a schedule.
-use Rattle.std.proofs.Common.{[], ◌++◌, ◌∙◌, ◌∷◌, ◌≡◌, Bool, List, ap, append_assoc, inl, inr, length, refl, slice_index, subst, sym, ℕ}
+use Rattle.std.proofs.Common.{[], ◌++◌, ◌∙◌, ◌∷◌, ◌≡◌, Bool, List, ap, append_assoc, inl, inr, length, refl, subst, sym, ℕ}
 use Rattle.std.proofs.Math.Seq.{take-append_seam}
 use Rattle.std.proofs.lemmas.Bool.{both_ways}
-use Rattle.std.proofs.lemmas.Grind.{same_number_lists}
-use Rattle.bloom_parts.specs.Content.{content}
+use Rattle.bloom_parts.specs.Content.{EqualWordsLaw, content}
 use Rattle.fastbloom.specs.declared.steps.calls.Event.{Event}
 use Rattle.fastbloom.specs.declared.steps.calls.Event.TheVariants.{Begin, Go}
 use Rattle.fastbloom.specs.declared.steps.calls.Record.{Record}
@@ -14,10 +13,9 @@ use Rattle.fastbloom.specs.Steps.{after_records}
 use Rattle.fastbloom.specs.Traces.{AtMostOne, CallAfterCall, FindsWhatIsThere, FollowsFrom, Gives, IsStepOf, MayFind, next_event, no_event, records_of, runs}
 use Rattle.fastbloom.proofs.RunLemmas.Continuing.{GoesAfter, goes_after, newest-same}
 use Rattle.fastbloom.proofs.RunLemmas.Parties.{records_of-append, records_of-mine}
-use Rattle.fastbloom.proofs.RunLemmas.Unique.{end-same, found-same, word-same}
+use Rattle.fastbloom.proofs.RunLemmas.Unique.{end-same, found-same}
 use Rattle.fastbloom.proofs.StepLemmas.Going.{fits_one, script_next}
 use Rattle.fastbloom.proofs.StepLemmas.Members.{member-seam}
-use Rattle.fastbloom.proofs.StepLemmas.Writing.{content-word}
 
 -- the next record of a party's call is one
 next-same : (w k p given : ℕ) (A : ℕ → Bool) (xs : List Record) (t u : Taken) → GoesAfter w k p xs t
@@ -116,9 +114,9 @@ module _ (w k : ℕ) (A : ℕ → Bool) where
       ap (λ c. c ++ xs) same
       ∙ ap (λ c. b ++ c) (follows-same n (before ++ a) es xs ys f follows first second)
 
--- at most one course is lawful and follows a schedule
-pub at_most_one : AtMostOne
-at_most_one parties k words schedule one other lawful follows lawful2 follows2 =
+-- at most one course is lawful and follows a schedule, since words are fixed by their content
+pub at_most_one : EqualWordsLaw → AtMostOne
+at_most_one equal_words parties k words schedule one other lawful follows lawful2 follows2 =
     let begins : one.start ≡ other.start = follows.begins ∙ sym follows2.begins in
     let w = length one.start in
     let A = content one.start in
@@ -137,9 +135,8 @@ at_most_one parties k words schedule one other lawful follows lawful2 follows2 =
     λ p.
     lawful.bits p ∙ ap (λ l. after_records (content l) one.records p) begins
     ∙ ap (λ rs. after_records (content other.start) rs p) records ∙ sym (lawful2.bits p) in
-    let last : one.words ≡ other.words = same_number_lists one.words other.words count (λ i l.
-    word-same (slice_index one.words i) (slice_index other.words i) i (lawful.fit i) (lawful2.fit i)
-    (λ p at. sym (content-word one.words i p at) ∙ bits p ∙ content-word other.words i p at)) in
+    let last : one.words ≡ other.words =
+    (equal_words one.words other.words lawful.fit lawful2.fit count).1 bits in
     ap (λ l. record { start = l; records = one.records; words = one.words }) begins
     ∙ ap (λ l. record { start = other.start; records = l; words = one.words }) records
     ∙ ap (λ l. record { start = other.start; records = other.records; words = l }) last

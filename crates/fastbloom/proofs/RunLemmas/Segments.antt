@@ -13,18 +13,6 @@ use Rattle.fastbloom.specs.Traces.{CallAfterCall, begun_call, did, no_call, part
 use Rattle.fastbloom.proofs.RunLemmas.Newest.{OneEnd, one_end-later}
 use Rattle.fastbloom.proofs.RunLemmas.Parties.{mine_or_not, records_of-mine, records_of-none, records_of-other}
 
--- a list of records that is empty or begins a call
-pub StartsCall : List Record → Type 0
-StartsCall later =
-    (q : ℕ) (step : Step) (found : ℕ) (e : End)
-    (rest : List Record) → later ≢ Did q step found e ∷ rest
-
-starts : (w k p : ℕ) (rs : List Record) → CallAfterCall w k p rs → StartsCall rs
-unfolding StartsCall
-starts w k p [] no_call q step found e rest f = cc
-starts w k p (r ∷ rs) (begun_call call s b) q step found e rest f = cc
-starts w k p (r ∷ rs) (whole_call call s later b c) q step found e rest f = cc
-
 -- no call begins among the steps of a script
 strip : (p : ℕ) (s : List Taken) (later pre post : List Record) (call : Call)
     → did p s ++ later ≡ pre ++ Began p call ∷ post
@@ -38,7 +26,6 @@ pub record Segment (w k p : ℕ) (call : Call) (post : List Record) : Type 0 whe
   pub s : List Taken
   pub later : List Record
   pub same : post ≡ did p s ++ later
-  pub starts : StartsCall later
   pub kind : IsScript w k call s ⊎ (IsBeginning w k call s × (later ≡ []))
 
 pub segment : (w k p : ℕ) (rs pre post : List Record) (call : Call) → CallAfterCall w k p rs
@@ -51,11 +38,8 @@ segment w k p (r ∷ rs) [] post call (begun_call c s b) e =
     record {
       s = s;
       later = [];
-      same = sym tail
-          ∙ sym (append-nil (did p s));
-      starts = starts w k p [] no_call;
-      kind = inr
-          (subst (λ x. IsBeginning w k x s) same b, refl);
+      same = sym tail ∙ sym (append-nil (did p s));
+      kind = inr (subst (λ x. IsBeginning w k x s) same b, refl);
     }
 segment w k p (r ∷ rs) (x ∷ pre) post call (begun_call c s b) e =
     let tail : did p s ++ [] ≡ pre ++ Began p call ∷ post = append-nil (did p s) ∙ cc in
@@ -72,9 +56,7 @@ segment w k p (r ∷ rs) [] post call (whole_call c s later b more) e =
       s = s;
       later = later;
       same = sym tail;
-      starts = starts w k p later more;
-      kind = inl
-          (subst (λ x. IsScript w k x s) same b);
+      kind = inl (subst (λ x. IsScript w k x s) same b);
     }
 segment w k p (r ∷ rs) (x ∷ pre) post call (whole_call c s later b more) e =
     let tail : did p s ++ later ≡ pre ++ Began p call ∷ post = cc in

@@ -24,7 +24,7 @@ digit-same (suc (suc a)) b l m e = absurd (omega arith)
 digit-same a (suc (suc b)) l m e = absurd (omega arith)
 
 -- words of 64 bits with the same bits are the same
-pub word-same : (a b i : ℕ) → a < 2 ^ 64 → b < 2 ^ 64
+word-same : (a b i : ℕ) → a < 2 ^ 64 → b < 2 ^ 64
     → ((p : ℕ) → p / 64 ≡ i → bit_is_on a p ≡ bit_is_on b p) → a ≡ b
 word-same a b i f g all = same_from_bits_below 64 a b f g (λ j l.
     let low : (64 * i + j) % 64 ≡ j = omega arith in

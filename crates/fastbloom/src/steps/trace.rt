@@ -24,7 +24,7 @@ impl Model for Trace {
 
 impl Trace {
     ghost use Rattle.std.specs.Prelude.{◌≡◌};
-    ghost use Rattle.fastbloom.specs.Traces.{AreWords};
+    ghost use Rattle.bloom_parts.specs.Content.{AreWords};
 
     // The course of these parts.
     pub(super) fn from_parts(start: Vec<u64>, records: Vec<Record>, words: Vec<u64>) -> Self
