@@ -6,8 +6,8 @@ ghost use Rattle.std.specs.Iterator.{IsFinite};
 ghost use Rattle.std.specs.Iterator.Runs.{EachRunFrom, WholeRun};
 ghost use Rattle.bloom_parts.specs.Content.{content, index_of};
 
+mod by_hash;
 mod kernels;
-mod places;
 mod words;
 
 use crate::error::FilterError;
@@ -27,8 +27,8 @@ pub fn index(num_bits: usize, hash: u64) -> usize
     ((hash as u128 * num_bits as u128) >> 64) as usize
 }
 
-// The word of a position, and the number that has its bit alone.
-fn coordinate(position: usize) -> (usize, u64)
+/// The word in which a position lies, and the number that has its bit alone.
+pub fn word_and_mask(position: usize) -> (usize, u64)
     ensures word { result.0 ≡ position / 64 }
     ensures mask { result.1 ≡ 2 ^ (position % 64) }
 {
@@ -112,7 +112,7 @@ impl BitVec {
         requires { position < 64 * length self.now }
         ensures { result ≡ content self.now position }
     {
-        let (word, mask) = coordinate(position);
+        let (word, mask) = word_and_mask(position);
         self.words[word] & mask > 0
     }
 
@@ -123,7 +123,7 @@ impl BitVec {
         ensures content { (p : ℕ) → content self.new p ≡ (content self.old p || p == position) }
         ensures shape { length self.new ≡ length self.old }
     {
-        let (word, mask) = coordinate(position);
+        let (word, mask) = word_and_mask(position);
         let was_on = self.words[word] & mask > 0;
         self.words[word] |= mask;
         was_on

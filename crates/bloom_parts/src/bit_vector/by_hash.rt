@@ -6,7 +6,7 @@ use super::BitVec;
 
 // The word in which a hash lies among so many words, and the number that has its bit alone. The
 // product's high half is the word, and the six bits below it are the bit.
-fn spot(words: usize, hash: u64) -> (usize, u64)
+fn word_and_mask_of_hash(words: usize, hash: u64) -> (usize, u64)
     ensures word { result.0 ≡ index_of (64 * words) hash / 64 }
     ensures mask { result.1 ≡ 2 ^ (index_of (64 * words) hash % 64) }
     ensures range { 0 < words → result.0 < words }
@@ -22,7 +22,7 @@ impl BitVec {
     pub fn check_hash(&self, hash: u64) -> bool
         ensures { result ≡ content self.now (index_of (64 * length self.now) hash) }
     {
-        let (word, mask) = spot(self.len(), hash);
+        let (word, mask) = word_and_mask_of_hash(self.len(), hash);
         self.words[word] & mask > 0
     }
 
@@ -38,7 +38,7 @@ impl BitVec {
             ≡ (content self.old p || p == index_of (64 * length self.old) hash) }
         ensures shape { length self.new ≡ length self.old }
     {
-        let (word, mask) = spot(self.len(), hash);
+        let (word, mask) = word_and_mask_of_hash(self.len(), hash);
         let before = self.words[word];
         let after = before | mask;
         self.words[word] = after;
