@@ -8,6 +8,7 @@ mod HashedLemmas
 mod MergeLemmas
 mod NumberLemmas
 pub mod PlaceLemmas
+pub mod PositionLemmas
 mod PowerBounds
 mod PowerDigits
 mod PowerWidths

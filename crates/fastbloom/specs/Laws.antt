@@ -5,7 +5,7 @@ use Rattle.bloom_parts.specs.Places.{positions, IsPart}
 use Rattle.bloom_parts.specs.Rates.{num_of, den_of}
 use Rattle.fastbloom.specs.Builders.{Start, RateStart, same_start, same_rate_start}
 use Rattle.fastbloom.specs.CommandOf.{operation_of}
-use Rattle.fastbloom.specs.Commands.{Operation, Insert, Contains, Clear, Union, Intersect}
+use Rattle.bloom_parts.specs.Operations.{Operation, Insert, Contains, Clear, Union, Intersect}
 use Rattle.fastbloom.specs.Filter.{Filter, SameShape, contains, Inserts, Clears, Unites, Intersects, same_filter}
 use Rattle.fastbloom.specs.Replies.{CarriesOut, InsertsAll}
 use Rattle.fastbloom.specs.declared.bloom.command.Command.{Command}

@@ -3,7 +3,7 @@ ghost use Rattle.std.specs.Prelude.{◌≡◌, ◌*◌, ◌^◌, ◌<◌, ◌≤
 ghost use Rattle.std.specs.Result.{result_err};
 ghost use Rattle.bloom_parts.specs.Keys.{HasKey};
 ghost use Rattle.fastbloom.specs.Builders.{words_for, words_refusal, bits_refusal, RefusesAs};
-ghost use Rattle.fastbloom.specs.Commands as operation;
+ghost use Rattle.bloom_parts.specs.Operations as operation;
 ghost use Rattle.fastbloom.specs.Filter.{contains, Inserts};
 ghost use Rattle.fastbloom.specs.Replies.{CarriesOut};
 

@@ -12,9 +12,7 @@ use bloom_parts::hasher::{DefaultHasher, RandomDefaultHasher};
 use bloom_parts::laws::hash_of_pieces;
 use std::hash::{BuildHasher, Hash, Hasher};
 
-mod steps;
-
-pub use steps::{at_most_one_course, steps_in_memory};
+pub use bloom_steps::laws::{at_most_one_course, steps_in_memory};
 
 /// An insert answers what a look-up would have, and afterwards the hash is contained.
 pub fn insert_answers_contains<S>()
