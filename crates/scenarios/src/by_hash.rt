@@ -15,6 +15,20 @@ fn zeros(alloc: Global, words: usize) -> Result<Vec<u64>, Fail> {
     Ok(vec![in alloc; 0u64; words]?)
 }
 
+// Whether a hash is new to a filter, and is there after it was inserted.
+fn goes_in(filter: &mut BloomFilter, hash: u64) -> bool {
+    let is_new = !filter.contains_hash(hash) && !filter.insert_hash(hash);
+    is_new && filter.insert_hash(hash) && filter.contains_hash(hash)
+}
+
+// Whether the word at an index is as said, and each other word 0.
+fn has_one_word(filter: &BloomFilter, word: u64, at: usize) -> bool {
+    filter
+        .iter()
+        .enumerate()
+        .all(|(i, found)| found == if i == at { word } else { 0 })
+}
+
 #[test]
 fn inserts_turn_on_the_listed_positions(rt: HostRuntime) -> Result<(), Fail> {
     // The hash, the filter's words and hashes, the word that holds all positions, and its place.
@@ -28,13 +42,8 @@ fn inserts_turn_on_the_listed_positions(rt: HostRuntime) -> Result<(), Fail> {
     ];
     for (hash, words, hashes, word, at) in rows {
         let mut filter = filter_of(&rt, zeros(rt.alloc(), words)?, hashes);
-        assert!(rt; !filter.contains_hash(hash), "{hash} before");
-        assert!(rt; !filter.insert_hash(hash), "{hash} is new");
-        assert!(rt; filter.insert_hash(hash), "{hash} again");
-        assert!(rt; filter.contains_hash(hash), "{hash} after");
-        for (i, found) in filter.iter().enumerate() {
-            assert_eq!(rt; found, if i == at { word } else { 0 }, "word {i} of {hash}");
-        }
+        assert!(rt; goes_in(&mut filter, hash), "{hash}");
+        assert!(rt; has_one_word(&filter, word, at), "{hash}");
     }
     Ok(())
 }
@@ -49,21 +58,39 @@ fn a_filter_keeps_its_words_and_counts(rt: HostRuntime) -> Result<(), Fail> {
 }
 
 #[test]
-fn words_are_refused_by_number_and_text(rt: HostRuntime) -> Result<(), Fail> {
+fn no_words_are_refused(rt: HostRuntime) {
     let none = BloomFilter::from_vec(Vec::new(rt.alloc())).expect_err(&rt, "there is no word");
     assert_eq!(rt; none, FilterError::EmptyWords);
-    let rows = [
-        (FilterError::ZeroBits, 1, "zero bits"),
-        (FilterError::EmptyWords, 2, "no words"),
-        (FilterError::TooManyWords, 3, "too many words"),
-        (FilterError::ZeroRate, 4, "rate with a zero part"),
-        (FilterError::SizeOverflow, 5, "size too large"),
-        (FilterError::Memory, 6, "no memory"),
-        (FilterError::HashCount, 7, "hash count too large"),
-        (FilterError::Worker, 8, "no worker"),
-    ];
-    for (error, code, text) in rows {
-        assert_eq!(rt; error.code(), code, "{text}");
+}
+
+#[test]
+fn refusals_have_these_numbers(rt: HostRuntime) {
+    for (error, code) in [
+        (FilterError::ZeroBits, 1),
+        (FilterError::EmptyWords, 2),
+        (FilterError::TooManyWords, 3),
+        (FilterError::ZeroRate, 4),
+        (FilterError::SizeOverflow, 5),
+        (FilterError::Memory, 6),
+        (FilterError::HashCount, 7),
+        (FilterError::Worker, 8),
+    ] {
+        assert_eq!(rt; error.code(), code);
+    }
+}
+
+#[test]
+fn refusals_have_these_texts(rt: HostRuntime) -> Result<(), Fail> {
+    for (error, text) in [
+        (FilterError::ZeroBits, "zero bits"),
+        (FilterError::EmptyWords, "no words"),
+        (FilterError::TooManyWords, "too many words"),
+        (FilterError::ZeroRate, "rate with a zero part"),
+        (FilterError::SizeOverflow, "size too large"),
+        (FilterError::Memory, "no memory"),
+        (FilterError::HashCount, "hash count too large"),
+        (FilterError::Worker, "no worker"),
+    ] {
         assert_eq!(rt; error.to_string(rt.alloc())?.as_str(), text);
     }
     Ok(())

@@ -16,8 +16,8 @@ fn rates_keep_their_parts_and_refuse_zero(rt: HostRuntime) -> Result<(), Fail> {
     Ok(())
 }
 
-// The quotient of bits and items times the logarithm of 2, rounded half up: 1024 / 2 gives 354.9, and
-// the last line is two and a half, since its items are the logarithm times 2^53.
+// The quotient of bits and items times the logarithm of 2, rounded half up: 1024 / 2 gives 354.9. The
+// last line is two and a half, since its items are the logarithm times 2^53.
 #[test]
 fn hashes_are_rounded_half_up_within_their_range(rt: HostRuntime) {
     for (bits, items, hashes) in [
@@ -70,8 +70,8 @@ fn sizes_that_no_word_holds_are_refused(rt: HostRuntime) -> Result<(), Fail> {
     Ok(())
 }
 
-// 1 - (63/64)^t, and 1 - (2/3), in units of 2^-63. The last two lines tell the rounding of each product:
-// they were computed apart, with Python's whole numbers, and other ways of rounding give other ends.
+// 1 - (63/64)^t, and 1 - (2/3), in units of 2^-63. The last two lines, computed apart with Python's
+// whole numbers, tell how each product is rounded: other ways of rounding give other ends.
 #[test]
 fn densities_have_these_ends(rt: HostRuntime) {
     for (hashes, bits, items, low, high) in [
