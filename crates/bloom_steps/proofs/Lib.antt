@@ -1,2 +1,3 @@
 mod RunLemmas
+mod StepFacts
 mod StepLemmas

@@ -1,0 +1,6 @@
+pub mod Beginnings
+pub mod Counts
+pub mod Members
+pub mod Pairs
+pub mod Scripts
+pub mod Stores
