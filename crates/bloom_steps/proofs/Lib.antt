@@ -1,3 +1,4 @@
+mod CourseFacts
 mod RunLemmas
 mod StepFacts
 mod StepLemmas

@@ -10,11 +10,11 @@ use Rattle.bloom_steps.proofs.StepFacts.Scripts.{insert, insert-script}
 use Rattle.bloom_steps.proofs.StepFacts.Pairs.{union, union-script}
 
 -- no step is a beginning
-begun-none : IsBeginning 1 2 (Insert 1) []
+pub begun-none : IsBeginning 1 2 (Insert 1) []
 begun-none = (_, _, insert-script)
 
 -- so is each front
-begun-one : IsBeginning 1 2 (Insert 1) (took (Or 0 1) 1 Running ∷ [])
+pub begun-one : IsBeginning 1 2 (Insert 1) (took (Or 0 1) 1 Running ∷ [])
 begun-one = (_, _, insert-script)
 
 -- a whole script is none
@@ -31,12 +31,12 @@ begun-ended : IsBeginning 1 2 (Insert 1) (took (Or 0 1) 1 Done ∷ []) → ⊥
 begun-ended begun = let runs = begun.2.running 0 _ refl (omega arith) in cc
 
 -- an insert begins with the bit of its first place
-next-first : IsNext 1 2 (Insert 1) [] (Or 0 1)
+pub next-first : IsNext 1 2 (Insert 1) [] (Or 0 1)
 unfolding chain
 next-first t rest is = is.steps 0 t refl
 
 -- and goes on with that of its second
-next-second : IsNext 1 2 (Insert 1) (took (Or 0 1) 1 Running ∷ []) (Or 0 1048576)
+pub next-second : IsNext 1 2 (Insert 1) (took (Or 0 1) 1 Running ∷ []) (Or 0 1048576)
 unfolding chain
 next-second t rest is = is.steps 1 t refl
 
