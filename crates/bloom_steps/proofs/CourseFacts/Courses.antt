@@ -80,3 +80,24 @@ last_load_alone = record {
       ∷ Did 0 (Load 0) 1048576 (Answer true) ∷ [];
   words = 1048576 ∷ [];
 }
+
+-- a look-up with clears just before and just after it, with one hash
+abbrev pub between_clears : Course
+between_clears = record {
+  start = 1 ∷ [];
+  records =
+      Began 1 Clear ∷ Did 1 (Zero 0) 0 Done ∷ Began 1 (Insert 0)
+      ∷ Did 1 (Or 0 1) 0 (Answer false) ∷ Began 1 Clear ∷ Began 0 (Contains 0)
+      ∷ Did 0 (Load 0) 1 (Answer true) ∷ Did 1 (Zero 0) 0 Done ∷ [];
+  words = 0 ∷ [];
+}
+
+-- a look-up across a clear that turns off another position than its own, with one hash
+abbrev pub clear_elsewhere : Course
+clear_elsewhere = record {
+  start = 4 ∷ [];
+  records =
+      Began 0 (Contains 0) ∷ Began 1 Clear ∷ Did 1 (Zero 0) 0 Done
+      ∷ Did 0 (Load 0) 0 (Answer false) ∷ [];
+  words = 0 ∷ [];
+}
