@@ -61,13 +61,13 @@ in_turn = record {
   words = 5 ∷ [];
 }
 
--- an insert, and then a look-up of its hash, with one hash
+-- an insert, then a look-up of its hash, and a union that isn't finished, with one hash
 abbrev pub insert_then_contains : Course
 insert_then_contains = record {
   start = 4 ∷ [];
   records =
       Began 0 (Insert 0) ∷ Did 0 (Or 0 1) 4 (Answer false) ∷ Began 1 (Contains 0)
-      ∷ Did 1 (Load 0) 5 (Answer true) ∷ [];
+      ∷ Did 1 (Load 0) 5 (Answer true) ∷ Began 0 Union ∷ Did 0 (Other 0) 9 Running ∷ [];
   words = 5 ∷ [];
 }
 

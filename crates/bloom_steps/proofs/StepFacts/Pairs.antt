@@ -9,7 +9,7 @@ use Rattle.bloom_steps.specs.Scripts.{Taken, ArePairs, IsScript}
 use Rattle.bloom_steps.proofs.StepFacts.Members.{each-member, took}
 
 -- one pair
-one-pair : (operation : ℕ → ℕ → Step) (found other : ℕ)
+pub one-pair : (operation : ℕ → ℕ → Step) (found other : ℕ)
     → ArePairs operation (took (Other 0) other Running ∷ took (operation 0 other) found Done ∷ [])
 one-pair operation found other = record {
   loads = loads;
