@@ -4,7 +4,8 @@ ghost use Rattle.std.specs.Result.{result_err};
 ghost use Rattle.bloom_parts.specs.Keys.{HasKey};
 ghost use Rattle.fastbloom.specs.Builders.{words_for, words_refusal, bits_refusal, RefusesAs};
 ghost use Rattle.bloom_parts.specs.Operations as operation;
-ghost use Rattle.fastbloom.specs.Filter.{contains, Inserts};
+ghost use Rattle.bloom_parts.specs.Content.{AreWords};
+ghost use Rattle.fastbloom.specs.Filter.{HasShape, contains, Inserts};
 ghost use Rattle.fastbloom.specs.Replies.{CarriesOut};
 
 mod all;
@@ -35,8 +36,8 @@ pub struct BloomFilter<S = DefaultHasher> {
 }
 
 impl<S> Model for BloomFilter<S> {
-    ghost use Rattle.std.specs.Prelude.{◌≤◌, ◌<◌, ◌^◌};
-    ghost use Rattle.fastbloom.specs.Filter.{Filter, filter_code};
+    ghost use Rattle.std.specs.Prelude.{length};
+    ghost use Rattle.fastbloom.specs.Filter.{Filter, IsShape, filter_code};
 
     ghost Value = { Filter S };
 
@@ -44,7 +45,7 @@ impl<S> Model for BloomFilter<S> {
 
     ghost view = { λ f. record { words = f.bits; hashes = f.num_hashes; hasher = f.hasher } };
 
-    ghost invariant = { λ f. (1 ≤ f.num_hashes) × (f.num_hashes < 2 ^ 32) };
+    ghost invariant = { λ f. IsShape (length f.bits) f.num_hashes };
 }
 
 impl BloomFilter {
@@ -82,9 +83,19 @@ impl BloomFilter {
     }
 }
 
+// The same words, each of 64 bits.
+fn with_range(words: &[u64]) -> &[u64]
+    ensures value { result.now ≡ words.now }
+    ensures range { AreWords words.now }
+{
+    words
+}
+
 impl<S> BloomFilter<S> {
     // The filter of these parts. No hashes count as one.
     pub(crate) fn from_parts(bits: BitVec, num_hashes: u32, hasher: S) -> Self
+        requires some { 1 ≤ length bits }
+        requires few { length bits < 2 ^ 58 }
         ensures words { result.words ≡ bits }
         ensures hashes { result.hashes ≡ max 1 num_hashes }
         ensures hasher { result.hasher ≡ hasher }
@@ -100,6 +111,7 @@ impl<S> BloomFilter<S> {
     pub fn num_hashes(&self) -> u32
         ensures value { result ≡ self.now.hashes }
         ensures least { 1 ≤ result }
+        ensures shape { HasShape self.now }
     {
         self.num_hashes
     }
@@ -108,22 +120,27 @@ impl<S> BloomFilter<S> {
     pub fn num_bits(&self) -> usize
         ensures value { result ≡ 64 * length self.now.words }
         ensures least { 64 ≤ result }
+        ensures shape { HasShape self.now }
     {
         self.bits.num_bits()
     }
 
     /// The words, word 0 first.
     pub fn as_slice(&self) -> &[u64]
-        ensures { result.now ≡ self.now.words }
+        ensures value { result.now ≡ self.now.words }
+        ensures shape { HasShape self.now }
+        ensures range { AreWords self.now.words }
     {
-        self.bits.as_slice()
+        with_range(self.bits.as_slice())
     }
 
     /// An iterator over the words, word 0 first.
     pub fn iter(&self) -> Words<'_>
-        ensures { result ≡ self.now.words }
+        ensures value { result ≡ self.now.words }
+        ensures shape { HasShape self.now }
+        ensures range { AreWords self.now.words }
     {
-        self.bits.iter()
+        Words::new(self.as_slice())
     }
 
     /// Turns on all positions of a hash, and answers whether all were on just before.

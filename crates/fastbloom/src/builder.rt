@@ -1,5 +1,5 @@
 //! Builders of filters.
-ghost use Rattle.std.specs.Prelude.{◌≡◌, ◌<◌, length, replicate, vec_len, IfOk, max, nat_eq};
+ghost use Rattle.std.specs.Prelude.{◌≡◌, ◌<◌, ◌≤◌, ◌^◌, length, replicate, vec_len, IfOk, max, nat_eq};
 ghost use Rattle.std.specs.Result.{result_err};
 ghost use Rattle.std.specs.Int.{w128, to_be_bytes};
 ghost use Rattle.std.specs.Iterator.{IsFiniteIterable, items_left};
@@ -31,6 +31,7 @@ pub struct BuilderWithBits<S = DefaultHasher> {
 }
 
 impl<S> Model for BuilderWithBits<S> {
+    ghost use Rattle.std.specs.Prelude.{◌≤◌, ◌<◌, ◌^◌, length};
     ghost use Rattle.fastbloom.specs.Builders.{Start, start_code};
 
     ghost Value = { Start S };
@@ -38,6 +39,8 @@ impl<S> Model for BuilderWithBits<S> {
     ghost coded = { start_code S.code };
 
     ghost view = { λ b. record { words = b.bits; hasher = b.hasher } };
+
+    ghost invariant = { λ b. (1 ≤ length b.bits) × (length b.bits < 2 ^ 58) };
 }
 
 // The default hasher with the key of a seed, which is its sixteen big-endian bytes.
@@ -52,6 +55,8 @@ fn hasher_of_seed(seed: &u128) -> DefaultHasher
 fn zero_bits(alloc: Global, num_bits: usize) -> Result<BitVec, FilterError>
     requires { 0 < num_bits }
     ensures words { IfOk result (λ bits. bits ≡ replicate (words_for num_bits) 0) }
+    ensures some { IfOk result (λ bits. 1 ≤ length bits) }
+    ensures few { IfOk result (λ bits. length bits < 2 ^ 58) }
     ensures refused { RefusesAs (size_refusal num_bits) (result_err result) }
 {
     let num_words = num_bits.div_ceil(64);
