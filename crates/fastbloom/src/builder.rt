@@ -67,9 +67,13 @@ fn zero_bits(alloc: Global, num_bits: usize) -> Result<BitVec, FilterError>
     Ok(BitVec::from_vec(words))
 }
 
-impl BuilderWithBits {
-    // A builder of zero words for this many bits, under the zero key.
-    pub(crate) fn with_num_bits(alloc: Global, num_bits: usize) -> Result<Self, FilterError>
+impl BloomFilter {
+    /// A builder of a filter of at least this many bits, all off, under the zero key.
+    ///
+    /// # Errors
+    /// `ZeroBits` for no bits, `TooManyWords` for more than 2^58 - 1 words, and else `Memory` where
+    /// there is no room for them.
+    pub fn with_num_bits(alloc: Global, num_bits: usize) -> Result<BuilderWithBits, FilterError>
         ensures words { IfOk result (λ builder.
             builder.words ≡ replicate (words_for num_bits) 0) }
         ensures key { IfOk result (λ builder. HasKey builder.hasher 0 0) }
@@ -84,20 +88,23 @@ impl BuilderWithBits {
         })
     }
 
-    // A builder of these words, under the zero key.
-    pub(crate) fn from_vec(words: Vec<u64>) -> Result<Self, FilterError>
-        ensures words { IfOk result (λ builder. builder.words ≡ words.items) }
+    /// A builder of a filter that keeps these words, under the zero key.
+    ///
+    /// # Errors
+    /// `EmptyWords` where there is no word, and `TooManyWords` where there are more than 2^58 - 1.
+    pub fn from_vec(bit_vec: Vec<u64>) -> Result<BuilderWithBits, FilterError>
+        ensures words { IfOk result (λ builder. builder.words ≡ bit_vec.items) }
         ensures key { IfOk result (λ builder. HasKey builder.hasher 0 0) }
-        ensures refused { result_err result ≡ words_refusal (vec_len words) }
+        ensures refused { result_err result ≡ words_refusal (vec_len bit_vec) }
     {
-        if words.is_empty() {
+        if bit_vec.is_empty() {
             return Err(FilterError::EmptyWords);
         }
-        if words.len() > MAX_WORDS {
+        if bit_vec.len() > MAX_WORDS {
             return Err(FilterError::TooManyWords);
         }
         Ok(BuilderWithBits {
-            bits: BitVec::from_vec(words),
+            bits: BitVec::from_vec(bit_vec),
             hasher: DefaultHasher::default(),
         })
     }
