@@ -6,7 +6,7 @@ use Rattle.std.proofs.KnownBytes.{Appends-nil, Appends-trans}
 use Rattle.std.proofs.lemmas.List.Elements.{filter_map-append}
 use Rattle.bloom_parts.specs.Content.{content}
 use Rattle.bloom_parts.specs.Deciders.{Decider, last_decision, state}
-use Rattle.fastbloom.specs.Commands.{decides, state_after}
+use Rattle.bloom_parts.specs.Operations.{decides, state_after}
 use Rattle.fastbloom.specs.Filter.{Filter}
 use Rattle.bloom.specs.declared.engine.line.Line.{Line}
 use Rattle.bloom.specs.Lines.{operation_of, operations}

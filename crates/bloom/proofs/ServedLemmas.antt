@@ -4,7 +4,7 @@ use Rattle.std.specs.Io.KnownBytes.{Keeps, Appends, prepend_known}
 use Rattle.std.proofs.lemmas.Bool.{and_left, and_right, cond-false, lt-leb}
 use Rattle.fastbloom.specs.Filter.{Filter}
 use Rattle.bloom.specs.declared.engine.line.Line.{Line}
-use Rattle.bloom.specs.declared.engine.reading.Next.TheVariants as next
+use Rattle.bloom.specs.declared.engine.line_reader.Next.TheVariants as next
 use Rattle.bloom.specs.Lines.{lines_of, line_of, number_of, is_number, value_of, numbered}
 use Rattle.bloom.specs.Reading.{IsEnded, has_no_end, Ends, NextCommand, TakesGood, IsUnderWay}
 use Rattle.bloom.specs.Served.{Carried, IsReadWhole, IsReadUpTo, ServedAll, ServedUpTo}

@@ -4,7 +4,7 @@ use Rattle.std.specs.Prelude.{◌≡◌, ◌⊎◌, ℕ, ◌+◌, ◌*◌, ◌-�
 use Rattle.std.specs.Io.KnownBytes.{Appends, Consumes}
 use Rattle.bloom_parts.specs.Content.{content}
 use Rattle.fastbloom.specs.Filter.{Filter, SameShape}
-use Rattle.fastbloom.specs.Commands.{state_after}
+use Rattle.bloom_parts.specs.Operations.{state_after}
 use Rattle.bloom.specs.declared.engine.line.Line.{Line}
 use Rattle.bloom.specs.Lines.{lines_of, line_of, operations}
 use Rattle.bloom.specs.Texts.{text_of}

@@ -1,7 +1,7 @@
 -- The text that good lines write. Its form is this project's own.
 use Rattle.std.specs.Prelude.{ℕ, ◌+◌, ◌*◌, ◌/◌, ◌%◌, ◌^◌, zero, suc, Bool, nat_lt, if◌then◌else◌, List, [], ◌∷◌, ◌++◌, flat_map, codes}
 use Rattle.bloom_parts.specs.Places.{are_in}
-use Rattle.fastbloom.specs.Commands.{state_after}
+use Rattle.bloom_parts.specs.Operations.{state_after}
 use Rattle.bloom.specs.declared.engine.line.Line.{Line}
 use Rattle.bloom.specs.declared.engine.line.Line.TheVariants.{Insert, Contains, Clear, Words}
 use Rattle.bloom.specs.Lines.{operations}

@@ -1,16 +1,43 @@
 //! The arguments of the program, and numbers in text.
-ghost use Rattle.std.specs.Prelude.{◌≡◌, ◌^◌, ◌≤◌, map, string_bytes, IfOk, IfErr, IfSome};
+ghost use Rattle.std.specs.Prelude.{◌≡◌, ◌≢◌, ◌^◌, ◌≤◌, map, string_bytes, IfOk, IfErr, IfSome};
 ghost use Rattle.std.specs.Result.{result_ok};
 ghost use Rattle.bloom.specs.Arguments.{asked_of, within_limits};
 ghost use Rattle.bloom.specs.Lines.{number_of};
 
 use crate::fault::Fault;
+use std::alloc::AllocGlobal;
+use std::env;
+use std::io::ErrorKind;
+use std::rt::Env;
 
 // The most digits of a number.
 const MOST_DIGITS: usize = 20;
 
 // The greatest number of words that the program takes.
 const MAX_WORDS: u64 = 1_048_576;
+
+/// The words after the program's name.
+///
+/// # Errors
+/// `Usage` where one of them isn't text, and `Memory`.
+pub fn given_words<R: Env + AllocGlobal>(rt: &R) -> Result<Vec<String>, Fault> {
+    let mut words = Vec::new(rt.alloc());
+    'words: for word in env::args(rt).map_err(|error| unread(error.kind()))?.skip(1) {
+        words.push(word).map_err(|_| Fault::Memory)?;
+    }
+    Ok(words)
+}
+
+// Why arguments couldn't be read: for want of room, or since one isn't text.
+fn unread(kind: ErrorKind) -> Fault
+    ensures memory { kind ≡ ErrorKind.OutOfMemory → result ≡ Fault.Memory }
+    ensures usage { kind ≢ ErrorKind.OutOfMemory → result ≡ Fault.Usage }
+{
+    match kind {
+        ErrorKind::OutOfMemory => Fault::Memory,
+        _ => Fault::Usage,
+    }
+}
 
 /// The numbers of words and hashes that the words after the program's name ask for.
 ///

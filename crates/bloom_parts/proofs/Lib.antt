@@ -12,6 +12,7 @@ mod MergeLemmas
 mod NumberLemmas
 pub mod PlaceLemmas
 mod PositionFacts
+pub mod PositionLemmas
 mod PowerBounds
 mod PowerDigits
 mod PowerWidths

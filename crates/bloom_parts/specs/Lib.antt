@@ -7,6 +7,7 @@ pub mod Deciders
 pub mod Hashed
 pub mod Keys
 pub mod Laws
+pub mod Operations
 pub mod Places
 pub mod Powers
 pub mod RateLaws

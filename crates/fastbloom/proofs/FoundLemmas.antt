@@ -7,12 +7,12 @@ use Rattle.bloom_parts.specs.Content.{content}
 use Rattle.bloom_parts.specs.Deciders.{last_decision}
 use Rattle.bloom_parts.specs.Places.{positions, IsPart}
 use Rattle.fastbloom.specs.CommandOf.{operation_of}
-use Rattle.fastbloom.specs.Commands.{Operation, Insert, Contains, Clear, Union, Intersect, decides}
+use Rattle.bloom_parts.specs.Operations.{Operation, Insert, Contains, Clear, Union, Intersect, decides}
 use Rattle.fastbloom.specs.Laws.{Spares, KeptByListLaw, KeptByInsertsLaw, FoundLaw, FoundAfterInsertsLaw, FoundAfterReplayLaw}
 use Rattle.fastbloom.specs.Replies.{CarriesOut}
 use Rattle.fastbloom.specs.declared.bloom.command.Command.TheVariants as command
 use Rattle.fastbloom.proofs.LawLemmas.{contains-shape}
-use Rattle.fastbloom.proofs.PositionLemmas.{part-from, part-to}
+use Rattle.bloom_parts.proofs.PlaceLemmas.{part-from, part-to}
 
 -- doesn't make off
 spares : Option Bool → Bool

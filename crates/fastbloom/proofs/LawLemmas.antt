@@ -2,11 +2,12 @@
 use Rattle.std.proofs.Common.{◌≡◌, ℕ, zero, suc, ◌*◌, Bool, true, false, ◌&&◌, nat_eq, length, refl, sym, ◌∙◌, ap, arith, inl, inr}
 use Rattle.std.specs.Cmp.Lexicographic.{pointwise, same_text, nat_list_eq_equiv}
 use Rattle.std.proofs.lemmas.Bool.{or_cases, or_left, or_right, and_parts, and_from, eqb-true, eq-eqb}
-use Rattle.bloom_parts.specs.Content.{content}
+use Rattle.bloom_parts.specs.Content.{content, EqualWordsLaw}
 use Rattle.bloom_parts.specs.Places.{are_in, place, IsPart}
 use Rattle.fastbloom.specs.Filter.{Filter, SameShape, contains}
-use Rattle.fastbloom.specs.Laws.{InsertLaw, KeptByInsertLaw, KeptByUnionLaw, IntersectionLaw, UnionLaw, ClearLaw, RebuiltLaw, EqualityLaw}
-use Rattle.fastbloom.proofs.PositionLemmas.{part-from, part-to, are_in-off}
+use Rattle.fastbloom.specs.Laws.{InsertLaw, KeptByInsertLaw, KeptByUnionLaw, IntersectionLaw, UnionLaw, ClearLaw, RebuiltLaw, EqualityLaw, EqualContentLaw}
+use Rattle.bloom_parts.proofs.PlaceLemmas.{part-from, part-to}
+use Rattle.bloom_parts.proofs.PositionLemmas.{are_in-off}
 
 -- a look-up in a filter of the same shape
 pub contains-shape : {S : Type 0} (old new : Filter S) (hash : ℕ) → SameShape old new
@@ -84,13 +85,13 @@ union_law S old other new hash same did either =
     ]
 
 pub clear_law : (S : Type 0) → ClearLaw S
-clear_law S old new hash some did =
+clear_law S old new hash shape did =
     let n = 64 * length old.words in
     contains-shape old new hash did.shape
-    ∙ are_in-off n old.hashes hash (content new.words) 0 some (did.bits (place n hash 0))
+    ∙ are_in-off n old.hashes hash (content new.words) 0 shape.some_hashes (did.bits (place n hash 0))
 
 pub rebuilt_law : (S : Type 0) → RebuiltLaw S
-rebuilt_law S f made some did =
+rebuilt_law S f made shape did =
     let same_hashes : made.hashes ≡ f.hashes = did.hashes ∙ omega arith in
     let same : made ≡ f =
     λ i. record { words = did.words i; hashes = same_hashes i; hasher = did.hasher i } in
@@ -106,3 +107,12 @@ equality_law S f g = (
       (ap (λ words. pointwise nat_eq f.words words) (sym same.0) ∙ nat_list_eq_equiv.refl f.words)
       (eq-eqb f.hashes g.hashes same.1)),
 )
+
+-- as many words of 64 bits are equal exactly if they have the same content
+pub equal_content_law : (S : Type 0) → EqualWordsLaw → EqualContentLaw S
+equal_content_law S words_law f g fit fit' same =
+    let words = words_law f.words g.words fit fit' same.words in
+    let equality = equality_law S f g in (
+      (λ equal. words.0 (equality.0 equal).0),
+      (λ content. equality.1 (words.1 content, same.hashes)),
+    )

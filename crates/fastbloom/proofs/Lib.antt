@@ -3,9 +3,6 @@ mod BuilderLemmas
 mod FoundLemmas
 mod LawLemmas
 mod ListLemmas
-mod PositionLemmas
 mod RateLemmas
 mod ReplyLemmas
-mod RunLemmas
-mod StepLemmas
 mod StretchLemmas

@@ -8,9 +8,9 @@ use Rattle.std.specs.Iterator.Runs.{WholeRun}
 use Rattle.std.proofs.iter.runs.Made.{run_of_exit}
 use Rattle.bloom_parts.specs.Content.{content}
 use Rattle.bloom_parts.specs.Deciders.{Decider, last_decision, state}
-use Rattle.fastbloom.specs.Commands.{Operation, Insert, decides, state_after}
+use Rattle.bloom_parts.specs.Operations.{Operation, Insert, decides, state_after, reply}
 use Rattle.fastbloom.specs.Filter.{Filter, SameShape}
-use Rattle.fastbloom.specs.Replies.{CarriesOut, InsertsItems, reply, replies, replies_after}
+use Rattle.fastbloom.specs.Replies.{CarriesOut, InsertsItems, replies, replies_after}
 
 option_or-assoc : {T : Type 0} (a b c : Option T)
     → option_or (option_or a b) c ≡ option_or a (option_or b c)

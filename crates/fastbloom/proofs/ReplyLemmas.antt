@@ -1,7 +1,7 @@
 -- A list of one command.
 use Rattle.std.proofs.Common.{◌≡◌, ℕ, Bool, true, false, ◌||◌, cond, [], ◌∷◌, Some, None, refl, ap, ◌∙◌, unwrap_or}
 use Rattle.bloom_parts.specs.Content.{content}
-use Rattle.fastbloom.specs.Commands.{Insert, Contains}
+use Rattle.bloom_parts.specs.Operations.{Insert, Contains}
 use Rattle.fastbloom.specs.Filter.{Filter, contains, Inserts}
 use Rattle.fastbloom.specs.Replies.{CarriesOut}
 

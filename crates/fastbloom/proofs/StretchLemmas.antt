@@ -7,7 +7,7 @@ use Rattle.std.proofs.lemmas.Bool.{cases_eq, or_cases, and_parts, eqb-true, ne_e
 use Rattle.bloom_parts.specs.Content.{content}
 use Rattle.bloom_parts.specs.Places.{place, positions, are_in}
 use Rattle.fastbloom.specs.Stretches.{positions_from, are_in_from, are_on, TurnsOn}
-use Rattle.fastbloom.proofs.PositionLemmas.{or-false, or-assoc}
+use Rattle.std.proofs.Math.Bool.{or-false, or_assoc}
 
 and-true : (b : Bool) → (b && true) ≡ b
 and-true true = refl
@@ -66,7 +66,7 @@ positions_from-append n i a (suc b) h p =
     let same : i + (a + b) ≡ i + a + b = omega arith in
     ap (λ k. positions_from n i k h p) more
     ∙ ap (λ c. c || eqb p (place n h (i + (a + b)))) (positions_from-append n i a b h p)
-    ∙ or-assoc (positions_from n i a h p) (positions_from n (i + a) b h p) (eqb p (place n h (i + (a + b))))
+    ∙ or_assoc (positions_from n i a h p) (positions_from n (i + a) b h p) (eqb p (place n h (i + (a + b))))
     ∙ ap (λ j. positions_from n i a h p || (positions_from n (i + a) b h p || eqb p (place n h j))) same
 
 pub are_in_from-append : (n i a b h : ℕ) (A : ℕ → Bool)
@@ -136,7 +136,7 @@ turns-on-append i a b h old mid new r s one two =
           two.bits p
           ∙ ap (λ m. content mid p || positions_from m (i + a) b h p) size
           ∙ ap (λ c. c || positions_from n (i + a) b h p) (one.bits p)
-          ∙ or-assoc (content old p) (positions_from n i a h p) (positions_from n (i + a) b h p)
+          ∙ or_assoc (content old p) (positions_from n i a h p) (positions_from n (i + a) b h p)
           ∙ ap (λ c. content old p || c) (sym (positions_from-append n i a b h p));
       shape = two.shape ∙ one.shape;
     }

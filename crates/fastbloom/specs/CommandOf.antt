@@ -2,8 +2,8 @@
 -- its content.
 use Rattle.std.specs.Prelude.{⊤}
 use Rattle.bloom_parts.specs.Content.{content}
-use Rattle.fastbloom.specs.Commands as operation
-use Rattle.fastbloom.specs.Commands.{Operation}
+use Rattle.bloom_parts.specs.Operations as operation
+use Rattle.bloom_parts.specs.Operations.{Operation}
 use Rattle.fastbloom.specs.Filter.{Filter, SameShape}
 use Rattle.fastbloom.specs.declared.bloom.command.Command.{Command}
 use Rattle.fastbloom.specs.declared.bloom.command.Command.TheVariants.{Insert, Contains, Clear, Union, Intersect}

@@ -1,5 +1,5 @@
 -- What contracts see of a Bloom filter, and what a caller tests of it (B. H. Bloom, 1970).
-use Rattle.std.specs.Prelude.{◌≡◌, ℕ, ◌*◌, Bool, false, ◌||◌, ◌&&◌, List, length, refl, nat_eq}
+use Rattle.std.specs.Prelude.{◌≡◌, ◌<◌, ◌≤◌, ℕ, ◌*◌, ◌^◌, Bool, false, ◌||◌, ◌&&◌, List, length, refl, nat_eq}
 use Rattle.std.specs.Cmp.Lexicographic.{pointwise}
 use Rattle.std.specs.Coded.{Coded, code_by, coded×, coded_ℕ, coded_list}
 use Rattle.bloom_parts.specs.Content.{content}
@@ -17,6 +17,18 @@ filter_code {S} code =
     code_by (List ℕ × (ℕ × S)) (coded× (coded_list coded_ℕ) (coded× coded_ℕ code))
     (λ f. (f.words, (f.hashes, f.hasher)))
     (λ p. record { words = p.0; hashes = p.1.0; hasher = p.1.1 }) (λ _. refl)
+
+-- the shape of a filter: from 1 to 2^58 - 1 words, so that the number of bits fits 64 bits, and from
+-- 1 to 2^32 - 1 hashes
+pub record IsShape (words hashes : ℕ) : Type 0 where
+  pub some_words : 1 ≤ words
+  pub few_words : words < 2 ^ 58
+  pub some_hashes : 1 ≤ hashes
+  pub few_hashes : hashes < 2 ^ 32
+
+-- a filter has a shape, which each call that reads one promises
+abbrev pub HasShape : {S : Type 0} → Filter S → Type 0
+HasShape f = IsShape (length f.words) f.hashes
 
 -- as many words and as many hashes
 pub record SameShape {S : Type 0} (f g : Filter S) : Type 0 where

@@ -1,12 +1,12 @@
 -- Laws of filters, over what the contracts of the calls state. A hash may be any number.
-use Rattle.std.specs.Prelude.{◌≡◌, ◌≤◌, ◌↔◌, ℕ, ◌*◌, Bool, true, false, ◌||◌, ◌&&◌, max, IsTrue, List, ◌∷◌, ◌++◌, length, map, All, ⊤}
-use Rattle.bloom_parts.specs.Content.{content}
+use Rattle.std.specs.Prelude.{◌≡◌, ◌↔◌, ℕ, ◌*◌, Bool, true, false, ◌||◌, ◌&&◌, max, IsTrue, List, ◌∷◌, ◌++◌, length, map, All, ⊤}
+use Rattle.bloom_parts.specs.Content.{content, AreWords}
 use Rattle.bloom_parts.specs.Places.{positions, IsPart}
 use Rattle.bloom_parts.specs.Rates.{num_of, den_of}
 use Rattle.fastbloom.specs.Builders.{Start, RateStart, same_start, same_rate_start}
 use Rattle.fastbloom.specs.CommandOf.{operation_of}
-use Rattle.fastbloom.specs.Commands.{Operation, Insert, Contains, Clear, Union, Intersect}
-use Rattle.fastbloom.specs.Filter.{Filter, SameShape, contains, Inserts, Clears, Unites, Intersects, same_filter}
+use Rattle.bloom_parts.specs.Operations.{Operation, Insert, Contains, Clear, Union, Intersect}
+use Rattle.fastbloom.specs.Filter.{Filter, HasShape, SameShape, contains, Inserts, Clears, Unites, Intersects, same_filter}
 use Rattle.fastbloom.specs.Replies.{CarriesOut, InsertsAll}
 use Rattle.fastbloom.specs.declared.bloom.command.Command.{Command}
 use Rattle.fastbloom.specs.declared.bloom.command.Command.TheVariants as command
@@ -60,7 +60,7 @@ UnionLaw S = (old other new : Filter S) (hash : ℕ)
 
 -- after a clear no hash is contained, since a filter has at least one hash
 abbrev pub ClearLaw : (S : Type 0) → Type 0
-ClearLaw S = (old new : Filter S) (hash : ℕ) → 1 ≤ old.hashes → Clears old new
+ClearLaw S = (old new : Filter S) (hash : ℕ) → HasShape old → Clears old new
     → contains new hash ≡ false
 
 -- two filters have the same positions on
@@ -92,13 +92,18 @@ pub record Rebuilds {S : Type 0} (f made : Filter S) : Type 0 where
 
 -- it equals the other, since a filter has at least one hash, and so answers every hash alike
 abbrev pub RebuiltLaw : (S : Type 0) → Type 0
-RebuiltLaw S = (f made : Filter S) → 1 ≤ f.hashes → Rebuilds f made
+RebuiltLaw S = (f made : Filter S) → HasShape f → Rebuilds f made
     → (made ≡ f) × ((hash : ℕ) → contains made hash ≡ contains f hash)
 
 -- filters are equal exactly if their words and numbers of hashes are, whatever their hashers
 abbrev pub EqualityLaw : (S : Type 0) → Type 0
 EqualityLaw S = (f g : Filter S)
     → IsTrue (same_filter f g) ↔ ((f.words ≡ g.words) × (f.hashes ≡ g.hashes))
+
+-- filters of one shape, of words of 64 bits, are equal exactly if they have the same positions on
+abbrev pub EqualContentLaw : (S : Type 0) → Type 0
+EqualContentLaw S = (f g : Filter S) → AreWords f.words → AreWords g.words → SameShape f g
+    → IsTrue (same_filter f g) ↔ SameContent f g
 
 -- builders are equal exactly if their words are, whatever their hashers
 abbrev pub EqualStartsLaw : (S : Type 0) → Type 0

@@ -1,21 +1,8 @@
 -- What commands answer: the subset test just before each of them.
-use Rattle.std.specs.Prelude.{◌≡◌, ℕ, ◌*◌, Bool, List, [], ◌∷◌, ◌++◌, Option, Some, None, length, map, option_to_list, option_map}
+use Rattle.std.specs.Prelude.{◌≡◌, ℕ, ◌*◌, Bool, List, [], ◌∷◌, ◌++◌, length, map, option_to_list}
 use Rattle.bloom_parts.specs.Content.{content}
-use Rattle.bloom_parts.specs.Places.{are_in}
-use Rattle.fastbloom.specs.Commands.{Operation, Insert, Contains, Clear, Union, Intersect, state_after}
+use Rattle.bloom_parts.specs.Operations.{Operation, Insert, state_after, reply}
 use Rattle.fastbloom.specs.Filter.{Filter, SameShape}
-
--- the hash that a command asks about
-abbrev pub asked_by : Operation → Option ℕ
-asked_by (Insert hash) = Some hash
-asked_by (Contains hash) = Some hash
-asked_by Clear = None
-asked_by (Union other) = None
-asked_by (Intersect other) = None
-
--- the reply to a command, if it gives one: whether the positions of its hash are in the set just before
-abbrev pub reply : ℕ → ℕ → (ℕ → Bool) → Operation → Option Bool
-reply n k A operation = option_map (λ hash. are_in n k hash A) (asked_by operation)
 
 -- the replies to commands that come after earlier ones
 abbrev pub replies_after : ℕ → ℕ → (ℕ → Bool) → List Operation → List Operation → List Bool

@@ -1,5 +1,5 @@
 //! Builders of filters.
-ghost use Rattle.std.specs.Prelude.{◌≡◌, ◌<◌, length, replicate, vec_len, IfOk, max, nat_eq};
+ghost use Rattle.std.specs.Prelude.{◌≡◌, ◌<◌, ◌≤◌, ◌^◌, length, replicate, vec_len, IfOk, max, nat_eq};
 ghost use Rattle.std.specs.Result.{result_err};
 ghost use Rattle.std.specs.Int.{w128, to_be_bytes};
 ghost use Rattle.std.specs.Iterator.{IsFiniteIterable, items_left};
@@ -31,6 +31,7 @@ pub struct BuilderWithBits<S = DefaultHasher> {
 }
 
 impl<S> Model for BuilderWithBits<S> {
+    ghost use Rattle.std.specs.Prelude.{◌≤◌, ◌<◌, ◌^◌, length};
     ghost use Rattle.fastbloom.specs.Builders.{Start, start_code};
 
     ghost Value = { Start S };
@@ -38,6 +39,8 @@ impl<S> Model for BuilderWithBits<S> {
     ghost coded = { start_code S.code };
 
     ghost view = { λ b. record { words = b.bits; hasher = b.hasher } };
+
+    ghost invariant = { λ b. (1 ≤ length b.bits) × (length b.bits < 2 ^ 58) };
 }
 
 // The default hasher with the key of a seed, which is its sixteen big-endian bytes.
@@ -52,6 +55,8 @@ fn hasher_of_seed(seed: &u128) -> DefaultHasher
 fn zero_bits(alloc: Global, num_bits: usize) -> Result<BitVec, FilterError>
     requires { 0 < num_bits }
     ensures words { IfOk result (λ bits. bits ≡ replicate (words_for num_bits) 0) }
+    ensures some { IfOk result (λ bits. 1 ≤ length bits) }
+    ensures few { IfOk result (λ bits. length bits < 2 ^ 58) }
     ensures refused { RefusesAs (size_refusal num_bits) (result_err result) }
 {
     let num_words = num_bits.div_ceil(64);
@@ -62,9 +67,13 @@ fn zero_bits(alloc: Global, num_bits: usize) -> Result<BitVec, FilterError>
     Ok(BitVec::from_vec(words))
 }
 
-impl BuilderWithBits {
-    // A builder of zero words for this many bits, under the zero key.
-    pub(crate) fn with_num_bits(alloc: Global, num_bits: usize) -> Result<Self, FilterError>
+impl BloomFilter {
+    /// A builder of a filter of at least this many bits, all off, under the zero key.
+    ///
+    /// # Errors
+    /// `ZeroBits` for no bits, `TooManyWords` for more than 2^58 - 1 words, and else `Memory` where
+    /// there is no room for them.
+    pub fn with_num_bits(alloc: Global, num_bits: usize) -> Result<BuilderWithBits, FilterError>
         ensures words { IfOk result (λ builder.
             builder.words ≡ replicate (words_for num_bits) 0) }
         ensures key { IfOk result (λ builder. HasKey builder.hasher 0 0) }
@@ -79,20 +88,23 @@ impl BuilderWithBits {
         })
     }
 
-    // A builder of these words, under the zero key.
-    pub(crate) fn from_vec(words: Vec<u64>) -> Result<Self, FilterError>
-        ensures words { IfOk result (λ builder. builder.words ≡ words.items) }
+    /// A builder of a filter that keeps these words, under the zero key.
+    ///
+    /// # Errors
+    /// `EmptyWords` where there is no word, and `TooManyWords` where there are more than 2^58 - 1.
+    pub fn from_vec(bit_vec: Vec<u64>) -> Result<BuilderWithBits, FilterError>
+        ensures words { IfOk result (λ builder. builder.words ≡ bit_vec.items) }
         ensures key { IfOk result (λ builder. HasKey builder.hasher 0 0) }
-        ensures refused { result_err result ≡ words_refusal (vec_len words) }
+        ensures refused { result_err result ≡ words_refusal (vec_len bit_vec) }
     {
-        if words.is_empty() {
+        if bit_vec.is_empty() {
             return Err(FilterError::EmptyWords);
         }
-        if words.len() > MAX_WORDS {
+        if bit_vec.len() > MAX_WORDS {
             return Err(FilterError::TooManyWords);
         }
         Ok(BuilderWithBits {
-            bits: BitVec::from_vec(words),
+            bits: BitVec::from_vec(bit_vec),
             hasher: DefaultHasher::default(),
         })
     }

@@ -5,16 +5,14 @@ ghost use Rattle.bloom_parts.specs.Keys.{HasKey};
 ghost use Rattle.bloom_parts.specs.Sip.{sip};
 ghost use Rattle.bloom_parts.specs.declared.hasher.CloneBuildHasher.{CloneBuildHasher as Builder};
 ghost use Rattle.fastbloom.specs.Filter.{Unites, Intersects};
-ghost use Rattle.fastbloom.specs.Laws.{InsertLaw, KeptByInsertLaw, KeptByUnionLaw, KeptByListLaw, KeptByInsertsLaw, IntersectionLaw, UnionLaw, ClearLaw, IsCommutative, IsAssociative, IsIdempotent, RebuiltLaw, EqualityLaw, EqualStartsLaw, EqualRateStartsLaw, JoinedListsLaw, FoundLaw, FoundAfterInsertsLaw, FoundAfterReplayLaw};
+ghost use Rattle.fastbloom.specs.Laws.{InsertLaw, KeptByInsertLaw, KeptByUnionLaw, KeptByListLaw, KeptByInsertsLaw, IntersectionLaw, UnionLaw, ClearLaw, IsCommutative, IsAssociative, IsIdempotent, RebuiltLaw, EqualityLaw, EqualContentLaw, EqualStartsLaw, EqualRateStartsLaw, JoinedListsLaw, FoundLaw, FoundAfterInsertsLaw, FoundAfterReplayLaw};
 ghost use Rattle.fastbloom.specs.SourceHash.{hash_by, IsFunctionOfBytes};
 
 use bloom_parts::hasher::{DefaultHasher, RandomDefaultHasher};
-use bloom_parts::laws::hash_of_pieces;
+use bloom_parts::laws::{content_of_words, hash_of_pieces};
 use std::hash::{BuildHasher, Hash, Hasher};
 
-mod steps;
-
-pub use steps::{at_most_one_course, steps_in_memory};
+pub use bloom_steps::laws::{at_most_one_course, steps_in_memory};
 
 /// An insert answers what a look-up would have, and afterwards the hash is contained.
 pub fn insert_answers_contains<S>()
@@ -65,8 +63,12 @@ pub fn rebuilt_answers_alike<S>()
 
 /// Filters are equal exactly if their words and numbers of hashes are.
 pub fn equality_of_filters<S>()
-    ensures { EqualityLaw S }
-{}
+    ensures words { EqualityLaw S }
+    // The words that a filter hands out are of 64 bits.
+    ensures content { EqualContentLaw S }
+{
+    content_of_words();
+}
 
 /// Builders are equal exactly if their words, or their rates as fractions, are.
 pub fn equality_of_builders<S>()

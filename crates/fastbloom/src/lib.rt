@@ -4,7 +4,6 @@
 mod bloom;
 mod builder;
 pub mod laws;
-mod steps;
 
 pub use bloom::{BloomFilter, Command};
 pub use bloom_parts::bit_vector::Words;
@@ -13,7 +12,7 @@ pub use bloom_parts::hasher::{CloneBuildHasher, DefaultHasher, RandomDefaultHash
 pub use bloom_parts::math::{
     Bracket, Rate, expected_density, expected_false_pos, optimal_hashes, optimal_size,
 };
-pub use builder::{BuilderWithBits, BuilderWithFalsePositiveRate};
-pub use steps::{
+pub use bloom_steps::{
     Call, End, Event, Machine, MemoryStore, Record, Step, Trace, WordStore, drive, run,
 };
+pub use builder::{BuilderWithBits, BuilderWithFalsePositiveRate};

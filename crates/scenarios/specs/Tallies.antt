@@ -1,7 +1,7 @@
 -- A store that counts the steps made on it. It stands for any store that has a relation of its own.
 use Rattle.std.specs.Prelude.{◌≡◌, ◌+◌, ◌%◌, ◌^◌, ℕ}
-use Rattle.fastbloom.specs.declared.steps.calls.Step.{Step}
-use Rattle.fastbloom.specs.Memories.{Memory, Moves}
+use Rattle.bloom_steps.specs.declared.steps.vocabulary.Step.{Step}
+use Rattle.bloom_steps.specs.Memories.{Memory, Moves}
 
 -- words in memory, and how many steps were made on them
 pub record Counted : Type 0 where

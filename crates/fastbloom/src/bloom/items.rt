@@ -1,7 +1,7 @@
 //! The calls that take an item: those of its source hash.
 ghost use Rattle.std.specs.Prelude.{◌≡◌, ℕ, List, [], ◌∷◌, IsTrue};
 ghost use Rattle.std.specs.List.{concat};
-ghost use Rattle.fastbloom.specs.Commands as operation;
+ghost use Rattle.bloom_parts.specs.Operations as operation;
 ghost use Rattle.fastbloom.specs.Filter.{contains, Inserts};
 ghost use Rattle.fastbloom.specs.Replies.{CarriesOut};
 ghost use Rattle.fastbloom.specs.SourceHash.{hash_by, IsFunctionOfBytes};

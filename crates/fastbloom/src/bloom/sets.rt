@@ -3,7 +3,7 @@ ghost use Rattle.std.specs.Prelude.{◌≡◌, ◌↔◌, ◌∷◌, [], IsTrue,
 ghost use Rattle.std.specs.Cmp.Lexicographic.{pointwise, nat_list_eq_equiv};
 ghost use Rattle.std.specs.Cmp.{nat_eq_equiv, on_equiv, and_equiv, partial_equiv_from_equiv};
 ghost use Rattle.bloom_parts.specs.Content.{content};
-ghost use Rattle.fastbloom.specs.Commands as operation;
+ghost use Rattle.bloom_parts.specs.Operations as operation;
 ghost use Rattle.fastbloom.specs.Filter.{SameShape, Clears, Unites, Intersects, same_filter};
 ghost use Rattle.fastbloom.specs.Replies.{CarriesOut};
 

@@ -36,9 +36,9 @@ impl<S> Model for BuilderWithFalsePositiveRate<S> {
     ghost view = { λ b. record { rate = b.rate; hasher = b.hasher } };
 }
 
-impl BuilderWithFalsePositiveRate {
-    // A builder of this rate, under the zero key.
-    pub(crate) fn new(rate: Rate) -> Self
+impl BloomFilter {
+    /// A builder of a filter that is sized by a rate of false positives, under the zero key.
+    pub fn with_false_pos(rate: Rate) -> BuilderWithFalsePositiveRate
         ensures rate { result.rate ≡ rate }
         ensures key { HasKey result.hasher 0 0 }
     {
@@ -47,7 +47,9 @@ impl BuilderWithFalsePositiveRate {
             hasher: DefaultHasher::default(),
         }
     }
+}
 
+impl BuilderWithFalsePositiveRate {
     /// The same builder with the key of a seed, which is its sixteen big-endian bytes.
     pub fn seed(self, seed: &u128) -> Self
         ensures rate { result.rate ≡ self.rate }

@@ -1,0 +1,4 @@
+mod CourseFacts
+mod RunLemmas
+mod StepFacts
+mod StepLemmas

@@ -1,0 +1,115 @@
+-- The set after a whole call, alone, is what its command makes of that before.
+use Rattle.std.proofs.Common.{◌*◌, ◌/◌, ◌<◌, ◌∙◌, ◌≡◌, ◌≤◌, ◌⊎◌, Bool, List, None, Some, ap, arith, eq-eqb, false, if◌then◌else◌, inl, inr, length, nat_eq, refl, subst, sym, true, unwrap_or, ℕ}
+use Rattle.std.proofs.Math.Seq.{take-length}
+use Rattle.std.proofs.lemmas.Bool.{both_ways, cases_lt}
+use Rattle.std.proofs.lemmas.Option.{slice_get_within}
+use Rattle.bloom_parts.specs.Content.{content}
+use Rattle.bloom_parts.specs.Places.{place, positions}
+use Rattle.bloom_steps.specs.declared.steps.vocabulary.Call.{Call}
+use Rattle.bloom_steps.specs.declared.steps.vocabulary.Call.TheVariants.{Clear, Contains, Insert, Intersect, Union}
+use Rattle.bloom_steps.specs.declared.steps.vocabulary.Step.TheVariants.{And, Or}
+use Rattle.bloom_parts.specs.Operations.{decides}
+use Rattle.bloom_steps.specs.Scripts.{IsScript, Taken}
+use Rattle.bloom_steps.specs.Sequences.{command_of, other_words}
+use Rattle.bloom_steps.specs.Steps.{after_records, or_at, step_decides}
+use Rattle.bloom_steps.specs.Traces.{did}
+use Rattle.bloom_steps.proofs.RunLemmas.Changes.{DecidesOnly, or_at-decides}
+use Rattle.bloom_steps.proofs.RunLemmas.Lasting.{AllDecide, Fits, steps-none, steps-some}
+use Rattle.bloom_steps.proofs.RunLemmas.Pairing.{decides_by-and, decides_by-or, made_off, made_on, other-past, pairs-steps}
+use Rattle.bloom_steps.proofs.RunLemmas.Positions.{positions-from, positions-to}
+use Rattle.bloom_steps.proofs.StepLemmas.Members.{some_member}
+
+-- past the words nothing is on, before a call and after it
+past : (w p : ℕ) (A : ℕ → Bool) (s : List Taken) (q : ℕ) → Fits w A (did p s) → w ≤ q / 64
+    → (A q ≡ false) × (after_records A (did p s) q ≡ false)
+past w p A s q f l = (
+  f.within 0 q (omega arith) l,
+  ap (λ rs. after_records A rs q) (sym (take-length (did p s)))
+      ∙ f.within (length (did p s)) q (omega arith) l,
+)
+
+-- a script of w words and k hashes, made by a party
+module _ (w k p : ℕ) (s : List Taken) (A : ℕ → Bool) where
+  -- the steps of an insert make its positions on
+  pub insert-all : (h q : ℕ) → IsScript w k (Insert h) s → AllDecide s q (Some true)
+  insert-all h q is i t g = elim (or_at-decides (place (64 * w) h i) q) [
+    | inl here ↦ inr (ap (λ x. step_decides x q) (is.steps i t g) ∙ here.1)
+    | inr other ↦ inl (ap (λ x. step_decides x q) (is.steps i t g) ∙ other.1)
+  ]
+
+  -- and those of a look-up nothing
+  pub contains-all : (h q : ℕ) → IsScript w k (Contains h) s → AllDecide s q None
+  contains-all h q is i t g = inl (ap (λ x. step_decides x q) (is.steps i t g))
+
+  insert-steps : (h q : ℕ) → IsScript w k (Insert h) s
+      → after_records A (did p s) q ≡ unwrap_or (made_on (positions (64 * w) k h q)) (A q)
+  insert-steps h q is = go (positions (64 * w) k h q) refl
+    where
+      go : (b : Bool) → positions (64 * w) k h q ≡ b
+          → after_records A (did p s) q ≡ unwrap_or (made_on b) (A q)
+      go true e =
+          let at = positions-from (64 * w) k h q e in
+          let count = is.count in
+          let below = at.1 in
+          let t = some_member s at.0 (omega arith) in
+          let makes : step_decides (or_at (place (64 * w) h at.0)) q ≡ Some true =
+          elim (or_at-decides (place (64 * w) h at.0) q) [
+            | inl here ↦ here.1
+            | inr other ↦ absurd (other.0 (sym at.2))
+          ] in
+          steps-some p s A q (Some true) (insert-all h q is) at.0 t.0 t.1
+          (ap (λ x. step_decides x q) (is.steps at.0 t.0 t.1) ∙ makes)
+      go false e = steps-none p s A q (λ i t g. elim (or_at-decides (place (64 * w) h i) q) [
+        | inl here ↦
+            let inside = slice_get_within s i t g in
+            let count = is.count in
+            absurd
+            (both_ways (positions (64 * w) k h q) e
+            (positions-to (64 * w) k h q i (omega arith) here.0))
+        | inr other ↦ inl (ap (λ x. step_decides x q) (is.steps i t g) ∙ other.1)
+      ])
+
+  clear-steps : (q : ℕ) → IsScript w k Clear s → q / 64 < w → after_records A (did p s) q ≡ false
+  clear-steps q is inside =
+      let count = is.count in
+      let t = some_member s (q / 64) (omega arith) in
+      steps-some p s A q (Some false)
+      (λ i u g. subst (DecidesOnly (Some false) q) (sym (is.steps i u g))
+      (either (nat_eq (q / 64) i)))
+      (q / 64) t.0 t.1
+      (ap (λ x. step_decides x q) (is.steps (q / 64) t.0 t.1)
+      ∙ ap (λ b. if b then Some false else None) (eq-eqb (q / 64) (q / 64) refl))
+    where
+      either : (b : Bool)
+          → ((if b then Some false else None) ≡ None)
+          ⊎ ((if b then Some false else None) ≡ Some false)
+      either true = inr refl
+      either false = inl refl
+
+  -- the set after a whole call
+  pub call-steps : (call : Call) (q : ℕ) → IsScript w k call s → Fits w A (did p s)
+      → after_records A (did p s) q ≡ unwrap_or
+      (decides (64 * w) k (command_of call (content (other_words s))) q) (A q)
+  call-steps (Insert h) q is f = insert-steps h q is
+  call-steps (Contains h) q is f = steps-none p s A q (contains-all h q is)
+  call-steps Clear q is f = elim (cases_lt (q / 64) w) [
+    | inl l ↦ clear-steps q is l
+    | inr l ↦ (past w p A s q f l).1
+  ]
+  call-steps Union q is f = elim (cases_lt (q / 64) w) [
+    | inl l ↦ pairs-steps Or made_on decides_by-or (λ i x found. refl) w s is.steps is.count p A q l
+    | inr l ↦
+        let off = past w p A s q f l in
+        let other =
+        other-past Or made_on decides_by-or (λ i x found. refl) w s is.steps is.count q l in
+        off.1 ∙ sym (ap (λ b. unwrap_or (made_on b) (A q)) other ∙ off.0)
+  ]
+  call-steps Intersect q is f = elim (cases_lt (q / 64) w) [
+    | inl l ↦
+        pairs-steps And made_off decides_by-and (λ i x found. refl) w s is.steps is.count p A q l
+    | inr l ↦
+        let off = past w p A s q f l in
+        let other =
+        other-past And made_off decides_by-and (λ i x found. refl) w s is.steps is.count q l in
+        off.1 ∙ sym (ap (λ b. unwrap_or (made_off b) (A q)) other)
+  ]

@@ -1,0 +1,113 @@
+-- What no step makes off stays on, and past the words nothing is ever on.
+use Rattle.std.proofs.Common.{◌%◌, ◌&&◌, ◌*◌, ◌-◌, ◌/◌, ◌<◌, ◌^◌, ◌∙◌, ◌≡◌, ◌≤◌, ◌⊎◌, List, None, Some, ap, arith, false, if◌then◌else◌, inl, inr, length, nat_eq, not, refl, slice_get, subst, sym, true, unwrap_or, ℕ}
+use Rattle.std.proofs.Math.Seq.{take-length}
+use Rattle.std.proofs.lemmas.Bool.{both_ways, false_from_ne_true, ne_eqb}
+use Rattle.bloom_parts.specs.Content.{bit_is_on, content}
+use Rattle.bloom_parts.specs.Places.{place}
+use Rattle.bloom_steps.specs.declared.steps.vocabulary.Call.{Call}
+use Rattle.bloom_steps.specs.declared.steps.vocabulary.Call.TheVariants.{Clear, Contains, Insert, Intersect, Union}
+use Rattle.bloom_steps.specs.declared.steps.vocabulary.End.{End}
+use Rattle.bloom_steps.specs.declared.steps.vocabulary.Record.{Record}
+use Rattle.bloom_steps.specs.declared.steps.vocabulary.Record.TheVariants.{Began, Did}
+use Rattle.bloom_steps.specs.declared.steps.vocabulary.Step.{Step}
+use Rattle.bloom_steps.specs.declared.steps.vocabulary.Step.TheVariants.{And, Or}
+use Rattle.bloom_steps.specs.Moments.{moment}
+use Rattle.bloom_steps.specs.Scripts.{Taken}
+use Rattle.bloom_steps.specs.Steps.{after_records, record_decides, step_decides}
+use Rattle.bloom_steps.specs.Traces.{Course, IsLawful}
+use Rattle.bloom_steps.proofs.RunLemmas.Changes.{DecidesOnly, TurnsOff, moment-more, or-decides_only, persists}
+use Rattle.bloom_steps.proofs.RunLemmas.Held.{step_held}
+use Rattle.bloom_steps.proofs.RunLemmas.Placing.{IsPairAt, IsPlacedAt}
+use Rattle.bloom_steps.proofs.StepLemmas.Members.{some_member}
+use Rattle.bloom_steps.proofs.StepLemmas.Writing.{content-past}
+
+not_here : (q i w : ℕ) → i < w → w ≤ q / 64 → nat_eq (q / 64) i ≡ false
+not_here q i w below past = ne_eqb (q / 64) i (λ same. absurd (omega (arith, same, below, past)))
+
+pair-past : (w q : ℕ) (op : ℕ → ℕ → Step) (s : List Taken) (t : Taken)
+    → ((i x : ℕ) → nat_eq (q / 64) i ≡ false → step_decides (op i x) q ≡ None) → w ≤ q / 64
+    → IsPairAt w op s t
+    → step_decides t.step q ≡ None
+pair-past w q op s t off past at = elim at.either [
+  | inl load ↦ ap (λ x. step_decides x q) load
+  | inr u ↦ ap (λ x. step_decides x q) u.3 ∙ off at.i u.0.found (not_here q at.i w at.below past)
+]
+
+-- past the words no step of a call makes anything off
+past_step : (w k q : ℕ) (call : Call) (s : List Taken) (j : ℕ) (t : Taken) → w ≤ q / 64
+    → IsPlacedAt w k call s j t
+    → DecidesOnly (Some true) q t.step
+past_step w k q (Insert h) s j t past at =
+    subst (DecidesOnly (Some true) q) (sym at.1)
+    (or-decides_only (place (64 * w) h j / 64) (2 ^ (place (64 * w) h j % 64)) q)
+past_step w k q (Contains h) s j t past at = inl (ap (λ x. step_decides x q) at)
+past_step w k q Clear s j t past at =
+    inl
+    (ap (λ x. step_decides x q) at.1
+    ∙ ap (λ b. if b then Some false else None) (not_here q j w at.0 past))
+past_step w k q Union s j t past at =
+    inl
+    (pair-past w q Or s t
+    (λ i x off. ap (λ b. if b && bit_is_on x q then Some true else None) off) past at)
+past_step w k q Intersect s j t past at =
+    inl
+    (pair-past w q And s t
+    (λ i x off. ap (λ b. if b && not (bit_is_on x q) then Some false else None) off) past at)
+
+-- a record that makes nothing off turns nothing off
+not_off : (run : Course) (m q : ℕ) (r : Record) → slice_get run.records m ≡ Some r
+    → (record_decides r q ≡ None) ⊎ (record_decides r q ≡ Some true) → TurnsOff run m q → ⊥
+not_off run m q r g only off =
+    let after = sym off.1 ∙ moment-more run m r q g in
+    elim only [
+      | inl none ↦
+          both_ways (moment run m q)
+          (sym (after ∙ ap (λ o. unwrap_or o (moment run m q)) none)) off.0
+      | inr on ↦ both_ways true (sym (after ∙ ap (λ o. unwrap_or o (moment run m q)) on)) refl
+    ]
+
+-- no step of a run makes a position off
+abbrev pub NoneMakesOff : Course → ℕ → Type 0
+NoneMakesOff run q =
+    (m p : ℕ) (step : Step) (found : ℕ) (e : End) → slice_get run.records m ≡ Some
+    (Did p step found e)
+    → DecidesOnly (Some true) q step
+
+-- then no record turns it off
+pub none_off : (run : Course) (q : ℕ) → NoneMakesOff run q → (m : ℕ) → m < length run.records
+    → TurnsOff run m q → ⊥
+none_off run q all m below off = let there = some_member run.records m below in at there.0 there.1
+  where
+    at : (r : Record) → slice_get run.records m ≡ Some r → ⊥
+    at (Began p call) g = not_off run m q (Began p call) g (inl refl) off
+    at (Did p step found e) g = not_off run m q (Did p step found e) g (all m p step found e g) off
+
+-- a lawful run
+module _ (k : ℕ) (run : Course) (lawful : IsLawful k run) where
+  -- the words hold the last moment
+  pub content-end : (q : ℕ) → content run.words q ≡ moment run (length run.records) q
+  content-end q =
+      lawful.bits q
+      ∙ ap (λ rs. after_records (content run.start) rs q) (sym (take-length run.records))
+
+  -- where no step makes a position off, what is on stays on to the end
+  pub stays_to_end : (q : ℕ) → NoneMakesOff run q → (m : ℕ) → m ≤ length run.records
+      → moment run m q ≡ true
+      → content run.words q ≡ true
+  stays_to_end q all m l on =
+      content-end q
+      ∙ persists run q m (length run.records - m) (length run.records) (omega arith) on
+      (λ n a b off. none_off run q all n b off)
+
+  -- past the words nothing is ever on
+  pub moment-past : (m q : ℕ) → m ≤ length run.records → length run.start ≤ q / 64
+      → moment run m q ≡ false
+  moment-past m q l past = false_from_ne_true (moment run m q) (λ on.
+      let count = lawful.count in
+      let all : NoneMakesOff run q =
+      λ n p step found e g.
+      let h = step_held k run lawful n p step found e g in
+      subst (DecidesOnly (Some true) q) h.same_step
+      (past_step (length run.start) k q h.of.call h.of.s h.j h.t past h.at) in
+      both_ways (content run.words q) (content-past run.words q (omega arith))
+      (stays_to_end q all m l on))

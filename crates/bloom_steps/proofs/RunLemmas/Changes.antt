@@ -1,0 +1,145 @@
+-- What a record changes, and what stays.
+use Rattle.std.proofs.Common.{◌%◌, ◌&&◌, ◌+◌, ◌/◌, ◌<◌, ◌^◌, ◌∙◌, ◌≡◌, ◌≢◌, ◌≤◌, ◌⊎◌, Bool, None, Option, Some, ap, arith, eq-eqb, false, if◌then◌else◌, inl, inr, nat_eq, not, refl, slice_get, subst, suc, sym, take, true, unwrap_or, zero, ℕ}
+use Rattle.std.proofs.lemmas.Bool.{and_from, and_parts, both_ways, eqb-true}
+use Rattle.std.proofs.lemmas.Bool.Decides.{eqb_tells}
+use Rattle.std.proofs.lemmas.Nat.Bits.{bit_at-pow_other, bit_at-pow_same}
+use Rattle.bloom_parts.specs.Content.{bit_is_on, content}
+use Rattle.bloom_steps.specs.declared.steps.vocabulary.Record.{Record}
+use Rattle.bloom_steps.specs.declared.steps.vocabulary.Record.TheVariants.{Did}
+use Rattle.bloom_steps.specs.declared.steps.vocabulary.Step.{Step}
+use Rattle.bloom_steps.specs.declared.steps.vocabulary.Step.TheVariants.{Or}
+use Rattle.bloom_steps.specs.Moments.{moment, turns_off, turns_on}
+use Rattle.bloom_steps.specs.Scripts.{Taken}
+use Rattle.bloom_steps.specs.Steps.{after_records, load_at, or_at, record_decides, step_decides}
+use Rattle.bloom_steps.specs.Traces.{Course, IsLawful, MayFind}
+use Rattle.bloom_steps.proofs.StepLemmas.Deciding.{records-more}
+use Rattle.bloom_steps.proofs.StepLemmas.Members.{take-more}
+
+-- the mask of a position has its bit
+own_mask : (q : ℕ) → bit_is_on (2 ^ (q % 64)) q ≡ true
+own_mask q = ap (λ b. nat_eq b 1) (bit_at-pow_same (q % 64))
+
+-- and no other bit of its word
+mask_alone : (q j : ℕ) → bit_is_on (2 ^ (q % 64)) j ≡ true → j % 64 ≡ q % 64
+mask_alone q j on = elim (eqb_tells (j % 64) (q % 64)) [
+  | inl same ↦ same.1
+  | inr other ↦
+      let off : bit_is_on (2 ^ (q % 64)) j ≡ false =
+      ap (λ b. nat_eq b 1) (bit_at-pow_other (q % 64) (j % 64) other.1) in
+      absurd (both_ways (bit_is_on (2 ^ (q % 64)) j) off on)
+]
+
+pub and_cases : (a b : Bool) → ((a ≡ true) × (b ≡ true)) ⊎ ((a && b) ≡ false)
+and_cases true true = inl (refl, refl)
+and_cases true false = inr refl
+and_cases false b = inr refl
+
+or_at-own : (q : ℕ) → step_decides (or_at q) q ≡ Some true
+or_at-own q =
+    ap (λ b. if b && bit_is_on (2 ^ (q % 64)) q then Some true else None)
+    (eq-eqb (q / 64) (q / 64) refl)
+    ∙ ap (λ b. if b then Some true else None) (own_mask q)
+
+-- the step that turns a position on makes it so, and leaves the others
+pub or_at-decides : (q j : ℕ)
+    → ((j ≡ q) × (step_decides (or_at q) j ≡ Some true))
+    ⊎ ((j ≢ q) × (step_decides (or_at q) j ≡ None))
+or_at-decides q j = elim (eqb_tells j q) [
+  | inl same ↦ inl (same.1, ap (step_decides (or_at q)) same.1 ∙ or_at-own q)
+  | inr other ↦ inr (
+    other.1,
+    elim (and_cases (nat_eq (j / 64) (q / 64)) (bit_is_on (2 ^ (q % 64)) j)) [
+      | inl both ↦
+          let word = eqb-true (j / 64) (q / 64) both.0 in
+          let bit = mask_alone q j both.1 in
+          absurd (other.1 (omega arith))
+      | inr off ↦ ap (λ b. if b then Some true else None) off
+    ],
+  )
+]
+
+-- a step decides nothing of a position, or this
+abbrev pub DecidesOnly : Option Bool → ℕ → Step → Type 0
+DecidesOnly d q step = (step_decides step q ≡ None) ⊎ (step_decides step q ≡ d)
+
+-- a mask that turns bits on makes nothing off
+pub or-decides_only : (i mask q : ℕ) → DecidesOnly (Some true) q (Or i mask)
+or-decides_only i mask q = go (nat_eq (q / 64) i && bit_is_on mask q)
+  where
+    go : (b : Bool)
+        → ((if b then Some true else None) ≡ None) ⊎ ((if b then Some true else None) ≡ Some true)
+    go true = inr refl
+    go false = inl refl
+
+-- a position is turned off by record m
+abbrev pub TurnsOff : Course → ℕ → ℕ → Type 0
+TurnsOff run m p = (moment run m p ≡ true) × (moment run (m + 1) p ≡ false)
+
+-- a run, whatever its records
+module _ (run : Course) where
+  pub not_turned_off : (m p : ℕ) → turns_off run m p ≡ false → TurnsOff run m p → ⊥
+  not_turned_off m p calm off =
+      both_ways (turns_off run m p) calm (and_from (moment run m p) _ off.0 (ap not off.1))
+
+  pub turned_on : (m p : ℕ) → turns_on run m p ≡ true
+      → (moment run m p ≡ false) × (moment run (m + 1) p ≡ true)
+  turned_on m p on =
+      let parts = and_parts (not (moment run m p)) (moment run (m + 1) p) on in
+      (was (moment run m p) parts.0, parts.1)
+    where
+      was : (b : Bool) → not b ≡ true → b ≡ false
+      was true e = absurd (both_ways false refl e)
+      was false e = refl
+
+  pub turning_on : (m p : ℕ) → moment run m p ≡ false → moment run (m + 1) p ≡ true
+      → turns_on run m p ≡ true
+  turning_on m p off on = and_from (not (moment run m p)) (moment run (m + 1) p) (ap not off) on
+
+  -- a record's decision shows at the next moment
+  pub moment-more : (m : ℕ) (r : Record) (q : ℕ) → slice_get run.records m ≡ Some r
+      → moment run (m + 1) q ≡ unwrap_or (record_decides r q) (moment run m q)
+  moment-more m r q at =
+      ap (λ l. after_records (content run.start) l q) (take-more run.records m r at)
+      ∙ records-more (content run.start) (take m run.records) r q
+
+  -- what is on stays on where nothing turns it off
+  pub persists : (q first n m : ℕ) → m ≡ first + n → moment run first q ≡ true
+      → ((j : ℕ) → first ≤ j → j < m → TurnsOff run j q → ⊥) → moment run m q ≡ true
+  persists q first zero m e on calm =
+      let same : first ≡ m = omega (arith, e) in ap (λ j. moment run j q) (sym same) ∙ on
+  persists q first (suc n) m e on calm =
+      let before =
+      persists q first n (first + n) refl on (λ j l u. calm j l (omega (arith, u, e))) in
+      let same : (first + n) + 1 ≡ m = omega (arith, e) in
+      ap (λ j. moment run j q) (sym same) ∙ go (moment run ((first + n) + 1) q) refl before
+    where
+      go : (b : Bool) → moment run ((first + n) + 1) q ≡ b → moment run (first + n) q ≡ true
+          → moment run ((first + n) + 1) q ≡ true
+      go true is before = is
+      go false is before = absurd (calm (first + n) (omega arith) (omega (arith, e)) (before, is))
+
+-- a step of a lawful run
+module _ (k : ℕ) (run : Course) (lawful : IsLawful k run) (m party q : ℕ) (t : Taken)
+    (at : slice_get run.records m ≡ Some (Did party t.step t.found t.ended)) where
+  -- a step that turns a position on found its bit as it was
+  pub found-or : t.step ≡ or_at q → bit_is_on t.found q ≡ moment run m q
+  found-or step =
+      let finds = lawful.finds m party t.step t.found t.ended at in
+      (subst (λ x. MayFind (moment run m) x t.found) step finds).bits q refl
+
+  -- and so did one that reads its word
+  pub found-load : t.step ≡ load_at q → bit_is_on t.found q ≡ moment run m q
+  found-load step =
+      let finds = lawful.finds m party t.step t.found t.ended at in
+      (subst (λ x. MayFind (moment run m) x t.found) step finds).bits q refl
+
+  -- what a step that turns a position on does to each
+  pub moment-or : (j : ℕ) → t.step ≡ or_at q
+      → moment run (m + 1) j ≡ unwrap_or (step_decides (or_at q) j) (moment run m j)
+  moment-or j step =
+      moment-more run m (Did party t.step t.found t.ended) j at
+      ∙ ap (λ x. unwrap_or (step_decides x j) (moment run m j)) step
+
+  -- it makes its own on
+  pub on-or : t.step ≡ or_at q → moment run (m + 1) q ≡ true
+  on-or step = moment-or q step ∙ ap (λ o. unwrap_or o (moment run m q)) (or_at-own q)

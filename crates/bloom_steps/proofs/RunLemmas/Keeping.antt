@@ -1,0 +1,160 @@
+-- What a run keeps, event by event.
+use Rattle.std.proofs.Common.{[], ◌++◌, ◌<◌, ◌^◌, ◌∙◌, ◌∷◌, ◌≡◌, Bool, List, None, Option, Some, ap, arith, false, inl, inr, length, refl, slice_index, slice_set, subst, sym, take, unwrap_or, ℕ}
+use Rattle.std.proofs.Math.Seq.{take-append_seam}
+use Rattle.std.proofs.lemmas.List.{set-get_or, take-append-le}
+use Rattle.std.specs.Prelude.{slice_index_or}
+use Rattle.bloom_parts.specs.Content.{bit_is_on, content}
+use Rattle.bloom_steps.specs.declared.steps.vocabulary.Call.{Call}
+use Rattle.bloom_steps.specs.declared.steps.vocabulary.End.{End}
+use Rattle.bloom_steps.specs.declared.steps.vocabulary.Record.{Record}
+use Rattle.bloom_steps.specs.declared.steps.vocabulary.Record.TheVariants.{Began, Did}
+use Rattle.bloom_steps.specs.declared.steps.vocabulary.Step.{Step}
+use Rattle.bloom_steps.specs.declared.steps.vocabulary.Step.TheVariants.{And, Load, Or, Other, Zero}
+use Rattle.bloom_steps.specs.declared.steps.machine.Machine.{Machine}
+use Rattle.bloom_steps.specs.Machines.{StandsAt, asks, end_of}
+use Rattle.bloom_steps.specs.Memories.{found_in, words_after}
+use Rattle.bloom_steps.specs.Steps.{after_records, step_decides, word_of}
+use Rattle.bloom_steps.specs.Traces.{FindsWhatIsThere, IsWordOf, MayFind, records_of, runs}
+use Rattle.bloom_steps.specs.Turns.{AsksRight, StandsFurther}
+use Rattle.bloom_steps.specs.Worlds.{HasCalled, IsWorld, PartyAt, slot_runs}
+use Rattle.bloom_steps.proofs.RunLemmas.Calling.{parties-more, runs-party, step-party, step-within, whole-party}
+use Rattle.bloom_steps.proofs.StepLemmas.Deciding.{records-more}
+use Rattle.bloom_steps.proofs.StepLemmas.Members.{member_of_more}
+use Rattle.bloom_steps.proofs.StepLemmas.Writing.{content-step, content-word, length-step}
+
+-- one more record, which finds what is there
+finds-more : (A : ℕ → Bool) (rs : List Record) (r : Record) → FindsWhatIsThere A rs
+    → ((party : ℕ) (step : Step) (found : ℕ) (e : End) → r ≡ Did party step found e
+    → MayFind (after_records A rs) step found)
+    → FindsWhatIsThere A (rs ++ r ∷ [])
+finds-more A rs r all here m party step found e g =
+    elim (member_of_more rs r (Did party step found e) m g) [
+      | inl p ↦
+          let short = p.0 in
+          subst (λ l. MayFind (after_records A l) step found)
+          (sym (take-append-le m rs (r ∷ []) (omega arith))) (all m party step found e p.1)
+      | inr q ↦
+          let front : take m (rs ++ r ∷ []) ≡ rs =
+          ap (λ n. take n (rs ++ r ∷ [])) q.0 ∙ take-append_seam rs (r ∷ []) in
+          subst (λ l. MayFind (after_records A l) step found) (sym front)
+          (here party step found e (sym q.1))
+    ]
+
+is_word-read : (A : ℕ → Bool) (words : List ℕ) (i found : ℕ) → ((p : ℕ) → content words p ≡ A p)
+    → found ≡ slice_index words i → found < 2 ^ 64 → IsWordOf A i found
+is_word-read A words i found all e fits = record {
+  fits = fits;
+  bits = λ p at. ap (λ x. bit_is_on x p) e ∙ sym (content-word words i p at) ∙ all p;
+}
+
+-- what a step finds in words is what it may find in their content
+pub may_find-read : (A : ℕ → Bool) (words : List ℕ) (given found : ℕ) (step : Step)
+    → ((p : ℕ) → content words p ≡ A p)
+    → found ≡ found_in words given step → found < 2 ^ 64 → MayFind A step found
+may_find-read A words given found (Load i) all e fits = is_word-read A words i found all e fits
+may_find-read A words given found (Or i m) all e fits = is_word-read A words i found all e fits
+may_find-read A words given found (And i m) all e fits = is_word-read A words i found all e fits
+may_find-read A words given found (Zero i) all e fits = e
+may_find-read A words given found (Other i) all e fits = fits
+
+-- a world of the same words and records
+pub world-same :
+    (k : ℕ) (start words other : List ℕ) (machines : List (Option Machine)) (rs qs : List Record)
+    → other ≡ words → qs ≡ rs → IsWorld k start words machines rs
+    → IsWorld k start other machines qs
+world-same k start words other machines rs qs e f world =
+    subst (λ l. IsWorld k start l machines qs) (sym e)
+    (subst (λ l. IsWorld k start words machines l) (sym f) world)
+
+-- a world, and a party of it
+module _ (k : ℕ) (start words : List ℕ) (machines : List (Option Machine)) (rs : List Record)
+    (world : IsWorld k start words machines rs) (p : ℕ) (within : p < length machines) where
+  -- a party that runs no call begins one
+  pub begin_keeps : (call : Call) (m : Machine) (count : ℕ) → count ≡ length words
+      → slot_runs (slice_index_or machines p None) ≡ false → StandsAt m count k call []
+      → IsWorld k start words (slice_set machines p (Some m)) (rs ++ Began p call ∷ [])
+  begin_keeps call m count all off stands = record {
+    some_words = world.some_words;
+    few_words = world.few_words;
+    some_hashes = world.some_hashes;
+    finds =
+        finds-more (content start) rs (Began p call) world.finds
+        (λ party step found e f. absurd (cc));
+    count = world.count;
+    bits = λ q. world.bits q ∙ sym (records-more (content start) rs (Began p call) q);
+    parties =
+        parties-more (length start) k p machines rs (Began p call) m within refl world.parties
+        (record {
+          earlier = records_of p rs;
+          call = call;
+          taken = [];
+          before =
+              whole-party (length start) k p (slice_index_or machines p None) (records_of p rs)
+              (world.parties p) off;
+          stands = subst (λ n. StandsAt m n k call []) (all ∙ world.count) stands;
+          same = refl;
+        });
+  }
+
+  -- a machine that is written back as it was changes nothing
+  pub slot_same : (m : Machine) → slice_index_or machines p None ≡ Some m
+      → IsWorld k start words (slice_set machines p (Some m)) rs
+  slot_same m slot =
+      let same = sym (set-get_or machines p None) ∙ ap (slice_set machines p) slot in
+      subst (λ l. IsWorld k start words l rs) same world
+
+  -- a party that runs a call has a machine, which stands where its steps leave it
+  called : (m : Machine) → slice_index_or machines p None ≡ Some m
+      → HasCalled (length start) k p m (records_of p rs)
+  called m slot = subst (λ o. PartyAt (length start) k p o (records_of p rs)) slot (world.parties p)
+
+  -- the step that its machine asks for is on one of the words
+  pub step_inside : (m : Machine) (step : Step) → slice_index_or machines p None ≡ Some m
+      → AsksRight m (Some step)
+      → word_of step < length words
+  step_inside m step slot asks_right =
+      subst (λ n. word_of step < n) (sym world.count)
+      (step-within (length start) k p m (records_of p rs) step (called m slot) asks_right)
+
+  -- a step that it makes
+  pub go_keeps : (given found : ℕ) (step : Step) (m n : Machine)
+      → slice_index_or machines p None ≡ Some m
+      → AsksRight m (Some step) → asks m ≡ Some step → found ≡ found_in words given step
+      → found < 2 ^ 64
+      → StandsFurther m found n
+      → IsWorld k start (words_after words step) (slice_set machines p (Some n))
+      (rs ++ Did p step found (end_of n) ∷ [])
+  go_keeps given found step m n slot asks_right asked is fits further =
+      let r = Did p step found (end_of n) in
+      record {
+        some_words = world.some_words;
+        few_words = world.few_words;
+        some_hashes = world.some_hashes;
+        finds =
+            finds-more (content start) rs r world.finds
+            (λ party other it e f. here other it (cc) (cc));
+        count = length-step words step ∙ world.count;
+        bits = λ q.
+            content-step words step q (step_inside m step slot asks_right)
+            ∙ ap (unwrap_or (step_decides step q)) (world.bits q)
+            ∙ sym (records-more (content start) rs r q);
+        parties = parties-more (length start) k p machines rs r n within refl world.parties
+            (step-party (length start) k p m n (records_of p rs) step found
+            (called m slot) further asked);
+      }
+    where
+      here : (other : Step) (it : ℕ) → step ≡ other → found ≡ it
+          → MayFind (after_records (content start) rs) other it
+      here other it e f =
+          subst (λ x. MayFind (after_records (content start) rs) x it) e
+          (subst (λ x. MayFind (after_records (content start) rs) step x) f
+          (may_find-read
+          (after_records (content start) rs) words given found step world.bits is fits))
+
+  -- whether it runs a call is whether its machine does
+  pub runs-slot : (o : Option Machine) → slice_index_or machines p None ≡ o
+      → runs p rs ≡ slot_runs o
+  runs-slot o slot =
+      runs-party (length start) k p (slice_index_or machines p None) (records_of p rs)
+      (world.parties p)
+      ∙ ap slot_runs slot

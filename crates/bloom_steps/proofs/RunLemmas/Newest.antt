@@ -1,0 +1,139 @@
+-- Whether a party runs a call: its newest record.
+use Rattle.std.proofs.Common.{[], ◌++◌, ◌+◌, ◌-◌, ◌<◌, ◌∙◌, ◌∷◌, ◌≡◌, ◌≢◌, ◌≤◌, Bool, List, Some, ap, arith, false, length, not, refl, slice_get, subst, suc, sym, true, zero, ℕ}
+use Rattle.std.proofs.lemmas.Option.{none-some, same_Some}
+use Rattle.bloom_steps.specs.declared.steps.vocabulary.Call.{Call}
+use Rattle.bloom_steps.specs.declared.steps.vocabulary.End.{End}
+use Rattle.bloom_steps.specs.declared.steps.vocabulary.End.TheVariants.{Answer, Done, Running}
+use Rattle.bloom_steps.specs.declared.steps.vocabulary.Record.{Record}
+use Rattle.bloom_steps.specs.declared.steps.vocabulary.Record.TheVariants.{Began, Did}
+use Rattle.bloom_steps.specs.declared.steps.vocabulary.Step.{Step}
+use Rattle.bloom_steps.specs.declared.steps.machine.Machine.{Machine}
+use Rattle.bloom_steps.specs.Machines.{StandsAt}
+use Rattle.bloom_parts.specs.Operations.{reply}
+use Rattle.bloom_steps.specs.Scripts.{Each, IsBeginning, IsScript, Taken}
+use Rattle.bloom_steps.specs.Traces.{did, last_leaves_running, leaves_running, records_of, runs}
+use Rattle.bloom_steps.proofs.RunLemmas.Parties.{records_of-append}
+use Rattle.bloom_steps.proofs.StepLemmas.Members.{some_member}
+use Rattle.bloom_steps.proofs.StepLemmas.Whole.{beginning_runs, last-not_running, script_some}
+
+-- whether a call goes on after a step
+abbrev pub is_running : End → Bool
+is_running Running = true
+is_running Done = false
+is_running (Answer reply) = false
+
+-- whether a call goes on after these steps
+abbrev pub still_runs : List Taken → Bool
+still_runs [] = true
+still_runs (t ∷ []) = is_running t.ended
+still_runs (t ∷ (u ∷ rest)) = still_runs (u ∷ rest)
+
+-- each step but the last leaves the call running, and the last doesn't
+pub record OneEnd (s : List Taken) : Type 0 where
+  pub some : 1 ≤ length s
+  pub running : Each s (λ i t. i + 1 < length s → t.ended ≡ Running)
+  pub ended : Each s (λ i t. i + 1 ≡ length s → t.ended ≢ Running)
+
+pub one_end-later : (t u : Taken) (s : List Taken) → OneEnd (t ∷ (u ∷ s)) → OneEnd (u ∷ s)
+one_end-later t u s one = record {
+  some = omega arith;
+  running = λ i v g l. one.running (suc i) v g (omega arith);
+  ended = λ i v g l. one.ended (suc i) v g (omega arith);
+}
+
+pub one_end-script : (w k : ℕ) (call : Call) (s : List Taken) → 1 ≤ length s → IsScript w k call s
+    → OneEnd s
+one_end-script w k call s some is = record {
+  some = some;
+  running = is.running;
+  ended = λ i t g l. last-not_running w call s i t g l (is.last i t g l);
+}
+
+-- the newest of two lists is that of the second, where it has one
+pub newest-append : (xs ys : List Record) (y : Record)
+    → last_leaves_running (xs ++ y ∷ ys) ≡ last_leaves_running (y ∷ ys)
+newest-append [] ys y = refl
+newest-append (x ∷ []) ys y = refl
+newest-append (x ∷ (z ∷ xs)) ys y = newest-append (z ∷ xs) ys y
+
+leaves-did : (p : ℕ) (step : Step) (found : ℕ) (e : End)
+    → leaves_running (Did p step found e) ≡ is_running e
+leaves-did p step found Running = refl
+leaves-did p step found Done = refl
+leaves-did p step found (Answer b) = refl
+
+newest-did : (p : ℕ) (t : Taken) (s : List Taken)
+    → last_leaves_running (did p (t ∷ s)) ≡ still_runs (t ∷ s)
+newest-did p t [] = leaves-did p t.step t.found t.ended
+newest-did p t (u ∷ s) = newest-did p u s
+
+-- a call runs as its steps say
+pub newest-call : (p : ℕ) (call : Call) (s : List Taken)
+    → last_leaves_running (Began p call ∷ did p s) ≡ still_runs s
+newest-call p call [] = refl
+newest-call p call (t ∷ s) = newest-did p t s
+
+-- what runs after the later records runs after all
+pub newest_kept : (xs ys : List Record) → last_leaves_running ys ≡ true
+    → last_leaves_running (xs ++ ys) ≡ true
+newest_kept [] ys e = e
+newest_kept (x ∷ []) [] e = absurd (cc)
+newest_kept (x ∷ []) (y ∷ ys) e = e
+newest_kept (x ∷ (z ∷ xs)) ys e = newest_kept (z ∷ xs) ys e
+
+pub runs_after : (p : ℕ) (xs ys : List Record) → runs p ys ≡ true → runs p (xs ++ ys) ≡ true
+runs_after p xs ys e =
+    ap last_leaves_running (records_of-append p xs ys)
+    ∙ newest_kept (records_of p xs) (records_of p ys) e
+
+-- where each step leaves the call running it goes on
+still_runs-all : (s : List Taken) → Each s (λ i t. t.ended ≡ Running) → still_runs s ≡ true
+still_runs-all [] all = refl
+still_runs-all (t ∷ []) all = ap is_running (all 0 t refl)
+still_runs-all (t ∷ (u ∷ s)) all = still_runs-all (u ∷ s) (λ i v g. all (suc i) v g)
+
+pub still_runs-beginning : (w k : ℕ) (call : Call) (s : List Taken) → IsBeginning w k call s
+    → still_runs s ≡ true
+still_runs-beginning w k call s begun =
+    still_runs-all s (λ i t g. beginning_runs w k call s i t begun g)
+
+still_runs-last : (s : List Taken) (i : ℕ) (t : Taken) → slice_get s i ≡ Some t → i + 1 ≡ length s
+    → still_runs s ≡ is_running t.ended
+still_runs-last [] i t g l = absurd (none-some t g)
+still_runs-last (u ∷ []) zero t g l = ap (λ (v : Taken). is_running v.ended) (same_Some _ _ g)
+still_runs-last (u ∷ []) (suc i) t g l = absurd (none-some t g)
+still_runs-last (u ∷ (v ∷ s)) zero t g l = absurd (omega arith)
+still_runs-last (u ∷ (v ∷ s)) (suc i) t g l = still_runs-last (v ∷ s) i t g (omega arith)
+
+not_running : (e : End) → e ≢ Running → is_running e ≡ false
+not_running Running apart = absurd (apart refl)
+not_running Done apart = refl
+not_running (Answer b) apart = refl
+
+-- after a whole script the call has ended
+pub still_runs-script : (w k : ℕ) (call : Call) (s : List Taken) → 1 ≤ w → 1 ≤ k
+    → IsScript w k call s
+    → still_runs s ≡ false
+still_runs-script w k call s some_words some_hashes is =
+    let some = script_some w k call s some_words some_hashes is in
+    let t = some_member s (length s - 1) (omega arith) in
+    let at_end : (length s - 1) + 1 ≡ length s = omega arith in
+    still_runs-last s (length s - 1) t.0 t.1 at_end
+    ∙ not_running t.0.ended
+    (last-not_running w call s (length s - 1) t.0 t.1 at_end
+    (is.last (length s - 1) t.0 t.1 at_end))
+
+-- a machine's call goes on exactly if its steps so far leave it running
+pub still_runs-machine : (m : Machine) (w k : ℕ) (call : Call) (s : List Taken)
+    → StandsAt m w k call s
+    → still_runs s ≡ not m.ended
+still_runs-machine m w k call s st = go m.ended refl
+  where
+    go : (b : Bool) → m.ended ≡ b → still_runs s ≡ not m.ended
+    go true is =
+        still_runs-script w k call s (subst (λ n. 1 ≤ n) st.words m.some_words)
+        (subst (λ n. 1 ≤ n) st.hashes m.some_hashes) (st.whole is)
+        ∙ sym (ap not is)
+    go false is =
+        let on = st.goes_on is in
+        still_runs-all s on.running ∙ sym (ap not is)

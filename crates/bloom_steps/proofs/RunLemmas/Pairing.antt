@@ -1,0 +1,167 @@
+-- What the steps of a union or an intersection make of a set.
+use Rattle.std.proofs.Common.{[], ◌&&◌, ◌*◌, ◌++◌, ◌+◌, ◌/◌, ◌<◌, ◌∙◌, ◌∷◌, ◌≡◌, ◌≤◌, Bool, List, None, Option, Some, ap, arith, eq-eqb, false, if◌then◌else◌, inl, inr, length, nat_eq, not, refl, slice_get, suc, sym, true, unwrap_or, zero, ℕ}
+use Rattle.std.proofs.lemmas.Bool.Decides.{eqb_tells}
+use Rattle.std.proofs.lemmas.Option.{get_or_from_slice_get, none-some, same_Some, slice_get_within}
+use Rattle.bloom_parts.specs.Content.{bit_is_on, content}
+use Rattle.bloom_steps.specs.declared.steps.vocabulary.Step.{Step}
+use Rattle.bloom_steps.specs.declared.steps.vocabulary.Step.TheVariants.{And, Or, Other}
+use Rattle.bloom_steps.specs.Scripts.{ArePairs, Taken}
+use Rattle.bloom_steps.specs.Sequences.{found_in_other, other_words}
+use Rattle.bloom_steps.specs.Steps.{after_records, step_decides}
+use Rattle.bloom_steps.specs.Traces.{did}
+use Rattle.bloom_steps.proofs.RunLemmas.Lasting.{AllDecide, steps-some}
+use Rattle.bloom_steps.proofs.StepLemmas.Going.{parity}
+use Rattle.bloom_steps.proofs.StepLemmas.Members.{some_member}
+use Rattle.bloom_steps.proofs.StepLemmas.Writing.{content-past, content-word}
+
+-- pairs of a load of the other filter's word and a write with what it found, from word j on
+pub data PairsFrom (op : ℕ → ℕ → Step) : ℕ → List Taken → Type 0 where
+  no_pair : (j : ℕ) → PairsFrom op j []
+  one_pair : (j : ℕ) (t u : Taken) (rest : List Taken) → t.step ≡ Other j → u.step ≡ op j t.found
+      → PairsFrom op (j + 1) rest → PairsFrom op j (t ∷ (u ∷ rest))
+
+pairs_from : (op : ℕ → ℕ → Step) (w j : ℕ) (s : List Taken) → length s ≡ 2 * w
+    → ((i : ℕ) (t : Taken) → slice_get s (2 * i) ≡ Some t → t.step ≡ Other (j + i))
+    → ((i : ℕ) (t u : Taken) → slice_get s (2 * i) ≡ Some t → slice_get s (2 * i + 1) ≡ Some u
+    → u.step ≡ op (j + i) t.found)
+    → PairsFrom op j s
+pairs_from op zero j [] l loads writes = no_pair j
+pairs_from op zero j (t ∷ s) l loads writes = absurd (omega (arith, l))
+pairs_from op (suc w) j [] l loads writes = absurd (omega (arith, l))
+pairs_from op (suc w) j (t ∷ []) l loads writes = absurd (omega (arith, l))
+pairs_from op (suc w) j (t ∷ (u ∷ rest)) l loads writes =
+    let first : j + 0 ≡ j = omega arith in
+    let twice : (i : ℕ) → 2 * (i + 1) ≡ suc (suc (2 * i)) = λ i. omega arith in
+    let after : (i : ℕ) → 2 * (i + 1) + 1 ≡ suc (suc (2 * i + 1)) = λ i. omega arith in
+    let next : (i : ℕ) → j + (i + 1) ≡ (j + 1) + i = λ i. omega arith in
+    one_pair j t u rest (loads 0 t refl ∙ ap Other first)
+    (writes 0 t u refl refl ∙ ap (λ n. op n t.found) first)
+    (pairs_from op w (j + 1) rest (omega (arith, l))
+    (λ i v g. loads (i + 1) v (ap (slice_get (t ∷ (u ∷ rest))) (twice i) ∙ g)
+    ∙ ap Other (next i)) (λ i v x g f. writes (i + 1) v x
+    (ap (slice_get (t ∷ (u ∷ rest))) (twice i) ∙ g) (ap (slice_get (t ∷ (u ∷ rest))) (after i) ∙ f)
+    ∙ ap (λ n. op n v.found) (next i)))
+
+-- a pair finds one word in the other filter
+words-pair : (op : ℕ → ℕ → Step) (j : ℕ) (t u : Taken) (rest : List Taken)
+    → found_in_other (op j t.found) u.found ≡ []
+    → t.step ≡ Other j → u.step ≡ op j t.found
+    → other_words (t ∷ (u ∷ rest)) ≡ t.found ∷ other_words rest
+words-pair op j t u rest plain load write =
+    ap (λ x. found_in_other x t.found ++ (found_in_other u.step u.found ++ other_words rest)) load
+    ∙ ap (λ x. t.found ∷ (found_in_other x u.found ++ other_words rest)) write
+    ∙ ap (λ l. t.found ∷ (l ++ other_words rest)) plain
+
+-- the words found in the other filter are those of the loads
+words-at : (op : ℕ → ℕ → Step) (j : ℕ) (s : List Taken)
+    → ((i x found : ℕ) → found_in_other (op i x) found ≡ []) → PairsFrom op j s
+    → (i : ℕ) (t : Taken) → slice_get s (2 * i) ≡ Some t
+    → slice_get (other_words s) i ≡ Some t.found
+words-at op j _ plain (no_pair _) i t g = absurd (none-some t g)
+words-at op j _ plain (one_pair _ t u rest load write more) zero v g =
+    ap (λ l. slice_get l 0) (words-pair op j t u rest (plain j t.found u.found) load write)
+    ∙ ap (λ (x : Taken). Some x.found) (same_Some _ _ g)
+words-at op j _ plain (one_pair _ t u rest load write more) (suc i) v g =
+    let twice : 2 * suc i ≡ suc (suc (2 * i)) = omega arith in
+    ap (λ l. slice_get l (suc i)) (words-pair op j t u rest (plain j t.found u.found) load write)
+    ∙ words-at op (j + 1) rest plain more i v (sym (ap (slice_get (t ∷ (u ∷ rest))) twice) ∙ g)
+
+words-length : (op : ℕ → ℕ → Step) (j : ℕ) (s : List Taken)
+    → ((i x found : ℕ) → found_in_other (op i x) found ≡ []) → PairsFrom op j s
+    → 2 * length (other_words s) ≡ length s
+words-length op j _ plain (no_pair _) = refl
+words-length op j _ plain (one_pair _ t u rest load write more) =
+    let before = words-length op (j + 1) rest plain more in
+    let words : length (other_words (t ∷ (u ∷ rest))) ≡ suc (length (other_words rest)) =
+    ap length (words-pair op j t u rest (plain j t.found u.found) load write) in
+    omega (arith, before, words)
+
+-- what a write with a found word decides, by the bit of that word
+abbrev pub DecidesBy : (ℕ → ℕ → Step) → (Bool → Option Bool) → Type 0
+DecidesBy op D =
+    (i x q : ℕ) → step_decides (op i x) q ≡ (if nat_eq (q / 64) i then D (bit_is_on x q) else None)
+
+-- a union makes on what is on
+abbrev pub made_on : Bool → Option Bool
+made_on b = if b then Some true else None
+
+-- an intersection makes off what is off
+abbrev pub made_off : Bool → Option Bool
+made_off b = if b then None else Some false
+
+pub decides_by-or : DecidesBy Or made_on
+decides_by-or i x q = go (nat_eq (q / 64) i) (bit_is_on x q)
+  where
+    go : (a b : Bool) → (if a && b then Some true else None) ≡ (if a then made_on b else None)
+    go true b = refl
+    go false b = refl
+
+pub decides_by-and : DecidesBy And made_off
+decides_by-and i x q = go (nat_eq (q / 64) i) (bit_is_on x q)
+  where
+    go : (a b : Bool) → (if a && not b then Some false else None) ≡ (if a then made_off b else None)
+    go true true = refl
+    go true false = refl
+    go false b = refl
+
+-- a whole list of pairs
+module _ (op : ℕ → ℕ → Step) (D : Bool → Option Bool) (by : DecidesBy op D)
+    (plain : (i x found : ℕ) → found_in_other (op i x) found ≡ [])
+    (w : ℕ) (s : List Taken) (pairs : ArePairs op s) (l : length s ≡ 2 * w) where
+  from_start : PairsFrom op 0 s
+  from_start =
+      let none : (i : ℕ) → i ≡ 0 + i = λ i. omega arith in
+      pairs_from op w 0 s l (λ i t g. pairs.loads i t g ∙ ap Other (none i))
+      (λ i t u g f. pairs.writes i t u g f ∙ ap (λ j. op j t.found) (none i))
+
+  -- the bit of the other filter is that of the word which its load found
+  other-bit : (q : ℕ) (t : Taken) → slice_get s (2 * (q / 64)) ≡ Some t
+      → content (other_words s) q ≡ bit_is_on t.found q
+  other-bit q t g =
+      content-word (other_words s) (q / 64) q refl
+      ∙ ap (λ x. bit_is_on x q)
+      (get_or_from_slice_get (other_words s) (q / 64) t.found 0
+      (words-at op 0 s plain from_start (q / 64) t g))
+
+  -- past the words the other filter has nothing on
+  pub other-past : (q : ℕ) → w ≤ q / 64 → content (other_words s) q ≡ false
+  other-past q past =
+      let count = words-length op 0 s plain from_start in
+      content-past (other_words s) q (omega (arith, count, l, past))
+
+  write-decides : (q i : ℕ) (t u : Taken) → slice_get s (2 * i) ≡ Some t → u.step ≡ op i t.found
+      → q / 64 ≡ i
+      → step_decides u.step q ≡ D (content (other_words s) q)
+  write-decides q i t u g e at =
+      let here : slice_get s (2 * (q / 64)) ≡ Some t = ap (λ j. slice_get s (2 * j)) at ∙ g in
+      ap (λ x. step_decides x q) e ∙ by i t.found q
+      ∙ ap (λ b. if b then D (bit_is_on t.found q) else None) (eq-eqb _ _ at)
+      ∙ ap D (sym (other-bit q t here))
+
+  -- each step decides as the other filter's bit says, or nothing
+  pairs-all : (q : ℕ) → AllDecide s q (D (content (other_words s) q))
+  pairs-all q j u g = elim (parity j) [
+    | inl even ↦
+        inl (ap (λ x. step_decides x q) (pairs.loads even.0 u (ap (slice_get s) (sym even.1) ∙ g)))
+    | inr odd ↦
+        let i = odd.0 in
+        let within = slice_get_within s j u g in
+        let there = some_member s (2 * i) (omega (arith, odd.1)) in
+        let e = pairs.writes i there.0 u there.1 (ap (slice_get s) (sym odd.1) ∙ g) in
+        elim (eqb_tells (q / 64) i) [
+          | inl here ↦ inr (write-decides q i there.0 u there.1 e here.1)
+          | inr other ↦
+              inl
+              (ap (λ x. step_decides x q) e ∙ by i there.0.found q
+              ∙ ap (λ b. if b then D (bit_is_on there.0.found q) else None) other.0)
+        ]
+  ]
+
+  -- and within the words the pair of its word does decide it
+  pub pairs-steps : (p : ℕ) (A : ℕ → Bool) (q : ℕ) → q / 64 < w
+      → after_records A (did p s) q ≡ unwrap_or (D (content (other_words s) q)) (A q)
+  pairs-steps p A q inside =
+      let t = some_member s (2 * (q / 64)) (omega arith) in
+      let u = some_member s (2 * (q / 64) + 1) (omega arith) in
+      steps-some p s A q (D (content (other_words s) q)) (pairs-all q) (2 * (q / 64) + 1) u.0 u.1
+      (write-decides q (q / 64) t.0 u.0 t.1 (pairs.writes (q / 64) t.0 u.0 t.1 u.1) refl)

@@ -1,0 +1,110 @@
+-- Whole calls, one after the other, act as the list of their commands.
+use Rattle.std.proofs.Common.{[], ◌*◌, ◌∙◌, ◌∷◌, ◌≡◌, ◌≤◌, Bool, List, Some, ap, length, map, refl, slice_get, subst, suc, sym, take, unwrap_or, zero, ℕ}
+use Rattle.std.proofs.lemmas.Option.{none-some, same_Some}
+use Rattle.bloom_parts.specs.Content.{content}
+use Rattle.bloom_steps.specs.declared.steps.vocabulary.Call.{Call}
+use Rattle.bloom_steps.specs.declared.steps.vocabulary.Call.TheVariants.{Clear, Contains, Insert, Intersect, Union}
+use Rattle.bloom_steps.specs.declared.steps.vocabulary.Record.{Record}
+use Rattle.bloom_steps.specs.declared.steps.vocabulary.Record.TheVariants.{Began}
+use Rattle.bloom_parts.specs.Operations.{Operation, decides, state_after}
+use Rattle.bloom_parts.specs.Operations.{reply}
+use Rattle.bloom_steps.specs.Scripts.{answer_of}
+use Rattle.bloom_steps.specs.Sequences.{ActsAs, ActsAsCommands, Cut, MadeCall, command_of, commands_of, cut, other_words}
+use Rattle.bloom_steps.specs.Steps.{after_records}
+use Rattle.bloom_steps.specs.Traces.{Course, IsLawful, did}
+use Rattle.bloom_steps.proofs.RunLemmas.Acting.{call-steps}
+use Rattle.bloom_steps.proofs.RunLemmas.Answering.{call-answer}
+use Rattle.bloom_steps.proofs.RunLemmas.Bounds.{moment-past}
+use Rattle.bloom_steps.proofs.RunLemmas.Cutting.{OneByOne, cut-calls, next_call, no_more, one_by_one}
+use Rattle.bloom_steps.proofs.RunLemmas.Lasting.{Fits, fits-back, fits-front}
+use Rattle.bloom_steps.proofs.RunLemmas.Positions.{are_in-same}
+use Rattle.bloom_steps.proofs.StepLemmas.Deciding.{records-append, state-first, state-same}
+
+-- a reply looks at the bits of the set alone
+reply-same : (n k : ℕ) (call : Call) (other A B : ℕ → Bool) → ((q : ℕ) → A q ≡ B q)
+    → reply n k A (command_of call other) ≡ reply n k B (command_of call other)
+reply-same n k (Insert h) other A B same = ap Some (are_in-same n k h A B same)
+reply-same n k (Contains h) other A B same = ap Some (are_in-same n k h A B same)
+reply-same n k Clear other A B same = refl
+reply-same n k Union other A B same = refl
+reply-same n k Intersect other A B same = refl
+
+-- the set and the answers of calls, over a set of w words
+record Acts (w k : ℕ) (A : ℕ → Bool) (rs : List Record) (made : List MadeCall) : Type 0 where
+  pub set : (q : ℕ) → after_records A rs q ≡ state_after (64 * w) k A (commands_of made) q
+  pub answers : (i : ℕ) (m : MadeCall) → slice_get made i ≡ Some m → answer_of m.taken
+      ≡ reply (64 * w) k (state_after (64 * w) k A (commands_of (take i made)))
+      (command_of m.call (content (other_words m.taken)))
+
+acts : (w k : ℕ) (A : ℕ → Bool) (rs : List Record) (made : List MadeCall) → 1 ≤ w → 1 ≤ k
+    → OneByOne w k rs made → Fits w A rs
+    → Acts w k A rs made
+acts w k A _ _ some_words some_hashes no_more f =
+    record { set = λ q. refl; answers = λ i m g. absurd (none-some m g) }
+acts w k A _ _ some_words some_hashes (next_call p call s later made is more) f =
+    let n = 64 * w in
+    let whole = Began p call ∷ did p s in
+    let B = after_records A whole in
+    let C = after_records A (Began p call ∷ []) in
+    let its = fits-back w A (Began p call ∷ []) (did p s) (fits-front w A whole later f) in
+    let rest = acts w k B later made some_words some_hashes more (fits-back w A whole later f) in
+    let other = content (other_words s) in
+    let d = decides n k (command_of call other) in
+    let D = map (decides n k) (commands_of made) in
+    let after : (q : ℕ) → B q ≡ unwrap_or (d q) (A q) =
+    λ q. records-append A (Began p call ∷ []) (did p s) q ∙ call-steps w k p s C call q is its in
+    let next : (ops : List Operation) (q : ℕ) → state_after n k B ops q ≡ state_after n k A
+    (command_of call other ∷ ops) q =
+    λ ops q.
+    state-same B (λ j. unwrap_or (d j) (A j)) (map (decides n k) ops) q (after q)
+    ∙ sym (state-first A d (map (decides n k) ops) q) in
+    let answer_at : (i : ℕ) (m : MadeCall) → slice_get
+    (record { call = call; taken = s } ∷ made) i ≡ Some m → answer_of m.taken
+    ≡ reply n k
+    (state_after n k A (commands_of (take i (record { call = call; taken = s } ∷ made))))
+    (command_of m.call (content (other_words m.taken))) =
+    answers B (call-answer w k p s C its call other some_words some_hashes is) next rest in
+    record {
+      set = λ q. records-append A whole later q ∙ rest.set q
+          ∙ next (commands_of made) q;
+      answers = answer_at;
+    }
+  where
+    answers : (B : ℕ → Bool)
+        → answer_of s ≡ reply (64 * w) k (after_records A (Began p call ∷ []))
+        (command_of call (content (other_words s)))
+        → ((ops : List Operation) (q : ℕ)
+        → state_after (64 * w) k B ops q ≡ state_after (64 * w) k A
+        (command_of call (content (other_words s)) ∷ ops) q)
+        → Acts w k B later made → (i : ℕ) (m : MadeCall)
+        → slice_get (record { call = call; taken = s } ∷ made) i ≡ Some m
+        → answer_of m.taken
+        ≡ reply (64 * w) k
+        (state_after (64 * w) k A (commands_of (take i (record { call = call; taken = s } ∷ made))))
+        (command_of m.call (content (other_words m.taken)))
+    answers B mine next rest zero m g =
+        subst
+        (λ (m : MadeCall). answer_of m.taken ≡ reply (64 * w) k A
+        (command_of m.call (content (other_words m.taken))))
+        (same_Some _ _ g)
+        mine
+    answers B mine next rest (suc i) m g =
+        rest.answers i m g
+        ∙ reply-same (64 * w) k m.call (content (other_words m.taken))
+        (state_after (64 * w) k B (commands_of (take i made)))
+        (state_after (64 * w) k A
+        (command_of call (content (other_words s)) ∷ commands_of (take i made)))
+        (next (commands_of (take i made)))
+
+-- one call at a time behaves as the list of commands
+pub acts_as_commands : (k : ℕ) (run : Course) → IsLawful k run → 1 ≤ length run.start → 1 ≤ k
+    → ActsAsCommands k run
+acts_as_commands k run lawful some_words some_hashes one ended =
+    let w = length run.start in
+    let made = one_by_one w k some_words some_hashes run.records lawful.calls one ended in
+    let fits : Fits w (content run.start) run.records =
+    record { finds = lawful.finds; within = moment-past k run lawful } in
+    let a = acts w k (content run.start) run.records made.0 some_words some_hashes made.1 fits in
+    let same : made.0 ≡ (cut run.records).calls =
+    sym (ap (λ (c : Cut). c.calls) (cut-calls w k run.records made.0 made.1)) in
+    subst (ActsAs k run) same (record { bits = λ p. lawful.bits p ∙ a.set p; answers = a.answers })

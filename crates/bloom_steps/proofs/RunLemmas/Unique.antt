@@ -1,0 +1,131 @@
+-- What a step finds, and how it ends its call, is one.
+use Rattle.std.proofs.Common.{[], ◌%◌, ◌*◌, ◌++◌, ◌+◌, ◌/◌, ◌<◌, ◌^◌, ◌∙◌, ◌∷◌, ◌≡◌, Bool, List, ap, arith, false, inl, inr, length, length-append, nat_eq, refl, suc, sym, true, zero, ℕ}
+use Rattle.std.proofs.lemmas.Bool.{both_ways}
+use Rattle.std.proofs.lemmas.Nat.Bits.{bit_at-lt, same_from_bits_below}
+use Rattle.std.specs.Int.{bit_at}
+use Rattle.bloom_parts.specs.Content.{bit_is_on}
+use Rattle.bloom_parts.specs.Places.{place}
+use Rattle.bloom_steps.specs.declared.steps.vocabulary.Call.{Call}
+use Rattle.bloom_steps.specs.declared.steps.vocabulary.Call.TheVariants.{Clear, Contains, Insert, Intersect, Union}
+use Rattle.bloom_steps.specs.declared.steps.vocabulary.End.TheVariants.{Answer}
+use Rattle.bloom_steps.specs.declared.steps.vocabulary.Step.{Step}
+use Rattle.bloom_steps.specs.declared.steps.vocabulary.Step.TheVariants.{And, Load, Or, Other, Zero}
+use Rattle.bloom_steps.specs.Scripts.{Any, IsLastEnd, IsScript, Taken}
+use Rattle.bloom_steps.specs.Traces.{IsWordOf, MayFind}
+use Rattle.bloom_steps.proofs.StepLemmas.Growing.{length-more}
+use Rattle.bloom_steps.proofs.StepLemmas.Members.{member-front, member-seam, member_of_more}
+
+digit-same : (a b : ℕ) → a < 2 → b < 2 → nat_eq a 1 ≡ nat_eq b 1 → a ≡ b
+digit-same zero zero l m e = refl
+digit-same zero (suc zero) l m e = absurd (both_ways (nat_eq 0 1) refl e)
+digit-same (suc zero) zero l m e = absurd (both_ways (nat_eq 0 1) refl (sym e))
+digit-same (suc zero) (suc zero) l m e = refl
+digit-same (suc (suc a)) b l m e = absurd (omega arith)
+digit-same a (suc (suc b)) l m e = absurd (omega arith)
+
+-- words of 64 bits with the same bits are the same
+word-same : (a b i : ℕ) → a < 2 ^ 64 → b < 2 ^ 64
+    → ((p : ℕ) → p / 64 ≡ i → bit_is_on a p ≡ bit_is_on b p) → a ≡ b
+word-same a b i f g all = same_from_bits_below 64 a b f g (λ j l.
+    let low : (64 * i + j) % 64 ≡ j = omega arith in
+    digit-same (bit_at a j) (bit_at b j) (bit_at-lt a j) (bit_at-lt b j)
+    (ap (λ x.
+    nat_eq (bit_at a x) 1) (sym low) ∙ all (64 * i + j) (omega arith) ∙ ap (λ x. nat_eq
+    (bit_at b x) 1) low))
+
+word_of-same : (A : ℕ → Bool) (i a b : ℕ) → IsWordOf A i a → IsWordOf A i b → a ≡ b
+word_of-same A i a b f g = word-same a b i f.fits g.fits (λ p at. f.bits p at ∙ sym (g.bits p at))
+
+-- what is found is one, where another filter's word is given
+pub found-same : (A : ℕ → Bool) (given : ℕ) (step : Step) (a b : ℕ) → MayFind A step a
+    → MayFind A step b
+    → ((i : ℕ) → step ≡ Other i → a ≡ given) → ((i : ℕ) → step ≡ Other i → b ≡ given) → a ≡ b
+found-same A given (Load i) a b f g x y = word_of-same A i a b f g
+found-same A given (Or i m) a b f g x y = word_of-same A i a b f g
+found-same A given (And i m) a b f g x y = word_of-same A i a b f g
+found-same A given (Zero i) a b f g x y = f ∙ sym g
+found-same A given (Other i) a b f g x y = x i refl ∙ sym (y i refl)
+
+-- steps that differ in the end of the last alone have found the same
+any_off-same : (w h : ℕ) (s : List Taken) (t u : Taken) → t.found ≡ u.found
+    → Any (s ++ t ∷ []) (λ i t. bit_is_on t.found (place (64 * w) h i) ≡ false)
+    → Any (s ++ u ∷ []) (λ i t. bit_is_on t.found (place (64 * w) h i) ≡ false)
+any_off-same w h s t u e any = elim (member_of_more s t any.1 any.0 any.2) [
+  | inl p ↦ (any.0, any.1, member-front s (u ∷ []) any.1 any.0 p.1, any.3)
+  | inr q ↦
+      let here = place (64 * w) h (length s) in (
+        length s,
+        u,
+        member-seam s [] u,
+        ap (λ f. bit_is_on f here) (sym e) ∙ ap (λ (v : Taken). bit_is_on v.found here) (sym q.1)
+            ∙ ap (λ j. bit_is_on any.1.found (place (64 * w) h j)) (sym q.0) ∙ any.3,
+      )
+]
+
+alike : (a b : Bool) → (a ≡ false → b ≡ false) → (b ≡ false → a ≡ false) → a ≡ b
+alike true true f g = refl
+alike true false f g = g refl
+alike false true f g = sym (f refl)
+alike false false f g = refl
+
+-- how the last step ends a script is one
+last-same : (w k : ℕ) (call : Call) (s : List Taken) (t u : Taken) → t.found ≡ u.found
+    → IsScript w k call (s ++ t ∷ [])
+    → IsScript w k call (s ++ u ∷ []) → t.ended ≡ u.ended
+last-same w k call s t u e a b =
+    by_call call (a.last (length s) t (member-seam s [] t) (closes t))
+    (b.last (length s) u (member-seam s [] u) (closes u))
+  where
+    closes : (v : Taken) → length s + 1 ≡ length (s ++ v ∷ [])
+    closes v = sym (length-more s v)
+
+    by_call : (call : Call) → IsLastEnd w call (s ++ t ∷ []) t.ended
+        → IsLastEnd w call (s ++ u ∷ []) u.ended → t.ended ≡ u.ended
+    by_call (Insert h) a b =
+        a.1
+        ∙ ap Answer
+        (alike a.0 b.0 (λ x. b.2.1 (any_off-same w h s t u e (a.2.0 x)))
+        (λ x. a.2.1 (any_off-same w h s u t (sym e) (b.2.0 x))))
+        ∙ sym b.1
+    by_call (Contains h) a b =
+        a (length s) t (member-seam s [] t) (closes t)
+        ∙ ap (λ f. Answer (bit_is_on f (place (64 * w) h (length s)))) e
+        ∙ sym (b (length s) u (member-seam s [] u) (closes u))
+    by_call Clear a b = a ∙ sym b
+    by_call Union a b = a ∙ sym b
+    by_call Intersect a b = a ∙ sym b
+
+-- a script that ends here is no front of another that found the same
+ends_here : (w k : ℕ) (call : Call) (s rest : List Taken) (t u v : Taken) → t.found ≡ u.found
+    → IsScript w k call (s ++ t ∷ [])
+    → IsScript w k call (s ++ u ∷ (v ∷ rest)) → ⊥
+ends_here w k call s rest t u v e a b =
+    by_call call a b (length-more s t) (length-append s (u ∷ (v ∷ rest)))
+  where
+    by_call : (call : Call) → IsScript w k call (s ++ t ∷ [])
+        → IsScript w k call (s ++ u ∷ (v ∷ rest))
+        → length (s ++ t ∷ []) ≡ length s + 1
+        → length (s ++ u ∷ (v ∷ rest)) ≡ length s + suc (suc (length rest)) → ⊥
+    by_call (Insert h) a b l n = let x = a.count in let y = b.count in omega arith
+    by_call (Contains h) a b l n =
+        let y = b.count in
+        let here = place (64 * w) h (length s) in
+        let off = a.stops.early (length s) t (member-seam s [] t) (omega arith) (omega arith) in
+        let on = b.stops.earlier (length s) u (member-seam s (v ∷ rest) u) (omega arith) in
+        both_ways (bit_is_on u.found here) (ap (λ f. bit_is_on f here) (sym e) ∙ off) on
+    by_call Clear a b l n = let x = a.count in let y = b.count in omega arith
+    by_call Union a b l n = let x = a.count in let y = b.count in omega arith
+    by_call Intersect a b l n = let x = a.count in let y = b.count in omega arith
+
+-- how a step leaves its call is one
+pub end-same : (w k : ℕ) (call : Call) (s x y : List Taken) (t u : Taken) → t.found ≡ u.found
+    → IsScript w k call (s ++ t ∷ x)
+    → IsScript w k call (s ++ u ∷ y) → t.ended ≡ u.ended
+end-same w k call s [] [] t u e a b = last-same w k call s t u e a b
+end-same w k call s [] (v ∷ y) t u e a b = absurd (ends_here w k call s y t u v e a b)
+end-same w k call s (v ∷ x) [] t u e a b = absurd (ends_here w k call s x u t v (sym e) b a)
+end-same w k call s (v ∷ x) (z ∷ y) t u e a b =
+    let first = length-append s (t ∷ (v ∷ x)) in
+    let second = length-append s (u ∷ (z ∷ y)) in
+    a.running (length s) t (member-seam s (v ∷ x) t) (omega arith)
+    ∙ sym (b.running (length s) u (member-seam s (z ∷ y) u) (omega arith))

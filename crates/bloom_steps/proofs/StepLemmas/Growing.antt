@@ -1,0 +1,178 @@
+-- Steps of a call that grow by one at the end.
+use Rattle.std.proofs.Common.{[], ◌*◌, ◌++◌, ◌+◌, ◌<◌, ◌∙◌, ◌∷◌, ◌≡◌, ◌⊎◌, List, Some, ap, arith, false, inl, inr, length, length-append, slice_get, subst, sym, true, ℕ}
+use Rattle.bloom_parts.specs.Content.{bit_is_on}
+use Rattle.bloom_parts.specs.Places.{place}
+use Rattle.bloom_steps.specs.declared.steps.vocabulary.Call.{Call}
+use Rattle.bloom_steps.specs.declared.steps.vocabulary.Call.TheVariants.{Clear, Contains, Insert, Intersect, Union}
+use Rattle.bloom_steps.specs.declared.steps.vocabulary.End.TheVariants.{Answer, Done, Running}
+use Rattle.bloom_steps.specs.declared.steps.vocabulary.Step.{Step}
+use Rattle.bloom_steps.specs.declared.steps.vocabulary.Step.TheVariants.{And, Or, Other, Zero}
+use Rattle.bloom_steps.specs.Machines.{GoesOn, KeepsOn}
+use Rattle.bloom_steps.specs.Scripts.{ArePairs, AreStepsOf, Each, HasCount, IsLastEnd, IsScript, StopsRight, Taken, most_steps}
+use Rattle.bloom_steps.specs.Steps.{load_at, or_at}
+use Rattle.bloom_steps.proofs.StepLemmas.Members.{member_of_more}
+
+-- the step that comes next after these
+abbrev pub IsNextOfPairs : (ℕ → ℕ → Step) → List Taken → Step → Type 0
+IsNextOfPairs op s step =
+    ((i : ℕ) → length s ≡ 2 * i → step ≡ Other i)
+    × ((i : ℕ) (t : Taken) → length s ≡ 2 * i + 1 → slice_get s (2 * i) ≡ Some t
+    → step ≡ op i t.found)
+
+abbrev pub FitsNext : ℕ → Call → List Taken → Step → Type 0
+FitsNext w (Insert h) s step = step ≡ or_at (place (64 * w) h (length s))
+FitsNext w (Contains h) s step = step ≡ load_at (place (64 * w) h (length s))
+FitsNext w Clear s step = step ≡ Zero (length s)
+FitsNext w Union s step = IsNextOfPairs Or s step
+FitsNext w Intersect s step = IsNextOfPairs And s step
+
+pub length-more : (s : List Taken) (t : Taken) → length (s ++ t ∷ []) ≡ length s + 1
+length-more s t = length-append s (t ∷ [])
+
+pub each-more : (s : List Taken) (t : Taken) (P : ℕ → Taken → Type 0) → Each s P → P (length s) t
+    → Each (s ++ t ∷ []) P
+each-more s t P all here i u e =
+    elim (member_of_more s t u i e) [
+      | inl p ↦ all i u p.1
+      | inr q ↦ subst (λ j. P j u) (sym q.0) (subst (λ v. P (length s) v) (sym q.1) here)
+    ]
+
+pairs-more : (op : ℕ → ℕ → Step) (s : List Taken) (t : Taken) → ArePairs op s
+    → IsNextOfPairs op s t.step → ArePairs op (s ++ t ∷ [])
+pairs-more op s t all fits = record {
+  loads = λ i u e. elim (member_of_more s t u (2 * i) e) [
+    | inl p ↦ all.loads i u p.1
+    | inr q ↦ ap (λ (v : Taken). v.step) q.1 ∙ fits.0 i (sym q.0)
+  ];
+  writes = λ i u v e e'. elim (member_of_more s t v (2 * i + 1) e') [
+    | inl p ↦ elim (member_of_more s t u (2 * i) e) [
+      | inl p' ↦ all.writes i u v p'.1 p.1
+      | inr q' ↦ absurd (omega (arith, p.0, q'.0))
+    ]
+    | inr q ↦ elim (member_of_more s t u (2 * i) e) [
+      | inl p' ↦ ap (λ (v : Taken). v.step) q.1 ∙ fits.1 i u (sym q.0) p'.1
+      | inr q' ↦ absurd (omega (arith, q.0, q'.0))
+    ]
+  ];
+}
+
+pub steps-more : (w : ℕ) (call : Call) (s : List Taken) (t : Taken) → AreStepsOf w call s
+    → FitsNext w call s t.step → AreStepsOf w call (s ++ t ∷ [])
+steps-more w (Insert h) s t all fits =
+    each-more s t (λ i t. t.step ≡ or_at (place (64 * w) h i)) all fits
+steps-more w (Contains h) s t all fits =
+    each-more s t (λ i t. t.step ≡ load_at (place (64 * w) h i)) all fits
+steps-more w Clear s t all fits = each-more s t (λ i t. t.step ≡ Zero i) all fits
+steps-more w Union s t all fits = pairs-more Or s t all fits
+steps-more w Intersect s t all fits = pairs-more And s t all fits
+
+-- the call goes on after a step at which it doesn't end
+abbrev pub KeepsOnAt : ℕ → Call → List Taken → Taken → Type 0
+KeepsOnAt w (Contains h) s t = bit_is_on t.found (place (64 * w) h (length s)) ≡ true
+KeepsOnAt w _ s t = Unit {0}
+
+keeps_on-more : (w : ℕ) (call : Call) (s : List Taken) (t : Taken) → KeepsOn w call s
+    → KeepsOnAt w call s t → KeepsOn w call (s ++ t ∷ [])
+keeps_on-more w (Insert h) s t all on = tt
+keeps_on-more w (Contains h) s t all on =
+    each-more s t (λ i t. bit_is_on t.found (place (64 * w) h i) ≡ true) all on
+keeps_on-more w Clear s t all on = tt
+keeps_on-more w Union s t all on = tt
+keeps_on-more w Intersect s t all on = tt
+
+pub goes_on-more : (w k : ℕ) (call : Call) (s : List Taken) (t : Taken) → GoesOn w k call s
+    → FitsNext w call s t.step → t.ended ≡ Running → length s + 1 < most_steps w k call
+    → KeepsOnAt w call s t → GoesOn w k call (s ++ t ∷ [])
+goes_on-more w k call s t g fits running room on = record {
+  room = subst (λ n. n < most_steps w k call) (sym (length-more s t)) room;
+  steps = steps-more w call s t g.steps fits;
+  keeps_on = keeps_on-more w call s t g.keeps_on on;
+  running = each-more s t (λ i t. t.ended ≡ Running) g.running running;
+}
+
+-- it ends at a step
+abbrev pub EndsNext : ℕ → ℕ → Call → List Taken → Taken → Type 0
+EndsNext w k (Insert h) s t = (length s + 1 ≡ k) × IsLastEnd w (Insert h) (s ++ t ∷ []) t.ended
+EndsNext w k (Contains h) s t =
+    ((bit_is_on t.found (place (64 * w) h (length s)) ≡ false) ⊎ (length s + 1 ≡ k))
+    × (t.ended ≡ Answer (bit_is_on t.found (place (64 * w) h (length s))))
+EndsNext w k Clear s t = (length s + 1 ≡ w) × (t.ended ≡ Done)
+EndsNext w k Union s t = (length s + 1 ≡ 2 * w) × (t.ended ≡ Done)
+EndsNext w k Intersect s t = (length s + 1 ≡ 2 * w) × (t.ended ≡ Done)
+
+count-more : (w k : ℕ) (call : Call) (s : List Taken) (t : Taken) → length s < most_steps w k call
+    → EndsNext w k call s t → HasCount w k call (length (s ++ t ∷ []))
+count-more w k (Insert h) s t room e = length-more s t ∙ e.0
+count-more w k (Contains h) s t room e =
+    let l = length-more s t in (omega (arith, l), omega (arith, l))
+count-more w k Clear s t room e = length-more s t ∙ e.0
+count-more w k Union s t room e = length-more s t ∙ e.0
+count-more w k Intersect s t room e = length-more s t ∙ e.0
+
+stops-more : (w k : ℕ) (call : Call) (s : List Taken) (t : Taken) → KeepsOn w call s
+    → EndsNext w k call s t → StopsRight w k call (s ++ t ∷ [])
+stops-more w k (Insert h) s t on e = tt
+stops-more w k (Contains h) s t on e =
+    let l = length-more s t in
+    record {
+      earlier =
+          λ i u g short.
+          elim (member_of_more s t u i g) [
+            | inl p ↦ on i u p.1
+            | inr q ↦ absurd (omega (arith, l, q.0))
+          ];
+      early = λ i u g last more. elim (member_of_more s t u i g) [
+        | inl p ↦ absurd (omega (arith, l, p.0))
+        | inr q ↦ elim e.0 [
+          | inl off ↦
+              subst (λ j. bit_is_on u.found (place (64 * w) h j) ≡ false) (sym q.0)
+              (subst (λ (v : Taken). bit_is_on v.found (place (64 * w) h (length s)) ≡ false)
+              (sym q.1) off)
+          | inr all ↦ absurd (omega (arith, l, q.0, all))
+        ]
+      ];
+    }
+stops-more w k Clear s t on e = tt
+stops-more w k Union s t on e = tt
+stops-more w k Intersect s t on e = tt
+
+last-more : (w k : ℕ) (call : Call) (s : List Taken) (t : Taken) → EndsNext w k call s t
+    → IsLastEnd w call (s ++ t ∷ []) t.ended
+last-more w k (Insert h) s t e = e.1
+last-more w k (Contains h) s t e = λ i u g last.
+    let l = length-more s t in
+    elim (member_of_more s t u i g) [
+      | inl p ↦ absurd (omega (arith, l, p.0))
+      | inr q ↦
+          e.1
+          ∙ subst
+          (λ j. Answer (bit_is_on t.found (place (64 * w) h (length s))) ≡ Answer
+          (bit_is_on u.found (place (64 * w) h j)))
+          (sym q.0)
+          (ap (λ (v : Taken). Answer (bit_is_on v.found (place (64 * w) h (length s)))) (sym q.1))
+    ]
+last-more w k Clear s t e = e.1
+last-more w k Union s t e = e.1
+last-more w k Intersect s t e = e.1
+
+pub script-more : (w k : ℕ) (call : Call) (s : List Taken) (t : Taken) → GoesOn w k call s
+    → FitsNext w call s t.step → EndsNext w k call s t → IsScript w k call (s ++ t ∷ [])
+script-more w k call s t g fits ends =
+    let l = length-more s t in
+    record {
+      count = count-more w k call s t g.room ends;
+      steps = steps-more w call s t g.steps fits;
+      stops = stops-more w k call s t g.keeps_on ends;
+      running =
+          λ i u e short.
+          elim (member_of_more s t u i e) [
+            | inl p ↦ g.running i u p.1
+            | inr q ↦ absurd (omega (arith, l, q.0))
+          ];
+      last = λ i u e last. elim (member_of_more s t u i e) [
+        | inl p ↦ absurd (omega (arith, l, p.0))
+        | inr q ↦
+            subst (λ (v : Taken). IsLastEnd w call (s ++ t ∷ []) v.ended) (sym q.1)
+            (last-more w k call s t ends)
+      ];
+    }

@@ -1,0 +1,201 @@
+-- How a machine that was replied stands one step further on.
+use Rattle.std.proofs.Common.{[], ◌&&◌, ◌*◌, ◌++◌, ◌+◌, ◌<◌, ◌||◌, ◌↔◌, ◌∙◌, ◌∷◌, ◌≡◌, ◌≢◌, ◌⊎◌, Bool, List, None, Some, ap, arith, eq-eqb, false, if◌then◌else◌, inl, inr, length, nat_eq, not, refl, subst, sym, true, ℕ}
+use Rattle.std.proofs.lemmas.Bool.{both_ways, eqb-true}
+use Rattle.bloom_parts.specs.Content.{bit_is_on}
+use Rattle.bloom_parts.specs.Places.{place}
+use Rattle.bloom_steps.specs.declared.steps.vocabulary.Call.{Call}
+use Rattle.bloom_steps.specs.declared.steps.vocabulary.Call.TheVariants.{Clear, Contains, Insert, Intersect, Union}
+use Rattle.bloom_steps.specs.declared.steps.vocabulary.End.TheVariants.{Answer, Running}
+use Rattle.bloom_steps.specs.declared.steps.vocabulary.Step.{Step}
+use Rattle.bloom_steps.specs.declared.steps.machine.Machine.{Machine}
+use Rattle.bloom_steps.specs.Machines.{HoldsOther, IsAtPlace, IsPlaced, Keeps, StandsAt, answer_by, asks, end_by, end_of}
+use Rattle.bloom_steps.specs.Scripts.{Any, Taken, answer_of, answer_of_end, most_steps}
+use Rattle.bloom_steps.specs.Turns.{Advances, MovesOn, Replied}
+use Rattle.bloom_steps.proofs.StepLemmas.Asking.{fits_asked}
+use Rattle.bloom_steps.proofs.StepLemmas.Growing.{EndsNext, KeepsOnAt, goes_on-more, length-more, script-more}
+use Rattle.bloom_steps.proofs.StepLemmas.Members.{member-front, member-seam, member_of_more}
+use Rattle.bloom_steps.proofs.StepLemmas.Whole.{answer_of-last}
+
+any_front : (s : List Taken) (t : Taken) (P : ℕ → Taken → Type 0) → Any s P → Any (s ++ t ∷ []) P
+any_front s t P a = (a.0, a.1, member-front s (t ∷ []) a.1 a.0 a.2, a.3)
+
+any_last : (s : List Taken) (t : Taken) (P : ℕ → Taken → Type 0) → P (length s) t
+    → Any (s ++ t ∷ []) P
+any_last s t P here = (length s, t, member-seam s [] t, here)
+
+any_split : (s : List Taken) (t : Taken) (P : ℕ → Taken → Type 0) → Any (s ++ t ∷ []) P
+    → Any s P ⊎ P (length s) t
+any_split s t P a =
+    elim (member_of_more s t a.1 a.0 a.2) [
+      | inl p ↦ inl (a.0, a.1, p.1, a.3)
+      | inr q ↦ inr (subst (λ j. P j t) q.0 (subst (λ u. P a.0 u) q.1 a.3))
+    ]
+
+-- whether all bits were on, after one more
+all_on-more : (s : List Taken) (t : Taken) (f : ℕ → Taken → Bool) (before after : Bool)
+    → ((before ≡ false) ↔ Any s (λ i t. f i t ≡ false)) → after ≡ (before && f (length s) t)
+    → (after ≡ false) ↔ Any (s ++ t ∷ []) (λ i t. f i t ≡ false)
+all_on-more s t f before after is e = go before (f (length s) t) refl refl
+  where
+    P : ℕ → Taken → Type 0
+    P i u = f i u ≡ false
+
+    go : (a b : Bool) → before ≡ a → f (length s) t ≡ b
+        → (after ≡ false) ↔ Any (s ++ t ∷ []) (λ i t. f i t ≡ false)
+    go false b was here = (
+      (λ _. any_front s t (λ i t. f i t ≡ false) (is.0 was)),
+      (λ _. e ∙ ap (λ x. x && f (length s) t) was),
+    )
+    go true true was here =
+        let on : after ≡ true = e ∙ ap (λ x. x && f (length s) t) was ∙ here in (
+          (λ off. absurd (both_ways after off on)),
+          (λ a. elim (any_split s t (λ i t. f i t ≡ false) a) [
+            | inl earlier ↦ absurd (both_ways before (is.1 earlier) was)
+            | inr last ↦ absurd (both_ways (f (length s) t) last here)
+          ]),
+        )
+    go true false was here = (
+      (λ _. any_last s t (λ i t. f i t ≡ false) here),
+      (λ _. e ∙ ap (λ x. x && f (length s) t) was ∙ here),
+    )
+
+holds_other-more : (n : Machine) (s : List Taken) (t : Taken) → n.other ≡ t.found
+    → HoldsOther n (s ++ t ∷ [])
+holds_other-more n s t e i u l g =
+    let more = length-more s t in
+    elim (member_of_more s t u (2 * i) g) [
+      | inl p ↦ absurd (omega (arith, more, l, p.0))
+      | inr q ↦ e ∙ ap (λ (v : Taken). v.found) (sym q.1)
+    ]
+
+not_yet : (a b : ℕ) → nat_eq a b ≡ false → a ≢ b
+not_yet a b off e = let on : nat_eq a b ≡ true = eq-eqb a b e in cc
+
+answer_of-more : (s : List Taken) (t : Taken) → answer_of (s ++ t ∷ []) ≡ answer_of_end t.ended
+answer_of-more s t =
+    let longer = length-more s t in
+    answer_of-last (s ++ t ∷ []) (length s) t (member-seam s [] t) (sym longer)
+
+answer-end_of : (call : Call) (ended on : Bool)
+    → answer_of_end
+    (if ended then end_by
+    (answer_by call on) else Running) ≡ (if ended then answer_by call on else None)
+answer-end_of call false on = refl
+answer-end_of (Insert h) true on = refl
+answer-end_of (Contains h) true on = refl
+answer-end_of Clear true on = refl
+answer-end_of Union true on = refl
+answer-end_of Intersect true on = refl
+
+-- a machine and the same after a reply
+module _ (m n : Machine) (w k : ℕ) where
+  placed-more : (call : Call) (s : List Taken) (t : Taken) → StandsAt m w k call s
+      → MovesOn call m n
+      → IsPlaced w call n (length (s ++ t ∷ []))
+  placed-more (Insert h) s t st on =
+      subst (λ i. IsAtPlace w h i n) (sym (length-more s t)) (on w (length s) st.words st.placed)
+  placed-more (Contains h) s t st on =
+      subst (λ i. IsAtPlace w h i n) (sym (length-more s t)) (on w (length s) st.words st.placed)
+  placed-more Clear s t st on = tt
+  placed-more Union s t st on = tt
+  placed-more Intersect s t st on = tt
+
+  keeps-more : (call : Call) (s : List Taken) (t : Taken) → StandsAt m w k call s
+      → Advances call m t.found n
+      → Keeps w call n (s ++ t ∷ [])
+  keeps-more (Insert h) s t st a =
+      all_on-more s t (λ i t. bit_is_on t.found (place (64 * w) h i)) m.all_on n.all_on st.keeps
+      (a.0 ∙ ap (λ p. m.all_on && bit_is_on t.found p) st.placed.here)
+  keeps-more (Contains h) s t st a = tt
+  keeps-more Clear s t st a = tt
+  keeps-more Union s t st a = holds_other-more n s t a.0
+  keeps-more Intersect s t st a = holds_other-more n s t a.0
+
+  -- where the call goes on there is room for a further step, and no reason to stop
+  goes_on : (call : Call) (s : List Taken) (t : Taken) → StandsAt m w k call s
+      → Advances call m t.found n
+      → n.ended ≡ false → length s < most_steps w k call
+      → (length s + 1 < most_steps w k call) × KeepsOnAt w call s t
+  goes_on (Insert h) s t st a going room =
+      let not_last = not_yet _ _ (sym a.1 ∙ going) in
+      let turns = st.turns in let hashes = st.hashes in (omega arith, tt)
+  goes_on (Contains h) s t st a going room =
+      go (bit_is_on t.found m.place) (nat_eq (m.turn + 1) m.num_hashes) refl refl (sym a.1 ∙ going)
+    where
+      go : (on last : Bool) → bit_is_on t.found m.place ≡ on
+          → nat_eq (m.turn + 1) m.num_hashes ≡ last
+          → (not on || last) ≡ false
+          → (length s + 1 < k) × (bit_is_on t.found (place (64 * w) h (length s)) ≡ true)
+      go false last is at e = absurd (both_ways true e refl)
+      go true true is at e = absurd (both_ways true e refl)
+      go true false is at e =
+          let not_last = not_yet _ _ at in
+          let turns = st.turns in let hashes = st.hashes in
+          (omega arith, ap (λ p. bit_is_on t.found p) (sym st.placed.here) ∙ is)
+  goes_on Clear s t st a going room =
+      let not_last = not_yet _ _ (sym a ∙ going) in
+      let turns = st.turns in let words = st.words in (omega arith, tt)
+  goes_on Union s t st a going room =
+      let not_last = not_yet _ _ (sym a.1 ∙ going) in
+      let turns = st.turns in let words = st.words in (omega arith, tt)
+  goes_on Intersect s t st a going room =
+      let not_last = not_yet _ _ (sym a.1 ∙ going) in
+      let turns = st.turns in let words = st.words in (omega arith, tt)
+
+  -- where it ends, it ends as its script does
+  ends : (call : Call) (s : List Taken) (t : Taken) → StandsAt m w k call s
+      → Advances call m t.found n
+      → n.ended ≡ true → t.ended ≡ end_by (answer_by call n.all_on) → EndsNext w k call s t
+  ends (Insert h) s t st a over last =
+      let at_last = eqb-true _ _ (sym a.1 ∙ over) in
+      let turns = st.turns in let hashes = st.hashes in
+      (omega arith, (n.all_on, last, keeps-more (Insert h) s t st a))
+  ends (Contains h) s t st a over last = (
+    go (bit_is_on t.found m.place) refl (sym a.1 ∙ over),
+    last ∙ ap Answer a.0 ∙ ap (λ p. Answer (bit_is_on t.found p)) st.placed.here,
+  )
+    where
+      go : (on : Bool) → bit_is_on t.found m.place ≡ on
+          → (not on || nat_eq (m.turn + 1) m.num_hashes) ≡ true
+          → (bit_is_on t.found (place (64 * w) h (length s)) ≡ false) ⊎ (length s + 1 ≡ k)
+      go true is e =
+          let at_last = eqb-true _ _ e in
+          let turns = st.turns in let hashes = st.hashes in inr (omega arith)
+      go false is e = inl (ap (λ p. bit_is_on t.found p) (sym st.placed.here) ∙ is)
+  ends Clear s t st a over last =
+      let at_last = eqb-true _ _ (sym a ∙ over) in
+      let turns = st.turns in let words = st.words in (omega arith, last)
+  ends Union s t st a over last =
+      let at_last = eqb-true _ _ (sym a.1 ∙ over) in
+      let turns = st.turns in let words = st.words in (omega arith, last)
+  ends Intersect s t st a over last =
+      let at_last = eqb-true _ _ (sym a.1 ∙ over) in
+      let turns = st.turns in let words = st.words in (omega arith, last)
+
+  -- a machine that was replied stands one step further on
+  pub stands-more : (found : ℕ) (call : Call) (s : List Taken) (step : Step) → asks m ≡ Some step
+      → Replied m found n → StandsAt m w k call s
+      → StandsAt n w k call (s ++ record { step = step; found = found; ended = end_of n } ∷ [])
+  stands-more found call s step asked r st =
+      let fits = fits_asked m w k call s step st asked in
+      let so_far = st.goes_on fits.0 in
+      let t : Taken = record { step = step; found = found; ended = end_of n } in
+      let advances = subst (λ c. Advances c m found n) st.is_call r.advances in
+      let same : n.call ≡ call = r.same_call ∙ st.is_call in
+      record {
+        is_call = same;
+        words = r.same_words ∙ st.words;
+        hashes = r.same_hashes ∙ st.hashes;
+        turns = r.turned ∙ ap (λ x. x + 1) st.turns ∙ sym (length-more s t);
+        placed = placed-more call s t st (subst (λ c. MovesOn c m n) st.is_call r.moves_on);
+        keeps = keeps-more call s t st advances;
+        goes_on = λ going.
+            let on = goes_on call s t st advances going so_far.room in
+            let runs = ap (λ b. if b then end_by (answer_by n.call n.all_on) else Running) going in
+            goes_on-more w k call s t so_far fits.1 runs on.0 on.1;
+        whole = λ over.
+            let ended = ap (λ b. if b then end_by (answer_by n.call n.all_on) else Running) over in
+            script-more w k call s t so_far fits.1
+            (ends call s t st advances over (ended ∙ ap (λ c. end_by (answer_by c n.all_on)) same));
+        said = answer_of-more s t ∙ answer-end_of n.call n.ended n.all_on;
+      }

@@ -1,0 +1,90 @@
+-- What every interleaving of word steps gives, said of the finished course of a run. The theorems
+-- are this project's own.
+use Rattle.std.specs.Prelude.{ℕ, zero, suc, ◌+◌, ◌/◌, ◌≤◌, ◌<◌, ◌≡◌, ◌↔◌, ◌⊎◌, ◌&&◌, ◌==◌, Bool, true, false, not, Some, slice_get, bit_and, count_by, if◌then◌else◌}
+use Rattle.bloom_parts.specs.Content.{bit_is_on, content}
+use Rattle.bloom_parts.specs.Places.{are_in, IsPosition}
+use Rattle.bloom_steps.specs.declared.steps.vocabulary.Step.TheVariants.{Or, Other}
+use Rattle.bloom_steps.specs.declared.steps.vocabulary.Call.TheVariants.{Insert, Contains, Clear, Union, Intersect}
+use Rattle.bloom_steps.specs.declared.steps.vocabulary.End.{End}
+use Rattle.bloom_steps.specs.declared.steps.vocabulary.End.TheVariants.{Answer}
+use Rattle.bloom_steps.specs.declared.steps.vocabulary.Record.{Record}
+use Rattle.bloom_steps.specs.declared.steps.vocabulary.Record.TheVariants.{Began, Did}
+use Rattle.bloom_steps.specs.Traces.{Course}
+use Rattle.bloom_steps.specs.Moments.{bits_of, moment, IsStepAt, IsFinished, IsInSpan, turns_on, IsUndisturbed, NoneTurnedOff, NoCall, EveryCallEnded}
+
+-- some insert of the run has the position
+abbrev pub IsInserted : ℕ → Course → ℕ → Type 0
+IsInserted k run p =
+    (m party hash : ℕ) × (slice_get run.records m ≡ Some (Began party (Insert hash)))
+    × IsPosition (bits_of run) k hash p
+
+-- some step that read the other filter found the position on
+abbrev pub IsFoundInOther : Course → ℕ → Type 0
+IsFoundInOther run p =
+    (m party found : ℕ) × (e : End)
+    × (slice_get run.records m ≡ Some (Did party (Other (p / 64)) found e))
+    × (bit_is_on found p ≡ true)
+
+-- growing runs: where nothing makes a position off, the end does not depend on the order
+abbrev pub EndsWithAll : ℕ → Course → Type 0
+EndsWithAll k run =
+    NoCall run.records Clear → NoCall run.records Intersect → EveryCallEnded run.records
+    → (p : ℕ) → (content run.words p ≡ true)
+    ↔ ((content run.start p ≡ true) ⊎ (IsInserted k run p ⊎ IsFoundInOther run p))
+
+-- a step of a party, after one record and up to another, turned a position on
+pub record TurnsOneOn (run : Course) (party began last : ℕ) : Type 0 where
+  pub m : ℕ
+  pub p : ℕ
+  pub ended : End
+  pub later : began < m
+  pub upto : m ≤ last
+  pub own : IsStepAt run.records m party ended
+  pub on : turns_on run m p ≡ true
+
+-- an insert answers for its own steps: false exactly if one of them turned a position on
+abbrev pub InsertsTell : Course → Type 0
+InsertsTell run =
+    (party hash began last : ℕ) (answer : Bool)
+    → IsFinished run party (Insert hash) began last (Answer answer)
+    → (answer ≡ false) ↔ TurnsOneOn run party began last
+
+-- at a moment of its span a look-up is the subset test if undisturbed; false is right anyway
+pub record IsRightAt (k : ℕ) (run : Course) (hash began last m : ℕ) (answer : Bool) : Type 0 where
+  pub within : IsInSpan began last m
+  pub undisturbed : IsUndisturbed k run hash began last
+      → answer ≡ are_in (bits_of run) k hash (moment run m)
+  pub off : answer ≡ false → are_in (bits_of run) k hash (moment run m) ≡ false
+
+-- a look-up is right at one moment, that of its last load
+abbrev pub ContainsTell : ℕ → Course → Type 0
+ContainsTell k run =
+    (party hash began last : ℕ) (answer : Bool)
+    → IsFinished run party (Contains hash) began last (Answer answer)
+    → IsRightAt k run hash began last last answer
+
+-- a finished insert is found, where no record since its beginning turned one of its positions off
+abbrev pub FindsInserted : ℕ → Course → Type 0
+FindsInserted k run =
+    (hash inserter first done : ℕ) (ended : End)
+    → IsFinished run inserter (Insert hash) first done ended
+    → (party began last : ℕ) (answer : Bool)
+    → IsFinished run party (Contains hash) began last (Answer answer)
+    → done < began → NoneTurnedOff k run hash first last → answer ≡ true
+
+-- how many numbers below a bound pass a test
+abbrev pub count_below : ℕ → (ℕ → Bool) → ℕ
+count_below zero test = 0
+count_below (suc n) test = if test n then count_below n test + 1 else count_below n test
+
+-- whether a record is a step that turns bits on and found none of them on
+abbrev pub found_off : Record → Bool
+found_off (Did party (Or i mask) found ended) = bit_and found mask == 0
+found_off _ = false
+
+-- each position is turned on once: as many steps found their bit off as positions were gained
+abbrev pub CountsGains : Course → Type 0
+CountsGains run =
+    NoCall run.records Clear → NoCall run.records Union → NoCall run.records Intersect
+    → count_by found_off run.records ≡ count_below (bits_of run)
+    (λ p. content run.words p && not (content run.start p))

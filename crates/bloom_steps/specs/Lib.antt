@@ -1,0 +1,10 @@
+pub mod Interleavings
+pub mod Machines
+pub mod Memories
+pub mod Moments
+pub mod Scripts
+pub mod Sequences
+pub mod Steps
+pub mod Traces
+pub mod Turns
+pub mod Worlds

@@ -1,0 +1,52 @@
+-- What a step finds and does over words in memory: the table of steps, this project's choice.
+use Rattle.std.specs.Prelude.{◌≡◌, ◌<◌, ℕ, Bool, List, length, map, slice_index, slice_set, bit_and, bit_or}
+use Rattle.bloom_parts.specs.Content.{content}
+use Rattle.bloom_parts.specs.Deciders.{state}
+use Rattle.bloom_steps.specs.declared.steps.vocabulary.Step.{Step}
+use Rattle.bloom_steps.specs.declared.steps.vocabulary.Step.TheVariants.{Load, Or, And, Zero, Other}
+use Rattle.bloom_steps.specs.Steps.{word_of, step_decides}
+use Rattle.bloom_steps.specs.Scripts.{Taken, Linked}
+
+-- the words of a filter, and those of the other
+pub record Memory : Type 0 where
+  pub words : List ℕ
+  pub other : List ℕ
+
+-- the word that a step finds, where the other filter's word is given
+abbrev pub found_in : List ℕ → ℕ → Step → ℕ
+found_in words given (Load i) = slice_index words i
+found_in words given (Or i mask) = slice_index words i
+found_in words given (And i mask) = slice_index words i
+found_in words given (Zero i) = 0
+found_in words given (Other i) = given
+
+-- the words after a step
+abbrev pub words_after : List ℕ → Step → List ℕ
+words_after words (Load i) = words
+words_after words (Or i mask) = slice_set words i (bit_or (slice_index words i) mask)
+words_after words (And i mask) = slice_set words i (bit_and (slice_index words i) mask)
+words_after words (Zero i) = slice_set words i 0
+words_after words (Other i) = words
+
+-- from a memory to a memory by one step, as the table says
+pub record Moves (before : Memory) (step : Step) (found : ℕ) (after : Memory) : Type 0 where
+  pub within : word_of step < length before.words
+  pub finds : found ≡ found_in before.words (slice_index before.other (word_of step)) step
+  pub writes : after.words ≡ words_after before.words step
+  pub kept : after.other ≡ before.other
+
+-- the set after steps
+abbrev pub after_steps : (ℕ → Bool) → List Taken → ℕ → Bool
+after_steps A taken = state A (map (λ (t : Taken). step_decides t.step) taken)
+
+-- what steps in memory do, one after the other: the last that decides a position makes it
+pub record Makes (before : Memory) (taken : List Taken) (after : Memory) : Type 0 where
+  pub set : (p : ℕ) → content after.words p ≡ after_steps (content before.words) taken p
+  pub count : length after.words ≡ length before.words
+  pub other_stays : after.other ≡ before.other
+
+-- steps in memory that are linked make what the last of them says
+abbrev pub MemoryLaw : Type 0
+MemoryLaw =
+    (before after : Memory)
+    (taken : List Taken) → Linked Moves before taken after → Makes before taken after

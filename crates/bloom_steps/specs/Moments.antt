@@ -1,0 +1,72 @@
+-- Moments of a run, the spans of its calls, and what a record turns on and off. All of this is said
+-- of the finished course, and is this project's own.
+use Rattle.std.specs.Prelude.{ℕ, ◌+◌, ◌*◌, ◌≤◌, ◌<◌, ◌≡◌, ◌≢◌, ◌&&◌, Bool, true, false, not, List, length, Some, slice_get, take}
+use Rattle.bloom_parts.specs.Content.{content}
+use Rattle.bloom_parts.specs.Places.{IsPosition}
+use Rattle.bloom_steps.specs.declared.steps.vocabulary.Step.{Step}
+use Rattle.bloom_steps.specs.declared.steps.vocabulary.Call.{Call}
+use Rattle.bloom_steps.specs.declared.steps.vocabulary.End.{End}
+use Rattle.bloom_steps.specs.declared.steps.vocabulary.End.TheVariants.{Running}
+use Rattle.bloom_steps.specs.declared.steps.vocabulary.Record.{Record}
+use Rattle.bloom_steps.specs.declared.steps.vocabulary.Record.TheVariants.{Began, Did}
+use Rattle.bloom_steps.specs.Steps.{after_records}
+use Rattle.bloom_steps.specs.Traces.{Course, runs}
+
+-- the number of bits, 64 for each word
+abbrev pub bits_of : Course → ℕ
+bits_of run = 64 * length run.start
+
+-- the set at moment m: after the first m records
+abbrev pub moment : Course → ℕ → ℕ → Bool
+moment run m = after_records (content run.start) (take m run.records)
+
+-- record m is a step of a party
+abbrev pub IsStepAt : List Record → ℕ → ℕ → End → Type 0
+IsStepAt records m party ended =
+    (step : Step) × (found : ℕ) × (slice_get records m ≡ Some (Did party step found ended))
+
+-- a finished call: its beginning and its last step are these records, and between them it runs on
+pub record IsFinished
+    (run : Course) (party : ℕ) (call : Call) (began last : ℕ) (ended : End) : Type 0 where
+  pub begins : slice_get run.records began ≡ Some (Began party call)
+  pub order : began < last
+  pub ends : IsStepAt run.records last party ended
+  pub over : ended ≢ Running
+  pub no_other : (m : ℕ) (other : Call) → began < m → m < last
+      → slice_get run.records m ≢ Some (Began party other)
+  pub still : (m : ℕ) (e : End) → began < m → m < last → IsStepAt run.records m party e
+      → e ≡ Running
+
+-- a moment of its span: from just after its beginning to just after its last step
+abbrev pub IsInSpan : ℕ → ℕ → ℕ → Type 0
+IsInSpan began last m = (began + 1 ≤ m) × (m ≤ last + 1)
+
+-- whether record m turns a position on: it is off at the moment before, and on at the moment after
+abbrev pub turns_on : Course → ℕ → ℕ → Bool
+turns_on run m p = not (moment run m p) && moment run (m + 1) p
+
+-- whether record m turns a position off
+abbrev pub turns_off : Course → ℕ → ℕ → Bool
+turns_off run m p = moment run m p && not (moment run (m + 1) p)
+
+-- no record from one to another, of any party, turns a position of a hash off
+abbrev pub NoneTurnedOff : ℕ → Course → ℕ → ℕ → ℕ → Type 0
+NoneTurnedOff k run hash first last =
+    (m p : ℕ) → first ≤ m → m ≤ last → IsPosition (bits_of run) k hash p → turns_off run m p ≡ false
+
+-- a finished look-up is undisturbed: no record in its span turns a position of its hash off
+abbrev pub IsUndisturbed : ℕ → Course → ℕ → ℕ → ℕ → Type 0
+IsUndisturbed k run hash began last = NoneTurnedOff k run hash (began + 1) last
+
+-- no call that begins is of this kind
+abbrev pub NoCall : List Record → Call → Type 0
+NoCall records call = (m party : ℕ) → slice_get records m ≢ Some (Began party call)
+
+-- no party runs a call after the last record
+abbrev pub EveryCallEnded : List Record → Type 0
+EveryCallEnded records = (party : ℕ) → runs party records ≡ false
+
+-- at each moment at most one party runs a call
+abbrev pub OneAtATime : List Record → Type 0
+OneAtATime records =
+    (m p q : ℕ) → runs p (take m records) ≡ true → runs q (take m records) ≡ true → p ≡ q

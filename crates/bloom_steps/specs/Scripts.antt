@@ -1,0 +1,132 @@
+-- The scripts of a call: the steps that it makes, whatever words they find. Which steps make up a
+-- call is this project's choice; the places of a hash are those of the crate fastbloom 0.17.0.
+use Rattle.std.specs.Prelude.{ℕ, ◌+◌, ◌*◌, ◌≤◌, ◌<◌, ◌≡◌, ◌↔◌, Bool, true, false, List, [], ◌∷◌, ◌++◌, length, Option, Some, None, slice_get}
+use Rattle.bloom_parts.specs.Content.{bit_is_on}
+use Rattle.bloom_parts.specs.Places.{place}
+use Rattle.bloom_steps.specs.declared.steps.vocabulary.Step.{Step}
+use Rattle.bloom_steps.specs.declared.steps.vocabulary.Step.TheVariants.{Or, And, Zero, Other}
+use Rattle.bloom_steps.specs.declared.steps.vocabulary.Call.{Call}
+use Rattle.bloom_steps.specs.declared.steps.vocabulary.Call.TheVariants.{Insert, Contains, Clear, Union, Intersect}
+use Rattle.bloom_steps.specs.declared.steps.vocabulary.End.{End}
+use Rattle.bloom_steps.specs.declared.steps.vocabulary.End.TheVariants.{Running, Done, Answer}
+use Rattle.bloom_steps.specs.Steps.{or_at, load_at}
+
+-- a step that was taken, with the word that it found and how the call stood after it
+pub record Taken : Type 0 where
+  pub step : Step
+  pub found : ℕ
+  pub ended : End
+
+-- each member of a list, with its index, has a property
+abbrev pub Each : List Taken → (ℕ → Taken → Type 0) → Type 0
+Each s P = (i : ℕ) (t : Taken) → slice_get s i ≡ Some t → P i t
+
+-- some member of a list, with its index, has a property
+abbrev pub Any : List Taken → (ℕ → Taken → Type 0) → Type 0
+Any s P = (i : ℕ) × (t : Taken) × (slice_get s i ≡ Some t) × P i t
+
+-- the hash of a call, or 0 where it has none
+abbrev pub hash_of : Call → ℕ
+hash_of (Insert hash) = hash
+hash_of (Contains hash) = hash
+hash_of _ = 0
+
+-- how many steps a call of w words and k hashes makes, whatever they find
+abbrev pub HasCount : ℕ → ℕ → Call → ℕ → Type 0
+HasCount w k (Insert hash) count = count ≡ k
+HasCount w k (Contains hash) count = (1 ≤ count) × (count ≤ k)
+HasCount w k Clear count = count ≡ w
+HasCount w k Union count = count ≡ 2 * w
+HasCount w k Intersect count = count ≡ 2 * w
+
+-- the most steps that a call makes
+abbrev pub most_steps : ℕ → ℕ → Call → ℕ
+most_steps w k (Insert hash) = k
+most_steps w k (Contains hash) = k
+most_steps w k Clear = w
+most_steps w k Union = 2 * w
+most_steps w k Intersect = 2 * w
+
+-- for each word: a load of the other filter's word, then the operation with what that found
+pub record ArePairs (operation : ℕ → ℕ → Step) (s : List Taken) : Type 0 where
+  pub loads : (i : ℕ) (t : Taken) → slice_get s (2 * i) ≡ Some t → t.step ≡ Other i
+  pub writes : (i : ℕ) (t u : Taken) → slice_get s (2 * i) ≡ Some t
+      → slice_get s (2 * i + 1) ≡ Some u
+      → u.step ≡ operation i t.found
+
+-- which step stands at each index
+abbrev pub AreStepsOf : ℕ → Call → List Taken → Type 0
+AreStepsOf w (Insert hash) s = Each s (λ i t. t.step ≡ or_at (place (64 * w) hash i))
+AreStepsOf w (Contains hash) s = Each s (λ i t. t.step ≡ load_at (place (64 * w) hash i))
+AreStepsOf w Clear s = Each s (λ i t. t.step ≡ Zero i)
+AreStepsOf w Union s = ArePairs Or s
+AreStepsOf w Intersect s = ArePairs And s
+
+-- the steps so far found on the bits that they looked at
+abbrev pub AllFoundOn : ℕ → ℕ → List Taken → Type 0
+AllFoundOn w hash s = Each s (λ i t. bit_is_on t.found (place (64 * w) hash i) ≡ true)
+
+-- a contains ends after the first step that found its bit off, and else after all hashes
+pub record StopsAtFirstOff (w k hash : ℕ) (s : List Taken) : Type 0 where
+  pub earlier : Each s (λ i t. i + 1 < length s → bit_is_on t.found (place (64 * w) hash i) ≡ true)
+  pub early :
+      Each s
+      (λ i t. i + 1 ≡ length s → i + 1 < k → bit_is_on t.found (place (64 * w) hash i) ≡ false)
+
+-- a call stops where it has to: a contains alone looks at what it found
+abbrev pub StopsRight : ℕ → ℕ → Call → List Taken → Type 0
+StopsRight w k (Contains hash) s = StopsAtFirstOff w k hash s
+StopsRight w k _ s = Unit {0}
+
+-- how a call stands after its last step: an insert is false exactly if some step found its bit off
+abbrev pub IsLastEnd : ℕ → Call → List Taken → End → Type 0
+IsLastEnd w (Insert hash) s end = (reply : Bool) × (end ≡ Answer reply)
+    × ((reply ≡ false) ↔ Any s (λ i t. bit_is_on t.found (place (64 * w) hash i) ≡ false))
+IsLastEnd w (Contains hash) s end =
+    Each s (λ i t. i + 1 ≡ length s → end ≡ Answer (bit_is_on t.found (place (64 * w) hash i)))
+IsLastEnd w _ s end = end ≡ Done
+
+-- a script of a call, in w words with k hashes
+pub record IsScript (w k : ℕ) (call : Call) (s : List Taken) : Type 0 where
+  pub count : HasCount w k call (length s)
+  pub steps : AreStepsOf w call s
+  pub stops : StopsRight w k call s
+  pub running : Each s (λ i t. i + 1 < length s → t.ended ≡ Running)
+  pub last : Each s (λ i t. i + 1 ≡ length s → IsLastEnd w call s t.ended)
+
+-- a front of a script, shorter than it
+abbrev pub IsBeginning : ℕ → ℕ → Call → List Taken → Type 0
+IsBeginning w k call s = (t : Taken) × (rest : List Taken) × IsScript w k call (s ++ t ∷ rest)
+
+-- the step with which every script of the call that begins so goes on
+abbrev pub IsNext : ℕ → ℕ → Call → List Taken → Step → Type 0
+IsNext w k call s step =
+    (t : Taken) (rest : List Taken) → IsScript w k call (s ++ t ∷ rest) → t.step ≡ step
+
+-- what the end of a call answers
+abbrev pub answer_of_end : End → Option Bool
+answer_of_end Running = None
+answer_of_end Done = None
+answer_of_end (Answer reply) = Some reply
+
+-- what the last of some steps answers
+abbrev pub answer_of : List Taken → Option Bool
+answer_of [] = None
+answer_of (t ∷ []) = answer_of_end t.ended
+answer_of (t ∷ (u ∷ rest)) = answer_of (u ∷ rest)
+
+-- from a store to a store by steps, each linked to the next
+abbrev pub Linked : {S : Type 0} → (S → Step → ℕ → S → Type 0) → S → List Taken → S → Type 0
+Linked {S} moved before [] after = after ≡ before
+Linked {S} moved before (t ∷ ts) after =
+    (mid : S) × moved before t.step t.found mid × Linked moved mid ts after
+
+-- from a store to a store a whole script of the call was made, and the script's answer given
+pub record Drives
+    {S : Type 0} (moved : S → Step → ℕ → S → Type 0) (w k : ℕ) (call : Call) (before after : S)
+    (reply : Option Bool) : Type 0 where
+  pub taken : List Taken
+  pub script : IsScript w k call taken
+  pub linked : Linked moved before taken after
+  pub count : HasCount w k call (length taken)
+  pub answers : reply ≡ answer_of taken

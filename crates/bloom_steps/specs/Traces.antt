@@ -1,0 +1,135 @@
+-- The course of a run: what was recorded, and when it is lawful and follows its schedule. Each rule
+-- speaks of the finished list of records. They are this project's own.
+use Rattle.std.specs.Prelude.{ℕ, ◌/◌, ◌^◌, ◌<◌, ◌≡◌, ◌⊎◌, ◌==◌, Bool, true, false, List, [], ◌∷◌, ◌++◌, length, Some, slice_get, take, if◌then◌else◌}
+use Rattle.bloom_parts.specs.Content.{AreWords, bit_is_on, content}
+use Rattle.bloom_steps.specs.declared.steps.vocabulary.Step.{Step}
+use Rattle.bloom_steps.specs.declared.steps.vocabulary.Step.TheVariants.{Load, Or, And, Zero, Other}
+use Rattle.bloom_steps.specs.declared.steps.vocabulary.Call.{Call}
+use Rattle.bloom_steps.specs.declared.steps.vocabulary.End.{End}
+use Rattle.bloom_steps.specs.declared.steps.vocabulary.End.TheVariants.{Running, Done, Answer}
+use Rattle.bloom_steps.specs.declared.steps.vocabulary.Event.{Event}
+use Rattle.bloom_steps.specs.declared.steps.vocabulary.Event.TheVariants.{Begin, Go}
+use Rattle.bloom_steps.specs.declared.steps.vocabulary.Record.{Record}
+use Rattle.bloom_steps.specs.declared.steps.vocabulary.Record.TheVariants.{Began, Did}
+use Rattle.bloom_steps.specs.Steps.{after_records}
+use Rattle.bloom_steps.specs.Scripts.{Taken, IsScript, IsBeginning}
+
+-- the words before a run, its records in order, and the words after it
+pub record Course : Type 0 where
+  pub start : List ℕ
+  pub records : List Record
+  pub words : List ℕ
+
+-- a word of 64 bits that has the bits of word i of a set
+pub record IsWordOf (A : ℕ → Bool) (i word : ℕ) : Type 0 where
+  pub fits : word < 2 ^ 64
+  pub bits : (p : ℕ) → p / 64 ≡ i → bit_is_on word p ≡ A p
+
+-- the word that a step may find in a set: another filter's word may be any
+abbrev pub MayFind : (ℕ → Bool) → Step → ℕ → Type 0
+MayFind A (Load i) found = IsWordOf A i found
+MayFind A (Or i mask) found = IsWordOf A i found
+MayFind A (And i mask) found = IsWordOf A i found
+MayFind A (Zero i) found = found ≡ 0
+MayFind A (Other i) found = found < 2 ^ 64
+
+-- each word found has the bits that the last deciders of the records before left
+abbrev pub FindsWhatIsThere : (ℕ → Bool) → List Record → Type 0
+FindsWhatIsThere A records =
+    (m party : ℕ) (step : Step) (found : ℕ) (ended : End)
+    → slice_get records m ≡ Some (Did party step found ended)
+    → MayFind (after_records A (take m records)) step found
+
+-- the party of a record
+abbrev pub party_of : Record → ℕ
+party_of (Began party call) = party
+party_of (Did party step found ended) = party
+
+-- the records of one party, in order
+unfoldable pub records_of : ℕ → List Record → List Record
+records_of party [] = []
+records_of party (r ∷ rs) =
+    if party_of r == party then r ∷ records_of party rs else records_of party rs
+
+-- the records of a party that made these steps
+abbrev pub did : ℕ → List Taken → List Record
+did party [] = []
+did party (t ∷ ts) = Did party t.step t.found t.ended ∷ did party ts
+
+-- call after call, each a whole script, the last perhaps a beginning
+pub data CallAfterCall (w k party : ℕ) : List Record → Type 0 where
+  no_call : CallAfterCall w k party []
+  begun_call : (call : Call) (s : List Taken) → IsBeginning w k call s
+      → CallAfterCall w k party (Began party call ∷ did party s)
+  whole_call : (call : Call) (s : List Taken) (later : List Record) → IsScript w k call s
+      → CallAfterCall w k party later
+      → CallAfterCall w k party (Began party call ∷ (did party s ++ later))
+
+-- a lawful course, of k hashes
+pub record IsLawful (k : ℕ) (run : Course) : Type 0 where
+  pub finds : FindsWhatIsThere (content run.start) run.records
+  pub calls : (party : ℕ) → CallAfterCall (length run.start) k party (records_of party run.records)
+  pub count : length run.words ≡ length run.start
+  pub bits : (p : ℕ) → content run.words p ≡ after_records (content run.start) run.records p
+  pub fit : AreWords run.words
+
+-- whether a record leaves its party's call running
+abbrev pub leaves_running : Record → Bool
+leaves_running (Began party call) = true
+leaves_running (Did party step found Running) = true
+leaves_running (Did party step found Done) = false
+leaves_running (Did party step found (Answer reply)) = false
+
+-- whether the last of some records leaves a call running
+abbrev pub last_leaves_running : List Record → Bool
+last_leaves_running [] = false
+last_leaves_running (r ∷ []) = leaves_running r
+last_leaves_running (r ∷ (s ∷ rest)) = last_leaves_running (s ∷ rest)
+
+-- whether a party runs a call after some records: its newest record there leaves one running
+abbrev pub runs : ℕ → List Record → Bool
+runs party records = last_leaves_running (records_of party records)
+
+-- the beginning of a call is recorded exactly where the party is one of the run's and runs no call
+abbrev pub GivesBeginning : ℕ → List Record → ℕ → Call → List Record → Type 0
+GivesBeginning parties before party call added =
+    ((party < parties) × (runs party before ≡ false) × (added ≡ Began party call ∷ []))
+    ⊎ ((party < parties → runs party before ≡ true) × (added ≡ []))
+
+-- one step of the party, which finds the word given where it reads the other filter
+abbrev pub IsStepOf : ℕ → ℕ → List Record → Type 0
+IsStepOf party given added =
+    (step : Step) × (found : ℕ) × (ended : End) × (added ≡ Did party step found ended ∷ [])
+    × ((i : ℕ) → step ≡ Other i → found ≡ given)
+
+-- a step is recorded exactly where the party runs a call
+abbrev pub GivesStep : List Record → ℕ → ℕ → List Record → Type 0
+GivesStep before party given added =
+    ((runs party before ≡ true) × IsStepOf party given added)
+    ⊎ ((runs party before ≡ false) × (added ≡ []))
+
+-- what an event adds to the records before it
+abbrev pub Gives : ℕ → List Record → Event → List Record → Type 0
+Gives parties before (Begin party call) added = GivesBeginning parties before party call added
+Gives parties before (Go party given) added = GivesStep before party given added
+
+-- the records of events in order, after the records before
+pub data FollowsFrom (parties : ℕ) : List Record → List Event → List Record → Type 0 where
+  no_event : (before : List Record) → FollowsFrom parties before [] []
+  next_event :
+      (before : List Record) (event : Event) (events : List Event) (added later : List Record)
+      → Gives parties before event added → FollowsFrom parties (before ++ added) events later
+      → FollowsFrom parties before (event ∷ events) (added ++ later)
+
+-- a course that follows a schedule from given words
+pub record Follows
+    (parties : ℕ) (words : List ℕ) (schedule : List Event) (run : Course) : Type 0 where
+  pub begins : run.start ≡ words
+  pub events : FollowsFrom parties [] schedule run.records
+
+-- at most one course is lawful and follows a given schedule
+abbrev pub AtMostOne : Type 0
+AtMostOne =
+    (parties k : ℕ) (words : List ℕ) (schedule : List Event) (one other : Course)
+    → IsLawful k one → Follows parties words schedule one
+    → IsLawful k other → Follows parties words schedule other → one ≡ other

@@ -1,0 +1,9 @@
+//! Calls on a filter as steps on single words: what they ask, find and answer, in any order.
+#![tactic(auto)]
+
+pub mod laws;
+mod steps;
+
+pub use steps::{
+    Call, End, Event, Machine, MemoryStore, Record, Step, Trace, WordStore, drive, run,
+};

@@ -1,6 +1,0 @@
-use Rattle.fastbloom.proofs.StepLemmas.Asking.{asks_after}
-use Rattle.fastbloom.proofs.steps.machine.Machine.ask.Goals as goal
-
-pub returns-clause-next : goal.returns-clause-next
-returns-clause-next c = λ w k call steps stands.
-    asks_after c.args.self.now w k call steps _ c.asked.ensures.value c.asked.ensures.within stands

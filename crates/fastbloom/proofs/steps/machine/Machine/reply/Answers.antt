@@ -1,6 +1,0 @@
-use Rattle.fastbloom.proofs.StepLemmas.Replying.{stands-more}
-use Rattle.fastbloom.proofs.steps.machine.Machine.reply.Goals as goal
-
-pub returns-clause-next : goal.returns-clause-next
-returns-clause-next c = λ w k call steps step asked stands.
-    stands-more c.args.self.now _ w k _ call steps step asked c.advance.ensures.fields stands
