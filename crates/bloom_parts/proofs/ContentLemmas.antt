@@ -1,9 +1,10 @@
 -- What word operations do to positions.
-use Rattle.std.proofs.Common.{◌≡◌, ℕ, zero, suc, ◌+◌, ◌*◌, ◌^◌, ◌/◌, ◌%◌, ◌<◌, max, Bool, true, false, ◌||◌, if◌then◌else◌, eqb, ltb, bit_and, bit_or, List, length, get_or, set, refl, sym, ◌∙◌, ap, arith, inl, inr}
+use Rattle.std.proofs.Common.{◌≡◌, ℕ, zero, suc, ◌+◌, ◌*◌, ◌^◌, ◌/◌, ◌%◌, ◌<◌, max, min, Bool, true, false, ◌||◌, ◌&&◌, if◌then◌else◌, eqb, ltb, bit_and, bit_or, List, length, get_or, set, refl, sym, ◌∙◌, ap, arith, inl, inr}
 use Rattle.std.specs.Int.{bit_at}
 use Rattle.std.specs.Int.Bits.{bit_xor}
-use Rattle.std.proofs.lemmas.Nat.Bits.{and_pow, bit_at-lt, bit_at-zero, bit_at_or, bit_at_xor, bit_at-pow_same, bit_at-pow_other, same_from_bits}
+use Rattle.std.proofs.lemmas.Nat.Bits.{and_pow, bit_at-lt, bit_at-zero, bit_at_and, bit_at_or, bit_at_xor, bit_at-pow_same, bit_at-pow_other, same_from_bits}
 use Rattle.std.proofs.lemmas.Nat.{pow_pos}
+use Rattle.std.proofs.Math.Bool.{or-false}
 use Rattle.std.proofs.lemmas.Bool.{cases_eq, eq-eqb, ne_eqb}
 use Rattle.std.proofs.lemmas.List.{get_or-set_same, get_or-set_other}
 use Rattle.std.proofs.lemmas.Grind.{common_steps}
@@ -34,6 +35,22 @@ max-digits (suc zero) (suc (suc b)) p q = absurd (omega arith)
 pub bit_is_on-or : (a b p : ℕ) → bit_is_on (bit_or a b) p ≡ (bit_is_on a p || bit_is_on b p)
 bit_is_on-or a b p =
     ap (λ d. eqb d 1) (bit_at_or a b (p % 64)) ∙ max-digits _ _ (bit_at-lt a (p % 64)) (bit_at-lt b (p % 64))
+
+-- the lesser of two digits is 1 exactly if both are
+min-digits : (a b : ℕ) → a < 2 → b < 2 → eqb (min a b) 1 ≡ (eqb a 1 && eqb b 1)
+min-digits zero zero p q = refl
+min-digits zero (suc zero) p q = refl
+min-digits (suc zero) zero p q = refl
+min-digits (suc zero) (suc zero) p q = refl
+min-digits (suc (suc a)) b p q = absurd (omega arith)
+min-digits zero (suc (suc b)) p q = absurd (omega arith)
+min-digits (suc zero) (suc (suc b)) p q = absurd (omega arith)
+
+-- a bit of a bitwise and is on exactly if it is on in both words
+pub bit_is_on-and : (a b p : ℕ) → bit_is_on (bit_and a b) p ≡ (bit_is_on a p && bit_is_on b p)
+bit_is_on-and a b p =
+    ap (λ d. eqb d 1) (bit_at_and a b (p % 64))
+    ∙ min-digits _ _ (bit_at-lt a (p % 64)) (bit_at-lt b (p % 64))
 
 -- a digit that a bitwise or changes
 changed-digit : (d e : ℕ) → d < 2 → e < 2 → (d + max d e) % 2 ≡ (if eqb d 1 then 0 else e)
@@ -77,10 +94,6 @@ change-bit n k =
 pub no-change : (b : Bool) (k : ℕ) → eqb (if b then 0 else 2 ^ k) 0 ≡ b
 no-change true k = refl
 no-change false k = ne_eqb (2 ^ k) 0 (λ none. absurd (omega (arith, none, pow_pos k)))
-
-or-false : (b : Bool) → (b || false) ≡ b
-or-false true = refl
-or-false false = refl
 
 get_or-default : (a : List ℕ) (i d e : ℕ) → i < length a → get_or a i d ≡ get_or a i e
 get_or-default a i d e within = grind (arith, common_steps)

@@ -5,15 +5,8 @@ use Rattle.std.proofs.lemmas.Nat.{mul-le, pow-add, mul-pow, shl_whole}
 use Rattle.std.proofs.lemmas.Bool.{cases_lt}
 use Rattle.bloom_parts.specs.Roots.{IsRoot}
 use Rattle.bloom_parts.specs.Sizing.{IsEnough, IsHalvings, CoverLaw, NoneLaw, MostLaw, OneSizeLaw}
+use Rattle.bloom_parts.proofs.PowerBounds.{pow-pow}
 use Rattle.bloom_parts.proofs.RootLemmas.{root-zero, root-least, root-below, root-mono, one_root}
-
--- a power of a power
-pow-pow : (a m n : ℕ) → (a ^ m) ^ n ≡ a ^ (m * n)
-pow-pow a m zero = rw (mul-zero, pow-zero a, pow-zero (a ^ m)) refl
-pow-pow a m (suc n) =
-    let next : m * n + m ≡ m * suc n = omega arith in
-    pow-suc (a ^ m) n ∙ ap (λ v. v * a ^ m) (pow-pow a m n) ∙ sym (pow-add a (m * n) m)
-    ∙ ap (λ v. a ^ v) next
 
 -- the test of the code at k sixty-fourths, with n and d read from the rate and t from the table
 pub record IsTest (num den k n d t : ℕ) : Type 0 where

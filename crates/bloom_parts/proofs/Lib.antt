@@ -1,7 +1,7 @@
 mod BracketFacts
 mod BracketLemmas
 mod BufferLemmas
-pub mod ContentLemmas
+mod ContentLemmas
 mod DeciderFacts
 mod EndLemmas
 mod HalvingFacts
@@ -10,12 +10,12 @@ mod HashedLemmas
 mod HasherFacts
 mod MergeLemmas
 mod NumberLemmas
-pub mod PlaceLemmas
+mod PlaceLemmas
 mod PositionFacts
-pub mod PositionLemmas
 mod PowerBounds
 mod PowerDigits
 mod PowerWidths
+pub mod PublishedLemmas
 mod RateFacts
 mod RootLemmas
 mod RoundingLemmas

@@ -1,9 +1,17 @@
 -- What rounded powers are bounds of.
-use Rattle.std.proofs.Common.{add-zero, add-one, ◌≡◌, ℕ, zero, suc, ◌+◌, ◌*◌, ◌/◌, ◌%◌, ◌^◌, ◌<◌, ◌≤◌, arith, subst, sym}
-use Rattle.std.proofs.Math.Nat.{le_of_mul-le-mul_right, pow-suc, pow-zero}
+use Rattle.std.proofs.Common.{add-zero, add-one, ◌≡◌, ℕ, zero, suc, ◌+◌, ◌*◌, ◌/◌, ◌%◌, ◌^◌, ◌<◌, ◌≤◌, refl, ap, ◌∙◌, arith, subst, sym}
+use Rattle.std.proofs.Math.Nat.{le_of_mul-le-mul_right, mul-zero, pow-suc, pow-zero}
 use Rattle.std.proofs.lemmas.Nat.{mul-le, pow-add}
 use Rattle.bloom_parts.specs.Powers.{next_power, rounded_power}
 use Rattle.bloom_parts.proofs.PowerDigits.{half-below}
+
+-- a power of a power
+pub pow-pow : (a m n : ℕ) → (a ^ m) ^ n ≡ a ^ (m * n)
+pow-pow a m zero = rw (mul-zero, pow-zero a, pow-zero (a ^ m)) refl
+pow-pow a m (suc n) =
+    let next : m * n + m ≡ m * suc n = omega arith in
+    pow-suc (a ^ m) n ∙ ap (λ v. v * a ^ m) (pow-pow a m n) ∙ sym (pow-add a (m * n) m)
+    ∙ ap (λ v. a ^ v) next
 
 -- an exponent is twice its half, and its lowest digit
 pub by-half : (e : ℕ) → e ≡ e / 2 + e / 2 + e % 2
