@@ -38,6 +38,7 @@ record HasRoom (bytes : List ℕ) (byte : ℕ) : Type 0 where
   fits : byte * 2 ^ (8 * length bytes) < 2 ^ 64
   more : from_le_bytes w64 (bytes ++ byte ∷ []) ≡ byte * 2 ^ (8 * length bytes) + from_le_bytes w64 bytes
 
+-- fewer than eight bytes leave room for one
 has_room : (bytes : List ℕ) (byte : ℕ) → AreBytes bytes → byte < 256 → length bytes < 8 → HasRoom bytes byte
 has_room [] byte small last few =
     record { below = omega arith; fits = omega arith; more = omega arith }
@@ -85,17 +86,20 @@ or-above bytes byte word at small last few is above =
     ∙ or_shifted_r byte (8 * length bytes) (from_le_bytes w64 bytes) room.below
     ∙ sym room.more
 
+-- the first of some bytes are bytes
 AreBytes-take : (n : ℕ) (bytes : List ℕ) → AreBytes bytes → AreBytes (take n bytes)
 AreBytes-take zero bytes small i = lit< tt
 AreBytes-take (suc n) [] small i = lit< tt
 AreBytes-take (suc n) (byte ∷ bytes) small zero = small 0
 AreBytes-take (suc n) (byte ∷ bytes) small (suc i) = AreBytes-take n bytes (λ k. small (suc k)) i
 
+-- bytes and more bytes are bytes
 pub AreBytes-append : (bytes more : List ℕ) → AreBytes bytes → AreBytes more → AreBytes (bytes ++ more)
 AreBytes-append [] more small others i = others i
 AreBytes-append (byte ∷ bytes) more small others zero = small 0
 AreBytes-append (byte ∷ bytes) more small others (suc i) = AreBytes-append bytes more (λ k. small (suc k)) others i
 
+-- zeros are bytes
 AreBytes-zeros : (n : ℕ) → AreBytes (replicate n 0)
 AreBytes-zeros zero i = lit< tt
 AreBytes-zeros (suc n) zero = lit< tt
@@ -121,6 +125,7 @@ pub record Stores (buffer : List ℕ) (count : ℕ) (bytes : List ℕ) : Type 0 
   pub padding : IsPadded buffer count
   pub held : held_in buffer count ≡ bytes
 
+-- the little-endian bytes of a number of fewer than eight bytes are these bytes, and zeros
 pub stores : (buffer : List ℕ) (count : ℕ) (bytes : List ℕ) (word : ℕ) → AreBytes bytes → length bytes < 8
     → count % 8 ≡ length bytes → word ≡ from_le_bytes w64 bytes → buffer ≡ to_le_bytes w64 word
     → Stores buffer count bytes
@@ -141,6 +146,7 @@ pub record Holds (buffer : List ℕ) (count : ℕ) : Type 0 where
   pub bytes : AreBytes (held_in buffer count)
   pub value : from_le_bytes w64 buffer ≡ from_le_bytes w64 (held_in buffer count)
 
+-- what a padded buffer of eight bytes holds
 pub holds : (buffer : List ℕ) (count : ℕ) → length buffer ≡ 8 → IsPadded buffer count → AreBytes buffer
     → Holds buffer count
 holds buffer count eight padding small =

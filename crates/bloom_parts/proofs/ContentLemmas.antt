@@ -62,10 +62,12 @@ changed-digit (suc (suc d)) e p q = absurd (omega arith)
 changed-digit zero (suc (suc e)) p q = absurd (omega arith)
 changed-digit (suc zero) (suc (suc e)) p q = absurd (omega arith)
 
+-- a bit of a choice is the choice of bits
 bit_at-choice : (b : Bool) (m i : ℕ) → bit_at (if b then 0 else m) i ≡ (if b then 0 else bit_at m i)
 bit_at-choice true m i = bit_at-zero i
 bit_at-choice false m i = refl
 
+-- a choice between nothing and nothing is nothing
 no-choice : (b : Bool) → ◌≡◌ {A = ℕ} (if b then 0 else 0) 0
 no-choice true = refl
 no-choice false = refl
@@ -80,6 +82,7 @@ change-bit n k =
     ∙ at i
     ∙ sym (bit_at-choice (eqb (bit_at n k) 1) (2 ^ k) i))
   where
+    -- the bit that is on in the mask is that of the choice
     at : (i : ℕ) → (if eqb (bit_at n i) 1 then 0 else bit_at (2 ^ k) i)
         ≡ (if eqb (bit_at n k) 1 then 0 else bit_at (2 ^ k) i)
     at i = elim (cases_eq i k) [
@@ -95,6 +98,7 @@ pub no-change : (b : Bool) (k : ℕ) → eqb (if b then 0 else 2 ^ k) 0 ≡ b
 no-change true k = refl
 no-change false k = ne_eqb (2 ^ k) 0 (λ none. absurd (omega (arith, none, pow_pos k)))
 
+-- within a list the default doesn't count
 get_or-default : (a : List ℕ) (i d e : ℕ) → i < length a → get_or a i d ≡ get_or a i e
 get_or-default a i d e within = grind (arith, common_steps)
 

@@ -124,6 +124,7 @@ hash-of-pieces : (k0 k1 : ℕ) (pieces : List (List ℕ)) (hash : ℕ)
 hash-of-pieces k0 k1 pieces hash made =
     made.4 k0 k1 (concat pieces) (takes-each k0 k1 [] pieces made.0 made.1 made.2 made.3)
 
+-- the law that cutting doesn't matter
 pub cutting_law : CuttingLaw
 cutting_law k0 k1 pieces others hash other first second same =
     hash-of-pieces k0 k1 pieces hash first
@@ -135,6 +136,7 @@ written-each : (pieces : List (List ℕ)) (h : SipState) → TakesEach h (fold w
 written-each [] h = refl
 written-each (piece ∷ pieces) h = (write h piece, written h piece, written-each pieces (write h piece))
 
+-- the law that pieces join
 pub joining_law : JoiningLaw
 joining_law fresh k0 k1 pieces is =
     answers (fold write fresh pieces) k0 k1 (concat pieces)
