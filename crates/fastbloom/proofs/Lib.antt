@@ -1,8 +1,17 @@
 mod AlgebraLemmas
+mod BuilderFacts
 mod BuilderLemmas
+mod CaseLemmas
+mod FilterFacts
 mod FoundLemmas
+mod HashFacts
+mod InsertFacts
+mod LawFacts
 mod LawLemmas
+mod ListFacts
 mod ListLemmas
+mod RateFacts
 mod RateLemmas
 mod ReplyLemmas
+mod SetFacts
 mod StretchLemmas
