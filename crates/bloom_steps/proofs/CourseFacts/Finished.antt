@@ -1,7 +1,7 @@
 -- Which calls of the worked courses are finished, and which not.
-use Rattle.std.proofs.Common.{◌≡◌, ◌≢◌, ◌<◌, ◌∷◌, [], List, ℕ, Some, slice_get, true, false, refl, arith, Bool, not, ◌&&◌, ◌||◌, ◌==◌, ap, sym, ◌∙◌, ltb}
+use Rattle.std.proofs.Common.{◌≡◌, ◌≢◌, ◌<◌, ◌∷◌, [], ℕ, Some, slice_get, true, false, refl, arith, Bool, not, ◌&&◌, ◌||◌, ◌==◌, ap, sym, ◌∙◌, ltb}
 use Rattle.bloom_steps.specs.declared.steps.vocabulary.Step.{Step}
-use Rattle.bloom_steps.specs.declared.steps.vocabulary.Step.TheVariants.{Load, Or, And, Zero, Other}
+use Rattle.bloom_steps.specs.declared.steps.vocabulary.Step.TheVariants.{Load, Or, Zero}
 use Rattle.bloom_steps.specs.declared.steps.vocabulary.Call.{Call}
 use Rattle.bloom_steps.specs.declared.steps.vocabulary.Call.TheVariants.{Insert, Contains, Clear}
 use Rattle.bloom_steps.specs.declared.steps.vocabulary.End.{End}
@@ -12,7 +12,7 @@ use Rattle.bloom_steps.specs.Traces.{Course}
 use Rattle.bloom_steps.specs.Moments.{IsStepAt, IsFinished}
 use Rattle.bloom_steps.proofs.StepFacts.Members.{all_pass, each-passes}
 use Rattle.std.proofs.lemmas.Bool.{both_ways, and_from, eq-eqb, lt-ltb}
-use Rattle.bloom_steps.proofs.CourseFacts.Courses.{twins, disturbed, insert_in_clear, insert_then_contains, last_load_alone}
+use Rattle.bloom_steps.proofs.CourseFacts.Courses.{twins, disturbed, insert_in_clear, last_load_alone}
 
 -- whether a record leaves a party's call going on: it is no beginning and no end of the party's
 abbrev leaves : ℕ → Record → Bool
@@ -47,7 +47,7 @@ between party began last m r a b is =
     sym (ap (λ i. not i || leaves party r) inside) ∙ is
 
 -- a call is finished that each record between leaves going on
-finished : (run : Course) (party : ℕ) (call : Call) (began last : ℕ) (e : End)
+pub finished : (run : Course) (party : ℕ) (call : Call) (began last : ℕ) (e : End)
     → slice_get run.records began ≡ Some (Began party call) → began < last
     → IsStepAt run.records last party e → e ≢ Running
     → all_pass (leaves_between party began last) run.records ≡ true

@@ -1,11 +1,11 @@
 -- Worked courses that are lawful.
-use Rattle.std.proofs.Common.{◌≡◌, ◌∷◌, [], List, ℕ, zero, suc, Bool, true, false, refl, arith, length, sym, subst, lit<, ◌<◌, ◌^◌, ◌∙◌}
+use Rattle.std.proofs.Common.{◌≡◌, ◌∷◌, [], List, ℕ, zero, suc, true, false, refl, arith, sym, subst, lit<, ◌<◌, ◌^◌, ◌∙◌}
 use Rattle.std.proofs.lemmas.List.Elements.{All-cons, All-nil}
 use Rattle.bloom_parts.specs.Chain.{chain}
 use Rattle.bloom_parts.specs.Content.{AreWords, bit_is_on}
 use Rattle.bloom_parts.specs.Places.{place}
-use Rattle.bloom_steps.specs.declared.steps.vocabulary.Step.TheVariants.{Load, Or, And, Zero, Other}
-use Rattle.bloom_steps.specs.declared.steps.vocabulary.Call.TheVariants.{Insert, Contains, Clear, Union, Intersect}
+use Rattle.bloom_steps.specs.declared.steps.vocabulary.Step.TheVariants.{Load, Or, Other}
+use Rattle.bloom_steps.specs.declared.steps.vocabulary.Call.TheVariants.{Insert, Contains, Union}
 use Rattle.bloom_steps.specs.declared.steps.vocabulary.End.TheVariants.{Running, Done, Answer}
 use Rattle.bloom_steps.specs.Scripts.{Any, Taken, IsScript}
 use Rattle.bloom_steps.specs.Traces.{CallAfterCall, IsLawful, no_call, begun_call, whole_call, records_of}
@@ -98,8 +98,7 @@ first-script =
       stops = tt;
       running = each-member _ first ((λ l. refl), ((λ l. absurd (omega (arith, l))), tt));
       last =
-          each-member _ first
-          (
+          each-member _ first (
             (λ l. absurd (omega (arith, l))),
             ((λ l. (false, refl, ((λ e. (0, off, refl, refl)), (λ e. refl)))), tt),
           );
@@ -117,8 +116,7 @@ calls-twins (suc (suc party)) =
 -- two inserts of one fresh hash
 pub lawful-twins : IsLawful 2 twins
 lawful-twins =
-    carried 2 twins
-    (
+    carried 2 twins (
       omega arith,
       refl,
       lit< tt,

@@ -1,12 +1,8 @@
 -- What is on at the moments of the worked courses, and which records turn positions on and off.
-use Rattle.std.proofs.Common.{◌≡◌, true, false, ℕ, not, ◌&&◌, length, take, count_by, refl, arith}
-use Rattle.std.proofs.lemmas.Bool.{both_ways}
-use Rattle.bloom_parts.specs.Chain.{chain}
+use Rattle.std.proofs.Common.{◌≡◌, true, false, refl, arith}
 use Rattle.bloom_parts.specs.Content.{content}
-use Rattle.bloom_parts.specs.Places.{place, are_in}
-use Rattle.bloom_steps.specs.Steps.{after_records}
-use Rattle.bloom_steps.specs.Moments.{bits_of, moment, turns_on, turns_off, IsInSpan, IsUndisturbed, NoneTurnedOff}
-use Rattle.bloom_steps.proofs.CourseFacts.Courses.{twins, disturbed, union_of_itself, insert_in_clear, last_load_alone}
+use Rattle.bloom_steps.specs.Moments.{bits_of, moment, turns_on, turns_off, IsInSpan}
+use Rattle.bloom_steps.proofs.CourseFacts.Courses.{twins, disturbed, union_of_itself, insert_in_clear}
 
 -- 64 bits a word
 bits-two : bits_of insert_in_clear ≡ 128

@@ -1,15 +1,11 @@
 -- Which parties of the worked courses run a call, and when.
-use Rattle.std.proofs.Common.{◌≡◌, ◌∷◌, [], zero, suc, ℕ, take, true, false, refl, arith, ◌∙◌, sym, ltb, if◌then◌else◌, ap, ◌≢◌, ◌≤◌, List}
+use Rattle.std.proofs.Common.{◌≡◌, ◌∷◌, [], zero, suc, ℕ, take, true, false, refl, arith, Bool, ◌∙◌, sym, ltb, if◌then◌else◌, ap, ◌≢◌, ◌≤◌, List}
 use Rattle.std.proofs.lemmas.Bool.{both_ways, and_parts, ltb-true, ne_eqb}
-use Rattle.bloom_steps.specs.declared.steps.vocabulary.Step.TheVariants.{Or, Other}
-use Rattle.bloom_steps.specs.declared.steps.vocabulary.Call.TheVariants.{Insert, Clear, Union}
-use Rattle.bloom_steps.specs.declared.steps.vocabulary.End.TheVariants.{Running, Done, Answer}
 use Rattle.bloom_steps.specs.declared.steps.vocabulary.Record.{Record}
-use Rattle.bloom_steps.specs.declared.steps.vocabulary.Record.TheVariants.{Began, Did}
 use Rattle.bloom_steps.specs.Traces.{runs, records_of, party_of, last_leaves_running}
 use Rattle.bloom_steps.proofs.StepFacts.Members.{all_pass}
 use Rattle.bloom_steps.specs.Moments.{EveryCallEnded, OneAtATime}
-use Rattle.bloom_steps.proofs.CourseFacts.Courses.{twins, in_turn, insert_in_clear}
+use Rattle.bloom_steps.proofs.CourseFacts.Courses.{twins, in_turn, in_turn_answering, insert_in_clear}
 
 -- the clear runs until its last step
 runs-clear : runs 0 (take 6 insert_in_clear.records) ≡ true
@@ -43,12 +39,12 @@ idle-past bound party rs m all past =
     ap last_leaves_running (none-past bound party rs m all past)
 
 -- each call has ended
-pub ended-in_turn : EveryCallEnded in_turn.records
+pub ended-in_turn : (answer : Bool) → EveryCallEnded (in_turn_answering answer).records
 unfolding records_of
-ended-in_turn zero = refl
-ended-in_turn (suc zero) = refl
-ended-in_turn (suc (suc party)) =
-    idle-past 2 (suc (suc party)) in_turn.records 5 refl (omega arith)
+ended-in_turn answer zero = refl
+ended-in_turn answer (suc zero) = refl
+ended-in_turn answer (suc (suc party)) =
+    idle-past 2 (suc (suc party)) (in_turn_answering answer).records 5 refl (omega arith)
 
 -- not a record earlier
 unended-in_turn : EveryCallEnded (take 4 in_turn.records) → ⊥
@@ -56,31 +52,32 @@ unfolding records_of
 unended-in_turn ended = both_ways (runs 1 (take 4 in_turn.records)) (ended 1) refl
 
 -- the party that runs a call is the first up to the union's end, and then the second
-runner : (m party : ℕ) → runs party (take m in_turn.records) ≡ true
+runner : (answer : Bool) (m party : ℕ)
+    → runs party (take m (in_turn_answering answer).records) ≡ true
     → party ≡ (if ltb m 4 then 0 else 1)
 unfolding records_of
-runner m (suc (suc party)) is =
+runner answer m (suc (suc party)) is =
     absurd
-    (both_ways (runs (suc (suc party)) (take m in_turn.records))
-    (idle-past 2 (suc (suc party)) in_turn.records m refl (omega arith)) is)
-runner zero zero is = refl
-runner zero (suc zero) is = absurd (both_ways false refl is)
-runner (suc zero) zero is = refl
-runner (suc zero) (suc zero) is = absurd (both_ways false refl is)
-runner (suc (suc zero)) zero is = refl
-runner (suc (suc zero)) (suc zero) is = absurd (both_ways false refl is)
-runner (suc (suc (suc zero))) zero is = refl
-runner (suc (suc (suc zero))) (suc zero) is = absurd (both_ways false refl is)
-runner (suc (suc (suc (suc zero)))) zero is = absurd (both_ways false refl is)
-runner (suc (suc (suc (suc zero)))) (suc zero) is = refl
-runner (suc (suc (suc (suc (suc zero))))) zero is = absurd (both_ways false refl is)
-runner (suc (suc (suc (suc (suc zero))))) (suc zero) is = absurd (both_ways false refl is)
-runner (suc (suc (suc (suc (suc (suc m)))))) zero is = absurd (both_ways false refl is)
-runner (suc (suc (suc (suc (suc (suc m)))))) (suc zero) is = absurd (both_ways false refl is)
+    (both_ways (runs (suc (suc party)) (take m (in_turn_answering answer).records))
+    (idle-past 2 (suc (suc party)) (in_turn_answering answer).records m refl (omega arith)) is)
+runner answer zero zero is = refl
+runner answer zero (suc zero) is = absurd (both_ways false refl is)
+runner answer (suc zero) zero is = refl
+runner answer (suc zero) (suc zero) is = absurd (both_ways false refl is)
+runner answer (suc (suc zero)) zero is = refl
+runner answer (suc (suc zero)) (suc zero) is = absurd (both_ways false refl is)
+runner answer (suc (suc (suc zero))) zero is = refl
+runner answer (suc (suc (suc zero))) (suc zero) is = absurd (both_ways false refl is)
+runner answer (suc (suc (suc (suc zero)))) zero is = absurd (both_ways false refl is)
+runner answer (suc (suc (suc (suc zero)))) (suc zero) is = refl
+runner answer (suc (suc (suc (suc (suc zero))))) zero is = absurd (both_ways false refl is)
+runner answer (suc (suc (suc (suc (suc zero))))) (suc zero) is = absurd (both_ways false refl is)
+runner answer (suc (suc (suc (suc (suc (suc m)))))) zero is = absurd (both_ways false refl is)
+runner answer (suc (suc (suc (suc (suc (suc m)))))) (suc zero) is = absurd (both_ways false refl is)
 
 -- the calls are made one at a time
-pub one-in_turn : OneAtATime in_turn.records
-one-in_turn m p q a b = runner m p a ∙ sym (runner m q b)
+pub one-in_turn : (answer : Bool) → OneAtATime (in_turn_answering answer).records
+one-in_turn answer m p q a b = runner answer m p a ∙ sym (runner answer m q b)
 
 -- the twins aren't
 both-twins : OneAtATime twins.records → ⊥

@@ -17,7 +17,7 @@ first : IsPosition 64 2 1 0
 unfolding chain
 first = (0, omega arith, refl)
 
-only : (p : ℕ) → IsPosition 64 1 0 p → p ≡ 0
+pub only : (p : ℕ) → IsPosition 64 1 0 p → p ≡ 0
 unfolding chain
 only p x = let zeroth : x.0 ≡ 0 = omega (arith, x.1) in sym x.2 ∙ ap (place 64 0) zeroth
 

@@ -1,13 +1,13 @@
 -- What is a beginning of a call, and which step comes next after it.
-use Rattle.std.proofs.Common.{◌∷◌, [], List, false, refl, arith, length, length-append}
+use Rattle.std.proofs.Common.{◌∷◌, [], refl, arith}
 use Rattle.bloom_parts.specs.Chain.{chain}
 use Rattle.bloom_steps.specs.declared.steps.vocabulary.Step.TheVariants.{Load, Or, Other}
 use Rattle.bloom_steps.specs.declared.steps.vocabulary.Call.TheVariants.{Insert, Union}
-use Rattle.bloom_steps.specs.declared.steps.vocabulary.End.TheVariants.{Running, Done, Answer}
-use Rattle.bloom_steps.specs.Scripts.{Taken, IsBeginning, IsNext}
+use Rattle.bloom_steps.specs.declared.steps.vocabulary.End.TheVariants.{Running, Done}
+use Rattle.bloom_steps.specs.Scripts.{IsBeginning, IsNext}
 use Rattle.bloom_steps.proofs.StepFacts.Members.{took}
 use Rattle.bloom_steps.proofs.StepFacts.Scripts.{insert, insert-script}
-use Rattle.bloom_steps.proofs.StepFacts.Pairs.{union, union-script}
+use Rattle.bloom_steps.proofs.StepFacts.Pairs.{union-script}
 
 -- no step is a beginning
 pub begun-none : IsBeginning 1 2 (Insert 1) []

@@ -1,5 +1,5 @@
 -- Where a machine stands, what it asks and answers, and what is near that and isn't so.
-use Rattle.std.proofs.Common.{◌≡◌, ◌∷◌, [], List, ℕ, Option, None, Some, Bool, true, false, refl, arith, inl, inr, lit<, ◌+◌, ◌*◌, ◌/◌, ◌%◌, ◌^◌, ◌∙◌, ◌<◌, ap, sym, subst, add-one}
+use Rattle.std.proofs.Common.{◌≡◌, ◌∷◌, [], ℕ, None, Some, true, false, refl, arith, inl, lit<, ◌+◌, ◌*◌, ◌/◌, ◌%◌, ◌^◌, ◌∙◌, ◌<◌, ap, sym, subst, add-one}
 use Rattle.std.specs.Int.{rotate_left, w64}
 use Rattle.bloom_parts.specs.Places.{place}
 use Rattle.bloom_steps.specs.declared.steps.vocabulary.Step.{Step}
@@ -10,13 +10,12 @@ use Rattle.std.proofs.lemmas.Option.{none-some, same_Some}
 use Rattle.bloom_steps.proofs.StepLemmas.Replying.{stands-more}
 use Rattle.bloom_steps.proofs.StepLemmas.Asking.{asks_after}
 use Rattle.bloom_parts.specs.Chain.{chain, added_of}
-use Rattle.bloom_steps.specs.declared.steps.vocabulary.Step.TheVariants.{Load, Or, And, Zero, Other}
-use Rattle.bloom_steps.specs.declared.steps.vocabulary.Call.TheVariants.{Insert, Contains, Clear, Union, Intersect}
-use Rattle.bloom_steps.specs.declared.steps.vocabulary.End.TheVariants.{Running, Done, Answer}
+use Rattle.bloom_steps.specs.declared.steps.vocabulary.Step.TheVariants.{Load, Or}
+use Rattle.bloom_steps.specs.declared.steps.vocabulary.Call.TheVariants.{Insert}
+use Rattle.bloom_steps.specs.declared.steps.vocabulary.End.TheVariants.{Running}
 use Rattle.bloom_steps.specs.declared.steps.machine.Machine.{Machine}
 use Rattle.bloom_steps.specs.Machines.{StandsAt}
 use Rattle.bloom_steps.specs.Turns.{AsksAfter, AnswersAfter, AsksRight, AnswersRight, StandsFurther}
-use Rattle.bloom_steps.specs.Scripts.{Taken, IsScript, IsBeginning}
 use Rattle.bloom_steps.proofs.StepFacts.Members.{took}
 use Rattle.bloom_steps.proofs.StepFacts.Beginnings.{begun-none, begun-one, next-first}
 use Rattle.bloom_steps.proofs.StepFacts.Scripts.{insert, insert-script}

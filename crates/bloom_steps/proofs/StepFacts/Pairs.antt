@@ -1,8 +1,8 @@
 -- Scripts of calls that take the other filter's words in turn, and what is near one and isn't.
-use Rattle.std.proofs.Common.{ap, ◌∙◌, ◌≡◌, ◌+◌, ◌*◌, ◌∷◌, [], List, ℕ, zero, suc, Some, slice_get, true, refl, arith, sym, subst}
+use Rattle.std.proofs.Common.{ap, ◌∙◌, ◌≡◌, ◌+◌, ◌*◌, ◌∷◌, [], List, ℕ, Some, slice_get, true, refl, arith, sym, subst}
 use Rattle.std.proofs.lemmas.Option.{same_Some}
 use Rattle.bloom_steps.specs.declared.steps.vocabulary.Step.{Step}
-use Rattle.bloom_steps.specs.declared.steps.vocabulary.Step.TheVariants.{Load, Or, And, Zero, Other}
+use Rattle.bloom_steps.specs.declared.steps.vocabulary.Step.TheVariants.{Load, Or, And, Other}
 use Rattle.bloom_steps.specs.declared.steps.vocabulary.Call.TheVariants.{Union, Intersect}
 use Rattle.bloom_steps.specs.declared.steps.vocabulary.End.TheVariants.{Running, Done, Answer}
 use Rattle.bloom_steps.specs.Scripts.{Taken, ArePairs, IsScript}
@@ -21,8 +21,7 @@ one-pair operation found other = record {
 
     loads : (i : ℕ) (t : Taken) → slice_get s (2 * i) ≡ Some t → t.step ≡ Other i
     loads i t g =
-        each-member (λ j u. 2 * i ≡ j → u.step ≡ Other i) s
-        (
+        each-member (λ j u. 2 * i ≡ j → u.step ≡ Other i) s (
           (λ e. ap Other (omega (arith, e))),
           ((λ e. absurd (omega (arith, e))), tt),
         )
@@ -38,8 +37,7 @@ one-pair operation found other = record {
     writes : (i : ℕ) (t u : Taken) → slice_get s (2 * i) ≡ Some t
         → slice_get s (2 * i + 1) ≡ Some u → u.step ≡ operation i t.found
     writes i t u g h =
-        each-member (λ j v. 2 * i ≡ j → u.step ≡ operation i v.found) s
-        (
+        each-member (λ j v. 2 * i ≡ j → u.step ≡ operation i v.found) s (
           (λ e. second i u (omega (arith, e)) h),
           ((λ e. absurd (omega (arith, e))), tt),
         )

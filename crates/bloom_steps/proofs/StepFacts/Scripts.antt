@@ -2,8 +2,8 @@
 -- 64 bits.
 use Rattle.std.proofs.Common.{◌∷◌, [], List, true, false, refl, arith}
 use Rattle.bloom_parts.specs.Chain.{chain}
-use Rattle.bloom_steps.specs.declared.steps.vocabulary.Step.TheVariants.{Load, Or, And, Zero, Other}
-use Rattle.bloom_steps.specs.declared.steps.vocabulary.Call.TheVariants.{Insert, Contains, Clear, Union, Intersect}
+use Rattle.bloom_steps.specs.declared.steps.vocabulary.Step.TheVariants.{Load, Or, Zero}
+use Rattle.bloom_steps.specs.declared.steps.vocabulary.Call.TheVariants.{Insert, Contains, Clear}
 use Rattle.bloom_steps.specs.declared.steps.vocabulary.End.TheVariants.{Running, Done, Answer}
 use Rattle.bloom_steps.specs.Scripts.{Taken, IsScript}
 use Rattle.bloom_steps.proofs.StepFacts.Members.{each-member, took}
@@ -22,8 +22,7 @@ insert-script =
       stops = tt;
       running = each-member _ insert ((λ l. refl), ((λ l. absurd (omega (arith, l))), tt));
       last =
-          each-member _ insert
-          (
+          each-member _ insert (
             (λ l. absurd (omega (arith, l))),
             ((λ l. (false, refl, ((λ e. (1, second, refl, refl)), (λ e. refl)))), tt),
           );
@@ -69,8 +68,7 @@ contains-script = record {
   };
   running = each-member _ contains ((λ l. refl), ((λ l. absurd (omega (arith, l))), tt));
   last =
-      each-member _ contains
-      (
+      each-member _ contains (
         (λ l. absurd (omega (arith, l))),
         (
           (λ l. each-member _ contains ((λ m. absurd (omega (arith, m))), ((λ m. refl), tt))),

@@ -1,9 +1,9 @@
 -- What a step finds and does in memory, and what is near that and isn't so.
-use Rattle.std.proofs.Common.{◌≡◌, ◌∷◌, [], List, ℕ, None, Some, true, false, refl, arith, ap, sym, subst, length, slice_get, ◌∙◌}
+use Rattle.std.proofs.Common.{◌≡◌, ◌∷◌, [], List, ℕ, None, Some, true, refl, arith, ap, sym, length, slice_get, ◌∙◌}
 use Rattle.bloom_parts.specs.Content.{content}
 use Rattle.bloom_steps.specs.declared.steps.vocabulary.Step.TheVariants.{Load, Or, And, Zero, Other}
 use Rattle.bloom_steps.specs.declared.steps.vocabulary.Call.TheVariants.{Clear, Union}
-use Rattle.bloom_steps.specs.declared.steps.vocabulary.End.TheVariants.{Running, Done}
+use Rattle.bloom_steps.specs.declared.steps.vocabulary.End.TheVariants.{Done}
 use Rattle.bloom_steps.specs.Memories.{Memory, Moves, Makes, MemoryLaw, words_after}
 use Rattle.bloom_steps.specs.Scripts.{Taken, Linked, Drives}
 use Rattle.bloom_steps.proofs.StepFacts.Members.{each-member, took}
