@@ -3,7 +3,7 @@
 
 -- the places of a hash: each position is one, they are in a set exactly if they are a part of it, and
 -- one that is off decides
-pub use Rattle.bloom_parts.proofs.PlaceLemmas.{position-from, position-to, part-from, part-to, are_in-at, are_in-off}
+pub use Rattle.bloom_parts.proofs.PlaceLemmas.{position-from, position-to, part-from, part-to, range_law, are_in-at, are_in-off}
 
 -- a power of a power
 pub use Rattle.bloom_parts.proofs.PowerBounds.{pow-pow}

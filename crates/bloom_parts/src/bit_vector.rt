@@ -4,7 +4,7 @@ ghost use Rattle.std.specs.Cmp.Lexicographic.{pointwise, nat_list_eq_equiv};
 ghost use Rattle.std.specs.Cmp.{partial_equiv_from_equiv};
 ghost use Rattle.std.specs.Iterator.{IsFinite};
 ghost use Rattle.std.specs.Iterator.Runs.{EachRunFrom, WholeRun};
-ghost use Rattle.bloom_parts.specs.Content.{content, index_of};
+ghost use Rattle.bloom_parts.specs.Content.{AreWords, content, index_of};
 
 mod by_hash;
 mod kernels;
@@ -33,6 +33,14 @@ pub fn word_and_mask(position: usize) -> (usize, u64)
     ensures mask { result.1 ≡ 2 ^ (position % 64) }
 {
     (position / 64, 1 << (position % 64))
+}
+
+// The same words, of 64 bits each: the clause is what a slice that was read from a field doesn't tell.
+fn with_range(words: &[u64]) -> &[u64]
+    ensures value { result.now ≡ words.now }
+    ensures range { AreWords words.now }
+{
+    words
 }
 
 /// Words of 64 bits, from 1 to 2^58 - 1 of them. Contracts see the list of the words.
@@ -96,15 +104,17 @@ impl BitVec {
         ensures value { result.now ≡ self.now }
         ensures least { 1 ≤ length result.now }
         ensures most { length result.now < 2 ^ 58 }
+        ensures range { AreWords self.now }
     {
-        self.words.as_slice()
+        with_range(self.words.as_slice())
     }
 
     /// An iterator over the words, word 0 first.
     pub fn iter(&self) -> Words<'_>
-        ensures { result ≡ self.now }
+        ensures value { result ≡ self.now }
+        ensures range { AreWords self.now }
     {
-        Words::new(self.words.as_slice())
+        Words::new(self.as_slice())
     }
 
     /// Whether a position is on.

@@ -12,7 +12,7 @@ use Rattle.fastbloom.specs.Laws.{Spares, KeptByListLaw, KeptByInsertsLaw, FoundL
 use Rattle.fastbloom.specs.Replies.{CarriesOut}
 use Rattle.fastbloom.specs.declared.bloom.command.Command.TheVariants as command
 use Rattle.fastbloom.proofs.LawLemmas.{contains-shape}
-use Rattle.bloom_parts.proofs.PlaceLemmas.{part-from, part-to}
+use Rattle.bloom_parts.proofs.PublishedLemmas.{part-from, part-to}
 
 -- doesn't make off
 spares : Option Bool → Bool

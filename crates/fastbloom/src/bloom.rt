@@ -41,14 +41,6 @@ impl<S> Model for BloomFilter<S> {
     ghost invariant = { λ f. IsShape (length f.bits) f.num_hashes };
 }
 
-// The same words, each of 64 bits.
-fn with_range(words: &[u64]) -> &[u64]
-    ensures value { result.now ≡ words.now }
-    ensures range { AreWords words.now }
-{
-    words
-}
-
 impl<S> BloomFilter<S> {
     // The filter of these parts. No hashes count as one.
     pub(crate) fn from_parts(bits: BitVec, num_hashes: u32, hasher: S) -> Self
@@ -89,7 +81,7 @@ impl<S> BloomFilter<S> {
         ensures shape { HasShape self.now }
         ensures range { AreWords self.now.words }
     {
-        with_range(self.bits.as_slice())
+        self.bits.as_slice()
     }
 
     /// An iterator over the words, word 0 first.
@@ -98,7 +90,7 @@ impl<S> BloomFilter<S> {
         ensures shape { HasShape self.now }
         ensures range { AreWords self.now.words }
     {
-        Words::new(self.as_slice())
+        self.bits.iter()
     }
 
     /// Turns on all positions of a hash, and answers whether all were on just before.
