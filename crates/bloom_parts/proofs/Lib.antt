@@ -4,6 +4,7 @@ mod BufferLemmas
 mod ContentLemmas
 mod DeciderFacts
 mod EndLemmas
+mod FillLemmas
 mod HalvingFacts
 mod HalvingLemmas
 mod HashedLemmas
