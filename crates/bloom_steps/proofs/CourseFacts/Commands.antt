@@ -25,6 +25,7 @@ united answer =
     }
     ∷ record { call = Insert 0; taken = took (Or 0 1) 5 (Answer answer) ∷ [] } ∷ []
 
+-- records cut at their beginnings
 cut-in_turn : cut in_turn.records ≡ record { ahead = []; calls = united true }
 cut-in_turn = refl
 
@@ -48,12 +49,15 @@ commands-in_turn : commands_of (cut in_turn.records).calls
     ≡ operation.Union (content (5 ∷ [])) ∷ operation.Insert 0 ∷ []
 commands-in_turn = refl
 
+-- a look-up of the same hash
 command-contains : command_of (Contains 3) (content (5 ∷ [])) ≡ operation.Contains 3
 command-contains = refl
 
+-- a clear, whatever the other filter
 command-clear : command_of Clear (content (5 ∷ [])) ≡ operation.Clear
 command-clear = refl
 
+-- an intersection with the other filter's content
 command-intersect : command_of Intersect (content (5 ∷ [])) ≡ operation.Intersect (content (5 ∷ []))
 command-intersect = refl
 
@@ -61,6 +65,7 @@ command-intersect = refl
 acts : ActsAsCommands 1 in_turn
 acts = acts_as_commands 1 in_turn lawful-in_turn (omega arith) (omega arith)
 
+-- and its premises hold of them
 acts-so : ActsAs 1 in_turn (united true)
 acts-so = acts (one-in_turn true) (ended-in_turn true)
 

@@ -17,11 +17,12 @@ use Rattle.bloom_steps.proofs.CourseFacts.Lawful.{lawful-twins}
 use Rattle.bloom_steps.proofs.CourseFacts.Parties.{idle-past}
 use Rattle.bloom_steps.proofs.RunLemmas.Ending.{ends_with_all}
 
--- position 20 was inserted, position 1 was not
+-- position 20 was inserted
 inserted : IsInserted 2 twins 20
 unfolding chain
 inserted = (1, 1, 1, refl, (1, omega arith, refl))
 
+-- position 1 was not
 uninserted : IsInserted 2 twins 1 → ⊥
 unfolding chain
 uninserted is =
@@ -37,10 +38,11 @@ uninserted is =
     none (suc zero) below e = omega (arith, e)
     none (suc (suc i)) below e = omega (arith, below)
 
--- position 2 was found on in the other filter, position 1 was not
+-- position 2 was found on in the other filter
 found : IsFoundInOther in_turn 2
 found = (1, 0, 5, Running, refl, refl)
 
+-- position 1 was not
 unfound : IsFoundInOther in_turn 1 → ⊥
 unfound is =
     let word =
@@ -49,6 +51,7 @@ unfound is =
     let on = subst (λ x. bit_is_on x 1 ≡ true) word is.5 in
     cc
 
+-- the twins found nothing there
 none_found : (p : ℕ) → IsFoundInOther twins p → ⊥
 none_found p is =
     each-member

@@ -24,10 +24,12 @@ finds step found is fits = may_find-read set (5 ∷ 9 ∷ []) found found step (
 load-word : MayFind set (Load 1) 9
 load-word = finds (Load 1) 9 refl (lit< tt)
 
+-- not the other's
 load-another : MayFind set (Load 1) 5 → ⊥
 unfolding content
 load-another may = let bit = may.bits 66 refl in cc
 
+-- nor one that has the same bits and further ones
 load-past : MayFind set (Load 1) 18446744073709551625 → ⊥
 load-past may = past 18446744073709551625 (lit≤ tt) may.fits
 
@@ -35,6 +37,7 @@ load-past may = past 18446744073709551625 (lit≤ tt) may.fits
 or-word : MayFind set (Or 0 2) 5
 or-word = finds (Or 0 2) 5 refl (lit< tt)
 
+-- as it was before
 or-after : MayFind set (Or 0 2) 7 → ⊥
 unfolding content
 or-after may = let bit = may.bits 1 refl in cc
@@ -43,6 +46,7 @@ or-after may = let bit = may.bits 1 refl in cc
 and-word : MayFind set (And 0 1) 5
 and-word = finds (And 0 1) 5 refl (lit< tt)
 
+-- as it was before
 and-after : MayFind set (And 0 1) 1 → ⊥
 unfolding content
 and-after may = let bit = may.bits 2 refl in cc
@@ -51,6 +55,7 @@ and-after may = let bit = may.bits 2 refl in cc
 zero-word : MayFind set (Zero 0) 0
 zero-word = refl
 
+-- not the word as it was
 zero-found : MayFind set (Zero 0) 5 → ⊥
 zero-found may = omega (arith, may)
 
@@ -58,5 +63,6 @@ zero-found may = omega (arith, may)
 other-word : MayFind set (Other 0) 7
 other-word = lit< tt
 
+-- not of more
 other-past : MayFind set (Other 0) 18446744073709551616 → ⊥
 other-past may = past 18446744073709551616 (lit≤ tt) may

@@ -101,6 +101,7 @@ finished-first =
     finished twins 0 (Insert 1) 0 5 (Answer false) refl (omega arith)
     (Or 0 1048576, 1048577, refl) (λ e. cc) refl
 
+-- the second, in the first's span
 pub finished-second : IsFinished twins 1 (Insert 1) 1 4 (Answer false)
 finished-second =
     finished twins 1 (Insert 1) 1 4 (Answer false) refl (omega arith) (Or 0 1048576, 1, refl)
@@ -125,6 +126,7 @@ left_for_another = record {
   words = 1 ∷ [];
 }
 
+-- though the other has ended
 left-unfinished : IsFinished left_for_another 0 Clear 0 2 (Answer false) → ⊥
 left-unfinished is = is.no_other 1 (Insert 0) (omega arith) (omega arith) refl
 
@@ -136,10 +138,12 @@ ended_twice = record {
   words = 0 ∷ [];
 }
 
+-- it is finished at its first end
 ended-first : IsFinished ended_twice 0 Clear 0 1 Done
 ended-first =
     finished ended_twice 0 Clear 0 1 Done refl (omega arith) (Zero 0, 0, refl) (λ e. cc) refl
 
+-- not at another
 ended-second : IsFinished ended_twice 0 Clear 0 2 Done → ⊥
 ended-second is = let runs = is.still 1 Done (omega arith) (omega arith) (Zero 0, 0, refl) in cc
 
@@ -151,5 +155,6 @@ ended_before = record {
   words = 0 ∷ [];
 }
 
+-- though both records are there
 ended-early : IsFinished ended_before 0 Clear 1 0 Done → ⊥
 ended-early is = omega (arith, is.order)

@@ -18,36 +18,43 @@ use Rattle.bloom_steps.proofs.RunLemmas.Gaining.{counts_gains}
 even-below : count_below 5 (λ n. n % 2 == 0) ≡ 3
 even-below = refl
 
+-- the bound itself doesn't count
 even-below_one : count_below 4 (λ n. n % 2 == 0) ≡ 2
 even-below_one = refl
 
--- a step that turns on a bit that was off, and one that finds it on
+-- a step that turns on a bit that was off
 or-off : found_off (Did 0 (Or 0 2) 5 Running) ≡ true
 or-off = refl
 
+-- one that found its bit on is none
 or-on : found_off (Did 0 (Or 0 1) 5 Running) ≡ false
 or-on = refl
 
--- no other record is one
+-- a load
 load-off : found_off (Did 0 (Load 0) 0 Running) ≡ false
 load-off = refl
 
+-- a step that turns bits off
 and-off : found_off (Did 0 (And 0 2) 5 Running) ≡ false
 and-off = refl
 
+-- a step that turns a word off
 zero-off : found_off (Did 0 (Zero 0) 0 Running) ≡ false
 zero-off = refl
 
+-- a read of the other filter
 other-off : found_off (Did 0 (Other 0) 0 Running) ≡ false
 other-off = refl
 
+-- a beginning
 began-off : found_off (Began 0 Clear) ≡ false
 began-off = refl
 
--- two steps of the twins found their bit off, and two positions were gained
+-- two steps of the twins found their bit off
 twins-off : count_by found_off twins.records ≡ 2
 twins-off = refl
 
+-- and two positions were gained
 twins-gained : count_below 64 (λ p. content twins.words p && not (content twins.start p)) ≡ 2
 unfolding content
 twins-gained = refl
@@ -72,10 +79,13 @@ only-insert call other m party g =
 abbrev one_gained : Course
 one_gained = record twins { words = 1 ∷ [] }
 
-few-gained : count_below 64 (λ p. content one_gained.words p && not (content one_gained.start p)) ≡ 1
+-- counted as one
+few-gained :
+    count_below 64 (λ p. content one_gained.words p && not (content one_gained.start p)) ≡ 1
 unfolding content
 few-gained = refl
 
+-- the theorem fails of it
 ungained : CountsGains one_gained → ⊥
 ungained counts =
     let two = counts (only-insert Clear (λ e. cc)) (only-insert Union (λ e. cc))

@@ -29,6 +29,7 @@ first-on answer = record {
   on = refl;
 }
 
+-- the second, position 20
 second-on : TurnsOneOn twins 1 1 4
 unfolding content
 second-on = record {
@@ -41,10 +42,11 @@ second-on = record {
   on = refl;
 }
 
--- no record later than the last, nor the steps of another party
+-- no record later than the last
 none-later : TurnsOneOn twins 0 5 5 → ⊥
 none-later one = omega (arith, one.later, one.upto)
 
+-- nor of a party that made none
 none-of_another : TurnsOneOn twins 7 0 5 → ⊥
 none-of_another one =
     each-member
@@ -82,6 +84,7 @@ idle-on one =
     never true = refl
     never false = refl
 
+-- the theorem fails of it
 idle-untold : InsertsTell idle_insert → ⊥
 idle-untold tell =
     let is =

@@ -24,22 +24,26 @@ one-word word fits = All-cons (λ w. w < 2 ^ 64) word [] fits (All-nil (λ w. w 
 abbrev inserted : List Taken
 inserted = took (Or 0 1) 4 (Answer false) ∷ []
 
+-- it is a whole insert
 pub inserted-script : IsScript 1 1 (Insert 0) inserted
 unfolding chain
-inserted-script = record {
-  count = refl;
-  steps = each-member _ inserted (refl, tt);
-  stops = tt;
-  running = each-member _ inserted ((λ l. absurd (omega (arith, l))), tt);
-  last =
-      each-member _ inserted
-      ((λ l. (false, refl, ((λ e. (0, took (Or 0 1) 4 (Answer false), refl, refl)), (λ e. refl)))), tt);
-}
+inserted-script =
+    let off = took (Or 0 1) 4 (Answer false) in
+    record {
+      count = refl;
+      steps = each-member _ inserted (refl, tt);
+      stops = tt;
+      running = each-member _ inserted ((λ l. absurd (omega (arith, l))), tt);
+      last =
+          each-member _ inserted
+          ((λ l. (false, refl, ((λ e. (0, off, refl, refl)), (λ e. refl)))), tt);
+    }
 
 -- a look-up of one load, which found its bit on
 abbrev found : List Taken
 found = took (Load 0) 5 (Answer true) ∷ []
 
+-- it is a whole look-up
 found-script : IsScript 1 1 (Contains 0) found
 unfolding chain
 found-script = record {
@@ -57,6 +61,7 @@ found-script = record {
 abbrev read_write : ℕ → List Taken
 read_write other = took (Other 0) other Running ∷ took (Or 0 other) 0 Done ∷ []
 
+-- it is a whole union
 read_write-script : (other : ℕ) → IsScript 1 1 Union (read_write other)
 read_write-script other = record {
   count = refl;
@@ -88,6 +93,7 @@ lawful-insert_then_contains =
 abbrev first : List Taken
 first = took (Or 0 1) 0 Running ∷ took (Or 0 1048576) 1048577 (Answer false) ∷ []
 
+-- they are a whole insert
 first-script : IsScript 1 2 (Insert 1) first
 unfolding chain
 first-script =
@@ -133,6 +139,7 @@ lawful-twins =
 abbrev known : List Taken
 known = took (Or 0 1) 5 (Answer true) ∷ []
 
+-- it is a whole insert
 known-script : IsScript 1 1 (Insert 0) known
 unfolding chain
 known-script = record {

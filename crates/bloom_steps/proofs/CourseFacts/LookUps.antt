@@ -20,14 +20,17 @@ disturbed-first : are_in 64 2 1 (moment disturbed 1) ≡ false
 unfolding content chain are_in
 disturbed-first = refl
 
+-- nor after the clear
 disturbed-cleared : are_in 64 2 1 (moment disturbed 4) ≡ false
 unfolding content chain are_in
 disturbed-cleared = refl
 
+-- nor after the union
 disturbed-united : are_in 64 2 1 (moment disturbed 7) ≡ false
 unfolding content chain are_in
 disturbed-united = refl
 
+-- nor in the end
 disturbed-last : are_in 64 2 1 (moment disturbed 8) ≡ false
 unfolding content chain are_in
 disturbed-last = refl
@@ -53,6 +56,7 @@ last-load : are_in 64 2 1 (moment last_load_alone 2) ≡ false
 unfolding content chain are_in
 last-load = refl
 
+-- for it is undisturbed, and answers true
 last-load_alone : ContainsTell 2 last_load_alone → ⊥
 last-load_alone tell =
     let right = tell 0 1 0 2 true finished-contains in
@@ -63,6 +67,7 @@ contained-late : are_in 64 1 0 (moment off_and_on 5) ≡ true
 unfolding content chain are_in
 contained-late = refl
 
+-- so it isn't right there
 off-late : IsRightAt 1 off_and_on 0 0 5 5 false → ⊥
 off-late right = both_ways (are_in 64 1 0 (moment off_and_on 5)) (right.off refl) contained-late
 
@@ -86,37 +91,42 @@ off-late_told tell =
     (finished off_and_on 0 (Contains 0) 0 5 (Answer false) refl (omega arith) (Load 0, 1, refl)
     (λ e. cc) refl))
 
--- both theorems hold of a look-up after a finished insert of its hash
+-- both theorems hold of a look-up after a finished insert of its hash: it is right
 told : ContainsTell 1 insert_then_contains
 told = contains_tell 1 insert_then_contains lawful-insert_then_contains (omega arith) (omega arith)
 
+-- and so it answers true
 found : FindsInserted 1 insert_then_contains
 found =
     finds_inserted 1 insert_then_contains lawful-insert_then_contains (omega arith) (omega arith)
 
--- neither does where the look-up answers false
+-- where the look-up answers false neither does; the insert is finished
 finished-insert : (answer : Bool)
     → IsFinished (insert_then_contains_answering answer) 0 (Insert 0) 0 1 (Answer false)
 finished-insert answer =
     finished (insert_then_contains_answering answer) 0 (Insert 0) 0 1 (Answer false) refl
     (omega arith) (Or 0 1, 4, refl) (λ e. cc) refl
 
+-- the look-up is finished, whatever it answers
 finished-look_up : (answer : Bool)
     → IsFinished (insert_then_contains_answering answer) 1 (Contains 0) 2 3 (Answer answer)
 finished-look_up answer =
     finished (insert_then_contains_answering answer) 1 (Contains 0) 2 3 (Answer answer) refl
     (omega arith) (Load 0, 5, refl) (λ e. cc) refl
 
+-- at its last load the hash is contained
 contained : are_in 64 1 0 (moment (insert_then_contains_answering false) 3) ≡ true
 unfolding content chain are_in
 contained = refl
 
+-- so false isn't right
 untold : ContainsTell 1 (insert_then_contains_answering false) → ⊥
 untold tell =
     let right = tell 1 0 2 3 false (finished-look_up false) in
     both_ways (are_in 64 1 0 (moment (insert_then_contains_answering false) 3)) (right.off refl)
     contained
 
+-- nothing is turned off
 kept : NoneTurnedOff 1 (insert_then_contains_answering false) 0 0 3
 unfolding content
 kept m p a b x =
@@ -130,6 +140,7 @@ kept m p a b x =
     at (suc (suc (suc zero))) b = refl
     at (suc (suc (suc (suc m)))) b = absurd (omega (arith, b))
 
+-- so false is no answer after the insert
 unfound : FindsInserted 1 (insert_then_contains_answering false) → ⊥
 unfound finds =
     let answer =

@@ -12,6 +12,7 @@ runs-clear : runs 0 (take 6 insert_in_clear.records) ≡ true
 unfolding records_of
 runs-clear = refl
 
+-- and then no more
 over-clear : runs 0 (take 7 insert_in_clear.records) ≡ false
 unfolding records_of
 over-clear = refl
@@ -24,7 +25,8 @@ unfolding records_of
 none-past bound party rs zero all past = refl
 none-past bound party [] (suc m) all past = refl
 none-past bound party (r ∷ rs) (suc m) all past =
-    let parts = and_parts (ltb (party_of r) bound) (all_pass (λ i q. ltb (party_of q) bound) rs) all in
+    let parts =
+    and_parts (ltb (party_of r) bound) (all_pass (λ i q. ltb (party_of q) bound) rs) all in
     let below = ltb-true (party_of r) bound parts.0 in
     let apart : party_of r ≢ party = λ e. omega (arith, e, below, past) in
     ap (λ b. if b then r ∷ records_of party (take m rs) else records_of party (take m rs))

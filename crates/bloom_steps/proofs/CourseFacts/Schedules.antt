@@ -68,6 +68,7 @@ go-union : Gives 1 (Began 0 Union ∷ []) (Go 0 7) (Did 0 (Other 0) 7 Running �
 unfolding records_of
 go-union = inl (refl, (Other 0, 7, Running, refl, (λ i e. refl)))
 
+-- which is recorded
 go-dropped : Gives 1 (Began 0 Union ∷ []) (Go 0 7) [] → ⊥
 unfolding records_of
 go-dropped gives = elim gives [
@@ -100,6 +101,7 @@ eventless : (before after : List Record) (events : List Event) → events ≡ []
 eventless before _ _ e (no_event _) = refl
 eventless before _ _ e (next_event _ event events added later gives rest) = absurd (cc)
 
+-- nothing happens that no event asks for
 unasked : FollowsFrom 1 [] [] (Began 0 Clear ∷ []) → ⊥
 unasked follows = let none = eventless [] _ [] refl follows in cc
 
@@ -114,6 +116,7 @@ one-event before _ _ event e (next_event _ given events added later gives rest) 
     subst (λ x. Gives 1 before x (added ++ later)) same
     (subst (λ l. Gives 1 before given l) (sym all) gives)
 
+-- an event may not be passed over
 unfollowed : FollowsFrom 1 [] (Begin 0 Clear ∷ []) [] → ⊥
 unfollowed follows = begin-dropped (one-event [] [] _ (Begin 0 Clear) refl follows)
 
@@ -125,8 +128,10 @@ cleared start = record {
   words = 0 ∷ [];
 }
 
+-- and follows the schedule
 pub follows-words : Follows 1 (9 ∷ []) schedule (cleared (9 ∷ []))
 follows-words = record { begins = refl; events = two-records }
 
+-- with other words it doesn't
 follows-other_words : Follows 1 (9 ∷ []) schedule (cleared (8 ∷ [])) → ⊥
 follows-other_words follows = let begins = follows.begins in cc

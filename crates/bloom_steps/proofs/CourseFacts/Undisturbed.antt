@@ -12,11 +12,12 @@ never : (b : Bool) → (b && not b) ≡ false
 never true = refl
 never false = refl
 
--- position 0 is the first of hash 1, and the only one of hash 0
+-- position 0 is the first of hash 1
 first : IsPosition 64 2 1 0
 unfolding chain
 first = (0, omega arith, refl)
 
+-- position 0 is the only one of hash 0
 pub only : (p : ℕ) → IsPosition 64 1 0 p → p ≡ 0
 unfolding chain
 only p x = let zeroth : x.0 ≡ 0 = omega (arith, x.1) in sym x.2 ∙ ap (place 64 0) zeroth
@@ -52,6 +53,7 @@ before-clears h =
     both_ways (turns_off between_clears 1 0)
     (h 1 0 (omega arith) (omega arith) (0, omega arith, refl)) on
 
+-- a record later there is another
 after-clears : NoneTurnedOff 1 between_clears 0 6 7 → ⊥
 unfolding content chain
 after-clears h =
@@ -71,6 +73,7 @@ elsewhere m p a b x = subst (λ q. turns_off clear_elsewhere m q ≡ false) (sym
     at (suc (suc (suc zero))) a b = refl
     at (suc (suc (suc (suc m)))) a b = absurd (omega (arith, b))
 
+-- though the clear does turn a position off
 elsewhere-off : turns_off clear_elsewhere 2 2 ≡ true
 unfolding content
 elsewhere-off = refl

@@ -15,6 +15,7 @@ use Rattle.bloom_steps.proofs.CourseFacts.Schedules.{cleared, follows-words, sch
 abbrev zeroed : List Taken
 zeroed = took (Zero 0) 0 Done ∷ []
 
+-- it is a whole clear
 zeroed-script : IsScript 1 1 Clear zeroed
 zeroed-script = record {
   count = refl;
@@ -24,6 +25,7 @@ zeroed-script = record {
   last = each-member _ zeroed ((λ l. refl), tt);
 }
 
+-- the calls of each party
 calls : (party : ℕ) → CallAfterCall 1 1 party (records_of party (cleared (9 ∷ [])).records)
 unfolding records_of
 calls zero = whole_call Clear zeroed [] zeroed-script no_call
@@ -34,7 +36,8 @@ calls (suc party) =
 -- the course that follows the schedule is lawful
 lawful : IsLawful 1 (cleared (9 ∷ []))
 lawful =
-    carried 1 (cleared (9 ∷ [])) (omega arith, refl, lit< tt, tt) refl refl (one-word 0 (lit< tt)) calls
+    carried 1 (cleared (9 ∷ [])) (omega arith, refl, lit< tt, tt) refl refl
+    (one-word 0 (lit< tt)) calls
 
 -- and it is the only one
 only : AtMostOne → (other : Course) → IsLawful 1 other → Follows 1 (9 ∷ []) schedule other

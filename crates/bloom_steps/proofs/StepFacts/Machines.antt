@@ -181,5 +181,6 @@ answers-true answers = let says = answers.says in cc
 answers-early : AnswersAfter 1 2 (Insert 1) [] (Some true) → ⊥
 answers-early answers = let says = answers.says in cc
 
+-- nor while it runs
 answers-running : AnswersAfter 1 2 (Insert 1) (took (Or 0 1) 1 Running ∷ []) (Some false) → ⊥
 answers-running answers = let none = answers.begun begun-one in cc

@@ -47,6 +47,7 @@ one-pair operation found other = record {
 abbrev pub union : List Taken
 union = took (Other 0) 5 Running ∷ took (Or 0 5) 0 Done ∷ []
 
+-- it is a whole union
 pub union-script : IsScript 1 2 Union union
 union-script = record {
   count = refl;
@@ -73,6 +74,7 @@ union_intersects is = let step = is.steps.writes 0 _ _ refl refl in cc
 abbrev pub intersect : List Taken
 intersect = took (Other 0) 5 Running ∷ took (And 0 5) 6 Done ∷ []
 
+-- it is a whole intersection
 pub intersect-script : IsScript 1 2 Intersect intersect
 intersect-script = record {
   count = refl;

@@ -12,6 +12,7 @@ use Rattle.bloom_steps.proofs.StepFacts.Members.{each-member, took}
 abbrev pub insert : List Taken
 insert = took (Or 0 1) 1 Running ∷ took (Or 0 1048576) 1 (Answer false) ∷ []
 
+-- it is a whole insert
 pub insert-script : IsScript 1 2 (Insert 1) insert
 unfolding chain
 insert-script =
@@ -55,6 +56,7 @@ insert_ended_twice is = let runs = is.running 0 _ refl (omega arith) in cc
 abbrev pub contains : List Taken
 contains = took (Load 0) 1 Running ∷ took (Load 0) 1048577 (Answer true) ∷ []
 
+-- it is a whole look-up
 pub contains-script : IsScript 1 2 (Contains 1) contains
 unfolding chain
 contains-script = record {
@@ -81,6 +83,7 @@ contains-script = record {
 abbrev contains_off : List Taken
 contains_off = took (Load 0) 1048576 (Answer false) ∷ []
 
+-- it is a whole look-up
 contains_off-script : IsScript 1 2 (Contains 1) contains_off
 unfolding chain
 contains_off-script = record {
@@ -114,6 +117,7 @@ contains_true is = let last = is.last 0 _ refl refl 0 _ refl refl in cc
 abbrev pub clear : List Taken
 clear = took (Zero 0) 0 Running ∷ took (Zero 1) 0 Done ∷ []
 
+-- it is a whole clear
 pub clear-script : IsScript 2 2 Clear clear
 clear-script = record {
   count = refl;

@@ -149,7 +149,8 @@ clear-drives = record {
 clear-idle : Drives Moves 1 2 Clear (memory 9) (memory 9) None → ⊥
 clear-idle d = made d.taken d.script.count (λ t g. d.script.steps 0 t g) d.linked
   where
-    made : (s : List Taken) → length s ≡ 1 → ((t : Taken) → slice_get s 0 ≡ Some t → t.step ≡ Zero 0)
+    made : (s : List Taken) → length s ≡ 1
+        → ((t : Taken) → slice_get s 0 ≡ Some t → t.step ≡ Zero 0)
         → Linked Moves (memory 9) s (memory 9) → ⊥
     made [] count steps link = omega (arith, count)
     made (t ∷ []) count steps link =
