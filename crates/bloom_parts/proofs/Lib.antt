@@ -12,6 +12,7 @@ pub mod PositionLemmas
 mod PowerBounds
 mod PowerDigits
 mod PowerWidths
+mod ReadingFacts
 mod RootLemmas
 mod RoundingLemmas
 mod SetLemmas

@@ -6,11 +6,13 @@ ghost use Rattle.std.specs.Iterator.{IsFinite};
 ghost use Rattle.std.specs.Iterator.Runs.{EachRunFrom, WholeRun};
 ghost use Rattle.bloom_parts.specs.Content.{content, index_of};
 
+mod atomic;
 mod kernels;
 mod places;
 mod words;
 
 use crate::error::FilterError;
+pub use atomic::{AtomicBitVec, AtomicWords};
 use kernels::{and_words, clear_words, or_words};
 use std::alloc::Global;
 use std::marker::Model;
