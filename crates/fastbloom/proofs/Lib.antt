@@ -1,8 +1,11 @@
 mod AlgebraLemmas
 mod BuilderLemmas
 mod FoundLemmas
+mod InsertedLemmas
 mod LawLemmas
 mod ListLemmas
 mod RateLemmas
+mod ReadingLemmas
 mod ReplyLemmas
+mod SharedLemmas
 mod StretchLemmas

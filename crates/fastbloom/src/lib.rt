@@ -1,10 +1,12 @@
 //! Bloom filters: sets of which a look-up may say yes by mistake, and never no.
 #![tactic(auto)]
 
+mod atomic;
 mod bloom;
 mod builder;
 pub mod laws;
 
+pub use atomic::AtomicBloomFilter;
 pub use bloom::{BloomFilter, Command};
 pub use bloom_parts::bit_vector::Words;
 pub use bloom_parts::error::FilterError;

@@ -73,9 +73,12 @@ impl AtomicBitVec {
     pub fn iter(&self) -> AtomicWords<'_>
         ensures vector { result.vector ≡ self.now }
         ensures next { result.next ≡ 0 }
+        ensures least { 1 ≤ self.now.count }
+        ensures most { self.now.count < 2 ^ 58 }
     {
         AtomicWords {
             vector: self,
+            end: self.len(),
             next: 0,
         }
     }
@@ -129,7 +132,9 @@ impl fmt::Debug for AtomicBitVec {
 #[derive(Drop)]
 pub struct AtomicWords<'a> {
     vector: &'a AtomicBitVec,
+    end: usize,
     next: usize,
+    ghost whole: { end ≡ vector.now.count },
 }
 
 impl<'a> Model for AtomicWords<'a> {
@@ -148,7 +153,7 @@ impl<'a> Iterator for AtomicWords<'a> {
     ghost remaining = { λ w. at_most (w.vector.count - w.next) };
 
     fn next(&mut self) -> Option<u64> {
-        if self.next >= self.vector.len() {
+        if self.next >= self.end {
             return None;
         }
         let word = self.vector.load(self.next);
@@ -158,7 +163,7 @@ impl<'a> Iterator for AtomicWords<'a> {
 
     // Both bounds are exact, so that a copy asks for its room at once.
     fn size_hint(&self) -> (usize, Option<usize>) {
-        let left = self.vector.len().saturating_sub(self.next);
+        let left = self.end.saturating_sub(self.next);
         (left, Some(left))
     }
 }
