@@ -1,11 +1,11 @@
 -- Many items of an iterator, each inserted into a filter that threads share.
-use Rattle.std.proofs.Common.{◌≡◌, ℕ, zero, suc, arith, List, [], ◌∷◌, ◌++◌, Bool, map, sym, subst, Option, Some, None}
+use Rattle.std.proofs.Common.{◌≡◌, ℕ, zero, suc, arith, List, [], ◌∷◌, ◌++◌, Bool, map, sym, subst, Option, None}
 use Rattle.std.specs.List.{All}
 use Rattle.std.specs.Iterator.{Yields}
 use Rattle.std.specs.Iterator.Runs.{WholeRun}
 use Rattle.std.proofs.iter.runs.Made.{run_of_exit}
 use Rattle.std.proofs.lemmas.List.{map-append}
-use Rattle.std.proofs.lemmas.List.Elements.{All-append, All-nil}
+use Rattle.std.proofs.lemmas.List.Elements.{All-append}
 use Rattle.fastbloom.specs.Shared.{SharedFilter, MakesInsert, MakesInserts}
 
 -- what holds of one element holds of a list of it
@@ -33,3 +33,10 @@ module _ {S T : Type 0} (hash_of : S → T → ℕ) (f : SharedFilter S) where
   made_inserts-whole steps start last end items came ended did =
       let made = run_of_exit steps start items last came end ended in
       (made.0, made.1, made.2, subst (MakesInserts hash_of f) (sym made.3.0) did)
+
+  -- what was inserted from an iterator was inserted from one that equals it
+  pub made_inserts-same : {I : Type 0} (steps : I → Option T → I → Type 0) (it : I)
+      → (same : I) × (same ≡ it) × WholeRun steps same (λ run. MakesInserts hash_of f run.items)
+      → WholeRun steps it (λ run. MakesInserts hash_of f run.items)
+  made_inserts-same steps it all =
+      subst (λ i. WholeRun steps i (λ run. MakesInserts hash_of f run.items)) all.1 all.2

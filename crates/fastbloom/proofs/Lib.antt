@@ -1,5 +1,6 @@
 mod AlgebraLemmas
 mod BuilderLemmas
+mod FormLemmas
 mod FoundLemmas
 mod InsertedLemmas
 mod LawLemmas

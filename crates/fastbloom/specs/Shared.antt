@@ -1,7 +1,9 @@
 -- What contracts see of a filter that threads share, and of which steps its calls are made. Its words
 -- aren't seen, since any thread may change them. This project's own.
-use Rattle.std.specs.Prelude.{◌≡◌, ◌≢◌, ℕ, ◌<◌, Bool, true, false, List, length, map, All, Option, Some}
+use Rattle.std.specs.Prelude.{◌≡◌, ◌≢◌, ℕ, ◌<◌, Bool, List, length, map, All, Option, Some}
 use Rattle.bloom_parts.specs.Made.{SharedWords, FoundByLoad, FoundByOr, FoundByAnd, MadeZero}
+use Rattle.fastbloom.specs.Builders.{RateStart, IsSizeOf, sized_filter, empty_start}
+use Rattle.fastbloom.specs.Filter.{Filter}
 use Rattle.bloom_steps.specs.declared.steps.vocabulary.Step.{Step}
 use Rattle.bloom_steps.specs.declared.steps.vocabulary.Step.TheVariants.{Load, Or, And, Zero, Other}
 use Rattle.bloom_steps.specs.declared.steps.vocabulary.Call.{Call}
@@ -18,6 +20,18 @@ pub record SharedFilter (S : Type 0) : Type 0 where
 pub record HaveSameShape {S : Type 0} (f g : SharedFilter S) : Type 0 where
   pub words : f.words.count ≡ g.words.count
   pub hashes : f.hashes ≡ g.hashes
+
+-- a shared filter has the number of words, the number of hashes and the hasher of a plain one
+pub record HasFormOf {S : Type 0} (f : SharedFilter S) (plain : Filter S) : Type 0 where
+  pub words : f.words.count ≡ length plain.words
+  pub hashes : f.hashes ≡ plain.hashes
+  pub hasher : f.hasher ≡ plain.hasher
+
+-- it has those of the filter for these items at the rate of a builder
+abbrev pub HasFormFor : {S : Type 0} → RateStart S → ℕ → SharedFilter S → Type 0
+HasFormFor start items f =
+    (bits : ℕ) × IsSizeOf start items bits
+    × HasFormOf f (sized_filter (empty_start start bits) items)
 
 -- a step was made on a vector, or on the other where it reads the other's word, and found this
 abbrev pub IsMade : SharedWords → SharedWords → Step → ℕ → Type 0

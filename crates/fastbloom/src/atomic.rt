@@ -1,6 +1,9 @@
 //! The Bloom filter that threads share, and change without waiting for one another.
-ghost use Rattle.std.specs.Prelude.{◌≡◌, ◌*◌, ◌+◌, ◌≤◌, max, Option, Some, None, length};
+ghost use Rattle.std.specs.Prelude.{◌≡◌, ◌*◌, ◌≤◌, max, Some, replicate, vec_len, IfOk};
+ghost use Rattle.std.specs.Result.{result_err};
+ghost use Rattle.bloom_parts.specs.Keys.{HasKey};
 ghost use Rattle.bloom_steps.specs.declared.steps.vocabulary.Call.TheVariants.{Contains};
+ghost use Rattle.fastbloom.specs.Builders.{words_for, words_refusal, bits_refusal, RefusesAs};
 ghost use Rattle.fastbloom.specs.Shared.{MakesCall, MakesInsert};
 
 mod items;
@@ -8,10 +11,14 @@ mod live_store;
 mod sets;
 mod words;
 
+use crate::builder::{AtomicBuilderWithBits, AtomicBuilderWithFalsePositiveRate};
 use bloom_parts::bit_vector::AtomicBitVec;
+use bloom_parts::error::FilterError;
 use bloom_parts::hasher::DefaultHasher;
+use bloom_parts::math::Rate;
 use bloom_steps::{Call, drive};
 use live_store::LiveStore;
+use std::alloc::Global;
 use std::marker::Model;
 
 /// A Bloom filter that threads share: each call takes `&self`, and none waits for another.
@@ -34,6 +41,44 @@ impl<S> Model for AtomicBloomFilter<S> {
     ghost view = { λ f. record { words = f.words; hashes = f.num_hashes; hasher = f.hasher } };
 
     ghost invariant = { λ f. (1 ≤ f.num_hashes) × (f.num_hashes < 2 ^ 32) };
+}
+
+impl AtomicBloomFilter {
+    /// A builder of a filter of at least this many bits, all off, under the zero key.
+    ///
+    /// # Errors
+    /// `ZeroBits` for no bits, `TooManyWords` for more than 2^58 - 1 words, and else `Memory`.
+    pub fn with_num_bits(
+        alloc: Global,
+        num_bits: usize,
+    ) -> Result<AtomicBuilderWithBits, FilterError>
+        ensures words { IfOk result (λ builder.
+            builder.words ≡ replicate (words_for num_bits) 0) }
+        ensures key { IfOk result (λ builder. HasKey builder.hasher 0 0) }
+        ensures refused { RefusesAs (bits_refusal num_bits) (result_err result) }
+    {
+        AtomicBuilderWithBits::with_num_bits(alloc, num_bits)
+    }
+
+    /// A builder of a filter that begins with these words, under the zero key.
+    ///
+    /// # Errors
+    /// `EmptyWords` where there is no word, and `TooManyWords` where there are more than 2^58 - 1.
+    pub fn from_vec(bit_vec: Vec<u64>) -> Result<AtomicBuilderWithBits, FilterError>
+        ensures words { IfOk result (λ builder. builder.words ≡ bit_vec.items) }
+        ensures key { IfOk result (λ builder. HasKey builder.hasher 0 0) }
+        ensures refused { result_err result ≡ words_refusal (vec_len bit_vec) }
+    {
+        AtomicBuilderWithBits::from_vec(bit_vec)
+    }
+
+    /// A builder of a filter that is sized by a rate of false positives, under the zero key.
+    pub fn with_false_pos(rate: Rate) -> AtomicBuilderWithFalsePositiveRate
+        ensures rate { result.rate ≡ rate }
+        ensures key { HasKey result.hasher 0 0 }
+    {
+        AtomicBuilderWithFalsePositiveRate::new(rate)
+    }
 }
 
 impl<S> AtomicBloomFilter<S> {

@@ -20,8 +20,8 @@ use bloom_parts::error::FilterError;
 use bloom_parts::hasher::DefaultHasher;
 use bloom_parts::math::Rate;
 pub use command::Command;
-pub(crate) use rates::expected_rate;
 use positions::{contains_positions, insert_positions};
+pub(crate) use rates::expected_rate;
 use std::alloc::Global;
 use std::marker::Model;
 

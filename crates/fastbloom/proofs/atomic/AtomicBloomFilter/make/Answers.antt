@@ -5,4 +5,4 @@ pub returns-clause-made : goal.returns-clause-made
 returns-clause-made g c =
     let store = c.new-store.ensures in
     rw (← c.self.view_is, ← c.other.view_is)
-        (drives-make _ _ _ _ _ _ store.words store.other c.drive.ensures.script)
+    (drives-make _ _ _ _ _ _ store.words store.other c.drive.ensures.script)

@@ -1,4 +1,4 @@
-use Rattle.std.proofs.Common.{ap, sym, subst, arith, rules}
+use Rattle.std.proofs.Common.{ap, subst, arith, rules}
 use Rattle.bloom_parts.specs.Made.{FoundByLoad}
 use Rattle.fastbloom.proofs.ReadingLemmas.{below-next}
 use Rattle.fastbloom.proofs.atomic.AtomicBloomFilter.same_words.Goals as goal

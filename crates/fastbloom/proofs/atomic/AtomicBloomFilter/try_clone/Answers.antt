@@ -1,6 +1,4 @@
-use Rattle.std.proofs.Common.{◌≡◌, ◌∙◌, ap, length, arith, rules}
-use Rattle.bloom_parts.specs.Made.{SharedWords}
-use Rattle.bloom_parts.specs.Reading.{Reading}
+use Rattle.std.proofs.Common.{◌∙◌, ap, arith, rules}
 use Rattle.fastbloom.proofs.ReadingLemmas.{read-whole}
 use Rattle.fastbloom.proofs.atomic.AtomicBloomFilter.try_clone.Goals as goal
 
