@@ -18,6 +18,7 @@ mod PowerDigits
 mod PowerWidths
 pub mod PublishedLemmas
 mod RateFacts
+mod ReadingFacts
 mod RootLemmas
 mod RoundingLemmas
 mod SetLemmas

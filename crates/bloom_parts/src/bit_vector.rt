@@ -6,11 +6,13 @@ ghost use Rattle.std.specs.Iterator.{IsFinite};
 ghost use Rattle.std.specs.Iterator.Runs.{EachRunFrom, WholeRun};
 ghost use Rattle.bloom_parts.specs.Content.{AreWords, content, index_of};
 
+mod atomic;
 mod by_hash;
 mod kernels;
 mod words;
 
 use crate::error::FilterError;
+pub use atomic::{AtomicBitVec, AtomicWords};
 use kernels::{and_words, clear_words, or_words};
 use std::alloc::Global;
 use std::marker::Model;

@@ -2,6 +2,8 @@ pub mod Builders
 pub mod CommandOf
 pub mod Filter
 pub mod Laws
+pub mod LiveStore
 pub mod Replies
+pub mod Shared
 pub mod SourceHash
 pub mod Stretches

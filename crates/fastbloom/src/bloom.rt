@@ -16,6 +16,7 @@ use bloom_parts::bit_vector::{BitVec, Words};
 use bloom_parts::hasher::DefaultHasher;
 pub use command::Command;
 use positions::{contains_positions, insert_positions};
+pub(crate) use rates::expected_rate;
 use std::marker::Model;
 
 /// A Bloom filter: a set of hashes that never forgets one, and may take one for another.

@@ -10,9 +10,8 @@ ghost use Rattle.fastbloom.specs.SourceHash.{hash_by, IsFunctionOfBytes};
 
 use bloom_parts::hasher::{DefaultHasher, RandomDefaultHasher};
 use bloom_parts::laws::{content_of_words, hash_of_pieces};
-use std::hash::{BuildHasher, Hash, Hasher};
-
 pub use bloom_steps::laws::{at_most_one_course, steps_in_memory};
+use std::hash::{BuildHasher, Hash, Hasher};
 
 /// An insert answers what a look-up would have, and afterwards the hash is contained.
 pub fn insert_answers_contains<S>()
