@@ -23,7 +23,8 @@ most-enough num den above fits = (2 ^ 32, root-zero, omega (arith, above, fits))
 
 -- the numbers of the test, where no fewer parts are enough
 module _ (num den parts t : ℕ) (num_fits : num < 2 ^ 64) (den_fits : den < 2 ^ 64)
-    (root : IsRoot (parts % 64) t) (few : (fewer : ℕ) → fewer < parts → IsEnough num den fewer → ⊥) where
+    (root : IsRoot (parts % 64) t)
+    (few : (fewer : ℕ) → fewer < parts → IsEnough num den fewer → ⊥) where
   -- had the shifted rate 66 digits, then one whole halving fewer would be enough
   too_wide : 64 ≤ parts → 2 ^ 65 ≤ num * 2 ^ (parts / 64) → ⊥
   too_wide large wide =
@@ -65,7 +66,8 @@ module _ (num den parts t : ℕ) (num_fits : num < 2 ^ 64) (den_fits : den < 2 ^
     product-fits =
         let product : num * 2 ^ (parts / 64) * t ≤ 2 ^ 65 * 2 ^ 33 =
         mul-le (num * 2 ^ (parts / 64)) t (2 ^ 65) (2 ^ 33)
-        (omega (arith, shifted-fits)) (omega (arith, root-below (parts % 64) t (omega arith) root)) in
+        (omega (arith, shifted-fits))
+        (omega (arith, root-below (parts % 64) t (omega arith) root)) in
         rw num-shifted (omega (arith, product))
 
     -- so the code compares the numbers of the definition

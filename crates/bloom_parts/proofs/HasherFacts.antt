@@ -1,4 +1,5 @@
--- What contracts say of hashers, each at a case that holds and at one as near as can be that doesn't.
+-- What contracts say of hashers, each at a case that holds and at one as near as can be that
+-- doesn't.
 use Rattle.std.proofs.Common.{◌≡◌, ℕ, List, [], ◌∷◌, ◌+◌, ◌^◌, fold, refl, ◌∙◌, ap, arith}
 use Rattle.bloom_parts.specs.declared.hasher.CloneBuildHasher.{CloneBuildHasher}
 use Rattle.bloom_parts.specs.declared.hasher.sip.RandomDefaultHasher.{RandomDefaultHasher}
@@ -56,7 +57,8 @@ hashed-count : Hashed (record fresh { count = 1 }) 0 0 [] → ⊥
 hashed-count is = omega (arith, is.count)
 
 -- seven bytes and two more: a word, and one byte held
-write-word : write (record fresh { held = 1 ∷ 2 ∷ 3 ∷ 4 ∷ 5 ∷ 6 ∷ 7 ∷ []; count = 255 }) (8 ∷ 9 ∷ [])
+write-word : write
+    (record fresh { held = 1 ∷ 2 ∷ 3 ∷ 4 ∷ 5 ∷ 6 ∷ 7 ∷ []; count = 255 }) (8 ∷ 9 ∷ [])
     ≡ record fresh { words = absorb (start 0 0) 0x0807_0605_0403_0201; held = 9 ∷ []; count = 1 }
 unfolding write whole_words rest
 write-word = refl
@@ -93,11 +95,13 @@ answers-other told =
     omega (arith, told 0x0706_0504_0302_0100 0x0f0e_0d0c_0b0a_0908 [] hashed-counting)
 
 -- the words of the key bytes 0 to 15
-key_low-counting : key_low (0 ∷ 1 ∷ 2 ∷ 3 ∷ 4 ∷ 5 ∷ 6 ∷ 7 ∷ 8 ∷ 9 ∷ 10 ∷ 11 ∷ 12 ∷ 13 ∷ 14 ∷ 15 ∷ [])
+key_low-counting : key_low
+    (0 ∷ 1 ∷ 2 ∷ 3 ∷ 4 ∷ 5 ∷ 6 ∷ 7 ∷ 8 ∷ 9 ∷ 10 ∷ 11 ∷ 12 ∷ 13 ∷ 14 ∷ 15 ∷ [])
     ≡ 0x0706_0504_0302_0100
 key_low-counting = refl
 
-key_high-counting : key_high (0 ∷ 1 ∷ 2 ∷ 3 ∷ 4 ∷ 5 ∷ 6 ∷ 7 ∷ 8 ∷ 9 ∷ 10 ∷ 11 ∷ 12 ∷ 13 ∷ 14 ∷ 15 ∷ [])
+key_high-counting : key_high
+    (0 ∷ 1 ∷ 2 ∷ 3 ∷ 4 ∷ 5 ∷ 6 ∷ 7 ∷ 8 ∷ 9 ∷ 10 ∷ 11 ∷ 12 ∷ 13 ∷ 14 ∷ 15 ∷ [])
     ≡ 0x0f0e_0d0c_0b0a_0908
 key_high-counting = refl
 
@@ -137,7 +141,9 @@ takes_each-none same = omega (arith, ap (λ h. h.count) same)
 hashes_pieces-two : HashesPieces 0 0 ((7 ∷ []) ∷ (8 ∷ []) ∷ []) 0xcef0_aac2_190e_4bfa
 unfolding finish start round absorb answer
 hashes_pieces-two =
-    (fresh, after_two, hashed-fresh, takes_each-two, λ k0 k1 bytes is. answers after_two k0 k1 bytes is)
+    let told : Answers after_two 0xcef0_aac2_190e_4bfa =
+    λ k0 k1 bytes is. answers after_two k0 k1 bytes is in
+    (fresh, after_two, hashed-fresh, takes_each-two, told)
 
 -- the chain of the hash 1 before its first value and before its second
 is_at-first : IsAt 1 0 (record { newest = 1; added = 0x517c_c1b7_2722_0a95 })
@@ -161,5 +167,6 @@ from_cutting : CuttingLaw → (hash : ℕ) → HashesPieces 0 0 ((7 ∷ 8 ∷ []
 from_cutting law hash is =
     law 0 0 ((7 ∷ 8 ∷ []) ∷ []) ((7 ∷ []) ∷ (8 ∷ []) ∷ []) hash _ is hashes_pieces-two refl
 
-from_joining : JoiningLaw → finish (fold write fresh ((7 ∷ []) ∷ (8 ∷ []) ∷ [])) ≡ sip 0 0 (7 ∷ 8 ∷ [])
+from_joining : JoiningLaw
+    → finish (fold write fresh ((7 ∷ []) ∷ (8 ∷ []) ∷ [])) ≡ sip 0 0 (7 ∷ 8 ∷ [])
 from_joining law = law fresh 0 0 ((7 ∷ []) ∷ (8 ∷ []) ∷ []) hashed-fresh

@@ -98,4 +98,5 @@ share-below n hash some fits =
 pub range_law : RangeLaw
 range_law n k hash p some fits is =
     let found = position-from n k hash p is in
-    subst (λ q. q < n) found.2 (share-below n (chain hash found.0) some (chain-fits hash found.0 fits))
+    subst (λ q. q < n) found.2
+    (share-below n (chain hash found.0) some (chain-fits hash found.0 fits))

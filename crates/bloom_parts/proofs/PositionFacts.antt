@@ -6,7 +6,7 @@ use Rattle.bloom_parts.specs.Chain.{chain}
 use Rattle.bloom_parts.specs.Content.{content, index_of, AreWords, EqualWordsLaw, BoundLaw}
 use Rattle.bloom_parts.specs.Places.{positions, are_in, IsPosition, IsPart, PositionsLaw, SubsetLaw, RangeLaw}
 use Rattle.bloom_parts.specs.Shares.{share_start, IsOnly, ShareLaw, ReachedLaw, EvenLaw}
-use Rattle.bloom_parts.proofs.PlaceLemmas.{positions_law, part-from}
+use Rattle.bloom_parts.proofs.PlaceLemmas.{part-from}
 
 -- where the greatest hash lies among three positions, and the hashes at the start of a share
 index-greatest : index_of 3 0xffff_ffff_ffff_ffff ≡ 2
@@ -45,7 +45,11 @@ unfolding chain
 is_position-third = (2, lit< tt, refl)
 
 is_position-fourth : IsPosition 64 3 1 29 → ⊥
-is_position-fourth is = both_ways _ positions-fourth ((positions_law 64 3 1 29).1 is)
+unfolding chain
+is_position-fourth (zero, below, is) = omega (arith, is)
+is_position-fourth (suc zero, below, is) = omega (arith, is)
+is_position-fourth (suc (suc zero), below, is) = omega (arith, is)
+is_position-fourth (suc (suc (suc i)), below, is) = omega (arith, below)
 
 -- they are in a word with the bits 0, 20 and 32, and not in one without the last
 are_in-all : are_in 64 3 1 (content (4296015873 ∷ [])) ≡ true

@@ -63,7 +63,8 @@ goes_on (a ∷ b ∷ c ∷ d ∷ e ∷ f ∷ []) more = record { words = refl; r
 goes_on (a ∷ b ∷ c ∷ d ∷ e ∷ f ∷ g ∷ []) more = record { words = refl; remain = refl }
 
 -- eight bytes are one word, in front of what follows
-word-first : (word bytes : List ℕ) → length word ≡ 8 → whole_words (word ++ bytes) ≡ from_le_bytes w64 word ∷ whole_words bytes
+word-first : (word bytes : List ℕ) → length word ≡ 8
+    → whole_words (word ++ bytes) ≡ from_le_bytes w64 word ∷ whole_words bytes
 unfolding whole_words
 word-first (a ∷ b ∷ c ∷ d ∷ e ∷ f ∷ g ∷ h ∷ []) bytes eight = refl
 word-first (a ∷ b ∷ c ∷ d ∷ e ∷ f ∷ g ∷ h ∷ i ∷ word) bytes eight = absurd (omega arith)
@@ -108,7 +109,8 @@ empty [] none = refl
 empty (a ∷ bytes) none = absurd (omega arith)
 
 -- the first chunks of eight bytes, joined
-concat-first_chunks : (k : ℕ) (bytes : List ℕ) → concat (first_chunks 8 k bytes) ≡ take (k * 8) bytes
+concat-first_chunks : (k : ℕ) (bytes : List ℕ)
+    → concat (first_chunks 8 k bytes) ≡ take (k * 8) bytes
 concat-first_chunks zero bytes = refl
 concat-first_chunks (suc k) bytes =
     let size : suc k * 8 ≡ 8 + k * 8 = omega arith in
