@@ -1,17 +1,14 @@
-//! The arguments of the program, and numbers in text.
+//! The arguments of the program.
 ghost use Rattle.std.specs.Prelude.{◌≡◌, ◌≢◌, ◌^◌, ◌≤◌, map, string_bytes, IfOk, IfErr, IfSome};
 ghost use Rattle.std.specs.Result.{result_ok};
 ghost use Rattle.bloom.specs.Arguments.{asked_of, within_limits};
-ghost use Rattle.bloom.specs.Lines.{number_of};
 
 use crate::fault::Fault;
+use crate::number::number;
 use std::alloc::AllocGlobal;
 use std::env;
 use std::io::ErrorKind;
 use std::rt::Env;
-
-// The most digits of a number.
-const MOST_DIGITS: usize = 20;
 
 // The greatest number of words that the program takes.
 const MAX_WORDS: u64 = 1_048_576;
@@ -67,21 +64,4 @@ fn limited(words: Option<u64>, hashes: Option<u64>) -> Option<(usize, u32)>
         return None;
     }
     Some((words as usize, hashes as u32))
-}
-
-/// The number that a text of 1 to 20 decimal digits is, if it is below 2^64.
-pub fn number(text: &[u8]) -> Option<u64>
-    ensures { result ≡ number_of text.now }
-{
-    if text.is_empty() || text.len() > MOST_DIGITS {
-        return None;
-    }
-    let mut value: u128 = 0;
-    'digits: for digit in text {
-        if !digit.is_ascii_digit() {
-            return None;
-        }
-        value = value * 10 + u128::from(*digit - b'0');
-    }
-    u64::try_from(value).ok()
 }

@@ -10,7 +10,8 @@ mod line_reader;
 mod text;
 
 use crate::fault::Fault;
-use fastbloom::BloomFilter;
+use fastbloom::laws::lists_join;
+use fastbloom::{BloomFilter, DefaultHasher};
 use line::Line;
 use line_reader::{LineReader, Next};
 use std::alloc::Global;
@@ -18,7 +19,7 @@ use std::io::{Read, Write};
 use text::{put_reply, put_words};
 
 // Carries out a line, and writes its text.
-fn carry_out<W: Write>(filter: &mut BloomFilter, line: Line, output: &mut W) -> Result<(), Fault>
+fn serve_line<W: Write>(filter: &mut BloomFilter, line: Line, output: &mut W) -> Result<(), Fault>
     ensures carried { OnOk result (Carried filter.old filter.new
         (W.contents output.old) (W.contents output.new) (line ∷ [])) }
     ensures fault { IfErr result (λ fault. fault ≡ Fault.Output) }
@@ -51,13 +52,14 @@ fn serve_lines<R: Read, W: Write>(
     ensures room { result ≢ Err Fault.Memory }
     ensures usage { result ≢ Err Fault.Usage }
 {
+    lists_join::<DefaultHasher>();
     let mut number = 1u64;
     // Two counts, so that none ends before the input does.
     'rounds: for _round in 0..u64::MAX {
         'lines: for _line in 0..u64::MAX {
             match lines.next_command(input, output)? {
                 Next::End => return Ok(()),
-                Next::Good(line) => carry_out(filter, line, output)?,
+                Next::Good(line) => serve_line(filter, line, output)?,
                 Next::Bad => return Err(Fault::Line(number)),
             }
             number = number.saturating_add(1);

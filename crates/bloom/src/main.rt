@@ -7,6 +7,7 @@ ghost use Rattle.bloom_parts.specs.Keys.{HasKey};
 mod command_line;
 mod engine;
 mod fault;
+mod number;
 #[cfg(test)]
 mod tests;
 

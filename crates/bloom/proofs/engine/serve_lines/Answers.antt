@@ -28,6 +28,6 @@ lines-preserved g c =
     let command = rw c.in-Good.is at c.in_ok-next_command.ensures.next in
     record {
       knows = c.next_command.ensures.knows;
-      under_way = under_way-more _ _ _ _ _ _ _ _ c.lines.invariant.under_way c.next_command.ensures.kept _ _ _ c.in-Good.line _ command c.in_ok-carry_out-in-Good.ensures.carried
+      under_way = under_way-more _ _ _ _ _ _ _ _ c.lines.invariant.under_way c.next_command.ensures.kept c.lists_join.ensures _ _ _ c.in-Good.line _ command c.in_ok-serve_line-in-Good.ensures.carried
           c.saturating_add-number.ensures;
     }

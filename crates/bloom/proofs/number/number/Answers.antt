@@ -4,8 +4,8 @@ use Rattle.std.specs.Char.{is_ascii_digit}
 use Rattle.std.proofs.lemmas.Bool.{eqb-true, eqb-false}
 use Rattle.bloom.specs.Lines.{value_of}
 use Rattle.bloom.proofs.NumberLemmas.{tried, number_of-short, number_of-long, number_of-letter, number_of-digits}
-use Rattle.bloom.proofs.command_line.number.Goals as goal
-use Rattle.bloom.proofs.command_line.number.Goals.{then-is_empty-via-then-is_empty, then-is_empty-via-else-is_empty+then-text-gt-MOST_DIGITS}
+use Rattle.bloom.proofs.number.number.Goals as goal
+use Rattle.bloom.proofs.number.number.Goals.{then-is_empty-via-then-is_empty, then-is_empty-via-else-is_empty+then-text-gt-MOST_DIGITS}
 
 pub returns-then-is_empty : goal.returns-then-is_empty
 returns-then-is_empty c = elim c.then-is_empty.branch [
