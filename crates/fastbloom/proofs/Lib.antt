@@ -10,8 +10,10 @@ mod LawFacts
 mod LawLemmas
 mod ListFacts
 mod ListLemmas
+mod LookLemmas
 mod RateFacts
 mod RateLemmas
 mod ReplyLemmas
 mod SetFacts
 mod StretchLemmas
+mod TurnLemmas
