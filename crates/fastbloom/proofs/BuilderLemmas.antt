@@ -4,9 +4,10 @@ use Rattle.std.proofs.lemmas.Bool.{eqb-true, eq-eqb}
 use Rattle.std.specs.Cmp.Lexicographic.{pointwise, same_text, nat_list_eq_equiv}
 use Rattle.std.proofs.Math.Nat.{max_comm}
 use Rattle.std.specs.Iterator.Runs.{WholeRun}
+use Rattle.bloom_parts.specs.declared.error.FilterError.{FilterError}
 use Rattle.bloom_parts.specs.Rates.{num_of, den_of}
 use Rattle.bloom_parts.specs.Sizing.{IsSizeFor}
-use Rattle.fastbloom.specs.Builders.{RateStart, words_for, sized_filter, empty_start, IsSizeOf, IsMadeFor}
+use Rattle.fastbloom.specs.Builders.{RateStart, words_for, sized_filter, empty_start, size_refusal, RefusesAs, IsSizeOf, IsMadeFor}
 use Rattle.fastbloom.specs.Filter.{Filter}
 use Rattle.fastbloom.specs.Laws.{EqualStartsLaw, EqualRateStartsLaw}
 use Rattle.fastbloom.specs.Replies.{InsertsItems}
@@ -42,6 +43,15 @@ made_for-zeros inside start words items bits filter is_start sized zeros made = 
   made ∙ ap (λ w. sized_filter (record { words = w; hasher = inside.hasher }) items) zeros
       ∙ ap (λ b. sized_filter (empty_start b bits) items) is_start,
 )
+
+-- a size that is refused is refused as `zero_bits` refuses it
+pub refused-size : {S : Type 0} (inside start : RateStart S) (expected items bits : ℕ)
+    (error : Option FilterError) → inside ≡ start → items ≡ max expected 1
+    → IsSizeFor items (num_of inside.rate) (den_of inside.rate) bits
+    → RefusesAs (size_refusal bits) error
+    → (size : ℕ) × IsSizeOf start expected size × RefusesAs (size_refusal size) error
+refused-size inside start expected items bits error is_start is_items sized refused =
+    (bits, size_of-rate inside start expected items bits is_start is_items sized, refused)
 
 -- lists of words are compared word by word
 pub equal_starts_law : (S : Type 0) → EqualStartsLaw S

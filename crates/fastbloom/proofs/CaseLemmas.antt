@@ -39,7 +39,8 @@ content-past words p past =
 -- past the bits no hash has a position
 pub positions-past : (n k hash p : ℕ) → 0 < n → hash < 2 ^ 64 → n ≤ p → positions n k hash p ≡ false
 positions-past n k hash p some fits past =
-    none (positions n k hash p) (λ on. let below = range_law n k hash p some fits on in omega (arith, below, past))
+    none (positions n k hash p)
+    (λ on. let below = range_law n k hash p some fits on in omega (arith, below, past))
   where
     none : (b : Bool) → (b ≡ true → ⊥) → b ≡ false
     none true never = absurd (never refl)

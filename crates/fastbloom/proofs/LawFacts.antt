@@ -66,7 +66,8 @@ rebuilds-none = record { words = refl; hashes = refl; hasher = refl }
 
 -- other words
 rebuilds-words : Rebuilds (one_word 5) (one_word 4) → ⊥
-rebuilds-words did = let wrong : 4 ≡ 5 = ap (λ words. get_or words 0 0) did.words in omega (arith, wrong)
+rebuilds-words did =
+    let wrong : 4 ≡ 5 = ap (λ words. get_or words 0 0) did.words in omega (arith, wrong)
 
 -- a hash more
 rebuilds-hashes : Rebuilds (one_word 5) (filter (5 ∷ []) 3 7) → ⊥

@@ -12,6 +12,7 @@ mod LawFacts
 mod LawLemmas
 mod ListFacts
 mod ListLemmas
+mod LookLemmas
 mod RateFacts
 mod RateLemmas
 mod ReadingLemmas
@@ -19,3 +20,4 @@ mod ReplyLemmas
 mod SetFacts
 mod SharedLemmas
 mod StretchLemmas
+mod TurnLemmas

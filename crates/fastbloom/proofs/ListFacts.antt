@@ -129,8 +129,10 @@ carried_out-order did = let wrong : false ≡ true = did.bits 3 in cc
 -- each filter that the list names has one word and one hash
 pub others-fit : All (Fits (filter (5 ∷ []) 1 7)) with_others
 others-fit =
-    All-from_recursion (Fits (filter (5 ∷ []) 1 7)) with_others
-    (record { words = refl; hashes = refl }, (record { words = refl; hashes = refl }, (tt, (tt, tt))))
+    All-from_recursion (Fits (filter (5 ∷ []) 1 7)) with_others (
+      record { words = refl; hashes = refl },
+      (record { words = refl; hashes = refl }, (tt, (tt, tt))),
+    )
 
 -- a clear fits every filter
 fits-clear : Fits (filter (5 ∷ []) 1 7) Clear

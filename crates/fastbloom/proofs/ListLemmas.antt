@@ -9,18 +9,21 @@ use Rattle.std.proofs.iter.runs.Made.{run_of_exit}
 use Rattle.bloom_parts.specs.Content.{content}
 use Rattle.bloom_parts.specs.Deciders.{Decider, last_decision, state}
 use Rattle.bloom_parts.specs.Operations.{Operation, Insert, decides, state_after, reply}
-use Rattle.fastbloom.specs.Filter.{Filter, SameShape}
+use Rattle.fastbloom.specs.Filter.{Filter, SameShape, num_bits_of}
 use Rattle.fastbloom.specs.Replies.{CarriesOut, InsertsItems, replies, replies_after}
 
+-- of three decisions, whichever two come first
 option_or-assoc : {T : Type 0} (a b c : Option T)
     → option_or (option_or a b) c ≡ option_or a (option_or b c)
 option_or-assoc None b c = refl
 option_or-assoc (Some x) b c = refl
 
+-- no decision changes nothing
 option_or-none : {T : Type 0} (a : Option T) → option_or a None ≡ a
 option_or-none None = refl
 option_or-none (Some x) = refl
 
+-- a decision is carried out on what an earlier one made
 unwrap_or-or : {T : Type 0} (a b : Option T) (x : T)
     → unwrap_or (option_or a b) x ≡ unwrap_or a (unwrap_or b x)
 unwrap_or-or None b x = refl
@@ -39,13 +42,16 @@ module _ (n k : ℕ) where
   pub state_after-append : (A : ℕ → Bool) (xs ys : List Operation)
       → state_after n k A (xs ++ ys) ≡ state_after n k (state_after n k A xs) ys
   state_after-append A xs ys = λ i p.
+      let first = map (decides n k) xs in
+      let second = map (decides n k) ys in
       (ap (λ ds. state A ds p) (map-append (decides n k) xs ys)
-      ∙ ap (λ o. unwrap_or o (A p)) (last_decision-append (map (decides n k) xs) (map (decides n k) ys) p)
-      ∙ unwrap_or-or (last_decision (map (decides n k) ys) p) (last_decision (map (decides n k) xs) p) (A p)) i
+      ∙ ap (λ o. unwrap_or o (A p)) (last_decision-append first second p)
+      ∙ unwrap_or-or (last_decision second p) (last_decision first p) (A p)) i
 
   -- commands that were carried out before may count as a set
   replies_after-start : (A : ℕ → Bool) (xs earlier ys : List Operation)
-      → replies_after n k A (xs ++ earlier) ys ≡ replies_after n k (state_after n k A xs) earlier ys
+      → replies_after n k A (xs ++ earlier) ys
+      ≡ replies_after n k (state_after n k A xs) earlier ys
   replies_after-start A xs earlier [] = refl
   replies_after-start A xs earlier (y ∷ ys) =
       ap (λ B. option_to_list (reply n k B y) ++ replies_after n k A ((xs ++ earlier) ++ y ∷ []) ys)
@@ -54,16 +60,19 @@ module _ (n k : ℕ) where
       (ap (λ l. replies_after n k A l ys) (append_assoc xs earlier (y ∷ []))
       ∙ replies_after-start A xs (earlier ++ y ∷ []) ys)
 
+  -- the replies of two lists of commands that come after earlier ones
   replies_after-append : (A : ℕ → Bool) (earlier xs ys : List Operation)
       → replies_after n k A earlier (xs ++ ys)
       ≡ replies_after n k A earlier xs ++ replies_after n k A (earlier ++ xs) ys
-  replies_after-append A earlier [] ys = ap (λ l. replies_after n k A l ys) (sym (append-nil earlier))
+  replies_after-append A earlier [] ys =
+      ap (λ l. replies_after n k A l ys) (sym (append-nil earlier))
   replies_after-append A earlier (x ∷ xs) ys =
       let first = option_to_list (reply n k (state_after n k A earlier) x) in
+      let middle = replies_after n k A (earlier ++ x ∷ []) xs in
       ap (λ l. first ++ l)
       (replies_after-append A (earlier ++ x ∷ []) xs ys
-      ∙ ap (λ l. replies_after n k A (earlier ++ x ∷ []) xs ++ replies_after n k A l ys) (append_assoc earlier (x ∷ []) xs))
-      ∙ sym (append_assoc first (replies_after n k A (earlier ++ x ∷ []) xs) (replies_after n k A (earlier ++ x ∷ xs) ys))
+      ∙ ap (λ l. middle ++ replies_after n k A l ys) (append_assoc earlier (x ∷ []) xs))
+      ∙ sym (append_assoc first middle (replies_after n k A (earlier ++ x ∷ xs) ys))
 
   -- the replies of two lists of commands
   pub replies-append : (A : ℕ → Bool) (xs ys : List Operation)
@@ -74,14 +83,16 @@ module _ (n k : ℕ) where
       (ap (λ l. replies_after n k A l ys) (sym (append-nil xs)) ∙ replies_after-start A xs [] ys)
 
 -- what two lists do one after the other, their join does
-pub carries_out-append : {S : Type 0} (old mid new : Filter S) (xs ys : List Operation) (r s : List Bool)
-    → CarriesOut old xs mid r → CarriesOut mid ys new s → CarriesOut old (xs ++ ys) new (r ++ s)
+pub carries_out-append : {S : Type 0} (old mid new : Filter S) (xs ys : List Operation)
+    (r s : List Bool) → CarriesOut old xs mid r → CarriesOut mid ys new s
+    → CarriesOut old (xs ++ ys) new (r ++ s)
 carries_out-append old mid new xs ys r s first second =
-    let n = 64 * length old.words in
+    let n = num_bits_of old in
     let k = old.hashes in
     let A = content old.words in
     let start : content mid.words ≡ state_after n k A xs = λ i p. first.bits p i in
-    let same_shape : SameShape mid old = record { words = sym first.shape.words; hashes = sym first.shape.hashes } in
+    let same_shape : SameShape mid old =
+    record { words = sym first.shape.words; hashes = sym first.shape.hashes } in
     record {
       bits = λ p.
           second.bits p
@@ -139,19 +150,22 @@ module _ {S T : Type 0} (hash_of : S → T → ℕ) (old : Filter S) where
   inserts_items-next mid new items item reply did next =
       let hash = hash_of old.hasher in
       let inserts = map Insert (map hash items) in
-      let joined : map Insert (map hash (items ++ item ∷ [])) ≡ inserts ++ Insert (hash_of mid.hasher item) ∷ [] =
+      let joined : map Insert (map hash (items ++ item ∷ []))
+      ≡ inserts ++ Insert (hash_of mid.hasher item) ∷ [] =
       ap (map Insert) (map-append hash items (item ∷ []))
       ∙ map-append Insert (map hash items) (hash item ∷ [])
       ∙ ap (λ h. inserts ++ Insert (hash_of h item) ∷ []) (sym did.1.hasher) in (
         did.0 ++ reply ∷ [],
         subst (λ l. CarriesOut old l new (did.0 ++ reply ∷ [])) (sym joined)
-            (carries_out-append old mid new inserts (Insert (hash_of mid.hasher item) ∷ []) did.0 (reply ∷ []) did.1 next),
+            (carries_out-append old mid new inserts (Insert (hash_of mid.hasher item) ∷ [])
+            did.0 (reply ∷ []) did.1 next),
       )
 
   -- when the iterator has ended, those were all its items
   pub inserts_items-whole : {I : Type 0} (steps : I → Option T → I → Type 0) (start last end : I)
       (items : List T) (new : Filter S) → Yields steps start items last → steps last None end
-      → InsertsItems hash_of old items new → WholeRun steps start (λ run. InsertsItems hash_of old run.items new)
+      → InsertsItems hash_of old items new
+      → WholeRun steps start (λ run. InsertsItems hash_of old run.items new)
   inserts_items-whole steps start last end items new came ended did =
       let made = run_of_exit steps start items last came end ended in
       (made.0, made.1, made.2, subst (λ l. InsertsItems hash_of old l new) (sym made.3.0) did)

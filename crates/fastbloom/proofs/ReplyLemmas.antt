@@ -13,7 +13,9 @@ or-makes_on false true = refl
 or-makes_on false false = refl
 
 module _ {S : Type 0} (old : Filter S) (hash : ℕ) where
-  pub carries_out-insert : (new : Filter S) (reply : Bool) → Inserts old hash new reply → CarriesOut old (Insert hash ∷ []) new (reply ∷ [])
+  -- an insert is a list of one command
+  pub carries_out-insert : (new : Filter S) (reply : Bool) → Inserts old hash new reply
+      → CarriesOut old (Insert hash ∷ []) new (reply ∷ [])
   carries_out-insert new reply did = record {
     bits = λ p. did.bits p ∙ or-makes_on (content old.words p) _;
     answers = ap (λ b. b ∷ []) did.answers;
@@ -21,7 +23,9 @@ module _ {S : Type 0} (old : Filter S) (hash : ℕ) where
     hasher = did.hasher;
   }
 
-  pub carries_out-contains : (reply : Bool) → reply ≡ contains old hash → CarriesOut old (Contains hash ∷ []) old (reply ∷ [])
+  -- a look-up is a list of one command
+  pub carries_out-contains : (reply : Bool) → reply ≡ contains old hash
+      → CarriesOut old (Contains hash ∷ []) old (reply ∷ [])
   carries_out-contains reply found = record {
     bits = λ p. refl;
     answers = ap (λ b. b ∷ []) found;

@@ -1,5 +1,5 @@
--- What contracts see of a builder, what it makes, and what it refuses. The filters made are those
--- of the crate fastbloom 0.17.0, builder.rs; the refusals and their order are this project's choice.
+-- What contracts see of a builder, what it makes, and what it refuses. The filters made are as in
+-- the crate fastbloom 0.17.0, builder.rs; the refusals and their order are this project's choice.
 use Rattle.std.specs.Prelude.{◌≡◌, ℕ, ◌*◌, ◌^◌, max, Bool, List, length, replicate, Option, Some, None, IfSome, nat_eq, nat_le, if◌then◌else◌, refl}
 use Rattle.std.specs.Cmp.Lexicographic.{pointwise}
 use Rattle.std.specs.Coded.{Coded, code_by, coded×, coded_ℕ, coded_list}

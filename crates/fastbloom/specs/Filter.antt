@@ -18,8 +18,12 @@ filter_code {S} code =
     (λ f. (f.words, (f.hashes, f.hasher)))
     (λ p. record { words = p.0; hashes = p.1.0; hasher = p.1.1 }) (λ _. refl)
 
--- the shape of a filter: from 1 to 2^58 - 1 words, so that the number of bits fits 64 bits, and from
--- 1 to 2^32 - 1 hashes
+-- the number of bits, 64 for each word
+abbrev pub num_bits_of : {S : Type 0} → Filter S → ℕ
+num_bits_of f = 64 * length f.words
+
+-- the shape of a filter: from 1 to 2^58 - 1 words, so that the number of bits fits 64 bits, and
+-- from 1 to 2^32 - 1 hashes
 pub record IsShape (words hashes : ℕ) : Type 0 where
   pub some_words : 1 ≤ words
   pub few_words : words < 2 ^ 58
@@ -35,15 +39,20 @@ pub record SameShape {S : Type 0} (f g : Filter S) : Type 0 where
   pub words : length f.words ≡ length g.words
   pub hashes : f.hashes ≡ g.hashes
 
--- whether all positions of a hash are on in a filter
-abbrev pub contains : {S : Type 0} → Filter S → ℕ → Bool
-contains f hash = are_in (64 * length f.words) f.hashes hash (content f.words)
+-- the positions of a hash
+abbrev pub positions_of : {S : Type 0} → Filter S → ℕ → ℕ → Bool
+positions_of f hash = positions (num_bits_of f) f.hashes hash
 
--- from old to new the positions of a hash were turned on, and the reply is whether all were on before
-pub record Inserts {S : Type 0} (old : Filter S) (hash : ℕ) (new : Filter S) (reply : Bool) : Type 0 where
+-- whether all positions of a hash are on
+abbrev pub contains : {S : Type 0} → Filter S → ℕ → Bool
+contains f hash = are_in (num_bits_of f) f.hashes hash (content f.words)
+
+-- from old to new the positions of a hash were turned on, and the reply is whether all were on
+-- before
+pub record Inserts {S : Type 0} (old : Filter S) (hash : ℕ) (new : Filter S) (reply : Bool)
+    : Type 0 where
   pub answers : reply ≡ contains old hash
-  pub bits : (p : ℕ) → content new.words p
-      ≡ (content old.words p || positions (64 * length old.words) old.hashes hash p)
+  pub bits : (p : ℕ) → content new.words p ≡ (content old.words p || positions_of old hash p)
   pub shape : SameShape old new
   pub hasher : new.hasher ≡ old.hasher
 

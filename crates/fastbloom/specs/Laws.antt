@@ -1,12 +1,12 @@
 -- Laws of filters, over what the contracts of the calls state. A hash may be any number.
-use Rattle.std.specs.Prelude.{◌≡◌, ◌↔◌, ℕ, ◌*◌, Bool, true, false, ◌||◌, ◌&&◌, max, IsTrue, List, ◌∷◌, ◌++◌, length, map, All, ⊤}
+use Rattle.std.specs.Prelude.{◌≡◌, ◌↔◌, ℕ, ◌*◌, Bool, true, false, ◌||◌, ◌&&◌, max, IsTrue, List, ◌∷◌, ◌++◌, map, All, ⊤}
 use Rattle.bloom_parts.specs.Content.{content, AreWords}
-use Rattle.bloom_parts.specs.Places.{positions, IsPart}
+use Rattle.bloom_parts.specs.Places.{IsPart}
 use Rattle.bloom_parts.specs.Rates.{num_of, den_of}
 use Rattle.fastbloom.specs.Builders.{Start, RateStart, same_start, same_rate_start}
 use Rattle.fastbloom.specs.CommandOf.{operation_of}
 use Rattle.bloom_parts.specs.Operations.{Operation, Insert, Contains, Clear, Union, Intersect}
-use Rattle.fastbloom.specs.Filter.{Filter, HasShape, SameShape, contains, Inserts, Clears, Unites, Intersects, same_filter}
+use Rattle.fastbloom.specs.Filter.{Filter, HasShape, SameShape, positions_of, contains, Inserts, Clears, Unites, Intersects, same_filter}
 use Rattle.fastbloom.specs.Replies.{CarriesOut, InsertsAll}
 use Rattle.fastbloom.specs.declared.bloom.command.Command.{Command}
 use Rattle.fastbloom.specs.declared.bloom.command.Command.TheVariants as command
@@ -26,7 +26,8 @@ abbrev pub KeptByUnionLaw : (S : Type 0) → Type 0
 KeptByUnionLaw S = (old other new : Filter S) (hash : ℕ) → Unites old other new
     → contains old hash ≡ true → contains new hash ≡ true
 
--- turns off no position of a set: is no clear, and no intersection with what lacks one of them
+-- a command turns off no position of a set: it is no clear, and no intersection with what lacks one
+-- of them
 abbrev pub Spares : (ℕ → Bool) → Operation → Type 0
 Spares A (Insert hash) = ⊤
 Spares A (Contains hash) = ⊤
@@ -36,9 +37,9 @@ Spares A (Intersect other) = IsPart A other
 
 -- what is contained stays so under a list of commands that spare its positions
 abbrev pub KeptByListLaw : (S : Type 0) → Type 0
-KeptByListLaw S = (old new : Filter S) (operations : List Operation) (hash : ℕ) (given : List Bool)
-    → CarriesOut old operations new given
-    → All (Spares (positions (64 * length old.words) old.hashes hash)) operations
+KeptByListLaw S = (old new : Filter S) (operations : List Operation) (hash : ℕ)
+    (replies : List Bool) → CarriesOut old operations new replies
+    → All (Spares (positions_of old hash)) operations
     → contains old hash ≡ true → contains new hash ≡ true
 
 -- what is contained stays so under a list of inserts, as `insert_all` and `extend` make
@@ -68,20 +69,20 @@ abbrev pub SameContent : {S : Type 0} → Filter S → Filter S → Type 0
 SameContent f g = (p : ℕ) → content f.words p ≡ content g.words p
 
 -- a call that makes one filter of two, as the relation of both to what is made
-abbrev pub Makes : Type 0 → Type 1
-Makes S = Filter S → Filter S → Filter S → Type 0
+abbrev pub Combination : Type 0 → Type 1
+Combination S = Filter S → Filter S → Filter S → Type 0
 
 -- it makes the same content either way round
-abbrev pub IsCommutative : (S : Type 0) → Makes S → Type 0
+abbrev pub IsCommutative : (S : Type 0) → Combination S → Type 0
 IsCommutative S M = (f g fg gf : Filter S) → M f g fg → M g f gf → SameContent fg gf
 
 -- of three it makes the same content, whichever two come first
-abbrev pub IsAssociative : (S : Type 0) → Makes S → Type 0
+abbrev pub IsAssociative : (S : Type 0) → Combination S → Type 0
 IsAssociative S M = (f g h fg fg_h gh f_gh : Filter S)
     → M f g fg → M fg h fg_h → M g h gh → M f gh f_gh → SameContent fg_h f_gh
 
 -- of a filter and itself it makes that filter's content
-abbrev pub IsIdempotent : (S : Type 0) → Makes S → Type 0
+abbrev pub IsIdempotent : (S : Type 0) → Combination S → Type 0
 IsIdempotent S M = (f made : Filter S) → M f f made → SameContent made f
 
 -- a filter was made of the words, the number of hashes and the hasher of another
@@ -90,7 +91,7 @@ pub record Rebuilds {S : Type 0} (f made : Filter S) : Type 0 where
   pub hashes : made.hashes ≡ max 1 f.hashes
   pub hasher : made.hasher ≡ f.hasher
 
--- it equals the other, since a filter has at least one hash, and so answers every hash alike
+-- the filter made equals the other, which has at least one hash, and so answers every hash alike
 abbrev pub RebuiltLaw : (S : Type 0) → Type 0
 RebuiltLaw S = (f made : Filter S) → HasShape f → Rebuilds f made
     → (made ≡ f) × ((hash : ℕ) → contains made hash ≡ contains f hash)
@@ -116,15 +117,15 @@ EqualRateStartsLaw S = (a b : RateStart S) → IsTrue (same_rate_start a b)
 
 -- what two lists of commands do one after the other, one list of both does
 abbrev pub JoinedListsLaw : (S : Type 0) → Type 0
-JoinedListsLaw S = (old mid new : Filter S) (first second : List Operation) (given later : List Bool)
-    → CarriesOut old first mid given → CarriesOut mid second new later
-    → CarriesOut old (first ++ second) new (given ++ later)
+JoinedListsLaw S = (old mid new : Filter S) (first second : List Operation)
+    (replies more : List Bool) → CarriesOut old first mid replies → CarriesOut mid second new more
+    → CarriesOut old (first ++ second) new (replies ++ more)
 
 -- a hash is found after commands that insert it and later spare its positions
 abbrev pub FoundLaw : (S : Type 0) → Type 0
-FoundLaw S = (old new : Filter S) (earlier later : List Operation) (hash : ℕ) (given : List Bool)
-    → CarriesOut old (earlier ++ Insert hash ∷ later) new given
-    → All (Spares (positions (64 * length old.words) old.hashes hash)) later
+FoundLaw S = (old new : Filter S) (earlier later : List Operation) (hash : ℕ)
+    (replies : List Bool) → CarriesOut old (earlier ++ Insert hash ∷ later) new replies
+    → All (Spares (positions_of old hash)) later
     → contains new hash ≡ true
 
 -- each hash of a list of inserts is contained after them
@@ -132,10 +133,10 @@ abbrev pub FoundAfterInsertsLaw : (S : Type 0) → Type 0
 FoundAfterInsertsLaw S = (old new : Filter S) (earlier later : List ℕ) (hash : ℕ)
     → InsertsAll old (earlier ++ hash ∷ later) new → contains new hash ≡ true
 
--- the same of a list that `replay` is given
+-- a hash is found after a list that `replay` was given, where it was inserted and later spared
 abbrev pub FoundAfterReplayLaw : (S : Type 0) → Type 0
 FoundAfterReplayLaw S = (old new : Filter S) (earlier later : List (Command S))
-    (hash : ℕ) (given : List Bool)
-    → CarriesOut old (map operation_of (earlier ++ command.Insert hash ∷ later)) new given
-    → All (λ c. Spares (positions (64 * length old.words) old.hashes hash) (operation_of c)) later
+    (hash : ℕ) (replies : List Bool)
+    → CarriesOut old (map operation_of (earlier ++ command.Insert hash ∷ later)) new replies
+    → All (λ c. Spares (positions_of old hash) (operation_of c)) later
     → contains new hash ≡ true

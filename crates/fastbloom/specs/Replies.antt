@@ -1,8 +1,8 @@
--- What commands answer: the subset test just before each of them.
-use Rattle.std.specs.Prelude.{◌≡◌, ℕ, ◌*◌, Bool, List, [], ◌∷◌, ◌++◌, length, map, option_to_list}
+-- What lists of commands do, and what they answer: the subset test just before each command.
+use Rattle.std.specs.Prelude.{◌≡◌, ℕ, Bool, List, [], ◌∷◌, ◌++◌, map, option_to_list}
 use Rattle.bloom_parts.specs.Content.{content}
 use Rattle.bloom_parts.specs.Operations.{Operation, Insert, state_after, reply}
-use Rattle.fastbloom.specs.Filter.{Filter, SameShape}
+use Rattle.fastbloom.specs.Filter.{Filter, SameShape, num_bits_of}
 
 -- the replies to commands that come after earlier ones
 abbrev pub replies_after : ℕ → ℕ → (ℕ → Bool) → List Operation → List Operation → List Bool
@@ -16,10 +16,11 @@ abbrev pub replies : ℕ → ℕ → (ℕ → Bool) → List Operation → List 
 replies n k A operations = replies_after n k A [] operations
 
 -- the list theorem: from old to new the commands were carried out in order, with these replies
-pub record CarriesOut {S : Type 0} (old : Filter S) (operations : List Operation) (new : Filter S) (given : List Bool) : Type 0 where
+pub record CarriesOut {S : Type 0} (old : Filter S) (operations : List Operation) (new : Filter S)
+    (given : List Bool) : Type 0 where
   pub bits : (p : ℕ) → content new.words p
-      ≡ state_after (64 * length old.words) old.hashes (content old.words) operations p
-  pub answers : given ≡ replies (64 * length old.words) old.hashes (content old.words) operations
+      ≡ state_after (num_bits_of old) old.hashes (content old.words) operations p
+  pub answers : given ≡ replies (num_bits_of old) old.hashes (content old.words) operations
   pub shape : SameShape old new
   pub hasher : new.hasher ≡ old.hasher
 

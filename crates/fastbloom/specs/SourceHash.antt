@@ -1,18 +1,25 @@
--- The hash that stands for an item (fastbloom 0.17.0, lib.rs). What a hasher does is given by two
--- functions: what it becomes by a write, and what it answers. An item writes lists of bytes.
+-- The hash that stands for an item (fastbloom 0.17.0, lib.rs). What a hasher does, and what builds
+-- it, the ghost members of their traits tell. An item writes lists of bytes.
 use Rattle.std.specs.Prelude.{◌≡◌, ℕ, List, fold}
+use Rattle.std.specs.Borrow.{Bor}
 use Rattle.std.specs.List.{concat}
+use Rattle.std.specs.declared.hash.BuildHasher as builder
+use Rattle.std.specs.declared.hash.Hasher as hasher
 
--- the answer of a fresh hasher after the writes of an item, in their order
-abbrev pub hash_by : {H : Type 0} → (H → List ℕ → H) → (H → ℕ) → H → List (List ℕ) → ℕ
-hash_by write finish fresh writes = finish (fold write fresh writes)
+-- the answer of a fresh hasher after writes, in their order
+abbrev pub hash_by : {H : Type 0} → hasher.Ghosts H → H → List (List ℕ) → ℕ
+hash_by h fresh writes = h.finish (fold h.write fresh writes)
 
--- the same of an item that writes its input to a hasher that is built for it
-abbrev pub item_hash : {B H T : Type 0} → (H → List ℕ → H) → (H → ℕ) → (B → H) → (T → List (List ℕ))
-    → B → T → ℕ
-item_hash write finish build input hasher item = hash_by write finish (build hasher) (input item)
+-- the source hash of an item, by what it writes: that of a hasher that is built for it
+abbrev pub source_hash_of : {B H T : Type 0} → builder.Ghosts B H → hasher.Ghosts H
+    → (T → List (List ℕ)) → B → T → ℕ
+source_hash_of b h input build item = hash_by h (b.build_hasher build) (input item)
+
+-- the same of an item that is lent
+abbrev pub lent_hash_of : {B H T : Type 0} → builder.Ghosts B H → hasher.Ghosts H
+    → (T → List (List ℕ)) → B → Bor T → ℕ
+lent_hash_of b h input build item = source_hash_of b h input build item.now
 
 -- the answer of a hasher is this function of the bytes written, joined
-abbrev pub IsFunctionOfBytes : {H : Type 0} → (H → List ℕ → H) → (H → ℕ) → H → (List ℕ → ℕ) → Type 0
-IsFunctionOfBytes write finish fresh f =
-    (writes : List (List ℕ)) → hash_by write finish fresh writes ≡ f (concat writes)
+abbrev pub IsFunctionOfBytes : {H : Type 0} → hasher.Ghosts H → H → (List ℕ → ℕ) → Type 0
+IsFunctionOfBytes h fresh f = (writes : List (List ℕ)) → hash_by h fresh writes ≡ f (concat writes)

@@ -2,10 +2,9 @@
 ghost use Rattle.std.specs.Prelude.{◌≡◌, ◌*◌, ◌^◌, ◌<◌, ◌≤◌, ◌∷◌, [], length, max};
 ghost use Rattle.bloom_parts.specs.Operations as operation;
 ghost use Rattle.bloom_parts.specs.Content.{AreWords};
-ghost use Rattle.fastbloom.specs.Filter.{HasShape, contains, Inserts};
+ghost use Rattle.fastbloom.specs.Filter.{HasShape, num_bits_of, contains, Inserts};
 ghost use Rattle.fastbloom.specs.Replies.{CarriesOut};
 
-mod all;
 mod command;
 mod items;
 mod positions;
@@ -69,7 +68,7 @@ impl<S> BloomFilter<S> {
 
     /// The number of bits, 64 for each word.
     pub fn num_bits(&self) -> usize
-        ensures value { result ≡ 64 * length self.now.words }
+        ensures value { result ≡ num_bits_of self.now }
         ensures least { 64 ≤ result }
         ensures shape { HasShape self.now }
     {

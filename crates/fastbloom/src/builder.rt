@@ -10,7 +10,7 @@ ghost use Rattle.bloom_parts.specs.Keys.{HasKey, key_low, key_high};
 ghost use Rattle.bloom_parts.specs.Sizing.{hashes_for};
 ghost use Rattle.fastbloom.specs.Builders.{words_for, words_refusal, bits_refusal, size_refusal, RefusesAs, sized_filter, same_start};
 ghost use Rattle.fastbloom.specs.Replies.{InsertsItems};
-ghost use Rattle.fastbloom.specs.SourceHash.{item_hash};
+ghost use Rattle.fastbloom.specs.SourceHash.{lent_hash_of};
 
 mod atomic_bits;
 mod atomic_rate;
@@ -95,7 +95,7 @@ impl BloomFilter {
     /// A builder of a filter of at least this many bits, all off, under the zero key.
     ///
     /// # Errors
-    /// `ZeroBits` for no bits, `TooManyWords` for more than 2^58 - 1 words, and else `Memory` where
+    /// `ZeroBits` for no bits, `TooManyWords` for more than 2^58 - 1 words, and `Memory` where
     /// there is no room for them.
     pub fn with_num_bits(alloc: Global, num_bits: usize) -> Result<BuilderWithBits, FilterError>
         ensures words { IfOk result (λ builder.
@@ -189,8 +189,8 @@ impl<S: BuildHasher> BuilderWithBits<S> {
         ensures hasher { result.hasher ≡ self.hasher }
         // `items_left` is the iterator's `len()`, which sizes the filter and no more.
         ensures content { (it : I.IntoIter) × I.into_iter_gives items it
-            × WholeRun I.IntoIter.next_gives it (λ run. InsertsItems (item_hash S.Hasher.write
-            S.Hasher.finish S.build_hasher (λ item. T.hash_input item.now))
+            × WholeRun I.IntoIter.next_gives it (λ run.
+            InsertsItems (lent_hash_of S.BuildHasher S.Hasher.Hasher T.hash_input)
             (sized_filter self (items_left I.IntoIter.remaining it)) run.items result) }
     {
         let items = items.into_iter();

@@ -6,7 +6,7 @@ ghost use Rattle.bloom_parts.specs.Sip.{sip};
 ghost use Rattle.bloom_parts.specs.declared.hasher.CloneBuildHasher.{CloneBuildHasher as Builder};
 ghost use Rattle.fastbloom.specs.Filter.{Unites, Intersects};
 ghost use Rattle.fastbloom.specs.Laws.{InsertLaw, KeptByInsertLaw, KeptByUnionLaw, KeptByListLaw, KeptByInsertsLaw, IntersectionLaw, UnionLaw, ClearLaw, IsCommutative, IsAssociative, IsIdempotent, RebuiltLaw, EqualityLaw, EqualContentLaw, EqualStartsLaw, EqualRateStartsLaw, JoinedListsLaw, FoundLaw, FoundAfterInsertsLaw, FoundAfterReplayLaw};
-ghost use Rattle.fastbloom.specs.SourceHash.{hash_by, IsFunctionOfBytes};
+ghost use Rattle.fastbloom.specs.SourceHash.{source_hash_of, IsFunctionOfBytes};
 
 use bloom_parts::hasher::{DefaultHasher, RandomDefaultHasher};
 use bloom_parts::laws::{content_of_words, hash_of_pieces};
@@ -91,15 +91,13 @@ pub fn inserted_stays_found<S>()
 pub fn source_hash_by_default<T: Hash>()
     // The default hasher is a function of the bytes written, as `source_hash` asks.
     ensures bytes { (builder : Builder RandomDefaultHasher) (k0 k1 : ℕ) → HasKey builder k0 k1
-        → IsFunctionOfBytes ⟦<RandomDefaultHasher as Hasher>⟧.write
-        ⟦<RandomDefaultHasher as Hasher>⟧.finish
+        → IsFunctionOfBytes ⟦<RandomDefaultHasher as Hasher>⟧
         (⟦<DefaultHasher as BuildHasher>⟧.build_hasher builder) (sip k0 k1) }
     // The left side is what `source_hash` answers.
     ensures item { (builder : Builder RandomDefaultHasher) (k0 k1 : ℕ) (item : T)
         → HasKey builder k0 k1
-        → hash_by ⟦<RandomDefaultHasher as Hasher>⟧.write ⟦<RandomDefaultHasher as Hasher>⟧.finish
-        (⟦<DefaultHasher as BuildHasher>⟧.build_hasher builder) (T.hash_input item)
-        ≡ sip k0 k1 (concat (T.hash_input item)) }
+        → source_hash_of ⟦<DefaultHasher as BuildHasher>⟧ ⟦<RandomDefaultHasher as Hasher>⟧
+        T.hash_input builder item ≡ sip k0 k1 (concat (T.hash_input item)) }
 {
     hash_of_pieces();
 }

@@ -1,28 +1,25 @@
 //! The loops over the positions of a hash. They branch as seldom as they can, since no processor
 //! foresees whether one position is on.
-ghost use Rattle.std.specs.Prelude.{◌≡◌, ℕ, ◌+◌, ◌*◌, ◌||◌, ◌==◌, length, IsTrue};
-ghost use Rattle.bloom_parts.specs.Chain.{IsAt};
+ghost use Rattle.std.specs.Prelude.{◌≡◌, ℕ, ◌*◌, ◌||◌, length, IsTrue};
 ghost use Rattle.bloom_parts.specs.Content.{content};
 ghost use Rattle.bloom_parts.specs.Places.{positions, are_in};
-ghost use Rattle.fastbloom.specs.Stretches.{are_on, TurnsOn};
+ghost use Rattle.fastbloom.specs.Stretches.{GoesOn, TurnsOnNext, TellsNext};
 
 use bloom_parts::bit_vector::BitVec;
 use bloom_parts::hasher::DoubleHasher;
 
 // Turns on the next place of a hash. The answer is 0 exactly if it was on just before.
 fn turn_on_next(bits: &mut BitVec, chain: &mut DoubleHasher) -> u64
-    ensures turns_on { (hash i : ℕ) → IsAt hash i chain.old
-        → TurnsOn i 1 hash bits.old bits.new (result == 0) }
-    ensures moved { (hash i : ℕ) → IsAt hash i chain.old → IsAt hash (i + 1) chain.new }
+    ensures turns_on { TurnsOnNext 1 chain.old bits.old bits.new result }
+    ensures moved { GoesOn 1 chain.old chain.new }
 {
     bits.turn_on_hash(chain.next())
 }
 
 // Turns on the next four places of a hash. The answer is 0 exactly if all were on just before.
 fn turn_on_four(bits: &mut BitVec, chain: &mut DoubleHasher) -> u64
-    ensures turns_on { (hash i : ℕ) → IsAt hash i chain.old
-        → TurnsOn i 4 hash bits.old bits.new (result == 0) }
-    ensures moved { (hash i : ℕ) → IsAt hash i chain.old → IsAt hash (i + 4) chain.new }
+    ensures turns_on { TurnsOnNext 4 chain.old bits.old bits.new result }
+    ensures moved { GoesOn 4 chain.old chain.new }
 {
     let first = turn_on_next(bits, chain);
     let second = turn_on_next(bits, chain);
@@ -53,16 +50,16 @@ pub(super) fn insert_positions(bits: &mut BitVec, num_hashes: u32, hash: u64) ->
 
 // Whether the next place of a hash is on.
 fn next_is_on(bits: &BitVec, chain: &mut DoubleHasher) -> bool
-    ensures found { (hash i : ℕ) → IsAt hash i chain.old → result ≡ are_on bits.now i 1 hash }
-    ensures moved { (hash i : ℕ) → IsAt hash i chain.old → IsAt hash (i + 1) chain.new }
+    ensures found { TellsNext 1 chain.old bits.now result }
+    ensures moved { GoesOn 1 chain.old chain.new }
 {
     bits.check_hash(chain.next())
 }
 
 // Whether the next three places of a hash are on. It counts, which needs no branch.
 fn three_are_on(bits: &BitVec, chain: &mut DoubleHasher) -> bool
-    ensures found { (hash i : ℕ) → IsAt hash i chain.old → result ≡ are_on bits.now i 3 hash }
-    ensures moved { (hash i : ℕ) → IsAt hash i chain.old → IsAt hash (i + 3) chain.new }
+    ensures found { TellsNext 3 chain.old bits.now result }
+    ensures moved { GoesOn 3 chain.old chain.new }
 {
     let first = next_is_on(bits, chain);
     let second = next_is_on(bits, chain);
@@ -72,7 +69,7 @@ fn three_are_on(bits: &BitVec, chain: &mut DoubleHasher) -> bool
 
 // Whether the next `count` places of a hash are on. It counts, which needs no branch.
 fn all_are_on(bits: &BitVec, chain: &mut DoubleHasher, count: u32) -> bool
-    ensures { (hash i : ℕ) → IsAt hash i chain.old → result ≡ are_on bits.now i count hash }
+    ensures { TellsNext count chain.old bits.now result }
 {
     let mut on: u32 = 0;
     'places: for _place in 0..count {
@@ -83,9 +80,8 @@ fn all_are_on(bits: &BitVec, chain: &mut DoubleHasher, count: u32) -> bool
 
 // Whether the next `count` places of a hash are on. It stops at the first that is off.
 fn each_is_on(bits: &BitVec, chain: &mut DoubleHasher, count: u32) -> bool
-    ensures found { (hash i : ℕ) → IsAt hash i chain.old → result ≡ are_on bits.now i count hash }
-    ensures moved { (hash i : ℕ) → IsAt hash i chain.old → IsTrue result
-        → IsAt hash (i + count) chain.new }
+    ensures found { TellsNext count chain.old bits.now result }
+    ensures moved { IsTrue result → GoesOn count chain.old chain.new }
 {
     'places: for _place in 0..count {
         if !next_is_on(bits, chain) {
@@ -97,8 +93,7 @@ fn each_is_on(bits: &BitVec, chain: &mut DoubleHasher, count: u32) -> bool
 
 // Whether all positions of a hash are on. Up to three are taken together. Of more, the first three
 // are, which tell most hashes apart that were never inserted; then it stops at the first that is
-// off, and takes the last four, or as many as are left, together. Counts that are bounded by a small
-// number have no loop.
+// off, and takes the last four, or as many as are left, together.
 #[inline(always)]
 pub(super) fn contains_positions(bits: &BitVec, num_hashes: u32, hash: u64) -> bool
     ensures { result ≡ are_in (64 * length bits.now) num_hashes hash (content bits.now) }

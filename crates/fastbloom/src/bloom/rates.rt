@@ -1,5 +1,6 @@
 //! The rate of false positives that is expected of a filter.
-ghost use Rattle.std.specs.Prelude.{◌≡◌, ◌+◌, ◌*◌, ◌<◌, ◌≤◌, length};
+ghost use Rattle.std.specs.Prelude.{◌≡◌, ◌+◌, ◌*◌, ◌<◌, ◌≤◌};
+ghost use Rattle.fastbloom.specs.Filter.{num_bits_of};
 ghost use Rattle.bloom_parts.specs.Brackets.{low_of, high_of, width_of, HoldsRate, rate_low, rate_high};
 
 use super::BloomFilter;
@@ -21,12 +22,12 @@ impl<S> BloomFilter<S> {
     /// The rate of false positives to expect once `num_items` items are in the filter.
     pub fn expected_false_pos(&self, num_items: usize) -> Bracket
         ensures holds { let k = self.now.hashes in
-            HoldsRate result (64 * length self.now.words) (k * num_items) k }
+            HoldsRate result (num_bits_of self.now) (k * num_items) k }
         // The ends are exact.
         ensures low { let k = self.now.hashes in
-            low_of result ≡ rate_low (64 * length self.now.words) (k * num_items) k }
+            low_of result ≡ rate_low (num_bits_of self.now) (k * num_items) k }
         ensures high { let k = self.now.hashes in
-            high_of result ≡ rate_high (64 * length self.now.words) (k * num_items) k }
+            high_of result ≡ rate_high (num_bits_of self.now) (k * num_items) k }
         ensures width { let k = self.now.hashes in width_of result ≤ 2 * (k * num_items) * k }
     {
         expected_rate(self.num_hashes, self.num_bits(), num_items)

@@ -10,7 +10,7 @@ ghost use Rattle.bloom_parts.specs.RateLaws.{same_rate-laws};
 ghost use Rattle.fastbloom.specs.Builders.{size_refusal, RefusesAs, IsSizeOf, IsMadeFor, same_rate_start};
 ghost use Rattle.fastbloom.specs.Filter.{Filter};
 ghost use Rattle.fastbloom.specs.Replies.{InsertsItems};
-ghost use Rattle.fastbloom.specs.SourceHash.{item_hash};
+ghost use Rattle.fastbloom.specs.SourceHash.{lent_hash_of};
 
 use super::{BuilderWithBits, hasher_of_seed, zero_bits};
 use crate::bloom::BloomFilter;
@@ -83,8 +83,8 @@ impl<S: Drop> BuilderWithFalsePositiveRate<S> {
     /// An empty filter for this many items, where 0 counts as 1, at the rate of the builder.
     ///
     /// # Errors
-    /// `SizeOverflow` for 2^64 bits or more, `TooManyWords` for more than 2^58 - 1 words, and else
-    /// `Memory`.
+    /// `SizeOverflow` for 2^64 bits or more, `TooManyWords` for more than 2^58 - 1 words, and
+    /// `Memory` where there is no room for them.
     pub fn expected_items(
         self,
         alloc: Global,
@@ -121,8 +121,8 @@ impl<S: BuildHasher + Drop> BuilderWithFalsePositiveRate<S> {
         // `items_left` is the iterator's `len()`, which sizes the filter and no more.
         ensures content { IfOk result (λ filter. (it : I.IntoIter) × I.into_iter_gives items it
             × (made : Filter S) × IsMadeFor self (items_left I.IntoIter.remaining it) made
-            × WholeRun I.IntoIter.next_gives it (λ run. InsertsItems (item_hash S.Hasher.write
-            S.Hasher.finish S.build_hasher (λ item. T.hash_input item.now))
+            × WholeRun I.IntoIter.next_gives it (λ run.
+            InsertsItems (lent_hash_of S.BuildHasher S.Hasher.Hasher T.hash_input)
             made run.items filter)) }
         ensures refused { (it : I.IntoIter) × I.into_iter_gives items it
             × (bits : ℕ) × IsSizeOf self (items_left I.IntoIter.remaining it) bits

@@ -1,30 +1,18 @@
-use Rattle.std.proofs.Common.{◌≡◌, ◌+◌, eqb, subst, sym, ◌∙◌, ap, arith}
-use mir.Val.{bool_byte}
-use Rattle.bloom_parts.specs.Chain.{IsAt}
-use Rattle.fastbloom.proofs.StretchLemmas.{are_on-none, are_on-both, digit-most, one-more}
+use Rattle.std.proofs.Common.{arith}
+use Rattle.fastbloom.proofs.TurnLemmas.{goes_on-none, goes_on-then}
+use Rattle.fastbloom.proofs.LookLemmas.{tells_next-none, tells_next-count, digit-most}
 use Rattle.fastbloom.proofs.bloom.positions.all_are_on.Goals as goal
 
 pub places-init : goal.places-init
-places-init c = record {
-  chain = λ hash i at. let same : i ≡ i + 0 = omega arith in subst (λ m. IsAt hash m c.args.chain.now) same at;
-  most = omega arith;
-  on = λ hash i at. sym (are_on-none c.args.bits.now i hash);
-}
+places-init c = record { chain = goes_on-none _; most = omega arith; on = tells_next-none _ _ }
 
 pub places-preserved : goal.places-preserved
 places-preserved c =
-    let done = c.places._place in
-    let digit : c.from-on.result ≡ bool_byte c.next_is_on.result = c.from-on.ensures in
+    let before = c.places.invariant in
+    let next = c.next_is_on.ensures in
+    let digit = c.from-on.ensures in
     record {
-      chain = λ hash i at.
-          let same : i + done + 1 ≡ i + (done + 1) = omega arith in
-          subst (λ m. IsAt hash m c.next_is_on.new.chain) same
-          (c.next_is_on.ensures.moved hash (i + done) (c.places.invariant.chain hash i at));
-      most = omega (arith, digit, digit-most c.next_is_on.result, c.places.invariant.most);
-      on = λ hash i at.
-          ap (λ n. eqb (c.places.on + n) (done + 1)) digit
-          ∙ one-more c.places.on done c.next_is_on.result c.places.invariant.most
-          ∙ are_on-both c.args.bits.now i done 1 (i + done) (done + 1) hash _ _ (omega arith) (omega arith)
-          (c.places.invariant.on hash i at)
-          (c.next_is_on.ensures.found hash (i + done) (c.places.invariant.chain hash i at));
+      chain = goes_on-then c.places._place 1 _ _ _ before.chain next.moved;
+      most = omega (arith, digit, digit-most c.next_is_on.result, before.most);
+      on = tells_next-count _ _ _ _ _ _ _ digit before.most before.chain before.on next.found;
     }
