@@ -5,41 +5,40 @@ ghost use Rattle.std.specs.Iterator.{IsFiniteIterable};
 ghost use Rattle.std.specs.Iterator.Runs.{WholeRun};
 ghost use Rattle.bloom_steps.specs.declared.steps.vocabulary.Call.TheVariants.{Contains};
 ghost use Rattle.fastbloom.specs.Shared.{MakesCall, MakesInsert, MakesInserts};
-ghost use Rattle.fastbloom.specs.SourceHash.{hash_by, item_hash, IsFunctionOfBytes};
+ghost use Rattle.fastbloom.specs.SourceHash.{source_hash_of, lent_hash_of, IsFunctionOfBytes};
 
 use super::AtomicBloomFilter;
-use std::hash::{BuildHasher, Hash};
+use std::hash::{BuildHasher, Hash, Hasher};
 
 impl<S: BuildHasher> AtomicBloomFilter<S> {
     /// The source hash of an item: the answer of a fresh hasher to which the item was hashed.
     #[inline]
     pub fn source_hash<T: Hash>(&self, val: &T) -> u64
-        ensures hash { result ≡ hash_by S.Hasher.write S.Hasher.finish
-            (S.build_hasher self.now.hasher) (T.hash_input val.now) }
+        ensures hash { result
+            ≡ source_hash_of S.BuildHasher S.Hasher.Hasher T.hash_input self.now.hasher val.now }
         // Where the hasher answers by a function of the bytes written, it is that of the item's.
         ensures bytes { (f : List ℕ → ℕ)
-            → IsFunctionOfBytes S.Hasher.write S.Hasher.finish (S.build_hasher self.now.hasher) f
+            → IsFunctionOfBytes S.Hasher.Hasher (S.build_hasher self.now.hasher) f
             → result ≡ f (concat (T.hash_input val.now)) }
         // An equal item has the same.
-        ensures alike { (other : T) → IsTrue (T.eq val.now other)
-            → result ≡ hash_by S.Hasher.write S.Hasher.finish
-            (S.build_hasher self.now.hasher) (T.hash_input other) }
+        ensures alike { (other : T) → IsTrue (T.eq val.now other) → result
+            ≡ source_hash_of S.BuildHasher S.Hasher.Hasher T.hash_input self.now.hasher other }
     {
-        self.hasher.hash_one(val)
+        let mut state = self.hasher.build_hasher();
+        val.hash(&mut state);
+        state.finish()
     }
 
     /// Turns on all positions of an item's source hash, and answers whether its own steps found all
     /// of them on.
     #[inline]
     pub fn insert<T: Hash>(&self, val: &T) -> bool
-        ensures made { let hash = hash_by S.Hasher.write S.Hasher.finish
-            (S.build_hasher self.now.hasher) (T.hash_input val.now) in
-            MakesInsert self.now hash result }
+        ensures made { let hash = source_hash_of S.BuildHasher S.Hasher.Hasher T.hash_input in
+            MakesInsert self.now (hash self.now.hasher val.now) result }
         // An equal item would have been inserted alike.
-        ensures alike { (other : T) → IsTrue (T.eq val.now other) →
-            let hash = hash_by S.Hasher.write S.Hasher.finish
-            (S.build_hasher self.now.hasher) (T.hash_input other) in
-            MakesInsert self.now hash result }
+        ensures alike { let hash = source_hash_of S.BuildHasher S.Hasher.Hasher T.hash_input in
+            (other : T) → IsTrue (T.eq val.now other)
+            → MakesInsert self.now (hash self.now.hasher other) result }
     {
         self.insert_hash(self.source_hash(val))
     }
@@ -47,14 +46,12 @@ impl<S: BuildHasher> AtomicBloomFilter<S> {
     /// Whether all positions of an item's source hash were found on, one after the other.
     #[inline]
     pub fn contains<T: Hash>(&self, val: &T) -> bool
-        ensures made { let hash = hash_by S.Hasher.write S.Hasher.finish
-            (S.build_hasher self.now.hasher) (T.hash_input val.now) in
-            MakesCall self.now self.now (Contains hash) (Some result) }
+        ensures made { let hash = source_hash_of S.BuildHasher S.Hasher.Hasher T.hash_input in
+            MakesCall self.now self.now (Contains (hash self.now.hasher val.now)) (Some result) }
         // An equal item is found alike.
-        ensures alike { (other : T) → IsTrue (T.eq val.now other) →
-            let hash = hash_by S.Hasher.write S.Hasher.finish
-            (S.build_hasher self.now.hasher) (T.hash_input other) in
-            MakesCall self.now self.now (Contains hash) (Some result) }
+        ensures alike { let hash = source_hash_of S.BuildHasher S.Hasher.Hasher T.hash_input in
+            (other : T) → IsTrue (T.eq val.now other) → MakesCall self.now self.now
+            (Contains (hash self.now.hasher other)) (Some result) }
     {
         self.contains_hash(self.source_hash(val))
     }
@@ -65,9 +62,8 @@ impl<S: BuildHasher> AtomicBloomFilter<S> {
         requires { IsFiniteIterable
             I.into_iter_gives I.IntoIter.can_next I.IntoIter.remaining iter }
         ensures { (it : I.IntoIter) × I.into_iter_gives iter it
-            × WholeRun I.IntoIter.next_gives it (λ run. MakesInserts (item_hash
-            S.Hasher.write S.Hasher.finish S.build_hasher (λ item. T.hash_input item.now))
-            self.now run.items) }
+            × WholeRun I.IntoIter.next_gives it (λ run. MakesInserts
+            (lent_hash_of S.BuildHasher S.Hasher.Hasher T.hash_input) self.now run.items) }
     {
         'lent: for item in iter {
             self.insert(item);
@@ -80,9 +76,8 @@ impl<S: BuildHasher> AtomicBloomFilter<S> {
         requires { IsFiniteIterable
             I.into_iter_gives I.IntoIter.can_next I.IntoIter.remaining iter }
         ensures { (it : I.IntoIter) × I.into_iter_gives iter it
-            × WholeRun I.IntoIter.next_gives it (λ run. MakesInserts (item_hash
-            S.Hasher.write S.Hasher.finish S.build_hasher T.hash_input)
-            self.now run.items) }
+            × WholeRun I.IntoIter.next_gives it (λ run. MakesInserts
+            (source_hash_of S.BuildHasher S.Hasher.Hasher T.hash_input) self.now run.items) }
     {
         'given: for item in iter {
             self.insert(&item);

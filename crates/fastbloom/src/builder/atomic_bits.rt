@@ -9,7 +9,7 @@ ghost use Rattle.std.specs.Cmp.{on_equiv, partial_equiv_from_equiv};
 ghost use Rattle.bloom_parts.specs.Keys.{HasKey, key_low, key_high};
 ghost use Rattle.fastbloom.specs.Builders.{words_for, words_refusal, bits_refusal, RefusesAs, sized_filter, same_start};
 ghost use Rattle.fastbloom.specs.Shared.{HasFormOf, MakesInserts};
-ghost use Rattle.fastbloom.specs.SourceHash.{item_hash};
+ghost use Rattle.fastbloom.specs.SourceHash.{lent_hash_of};
 
 use super::{BuilderWithBits, num_hashes_for};
 use crate::atomic::AtomicBloomFilter;
@@ -148,8 +148,8 @@ impl<S: BuildHasher + Drop> AtomicBuilderWithBits<S> {
         // `items_left` is the iterator's `len()`, which sizes the filter and no more.
         ensures form { IfOk result (λ filter. (it : I.IntoIter) × I.into_iter_gives items it
             × HasFormOf filter (sized_filter self (items_left I.IntoIter.remaining it))
-            × WholeRun I.IntoIter.next_gives it (λ run. MakesInserts (item_hash S.Hasher.write
-            S.Hasher.finish S.build_hasher (λ item. T.hash_input item.now)) filter run.items)) }
+            × WholeRun I.IntoIter.next_gives it (λ run. MakesInserts
+            (lent_hash_of S.BuildHasher S.Hasher.Hasher T.hash_input) filter run.items)) }
         ensures refused { IsOkUnless result FilterError.Memory }
     {
         let items = items.into_iter();

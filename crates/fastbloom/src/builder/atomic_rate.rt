@@ -9,7 +9,7 @@ ghost use Rattle.bloom_parts.specs.Keys.{HasKey, key_low, key_high};
 ghost use Rattle.bloom_parts.specs.RateLaws.{same_rate-laws};
 ghost use Rattle.fastbloom.specs.Builders.{words_for, size_refusal, RefusesAs, IsSizeOf, same_rate_start};
 ghost use Rattle.fastbloom.specs.Shared.{HasFormFor, MakesInserts};
-ghost use Rattle.fastbloom.specs.SourceHash.{item_hash};
+ghost use Rattle.fastbloom.specs.SourceHash.{lent_hash_of};
 
 use super::{BuilderWithFalsePositiveRate, num_hashes_for, num_words_for};
 use crate::atomic::AtomicBloomFilter;
@@ -124,8 +124,8 @@ impl<S: BuildHasher + Drop> AtomicBuilderWithFalsePositiveRate<S> {
         // `items_left` is the iterator's `len()`, which sizes the filter and no more.
         ensures form { IfOk result (λ filter. (it : I.IntoIter) × I.into_iter_gives items it
             × HasFormFor self (items_left I.IntoIter.remaining it) filter
-            × WholeRun I.IntoIter.next_gives it (λ run. MakesInserts (item_hash S.Hasher.write
-            S.Hasher.finish S.build_hasher (λ item. T.hash_input item.now)) filter run.items)) }
+            × WholeRun I.IntoIter.next_gives it (λ run. MakesInserts
+            (lent_hash_of S.BuildHasher S.Hasher.Hasher T.hash_input) filter run.items)) }
         ensures refused { (it : I.IntoIter) × I.into_iter_gives items it
             × (bits : ℕ) × IsSizeOf self (items_left I.IntoIter.remaining it) bits
             × RefusesAs (size_refusal bits) (result_err result) }
