@@ -3,7 +3,7 @@ ghost use Rattle.std.specs.Prelude.{◌≤◌, length};
 ghost use Rattle.std.specs.Iterator.{at_most};
 ghost use Rattle.fastbloom.specs.Builders.{sized_filter};
 ghost use Rattle.fastbloom.specs.Replies.{InsertsItems};
-ghost use Rattle.fastbloom.specs.SourceHash.{item_hash};
+ghost use Rattle.fastbloom.specs.SourceHash.{source_hash_of};
 
 use fastbloom::{BloomFilter, BuilderWithBits, DefaultHasher, FilterError, Rate};
 use std::alloc::Global;
@@ -16,7 +16,7 @@ fn fill_by_slice<S: BuildHasher, T: Hash>(
     builder: BuilderWithBits<S>,
     items: &[T],
 ) -> BloomFilter<S>
-    ensures { InsertsItems (item_hash S.Hasher.write S.Hasher.finish S.build_hasher T.hash_input)
+    ensures { InsertsItems (source_hash_of S.BuildHasher S.Hasher.Hasher T.hash_input)
         (sized_filter builder (length items.now)) items.now result }
 {
     builder.items(items)

@@ -1,6 +1,6 @@
 //! Calls on whole filters, and lists of commands.
 ghost use Rattle.fastbloom.specs.Replies.{InsertsItems};
-ghost use Rattle.fastbloom.specs.SourceHash.{item_hash};
+ghost use Rattle.fastbloom.specs.SourceHash.{source_hash_of};
 
 use fastbloom::{BloomFilter, Command, FilterError};
 use std::alloc::Global;
@@ -15,7 +15,7 @@ fn filter_of(alloc: Global, words: &[u64], num_hashes: u32) -> Result<BloomFilte
 
 // The items of a slice, in order: what `insert_all` says of any iterator tells its callers this.
 fn insert_slice<S: BuildHasher, T: Hash>(filter: &mut BloomFilter<S>, items: &[T])
-    ensures { InsertsItems (item_hash S.Hasher.write S.Hasher.finish S.build_hasher T.hash_input)
+    ensures { InsertsItems (source_hash_of S.BuildHasher S.Hasher.Hasher T.hash_input)
         filter.old items.now filter.new }
 {
     filter.insert_all(items)
@@ -23,7 +23,7 @@ fn insert_slice<S: BuildHasher, T: Hash>(filter: &mut BloomFilter<S>, items: &[T
 
 // The same of the items of a vector, by `extend`.
 fn insert_vec<S: BuildHasher, T: Hash + Drop>(filter: &mut BloomFilter<S>, items: Vec<T>)
-    ensures { InsertsItems (item_hash S.Hasher.write S.Hasher.finish S.build_hasher T.hash_input)
+    ensures { InsertsItems (source_hash_of S.BuildHasher S.Hasher.Hasher T.hash_input)
         filter.old items.items filter.new }
 {
     filter.extend(items)
