@@ -8,8 +8,8 @@ use Rattle.bloom_parts.proofs.BufferLemmas.{Stores, stores, AreBytes-append}
 use Rattle.bloom_parts.proofs.HashedLemmas.{write-few, write-full}
 
 -- the hasher before, the bytes, and the number that a loop over them ended with
-module _ (old : SipState) (held_size : length old.held ≡ old.count % 8) (bytes : List ℕ) (i word : ℕ)
-    (all : length bytes ≤ i) (is : word ≡ from_le_bytes w64 (old.held ++ take i bytes)) where
+module _ (old : SipState) (held_size : length old.held ≡ old.count % 8) (bytes : List ℕ)
+    (i word : ℕ) (all : length bytes ≤ i) (is : word ≡ from_le_bytes w64 (old.held ++ take i bytes)) where
   -- all bytes are in the number
   all-in : word ≡ from_le_bytes w64 (old.held ++ bytes)
   all-in = is ∙ ap (λ more. from_le_bytes w64 (old.held ++ more)) (take_all i bytes all)
@@ -22,6 +22,7 @@ module _ (old : SipState) (held_size : length old.held ≡ old.count % 8) (bytes
   module _ (held_bytes : AreBytes old.held) (small : AreBytes bytes)
       (few : length old.held + length bytes < 8) (buffer : List ℕ)
       (stored : buffer ≡ to_le_bytes w64 word) where
+    -- the buffer is these bytes, and zeros
     pub stored-few : Stores buffer ((old.count + length bytes) % 2 ^ 64 % 256) (old.held ++ bytes)
     stored-few =
         let size = length-append old.held bytes in
@@ -42,7 +43,9 @@ module _ (old : SipState) (held_size : length old.held ≡ old.count % 8) (bytes
       words ≡ absorb old.words word →
       record old {
         words = words;
-        held = held_in (0 ∷ 0 ∷ 0 ∷ 0 ∷ 0 ∷ 0 ∷ 0 ∷ 0 ∷ []) ((old.count + length bytes) % 2 ^ 64 % 256);
+        held =
+            held_in (0 ∷ 0 ∷ 0 ∷ 0 ∷ 0 ∷ 0 ∷ 0 ∷ 0 ∷ [])
+            ((old.count + length bytes) % 2 ^ 64 % 256);
         count = (old.count + length bytes) % 2 ^ 64 % 256;
       } ≡ write old bytes
   filled-full eight words taken =

@@ -27,3 +27,4 @@ mod SipLemmas
 mod SizingFacts
 mod StandardFacts
 mod WordLemmas
+mod WriteLemmas
