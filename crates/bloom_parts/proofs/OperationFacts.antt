@@ -1,6 +1,6 @@
--- What commands to a filter of 64 bits decide and reply, case by case. The hash 2^63 lies at position
--- 32, and 3 * 2^58 at position 3.
-use Rattle.std.proofs.Common.{◌≡◌, ℕ, ◌*◌, ◌^◌, Bool, true, false, eqb, List, [], ◌∷◌, Some, None, refl}
+-- What commands to a filter of 64 bits decide and reply, case by case. The hash 2^63 lies at
+-- position 32, and 3 * 2^58 at position 3.
+use Rattle.std.proofs.Common.{◌≡◌, ℕ, ◌*◌, ◌^◌, Bool, true, false, eqb, [], ◌∷◌, Some, None, refl}
 use Rattle.bloom_parts.specs.Chain.{chain}
 use Rattle.bloom_parts.specs.Places.{positions, are_in}
 use Rattle.bloom_parts.specs.Operations as operation

@@ -34,7 +34,8 @@ digits-needed e digits fits below =
 
 -- the power to the highest digits of an exponent, all but the i lowest
 abbrev power_down_to : ℕ → (ℕ → ℕ → ℕ) → ℕ → ℕ → ℕ → ℕ
-power_down_to whole product base e i = rounded_power whole product base (digits_of e - i) (e / 2 ^ i)
+power_down_to whole product base e i =
+    rounded_power whole product base (digits_of e - i) (e / 2 ^ i)
 
 -- that power, made with so many products
 pub record IsSoFar (whole : ℕ) (product : ℕ → ℕ → ℕ) (base e i power count : ℕ) : Type 0 where
