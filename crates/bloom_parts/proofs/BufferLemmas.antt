@@ -140,7 +140,8 @@ pub record Stores (buffer : List ℕ) (count : ℕ) (bytes : List ℕ) : Type 0 
 
 -- the little-endian bytes of a number of fewer than eight bytes are these bytes, and zeros
 pub stores : (buffer : List ℕ) (count : ℕ) (bytes : List ℕ) (word : ℕ) → AreBytes bytes
-    → length bytes < 8 → count % 8 ≡ length bytes → word ≡ from_le_bytes w64 bytes → buffer ≡ to_le_bytes w64 word
+    → length bytes < 8 → count % 8 ≡ length bytes → word ≡ from_le_bytes w64 bytes
+    → buffer ≡ to_le_bytes w64 word
     → Stores buffer count bytes
 stores buffer count bytes word small few counted is stored =
     let eight : length (padded bytes) ≡ 8 =

@@ -1,6 +1,6 @@
 -- What contracts say of halvings and sizes, each as near as can be to a case that holds, and their
 -- laws at the edges of their ranges.
-use Rattle.std.proofs.Common.{◌≡◌, ℕ, ◌+◌, ◌-◌, ◌*◌, ◌^◌, ◌<◌, ◌≤◌, refl, arith, lit<, lit≤}
+use Rattle.std.proofs.Common.{◌≡◌, ℕ, ◌+◌, ◌-◌, ◌*◌, ◌^◌, ◌≤◌, refl, arith, lit<, lit≤}
 use Rattle.bloom_parts.specs.Roots.{IsRoot}
 use Rattle.bloom_parts.specs.Sizing.{IsEnough, IsHalvings, IsSizeFor, IsTooLarge, half_up, HalfUpLaw, CoverLaw, NoneLaw, MostLaw, OneSizeLaw}
 use Rattle.bloom_parts.proofs.RootLemmas.{root-zero, one_root}

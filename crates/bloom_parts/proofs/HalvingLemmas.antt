@@ -1,6 +1,6 @@
 -- Halvings: which are enough, and which are the least.
-use Rattle.std.proofs.Common.{◌≡◌, ◌↔◌, ℕ, zero, suc, ◌+◌, ◌-◌, ◌*◌, ◌/◌, ◌%◌, ◌^◌, ◌<◌, ◌≤◌, inl, inr, refl, ap, arith, subst, sym, ◌∙◌, lit<}
-use Rattle.std.proofs.Math.Nat.{le_of_mul-le-mul_right, mul-zero, pow-le-pow_left, pow-le-pow_right, two-pow-succ, pow-zero, pow-suc}
+use Rattle.std.proofs.Common.{◌≡◌, ◌↔◌, ℕ, suc, ◌+◌, ◌-◌, ◌*◌, ◌/◌, ◌%◌, ◌^◌, ◌<◌, ◌≤◌, inl, inr, refl, ap, arith, subst, sym, ◌∙◌, lit<}
+use Rattle.std.proofs.Math.Nat.{le_of_mul-le-mul_right, pow-le-pow_left, pow-le-pow_right, two-pow-succ, pow-zero, pow-suc}
 use Rattle.std.proofs.lemmas.Nat.{mul-le, pow-add, mul-pow, shl_whole}
 use Rattle.std.proofs.lemmas.Bool.{cases_lt}
 use Rattle.bloom_parts.specs.Roots.{IsRoot}

@@ -1,10 +1,9 @@
 -- What contracts say of hashers, each at a case that holds and at one as near as can be that
 -- doesn't.
-use Rattle.std.proofs.Common.{◌≡◌, ℕ, List, [], ◌∷◌, ◌+◌, ◌^◌, fold, refl, ◌∙◌, ap, arith}
+use Rattle.std.proofs.Common.{◌≡◌, ℕ, List, [], ◌∷◌, fold, refl, ap, arith}
 use Rattle.bloom_parts.specs.declared.hasher.CloneBuildHasher.{CloneBuildHasher}
 use Rattle.bloom_parts.specs.declared.hasher.sip.RandomDefaultHasher.{RandomDefaultHasher}
-use Rattle.bloom_parts.specs.declared.hasher.chain.DoubleHasher.{DoubleHasher}
-use Rattle.bloom_parts.specs.Chain.{chain, added_of, IsAt}
+use Rattle.bloom_parts.specs.Chain.{chain, IsAt}
 use Rattle.bloom_parts.specs.Sip.{start, round, absorb, answer, whole_words, rest, sip}
 use Rattle.bloom_parts.specs.Hashed.{SipState, write, finish, Hashed, Takes, Answers}
 use Rattle.bloom_parts.specs.Keys.{HasKey, key_of, key_low, key_high}

@@ -11,6 +11,7 @@ mod HashedLemmas
 mod HasherFacts
 mod MergeLemmas
 mod NumberLemmas
+mod OperationFacts
 mod PlaceLemmas
 mod PositionFacts
 mod PowerBounds
@@ -28,3 +29,4 @@ mod SipLemmas
 mod SizingFacts
 mod StandardFacts
 mod WordLemmas
+mod WriteLemmas

@@ -1,9 +1,9 @@
 -- What contracts say of positions, each at a case that holds and at one as near as can be that
 -- doesn't.
-use Rattle.std.proofs.Common.{◌≡◌, ◌↔◌, ℕ, zero, suc, ◌+◌, ◌-◌, ◌^◌, ◌<◌, ◌≤◌, true, false, eqb, ltb, List, [], ◌∷◌, length, refl, ap, arith, lit<, lit≤}
+use Rattle.std.proofs.Common.{◌≡◌, ℕ, zero, suc, ◌+◌, ◌-◌, ◌^◌, ◌<◌, ◌≤◌, true, false, eqb, ltb, List, [], ◌∷◌, length, refl, ap, arith, lit<, lit≤}
 use Rattle.std.proofs.lemmas.Bool.{both_ways, eqb-true, eq-eqb}
 use Rattle.bloom_parts.specs.Chain.{chain}
-use Rattle.bloom_parts.specs.Content.{content, index_of, AreWords, EqualWordsLaw, BoundLaw}
+use Rattle.bloom_parts.specs.Content.{bit_is_on, content, index_of, AreWords, EqualWordsLaw, BoundLaw}
 use Rattle.bloom_parts.specs.Places.{positions, are_in, IsPosition, IsPart, PositionsLaw, SubsetLaw, RangeLaw}
 use Rattle.bloom_parts.specs.Shares.{share_start, IsOnly, ShareLaw, ReachedLaw, EvenLaw}
 use Rattle.bloom_parts.proofs.PlaceLemmas.{part-from}
@@ -17,6 +17,13 @@ index-share = refl
 
 index-before : index_of 3 6148914691236517205 ≡ 0
 index-before = refl
+
+-- the bit of a position in its word is its remainder by 64
+bit_is_on-twenty : bit_is_on 1048576 84 ≡ true
+bit_is_on-twenty = refl
+
+bit_is_on-beside : bit_is_on 1048576 85 ≡ false
+bit_is_on-beside = refl
 
 -- past the last word no position is on
 content-past : content (0xffff_ffff_ffff_ffff ∷ []) 64 ≡ false

@@ -1,5 +1,5 @@
 -- The binary digits of an exponent, from the highest on.
-use Rattle.std.proofs.Common.{◌≡◌, ℕ, zero, suc, ◌+◌, ◌-◌, ◌/◌, ◌%◌, ◌^◌, ◌<◌, ◌≤◌, refl, arith, sym, ◌∙◌, inl, inr, lit<}
+use Rattle.std.proofs.Common.{◌≡◌, ℕ, zero, suc, ◌+◌, ◌-◌, ◌*◌, ◌/◌, ◌%◌, ◌^◌, ◌<◌, ◌≤◌, refl, arith, sym, ◌∙◌, inl, inr, lit<}
 use Rattle.std.proofs.Math.Nat.{two-pow-succ, pow-le-pow_right, div-one}
 use Rattle.std.proofs.lemmas.Nat.{shr-shr, leading_length}
 use Rattle.std.proofs.lemmas.Bool.{cases_lt}
@@ -32,76 +32,96 @@ digits-needed e digits fits below =
       | inr enough ↦ omega (arith, enough, sum)
     ]
 
--- the power to the highest digits of an exponent of n digits, all but the i lowest
-abbrev pub power_down_to : ℕ → (ℕ → ℕ → ℕ) → ℕ → ℕ → ℕ → ℕ → ℕ
-power_down_to whole product base e n i = rounded_power whole product base (n - i) (e / 2 ^ i)
+-- the power to the highest digits of an exponent, all but the i lowest
+abbrev power_down_to : ℕ → (ℕ → ℕ → ℕ) → ℕ → ℕ → ℕ → ℕ
+power_down_to whole product base e i =
+    rounded_power whole product base (digits_of e - i) (e / 2 ^ i)
 
-module _ (whole : ℕ) (product : ℕ → ℕ → ℕ) (base : ℕ) where
+-- that power, made with so many products
+pub record IsSoFar (whole : ℕ) (product : ℕ → ℕ → ℕ) (base e i power count : ℕ) : Type 0 where
+  pub value : power ≡ power_down_to whole product base e i
+  pub products : count ≤ 2 * (digits_of e - i)
+  pub fits : power ≤ whole
+
+module _ (whole : ℕ) (product : ℕ → ℕ → ℕ) (base e : ℕ) where
   -- no digit at all: the power is one whole
-  pub power-start : (e n : ℕ) → whole ≡ power_down_to whole product base e n n
+  pub power-start : (count : ℕ) → count ≡ 0 →
+      IsSoFar whole product base e (digits_of e) whole count
   unfolding rounded_power
-  power-start e n =
-      let none : n - n ≡ 0 = omega arith in
-      rw none refl
+  power-start count none = record {
+    value =
+        let no_digit : digits_of e - digits_of e ≡ 0 = omega arith in
+        rw no_digit refl;
+    products = omega (arith, none);
+    fits = omega arith;
+  }
 
   -- one digit more
-  power-next : (e n i power : ℕ) → 0 < i → i ≤ n → power ≡ power_down_to whole product base e n i →
-      power_down_to whole product base e n (i - 1)
+  power-next : (i power : ℕ) → 0 < i → i ≤ digits_of e →
+      power ≡ power_down_to whole product base e i →
+      power_down_to whole product base e (i - 1)
       ≡ next_power product base power (e / 2 ^ (i - 1) % 2)
   unfolding rounded_power
-  power-next e n i power some within is =
-      let digits : n - (i - 1) ≡ suc (n - i) = omega (arith, some, within) in
+  power-next i power some within is =
+      let digits : digits_of e - (i - 1) ≡ suc (digits_of e - i) = omega (arith, some, within) in
       let place : i - 1 + 1 ≡ i = omega (arith, some) in
       let half : e / 2 ^ (i - 1) / 2 ≡ e / 2 ^ i = shr-shr e (i - 1) 1 ∙ rw place refl in
       rw (digits, half, is) refl
 
-  -- where that digit is 1, the power is squared and multiplied
-  pub power-one : (e n i power square times : ℕ) → 0 < i → i ≤ n →
-      power ≡ power_down_to whole product base e n i → e / 2 ^ (i - 1) % 2 ≡ 1 →
-      square ≡ product power power → times ≡ product square base →
-      times ≡ power_down_to whole product base e n (i - 1)
-  power-one e n i power square times some within is digit first second =
-      let next = power-next e n i power some within is in
-      second ∙ rw first (sym (rw digit at next))
+  -- a place above the lowest, and the power down to it
+  module _ (i power count : ℕ) (some : 0 < i) (within : i ≤ digits_of e)
+      (is : IsSoFar whole product base e i power count) (square : ℕ)
+      (first : square ≡ product power power) where
+    -- where the digit below is 1, the power is squared and multiplied
+    pub power-one : (times more : ℕ) → e / 2 ^ (i - 1) % 2 ≡ 1 → times ≡ product square base →
+        times ≤ whole → more ≡ count + 2 → IsSoFar whole product base e (i - 1) times more
+    power-one times more digit second fits counted =
+        let next = power-next i power some within is.value in
+        record {
+          value = second ∙ rw first (sym (rw digit at next));
+          products = omega (arith, counted, is.products, some, within);
+          fits = fits;
+        }
 
-  -- where it is 0, the power is squared
-  pub power-zero : (e n i power square : ℕ) → 0 < i → i ≤ n →
-      power ≡ power_down_to whole product base e n i → (e / 2 ^ (i - 1) % 2 ≡ 1 → ⊥) →
-      square ≡ product power power →
-      square ≡ power_down_to whole product base e n (i - 1)
-  power-zero e n i power square some within is other first =
-      let next = power-next e n i power some within is in
-      let digit : e / 2 ^ (i - 1) % 2 ≡ 0 = omega (arith, other) in
-      first ∙ sym (rw digit at next)
+    -- where it is 0, the power is squared
+    pub power-zero : (more : ℕ) → (e / 2 ^ (i - 1) % 2 ≡ 1 → ⊥) → square ≤ whole →
+        more ≡ count + 1 → IsSoFar whole product base e (i - 1) square more
+    power-zero more other fits counted =
+        let next = power-next i power some within is.value in
+        let digit : e / 2 ^ (i - 1) % 2 ≡ 0 = omega (arith, other) in
+        record {
+          value = first ∙ sym (rw digit at next);
+          products = omega (arith, counted, is.products, some, within);
+          fits = fits;
+        }
 
   -- high digits that are zero change nothing, since one whole times one whole is one whole
   module _ (exact : product whole whole ≡ whole) where
     -- the power to 0 is one whole, whatever the number of digits
-    power-none : (n e : ℕ) → e ≡ 0 → rounded_power whole product base n e ≡ whole
+    power-none : (n d : ℕ) → d ≡ 0 → rounded_power whole product base n d ≡ whole
     unfolding rounded_power
-    power-none zero e none = refl
-    power-none (suc n) e none =
-        let rest : rounded_power whole product base n (e / 2) ≡ whole =
-        power-none n (e / 2) (omega arith) in
-        let digit : e % 2 ≡ 0 = omega arith in
+    power-none zero d none = refl
+    power-none (suc n) d none =
+        let rest : rounded_power whole product base n (d / 2) ≡ whole =
+        power-none n (d / 2) (omega arith) in
+        let digit : d % 2 ≡ 0 = omega arith in
         rw (digit, rest, exact) refl
 
     -- digits above those of the exponent change nothing
-    more-digits : (n m e : ℕ) → n ≤ m → e < 2 ^ n →
-        rounded_power whole product base m e ≡ rounded_power whole product base n e
+    more-digits : (n m d : ℕ) → n ≤ m → d < 2 ^ n →
+        rounded_power whole product base m d ≡ rounded_power whole product base n d
     unfolding rounded_power
-    more-digits zero m e more below = power-none m e (omega arith)
-    more-digits (suc n) zero e more below = absurd (omega arith)
-    more-digits (suc n) (suc m) e more below =
-        rw (more-digits n m (e / 2) (omega arith) (half-below n e below)) refl
+    more-digits zero m d more below = power-none m d (omega arith)
+    more-digits (suc n) zero d more below = absurd (omega arith)
+    more-digits (suc n) (suc m) d more below =
+        rw (more-digits n m (d / 2) (omega arith) (half-below n d below)) refl
 
     -- with no digit left out, it is the power
-    pub power-end : (e i power : ℕ) → e < 2 ^ 128 → i ≤ 0 →
-        power ≡ power_down_to whole product base e (digits_of e) i →
-        power ≡ rounded_power whole product base 128 e
-    power-end e i power fits last is =
+    pub power-end : (i power count : ℕ) → e < 2 ^ 128 → i ≤ 0 →
+        IsSoFar whole product base e i power count → power ≡ rounded_power whole product base 128 e
+    power-end i power count fits last is =
         let none : i ≡ 0 = omega arith in
         let all : digits_of e - i ≡ digits_of e = omega arith in
         let same : e / 2 ^ i ≡ e = rw none (div-one e) in
         let more = more-digits (digits_of e) 128 e (omega arith) (digits-enough e fits) in
-        is ∙ rw (all, same) (sym more)
+        is.value ∙ rw (all, same) (sym more)

@@ -9,7 +9,8 @@ returns c =
     let mask = rw c.len.ensures.value at at.mask in
     let within : c.word_and_mask_of_hash-word.result.0 < length c.args.self.now =
     omega (arith, c.len.ensures.value, c.len.ensures.least, at.range) in
-    let changed = content-change _ _ c.self.view_is _ _ _ _ word mask c.index-before.ensures within in
+    let changed =
+    content-change _ _ c.self.view_is _ _ _ _ word mask c.index-before.ensures within in
     record {
       changed = changed;
       reply = ap (λ n. eqb n 0) changed ∙ no-change _ _;

@@ -10,4 +10,5 @@ returns-clause-content c =
     let is : c.or_words.new.words.items ≡ zip2 bit_or c.args.self.now c.args.other.now =
     c.or_words.ensures.words ∙ ap (λ xs. zip2 bit_or xs c.as_slice.result.now) c.self.view_is
     ∙ ap (zip2 bit_or c.args.self.now) (c.as_slice.ensures.value ∙ c.other.view_is) in
-    λ p. ap (λ words. content words p) is ∙ content-or c.args.self.now c.args.other.now c.requires p
+    λ p. ap (λ words. content words p) is
+    ∙ content-or c.args.self.now c.args.other.now c.requires p

@@ -15,4 +15,10 @@ returns c =
     let high : c.new.result.high ≡ density_high c.args.bits sets = search rules in
     let fits = sets-fit c.args.hashes c.args.items (omega arith) (omega arith) in
     let is = is-density c.args.bits sets c.requires fits c.new.result low high in
-    record { low = low; high = high; holds = is.holds; width = is.width; width_none = is.width_none }
+    record {
+      low = low;
+      high = high;
+      holds = is.holds;
+      width = is.width;
+      width_none = is.width_none;
+    }

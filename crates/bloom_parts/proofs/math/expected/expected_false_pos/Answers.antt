@@ -12,6 +12,13 @@ new-requires-clause-ordered c =
 pub returns : goal.returns
 returns c =
     let low : c.new.result.low ≡ lower_power_of c.args.density.low c.args.hashes = search rules in
-    let high : c.new.result.high ≡ upper_power_of c.args.density.high c.args.hashes = search rules in
+    let high : c.new.result.high ≡ upper_power_of c.args.density.high c.args.hashes =
+    search rules in
     let is = is-power c.args.density c.args.hashes (omega arith) c.new.result low high in
-    record { holds = is.holds; low = low; high = high; width = is.width; width_none = is.width_none }
+    record {
+      low = low;
+      high = high;
+      holds = is.holds;
+      width = is.width;
+      width_none = is.width_none;
+    }

@@ -9,4 +9,5 @@ use Rattle.bloom_parts.proofs.hasher.sip.RandomDefaultHasher.push_words.Given as
 abbrev pub invariant-words : goal.invariant-words
 invariant-words l =
     words_of l.state
-    ≡ fold absorb (words_of l.self-inside.state) (map (from_le_bytes w64) (take l.word-index l.words))
+    ≡ fold absorb (words_of l.self-inside.state)
+    (map (from_le_bytes w64) (take l.word-index l.words))

@@ -8,4 +8,5 @@ use Rattle.bloom_parts.proofs.hasher.sip.writes.RandomDefaultHasherHasher.write_
 pub returns-then-self-eq0-clause-taken : goal.returns-then-self-eq0-clause-taken
 returns-then-self-eq0-clause-taken c =
     takes c.args.self.now c.push_words.new.self (to_le_bytes w64 c.args.i)
-    (c.push_words.ensures ∙ ap (λ word. write c.args.self.now (concat (word ∷ []))) c.to_le_bytes.ensures)
+    (c.push_words.ensures
+    ∙ ap (λ word. write c.args.self.now (concat (word ∷ []))) c.to_le_bytes.ensures)

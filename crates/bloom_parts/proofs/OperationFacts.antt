@@ -1,0 +1,62 @@
+-- What commands to a filter of 64 bits decide and reply, case by case. The hash 2^63 lies at
+-- position 32, and 3 * 2^58 at position 3.
+use Rattle.std.proofs.Common.{◌≡◌, ℕ, ◌*◌, ◌^◌, Bool, true, false, eqb, [], ◌∷◌, Some, None, refl}
+use Rattle.bloom_parts.specs.Chain.{chain}
+use Rattle.bloom_parts.specs.Places.{positions, are_in}
+use Rattle.bloom_parts.specs.Operations as operation
+use Rattle.bloom_parts.specs.Operations.{Operation, state_after, reply}
+
+-- the set of 3 alone
+abbrev three : ℕ → Bool
+three p = eqb p 3
+
+-- an insert turns its position on, and no other
+after_insert-on : state_after 64 1 three (operation.Insert (2 ^ 63) ∷ []) 32 ≡ true
+unfolding positions chain
+after_insert-on = refl
+
+after_insert-other : state_after 64 1 three (operation.Insert (2 ^ 63) ∷ []) 33 ≡ false
+unfolding positions chain
+after_insert-other = refl
+
+-- a look-up turns nothing on
+after_contains : state_after 64 1 three (operation.Contains (2 ^ 63) ∷ []) 32 ≡ false
+unfolding positions chain
+after_contains = refl
+
+-- a clear turns off what was on, and not what comes later
+after_clear : state_after 64 1 three (operation.Clear ∷ []) 3 ≡ false
+after_clear = refl
+
+after_clear-insert : state_after 64 1 three (operation.Clear ∷ operation.Insert (2 ^ 63) ∷ []) 32
+    ≡ true
+unfolding positions chain
+after_clear-insert = refl
+
+-- a union keeps what was on, and an intersection only what is in the other
+after_union-kept : state_after 64 1 three (operation.Union (λ p. eqb p 5) ∷ []) 3 ≡ true
+after_union-kept = refl
+
+after_union-other : state_after 64 1 three (operation.Union (λ p. eqb p 5) ∷ []) 5 ≡ true
+after_union-other = refl
+
+after_intersect : state_after 64 1 three (operation.Intersect (λ p. eqb p 5) ∷ []) 3 ≡ false
+after_intersect = refl
+
+after_intersect-other : state_after 64 1 three (operation.Intersect (λ p. eqb p 5) ∷ []) 5 ≡ false
+after_intersect-other = refl
+
+-- inserts and look-ups reply whether their positions are on, and the others don't reply
+reply-insert : reply 64 1 three (operation.Insert (2 ^ 63)) ≡ Some false
+unfolding are_in chain
+reply-insert = refl
+
+reply-contains : reply 64 1 three (operation.Contains (3 * 2 ^ 58)) ≡ Some true
+unfolding are_in chain
+reply-contains = refl
+
+reply-clear : reply 64 1 three operation.Clear ≡ None
+reply-clear = refl
+
+reply-union : reply 64 1 three (operation.Union three) ≡ None
+reply-union = refl
