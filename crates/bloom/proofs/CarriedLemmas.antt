@@ -1,109 +1,100 @@
 -- Lines carried out, one after the other.
-use Rattle.std.proofs.Common.{◌≡◌, ℕ, ◌*◌, List, [], ◌∷◌, ◌++◌, length, map, Bool, unwrap_or, Option, Some, None, refl, sym, ◌∙◌, ap, append_assoc, append-nil, subst}
-use Rattle.std.specs.Option.{option_or}
+use Rattle.std.proofs.Common.{◌≡◌, ℕ, ◌*◌, List, [], ◌∷◌, ◌++◌, length, Bool, Option, refl, sym, ◌∙◌, ap, append_assoc, append-nil, subst}
 use Rattle.std.specs.Io.KnownBytes.{Appends}
 use Rattle.std.proofs.KnownBytes.{Appends-nil, Appends-trans}
 use Rattle.std.proofs.lemmas.List.Elements.{filter_map-append}
 use Rattle.bloom_parts.specs.Content.{content}
-use Rattle.bloom_parts.specs.Deciders.{Decider, last_decision, state}
-use Rattle.bloom_parts.specs.Operations.{decides, state_after}
-use Rattle.fastbloom.specs.Filter.{Filter}
+use Rattle.bloom_parts.specs.Operations as command
+use Rattle.bloom_parts.specs.Operations.{Operation, state_after}
+use Rattle.bloom_parts.specs.Places.{are_in}
+use Rattle.fastbloom.specs.Filter.{Filter, SameShape}
+use Rattle.fastbloom.specs.Laws.{JoinedListsLaw}
+use Rattle.fastbloom.specs.Replies.{CarriesOut, replies_after}
 use Rattle.bloom.specs.declared.engine.line.Line.{Line}
-use Rattle.bloom.specs.Lines.{operation_of, operations}
-use Rattle.bloom.specs.Texts.{answer, text_after, text_of}
+use Rattle.bloom.specs.declared.engine.line.Line.TheVariants.{Insert, Contains, Clear, Words}
+use Rattle.bloom.specs.Lines.{operation_of_line, operations}
+use Rattle.bloom.specs.Texts.{reply_text, words_text, words_with_content, words_after, text_after, text_of}
 use Rattle.bloom.specs.Served.{Carried}
 
--- two sets with the same members are one
-same-sets : (A B : ℕ → Bool) → ((p : ℕ) → A p ≡ B p) → A ≡ B
-same-sets A B same = λ i. λ p. same p i
-
-map-append : {X Y : Type 0} (f : X → Y) (xs ys : List X) → map f (xs ++ ys) ≡ map f xs ++ map f ys
-map-append f [] ys = refl
-map-append f (x ∷ xs) ys = ap (λ l. f x ∷ l) (map-append f xs ys)
-
-option_or-assoc : {T : Type 0} (a b c : Option T) → option_or (option_or a b) c ≡ option_or a (option_or b c)
-option_or-assoc None b c = refl
-option_or-assoc (Some x) b c = refl
-
-option_or-none : {T : Type 0} (a : Option T) → option_or a None ≡ a
-option_or-none None = refl
-option_or-none (Some x) = refl
-
-unwrap_or-option_or : {T : Type 0} (a b : Option T) (x : T) → unwrap_or (option_or a b) x ≡ unwrap_or a (unwrap_or b x)
-unwrap_or-option_or None b x = refl
-unwrap_or-option_or (Some y) b x = refl
-
-last_decision-append : (ds es : List Decider) (p : ℕ) → last_decision (ds ++ es) p ≡ option_or (last_decision es p) (last_decision ds p)
-last_decision-append [] es p = sym (option_or-none (last_decision es p))
-last_decision-append (d ∷ ds) es p =
-    ap (λ o. option_or o (d p)) (last_decision-append ds es p)
-    ∙ option_or-assoc (last_decision es p) (last_decision ds p) (d p)
-
--- later deciders decide over what the earlier ones left
-state-append : (A : ℕ → Bool) (ds es : List Decider) (p : ℕ) → state A (ds ++ es) p ≡ state (state A ds) es p
-state-append A ds es p =
-    ap (λ o. unwrap_or o (A p)) (last_decision-append ds es p)
-    ∙ unwrap_or-option_or (last_decision es p) (last_decision ds p) (A p)
-
-module _ (n k : ℕ) (A : ℕ → Bool) where
-  -- later lines come to what the earlier ones left
-  state_after-append : (lines more : List Line) (p : ℕ)
-      → state_after n k A (operations (lines ++ more)) p
-      ≡ state_after n k (state_after n k A (operations lines)) (operations more) p
-  state_after-append lines more p =
-      ap (λ os. state_after n k A os p) (filter_map-append operation_of lines more)
-      ∙ ap (λ ds. state A ds p) (map-append (decides n k) (operations lines) (operations more))
-      ∙ state-append A (map (decides n k) (operations lines)) (map (decides n k) (operations more)) p
-
 module _ (w k : ℕ) (A : ℕ → Bool) where
-  text_after-more : (earlier lines : List Line) (line : Line)
-      → text_after w k A earlier (lines ++ line ∷ [])
-      ≡ text_after w k A earlier lines ++ answer w k (state_after (64 * w) k A (operations (earlier ++ lines))) line
-  text_after-more earlier [] line =
-      append-nil _ ∙ ap (λ e. answer w k (state_after (64 * w) k A (operations e)) line) (sym (append-nil earlier))
-  text_after-more earlier (l ∷ lines) line =
-      let first = answer w k (state_after (64 * w) k A (operations earlier)) l in
-      ap (λ t. first ++ t) (text_after-more (earlier ++ l ∷ []) lines line)
-      ∙ sym (append_assoc first (text_after w k A (earlier ++ l ∷ []) lines) _)
-      ∙ ap (λ e. text_after w k A earlier (l ∷ lines) ++ answer w k (state_after (64 * w) k A (operations e)) line)
-      (append_assoc earlier (l ∷ []) lines)
+  -- the first line's text, and then a text of which two parts are known
+  join : (first whole a b c : List ℕ) → whole ≡ a ++ b → b ≡ c → first ++ whole ≡ (first ++ a) ++ c
+  join first whole a b c parts same =
+      ap (λ t. first ++ t) (parts ∙ ap (λ t. a ++ t) same) ∙ sym (append_assoc first a c)
+
+  module _ (line : Line) (reply : List Bool) where
+    -- one more line's text comes after that of the lines, whatever commands came before them
+    text_after-more : (before : List Operation) (earlier lines : List Line)
+        → text_after w k A earlier (lines ++ line ∷ []) (replies_after (64 * w) k A before (operations lines) ++ reply)
+        ≡ text_after w k A earlier lines (replies_after (64 * w) k A before (operations lines))
+        ++ text_after w k A (earlier ++ lines) (line ∷ []) reply
+    text_after-more before earlier [] =
+        ap (λ e. text_after w k A e (line ∷ []) reply) (sym (append-nil earlier))
+    text_after-more before earlier (Insert hash ∷ lines) =
+        join (reply_text (are_in (64 * w) k hash (state_after (64 * w) k A before))) _ _ _ _
+        (text_after-more (before ++ command.Insert hash ∷ []) (earlier ++ Insert hash ∷ []) lines)
+        (ap (λ e. text_after w k A e (line ∷ []) reply) (append_assoc earlier (Insert hash ∷ []) lines))
+    text_after-more before earlier (Contains hash ∷ lines) =
+        join (reply_text (are_in (64 * w) k hash (state_after (64 * w) k A before))) _ _ _ _
+        (text_after-more (before ++ command.Contains hash ∷ []) (earlier ++ Contains hash ∷ []) lines)
+        (ap (λ e. text_after w k A e (line ∷ []) reply) (append_assoc earlier (Contains hash ∷ []) lines))
+    text_after-more before earlier (Clear ∷ lines) =
+        join [] _ _ _ _
+        (text_after-more (before ++ command.Clear ∷ []) (earlier ++ Clear ∷ []) lines)
+        (ap (λ e. text_after w k A e (line ∷ []) reply) (append_assoc earlier (Clear ∷ []) lines))
+    text_after-more before earlier (Words ∷ lines) =
+        join (words_text (words_after w k A earlier)) _ _ _ _
+        (text_after-more before (earlier ++ Words ∷ []) lines)
+        (ap (λ e. text_after w k A e (line ∷ []) reply) (append_assoc earlier (Words ∷ []) lines))
+
+-- a line's text speaks of the content before it, whichever lines made it
+text_of-line : (w k : ℕ) (A : ℕ → Bool) (lines : List Line) (j : ℕ) (B : ℕ → Bool) (line : Line) (reply : List Bool)
+    → B ≡ state_after (64 * w) k A (operations lines)
+    → text_of w j B (line ∷ []) reply ≡ text_after w k A lines (line ∷ []) reply
+text_of-line w k A lines j B (Insert hash) [] same = refl
+text_of-line w k A lines j B (Insert hash) (r ∷ rs) same = refl
+text_of-line w k A lines j B (Contains hash) [] same = refl
+text_of-line w k A lines j B (Contains hash) (r ∷ rs) same = refl
+text_of-line w k A lines j B Clear reply same = refl
+text_of-line w k A lines j B Words reply same = ap (λ C. words_text (words_with_content C w) ++ []) same
 
 -- no line was carried out yet
 pub Carried-nil : {S : Type 0} (f : Filter S) (o : Option (List ℕ)) → Carried f f o o []
 Carried-nil f o = record {
-  bits = λ p. refl;
-  shape = record { words = refl; hashes = refl };
-  hasher = refl;
+  given = [];
+  filter = record {
+    bits = λ p. refl;
+    answers = refl;
+    shape = record { words = refl; hashes = refl };
+    hasher = refl;
+  };
   text = Appends-nil o;
 }
 
 -- one more line was carried out
-module _ {S : Type 0} (f g h : Filter S) (o p q : Option (List ℕ)) (lines : List Line) (line : Line)
+module _ {S : Type 0} (joins : JoinedListsLaw S) (f g h : Filter S) (o p q : Option (List ℕ)) (lines : List Line) (line : Line)
     (so_far : Carried f g o p lines) (one : Carried g h p q (line ∷ [])) where
-  pub Carried-more : Carried f h o q (lines ++ line ∷ [])
-  Carried-more =
+  -- its text comes after that of the lines
+  text-more : text_of (length f.words) f.hashes (content f.words) lines so_far.given
+      ++ text_of (length g.words) g.hashes (content g.words) (line ∷ []) one.given
+      ≡ text_of (length f.words) f.hashes (content f.words) (lines ++ line ∷ []) (so_far.given ++ one.given)
+  text-more =
       let w = length f.words in
       let k = f.hashes in
       let A = content f.words in
-      let B : ℕ → Bool = state_after (64 * w) k A (operations lines) in
-      let same : content g.words ≡ B = same-sets (content g.words) B so_far.bits in
-      let alone : text_of (length g.words) g.hashes (content g.words) (line ∷ []) ≡ answer w k B line =
-      append-nil _
-      ∙ ap (λ l. answer l g.hashes (content g.words) line) (sym so_far.shape.words)
-      ∙ ap (λ j. answer w j (content g.words) line) (sym so_far.shape.hashes) ∙ ap (λ C. answer w k C line) same in
-      record {
-        bits = λ x.
-            one.bits x
-            ∙ ap (λ l. state_after (64 * l) g.hashes (content g.words) (operations (line ∷ [])) x) (sym so_far.shape.words)
-            ∙ ap (λ j. state_after (64 * w) j (content g.words) (operations (line ∷ [])) x) (sym so_far.shape.hashes)
-            ∙ ap (λ C. state_after (64 * w) k C (operations (line ∷ [])) x) same
-            ∙ sym (state_after-append (64 * w) k A lines (line ∷ []) x);
-        shape = record {
-          words = so_far.shape.words ∙ one.shape.words;
-          hashes = so_far.shape.hashes ∙ one.shape.hashes;
-        };
-        hasher = one.hasher ∙ so_far.hasher;
-        text =
-            subst (Appends o q) (ap (λ t. text_of w k A lines ++ t) alone ∙ sym (text_after-more w k A [] lines line))
-            (Appends-trans o p q _ _ so_far.text one.text);
-      }
+      let B : content g.words ≡ state_after (64 * w) k A (operations lines) = λ i p. so_far.filter.bits p i in
+      ap (λ t. text_of w k A lines so_far.given ++ t)
+      (ap (λ n. text_of n g.hashes (content g.words) (line ∷ []) one.given) (sym so_far.filter.shape.words)
+      ∙ text_of-line w k A lines g.hashes (content g.words) line one.given B)
+      ∙ ap (λ r. text_of w k A lines r ++ text_after w k A lines (line ∷ []) one.given) so_far.filter.answers
+      ∙ sym (text_after-more w k A line one.given [] [] lines)
+      ∙ ap (λ r. text_of w k A (lines ++ line ∷ []) (r ++ one.given)) (sym so_far.filter.answers)
+
+  pub Carried-more : Carried f h o q (lines ++ line ∷ [])
+  Carried-more = record {
+    given = so_far.given ++ one.given;
+    filter =
+        subst (λ l. CarriesOut f l h (so_far.given ++ one.given)) (sym (filter_map-append operation_of_line lines (line ∷ [])))
+        (joins f g h _ _ so_far.given one.given so_far.filter one.filter);
+    text = subst (Appends o q) text-more (Appends-trans o p q _ _ so_far.text one.text);
+  }

@@ -1,7 +1,11 @@
+mod CarriedFacts
 mod CarriedLemmas
+mod LineFacts
 mod LineLemmas
 mod NumberLemmas
+mod ReadingFacts
 mod ReadingLemmas
+mod ServedFacts
 mod ServedLemmas
 mod TakenLemmas
 pub mod WordLemmas

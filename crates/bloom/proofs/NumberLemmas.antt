@@ -13,18 +13,24 @@ unfolding number_of
 none ds fails = cond-false (is_number ds) (Some (value_of ds)) None fails
 
 pub number_of-short : (ds : List ℕ) → length ds ≡ 0 → number_of ds ≡ None
-number_of-short ds short = none ds (and_left _ _ (and_left _ _ (and_left (leb 1 (length ds)) _ (lt-leb 1 (length ds) (omega arith)))))
+number_of-short ds short =
+    none ds (and_left _ _ (and_left _ _
+    (and_left (leb 1 (length ds)) _ (lt-leb 1 (length ds) (omega arith)))))
 
 pub number_of-long : (ds : List ℕ) → 20 < length ds → number_of ds ≡ None
 number_of-long ds long = none ds (and_left _ _ (and_left _ _ (and_right (leb 1 (length ds)) _ (lt-leb (length ds) 20 long))))
 
-pub number_of-letter : (ds : List ℕ) (i : ℕ) → i < length ds → is_ascii_digit (get_or ds i 0) ≡ false → number_of ds ≡ None
+pub number_of-letter : (ds : List ℕ) (i : ℕ) → i < length ds
+    → is_ascii_digit (get_or ds i 0) ≡ false → number_of ds ≡ None
 number_of-letter ds i below off = none ds (and_left _ _ (and_right _ _ (list_all_at is_ascii_digit ds i 0 below off)))
 
 pub number_of-digits : (ds : List ℕ) → 1 ≤ length ds → length ds ≤ 20 → list_all is_ascii_digit ds ≡ true → number_of ds ≡ cond (ltb (value_of ds) (2 ^ 64)) (Some (value_of ds)) None
 unfolding number_of
 number_of-digits ds some few all =
-    ap (λ b. cond (b && leb (length ds) 20 && list_all is_ascii_digit ds && ltb (value_of ds) (2 ^ 64)) (Some (value_of ds)) None) (le-leb 1 (length ds) some)
+    ap (λ b.
+    cond (b && leb (length ds) 20 && list_all is_ascii_digit ds && ltb (value_of ds) (2 ^ 64))
+    (Some (value_of ds)) None)
+    (le-leb 1 (length ds) some)
     ∙ ap (λ b. cond (b && list_all is_ascii_digit ds && ltb (value_of ds) (2 ^ 64)) (Some (value_of ds)) None) (le-leb (length ds) 20 few)
     ∙ ap (λ b. cond (b && ltb (value_of ds) (2 ^ 64)) (Some (value_of ds)) None) all
 

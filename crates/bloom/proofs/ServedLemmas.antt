@@ -3,8 +3,9 @@ use Rattle.std.proofs.Common.{◌≡◌, ℕ, ◌+◌, ◌<◌, ◌^◌, ◌-◌
 use Rattle.std.specs.Io.KnownBytes.{Keeps, Appends, prepend_known}
 use Rattle.std.proofs.lemmas.Bool.{and_left, and_right, cond-false, lt-leb}
 use Rattle.fastbloom.specs.Filter.{Filter}
+use Rattle.fastbloom.specs.Laws.{JoinedListsLaw}
 use Rattle.bloom.specs.declared.engine.line.Line.{Line}
-use Rattle.bloom.specs.declared.engine.reading.Next.TheVariants as next
+use Rattle.bloom.specs.declared.engine.line_reader.Next.TheVariants as next
 use Rattle.bloom.specs.Lines.{lines_of, line_of, number_of, is_number, value_of, numbered}
 use Rattle.bloom.specs.Reading.{IsEnded, has_no_end, Ends, NextCommand, TakesGood, IsUnderWay}
 use Rattle.bloom.specs.Served.{Carried, IsReadWhole, IsReadUpTo, ServedAll, ServedUpTo}
@@ -21,9 +22,8 @@ Appends-kept (Some x) (Some y) (Some z) bytes p q = q ∙ p
 
 Carried-kept : {S : Type 0} (f g : Filter S) (o p q : Option (List ℕ)) (lines : List Line) → Carried f g o p lines → Keeps p q → Carried f g o q lines
 Carried-kept f g o p q lines so_far kept = record {
-  bits = so_far.bits;
-  shape = so_far.shape;
-  hasher = so_far.hasher;
+  given = so_far.given;
+  filter = so_far.filter;
   text = Appends-kept o p q _ so_far.text kept;
 }
 
@@ -153,12 +153,12 @@ module _ {S : Type 0} (read : Option (List ℕ)) (old : Filter S) (from : Option
   module _ (now : Filter S) (to kept : Option (List ℕ)) (mid : Option (List ℕ)) (number : ℕ)
       (so_far : IsUnderWay read mid old now from to number) (keeps : Keeps to kept) where
     -- one more good line was taken and carried out
-    pub under_way-more : (left : Option (List ℕ)) (new : Filter S) (end : Option (List ℕ)) (line : Line) (more : ℕ)
+    pub under_way-more : JoinedListsLaw S → (left : Option (List ℕ)) (new : Filter S) (end : Option (List ℕ)) (line : Line) (more : ℕ)
         → NextCommand mid left (next.Good line) → Carried now new kept end (line ∷ []) → more ≡ min (number + 1) (2 ^ 64 - 1)
         → IsUnderWay read left old new from end more
-    under_way-more left new end line more good one count = record {
+    under_way-more joins left new end line more good one count = record {
       lines = so_far.lines ++ line ∷ [];
-      carried = Carried-more old now new from kept end so_far.lines line (Carried-kept old now from to kept so_far.lines so_far.carried keeps) one;
+      carried = Carried-more joins old now new from kept end so_far.lines line (Carried-kept old now from to kept so_far.lines so_far.carried keeps) one;
       taken = TakesGood-more read mid left so_far.lines good.0 line so_far.taken good.1 good.2;
       counted = simp length-append (omega (arith, count, so_far.counted));
     }

@@ -48,12 +48,12 @@ line_of (letter ∷ []) = alone letter
 line_of (letter ∷ space ∷ text) = if space == 32 then numbered letter (number_of text) else None
 
 -- the command to the filter that a line is
-abbrev pub operation_of : Line → Option Operation
-operation_of (Insert hash) = Some (command.Insert hash)
-operation_of (Contains hash) = Some (command.Contains hash)
-operation_of Clear = Some command.Clear
-operation_of Words = None
+abbrev pub operation_of_line : Line → Option Operation
+operation_of_line (Insert hash) = Some (command.Insert hash)
+operation_of_line (Contains hash) = Some (command.Contains hash)
+operation_of_line Clear = Some command.Clear
+operation_of_line Words = None
 
 -- the commands to the filter among lines
 abbrev pub operations : List Line → List Operation
-operations lines = filter_map operation_of lines
+operations lines = filter_map operation_of_line lines

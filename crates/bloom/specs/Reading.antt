@@ -1,19 +1,38 @@
 -- What reading one line takes, from what a block and a reader have left.
-use Rattle.std.specs.Prelude.{◌≡◌, ◌⊎◌, ℕ, ◌+◌, ◌-◌, ◌^◌, ◌<◌, min, ◌≤◌, ◌==◌, List, [], ◌∷◌, ◌++◌, length, take, slice_index, map, Bool, true, not, ◌&&◌, Option, Some, None}
-use Rattle.std.specs.Io.KnownBytes.{Consumes, IsAtEnd}
+use Rattle.std.specs.Prelude.{◌≡◌, ◌⊎◌, ℕ, ◌+◌, ◌-◌, ◌^◌, ◌<◌, min, ◌≤◌, ◌==◌, List, [], ◌∷◌, ◌++◌, length, take, slice_index, map, Bool, true, not, ◌&&◌, Option, Some, None, MatchOption}
+use Rattle.std.specs.Io.KnownBytes.{Consumes, IsAtEnd, prepend_known}
 use Rattle.fastbloom.specs.Filter.{Filter}
 use Rattle.bloom.specs.declared.engine.line.Line.{Line}
-use Rattle.bloom.specs.declared.engine.reading.Found.{Found}
-use Rattle.bloom.specs.declared.engine.reading.Found.TheVariants.{End, Short, Long}
-use Rattle.bloom.specs.declared.engine.reading.Next.{Next}
-use Rattle.bloom.specs.declared.engine.reading.Next.TheVariants as next
+use Rattle.bloom.specs.declared.engine.line_reader.Next.{Next}
+use Rattle.bloom.specs.declared.engine.line_reader.Next.TheVariants.{End, Good, Bad}
 use Rattle.bloom.specs.Lines.{lines_of, line_of}
 use Rattle.bloom.specs.Served.{Carried}
 
+-- what a reader of lines keeps: the bytes that were read and wait, and whether the end was told
+pub record Waiting : Type 0 where
+  pub bytes : List ℕ
+  pub ended : Bool
+
+-- all that is left: the bytes that wait, and then what the reader has
+abbrev pub left_of : Waiting → Option (List ℕ) → Option (List ℕ)
+left_of waiting rest = prepend_known waiting.bytes rest
+
+-- where the end was told, the reader has nothing more
+abbrev pub KnowsEnd : Waiting → Option (List ℕ) → Type 0
+KnowsEnd waiting rest = waiting.ended ≡ true → IsAtEnd rest
+
+-- an end that was told stays told, and then the reader isn't asked again: it is as it was
+abbrev pub IsQuiet : {R : Type 0} → Waiting → Waiting → R → R → Type 0
+IsQuiet old new from to = old.ended ≡ true → (new.ended ≡ true) × (to ≡ from)
+
+-- what a line comes to
+abbrev pub Asks : List ℕ → Next → Type 0
+Asks line came = MatchOption (line_of line) (came ≡ Bad) (λ good. came ≡ Good good)
+
 -- a byte is taken, or there is none
-abbrev pub Takes : Option (List ℕ) → Option (List ℕ) → Option ℕ → Type 0
-Takes old new None = Consumes old new [] × IsAtEnd new
-Takes old new (Some byte) = Consumes old new (byte ∷ [])
+abbrev pub TakesByte : Option (List ℕ) → Option (List ℕ) → Option ℕ → Type 0
+TakesByte old new None = Consumes old new [] × IsAtEnd new
+TakesByte old new (Some byte) = Consumes old new (byte ∷ [])
 
 -- whether no byte ends a line
 abbrev pub has_no_end : List ℕ → Bool
@@ -49,17 +68,11 @@ TakesLong (Some old) (Some new) =
 abbrev pub Ends : Option (List ℕ) → Option (List ℕ) → Type 0
 Ends old new = Consumes old new [] × IsAtEnd new
 
--- what reading a line found, where a short one stands at the front of the buffer
-abbrev pub NextLine : Option (List ℕ) → Option (List ℕ) → List ℕ → Found → Type 0
-NextLine old new buffer End = Ends old new
-NextLine old new buffer (Short n) = (n ≤ length buffer) × TakesLine old new (take n buffer)
-NextLine old new buffer Long = TakesLong old new
-
 -- what the next line comes to
 abbrev pub NextCommand : Option (List ℕ) → Option (List ℕ) → Next → Type 0
-NextCommand old new next.End = Ends old new
-NextCommand old new (next.Good line) = (text : List ℕ) × TakesLine old new text × (line_of text ≡ Some line)
-NextCommand old new next.Bad =
+NextCommand old new End = Ends old new
+NextCommand old new (Good line) = (text : List ℕ) × TakesLine old new text × (line_of text ≡ Some line)
+NextCommand old new Bad =
     ((text : List ℕ) × TakesLine old new text × (line_of text ≡ None)) ⊎ TakesLong old new
 
 -- these good lines were taken, and the last of them had its end or nothing is left

@@ -1,21 +1,19 @@
 -- What a run over lines did to the filter, the reader and the writer. What a reader has left and
 -- what a writer holds is Some of the bytes, or None where it doesn't tell.
-use Rattle.std.specs.Prelude.{◌≡◌, ◌⊎◌, ℕ, ◌+◌, ◌*◌, ◌-◌, ◌^◌, ◌<◌, min, List, [], ◌∷◌, ◌++◌, length, map, Option, Some, None, IfSome}
+use Rattle.std.specs.Prelude.{◌≡◌, ◌⊎◌, Bool, ℕ, ◌+◌, ◌-◌, ◌^◌, ◌<◌, min, List, [], ◌∷◌, ◌++◌, length, map, Option, Some, None, IfSome}
 use Rattle.std.specs.Io.KnownBytes.{Appends, Consumes}
 use Rattle.bloom_parts.specs.Content.{content}
-use Rattle.fastbloom.specs.Filter.{Filter, SameShape}
-use Rattle.bloom_parts.specs.Operations.{state_after}
+use Rattle.fastbloom.specs.Filter.{Filter}
+use Rattle.fastbloom.specs.Replies.{CarriesOut}
 use Rattle.bloom.specs.declared.engine.line.Line.{Line}
 use Rattle.bloom.specs.Lines.{lines_of, line_of, operations}
 use Rattle.bloom.specs.Texts.{text_of}
 
--- the filter's content is the state after these lines, and the text of the lines was written
+-- the filter carried out these lines' commands with some replies, and the text of the lines was written
 pub record Carried {S : Type 0} (old new : Filter S) (from to : Option (List ℕ)) (lines : List Line) : Type 0 where
-  pub bits : (p : ℕ) → content new.words p
-      ≡ state_after (64 * length old.words) old.hashes (content old.words) (operations lines) p
-  pub shape : SameShape old new
-  pub hasher : new.hasher ≡ old.hasher
-  pub text : Appends from to (text_of (length old.words) old.hashes (content old.words) lines)
+  pub given : List Bool
+  pub filter : CarriesOut old (operations lines) new given
+  pub text : Appends from to (text_of (length old.words) old.hashes (content old.words) lines given)
 
 -- each line of what the reader had is good, and the reader is at its end
 abbrev pub IsReadWhole : Option (List ℕ) → Option (List ℕ) → List Line → Type 0

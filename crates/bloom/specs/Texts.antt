@@ -1,6 +1,5 @@
 -- The text that good lines write. Its form is this project's own.
 use Rattle.std.specs.Prelude.{ℕ, ◌+◌, ◌*◌, ◌/◌, ◌%◌, ◌^◌, zero, suc, Bool, nat_lt, if◌then◌else◌, List, [], ◌∷◌, ◌++◌, flat_map, codes}
-use Rattle.bloom_parts.specs.Places.{are_in}
 use Rattle.bloom_parts.specs.Operations.{state_after}
 use Rattle.bloom.specs.declared.engine.line.Line.{Line}
 use Rattle.bloom.specs.declared.engine.line.Line.TheVariants.{Insert, Contains, Clear, Words}
@@ -24,29 +23,32 @@ abbrev pub reply_text : Bool → List ℕ
 reply_text reply = if reply then codes "true\n" else codes "false\n"
 
 -- the number whose bits below k are those of a set
-unfoldable pub word_of : (ℕ → Bool) → ℕ → ℕ
-word_of A zero = 0
-word_of A (suc k) = word_of A k + (if A k then 2 ^ k else 0)
+unfoldable pub word_with_bits : (ℕ → Bool) → ℕ → ℕ
+word_with_bits A zero = 0
+word_with_bits A (suc k) = word_with_bits A k + (if A k then 2 ^ k else 0)
 
--- the first w words of a set of positions
-unfoldable pub words_of : (ℕ → Bool) → ℕ → List ℕ
-words_of A zero = []
-words_of A (suc w) = words_of A w ++ word_of (λ bit. A (64 * w + bit)) 64 ∷ []
+-- the first w words with a content
+unfoldable pub words_with_content : (ℕ → Bool) → ℕ → List ℕ
+words_with_content A zero = []
+words_with_content A (suc w) = words_with_content A w ++ word_with_bits (λ bit. A (64 * w + bit)) 64 ∷ []
 
--- what a line writes where the content is A, at w words and k hashes
-abbrev pub answer : ℕ → ℕ → (ℕ → Bool) → Line → List ℕ
-answer w k A (Insert hash) = reply_text (are_in (64 * w) k hash A)
-answer w k A (Contains hash) = reply_text (are_in (64 * w) k hash A)
-answer w k A Clear = []
-answer w k A Words = words_text (words_of A w)
+-- the words after lines, where the content was A before them, at w words and k hashes
+abbrev pub words_after : ℕ → ℕ → (ℕ → Bool) → List Line → List ℕ
+words_after w k A lines = words_with_content (state_after (64 * w) k A (operations lines)) w
 
--- what lines write that come after earlier ones
-abbrev pub text_after : ℕ → ℕ → (ℕ → Bool) → List Line → List Line → List ℕ
-text_after w k A earlier [] = []
-text_after w k A earlier (line ∷ lines) =
-    answer w k (state_after (64 * w) k A (operations earlier)) line
-    ++ text_after w k A (earlier ++ line ∷ []) lines
+-- what lines write that come after earlier ones, where the filter gives these replies
+abbrev pub text_after : ℕ → ℕ → (ℕ → Bool) → List Line → List Line → List Bool → List ℕ
+text_after w k A earlier [] given = []
+text_after w k A earlier (Insert hash ∷ lines) [] = []
+text_after w k A earlier (Insert hash ∷ lines) (reply ∷ given) =
+    reply_text reply ++ text_after w k A (earlier ++ Insert hash ∷ []) lines given
+text_after w k A earlier (Contains hash ∷ lines) [] = []
+text_after w k A earlier (Contains hash ∷ lines) (reply ∷ given) =
+    reply_text reply ++ text_after w k A (earlier ++ Contains hash ∷ []) lines given
+text_after w k A earlier (Clear ∷ lines) given = text_after w k A (earlier ++ Clear ∷ []) lines given
+text_after w k A earlier (Words ∷ lines) given =
+    words_text (words_after w k A earlier) ++ text_after w k A (earlier ++ Words ∷ []) lines given
 
--- the text of good lines
-abbrev pub text_of : ℕ → ℕ → (ℕ → Bool) → List Line → List ℕ
-text_of w k A lines = text_after w k A [] lines
+-- the text of good lines: each reply, and the words at each `w`
+abbrev pub text_of : ℕ → ℕ → (ℕ → Bool) → List Line → List Bool → List ℕ
+text_of w k A lines given = text_after w k A [] lines given

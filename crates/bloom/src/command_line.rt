@@ -1,16 +1,40 @@
-//! The arguments of the program, and numbers in text.
-ghost use Rattle.std.specs.Prelude.{◌≡◌, ◌^◌, ◌≤◌, map, string_bytes, IfOk, IfErr, IfSome};
+//! The arguments of the program.
+ghost use Rattle.std.specs.Prelude.{◌≡◌, ◌≢◌, ◌^◌, ◌≤◌, map, string_bytes, IfOk, IfErr, IfSome};
 ghost use Rattle.std.specs.Result.{result_ok};
 ghost use Rattle.bloom.specs.Arguments.{asked_of, within_limits};
-ghost use Rattle.bloom.specs.Lines.{number_of};
 
 use crate::fault::Fault;
-
-// The most digits of a number.
-const MOST_DIGITS: usize = 20;
+use crate::number::number;
+use std::alloc::AllocGlobal;
+use std::env;
+use std::io::ErrorKind;
+use std::rt::Env;
 
 // The greatest number of words that the program takes.
 const MAX_WORDS: u64 = 1_048_576;
+
+/// The words after the program's name.
+///
+/// # Errors
+/// `Usage` where one of them isn't text, and `Memory`.
+pub fn given_words<R: Env + AllocGlobal>(rt: &R) -> Result<Vec<String>, Fault> {
+    let mut words = Vec::new(rt.alloc());
+    'words: for word in env::args(rt).map_err(|error| unread(error.kind()))?.skip(1) {
+        words.push(word).map_err(|_| Fault::Memory)?;
+    }
+    Ok(words)
+}
+
+// Why arguments couldn't be read: for want of room, or since one isn't text.
+fn unread(kind: ErrorKind) -> Fault
+    ensures memory { kind ≡ ErrorKind.OutOfMemory → result ≡ Fault.Memory }
+    ensures usage { kind ≢ ErrorKind.OutOfMemory → result ≡ Fault.Usage }
+{
+    match kind {
+        ErrorKind::OutOfMemory => Fault::Memory,
+        _ => Fault::Usage,
+    }
+}
 
 /// The numbers of words and hashes that the words after the program's name ask for.
 ///
@@ -40,21 +64,4 @@ fn limited(words: Option<u64>, hashes: Option<u64>) -> Option<(usize, u32)>
         return None;
     }
     Some((words as usize, hashes as u32))
-}
-
-/// The number that a text of 1 to 20 decimal digits is, if it is below 2^64.
-pub fn number(text: &[u8]) -> Option<u64>
-    ensures { result ≡ number_of text.now }
-{
-    if text.is_empty() || text.len() > MOST_DIGITS {
-        return None;
-    }
-    let mut value: u128 = 0;
-    'digits: for digit in text {
-        if !digit.is_ascii_digit() {
-            return None;
-        }
-        value = value * 10 + u128::from(*digit - b'0');
-    }
-    u64::try_from(value).ok()
 }

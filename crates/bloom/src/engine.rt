@@ -1,25 +1,25 @@
 //! Serves lines: reads them, carries them out, and writes their text.
-ghost use Rattle.std.specs.Prelude.{◌≡◌, ◌≢◌, ℕ, [], ◌∷◌, OnOk, IfErr, Err};
+ghost use Rattle.std.specs.Prelude.{◌≡◌, ◌≢◌, ℕ, false, [], ◌∷◌, OnOk, IfErr, Err};
 ghost use Rattle.std.specs.Io.KnownBytes.{Keeps};
 ghost use Rattle.bloom.specs.Faults.{IsOfStream};
 ghost use Rattle.bloom.specs.Served.{Carried, ServedAll, ServedUpTo};
 
 mod block;
 mod line;
-mod reading;
+mod line_reader;
 mod text;
 
 use crate::fault::Fault;
-use block::Block;
-use fastbloom::BloomFilter;
-use line::{LONGEST, Line};
-use reading::{Next, next_command};
+use fastbloom::laws::lists_join;
+use fastbloom::{BloomFilter, DefaultHasher};
+use line::Line;
+use line_reader::{LineReader, Next};
 use std::alloc::Global;
 use std::io::{Read, Write};
 use text::{put_reply, put_words};
 
 // Carries out a line, and writes its text.
-fn carry_out<W: Write>(filter: &mut BloomFilter, line: Line, output: &mut W) -> Result<(), Fault>
+fn serve_line<W: Write>(filter: &mut BloomFilter, line: Line, output: &mut W) -> Result<(), Fault>
     ensures carried { OnOk result (Carried filter.old filter.new
         (W.contents output.old) (W.contents output.new) (line ∷ [])) }
     ensures fault { IfErr result (λ fault. fault ≡ Fault.Output) }
@@ -35,14 +35,15 @@ fn carry_out<W: Write>(filter: &mut BloomFilter, line: Line, output: &mut W) -> 
     }
 }
 
-// Serves the lines of what the block and the reader have left.
+// Serves each line of the input, of which nothing was read yet.
 fn serve_lines<R: Read, W: Write>(
-    block: &mut Block,
+    lines: &mut LineReader,
     filter: &mut BloomFilter,
     input: &mut R,
     output: &mut W,
 ) -> Result<(), Fault>
-    requires { block.old ≡ [] }
+    requires empty { lines.old.bytes ≡ [] }
+    requires open { lines.old.ended ≡ false }
     ensures all { OnOk result (ServedAll (R.remaining input.old) (R.remaining input.new)
         filter.old filter.new (W.contents output.old) (W.contents output.new)) }
     ensures bad { (n : ℕ) → result ≡ Err (Fault.Line n)
@@ -51,14 +52,14 @@ fn serve_lines<R: Read, W: Write>(
     ensures room { result ≢ Err Fault.Memory }
     ensures usage { result ≢ Err Fault.Usage }
 {
-    let mut buffer = [0u8; LONGEST];
+    lists_join::<DefaultHasher>();
     let mut number = 1u64;
     // Two counts, so that none ends before the input does.
     'rounds: for _round in 0..u64::MAX {
         'lines: for _line in 0..u64::MAX {
-            match next_command(block, input, output, &mut buffer)? {
+            match lines.next_command(input, output)? {
                 Next::End => return Ok(()),
-                Next::Good(line) => carry_out(filter, line, output)?,
+                Next::Good(line) => serve_line(filter, line, output)?,
                 Next::Bad => return Err(Fault::Line(number)),
             }
             number = number.saturating_add(1);
@@ -93,8 +94,8 @@ pub fn serve<R: Read, W: Write>(
         → Keeps (W.contents output.old) (W.contents output.new) }
     ensures usage { result ≢ Err Fault.Usage }
 {
-    let mut block = Block::new(alloc)?;
-    let served = serve_lines(&mut block, filter, input, output);
+    let mut lines = LineReader::new(alloc)?;
+    let served = serve_lines(&mut lines, filter, input, output);
     output.flush().map_err(|_| Fault::Output)?;
     served
 }

@@ -7,15 +7,15 @@ ghost use Rattle.bloom_parts.specs.Keys.{HasKey};
 mod command_line;
 mod engine;
 mod fault;
+mod number;
 #[cfg(test)]
 mod tests;
 
-use command_line::arguments;
+use command_line::{arguments, given_words};
 use engine::serve;
 use fastbloom::BloomFilter;
 use fault::Fault;
 use std::alloc::Global;
-use std::env;
 use std::io::BufWriter;
 use std::process::ExitCode;
 
@@ -36,10 +36,7 @@ fn filter_of(alloc: Global, words: usize, hashes: u32) -> Result<BloomFilter, Fa
 }
 
 fn run<R: Input + Print + AllocGlobal + std::rt::Env>(rt: &R) -> Result<(), Fault> {
-    let mut words = Vec::new(rt.alloc());
-    'words: for word in env::args(rt).map_err(|_| Fault::Memory)?.skip(1) {
-        words.push(word).map_err(|_| Fault::Memory)?;
-    }
+    let words = given_words(rt)?;
     let (words, hashes) = arguments(words.as_slice())?;
     let mut filter = filter_of(rt.alloc(), words, hashes)?;
     let mut input = rt.reader();

@@ -20,6 +20,7 @@ pub record IsKept (b low high : ℕ) : Type 0 where
   pub ordered : low ≤ high
   pub near : high ≤ low + 1
 
+-- the share that stays off, rounded either way, has these ends
 kept-ends : (b : ℕ) → 0 < b → IsKept b (2 ^ 63 * (b - 1) / b) (div_ceil (2 ^ 63 * (b - 1)) b)
 kept-ends b some =
     let x : ℕ = 2 ^ 63 * (b - 1) in record {
@@ -39,6 +40,7 @@ missing-below u high whole part fits small above =
     let two : u * whole ≡ u * ((whole - part) + part) = ap (λ v. u * v) (omega (arith, small)) in
     omega (arith, one, two, above)
 
+-- and what is missing from a whole that is held from below
 missing-above : (u low whole part : ℕ) → low ≤ u → part ≤ whole → low * whole ≤ u * part →
     u * (whole - part) ≤ (u - low) * whole
 missing-above u low whole part fits small below =
@@ -46,6 +48,7 @@ missing-above u low whole part fits small below =
     let two : u * whole ≡ u * ((whole - part) + part) = ap (λ v. u * v) (omega (arith, small)) in
     omega (arith, one, two, below)
 
+-- so many hashes of so many items fit in 128 bits
 pub sets-fit : (hashes items : ℕ) → hashes < 2 ^ 32 → items < 2 ^ 64 → hashes * items < 2 ^ 128
 sets-fit hashes items hashes_fit items_fit =
     let few : hashes ≤ 2 ^ 32 = omega (arith, hashes_fit) in
@@ -59,10 +62,16 @@ pub record IsDensity (bracket : Bracket) (b t : ℕ) : Type 0 where
   pub width_none : t ≡ 0 → width_of bracket ≡ 0
 
 module _ (b t : ℕ) (some : 0 < b) (fits : t < 2 ^ 128) where
-  pub kept-ordered : lower_power_of (2 ^ 63 * (b - 1) / b) t
-      ≤ upper_power_of (div_ceil (2 ^ 63 * (b - 1)) b) t
-  kept-ordered = ends-ordered _ _ t fits (kept-ends b some).ordered
+  -- what is on is ordered, since what stays off is
+  pub density-ordered : (off_high low high : ℕ) → off_high ≡ div_ceil (2 ^ 63 * (b - 1)) b →
+      low ≡ lower_power_of (2 ^ 63 * (b - 1) / b) t → high ≡ upper_power_of off_high t →
+      2 ^ 63 - high ≤ 2 ^ 63 - low
+  density-ordered off_high low high off_is low_is high_is =
+      let ordered : low ≤ high =
+      rw (high_is, low_is, off_is) (ends-ordered _ _ t fits (kept-ends b some).ordered) in
+      omega (arith, ordered)
 
+  -- the bracket of its two ends is the density's
   pub is-density : (bracket : Bracket) → bracket.low ≡ density_low b t →
       bracket.high ≡ density_high b t → IsDensity bracket b t
   is-density bracket low_is high_is =
@@ -93,9 +102,13 @@ pub record IsPower (base bracket : Bracket) (k : ℕ) : Type 0 where
   pub width_none : 0 < k → base.high ≡ 0 → width_of bracket ≡ 0
 
 module _ (base : Bracket) (k : ℕ) (fits : k < 2 ^ 128) where
-  pub power-ordered : lower_power_of base.low k ≤ upper_power_of base.high k
-  power-ordered = ends-ordered base.low base.high k fits base.ordered
+  -- the lower power of the lower bound is at most the upper power of the upper one
+  pub power-ordered : (low high : ℕ) → low ≡ lower_power_of base.low k →
+      high ≡ upper_power_of base.high k → low ≤ high
+  power-ordered low high low_is high_is =
+      rw (low_is, high_is) (ends-ordered base.low base.high k fits base.ordered)
 
+  -- the bracket of both powers is the power's
   pub is-power : (bracket : Bracket) → bracket.low ≡ lower_power_of base.low k →
       bracket.high ≡ upper_power_of base.high k → IsPower base bracket k
   is-power bracket low_is high_is =
@@ -111,7 +124,7 @@ module _ (base : Bracket) (k : ℕ) (fits : k < 2 ^ 128) where
         width = omega (arith, low_is, high_is, within k apart);
         width_none = λ some none.
             let nothing : upper_power_of base.high k ≡ 0 = rw none (upper-none k fits some) in
-            omega (arith, low_is, high_is, nothing, power-ordered);
+            omega (arith, high_is, nothing, power-ordered _ _ low_is high_is);
       }
     where
       within : (e : ℕ) {low high d : ℕ} → AreApart (2 ^ 63) d low high e → high ≤ low + e * (d + 1)

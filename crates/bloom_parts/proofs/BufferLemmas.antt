@@ -21,7 +21,8 @@ topped (a ∷ b ∷ c ∷ d ∷ e ∷ f ∷ g ∷ []) top few = omega arith
 topped (a ∷ b ∷ c ∷ d ∷ e ∷ f ∷ g ∷ h ∷ bytes) top few = absurd (omega arith)
 
 -- the zeros of a buffer count for nothing
-padded-value : (bytes : List ℕ) → length bytes < 8 → from_le_bytes w64 (padded bytes) ≡ from_le_bytes w64 bytes
+padded-value : (bytes : List ℕ) → length bytes < 8
+    → from_le_bytes w64 (padded bytes) ≡ from_le_bytes w64 bytes
 padded-value [] few = refl
 padded-value (a ∷ []) few = refl
 padded-value (a ∷ b ∷ []) few = refl
@@ -36,9 +37,12 @@ padded-value (a ∷ b ∷ c ∷ d ∷ e ∷ f ∷ g ∷ h ∷ bytes) few = absur
 record HasRoom (bytes : List ℕ) (byte : ℕ) : Type 0 where
   below : from_le_bytes w64 bytes < 2 ^ (8 * length bytes)
   fits : byte * 2 ^ (8 * length bytes) < 2 ^ 64
-  more : from_le_bytes w64 (bytes ++ byte ∷ []) ≡ byte * 2 ^ (8 * length bytes) + from_le_bytes w64 bytes
+  more : from_le_bytes w64 (bytes ++ byte ∷ [])
+      ≡ byte * 2 ^ (8 * length bytes) + from_le_bytes w64 bytes
 
-has_room : (bytes : List ℕ) (byte : ℕ) → AreBytes bytes → byte < 256 → length bytes < 8 → HasRoom bytes byte
+-- fewer than eight bytes leave room for one
+has_room : (bytes : List ℕ) (byte : ℕ) → AreBytes bytes → byte < 256 → length bytes < 8
+    → HasRoom bytes byte
 has_room [] byte small last few =
     record { below = omega arith; fits = omega arith; more = omega arith }
 has_room (a ∷ []) byte small last few =
@@ -46,7 +50,11 @@ has_room (a ∷ []) byte small last few =
 has_room (a ∷ b ∷ []) byte small last few =
     record { below = omega (arith, small 0, small 1); fits = omega arith; more = omega arith }
 has_room (a ∷ b ∷ c ∷ []) byte small last few =
-    record { below = omega (arith, small 0, small 1, small 2); fits = omega arith; more = omega arith }
+    record {
+      below = omega (arith, small 0, small 1, small 2);
+      fits = omega arith;
+      more = omega arith;
+    }
 has_room (a ∷ b ∷ c ∷ d ∷ []) byte small last few =
     record {
       below = omega (arith, small 0, small 1, small 2, small 3);
@@ -85,32 +93,41 @@ or-above bytes byte word at small last few is above =
     ∙ or_shifted_r byte (8 * length bytes) (from_le_bytes w64 bytes) room.below
     ∙ sym room.more
 
+-- the first of some bytes are bytes
 AreBytes-take : (n : ℕ) (bytes : List ℕ) → AreBytes bytes → AreBytes (take n bytes)
 AreBytes-take zero bytes small i = lit< tt
 AreBytes-take (suc n) [] small i = lit< tt
 AreBytes-take (suc n) (byte ∷ bytes) small zero = small 0
 AreBytes-take (suc n) (byte ∷ bytes) small (suc i) = AreBytes-take n bytes (λ k. small (suc k)) i
 
-pub AreBytes-append : (bytes more : List ℕ) → AreBytes bytes → AreBytes more → AreBytes (bytes ++ more)
+-- bytes and more bytes are bytes
+pub AreBytes-append : (bytes more : List ℕ) → AreBytes bytes → AreBytes more
+    → AreBytes (bytes ++ more)
 AreBytes-append [] more small others i = others i
 AreBytes-append (byte ∷ bytes) more small others zero = small 0
-AreBytes-append (byte ∷ bytes) more small others (suc i) = AreBytes-append bytes more (λ k. small (suc k)) others i
+AreBytes-append (byte ∷ bytes) more small others (suc i) =
+    AreBytes-append bytes more (λ k. small (suc k)) others i
 
+-- zeros are bytes
 AreBytes-zeros : (n : ℕ) → AreBytes (replicate n 0)
 AreBytes-zeros zero i = lit< tt
 AreBytes-zeros (suc n) zero = lit< tt
 AreBytes-zeros (suc n) (suc i) = AreBytes-zeros n i
 
 -- the number of bytes held and of some that come, with the next one put above
-pub next-byte : (held bytes : List ℕ) (i word at : ℕ) → AreBytes held → AreBytes bytes → i < length bytes
-    → length held + length bytes ≤ 8 → word ≡ from_le_bytes w64 (held ++ take i bytes) → at ≡ length held + i
-    → bit_or word (get_or bytes i 0 * 2 ^ (8 * at) % 2 ^ 64) ≡ from_le_bytes w64 (held ++ take (i + 1) bytes)
+pub next-byte : (held bytes : List ℕ) (i word at : ℕ) → AreBytes held → AreBytes bytes
+    → i < length bytes → length held + length bytes ≤ 8
+    → word ≡ from_le_bytes w64 (held ++ take i bytes) → at ≡ length held + i
+    → bit_or word (get_or bytes i 0 * 2 ^ (8 * at) % 2 ^ 64)
+    ≡ from_le_bytes w64 (held ++ take (i + 1) bytes)
 next-byte held bytes i word at small others within few is above =
     let taken : length (take i bytes) ≡ i = simp length-take (omega arith) in
-    let size : length (held ++ take i bytes) ≡ length held + i = omega (arith, length-append held (take i bytes)) in
+    let size : length (held ++ take i bytes) ≡ length held + i =
+    omega (arith, length-append held (take i bytes)) in
     let further : (held ++ take i bytes) ++ get_or bytes i 0 ∷ [] ≡ held ++ take (i + 1) bytes =
     append_assoc held (take i bytes) (get_or bytes i 0 ∷ [])
-    ∙ ap (λ more. held ++ more) (sym (ap (λ n. take n bytes) (add-one i) ∙ take-suc bytes i 0 within)) in
+    ∙ ap (λ more. held ++ more)
+    (sym (ap (λ n. take n bytes) (add-one i) ∙ take-suc bytes i 0 within)) in
     or-above (held ++ take i bytes) (get_or bytes i 0) word at
     (AreBytes-append held (take i bytes) small (AreBytes-take i bytes others))
     (others i) (omega arith) is (omega arith)
@@ -121,18 +138,25 @@ pub record Stores (buffer : List ℕ) (count : ℕ) (bytes : List ℕ) : Type 0 
   pub padding : IsPadded buffer count
   pub held : held_in buffer count ≡ bytes
 
-pub stores : (buffer : List ℕ) (count : ℕ) (bytes : List ℕ) (word : ℕ) → AreBytes bytes → length bytes < 8
-    → count % 8 ≡ length bytes → word ≡ from_le_bytes w64 bytes → buffer ≡ to_le_bytes w64 word
+-- the little-endian bytes of a number of fewer than eight bytes are these bytes, and zeros
+pub stores : (buffer : List ℕ) (count : ℕ) (bytes : List ℕ) (word : ℕ) → AreBytes bytes
+    → length bytes < 8 → count % 8 ≡ length bytes → word ≡ from_le_bytes w64 bytes → buffer ≡ to_le_bytes w64 word
     → Stores buffer count bytes
 stores buffer count bytes word small few counted is stored =
     let eight : length (padded bytes) ≡ 8 =
-    omega (arith, length-append bytes (replicate (8 - length bytes) 0), length-replicate {A = ℕ} (8 - length bytes) 0) in
+    omega (
+      arith,
+      length-append bytes (replicate (8 - length bytes) 0),
+      length-replicate {A = ℕ} (8 - length bytes) 0,
+    ) in
     let all_bytes : AreBytes (padded bytes) =
-    AreBytes-append bytes (replicate (8 - length bytes) 0) small (AreBytes-zeros (8 - length bytes)) in
+    AreBytes-append bytes (replicate (8 - length bytes) 0) small
+    (AreBytes-zeros (8 - length bytes)) in
     let whole : buffer ≡ padded bytes =
     stored ∙ le_bytes_8 (padded bytes) word eight all_bytes (is ∙ sym (padded-value bytes few)) in
     let held : held_in buffer count ≡ bytes =
-    ap (λ b. held_in b count) whole ∙ ap (λ n. take n (padded bytes)) counted ∙ take-append_seam bytes _ in
+    ap (λ b. held_in b count) whole ∙ ap (λ n. take n (padded bytes)) counted
+    ∙ take-append_seam bytes _ in
     record { padding = whole ∙ ap padded (sym held); held = held }
 
 -- what a buffer holds
@@ -141,8 +165,9 @@ pub record Holds (buffer : List ℕ) (count : ℕ) : Type 0 where
   pub bytes : AreBytes (held_in buffer count)
   pub value : from_le_bytes w64 buffer ≡ from_le_bytes w64 (held_in buffer count)
 
-pub holds : (buffer : List ℕ) (count : ℕ) → length buffer ≡ 8 → IsPadded buffer count → AreBytes buffer
-    → Holds buffer count
+-- what a padded buffer of eight bytes holds
+pub holds : (buffer : List ℕ) (count : ℕ) → length buffer ≡ 8 → IsPadded buffer count
+    → AreBytes buffer → Holds buffer count
 holds buffer count eight padding small =
     let few : length (held_in buffer count) ≡ count % 8 = simp length-take (omega arith) in
     record {

@@ -1,9 +1,10 @@
 -- What word operations do to positions.
-use Rattle.std.proofs.Common.{◌≡◌, ℕ, zero, suc, ◌+◌, ◌*◌, ◌^◌, ◌/◌, ◌%◌, ◌<◌, max, Bool, true, false, ◌||◌, if◌then◌else◌, eqb, ltb, bit_and, bit_or, List, length, get_or, set, refl, sym, ◌∙◌, ap, arith, inl, inr}
+use Rattle.std.proofs.Common.{◌≡◌, ℕ, zero, suc, ◌+◌, ◌*◌, ◌^◌, ◌/◌, ◌%◌, ◌<◌, max, min, Bool, true, false, ◌||◌, ◌&&◌, if◌then◌else◌, eqb, ltb, bit_and, bit_or, List, length, get_or, set, refl, sym, ◌∙◌, ap, arith, inl, inr}
 use Rattle.std.specs.Int.{bit_at}
 use Rattle.std.specs.Int.Bits.{bit_xor}
-use Rattle.std.proofs.lemmas.Nat.Bits.{and_pow, bit_at-lt, bit_at-zero, bit_at_or, bit_at_xor, bit_at-pow_same, bit_at-pow_other, same_from_bits}
+use Rattle.std.proofs.lemmas.Nat.Bits.{and_pow, bit_at-lt, bit_at-zero, bit_at_and, bit_at_or, bit_at_xor, bit_at-pow_same, bit_at-pow_other, same_from_bits}
 use Rattle.std.proofs.lemmas.Nat.{pow_pos}
+use Rattle.std.proofs.Math.Bool.{or-false}
 use Rattle.std.proofs.lemmas.Bool.{cases_eq, eq-eqb, ne_eqb}
 use Rattle.std.proofs.lemmas.List.{get_or-set_same, get_or-set_other}
 use Rattle.std.proofs.lemmas.Grind.{common_steps}
@@ -18,7 +19,9 @@ digit-above (suc (suc d)) n small some = absurd (omega arith)
 
 -- the test that the code makes of a bit
 test-bit : (n k : ℕ) → ltb 0 (bit_and n (2 ^ k)) ≡ eqb (bit_at n k) 1
-test-bit n k = ap (ltb 0) (and_pow n k) ∙ digit-above (bit_at n k) (2 ^ k) (bit_at-lt n k) (pow_pos k)
+test-bit n k =
+    ap (ltb 0) (and_pow n k)
+    ∙ digit-above (bit_at n k) (2 ^ k) (bit_at-lt n k) (pow_pos k)
 
 -- the greater of two digits is 1 exactly if one of them is
 max-digits : (a b : ℕ) → a < 2 → b < 2 → eqb (max a b) 1 ≡ (eqb a 1 || eqb b 1)
@@ -33,7 +36,24 @@ max-digits (suc zero) (suc (suc b)) p q = absurd (omega arith)
 -- a bit of a bitwise or is on exactly if it is on in one of the words
 pub bit_is_on-or : (a b p : ℕ) → bit_is_on (bit_or a b) p ≡ (bit_is_on a p || bit_is_on b p)
 bit_is_on-or a b p =
-    ap (λ d. eqb d 1) (bit_at_or a b (p % 64)) ∙ max-digits _ _ (bit_at-lt a (p % 64)) (bit_at-lt b (p % 64))
+    ap (λ d. eqb d 1) (bit_at_or a b (p % 64))
+    ∙ max-digits _ _ (bit_at-lt a (p % 64)) (bit_at-lt b (p % 64))
+
+-- the lesser of two digits is 1 exactly if both are
+min-digits : (a b : ℕ) → a < 2 → b < 2 → eqb (min a b) 1 ≡ (eqb a 1 && eqb b 1)
+min-digits zero zero p q = refl
+min-digits zero (suc zero) p q = refl
+min-digits (suc zero) zero p q = refl
+min-digits (suc zero) (suc zero) p q = refl
+min-digits (suc (suc a)) b p q = absurd (omega arith)
+min-digits zero (suc (suc b)) p q = absurd (omega arith)
+min-digits (suc zero) (suc (suc b)) p q = absurd (omega arith)
+
+-- a bit of a bitwise and is on exactly if it is on in both words
+pub bit_is_on-and : (a b p : ℕ) → bit_is_on (bit_and a b) p ≡ (bit_is_on a p && bit_is_on b p)
+bit_is_on-and a b p =
+    ap (λ d. eqb d 1) (bit_at_and a b (p % 64))
+    ∙ min-digits _ _ (bit_at-lt a (p % 64)) (bit_at-lt b (p % 64))
 
 -- a digit that a bitwise or changes
 changed-digit : (d e : ℕ) → d < 2 → e < 2 → (d + max d e) % 2 ≡ (if eqb d 1 then 0 else e)
@@ -45,10 +65,12 @@ changed-digit (suc (suc d)) e p q = absurd (omega arith)
 changed-digit zero (suc (suc e)) p q = absurd (omega arith)
 changed-digit (suc zero) (suc (suc e)) p q = absurd (omega arith)
 
+-- a bit of a choice is the choice of bits
 bit_at-choice : (b : Bool) (m i : ℕ) → bit_at (if b then 0 else m) i ≡ (if b then 0 else bit_at m i)
 bit_at-choice true m i = bit_at-zero i
 bit_at-choice false m i = refl
 
+-- a choice between nothing and nothing is nothing
 no-choice : (b : Bool) → ◌≡◌ {A = ℕ} (if b then 0 else 0) 0
 no-choice true = refl
 no-choice false = refl
@@ -63,6 +85,7 @@ change-bit n k =
     ∙ at i
     ∙ sym (bit_at-choice (eqb (bit_at n k) 1) (2 ^ k) i))
   where
+    -- the bit that is on in the mask is that of the choice
     at : (i : ℕ) → (if eqb (bit_at n i) 1 then 0 else bit_at (2 ^ k) i)
         ≡ (if eqb (bit_at n k) 1 then 0 else bit_at (2 ^ k) i)
     at i = elim (cases_eq i k) [
@@ -70,7 +93,8 @@ change-bit n k =
       | inr apart ↦
           let none : bit_at (2 ^ k) i ≡ 0 = bit_at-pow_other k i apart in
           ap (λ d. if eqb (bit_at n i) 1 then 0 else d) none ∙ no-choice (eqb (bit_at n i) 1)
-          ∙ sym (ap (λ d. if eqb (bit_at n k) 1 then 0 else d) none ∙ no-choice (eqb (bit_at n k) 1))
+          ∙ sym (ap (λ d. if eqb (bit_at n k) 1 then 0 else d) none
+          ∙ no-choice (eqb (bit_at n k) 1))
     ]
 
 -- so nothing is changed exactly if it was on
@@ -78,10 +102,7 @@ pub no-change : (b : Bool) (k : ℕ) → eqb (if b then 0 else 2 ^ k) 0 ≡ b
 no-change true k = refl
 no-change false k = ne_eqb (2 ^ k) 0 (λ none. absurd (omega (arith, none, pow_pos k)))
 
-or-false : (b : Bool) → (b || false) ≡ b
-or-false true = refl
-or-false false = refl
-
+-- within a list the default doesn't count
 get_or-default : (a : List ℕ) (i d e : ℕ) → i < length a → get_or a i d ≡ get_or a i e
 get_or-default a i d e within = grind (arith, common_steps)
 
@@ -96,46 +117,60 @@ bit_is_on-mask p q same = elim (cases_eq (p % 64) (q % 64)) [
       ∙ sym (ne_eqb p q (λ e. apart (ap (λ n. n % 64) e)))
 ]
 
--- the word and the mask of a position, and what was read at that word
-module _ (words : List ℕ) (i mask read position : ℕ) (word : i ≡ position / 64) (is_mask : mask ≡ 2 ^ (position % 64))
-    (is_read : read ≡ get_or words i read) (within : i < length words) where
+-- the word and the mask of a position, and what was read at that word of a vector
+module _ (inside words : List ℕ) (same : inside ≡ words) (i mask read position : ℕ)
+    (word : i ≡ position / 64) (is_mask : mask ≡ 2 ^ (position % 64))
+    (is_read : read ≡ get_or inside i read) (within : i < length words) where
+  -- what was read is the position's word
+  read-word : read ≡ get_or words (position / 64) 0
+  read-word =
+      is_read ∙ get_or-default inside i read 0 (omega (arith, ap length same, within))
+      ∙ ap (λ ws. get_or ws i 0) same ∙ ap (λ j. get_or words j 0) word
+
   -- the test of a position
   pub content-test : ltb 0 (bit_and read mask) ≡ content words position
   unfolding content
   content-test =
-      let value : read ≡ get_or words (position / 64) 0 =
-      is_read ∙ get_or-default words i read 0 within ∙ ap (λ j. get_or words j 0) word in
-      ap (λ x. ltb 0 (bit_and x mask)) value
+      ap (λ x. ltb 0 (bit_and x mask)) read-word
       ∙ ap (λ x. ltb 0 (bit_and (get_or words (position / 64) 0) x)) is_mask
       ∙ test-bit (get_or words (position / 64) 0) (position % 64)
 
   -- what turning a position on changes of its word
-  pub content-change : bit_xor read (bit_or read mask) ≡ (if content words position then 0 else 2 ^ (position % 64))
+  pub content-change : bit_xor read (bit_or read mask)
+      ≡ (if content words position then 0 else 2 ^ (position % 64))
   unfolding content
   content-change =
-      let value : read ≡ get_or words (position / 64) 0 =
-      is_read ∙ get_or-default words i read 0 within ∙ ap (λ j. get_or words j 0) word in
       ap (λ m. bit_xor read (bit_or read m)) is_mask
       ∙ change-bit read (position % 64)
-      ∙ ap (λ n. if bit_is_on n position then 0 else 2 ^ (position % 64)) value
+      ∙ ap (λ n. if bit_is_on n position then 0 else 2 ^ (position % 64)) read-word
+
+  -- the word of a position that is turned on
+  word-set : (p : ℕ) → p / 64 ≡ i → get_or (set words i (bit_or read mask)) (p / 64) 0
+      ≡ bit_or (get_or words (p / 64) 0) (2 ^ (position % 64))
+  word-set p here =
+      ap (λ j. get_or (set words i (bit_or read mask)) j 0) here
+      ∙ get_or-set_same words i (bit_or read mask) 0 within
+      ∙ ap (λ x. bit_or x mask) read-word
+      ∙ ap (λ j. bit_or (get_or words j 0) mask) (sym word ∙ sym here)
+      ∙ ap (bit_or (get_or words (p / 64) 0)) is_mask
 
   -- a position that is turned on, and the others
-  pub content-set : (p : ℕ) → content (set words i (bit_or read mask)) p ≡ (content words p || eqb p position)
+  pub content-set : (p : ℕ) → content (set inside i (bit_or read mask)) p
+      ≡ (content words p || eqb p position)
   unfolding content
-  content-set p = elim (cases_eq (p / 64) i) [
-    | inl here ↦
-        let old = get_or words (p / 64) 0 in
-        let value : read ≡ get_or words (p / 64) 0 =
-        is_read ∙ get_or-default words i read 0 within ∙ ap (λ j. get_or words j 0) (sym here) in
-        let found : get_or (set words i (bit_or read mask)) (p / 64) 0 ≡ bit_or (get_or words (p / 64) 0) (2 ^ (position % 64)) =
-        ap (λ j. get_or (set words i (bit_or read mask)) j 0) here
-        ∙ get_or-set_same words i (bit_or read mask) 0 within
-        ∙ ap (λ x. bit_or x mask) value ∙ ap (bit_or (get_or words (p / 64) 0)) is_mask in
-        ap (λ n. bit_is_on n p) found
-        ∙ bit_is_on-or old (2 ^ (position % 64)) p
-        ∙ ap (λ b. bit_is_on old p || b) (bit_is_on-mask p position (here ∙ word))
-    | inr elsewhere ↦
-        let apart : eqb p position ≡ false = ne_eqb p position (λ e. elsewhere (ap (λ q. q / 64) e ∙ sym word)) in
-        ap (λ n. bit_is_on n p) (get_or-set_other words i (p / 64) (bit_or read mask) 0 elsewhere)
-        ∙ sym (or-false _) ∙ ap (λ b. bit_is_on (get_or words (p / 64) 0) p || b) (sym apart)
-  ]
+  content-set p = ap (λ ws. content (set ws i (bit_or read mask)) p) same
+      ∙ elim (cases_eq (p / 64) i)
+      as (λ _. content (set words i (bit_or read mask)) p ≡ (content words p || eqb p position)) [
+        | inl here ↦
+            let old = get_or words (p / 64) 0 in
+            ap (λ n. bit_is_on n p) (word-set p here)
+            ∙ bit_is_on-or old (2 ^ (position % 64)) p
+            ∙ ap (λ b. bit_is_on old p || b) (bit_is_on-mask p position (here ∙ word))
+        | inr elsewhere ↦
+            let apart : eqb p position ≡ false =
+            ne_eqb p position (λ e. elsewhere (ap (λ q. q / 64) e ∙ sym word)) in
+            ap (λ n. bit_is_on n p)
+            (get_or-set_other words i (p / 64) (bit_or read mask) 0 elsewhere)
+            ∙ sym (or-false _)
+            ∙ ap (λ b. bit_is_on (get_or words (p / 64) 0) p || b) (sym apart)
+      ]

@@ -6,9 +6,11 @@ use Rattle.bloom_parts.specs.Powers.{down_of, up_of, lower_power_of, upper_power
 use Rattle.bloom_parts.proofs.PowerBounds.{power-bound, product-below, product-above}
 use Rattle.bloom_parts.proofs.PowerWidths.{Rounds, AreApart, power-apart}
 
+-- the product of two fractions is at most one whole times one whole
 products-fit : (x y : ℕ) → x ≤ 2 ^ 63 → y ≤ 2 ^ 63 → x * y ≤ 2 ^ 63 * 2 ^ 63
 products-fit x y x_fits y_fits = mul-le x y (2 ^ 63) (2 ^ 63) x_fits y_fits
 
+-- a product rounded down is less than one unit below
 rounds-down : Rounds (2 ^ 63) down_of
 rounds-down = record {
   near_below = λ x y. omega arith;
@@ -16,6 +18,7 @@ rounds-down = record {
   fits = λ x y x_fits y_fits. omega (arith, products-fit x y x_fits y_fits);
 }
 
+-- a product rounded up is less than one unit above
 rounds-up : Rounds (2 ^ 63) up_of
 rounds-up = record {
   near_below = λ x y. omega arith;
@@ -65,12 +68,14 @@ upper-none e fits some =
     power-bound (λ r P Q. P ≡ 0 → r ≡ 0) (2 ^ 63) up_of (λ is. absurd (omega (arith, is)))
     times 0 0 1 (λ _. refl) 128 e fits (none-power e some)
   where
+    -- a product with nothing is nothing
     times : (r s P p Q q : ℕ) → (P ≡ 0 → r ≡ 0) → (p ≡ 0 → s ≡ 0) → P * p ≡ 0 → up_of r s ≡ 0
     times r s P p Q q first second is = elim (none-factor P p is) [
       | inl left ↦ rw (first left) (omega arith)
       | inr right ↦ rw (second right) (omega arith)
     ]
 
+    -- a power of nothing, as a number
     none-power : (n : ℕ) → 0 < n → 0 ^ n ≡ 0
     none-power zero above = absurd (omega arith)
     none-power (suc n) above = pow-suc 0 n ∙ omega arith

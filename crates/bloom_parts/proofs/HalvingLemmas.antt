@@ -5,20 +5,13 @@ use Rattle.std.proofs.lemmas.Nat.{mul-le, pow-add, mul-pow, shl_whole}
 use Rattle.std.proofs.lemmas.Bool.{cases_lt}
 use Rattle.bloom_parts.specs.Roots.{IsRoot}
 use Rattle.bloom_parts.specs.Sizing.{IsEnough, IsHalvings, CoverLaw, NoneLaw, MostLaw, OneSizeLaw}
+use Rattle.bloom_parts.proofs.PowerBounds.{pow-pow}
 use Rattle.bloom_parts.proofs.RootLemmas.{root-zero, root-least, root-below, root-mono, one_root}
 
--- a power of a power
-pow-pow : (a m n : ℕ) → (a ^ m) ^ n ≡ a ^ (m * n)
-pow-pow a m zero = rw (mul-zero, pow-zero a, pow-zero (a ^ m)) refl
-pow-pow a m (suc n) =
-    let next : m * n + m ≡ m * suc n = omega arith in
-    pow-suc (a ^ m) n ∙ ap (λ v. v * a ^ m) (pow-pow a m n) ∙ sym (pow-add a (m * n) m)
-    ∙ ap (λ v. a ^ v) next
-
--- the test of the code at k sixty-fourths, with n and d read from the rate and t from the table
-pub record IsTest (num den k n d t : ℕ) : Type 0 where
-  pub fits : n * 2 ^ (k / 64) % 2 ^ 128 * t < 2 ^ 128
-  pub decides : (d * 2 ^ 32 % 2 ^ 128 ≤ n * 2 ^ (k / 64) % 2 ^ 128 * t) ↔ IsEnough num den k
+-- the test of the code at so many parts, with n and d read from the rate and t from the table
+pub record IsTest (num den parts n d t : ℕ) : Type 0 where
+  pub fits : n * 2 ^ (parts / 64) % 2 ^ 128 * t < 2 ^ 128
+  pub decides : (d * 2 ^ 32 % 2 ^ 128 ≤ n * 2 ^ (parts / 64) % 2 ^ 128 * t) ↔ IsEnough num den parts
 
 -- a rate of one or more needs none
 pub none-enough : (num den : ℕ) → den ≤ num → IsEnough num den 0
@@ -28,66 +21,74 @@ none-enough num den more = (2 ^ 32, root-zero, rw (pow-zero 2) (omega (arith, mo
 pub most-enough : (num den : ℕ) → 0 < num → den < 2 ^ 64 → IsEnough num den 4096
 most-enough num den above fits = (2 ^ 32, root-zero, omega (arith, above, fits))
 
--- the numbers of the test at k sixty-fourths, where no fewer are enough
-module _ (num den k t : ℕ) (num_fits : num < 2 ^ 64) (den_fits : den < 2 ^ 64)
-    (root : IsRoot (k % 64) t) (few : (fewer : ℕ) → fewer < k → IsEnough num den fewer → ⊥) where
+-- the numbers of the test, where no fewer parts are enough
+module _ (num den parts t : ℕ) (num_fits : num < 2 ^ 64) (den_fits : den < 2 ^ 64)
+    (root : IsRoot (parts % 64) t)
+    (few : (fewer : ℕ) → fewer < parts → IsEnough num den fewer → ⊥) where
   -- had the shifted rate 66 digits, then one whole halving fewer would be enough
-  too_wide : 64 ≤ k → 2 ^ 65 ≤ num * 2 ^ (k / 64) → ⊥
+  too_wide : 64 ≤ parts → 2 ^ 65 ≤ num * 2 ^ (parts / 64) → ⊥
   too_wide large wide =
-      let place : k % 64 ≡ (k - 64) % 64 = omega (arith, large) in
-      let next : suc ((k - 64) / 64) ≡ k / 64 = omega (arith, large) in
-      let double : num * 2 ^ (k / 64) ≡ 2 * (num * 2 ^ ((k - 64) / 64)) =
-      rw (← next, pow-suc 2 ((k - 64) / 64)) (omega arith) in
-      let still_wide : 2 ^ 64 ≤ num * 2 ^ ((k - 64) / 64) = omega (arith, wide, double) in
-      let scaled : 2 ^ 64 * 2 ^ 32 ≤ num * 2 ^ ((k - 64) / 64) * t =
-      mul-le (2 ^ 64) (2 ^ 32) (num * 2 ^ ((k - 64) / 64)) t still_wide
-      (root-least (k % 64) t root) in
-      few (k - 64) (omega (arith, large))
+      let place : parts % 64 ≡ (parts - 64) % 64 = omega (arith, large) in
+      let next : suc ((parts - 64) / 64) ≡ parts / 64 = omega (arith, large) in
+      let double : num * 2 ^ (parts / 64) ≡ 2 * (num * 2 ^ ((parts - 64) / 64)) =
+      rw (← next, pow-suc 2 ((parts - 64) / 64)) (omega arith) in
+      let still_wide : 2 ^ 64 ≤ num * 2 ^ ((parts - 64) / 64) = omega (arith, wide, double) in
+      let scaled : 2 ^ 64 * 2 ^ 32 ≤ num * 2 ^ ((parts - 64) / 64) * t =
+      mul-le (2 ^ 64) (2 ^ 32) (num * 2 ^ ((parts - 64) / 64)) t still_wide
+      (root-least (parts % 64) t root) in
+      few (parts - 64) (omega (arith, large))
       (t, subst (λ j. IsRoot j t) place root, omega (arith, scaled, den_fits))
 
-  shifted-fits : num * 2 ^ (k / 64) < 2 ^ 65
-  shifted-fits = elim (cases_lt k 64) [
+  -- so the shifted rate has at most 65 digits
+  shifted-fits : num * 2 ^ (parts / 64) < 2 ^ 65
+  shifted-fits = elim (cases_lt parts 64) [
     | inl small ↦
-        let none : k / 64 ≡ 0 = omega (arith, small) in
+        let none : parts / 64 ≡ 0 = omega (arith, small) in
         rw (none, pow-zero 2) (omega (arith, num_fits))
-    | inr large ↦ elim (cases_lt (num * 2 ^ (k / 64)) (2 ^ 65)) [
+    | inr large ↦ elim (cases_lt (num * 2 ^ (parts / 64)) (2 ^ 65)) [
       | inl narrow ↦ narrow
       | inr wide ↦ absurd (too_wide large wide)
     ]
   ]
 
   -- the test of the code loses no digit, and is that of the definition
-  module _ (within : k < 4096) (n d : ℕ) (same_num : n ≡ num) (same_den : d ≡ den) where
-    num-shifted : n * 2 ^ (k / 64) % 2 ^ 128 ≡ num * 2 ^ (k / 64)
-    num-shifted = rw same_num (shl_whole num 64 (k / 64) 128 num_fits (omega (arith, within)))
+  module _ (within : parts < 4096) (n d : ℕ) (same_num : n ≡ num) (same_den : d ≡ den) where
+    -- the code loses no digit of the upper part
+    num-shifted : n * 2 ^ (parts / 64) % 2 ^ 128 ≡ num * 2 ^ (parts / 64)
+    num-shifted = rw same_num (shl_whole num 64 (parts / 64) 128 num_fits (omega (arith, within)))
 
+    -- nor of the lower one
     den-shifted : d * 2 ^ 32 % 2 ^ 128 ≡ den * 2 ^ 32
     den-shifted = omega (arith, same_den, den_fits)
 
-    product-fits : n * 2 ^ (k / 64) % 2 ^ 128 * t < 2 ^ 128
+    -- nor does the product with the root overflow
+    product-fits : n * 2 ^ (parts / 64) % 2 ^ 128 * t < 2 ^ 128
     product-fits =
-        let product : num * 2 ^ (k / 64) * t ≤ 2 ^ 65 * 2 ^ 33 =
-        mul-le (num * 2 ^ (k / 64)) t (2 ^ 65) (2 ^ 33)
-        (omega (arith, shifted-fits)) (omega (arith, root-below (k % 64) t (omega arith) root)) in
+        let product : num * 2 ^ (parts / 64) * t ≤ 2 ^ 65 * 2 ^ 33 =
+        mul-le (num * 2 ^ (parts / 64)) t (2 ^ 65) (2 ^ 33)
+        (omega (arith, shifted-fits))
+        (omega (arith, root-below (parts % 64) t (omega arith) root)) in
         rw num-shifted (omega (arith, product))
 
-    decides : (d * 2 ^ 32 % 2 ^ 128 ≤ n * 2 ^ (k / 64) % 2 ^ 128 * t) ↔ IsEnough num den k
+    -- so the code compares the numbers of the definition
+    decides : (d * 2 ^ 32 % 2 ^ 128 ≤ n * 2 ^ (parts / 64) % 2 ^ 128 * t) ↔ IsEnough num den parts
     decides = (
       (λ is. (t, root, rw (den-shifted, num-shifted) at is)),
       (λ (u, other, enough).
-          let same : u ≡ t = one_root (k % 64) u t other root in
+          let same : u ≡ t = one_root (parts % 64) u t other root in
           rw (den-shifted, num-shifted) (rw same at enough)),
     )
 
-    pub test-halvings : IsTest num den k n d t
+    -- both in one
+    pub test-halvings : IsTest num den parts n d t
     test-halvings = record { fits = product-fits; decides = decides }
 
 -- the least is the one that a search upwards finds
-pub least-halvings : (num den k : ℕ) → IsEnough num den k →
-    ((fewer : ℕ) → fewer < k → IsEnough num den fewer → ⊥) → IsHalvings num den k
-least-halvings num den k enough few = record {
+pub least-halvings : (num den parts : ℕ) → IsEnough num den parts →
+    ((fewer : ℕ) → fewer < parts → IsEnough num den fewer → ⊥) → IsHalvings num den parts
+least-halvings num den parts enough few = record {
   enough = enough;
-  least = λ other is. elim (cases_lt other k) [
+  least = λ other is. elim (cases_lt other parts) [
     | inl less ↦ absurd (few other less is)
     | inr more ↦ more
   ];
@@ -141,33 +142,38 @@ raised num den e j t root enough =
     let left : (den * 2 ^ 32) ^ 64 ≡ den ^ 64 * (2 ^ 32) ^ 64 = mul-pow den (2 ^ 32) 64 in
     let right : (num * 2 ^ e * t) ^ 64 ≡ num ^ 64 * 2 ^ (e * 64) * t ^ 64 =
     rw (mul-pow (num * 2 ^ e) t 64, mul-pow num (2 ^ e) 64, pow-pow 2 e 64) refl in
-    let parts = rw (left, right) at power in
+    let scaled = rw (left, right) at power in
     let small : t ^ 64 ≤ 2 ^ 2048 * 2 ^ j = rw (← pow-add 2 2048 j) root.at_most in
     cancel (den ^ 64) ((2 ^ 32) ^ 64) (num ^ 64) (2 ^ (e * 64)) (t ^ 64) (2 ^ j) (lit< tt)
-    parts small
+    scaled small
 
+-- the law that halvings cover the rate
 pub cover_law : CoverLaw
-cover_law num den k is =
+cover_law num den parts is =
     let (t, root, enough) = is.enough in
-    let raised : den ^ 64 ≤ 2 ^ (k / 64 * 64) * 2 ^ (k % 64) * num ^ 64 =
-    raised num den (k / 64) (k % 64) t root enough in
-    let whole : k ≡ k / 64 * 64 + k % 64 = omega arith in
-    let parts : 2 ^ k ≡ 2 ^ (k / 64 * 64) * 2 ^ (k % 64) =
-    ap (λ v. 2 ^ v) whole ∙ pow-add 2 (k / 64 * 64) (k % 64) in
-    rw parts raised
+    let raised : den ^ 64 ≤ 2 ^ (parts / 64 * 64) * 2 ^ (parts % 64) * num ^ 64 =
+    raised num den (parts / 64) (parts % 64) t root enough in
+    let whole : parts ≡ parts / 64 * 64 + parts % 64 = omega arith in
+    let split : 2 ^ parts ≡ 2 ^ (parts / 64 * 64) * 2 ^ (parts % 64) =
+    ap (λ v. 2 ^ v) whole ∙ pow-add 2 (parts / 64 * 64) (parts % 64) in
+    rw split raised
 
+-- the law on rates of one or more
 pub none_law : NoneLaw
-none_law num den k more is = omega (arith, is.least 0 (none-enough num den more))
+none_law num den parts more is = omega (arith, is.least 0 (none-enough num den more))
 
+-- the law on the most halvings
 pub most_law : MostLaw
-most_law num den k above fits is = is.least 4096 (most-enough num den above fits)
+most_law num den parts above fits is = is.least 4096 (most-enough num den above fits)
 
 -- there are no two least numbers
-one_halvings : (num den k m : ℕ) → IsHalvings num den k → IsHalvings num den m → k ≡ m
-one_halvings num den k m first second =
-    omega (arith, first.least m second.enough, second.least k first.enough)
+one_halvings : (num den parts others : ℕ) → IsHalvings num den parts → IsHalvings num den others
+    → parts ≡ others
+one_halvings num den parts others first second =
+    omega (arith, first.least others second.enough, second.least parts first.enough)
 
+-- the law that there is one size
 pub one_size_law : OneSizeLaw
-one_size_law items num den size other (k, first, size_is) (m, second, other_is) =
-    let same : k ≡ m = one_halvings num den k m first second in
+one_size_law items num den size other (parts, first, size_is) (others, second, other_is) =
+    let same : parts ≡ others = one_halvings num den parts others first second in
     size_is ∙ rw same (sym other_is)

@@ -11,23 +11,28 @@ use Rattle.bloom_parts.specs.Laws.{TakesEach, HashesPieces, CuttingLaw, JoiningL
 use Rattle.bloom_parts.proofs.SipLemmas.{AreWords, IsShort, short, GoesOn, goes_on, whole_words-concat, length-concat, length-rest, empty}
 
 -- bytes and then more
-pub write-append : (h : SipState) (bytes more : List ℕ) → write (write h bytes) more ≡ write h (bytes ++ more)
+pub write-append : (h : SipState) (bytes more : List ℕ)
+    → write (write h bytes) more ≡ write h (bytes ++ more)
 unfolding write
 write-append h bytes more =
-    let joined : (h.held ++ bytes) ++ more ≡ h.held ++ (bytes ++ more) = append_assoc h.held bytes more in
+    let joined : (h.held ++ bytes) ++ more ≡ h.held ++ (bytes ++ more) =
+    append_assoc h.held bytes more in
     let further : GoesOn (h.held ++ bytes) more = goes_on (h.held ++ bytes) more in
-    let words : fold absorb (fold absorb h.words (whole_words (h.held ++ bytes))) (whole_words (rest (h.held ++ bytes) ++ more))
+    let words : fold absorb (fold absorb h.words (whole_words (h.held ++ bytes)))
+    (whole_words (rest (h.held ++ bytes) ++ more))
     ≡ fold absorb h.words (whole_words (h.held ++ (bytes ++ more))) =
     sym (fold-append absorb h.words (whole_words (h.held ++ bytes)) _)
     ∙ ap (fold absorb h.words) (sym further.words ∙ ap whole_words joined) in
     let held : rest (rest (h.held ++ bytes) ++ more) ≡ rest (h.held ++ (bytes ++ more)) =
     sym further.remain ∙ ap rest joined in
-    let count : ((h.count + length bytes) % 256 + length more) % 256 ≡ (h.count + length (bytes ++ more)) % 256 =
+    let count : ((h.count + length bytes) % 256 + length more) % 256
+    ≡ (h.count + length (bytes ++ more)) % 256 =
     omega (arith, length-append bytes more) in
     λ i. record h { words = words i; held = held i; count = count i }
 
 -- how many bytes are held
-pub length-held : (h : SipState) (bytes : List ℕ) → length (write h bytes).held ≡ length (h.held ++ bytes) % 8
+pub length-held : (h : SipState) (bytes : List ℕ)
+    → length (write h bytes).held ≡ length (h.held ++ bytes) % 8
 unfolding write
 length-held h bytes = length-rest (h.held ++ bytes)
 
@@ -47,13 +52,19 @@ write-few h bytes few =
 pub write-words : (h : SipState) (bytes : List ℕ) (words : List (List ℕ)) → AreWords words
     → h.held ++ bytes ≡ concat words
     → write h bytes
-    ≡ record h { words = fold absorb h.words (map (from_le_bytes w64) words); held = []; count = (h.count + length bytes) % 256 }
+    ≡ record h {
+      words = fold absorb h.words (map (from_le_bytes w64) words);
+      held = [];
+      count = (h.count + length bytes) % 256;
+    }
 unfolding write
 write-words h bytes words each is =
     let cut : whole_words (h.held ++ bytes) ≡ map (from_le_bytes w64) words =
     ap whole_words is ∙ whole_words-concat words each in
     let none : rest (h.held ++ bytes) ≡ [] =
-    ap rest is ∙ empty (rest (concat words)) (omega (arith, length-rest (concat words), length-concat words each)) in
+    ap rest is
+    ∙ empty (rest (concat words))
+    (omega (arith, length-rest (concat words), length-concat words each)) in
     λ i. record h {
       words = fold absorb h.words (cut i);
       held = none i;
@@ -70,7 +81,11 @@ write-full h bytes word eight is =
     λ i below. let first : i ≡ 0 = omega arith in
     ap (λ j. length (get_or ((h.held ++ bytes) ∷ []) j [])) first ∙ eight in
     write-words h bytes ((h.held ++ bytes) ∷ []) one (sym (append-nil (h.held ++ bytes)))
-    ∙ ap (λ n. record h { words = absorb h.words n; held = []; count = (h.count + length bytes) % 256 }) (sym is)
+    ∙ ap (λ n. record h {
+      words = absorb h.words n;
+      held = [];
+      count = (h.count + length bytes) % 256;
+    }) (sym is)
 
 -- where a hasher stands to key and bytes, it does so after more of them
 written : (h : SipState) (bytes : List ℕ) → Takes h (write h bytes) bytes
@@ -103,12 +118,14 @@ unfolding finish sip
 answers h k0 k1 bytes is =
     let once_more : length bytes % 256 % 256 ≡ length bytes % 256 = omega arith in
     (λ i. answer (absorb (is.words i) (last_word (is.held i) (is.count i))))
-    ∙ ap (λ n. answer (absorb (fold absorb (start k0 k1) (whole_words bytes)) (from_le_bytes w64 (rest bytes) + n * 2 ^ 56))) once_more
+    ∙ ap (λ n. answer (absorb (fold absorb (start k0 k1) (whole_words bytes))
+    (from_le_bytes w64 (rest bytes) + n * 2 ^ 56))) once_more
     ∙ ap answer (sym (fold-append absorb (start k0 k1) (whole_words bytes) _))
 
 -- pieces, one after the other
 takes-each : (k0 k1 : ℕ) (before : List ℕ) (pieces : List (List ℕ)) (old new : SipState)
-    → Hashed old k0 k1 before → TakesEach old new pieces → Hashed new k0 k1 (before ++ concat pieces)
+    → Hashed old k0 k1 before → TakesEach old new pieces
+    → Hashed new k0 k1 (before ++ concat pieces)
 takes-each k0 k1 before [] old new is same =
     let P : List ℕ → Type 0 = λ bytes. Hashed new k0 k1 bytes in
     let Q : SipState → Type 0 = λ h. Hashed h k0 k1 before in
@@ -124,6 +141,7 @@ hash-of-pieces : (k0 k1 : ℕ) (pieces : List (List ℕ)) (hash : ℕ)
 hash-of-pieces k0 k1 pieces hash made =
     made.4 k0 k1 (concat pieces) (takes-each k0 k1 [] pieces made.0 made.1 made.2 made.3)
 
+-- the law that cutting doesn't matter
 pub cutting_law : CuttingLaw
 cutting_law k0 k1 pieces others hash other first second same =
     hash-of-pieces k0 k1 pieces hash first
@@ -133,8 +151,10 @@ cutting_law k0 k1 pieces others hash other first second same =
 -- writes, one after the other
 written-each : (pieces : List (List ℕ)) (h : SipState) → TakesEach h (fold write h pieces) pieces
 written-each [] h = refl
-written-each (piece ∷ pieces) h = (write h piece, written h piece, written-each pieces (write h piece))
+written-each (piece ∷ pieces) h =
+    (write h piece, written h piece, written-each pieces (write h piece))
 
+-- the law that pieces join
 pub joining_law : JoiningLaw
 joining_law fresh k0 k1 pieces is =
     answers (fold write fresh pieces) k0 k1 (concat pieces)

@@ -1,17 +1,24 @@
 mod BracketFacts
 mod BracketLemmas
 mod BufferLemmas
-pub mod ContentLemmas
+mod ContentLemmas
+mod DeciderFacts
 mod EndLemmas
+mod FillLemmas
+mod HalvingFacts
 mod HalvingLemmas
 mod HashedLemmas
+mod HasherFacts
 mod MergeLemmas
 mod NumberLemmas
-pub mod PlaceLemmas
-pub mod PositionLemmas
+mod PlaceLemmas
+mod PositionFacts
 mod PowerBounds
 mod PowerDigits
 mod PowerWidths
+pub mod PublishedLemmas
+mod RateFacts
+mod ReadingFacts
 mod RootLemmas
 mod RoundingLemmas
 mod SetLemmas

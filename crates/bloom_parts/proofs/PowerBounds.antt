@@ -1,9 +1,17 @@
 -- What rounded powers are bounds of.
-use Rattle.std.proofs.Common.{add-zero, add-one, ◌≡◌, ℕ, zero, suc, ◌+◌, ◌*◌, ◌/◌, ◌%◌, ◌^◌, ◌<◌, ◌≤◌, arith, subst, sym}
-use Rattle.std.proofs.Math.Nat.{le_of_mul-le-mul_right, pow-suc, pow-zero}
+use Rattle.std.proofs.Common.{add-zero, add-one, ◌≡◌, ℕ, zero, suc, ◌+◌, ◌*◌, ◌/◌, ◌%◌, ◌^◌, ◌<◌, ◌≤◌, refl, ap, ◌∙◌, arith, subst, sym}
+use Rattle.std.proofs.Math.Nat.{le_of_mul-le-mul_right, mul-zero, pow-suc, pow-zero}
 use Rattle.std.proofs.lemmas.Nat.{mul-le, pow-add}
 use Rattle.bloom_parts.specs.Powers.{next_power, rounded_power}
 use Rattle.bloom_parts.proofs.PowerDigits.{half-below}
+
+-- a power of a power
+pub pow-pow : (a m n : ℕ) → (a ^ m) ^ n ≡ a ^ (m * n)
+pow-pow a m zero = rw (mul-zero, pow-zero a, pow-zero (a ^ m)) refl
+pow-pow a m (suc n) =
+    let next : m * n + m ≡ m * suc n = omega arith in
+    pow-suc (a ^ m) n ∙ ap (λ v. v * a ^ m) (pow-pow a m n) ∙ sym (pow-add a (m * n) m)
+    ∙ ap (λ v. a ^ v) next
 
 -- an exponent is twice its half, and its lowest digit
 pub by-half : (e : ℕ) → e ≡ e / 2 + e / 2 + e % 2
@@ -13,11 +21,13 @@ by-half e = omega arith
 module _ (Bound : ℕ → ℕ → ℕ → Type 0) (whole : ℕ) (product : ℕ → ℕ → ℕ) (start : Bound whole 1 1)
     (times : (r s P p Q q : ℕ) → Bound r P Q → Bound s p q → Bound (product r s) (P * p) (Q * q))
     (base p q : ℕ) (bound : Bound base p q) where
+  -- the fact of a power holds of its square
   square-bound : (power h : ℕ) → Bound power (p ^ h) (q ^ h) →
       Bound (product power power) (p ^ (h + h)) (q ^ (h + h))
   square-bound power h is =
       rw (pow-add p h h, pow-add q h h) (times power power (p ^ h) (p ^ h) (q ^ h) (q ^ h) is is)
 
+  -- and of what the next digit makes of the power
   next-bound : (power h digit : ℕ) → digit < 2 → Bound power (p ^ h) (q ^ h) →
       Bound (next_power product base power digit) (p ^ (h + h + digit)) (q ^ (h + h + digit))
   next-bound power h zero small is = rw add-zero (square-bound power h is)
@@ -27,6 +37,7 @@ module _ (Bound : ℕ → ℕ → ℕ → Type 0) (whole : ℕ) (product : ℕ �
       (times (product power power) base (p ^ (h + h)) p (q ^ (h + h)) q square bound)
   next-bound power h (suc (suc digit)) small is = absurd (omega arith)
 
+  -- so it holds of the power to any exponent of so many digits
   pub power-bound : (digits e : ℕ) → e < 2 ^ digits →
       Bound (rounded_power whole product base digits e) (p ^ e) (q ^ e)
   unfolding rounded_power
@@ -41,6 +52,7 @@ module _ (Bound : ℕ → ℕ → ℕ → Type 0) (whole : ℕ) (product : ℕ �
 
 -- products rounded down keep lower bounds of fractions in parts of a whole
 module _ (u : ℕ) (some : 0 < u) (product : ℕ → ℕ → ℕ) where
+  -- for lower bounds of two fractions and of their product
   pub product-below : ((x y : ℕ) → product x y * u ≤ x * y) → (r s P p Q q : ℕ) →
       r * Q ≤ u * P → s * q ≤ u * p → product r s * (Q * q) ≤ u * (P * p)
   product-below down r s P p Q q first second =

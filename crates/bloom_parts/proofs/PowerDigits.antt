@@ -6,6 +6,7 @@ use Rattle.std.proofs.lemmas.Bool.{cases_lt}
 use lib.Count.{count_leading_zeros}
 use Rattle.bloom_parts.specs.Powers.{next_power, rounded_power}
 
+-- half an exponent has one digit less
 pub half-below : (digits e : ℕ) → e < 2 ^ suc digits → e / 2 < 2 ^ digits
 half-below digits e below = omega (arith, below, two-pow-succ digits)
 
@@ -20,6 +21,7 @@ digits-enough e fits =
     let same : digits_of e ≡ m = omega (arith, sum) in
     rw same below
 
+-- an exponent has no more digits than it is given room for
 pub digits-needed : (e digits : ℕ) → e < 2 ^ 128 → e < 2 ^ digits → digits_of e ≤ digits
 digits-needed e digits fits below =
     let (m, sum, _, tight) = leading_length 128 e fits in
@@ -53,6 +55,7 @@ module _ (whole : ℕ) (product : ℕ → ℕ → ℕ) (base : ℕ) where
       let half : e / 2 ^ (i - 1) / 2 ≡ e / 2 ^ i = shr-shr e (i - 1) 1 ∙ rw place refl in
       rw (digits, half, is) refl
 
+  -- where that digit is 1, the power is squared and multiplied
   pub power-one : (e n i power square times : ℕ) → 0 < i → i ≤ n →
       power ≡ power_down_to whole product base e n i → e / 2 ^ (i - 1) % 2 ≡ 1 →
       square ≡ product power power → times ≡ product square base →
@@ -61,6 +64,7 @@ module _ (whole : ℕ) (product : ℕ → ℕ → ℕ) (base : ℕ) where
       let next = power-next e n i power some within is in
       second ∙ rw first (sym (rw digit at next))
 
+  -- where it is 0, the power is squared
   pub power-zero : (e n i power square : ℕ) → 0 < i → i ≤ n →
       power ≡ power_down_to whole product base e n i → (e / 2 ^ (i - 1) % 2 ≡ 1 → ⊥) →
       square ≡ product power power →
@@ -72,6 +76,7 @@ module _ (whole : ℕ) (product : ℕ → ℕ → ℕ) (base : ℕ) where
 
   -- high digits that are zero change nothing, since one whole times one whole is one whole
   module _ (exact : product whole whole ≡ whole) where
+    -- the power to 0 is one whole, whatever the number of digits
     power-none : (n e : ℕ) → e ≡ 0 → rounded_power whole product base n e ≡ whole
     unfolding rounded_power
     power-none zero e none = refl
@@ -81,6 +86,7 @@ module _ (whole : ℕ) (product : ℕ → ℕ → ℕ) (base : ℕ) where
         let digit : e % 2 ≡ 0 = omega arith in
         rw (digit, rest, exact) refl
 
+    -- digits above those of the exponent change nothing
     more-digits : (n m e : ℕ) → n ≤ m → e < 2 ^ n →
         rounded_power whole product base m e ≡ rounded_power whole product base n e
     unfolding rounded_power
@@ -89,6 +95,7 @@ module _ (whole : ℕ) (product : ℕ → ℕ → ℕ) (base : ℕ) where
     more-digits (suc n) (suc m) e more below =
         rw (more-digits n m (e / 2) (omega arith) (half-below n e below)) refl
 
+    -- with no digit left out, it is the power
     pub power-end : (e i power : ℕ) → e < 2 ^ 128 → i ≤ 0 →
         power ≡ power_down_to whole product base e (digits_of e) i →
         power ≡ rounded_power whole product base 128 e

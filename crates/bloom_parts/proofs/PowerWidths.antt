@@ -47,6 +47,7 @@ pub record AreApart (u d low high e : ℕ) : Type 0 where
 
 module _ (u : ℕ) (above : 0 < u) (lower upper : ℕ → ℕ → ℕ) (down : Rounds u lower)
     (up : Rounds u upper) (a b d : ℕ) (a_fits : a ≤ u) (b_fits : b ≤ u) (apart : b ≤ a + d) where
+  -- how far squares are apart
   square-apart : (low high h : ℕ) → AreApart u d low high h →
       AreApart u d (lower low low) (upper high high) (h + h)
   square-apart low high h are = record {
@@ -68,6 +69,7 @@ module _ (u : ℕ) (above : 0 < u) (lower upper : ℕ → ℕ → ℕ) (down : R
         omega (arith, after, least);
   }
 
+  -- how far products with the bases are apart
   times-apart : (low high h : ℕ) → AreApart u d low high h →
       AreApart u d (lower low a) (upper high b) (suc h)
   times-apart low high zero are =
@@ -94,6 +96,7 @@ module _ (u : ℕ) (above : 0 < u) (lower upper : ℕ → ℕ → ℕ) (down : R
         omega (arith, after);
   }
 
+  -- how far the powers are apart after one more digit
   next-apart : (low high h digit : ℕ) → digit < 2 → AreApart u d low high h →
       AreApart u d (next_power lower a low digit) (next_power upper b high digit) (h + h + digit)
   next-apart low high h zero small are = rw add-zero (square-apart low high h are)
@@ -102,6 +105,7 @@ module _ (u : ℕ) (above : 0 < u) (lower upper : ℕ → ℕ → ℕ) (down : R
       rw add-one (times-apart (lower low low) (upper high high) (h + h) square)
   next-apart low high h (suc (suc digit)) small are = absurd (omega arith)
 
+  -- so how far the powers to any exponent are apart
   pub power-apart : (digits e : ℕ) → e < 2 ^ digits →
       AreApart u d (rounded_power u lower a digits e) (rounded_power u upper b digits e) e
   unfolding rounded_power

@@ -39,6 +39,7 @@ root-in ts j are within =
     let here : 0 + j ≡ j = omega arith in
     subst (λ (x : ℕ). IsRoot x (get_or ts j 0)) here (roots-from 0 ts are j within)
 
+-- root 0 is 2^32
 pub root-zero : IsRoot 0 (2 ^ 32)
 root-zero = record { at_most = lit≤ tt; greatest = lit< tt }
 
@@ -46,10 +47,12 @@ root-zero = record { at_most = lit≤ tt; greatest = lit< tt }
 power-64 : (a b : ℕ) → a < b → (a + 1) ^ 64 ≤ b ^ 64
 power-64 a b less = let next : a + 1 ≤ b = omega arith in pow-le-pow_left next 64
 
+-- so do powers of two
 power-of_two : (i j : ℕ) → i ≤ j → 2 ^ (2048 + i) ≤ 2 ^ (2048 + j)
 power-of_two i j before =
     let later : 2048 + i ≤ 2048 + j = omega arith in pow-le-pow_right (lit< tt) later
 
+-- no number lies between two that are the other way round
 between : (a b c : ℕ) → a ≤ b → b ≤ c → c < a → ⊥
 between a b c first second third = omega arith
 
@@ -78,6 +81,7 @@ pub root-least : (j t : ℕ) → IsRoot j t → 2 ^ 32 ≤ t
 root-least j t root =
     at_most-root j t (2 ^ 32) root (power-of_two 0 j (omega arith))
 
+-- below, up to root 63
 pub root-below : (j t : ℕ) → j < 64 → IsRoot j t → t < 2 ^ 33
 root-below j t within root =
     let less : 2 ^ (2048 + j) < (8589934591 + 1) ^ 64 =
@@ -85,11 +89,12 @@ root-below j t within root =
     let enough : t ≤ 8589934591 = at_least-root j t 8589934591 root less in
     omega (arith, enough)
 
--- there is one root at each place, and they grow
+-- there is one root at each place
 pub one_root : (j t u : ℕ) → IsRoot j t → IsRoot j u → t ≡ u
 one_root j t u first second =
     omega (arith, at_most-root j u t second first.at_most, at_most-root j t u first second.at_most)
 
+-- a later root is no less
 pub root-mono : (i j t u : ℕ) → i ≤ j → IsRoot i t → IsRoot j u → t ≤ u
 root-mono i j t u before first second =
     at_most-root j u t second (le_trans first.at_most (power-of_two i j before))

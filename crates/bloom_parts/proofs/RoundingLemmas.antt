@@ -19,6 +19,7 @@ le-div_ceil x y q above small =
     let more : div_ceil x y * y ≤ q * y = mul-le (div_ceil x y) y q y small (omega arith) in
     omega (arith, (div_ceil_times x y above).0, more)
 
+-- the law of rounding half up
 pub half_up_law : HalfUpLaw
 half_up_law x y q above =
     let (to, from) = le-div_iff_mul-le {k = 2 * y} {x = q} {y = 2 * x + y} (omega arith) in

@@ -1,6 +1,6 @@
 -- SipHash-1-3 at values from outside: a wrong constant in the definition fails here. They were made
--- by the crate siphasher 0.3.10 (`SipHasher13`), under the key bytes 0, 1, .., 15 and under keys that
--- were drawn.
+-- by the crate siphasher 0.3.10 (`SipHasher13`), under the key bytes 0, 1, .., 15 and under keys
+-- that were drawn.
 use Rattle.std.proofs.Common.{◌≡◌, ◌∷◌, [], refl}
 use Rattle.bloom_parts.specs.Sip.{sip, start, round, absorb, answer, whole_words, rest}
 

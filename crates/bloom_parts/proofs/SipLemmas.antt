@@ -8,6 +8,7 @@ use Rattle.std.specs.List.{concat}
 use Rattle.std.specs.Int.{w64, from_le_bytes}
 use Rattle.bloom_parts.specs.Sip.{whole_words, rest}
 
+-- how many bytes remain
 pub length-rest : (bytes : List ℕ) → length (rest bytes) ≡ length bytes % 8
 unfolding rest
 length-rest (a ∷ b ∷ c ∷ d ∷ e ∷ f ∷ g ∷ h ∷ bytes) = omega (arith, length-rest bytes)
@@ -25,6 +26,7 @@ pub record IsShort (bytes : List ℕ) : Type 0 where
   pub words : whole_words bytes ≡ []
   pub remain : rest bytes ≡ bytes
 
+-- a short list
 pub short : (bytes : List ℕ) → length bytes < 8 → IsShort bytes
 unfolding whole_words rest
 short (a ∷ b ∷ c ∷ d ∷ e ∷ f ∷ g ∷ h ∷ bytes) few = absurd (omega arith)
@@ -42,6 +44,7 @@ pub record GoesOn (bytes more : List ℕ) : Type 0 where
   pub words : whole_words (bytes ++ more) ≡ whole_words bytes ++ whole_words (rest bytes ++ more)
   pub remain : rest (bytes ++ more) ≡ rest (rest bytes ++ more)
 
+-- how a list goes on
 pub goes_on : (bytes more : List ℕ) → GoesOn bytes more
 unfolding whole_words rest
 goes_on (a ∷ b ∷ c ∷ d ∷ e ∷ f ∷ g ∷ h ∷ bytes) more =
@@ -60,7 +63,8 @@ goes_on (a ∷ b ∷ c ∷ d ∷ e ∷ f ∷ []) more = record { words = refl; r
 goes_on (a ∷ b ∷ c ∷ d ∷ e ∷ f ∷ g ∷ []) more = record { words = refl; remain = refl }
 
 -- eight bytes are one word, in front of what follows
-word-first : (word bytes : List ℕ) → length word ≡ 8 → whole_words (word ++ bytes) ≡ from_le_bytes w64 word ∷ whole_words bytes
+word-first : (word bytes : List ℕ) → length word ≡ 8
+    → whole_words (word ++ bytes) ≡ from_le_bytes w64 word ∷ whole_words bytes
 unfolding whole_words
 word-first (a ∷ b ∷ c ∷ d ∷ e ∷ f ∷ g ∷ h ∷ []) bytes eight = refl
 word-first (a ∷ b ∷ c ∷ d ∷ e ∷ f ∷ g ∷ h ∷ i ∷ word) bytes eight = absurd (omega arith)
@@ -87,6 +91,7 @@ whole_words-concat (word ∷ words) each =
     ∙ ap (λ ws. from_le_bytes w64 word ∷ ws)
     (whole_words-concat words (λ i below. each (suc i) (omega arith)))
 
+-- words joined have eight bytes each
 pub length-concat : (words : List (List ℕ)) → AreWords words
     → length (concat words) ≡ 8 * length words
 length-concat [] each = refl
@@ -104,7 +109,8 @@ empty [] none = refl
 empty (a ∷ bytes) none = absurd (omega arith)
 
 -- the first chunks of eight bytes, joined
-concat-first_chunks : (k : ℕ) (bytes : List ℕ) → concat (first_chunks 8 k bytes) ≡ take (k * 8) bytes
+concat-first_chunks : (k : ℕ) (bytes : List ℕ)
+    → concat (first_chunks 8 k bytes) ≡ take (k * 8) bytes
 concat-first_chunks zero bytes = refl
 concat-first_chunks (suc k) bytes =
     let size : suc k * 8 ≡ 8 + k * 8 = omega arith in
@@ -116,6 +122,7 @@ pub record IsCut (bytes : List ℕ) (words : List (List ℕ)) (others : List ℕ
   pub joined : concat words ++ others ≡ bytes
   pub size : length (concat words) ≡ length bytes / 8 * 8
 
+-- how the code cuts bytes
 pub cut : (bytes : List ℕ) (words : List (List ℕ)) (others : List ℕ)
     → words ≡ first_chunks 8 (length bytes / 8) bytes → others ≡ drop (length bytes / 8 * 8) bytes
     → IsCut bytes words others

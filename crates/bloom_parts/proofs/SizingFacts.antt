@@ -18,11 +18,11 @@ root-middle = record { at_most = lit≤ tt; greatest = lit< tt }
 root-late : IsRoot 48 7223245205
 root-late = record { at_most = lit≤ tt; greatest = lit< tt }
 
-root-last : IsRoot 63 8497403929
+pub root-last : IsRoot 63 8497403929
 root-last = record { at_most = lit≤ tt; greatest = lit< tt }
 
 -- a half has one halving
-halvings-half : IsHalvings 1 2 64
+pub halvings-half : IsHalvings 1 2 64
 halvings-half =
     next-halvings 1 2 0 63 8497403929 root-last (lit< tt) (lit< tt) (2 ^ 32, root-zero, lit≤ tt)
 
@@ -45,7 +45,7 @@ halvings-above =
     least-halvings 3 2 0 (none-enough 3 2 (lit≤ tt)) (λ fewer below. absurd (omega arith))
 
 -- sizes for these rates
-size-half : IsSizeFor 1000 1 2 1448
+pub size-half : IsSizeFor 1000 1 2 1448
 size-half = (64, halvings-half, refl)
 
 size-one : IsSizeFor 1 1 2 64
@@ -67,10 +67,10 @@ size-none : (k : ℕ) → size_for 0 k ≡ 64
 size-none k = omega arith
 
 -- the last size below 2^64, and the first that isn't
-size-last : IsSizeFor 12786308645202655226 1 2 18446744073709551608
+pub size-last : IsSizeFor 12786308645202655226 1 2 18446744073709551608
 size-last = (64, halvings-half, refl)
 
-size-first_too_large : IsSizeFor 12786308645202655227 1 2 18446744073709551616
+pub size-first_too_large : IsSizeFor 12786308645202655227 1 2 18446744073709551616
 size-first_too_large = (64, halvings-half, refl)
 
 -- counts of hashes
@@ -97,3 +97,7 @@ hashes-least = refl
 
 hashes-greatest : hashes_for 18446744073709551615 1 ≡ 4294967295
 hashes-greatest = refl
+
+-- a true half is rounded up
+hashes-half : hashes_for 22517998136852480 6243314768165359 ≡ 3
+hashes-half = refl

@@ -38,12 +38,14 @@ same_words a b fit fit' long same =
     (λ i below. same_digits _ _ (bit_at-lt _ i) (bit_at-lt _ i)
     (sym (content-at a k i below) ∙ same (64 * k + i) ∙ content-at b k i below)))
 
+-- the law of equal words
 pub equal_words_law : EqualWordsLaw
 equal_words_law a b fit fit' long = (
   (λ same p. ap (λ words. content words p) same),
   same_words a b fit fit' long,
 )
 
+-- the law that no position lies past the words
 pub bound_law : BoundLaw
 unfolding content
 bound_law words p on = elim (cases_lt (p / 64) (length words)) [

@@ -1,4 +1,5 @@
--- The chain of a source hash, from which a filter draws its positions (fastbloom 0.17.0, hasher.rs).
+-- The chain of a source hash, from which a filter draws its positions (fastbloom 0.17.0,
+-- hasher.rs).
 use Rattle.std.specs.Prelude.{◌≡◌, ℕ, zero, suc, ◌+◌, ◌*◌, ◌%◌, ◌^◌}
 use Rattle.std.specs.Int.{w64, rotate_left}
 use Rattle.bloom_parts.specs.declared.hasher.chain.DoubleHasher.{DoubleHasher}

@@ -1,6 +1,6 @@
 -- Words of 64 bits as a set of positions, the content of a Bloom filter (B. H. Bloom, "Space/time
--- trade-offs in hash coding with allowable errors", 1970). A position is a number below 64 times the
--- number of words; where its bit lies is the choice of the crate fastbloom 0.17.0.
+-- trade-offs in hash coding with allowable errors", 1970). A position is a number below 64 times
+-- the number of words; where its bit lies is the choice of the crate fastbloom 0.17.0.
 use Rattle.std.specs.Prelude.{◌≡◌, ◌↔◌, ◌<◌, ℕ, ◌*◌, ◌/◌, ◌%◌, ◌^◌, Bool, true, List, length, slice_index, ◌==◌, All}
 use Rattle.std.specs.Int.{bit_at}
 

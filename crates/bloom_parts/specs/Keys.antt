@@ -17,3 +17,7 @@ key_high seed = from_le_bytes w64 (drop 8 seed)
 -- each hasher that it builds has this key and has taken in nothing
 abbrev pub HasKey : CloneBuildHasher RandomDefaultHasher → ℕ → ℕ → Type 0
 HasKey builder k0 k1 = Hashed builder.hasher k0 k1 []
+
+-- the key of the hashers that it builds, as two words
+abbrev pub key_of : CloneBuildHasher RandomDefaultHasher → ℕ × ℕ
+key_of builder = (builder.hasher.low, builder.hasher.high)

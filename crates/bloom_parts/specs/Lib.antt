@@ -7,11 +7,13 @@ pub mod Deciders
 pub mod Hashed
 pub mod Keys
 pub mod Laws
+pub mod Made
 pub mod Operations
 pub mod Places
 pub mod Powers
 pub mod RateLaws
 pub mod Rates
+pub mod Reading
 pub mod Roots
 pub mod Shares
 pub mod Sip

@@ -31,7 +31,8 @@ PositionsLaw = (n k hash p : ℕ) → (positions n k hash p ≡ true) ↔ IsPosi
 
 -- `are_in` is the subset test
 abbrev pub SubsetLaw : Type 0
-SubsetLaw = (n k hash : ℕ) (A : ℕ → Bool) → (are_in n k hash A ≡ true) ↔ IsPart (positions n k hash) A
+SubsetLaw =
+    (n k hash : ℕ) (A : ℕ → Bool) → (are_in n k hash A ≡ true) ↔ IsPart (positions n k hash) A
 
 -- each position lies within the bits
 abbrev pub RangeLaw : Type 0

@@ -23,10 +23,14 @@ rounded_power whole product base zero exponent = whole
 rounded_power whole product base (suc digits) exponent =
     next_power product base (rounded_power whole product base digits (exponent / 2)) (exponent % 2)
 
+-- the power to an exponent below 2^128, with a rounding of each product
+abbrev pub power_of : (ℕ → ℕ → ℕ) → ℕ → ℕ → ℕ
+power_of product base exponent = rounded_power (2 ^ 63) product base 128 exponent
+
 -- the power to an exponent below 2^128, each product rounded down
 abbrev pub lower_power_of : ℕ → ℕ → ℕ
-lower_power_of base exponent = rounded_power (2 ^ 63) down_of base 128 exponent
+lower_power_of base exponent = power_of down_of base exponent
 
 -- the power to an exponent below 2^128, each product rounded up
 abbrev pub upper_power_of : ℕ → ℕ → ℕ
-upper_power_of base exponent = rounded_power (2 ^ 63) up_of base 128 exponent
+upper_power_of base exponent = power_of up_of base exponent

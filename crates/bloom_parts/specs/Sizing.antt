@@ -20,22 +20,25 @@ hashes_for bits items =
     if nat_eq items 0 then (if nat_eq bits 0 then 1 else 2 ^ 32 - 1)
     else min (2 ^ 32 - 1) (max 1 (half_up (bits * ln_two) (items * 2 ^ 53)))
 
--- k sixty-fourths of a halving take one whole to the rate num / den or below it, by root k % 64
+-- so many sixty-fourth parts of a halving take one whole to the rate num / den or below it: whole
+-- halvings, and the root of those that remain
 abbrev pub IsEnough : ℕ → ℕ → ℕ → Type 0
-IsEnough num den k = (t : ℕ) × IsRoot (k % 64) t × (den * 2 ^ 32 ≤ num * 2 ^ (k / 64) * t)
+IsEnough num den parts =
+    (t : ℕ) × IsRoot (parts % 64) t × (den * 2 ^ 32 ≤ num * 2 ^ (parts / 64) * t)
 
--- the halvings of the rate num / den: the least number of sixty-fourths that is enough
-pub record IsHalvings (num den k : ℕ) : Type 0 where
-  pub enough : IsEnough num den k
-  pub least : (other : ℕ) → IsEnough num den other → k ≤ other
+-- the halvings of the rate num / den: the least number of sixty-fourth parts that is enough
+pub record IsHalvings (num den parts : ℕ) : Type 0 where
+  pub enough : IsEnough num den parts
+  pub least : (other : ℕ) → IsEnough num den other → parts ≤ other
 
--- the number of bits for items and sixty-fourths of a halving: whole bytes, and at least one word
+-- the number of bits for items and parts of a halving: whole bytes, and at least one word
 abbrev pub size_for : ℕ → ℕ → ℕ
-size_for items k = max 64 (8 * div_ceil (items * k * 2 ^ 44) ln_two)
+size_for items parts = max 64 (8 * div_ceil (items * parts * 2 ^ 44) ln_two)
 
 -- the number of bits for items and the rate num / den, below 2^64 or not
 abbrev pub IsSizeFor : ℕ → ℕ → ℕ → ℕ → Type 0
-IsSizeFor items num den size = (k : ℕ) × IsHalvings num den k × (size ≡ size_for items k)
+IsSizeFor items num den size =
+    (parts : ℕ) × IsHalvings num den parts × (size ≡ size_for items parts)
 
 -- the number of bits for items and the rate num / den is 2^64 or more
 abbrev pub IsTooLarge : ℕ → ℕ → ℕ → Type 0
@@ -47,15 +50,15 @@ HalfUpLaw = (x y q : ℕ) → 0 < y → (q ≤ half_up x y) ↔ (2 * q * y ≤ 2
 
 -- the halvings are never too few for the rate itself
 abbrev pub CoverLaw : Type 0
-CoverLaw = (num den k : ℕ) → IsHalvings num den k → den ^ 64 ≤ 2 ^ k * num ^ 64
+CoverLaw = (num den parts : ℕ) → IsHalvings num den parts → den ^ 64 ≤ 2 ^ parts * num ^ 64
 
 -- a rate of one or more has no halvings
 abbrev pub NoneLaw : Type 0
-NoneLaw = (num den k : ℕ) → den ≤ num → IsHalvings num den k → k ≡ 0
+NoneLaw = (num den parts : ℕ) → den ≤ num → IsHalvings num den parts → parts ≡ 0
 
--- a rate of parts below 2^64 has at most 64 whole halvings
+-- a rate whose den is below 2^64 has at most 64 whole halvings
 abbrev pub MostLaw : Type 0
-MostLaw = (num den k : ℕ) → 0 < num → den < 2 ^ 64 → IsHalvings num den k → k ≤ 4096
+MostLaw = (num den parts : ℕ) → 0 < num → den < 2 ^ 64 → IsHalvings num den parts → parts ≤ 4096
 
 -- one number alone is the number of bits
 abbrev pub OneSizeLaw : Type 0

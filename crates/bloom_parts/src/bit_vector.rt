@@ -4,13 +4,15 @@ ghost use Rattle.std.specs.Cmp.Lexicographic.{pointwise, nat_list_eq_equiv};
 ghost use Rattle.std.specs.Cmp.{partial_equiv_from_equiv};
 ghost use Rattle.std.specs.Iterator.{IsFinite};
 ghost use Rattle.std.specs.Iterator.Runs.{EachRunFrom, WholeRun};
-ghost use Rattle.bloom_parts.specs.Content.{content, index_of};
+ghost use Rattle.bloom_parts.specs.Content.{AreWords, content, index_of};
 
+mod atomic;
+mod by_hash;
 mod kernels;
-mod places;
 mod words;
 
 use crate::error::FilterError;
+pub use atomic::{AtomicBitVec, AtomicWords};
 use kernels::{and_words, clear_words, or_words};
 use std::alloc::Global;
 use std::marker::Model;
@@ -27,12 +29,20 @@ pub fn index(num_bits: usize, hash: u64) -> usize
     ((hash as u128 * num_bits as u128) >> 64) as usize
 }
 
-// The word of a position, and the number that has its bit alone.
-fn coordinate(position: usize) -> (usize, u64)
+/// The word in which a position lies, and the number that has its bit alone.
+pub fn word_and_mask(position: usize) -> (usize, u64)
     ensures word { result.0 ≡ position / 64 }
     ensures mask { result.1 ≡ 2 ^ (position % 64) }
 {
     (position / 64, 1 << (position % 64))
+}
+
+// The same words, of 64 bits each: the clause is what a slice that was read from a field doesn't tell.
+fn with_range(words: &[u64]) -> &[u64]
+    ensures value { result.now ≡ words.now }
+    ensures range { AreWords words.now }
+{
+    words
 }
 
 /// Words of 64 bits, from 1 to 2^58 - 1 of them. Contracts see the list of the words.
@@ -96,15 +106,17 @@ impl BitVec {
         ensures value { result.now ≡ self.now }
         ensures least { 1 ≤ length result.now }
         ensures most { length result.now < 2 ^ 58 }
+        ensures range { AreWords self.now }
     {
-        self.words.as_slice()
+        with_range(self.words.as_slice())
     }
 
     /// An iterator over the words, word 0 first.
     pub fn iter(&self) -> Words<'_>
-        ensures { result ≡ self.now }
+        ensures value { result ≡ self.now }
+        ensures range { AreWords self.now }
     {
-        Words::new(self.words.as_slice())
+        Words::new(self.as_slice())
     }
 
     /// Whether a position is on.
@@ -112,7 +124,7 @@ impl BitVec {
         requires { position < 64 * length self.now }
         ensures { result ≡ content self.now position }
     {
-        let (word, mask) = coordinate(position);
+        let (word, mask) = word_and_mask(position);
         self.words[word] & mask > 0
     }
 
@@ -123,7 +135,7 @@ impl BitVec {
         ensures content { (p : ℕ) → content self.new p ≡ (content self.old p || p == position) }
         ensures shape { length self.new ≡ length self.old }
     {
-        let (word, mask) = coordinate(position);
+        let (word, mask) = word_and_mask(position);
         let was_on = self.words[word] & mask > 0;
         self.words[word] |= mask;
         was_on

@@ -2,7 +2,7 @@
 ghost use Rattle.std.specs.Prelude.{◌≡◌};
 ghost use Rattle.bloom_parts.specs.Codes.{code_of};
 
-use std::alloc::AllocError;
+use std::alloc::{AllocError, AllocFailed};
 use thiserror::Error;
 
 /// Why a call was refused. After a refusal every filter is as it was before the call.
@@ -58,6 +58,16 @@ impl From<AllocError> for FilterError {
     ghost from_gives = { λ _ e. e ≡ Memory };
 
     fn from(_error: AllocError) -> Self {
+        FilterError::Memory
+    }
+}
+
+impl<T: Drop> From<AllocFailed<T>> for FilterError {
+    ghost use Rattle.bloom_parts.specs.declared.error.FilterError.TheVariants.{Memory};
+
+    ghost from_gives = { λ _ e. e ≡ Memory };
+
+    fn from(_refused: AllocFailed<T>) -> Self {
         FilterError::Memory
     }
 }

@@ -1,6 +1,6 @@
 //! Hashers, and the chain of a hash.
 ghost use Rattle.std.specs.Prelude.{◌≡◌, ℕ};
-ghost use Rattle.bloom_parts.specs.Keys.{HasKey, key_low, key_high};
+ghost use Rattle.bloom_parts.specs.Keys.{HasKey, key_of, key_low, key_high};
 
 mod chain;
 mod sip;
@@ -41,7 +41,8 @@ impl CloneBuildHasher<RandomDefaultHasher> {
 
     /// The two little-endian words of the key.
     pub fn key(&self) -> (u64, u64)
-        ensures { (k0 k1 : ℕ) → HasKey self.now k0 k1 → result ≡ (k0, k1) }
+        ensures value { result ≡ key_of self.now }
+        ensures given { (k0 k1 : ℕ) → HasKey self.now k0 k1 → result ≡ (k0, k1) }
     {
         self.hasher.key()
     }

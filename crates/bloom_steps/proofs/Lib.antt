@@ -1,2 +1,4 @@
+mod CourseFacts
 mod RunLemmas
+mod StepFacts
 mod StepLemmas

@@ -3,18 +3,18 @@
 //! A machine says which step of a call comes next, a store carries steps out, `drive` makes a whole
 //! call over a store, and `run` makes the steps of many calls in any order that a schedule says.
 
-mod vocabulary;
 mod driver;
 mod machine;
 mod memory;
 mod runner;
 mod store;
 mod trace;
+mod vocabulary;
 
-pub use vocabulary::{Call, End, Event, Record, Step};
 pub use driver::drive;
 pub use machine::Machine;
 pub use memory::MemoryStore;
 pub use runner::run;
 pub use store::WordStore;
 pub use trace::Trace;
+pub use vocabulary::{Call, End, Event, Record, Step};

@@ -5,7 +5,7 @@ use Rattle.std.proofs.lemmas.List.{get_or_past}
 use Rattle.std.proofs.lemmas.Nat.Bits.{bit_at-zero}
 use Rattle.bloom_parts.specs.Content.{bit_is_on, content}
 use Rattle.bloom_parts.specs.Places.{positions}
-use Rattle.bloom_parts.proofs.PlaceLemmas.{range_law}
+use Rattle.bloom_parts.proofs.PublishedLemmas.{range_law}
 
 -- whether two sets have the same numbers below a bound
 abbrev pub alike_below : ℕ → (ℕ → Bool) → (ℕ → Bool) → Bool

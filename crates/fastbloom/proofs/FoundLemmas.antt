@@ -13,7 +13,7 @@ use Rattle.fastbloom.specs.Laws.{Spares, KeptByListLaw, KeptByInsertsLaw, FoundL
 use Rattle.fastbloom.specs.Replies.{CarriesOut}
 use Rattle.fastbloom.specs.declared.bloom.command.Command.TheVariants as command
 use Rattle.fastbloom.proofs.LawLemmas.{contains-shape}
-use Rattle.bloom_parts.proofs.PlaceLemmas.{part-from, part-to}
+use Rattle.bloom_parts.proofs.PublishedLemmas.{part-from, part-to}
 
 -- whether what was on before a decision is on after it
 leaves_on : Option Bool → Bool

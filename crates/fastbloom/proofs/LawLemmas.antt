@@ -6,8 +6,7 @@ use Rattle.bloom_parts.specs.Content.{content, EqualWordsLaw}
 use Rattle.bloom_parts.specs.Places.{are_in, place, IsPart}
 use Rattle.fastbloom.specs.Filter.{Filter, SameShape, num_bits_of, contains}
 use Rattle.fastbloom.specs.Laws.{InsertLaw, KeptByInsertLaw, KeptByUnionLaw, IntersectionLaw, UnionLaw, ClearLaw, RebuiltLaw, EqualityLaw, EqualContentLaw}
-use Rattle.bloom_parts.proofs.PlaceLemmas.{part-from, part-to}
-use Rattle.bloom_parts.proofs.PositionLemmas.{are_in-off}
+use Rattle.bloom_parts.proofs.PublishedLemmas.{part-from, part-to, are_in-off}
 
 -- a look-up in a filter of the same shape
 pub contains-shape : {S : Type 0} (old new : Filter S) (hash : ℕ) → SameShape old new

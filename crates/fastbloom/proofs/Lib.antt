@@ -3,9 +3,11 @@ mod BuilderFacts
 mod BuilderLemmas
 mod CaseLemmas
 mod FilterFacts
+mod FormLemmas
 mod FoundLemmas
 mod HashFacts
 mod InsertFacts
+mod InsertedLemmas
 mod LawFacts
 mod LawLemmas
 mod ListFacts
@@ -13,7 +15,9 @@ mod ListLemmas
 mod LookLemmas
 mod RateFacts
 mod RateLemmas
+mod ReadingLemmas
 mod ReplyLemmas
 mod SetFacts
+mod SharedLemmas
 mod StretchLemmas
 mod TurnLemmas

@@ -3,7 +3,9 @@ pub mod Builders
 pub mod CommandOf
 pub mod Filter
 pub mod Laws
+pub mod LiveStore
 pub mod Replies
+pub mod Shared
 pub mod SourceHash
 pub mod Stretches
 pub use Rattle.bloom_steps.specs.Interleavings

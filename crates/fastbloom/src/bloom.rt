@@ -15,6 +15,7 @@ use bloom_parts::bit_vector::{BitVec, Words};
 use bloom_parts::hasher::DefaultHasher;
 pub use command::Command;
 use positions::{contains_positions, insert_positions};
+pub(crate) use rates::expected_rate;
 use std::marker::Model;
 
 /// A Bloom filter: a set of hashes that never forgets one, and may take one for another.
@@ -38,14 +39,6 @@ impl<S> Model for BloomFilter<S> {
     ghost view = { λ f. record { words = f.bits; hashes = f.num_hashes; hasher = f.hasher } };
 
     ghost invariant = { λ f. IsShape (length f.bits) f.num_hashes };
-}
-
-// The same words, each of 64 bits.
-fn with_range(words: &[u64]) -> &[u64]
-    ensures value { result.now ≡ words.now }
-    ensures range { AreWords words.now }
-{
-    words
 }
 
 impl<S> BloomFilter<S> {
@@ -88,7 +81,7 @@ impl<S> BloomFilter<S> {
         ensures shape { HasShape self.now }
         ensures range { AreWords self.now.words }
     {
-        with_range(self.bits.as_slice())
+        self.bits.as_slice()
     }
 
     /// An iterator over the words, word 0 first.
@@ -97,7 +90,7 @@ impl<S> BloomFilter<S> {
         ensures shape { HasShape self.now }
         ensures range { AreWords self.now.words }
     {
-        Words::new(self.as_slice())
+        self.bits.iter()
     }
 
     /// Turns on all positions of a hash, and answers whether all were on just before.

@@ -7,13 +7,18 @@ ghost use Rattle.std.specs.Iterator.Runs.{WholeRun};
 ghost use Rattle.std.specs.Cmp.Lexicographic.{nat_list_eq_equiv};
 ghost use Rattle.std.specs.Cmp.{on_equiv, partial_equiv_from_equiv};
 ghost use Rattle.bloom_parts.specs.Keys.{HasKey, key_low, key_high};
+ghost use Rattle.bloom_parts.specs.Sizing.{hashes_for};
 ghost use Rattle.fastbloom.specs.Builders.{words_for, words_refusal, bits_refusal, size_refusal, RefusesAs, sized_filter, same_start};
 ghost use Rattle.fastbloom.specs.Replies.{InsertsItems};
 ghost use Rattle.fastbloom.specs.SourceHash.{lent_hash_of};
 
+mod atomic_bits;
+mod atomic_rate;
 mod rate;
 
 use crate::bloom::BloomFilter;
+pub use atomic_bits::AtomicBuilderWithBits;
+pub use atomic_rate::AtomicBuilderWithFalsePositiveRate;
 use bloom_parts::bit_vector::{BitVec, MAX_WORDS};
 use bloom_parts::error::FilterError;
 use bloom_parts::hasher::DefaultHasher;
@@ -51,6 +56,29 @@ fn hasher_of_seed(seed: &u128) -> DefaultHasher
     DefaultHasher::seeded(&seed.to_be_bytes())
 }
 
+// The number of words for this many bits.
+fn num_words_for(num_bits: usize) -> Result<usize, FilterError>
+    requires { 0 < num_bits }
+    ensures value { IfOk result (λ words. words ≡ words_for num_bits) }
+    ensures least { IfOk result (λ words. 1 ≤ words) }
+    ensures most { IfOk result (λ words. words < 2 ^ 58) }
+    ensures refused { result_err result ≡ size_refusal num_bits }
+{
+    let num_words = num_bits.div_ceil(64);
+    if num_words > MAX_WORDS {
+        return Err(FilterError::TooManyWords);
+    }
+    Ok(num_words)
+}
+
+// The number of hashes that suits this many bits and items, where no items count as one.
+fn num_hashes_for(num_bits: usize, expected_items: usize) -> u32
+    ensures value { result ≡ hashes_for num_bits (max 1 expected_items) }
+    ensures least { 1 ≤ result }
+{
+    optimal_hashes(num_bits, expected_items.max(1))
+}
+
 // Zero words for this many bits, in one allocation.
 fn zero_bits(alloc: Global, num_bits: usize) -> Result<BitVec, FilterError>
     requires { 0 < num_bits }
@@ -59,11 +87,7 @@ fn zero_bits(alloc: Global, num_bits: usize) -> Result<BitVec, FilterError>
     ensures few { IfOk result (λ bits. length bits < 2 ^ 58) }
     ensures refused { RefusesAs (size_refusal num_bits) (result_err result) }
 {
-    let num_words = num_bits.div_ceil(64);
-    if num_words > MAX_WORDS {
-        return Err(FilterError::TooManyWords);
-    }
-    let words = vec![in alloc; 0u64; num_words]?;
+    let words = vec![in alloc; 0u64; num_words_for(num_bits)?]?;
     Ok(BitVec::from_vec(words))
 }
 
@@ -148,7 +172,7 @@ impl<S> BuilderWithBits<S> {
     pub fn expected_items(self, expected_items: usize) -> BloomFilter<S>
         ensures { result ≡ sized_filter self expected_items }
     {
-        let num_hashes = optimal_hashes(self.bits.num_bits(), expected_items.max(1));
+        let num_hashes = num_hashes_for(self.bits.num_bits(), expected_items);
         self.hashes(num_hashes)
     }
 }

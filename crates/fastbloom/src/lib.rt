@@ -1,12 +1,14 @@
 //! Bloom filters: sets of which a look-up may say yes by mistake, and never no.
 #![tactic(auto)]
 
+mod atomic;
 mod bloom;
 mod builder;
 pub mod laws;
 
+pub use atomic::AtomicBloomFilter;
 pub use bloom::{BloomFilter, Command};
-pub use bloom_parts::bit_vector::Words;
+pub use bloom_parts::bit_vector::{AtomicWords, Words};
 pub use bloom_parts::error::FilterError;
 pub use bloom_parts::hasher::{CloneBuildHasher, DefaultHasher, RandomDefaultHasher};
 pub use bloom_parts::math::{
@@ -15,4 +17,7 @@ pub use bloom_parts::math::{
 pub use bloom_steps::{
     Call, End, Event, Machine, MemoryStore, Record, Step, Trace, WordStore, drive, run,
 };
-pub use builder::{BuilderWithBits, BuilderWithFalsePositiveRate};
+pub use builder::{
+    AtomicBuilderWithBits, AtomicBuilderWithFalsePositiveRate, BuilderWithBits,
+    BuilderWithFalsePositiveRate,
+};

@@ -6,6 +6,7 @@ ghost use Rattle.fastbloom.specs.Replies.{InsertsItems};
 ghost use Rattle.fastbloom.specs.SourceHash.{item_hash};
 
 use fastbloom::{BloomFilter, BuilderWithBits, DefaultHasher, FilterError, Rate};
+use std::alloc::Global;
 use std::cell::Cell;
 use std::hash::{BuildHasher, Hash, Hasher};
 use std::test::Fail;
@@ -53,13 +54,17 @@ impl<'a> ExactSizeIterator for Overstated<'a> {
     }
 }
 
+// Whether all bits of a filter are off.
+fn is_empty(filter: &BloomFilter) -> bool {
+    filter.iter().all(|word| word == 0)
+}
+
 #[test]
 fn bits_are_rounded_up_to_words(rt: HostRuntime) -> Result<(), Fail> {
     for (asked, bits) in [(1, 64), (64, 64), (65, 128), (1202, 1216), (512000, 512000)] {
         let filter = BloomFilter::with_num_bits(rt.alloc(), asked)?.hashes(4);
-        assert_eq!(rt; filter.num_bits(), bits, "{asked} bits");
-        assert_eq!(rt; filter.num_hashes(), 4, "{asked} bits");
-        assert!(rt; filter.iter().all(|word| word == 0), "{asked} bits");
+        assert_eq!(rt; (filter.num_bits(), filter.num_hashes()), (bits, 4));
+        assert!(rt; is_empty(&filter), "{asked} bits");
     }
     Ok(())
 }
@@ -93,11 +98,23 @@ fn bits_are_refused_in_order(rt: HostRuntime) {
 #[test]
 fn bits_and_items_fix_the_number_of_hashes(rt: HostRuntime) -> Result<(), Fail> {
     for (bits, items, hashes) in [(64, 1, 44), (64, 0, 44), (1202, 4, 211), (64, 500, 1)] {
-        let mut filter = BloomFilter::with_num_bits(rt.alloc(), bits)?.expected_items(items);
+        let filter = BloomFilter::with_num_bits(rt.alloc(), bits)?.expected_items(items);
         assert_eq!(rt; filter.num_hashes(), hashes, "{bits} bits, {items} items");
-        assert!(rt; !filter.insert(&5), "{bits} bits, {items} items");
     }
     Ok(())
+}
+
+#[test]
+fn the_first_item_of_a_built_filter_is_new(rt: HostRuntime) -> Result<(), Fail> {
+    let mut filter = BloomFilter::with_num_bits(rt.alloc(), 1202)?.expected_items(4);
+    assert_eq!(rt; filter.num_bits(), 1216);
+    assert!(rt; !filter.insert(&5));
+    Ok(())
+}
+
+// The filter for so many items at the rate of a fraction.
+fn filter_at(alloc: Global, num: u64, den: u64, items: usize) -> Result<BloomFilter, FilterError> {
+    BloomFilter::with_false_pos(Rate::new(num, den)?).expected_items(alloc, items)
 }
 
 // A half has one halving, a thousandth nearly ten, 3/2 none. Bits are rounded up to words.
@@ -109,58 +126,69 @@ fn a_rate_and_items_fix_the_shape(rt: HostRuntime) -> Result<(), Fail> {
         (3, 2, 1000, 64, 1),
         (1, 1000, 1000, 14400, 10),
     ] {
-        let builder = BloomFilter::with_false_pos(Rate::new(num, den)?);
-        let filter = builder.expected_items(rt.alloc(), items)?;
-        assert_eq!(rt; filter.num_bits(), bits, "{num}/{den}, {items} items");
-        assert_eq!(rt; filter.num_hashes(), hashes, "{num}/{den}, {items} items");
-        assert!(rt;
-            filter.iter().all(|word| word == 0),
-            "{num}/{den}, {items} items"
-        );
+        let filter = filter_at(rt.alloc(), num, den, items)?;
+        assert_eq!(rt; (filter.num_bits(), filter.num_hashes()), (bits, hashes));
+        assert!(rt; is_empty(&filter), "{num}/{den}, {items} items");
     }
     Ok(())
 }
 
 // The size is 2^64 - 8 bits, and for one item more 2^64.
 #[test]
-fn sizes_for_a_rate_are_refused_in_order(rt: HostRuntime) -> Result<(), Fail> {
+fn sizes_for_a_rate_are_refused_in_order(rt: HostRuntime) {
     for (items, refused) in [
         (12786308645202655226, FilterError::TooManyWords),
         (12786308645202655227, FilterError::SizeOverflow),
         (18446744073709551615, FilterError::SizeOverflow),
     ] {
-        let builder = BloomFilter::with_false_pos(Rate::new(1, 2)?);
-        let filter = builder.expected_items(rt.alloc(), items);
-        assert!(rt; filter == Err(refused), "{items} items");
+        assert!(rt;
+            filter_at(rt.alloc(), 1, 2, items) == Err(refused),
+            "{items} items"
+        );
     }
+}
+
+// Two texts, the second of which has four bytes in one character.
+const TEXTS: [&str; 2] = ["42", "🦀"];
+
+#[test]
+fn items_size_a_filter_by_rate_and_go_in(rt: HostRuntime) -> Result<(), Fail> {
+    let filter = BloomFilter::with_false_pos(Rate::new(1, 1000)?).items(rt.alloc(), &TEXTS)?;
+    assert_eq!(rt; (filter.num_bits(), filter.num_hashes()), (64, 22));
+    assert!(rt; filter.contains(&"42") && filter.contains(&"🦀"));
     Ok(())
 }
 
 #[test]
-fn items_size_a_filter_and_go_in(rt: HostRuntime) -> Result<(), Fail> {
-    let texts = ["42", "🦀"];
-    let filter = BloomFilter::with_false_pos(Rate::new(1, 1000)?).items(rt.alloc(), &texts)?;
+fn items_size_a_filter_of_bits_and_go_in(rt: HostRuntime) -> Result<(), Fail> {
+    let filter = fill_by_slice(BloomFilter::with_num_bits(rt.alloc(), 64)?, &TEXTS);
     assert_eq!(rt; (filter.num_bits(), filter.num_hashes()), (64, 22));
-    assert!(rt; filter.contains(&"42"));
-    assert!(rt; filter.contains(&"🦀"));
-    let filled = fill_by_slice(BloomFilter::with_num_bits(rt.alloc(), 64)?, &texts);
-    assert!(rt; filled == filter);
+    assert!(rt; filter.contains(&"42") && filter.contains(&"🦀"));
     Ok(())
+}
+
+// A filter made of another's words and number of hashes, under this seed.
+fn built_again(
+    alloc: Global,
+    filter: &BloomFilter,
+    seed: &u128,
+) -> Result<BloomFilter, FilterError> {
+    let words = filter.as_slice().to_vec(alloc)?;
+    Ok(
+        BloomFilter::from_vec(words)?
+            .seed(seed)
+            .hashes(filter.num_hashes()),
+    )
 }
 
 #[test]
 fn a_filter_of_items_is_built_again_from_its_words(rt: HostRuntime) -> Result<(), Fail> {
     let builder = BloomFilter::with_false_pos(Rate::new(1, 1000)?).seed(&42);
     let filter = builder.items(rt.alloc(), &[1, 2])?;
-    let words = filter.as_slice().to_vec(rt.alloc())?;
-    let again = BloomFilter::from_vec(words)?
-        .seed(&42)
-        .hashes(filter.num_hashes());
+    let again = built_again(rt.alloc(), &filter, &42)?;
     assert!(rt; again == filter);
-    for item in [1, 2] {
-        assert!(rt; filter.contains(&item), "{item}");
-        assert!(rt; again.contains(&item), "{item}");
-    }
+    assert!(rt; filter.contains(&1) && filter.contains(&2));
+    assert!(rt; again.contains(&1) && again.contains(&2));
     Ok(())
 }
 
@@ -224,12 +252,23 @@ fn the_hasher_of_a_rate_goes_into_the_filter(rt: HostRuntime) -> Result<(), Fail
 
 // The hashers aren't looked at, and rates are compared as fractions.
 #[test]
-fn builders_are_equal_by_words_or_by_rate(rt: HostRuntime) -> Result<(), Fail> {
+fn builders_of_a_rate_are_equal_by_rate(rt: HostRuntime) -> Result<(), Fail> {
     let half = BloomFilter::with_false_pos(Rate::new(1, 2)?).seed(&1);
     assert!(rt; half == BloomFilter::with_false_pos(Rate::new(2, 4)?).seed(&2));
     assert!(rt; half != BloomFilter::with_false_pos(Rate::new(1, 3)?).seed(&1));
-    let five = BloomFilter::from_vec(vec![in rt.alloc(); 5]?)?.seed(&1);
-    assert!(rt; five == BloomFilter::from_vec(vec![in rt.alloc(); 5]?)?.seed(&2));
-    assert!(rt; five != BloomFilter::from_vec(vec![in rt.alloc(); 6]?)?.seed(&1));
+    Ok(())
+}
+
+// A builder of one word, under this seed.
+fn builder_of(alloc: Global, word: u64, seed: &u128) -> Result<BuilderWithBits, FilterError> {
+    let words = Vec::from_slice(alloc, &[word])?;
+    Ok(BloomFilter::from_vec(words)?.seed(seed))
+}
+
+#[test]
+fn builders_of_bits_are_equal_by_words(rt: HostRuntime) -> Result<(), Fail> {
+    let five = builder_of(rt.alloc(), 5, &1)?;
+    assert!(rt; five == builder_of(rt.alloc(), 5, &2)?);
+    assert!(rt; five != builder_of(rt.alloc(), 6, &1)?);
     Ok(())
 }

@@ -4,7 +4,7 @@
 #[cfg(test)]
 mod builders;
 #[cfg(test)]
-mod first;
+mod by_hash;
 #[cfg(test)]
 mod hashing;
 #[cfg(test)]

@@ -29,56 +29,61 @@ fn insert_vec<S: BuildHasher, T: Hash + Drop>(filter: &mut BloomFilter<S>, items
     filter.extend(items)
 }
 
-// 5 or 6 is 7, and 5 and 6 is 4.
+// A filter of 256 bits and 4 hashes, into which these hashes went.
+fn filter_with(alloc: Global, hashes: &[u64]) -> Result<BloomFilter, FilterError> {
+    let mut filter = BloomFilter::from_vec(vec![in alloc; 0u64; 4]?)?.hashes(4);
+    'hashes: for hash in hashes {
+        filter.insert_hash(*hash);
+    }
+    Ok(filter)
+}
+
+// Which of the hashes 1, 2 and 3 are contained.
+fn contained(filter: &BloomFilter) -> [bool; 3] {
+    [1, 2, 3].map(|hash| filter.contains_hash(hash))
+}
+
+// 5 or 6 is 7.
 #[test]
-fn union_and_intersect_go_word_by_word(rt: HostRuntime) -> Result<(), Fail> {
+fn union_goes_word_by_word(rt: HostRuntime) -> Result<(), Fail> {
+    let mut filter = filter_of(rt.alloc(), &[5], 1)?;
     let other = filter_of(rt.alloc(), &[6], 1)?;
-    let mut either = filter_of(rt.alloc(), &[5], 1)?;
-    assert!(rt; either.same_shape(&other));
-    either.union(&other);
-    assert_eq!(rt; either.as_slice(), [7].as_slice());
-    let mut both = filter_of(rt.alloc(), &[5], 1)?;
-    assert!(rt; both.same_shape(&other));
-    both.intersect(&other);
-    assert_eq!(rt; both.as_slice(), [4].as_slice());
+    assert!(rt; filter.same_shape(&other));
+    filter.union(&other);
+    assert_eq!(rt; filter.as_slice(), [7].as_slice());
+    Ok(())
+}
+
+// 5 and 6 is 4.
+#[test]
+fn intersect_goes_word_by_word(rt: HostRuntime) -> Result<(), Fail> {
+    let mut filter = filter_of(rt.alloc(), &[5], 1)?;
+    let other = filter_of(rt.alloc(), &[6], 1)?;
+    assert!(rt; filter.same_shape(&other));
+    filter.intersect(&other);
+    assert_eq!(rt; filter.as_slice(), [4].as_slice());
     Ok(())
 }
 
 // Both filters were given items of their own and one in common.
 #[test]
 fn union_finds_what_either_was_given(rt: HostRuntime) -> Result<(), Fail> {
-    let mut bloom = filter_of(rt.alloc(), &[0, 0, 0, 0], 4)?;
-    let mut other = filter_of(rt.alloc(), &[0, 0, 0, 0], 4)?;
-    for hash in [1, 2] {
-        bloom.insert_hash(hash);
-    }
-    for hash in [2, 3] {
-        other.insert_hash(hash);
-    }
+    let mut bloom = filter_with(rt.alloc(), &[1, 2])?;
+    let other = filter_with(rt.alloc(), &[2, 3])?;
     assert!(rt; bloom.same_shape(&other));
     bloom.union(&other);
-    for hash in [1, 2, 3] {
-        assert!(rt; bloom.contains_hash(hash), "{hash}");
-    }
-    assert!(rt; !other.contains_hash(1), "the other stays");
+    assert_eq!(rt; contained(&bloom), [true, true, true]);
+    assert_eq!(rt; contained(&other), [false, true, true], "the other stays");
     Ok(())
 }
 
 #[test]
 fn intersect_finds_what_both_were_given(rt: HostRuntime) -> Result<(), Fail> {
-    let mut bloom = filter_of(rt.alloc(), &[0, 0, 0, 0], 4)?;
-    let mut other = filter_of(rt.alloc(), &[0, 0, 0, 0], 4)?;
-    for hash in [1, 2] {
-        bloom.insert_hash(hash);
-    }
-    for hash in [2, 3] {
-        other.insert_hash(hash);
-    }
+    let mut bloom = filter_with(rt.alloc(), &[1, 2])?;
+    let other = filter_with(rt.alloc(), &[2, 3])?;
     assert!(rt; bloom.same_shape(&other));
     bloom.intersect(&other);
-    assert!(rt; bloom.contains_hash(2));
-    assert!(rt; !bloom.contains_hash(1));
-    assert!(rt; !bloom.contains_hash(3));
+    assert_eq!(rt; contained(&bloom), [false, true, false]);
     Ok(())
 }
 
@@ -169,20 +174,40 @@ fn filters_of_other_keys_are_equal(rt: HostRuntime) -> Result<(), Fail> {
     Ok(())
 }
 
+// A filter of 128 bits and 4 hashes, with nothing in it.
+fn empty_filter(alloc: Global) -> Result<BloomFilter, FilterError> {
+    filter_of(alloc, &[0, 0], 4)
+}
+
+// The same with the items 1, 2 and 3, inserted one after the other.
+fn filter_of_three(alloc: Global) -> Result<BloomFilter, FilterError> {
+    let mut filter = empty_filter(alloc)?;
+    filter.insert(&1);
+    filter.insert(&2);
+    filter.insert(&3);
+    Ok(filter)
+}
+
 #[test]
-fn many_items_are_inserted_one_by_one(rt: HostRuntime) -> Result<(), Fail> {
-    let items = [1, 2, 3];
-    let mut by_one = filter_of(rt.alloc(), &[0, 0], 4)?;
-    for item in items {
-        by_one.insert(&item);
-    }
-    let mut lent = filter_of(rt.alloc(), &[0, 0], 4)?;
-    insert_slice(&mut lent, &items);
-    assert!(rt; lent == by_one);
-    let mut given = filter_of(rt.alloc(), &[0, 0], 4)?;
-    insert_vec(&mut given, Vec::from_array(rt.alloc(), items)?);
-    assert!(rt; given == by_one);
-    given.extend(0..0);
-    assert!(rt; given == by_one, "no item");
+fn items_that_are_lent_go_in_one_by_one(rt: HostRuntime) -> Result<(), Fail> {
+    let mut filter = empty_filter(rt.alloc())?;
+    insert_slice(&mut filter, &[1, 2, 3]);
+    assert!(rt; filter == filter_of_three(rt.alloc())?);
+    Ok(())
+}
+
+#[test]
+fn items_that_are_given_go_in_one_by_one(rt: HostRuntime) -> Result<(), Fail> {
+    let mut filter = empty_filter(rt.alloc())?;
+    insert_vec(&mut filter, Vec::from_array(rt.alloc(), [1, 2, 3])?);
+    assert!(rt; filter == filter_of_three(rt.alloc())?);
+    Ok(())
+}
+
+#[test]
+fn no_items_change_nothing(rt: HostRuntime) -> Result<(), Fail> {
+    let mut filter = filter_of_three(rt.alloc())?;
+    filter.extend(0..0);
+    assert!(rt; filter == filter_of_three(rt.alloc())?);
     Ok(())
 }

@@ -16,7 +16,8 @@ fn rates_keep_their_parts_and_refuse_zero(rt: HostRuntime) -> Result<(), Fail> {
     Ok(())
 }
 
-// The quotient of bits and items times the logarithm of 2, rounded half up: 1024 / 2 gives 354.9.
+// The quotient of bits and items times the logarithm of 2, rounded half up: 1024 / 2 gives 354.9. The
+// last line is two and a half, since its items are the logarithm times 2^53.
 #[test]
 fn hashes_are_rounded_half_up_within_their_range(rt: HostRuntime) {
     for (bits, items, hashes) in [
@@ -28,6 +29,7 @@ fn hashes_are_rounded_half_up_within_their_range(rt: HostRuntime) {
         (0, 5, 1),
         (18446744073709551615, 1, 4294967295),
         (64, 18446744073709551615, 1),
+        (22517998136852480, 6243314768165359, 3),
     ] {
         assert_eq!(rt;
             optimal_hashes(bits, items),
@@ -68,7 +70,8 @@ fn sizes_that_no_word_holds_are_refused(rt: HostRuntime) -> Result<(), Fail> {
     Ok(())
 }
 
-// 1 - (63/64)^t, and 1 - (2/3), in units of 2^-63.
+// 1 - (63/64)^t, and 1 - (2/3), in units of 2^-63. The last two lines, computed apart with Python's
+// whole numbers, tell how each product is rounded: other ways of rounding give other ends.
 #[test]
 fn densities_have_these_ends(rt: HostRuntime) {
     for (hashes, bits, items, low, high) in [
@@ -78,6 +81,8 @@ fn densities_have_these_ends(rt: HostRuntime) {
         (2, 64, 0, 0, 0),
         (1, 1, 1, 9223372036854775808, 9223372036854775808),
         (1, 18446744073709551615, 1, 0, 1),
+        (7, 1024, 100, 4568972320092213995, 4568972320092214093),
+        (13, 1000, 77, 5835371729641738664, 5835371729641739423),
     ] {
         let density = expected_density(hashes, bits, items);
         assert_eq!(rt;
@@ -96,6 +101,11 @@ fn powers_of_a_density_have_these_ends(rt: HostRuntime) {
     assert_eq!(rt;
         (squared.low(), squared.high()),
         (2251799813685248, 2251799813685248)
+    );
+    let seventh = expected_false_pos(7, expected_density(7, 1024, 100));
+    assert_eq!(rt;
+        (seventh.low(), seventh.high()),
+        (67513609598153215, 67513609598153226)
     );
     let whole = expected_false_pos(0, Bracket::new(0, 0));
     assert_eq!(rt;

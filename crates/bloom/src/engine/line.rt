@@ -2,7 +2,7 @@
 ghost use Rattle.std.specs.Prelude.{◌≡◌};
 ghost use Rattle.bloom.specs.Lines.{line_of, alone, numbered};
 
-use crate::command_line::number;
+use crate::number::number;
 
 /// The length of the longest good line, without its end.
 pub const LONGEST: usize = 22;

@@ -2,7 +2,7 @@
 ghost use Rattle.std.specs.Prelude.{◌≡◌, ◌++◌, ◌∷◌, [], ◌<◌, length, OnOk, IfErr};
 ghost use Rattle.std.specs.Io.KnownBytes.{Appends};
 ghost use Rattle.bloom_parts.specs.Content.{content};
-ghost use Rattle.bloom.specs.Texts.{hex_digit_of, hex_text, words_text, reply_text, words_of};
+ghost use Rattle.bloom.specs.Texts.{hex_digit_of, hex_text, words_text, reply_text, words_with_content};
 
 use crate::fault::Fault;
 use std::io::Write;
@@ -33,7 +33,7 @@ pub fn put_reply<W: Write>(output: &mut W, reply: bool) -> Result<(), Fault>
 pub fn put_words<W: Write>(output: &mut W, words: &[u64]) -> Result<(), Fault>
     ensures text { OnOk result
         (Appends (W.contents output.old) (W.contents output.new) (words_text words.now)) }
-    ensures same { words_of (content words.now) (length words.now) ≡ words.now }
+    ensures same { words_with_content (content words.now) (length words.now) ≡ words.now }
     ensures fault { IfErr result (λ fault. fault ≡ Fault.Output) }
 {
     'words: for word in words {

@@ -17,8 +17,8 @@ impl<'a> Model for Words<'a> {
 }
 
 impl<'a> Words<'a> {
-    /// The words of a slice.
-    pub fn new(words: &'a [u64]) -> Self
+    // The words of a slice.
+    pub(super) fn new(words: &'a [u64]) -> Self
         ensures { result ≡ words.now }
     {
         Words { rest: words }

@@ -4,7 +4,7 @@ ghost use Rattle.bloom_parts.specs.Brackets.{low_of, high_of, width_of, Holds, H
 ghost use Rattle.bloom_parts.specs.Powers.{lower_power_of, upper_power_of};
 
 use super::bracket::Bracket;
-use super::powers::{UNIT, lower_power, upper_power};
+use super::powers::{Down, UNIT, Up, power};
 
 /// The expected share of `bits` bits that is on after `items` items with `hashes` positions each.
 pub fn expected_density(hashes: u32, bits: usize, items: usize) -> Bracket
@@ -21,9 +21,9 @@ pub fn expected_density(hashes: u32, bits: usize, items: usize) -> Bracket
     let off = UNIT as u128 * (bits - 1);
     let off_low = (off / bits) as u64;
     let off_high = off.div_ceil(bits) as u64;
-    let (mut products_low, mut products_high) = (0, 0);
-    let kept_low = lower_power(off_low, sets, &mut products_low);
-    let kept_high = upper_power(off_high, sets, &mut products_high);
+    let (mut down, mut up) = (Down::new(), Up::new());
+    let kept_low = power(off_low, sets, &mut down);
+    let kept_high = power(off_high, sets, &mut up);
     Bracket::new(UNIT - kept_high, UNIT - kept_low)
 }
 
@@ -36,8 +36,8 @@ pub fn expected_false_pos(hashes: u32, density: Bracket) -> Bracket
     ensures width { width_of result ≤ hashes * (width_of density + 1) }
     ensures width_none { 0 < hashes → high_of density ≡ 0 → width_of result ≡ 0 }
 {
-    let (mut products_low, mut products_high) = (0, 0);
-    let low = lower_power(density.low(), hashes as u128, &mut products_low);
-    let high = upper_power(density.high(), hashes as u128, &mut products_high);
+    let (mut down, mut up) = (Down::new(), Up::new());
+    let low = power(density.low(), hashes as u128, &mut down);
+    let high = power(density.high(), hashes as u128, &mut up);
     Bracket::new(low, high)
 }

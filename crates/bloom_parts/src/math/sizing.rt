@@ -10,25 +10,25 @@ use crate::error::FilterError;
 // 2^53 times the natural logarithm of 2, as the nearest double has it.
 const LN_TWO: u128 = 6_243_314_768_165_359;
 
-// Whether these sixty-fourths of a halving are enough for the rate, where no fewer are.
-fn is_enough(rate: Rate, k: u32) -> bool
-    requires within { k < 4096 }
-    requires few { (fewer : ℕ) → fewer < k → ¬ IsEnough (num_of rate) (den_of rate) fewer }
-    ensures { IsTrue result ↔ IsEnough (num_of rate) (den_of rate) k }
+// Whether these sixty-fourth parts of a halving are enough for the rate, where no fewer are.
+fn is_enough(rate: Rate, parts: u32) -> bool
+    requires within { parts < 4096 }
+    requires few { (fewer : ℕ) → fewer < parts → ¬ IsEnough (num_of rate) (den_of rate) fewer }
+    ensures { IsTrue result ↔ IsEnough (num_of rate) (den_of rate) parts }
 {
     let whole = (rate.den() as u128) << 32;
-    let scaled = (rate.num() as u128) << (k / 64);
-    whole <= scaled * root((k % 64) as usize) as u128
+    let scaled = (rate.num() as u128) << (parts / 64);
+    whole <= scaled * root((parts % 64) as usize) as u128
 }
 
-// The least number of sixty-fourths of a halving that are enough for the rate.
+// The least number of sixty-fourth parts of a halving that are enough for the rate.
 fn halvings(rate: Rate) -> u32
     ensures value { IsHalvings (num_of rate) (den_of rate) result }
     ensures most { result ≤ 4096 }
 {
-    'tried: for k in 0..4096 {
-        if is_enough(rate, k) {
-            return k;
+    'tried: for parts in 0..4096 {
+        if is_enough(rate, parts) {
+            return parts;
         }
     }
     4096

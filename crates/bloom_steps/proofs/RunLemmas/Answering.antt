@@ -13,7 +13,7 @@ use Rattle.bloom_steps.specs.Scripts.{AllFoundOn, IsScript, Taken, answer_of, an
 use Rattle.bloom_steps.specs.Sequences.{command_of}
 use Rattle.bloom_steps.specs.Steps.{after_records, step_decides}
 use Rattle.bloom_steps.specs.Traces.{MayFind, did}
-use Rattle.bloom_parts.proofs.PositionLemmas.{are_in-off}
+use Rattle.bloom_parts.proofs.PublishedLemmas.{are_in-off}
 use Rattle.bloom_steps.proofs.RunLemmas.Acting.{contains-all, insert-all}
 use Rattle.bloom_steps.proofs.RunLemmas.Changes.{or_at-decides}
 use Rattle.bloom_steps.proofs.RunLemmas.Lasting.{Fits, all_decide-take, steps-none, steps-on}

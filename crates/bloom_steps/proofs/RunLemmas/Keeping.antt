@@ -48,7 +48,7 @@ is_word-read A words i found all e fits = record {
 }
 
 -- what a step finds in words is what it may find in their content
-may_find-read : (A : ℕ → Bool) (words : List ℕ) (given found : ℕ) (step : Step)
+pub may_find-read : (A : ℕ → Bool) (words : List ℕ) (given found : ℕ) (step : Step)
     → ((p : ℕ) → content words p ≡ A p)
     → found ≡ found_in words given step → found < 2 ^ 64 → MayFind A step found
 may_find-read A words given found (Load i) all e fits = is_word-read A words i found all e fits

@@ -11,7 +11,7 @@ use Rattle.bloom_steps.specs.Interleavings.{ContainsTell, FindsInserted, Inserts
 use Rattle.bloom_steps.specs.Moments.{IsFinished, IsUndisturbed, bits_of, moment}
 use Rattle.bloom_steps.specs.Scripts.{Taken}
 use Rattle.bloom_steps.specs.Traces.{Course, IsLawful}
-use Rattle.bloom_parts.proofs.PositionLemmas.{are_in-off}
+use Rattle.bloom_parts.proofs.PublishedLemmas.{are_in-off}
 use Rattle.bloom_steps.proofs.RunLemmas.Changes.{found-load, found-or, moment-or, not_turned_off, on-or, or_at-decides, persists, turned_on, turning_on}
 use Rattle.bloom_steps.proofs.RunLemmas.OwnScripts.{OwnScript, own_script}
 use Rattle.bloom_steps.proofs.RunLemmas.Positions.{are_in-all, both_alike}

@@ -2,9 +2,9 @@
 ghost use Rattle.std.specs.Prelude.{◌≡◌, ◌≤◌};
 ghost use Rattle.bloom_steps.specs.Scripts.{Drives};
 
-use super::vocabulary::Call;
 use super::machine::Machine;
 use super::store::WordStore;
+use super::vocabulary::Call;
 
 /// Makes all steps of a call over a store, in order, and gives the call's answer.
 pub fn drive<W: WordStore>(store: &mut W, call: Call, num_hashes: u32) -> Option<bool>

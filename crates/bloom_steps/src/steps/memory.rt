@@ -4,8 +4,8 @@ ghost use Rattle.bloom_steps.specs.declared.steps.vocabulary.Step.TheVariants.{O
 ghost use Rattle.bloom_steps.specs.Memories.{Moves, found_in, words_after};
 ghost use Rattle.bloom_steps.specs.Steps.{word_of};
 
-use super::vocabulary::Step;
 use super::store::WordStore;
+use super::vocabulary::Step;
 use std::marker::Model;
 
 /// The words of a filter and of the other, for one owner. Contracts see both lists.

@@ -6,10 +6,10 @@ ghost use Rattle.bloom_steps.specs.Sequences.{ActsAsCommands};
 ghost use Rattle.bloom_steps.specs.Traces.{IsLawful, Follows};
 ghost use Rattle.bloom_steps.specs.Worlds.{IsWorldOf, Happens, slot_runs};
 
-use super::vocabulary::{Call, Event, Record};
 use super::machine::Machine;
 use super::memory::carry_out;
 use super::trace::Trace;
+use super::vocabulary::{Call, Event, Record};
 use bloom_parts::error::FilterError;
 use std::alloc::Global;
 

@@ -61,6 +61,14 @@ impl BuilderWithFalsePositiveRate {
 }
 
 impl<S: Drop> BuilderWithFalsePositiveRate<S> {
+    // The rate and the hasher.
+    pub(super) fn into_parts(self) -> (Rate, S)
+        ensures rate { result.0 ≡ self.rate }
+        ensures hasher { result.1 ≡ self.hasher }
+    {
+        (self.rate, self.hasher)
+    }
+
     /// The same builder with another hasher.
     pub fn hasher<H: BuildHasher>(self, hasher: H) -> BuilderWithFalsePositiveRate<H>
         ensures rate { result.rate ≡ self.rate }

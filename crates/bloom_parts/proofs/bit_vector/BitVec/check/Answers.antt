@@ -1,13 +1,9 @@
-use Rattle.std.proofs.Common.{◌≡◌, arith, ◌<◌, length, ap, ◌∙◌}
-use Rattle.bloom_parts.specs.Content.{content}
+use Rattle.std.proofs.Common.{arith}
 use Rattle.bloom_parts.proofs.ContentLemmas.{content-test}
 use Rattle.bloom_parts.proofs.bit_vector.BitVec.check.Goals as goal
 
 pub returns : goal.returns
 returns c =
-    let same : length c.self.inside.words.items ≡ length c.args.self.now = ap length c.self.view_is in
-    let within : c.coordinate-word.result.0 < length c.self.inside.words.items =
-    omega (arith, same, c.requires, c.coordinate-word.ensures.word) in
-    content-test c.self.inside.words.items _ _ _ c.args.position
-    c.coordinate-word.ensures.word c.coordinate-word.ensures.mask c.index.ensures within
-    ∙ ap (λ words. content words c.args.position) c.self.view_is
+    let at = c.word_and_mask-word.ensures in
+    content-test _ _ c.self.view_is _ _ _ c.args.position at.word at.mask c.index.ensures
+    (omega (arith, c.requires, at.word))

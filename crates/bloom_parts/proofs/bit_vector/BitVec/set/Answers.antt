@@ -1,21 +1,15 @@
-use Rattle.std.proofs.Common.{◌≡◌, arith, ◌<◌, ◌||◌, eqb, length, ap, ◌∙◌}
-use Rattle.bloom_parts.specs.Content.{content}
+use Rattle.std.proofs.Common.{arith}
 use Rattle.bloom_parts.proofs.ContentLemmas.{content-test, content-set}
 use Rattle.bloom_parts.proofs.bit_vector.BitVec.set.Goals as goal
 
-within : (c : goal.After-self-1) → c.coordinate-word.result.0 < length c.self.inside.words.items
-within c =
-    let same : length c.self.inside.words.items ≡ length c.args.self.now = ap length c.self.view_is in
-    omega (arith, same, c.requires, c.coordinate-word.ensures.word)
-
 pub returns-clause-reply : goal.returns-clause-reply
 returns-clause-reply c =
-    content-test c.self.inside.words.items _ _ _ c.args.position
-    c.coordinate-word.ensures.word c.coordinate-word.ensures.mask c.index.ensures (within c)
-    ∙ ap (λ words. content words c.args.position) c.self.view_is
+    let at = c.word_and_mask-word.ensures in
+    content-test _ _ c.self.view_is _ _ _ c.args.position at.word at.mask c.index.ensures
+    (omega (arith, c.requires, at.word))
 
 pub returns-clause-content : goal.returns-clause-content
-returns-clause-content c = λ p.
-    content-set c.self.inside.words.items _ _ _ c.args.position
-    c.coordinate-word.ensures.word c.coordinate-word.ensures.mask c.index_mut.ensures.value (within c) p
-    ∙ ap (λ words. content words p || eqb p c.args.position) c.self.view_is
+returns-clause-content c =
+    let at = c.word_and_mask-word.ensures in
+    content-set _ _ c.self.view_is _ _ _ c.args.position at.word at.mask
+    c.index_mut.ensures.value (omega (arith, c.requires, at.word))

@@ -1,28 +1,18 @@
-use Rattle.std.proofs.Common.{◌≡◌, ◌*◌, ◌%◌, ◌^◌, ◌<◌, ◌||◌, if◌then◌else◌, eqb, length, arith, ap, ◌∙◌}
-use Rattle.bloom_parts.specs.Content.{content, index_of}
+use Rattle.std.proofs.Common.{arith, rules, eqb, length, ◌<◌, ap, ◌∙◌}
 use Rattle.bloom_parts.proofs.ContentLemmas.{content-change, content-set, no-change}
 use Rattle.bloom_parts.proofs.bit_vector.BitVec.turn_on_hash.Goals as goal
 
-within : (c : goal.After-self-1) → c.spot-word.result.0 < length c.self.inside.words.items
-within c =
-    let many : length c.self.inside.words.items ≡ length c.args.self.now = ap length c.self.view_is in
-    omega (arith, many, c.len.ensures.value, c.len.ensures.least, c.spot-word.ensures.range)
-
-pub returns-clause-changed : goal.returns-clause-changed
-returns-clause-changed c =
-    content-change c.self.inside.words.items _ _ _ _
-    c.spot-word.ensures.word c.spot-word.ensures.mask c.index-before.ensures (within c)
-    ∙ ap (λ words. if content words (index_of (64 * c.len.result) c.args.hash) then 0
-    else 2 ^ (index_of (64 * c.len.result) c.args.hash % 64)) c.self.view_is
-    ∙ ap (λ n. if content c.args.self.now (index_of (64 * n) c.args.hash) then 0
-    else 2 ^ (index_of (64 * n) c.args.hash % 64)) c.len.ensures.value
-
-pub returns-clause-reply : goal.returns-clause-reply
-returns-clause-reply c = ap (λ n. eqb n 0) (returns-clause-changed c) ∙ no-change _ _
-
-pub returns-clause-content : goal.returns-clause-content
-returns-clause-content c = λ p.
-    content-set c.self.inside.words.items _ _ _ _
-    c.spot-word.ensures.word c.spot-word.ensures.mask c.index-before.ensures (within c) p
-    ∙ ap (λ words. content words p || eqb p (index_of (64 * c.len.result) c.args.hash)) c.self.view_is
-    ∙ ap (λ n. content c.args.self.now p || eqb p (index_of (64 * n) c.args.hash)) c.len.ensures.value
+pub returns : goal.returns
+returns c =
+    let at = c.word_and_mask_of_hash-word.ensures in
+    let word = rw c.len.ensures.value at at.word in
+    let mask = rw c.len.ensures.value at at.mask in
+    let within : c.word_and_mask_of_hash-word.result.0 < length c.args.self.now =
+    omega (arith, c.len.ensures.value, c.len.ensures.least, at.range) in
+    let changed = content-change _ _ c.self.view_is _ _ _ _ word mask c.index-before.ensures within in
+    record {
+      changed = changed;
+      reply = ap (λ n. eqb n 0) changed ∙ no-change _ _;
+      content = content-set _ _ c.self.view_is _ _ _ _ word mask c.index-before.ensures within;
+      shape = search rules;
+    }

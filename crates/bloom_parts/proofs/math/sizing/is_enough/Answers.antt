@@ -4,7 +4,7 @@ use Rattle.bloom_parts.proofs.HalvingLemmas.{IsTest, test-halvings}
 use Rattle.bloom_parts.proofs.math.sizing.is_enough.Goals as goal
 
 test : (c : goal.After-root)
-    → IsTest c.args.rate.num c.args.rate.den c.args.k c.num.result c.den.result c.root.result
+    → IsTest c.args.rate.num c.args.rate.den c.args.parts c.num.result c.den.result c.root.result
 test c =
     test-halvings _ _ _ _ (omega arith) (omega arith) c.root.ensures c.requires.few
     c.requires.within _ _ c.num.ensures c.den.ensures

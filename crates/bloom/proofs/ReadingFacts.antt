@@ -1,0 +1,130 @@
+-- What reading a line takes: of each relation a case that holds, and one as near as can be that doesn't.
+use Rattle.std.proofs.Common.{◌≡◌, ℕ, ◌+◌, ◌<◌, true, false, List, [], ◌∷◌, ◌++◌, length, get_or, replicate, Option, Some, None, refl, sym, ◌∙◌, ap, subst, arith, inl, inr, ◌⊎◌}
+use Rattle.std.specs.Prelude.{codes}
+use Rattle.std.proofs.lemmas.List.{append_cancel_right}
+use Rattle.bloom.specs.declared.engine.line.Line.TheVariants.{Insert, Words}
+use Rattle.bloom.specs.declared.engine.line_reader.Next.TheVariants.{End, Good, Bad}
+use Rattle.bloom.specs.Lines.{lines_of, line_of, number_of}
+use Rattle.bloom.specs.Reading.{Waiting, KnowsEnd, IsQuiet, Asks, TakesByte, IsFirstLine, IsEnded, TakesLine, TakesLong, Ends, NextCommand}
+use Rattle.bloom.proofs.LineLemmas.{IsEnded-line}
+
+-- a list with a number isn't empty
+not_nil : (x : ℕ) (xs : List ℕ) → x ∷ xs ≡ [] → ⊥
+not_nil x xs none = cc
+
+-- nothing waits, and the end was told
+abbrev ended : Waiting
+ended = record { bytes = []; ended = true }
+
+-- nothing waits, and the end wasn't told
+abbrev not_ended : Waiting
+not_ended = record { bytes = []; ended = false }
+
+knows_end : KnowsEnd ended (Some [])
+knows_end _ = refl
+
+-- a reader with a byte left has told no end
+knows_end-not : KnowsEnd ended (Some (1 ∷ [])) → ⊥
+knows_end-not knows = not_nil _ _ (knows refl)
+
+quiet : IsQuiet {R = ℕ} ended ended 7 7
+quiet _ = (refl, refl)
+
+-- not if the reader was asked and changed
+quiet-not : IsQuiet {R = ℕ} ended ended 7 8 → ⊥
+quiet-not is = let same : 8 ≡ 7 = (is refl).1 in omega (arith, same)
+
+-- nor if the end was forgotten
+quiet-forgotten : IsQuiet {R = ℕ} ended not_ended 7 7 → ⊥
+quiet-forgotten is = let told : false ≡ true = (is refl).0 in cc
+
+asks : Asks (codes "w") (Good Words)
+unfolding line_of
+asks = refl
+
+asks-not : Asks (codes "w ") (Good Words) → ⊥
+unfolding line_of number_of
+asks-not is = let bad : Good Words ≡ Bad = is in cc
+
+takes_byte : TakesByte (Some (5 ∷ 6 ∷ [])) (Some (6 ∷ [])) (Some 5)
+takes_byte = refl
+
+takes_byte-other : TakesByte (Some (5 ∷ 6 ∷ [])) (Some (6 ∷ [])) (Some 6) → ⊥
+takes_byte-other same = let first : 5 ≡ 6 = ap (λ l. get_or l 0 0) same in omega (arith, first)
+
+takes_none : TakesByte (Some []) (Some []) None
+takes_none = (refl, refl)
+
+-- not if a byte is left
+takes_none-not : TakesByte (Some (6 ∷ [])) (Some (6 ∷ [])) None → ⊥
+takes_none-not takes = not_nil _ _ takes.1
+
+-- a line of 22 bytes
+longest : IsFirstLine (replicate 22 49 ++ 10 ∷ []) 22
+longest = record { within = omega arith; short = omega arith; ended = refl; inside = refl }
+
+-- a line of 23 bytes
+too_long : IsFirstLine (replicate 23 49 ++ 10 ∷ []) 23 → ⊥
+too_long first = omega (arith, first.short)
+
+-- a line without its end
+no_end : IsFirstLine (codes "i 1") 3 → ⊥
+no_end first = let within : 3 < 3 = first.within in omega (arith, within)
+
+-- a line whose end comes earlier
+ended_before : IsFirstLine (codes "w\nw\n") 3 → ⊥
+ended_before first = let same : false ≡ true = first.inside in cc
+
+takes_line : TakesLine (Some (codes "i 1\nx\n")) (Some (codes "x\n")) (codes "i 1")
+unfolding lines_of
+takes_line = (codes "i 1\n", refl, refl, inl (IsEnded-line (codes "i 1") refl))
+
+-- not if its end is left
+takes_line-not : TakesLine (Some (codes "i 1\nx\n")) (Some (codes "\nx\n")) (codes "i 1") → ⊥
+unfolding lines_of
+takes_line-not takes =
+    let taken : codes "i 1" ≡ takes.0 = append_cancel_right (codes "i 1") takes.0 (codes "\nx\n") takes.1 in
+    elim takes.3 [
+      | inl is ↦ (let cut : lines_of (codes "i 1\nx\n") ≡ codes "i 1" ∷ [] ∷ codes "x" ∷ [] = (rw (sym taken) at is) (codes "\nx\n") in cc)
+      | inr none ↦ (let left : codes "\nx\n" ≡ [] = none in cc)
+    ]
+
+takes_long : TakesLong (Some (replicate 24 49)) (Some (49 ∷ []))
+takes_long = (replicate 23 49, refl, refl, omega arith)
+
+-- not after 22 bytes
+takes_long-not : TakesLong (Some (replicate 24 49)) (Some (49 ∷ 49 ∷ [])) → ⊥
+takes_long-not takes =
+    let taken : replicate 22 49 ≡ takes.0 = append_cancel_right (replicate 22 49) takes.0 (49 ∷ 49 ∷ []) takes.1 in
+    let count : 22 ≡ length takes.0 = ap length taken in
+    omega (arith, count, takes.3)
+
+ends : Ends (Some []) (Some [])
+ends = (refl, refl)
+
+ends-not : Ends (Some (10 ∷ [])) (Some []) → ⊥
+ends-not is = not_nil _ _ is.0
+
+next_good : NextCommand (Some (codes "w\nx\n")) (Some (codes "x\n")) (Good Words)
+unfolding lines_of line_of
+next_good = (codes "w", (codes "w\n", refl, refl, inl (IsEnded-line (codes "w") refl)), refl)
+
+next_bad : NextCommand (Some (codes "x\n")) (Some []) Bad
+unfolding lines_of line_of
+next_bad = inl (codes "x", (codes "x\n", refl, refl, inl (IsEnded-line (codes "x") refl)), refl)
+
+-- a good line isn't bad
+next_bad-not : NextCommand (Some (codes "w\n")) (Some []) Bad → ⊥
+unfolding lines_of line_of
+next_bad-not next = elim next [
+  | inl short ↦ (
+      let taken : codes "w\n" ≡ short.1.0 = append_cancel_right (codes "w\n") short.1.0 [] short.1.1 in
+      let line : codes "w" ∷ [] ≡ short.0 ∷ [] = rw (sym taken) at short.1.2 in
+      let text : codes "w" ≡ short.0 = cc in
+      let bad : line_of (codes "w") ≡ None = rw (sym text) at short.2 in
+      cc)
+  | inr long ↦ (
+      let taken : codes "w\n" ≡ long.0 = append_cancel_right (codes "w\n") long.0 [] long.1 in
+      let count : 2 ≡ length long.0 = ap length taken in
+      omega (arith, count, long.3))
+]

@@ -1,0 +1,155 @@
+//! Reading one line after the other.
+ghost use Rattle.std.specs.Prelude.{◌≡◌, ◌+◌, false, true, [], None, take, drop, IfOk, IfErr, IsOkUnless};
+ghost use Rattle.std.specs.Io.KnownBytes.{Keeps};
+ghost use Rattle.bloom.specs.Faults.{IsOfStream};
+ghost use Rattle.bloom.specs.Reading.{Asks, TakesByte, IsFirstLine, NextCommand, KnowsEnd, IsQuiet, left_of};
+
+use crate::engine::block::Block;
+use crate::engine::line::{LONGEST, Line, parse};
+use crate::fault::Fault;
+use std::alloc::Global;
+use std::io::{Read, Write};
+use std::marker::Model;
+
+/// What the next line comes to.
+#[derive(Clone, Copy)]
+pub enum Next {
+    End,
+    Good(Line),
+    Bad,
+}
+
+/// Gives the lines of a reader one after the other, and never reads on once a read told the end.
+///
+/// Contracts see the bytes that were read and wait, and whether the end was told.
+#[derive(Drop)]
+pub struct LineReader {
+    block: Block,
+    ended: bool,
+}
+
+impl Model for LineReader {
+    ghost use Rattle.bloom.specs.Reading.{Waiting};
+
+    ghost Value = { Waiting };
+
+    ghost view = { λ r. record { bytes = r.block; ended = r.ended } };
+}
+
+impl LineReader {
+    /// Nothing was read yet. It takes its memory here and never again.
+    pub fn new(alloc: Global) -> Result<Self, Fault>
+        ensures empty { IfOk result (λ reader. reader.bytes ≡ []) }
+        ensures open { IfOk result (λ reader. reader.ended ≡ false) }
+        ensures refused { IsOkUnless result Fault.Memory }
+    {
+        Ok(LineReader {
+            block: Block::new(alloc)?,
+            ended: false,
+        })
+    }
+
+    // The next byte, or none at the end. Before a read that may wait, what was answered is flushed.
+    fn next_byte<R: Read, W: Write>(
+        &mut self,
+        input: &mut R,
+        output: &mut W,
+    ) -> Result<Option<u8>, Fault>
+        requires { KnowsEnd self.old (R.remaining input.old) }
+        ensures byte { IfOk result (TakesByte (left_of self.old (R.remaining input.old))
+            (left_of self.new (R.remaining input.new))) }
+        ensures told { IfOk result (λ byte. byte ≡ None → self.new.ended ≡ true) }
+        ensures knows { KnowsEnd self.new (R.remaining input.new) }
+        ensures quiet { IsQuiet self.old self.new input.old input.new }
+        ensures kept { Keeps (W.contents output.old) (W.contents output.new) }
+        ensures fault { IfErr result IsOfStream }
+    {
+        match self.block.take_byte() {
+            Some(byte) => Ok(Some(byte)),
+            None => {
+                if self.ended {
+                    return Ok(None);
+                }
+                output.flush().map_err(|_| Fault::Output)?;
+                self.block.fill(input)?;
+                let byte = self.block.take_byte();
+                self.ended = byte.is_none();
+                Ok(byte)
+            }
+        }
+    }
+
+    // What the next line asks for, read byte by byte, of which there are 23 in a line too long.
+    fn across_blocks<R: Read, W: Write>(
+        &mut self,
+        input: &mut R,
+        output: &mut W,
+    ) -> Result<Next, Fault>
+        requires { KnowsEnd self.old (R.remaining input.old) }
+        ensures next { IfOk result (NextCommand (left_of self.old (R.remaining input.old))
+            (left_of self.new (R.remaining input.new))) }
+        ensures told { IfOk result (λ next. next ≡ Next.End → self.new.ended ≡ true) }
+        ensures knows { KnowsEnd self.new (R.remaining input.new) }
+        ensures quiet { IsQuiet self.old self.new input.old input.new }
+        ensures kept { Keeps (W.contents output.old) (W.contents output.new) }
+        ensures fault { IfErr result IsOfStream }
+    {
+        let mut line = [0u8; LONGEST];
+        'bytes: for at in 0..LONGEST {
+            match self.next_byte(input, output)? {
+                None if at == 0 => return Ok(Next::End),
+                None => return Ok(asked(&line[..at])),
+                Some(b'\n') => return Ok(asked(&line[..at])),
+                Some(byte) => line[at] = byte,
+            }
+        }
+        match self.next_byte(input, output)? {
+            None => Ok(asked(&line)),
+            Some(b'\n') => Ok(asked(&line)),
+            Some(_) => Ok(Next::Bad),
+        }
+    }
+
+    /// Reads the next line, and what it asks for. After the end it reads nothing.
+    pub fn next_command<R: Read, W: Write>(
+        &mut self,
+        input: &mut R,
+        output: &mut W,
+    ) -> Result<Next, Fault>
+        requires { KnowsEnd self.old (R.remaining input.old) }
+        ensures next { IfOk result (NextCommand (left_of self.old (R.remaining input.old))
+            (left_of self.new (R.remaining input.new))) }
+        // The end stays told, and then the reader isn't asked again.
+        ensures told { IfOk result (λ next. next ≡ Next.End → self.new.ended ≡ true) }
+        ensures knows { KnowsEnd self.new (R.remaining input.new) }
+        ensures quiet { IsQuiet self.old self.new input.old input.new }
+        ensures kept { Keeps (W.contents output.old) (W.contents output.new) }
+        ensures fault { IfErr result IsOfStream }
+    {
+        match self.block.line_length() {
+            Some(length) => Ok(next_in_block(&mut self.block, length)),
+            None => self.across_blocks(input, output),
+        }
+    }
+}
+
+// What the line asks for that the block has whole.
+fn next_in_block(block: &mut Block, length: usize) -> Next
+    requires { IsFirstLine block.old length }
+    ensures text { Asks (take length block.old) result }
+    ensures taken { block.new ≡ drop (length + 1) block.old }
+{
+    let next = asked(block.front(length));
+    block.skip(length + 1);
+    next
+}
+
+// What a line asks for.
+fn asked(line: &[u8]) -> Next
+    ensures { Asks line.now result }
+{
+    match parse(line) {
+        Some(good) => Next::Good(good),
+        None => Next::Bad,
+    }
+}

@@ -1,0 +1,36 @@
+-- What the definition of a reading says of single words, each with a case that nearly holds.
+use Rattle.std.proofs.Common.{◌≡◌, ℕ, ◌+◌, ◌<◌, ◌≤◌, Some, None, refl, arith, ap}
+use Rattle.bloom_parts.specs.Made.{SharedWords, FoundByLoad}
+use Rattle.bloom_parts.specs.Reading.{Reading, ReadsNext}
+
+-- a vector of two words, under any name
+abbrev two : ℕ → SharedWords
+two name = record { name = name; count = 2 }
+
+-- a reading of it that comes to this word next
+abbrev at : ℕ → ℕ → Reading
+at name i = record { vector = two name; next = i }
+
+-- a word that a load of word 1 found comes after word 0
+last-word : (name found : ℕ) → FoundByLoad (two name) 1 found → ReadsNext (at name 1) (Some found) (at name 2)
+last-word name found made = (refl, (made, omega arith, refl))
+
+-- after the last word none comes
+no-more : (name : ℕ) → ReadsNext (at name 2) None (at name 2)
+no-more name = (refl, (omega arith, refl))
+
+-- none comes while a word is left
+none-too-early : (name : ℕ) → ReadsNext (at name 1) None (at name 1) → ⊥
+none-too-early name reads = omega (arith, reads.1.0)
+
+-- no word comes after the last
+none-too-many : (name found : ℕ) → ReadsNext (at name 2) (Some found) (at name 3) → ⊥
+none-too-many name found reads = omega (arith, reads.1.1)
+
+-- no word is passed over
+none-skipped : (name found : ℕ) → ReadsNext (at name 0) (Some found) (at name 2) → ⊥
+none-skipped name found reads = omega (arith, reads.1.2)
+
+-- and a reading stays with its vector
+same-vector : (name other found : ℕ) → ReadsNext (at name 0) (Some found) (at other 1) → other ≡ name
+same-vector name other found reads = ap (λ (v : SharedWords). v.name) reads.0

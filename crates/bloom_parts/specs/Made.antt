@@ -1,0 +1,52 @@
+-- That a step was made on a word of a vector that threads share, and what it found there. Outside of
+-- this file nothing unfolds these facts: a proof has one only where the step itself handed it out.
+-- The lemmas that make them are cited by the proofs of those steps alone. This project's own.
+use Rattle.std.specs.Prelude.{ℕ, ◌<◌, ◌^◌}
+
+-- a vector that threads share: a name that tells it from others, and how many words it has
+pub record SharedWords : Type 0 where
+  pub name : ℕ
+  pub count : ℕ
+
+-- word i is one of the vector's, and the number is a word of 64 bits
+abbrev pub IsOnWord : SharedWords → ℕ → ℕ → Type 0
+IsOnWord vector i word = (i < vector.count) × (word < 2 ^ 64)
+
+-- a load of word i of the vector found this
+pub FoundByLoad : (vector : SharedWords) (i found : ℕ) → Type 0
+FoundByLoad vector i found = IsOnWord vector i found
+
+-- an `|` of a mask into word i of the vector found this
+pub FoundByOr : (vector : SharedWords) (i mask found : ℕ) → Type 0
+FoundByOr vector i mask found = IsOnWord vector i found
+
+-- an `&` of a mask into word i of the vector found this
+pub FoundByAnd : (vector : SharedWords) (i mask found : ℕ) → Type 0
+FoundByAnd vector i mask found = IsOnWord vector i found
+
+-- word i of the vector was made 0
+pub MadeZero : (vector : SharedWords) (i : ℕ) → Type 0
+MadeZero vector i = i < vector.count
+
+-- the fact of a load
+pub made_by_load : (vector : SharedWords) (i found : ℕ) → IsOnWord vector i found
+    → FoundByLoad vector i found
+unfolding FoundByLoad
+made_by_load vector i found on = on
+
+-- the fact of an `|`
+pub made_by_or : (vector : SharedWords) (i mask found : ℕ) → IsOnWord vector i found
+    → FoundByOr vector i mask found
+unfolding FoundByOr
+made_by_or vector i mask found on = on
+
+-- the fact of an `&`
+pub made_by_and : (vector : SharedWords) (i mask found : ℕ) → IsOnWord vector i found
+    → FoundByAnd vector i mask found
+unfolding FoundByAnd
+made_by_and vector i mask found on = on
+
+-- the fact of a store of zero
+pub made_by_zero : (vector : SharedWords) (i : ℕ) → i < vector.count → MadeZero vector i
+unfolding MadeZero
+made_by_zero vector i within = within

@@ -1,0 +1,17 @@
+pub mod Calls
+pub mod Carrying
+pub mod Commands
+pub mod Courses
+pub mod Endings
+pub mod Finding
+pub mod Finished
+pub mod Gains
+pub mod Inserts
+pub mod Lawful
+pub mod LookUps
+pub mod Moments
+pub mod Parties
+pub mod Schedules
+pub mod Unique
+pub mod Unlawful
+pub mod Undisturbed

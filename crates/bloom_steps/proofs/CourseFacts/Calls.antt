@@ -1,0 +1,62 @@
+-- Which records of a party are call after call, and which not.
+use Rattle.std.proofs.Common.{◌≡◌, ◌∷◌, [], List, ℕ, refl, arith, subst}
+use Rattle.bloom_steps.specs.declared.steps.vocabulary.Step.{Step}
+use Rattle.bloom_steps.specs.declared.steps.vocabulary.Step.TheVariants.{And, Zero, Other}
+use Rattle.bloom_steps.specs.declared.steps.vocabulary.Call.{Call}
+use Rattle.bloom_steps.specs.declared.steps.vocabulary.Call.TheVariants.{Clear, Union, Intersect}
+use Rattle.bloom_steps.specs.declared.steps.vocabulary.End.{End}
+use Rattle.bloom_steps.specs.declared.steps.vocabulary.End.TheVariants.{Running, Done}
+use Rattle.bloom_steps.specs.declared.steps.vocabulary.Record.{Record}
+use Rattle.bloom_steps.specs.declared.steps.vocabulary.Record.TheVariants.{Began, Did}
+use Rattle.bloom_steps.specs.Scripts.{HasCount}
+use Rattle.bloom_steps.specs.Traces.{CallAfterCall, no_call, begun_call, whole_call}
+use Rattle.bloom_steps.proofs.StepFacts.Members.{took}
+use Rattle.bloom_steps.proofs.StepFacts.Pairs.{intersect, intersect-script, union-script}
+
+-- an intersection, and a union that has read
+whole-and-begun : CallAfterCall 1 2 0
+    (Began 0 Intersect ∷ Did 0 (Other 0) 5 Running ∷ Did 0 (And 0 5) 6 Done ∷ Began 0 Union
+    ∷ Did 0 (Other 0) 5 Running ∷ [])
+whole-and-begun =
+    whole_call Intersect intersect _ intersect-script
+    (begun_call Union (took (Other 0) 5 Running ∷ []) (_, _, union-script))
+
+-- the first record is a beginning
+pub first-begins : (w k p : ℕ) (all : List Record) → CallAfterCall w k p all
+    → (r : Record) (rs : List Record) → all ≡ r ∷ rs → (call : Call) × (r ≡ Began p call)
+first-begins w k p _ no_call r rs e = absurd (cc)
+first-begins w k p _ (begun_call call s b) r rs e = (call, cc)
+first-begins w k p _ (whole_call call s later is more) r rs e = (call, cc)
+
+-- a step that no call makes
+unbegun : CallAfterCall 1 2 0 (Did 0 (Zero 0) 0 Done ∷ []) → ⊥
+unbegun calls = let first = first-begins 1 2 0 _ calls _ _ refl in let is = first.1 in cc
+
+-- the beginning of another party
+another-party : CallAfterCall 1 2 0 (Began 1 Clear ∷ []) → ⊥
+another-party calls = let first = first-begins 1 2 0 _ calls _ _ refl in let is = first.1 in cc
+
+-- where another call begins after one step, that step alone is a script
+pub one-step : (w k p : ℕ) (all : List Record) → CallAfterCall w k p all
+    → (call next : Call) (step : Step) (found : ℕ) (e : End) (rs : List Record)
+    → all ≡ Began p call ∷ Did p step found e ∷ Began p next ∷ rs → HasCount w k call 1
+one-step w k p _ no_call call next step found e rs same = absurd (cc)
+one-step w k p _ (begun_call c [] b) call next step found e rs same = absurd (cc)
+one-step w k p _ (begun_call c (t ∷ []) b) call next step found e rs same = absurd (cc)
+one-step w k p _ (begun_call c (t ∷ (u ∷ s)) b) call next step found e rs same = absurd (cc)
+one-step w k p _ (whole_call c [] later is more) call next step found e rs same =
+    let first =
+    first-begins w k p later more (Did p step found e) (Began p next ∷ rs) (cc) in
+    absurd (let begins = first.1 in cc)
+one-step w k p _ (whole_call c (t ∷ []) later is more) call next step found e rs same =
+    let here : c ≡ call = cc in subst (λ x. HasCount w k x 1) here is.count
+one-step w k p _ (whole_call c (t ∷ (u ∷ s)) later is more) call next step found e rs same =
+    absurd (cc)
+
+-- an intersection that another call cut short
+cut-short : CallAfterCall 1 2 0
+    (Began 0 Intersect ∷ Did 0 (Other 0) 5 Running ∷ Began 0 Clear ∷ Did 0 (Zero 0) 0 Done ∷ [])
+    → ⊥
+cut-short calls =
+    let count = one-step 1 2 0 _ calls Intersect Clear (Other 0) 5 Running _ refl in
+    omega (arith, count)

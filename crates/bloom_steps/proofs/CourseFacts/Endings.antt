@@ -1,0 +1,88 @@
+-- What the theorem on growing runs says of the worked courses.
+use Rattle.std.proofs.Common.{◌≡◌, ◌<◌, ◌∷◌, [], zero, suc, ℕ, true, refl, arith, inl, inr, ◌/◌, subst}
+use Rattle.bloom_parts.specs.Chain.{chain}
+use Rattle.bloom_parts.specs.Content.{bit_is_on, content}
+use Rattle.bloom_parts.specs.Places.{place}
+use Rattle.bloom_steps.specs.declared.steps.vocabulary.Step.TheVariants.{Other}
+use Rattle.bloom_steps.specs.declared.steps.vocabulary.Call.TheVariants.{Insert, Clear, Intersect}
+use Rattle.bloom_steps.specs.declared.steps.vocabulary.End.TheVariants.{Running}
+use Rattle.bloom_steps.specs.declared.steps.vocabulary.Record.TheVariants.{Began, Did}
+use Rattle.bloom_steps.specs.Interleavings.{EndsWithAll, IsFoundInOther, IsInserted}
+use Rattle.bloom_steps.specs.Moments.{EveryCallEnded}
+use Rattle.bloom_steps.specs.Traces.{records_of}
+use Rattle.bloom_steps.proofs.StepFacts.Members.{each-member}
+use Rattle.bloom_steps.proofs.CourseFacts.Courses.{in_turn, twins}
+use Rattle.bloom_steps.proofs.CourseFacts.Gains.{only-insert}
+use Rattle.bloom_steps.proofs.CourseFacts.Lawful.{lawful-twins}
+use Rattle.bloom_steps.proofs.CourseFacts.Parties.{idle-past}
+use Rattle.bloom_steps.proofs.RunLemmas.Ending.{ends_with_all}
+
+-- position 20 was inserted
+inserted : IsInserted 2 twins 20
+unfolding chain
+inserted = (1, 1, 1, refl, (1, omega arith, refl))
+
+-- position 1 was not
+uninserted : IsInserted 2 twins 1 → ⊥
+unfolding chain
+uninserted is =
+    let hash =
+    each-member (λ m r. r ≡ Began is.1 (Insert is.2) → is.2 ≡ 1) twins.records
+    ((λ e. cc), ((λ e. cc), ((λ e. cc), ((λ e. cc), ((λ e. cc), ((λ e. cc), tt))))))
+    is.0 _ is.3 refl in
+    let at = is.4 in
+    none at.0 at.1 (subst (λ h. place 64 h at.0 ≡ 1) hash at.2)
+  where
+    none : (i : ℕ) → i < 2 → place 64 1 i ≡ 1 → ⊥
+    none zero below e = omega (arith, e)
+    none (suc zero) below e = omega (arith, e)
+    none (suc (suc i)) below e = omega (arith, below)
+
+-- position 2 was found on in the other filter
+found : IsFoundInOther in_turn 2
+found = (1, 0, 5, Running, refl, refl)
+
+-- position 1 was not
+unfound : IsFoundInOther in_turn 1 → ⊥
+unfound is =
+    let word =
+    each-member (λ m r. r ≡ Did is.1 (Other 0) is.2 is.3 → is.2 ≡ 5) in_turn.records
+    ((λ e. cc), ((λ e. cc), ((λ e. cc), ((λ e. cc), ((λ e. cc), tt))))) is.0 _ is.4 refl in
+    let on = subst (λ x. bit_is_on x 1 ≡ true) word is.5 in
+    cc
+
+-- the twins found nothing there
+none_found : (p : ℕ) → IsFoundInOther twins p → ⊥
+none_found p is =
+    each-member
+    (λ m r. r ≡ Did is.1 (Other (p / 64)) is.2 is.3 → ⊥) twins.records
+    ((λ e. cc), ((λ e. cc), ((λ e. cc), ((λ e. cc), ((λ e. cc), ((λ e. cc), tt))))))
+    is.0 _ is.4 refl
+
+-- every call of the twins has ended
+ended : EveryCallEnded twins.records
+unfolding records_of
+ended zero = refl
+ended (suc zero) = refl
+ended (suc (suc party)) = idle-past 2 (suc (suc party)) twins.records 6 refl (omega arith)
+
+-- the theorem holds of them
+ends : EndsWithAll 2 twins
+ends = ends_with_all 2 twins lawful-twins
+
+-- a position that was inserted may not be off in the end
+ends-short : EndsWithAll 2 (record twins { words = 1 ∷ [] }) → ⊥
+unfolding content chain
+ends-short ends =
+    let on = (ends (only-insert Clear (λ e. cc)) (only-insert Intersect (λ e. cc)) ended 20).1
+    (inr (inl inserted)) in
+    cc
+
+-- nor one on that was not
+ends-long : EndsWithAll 2 (record twins { words = 1048579 ∷ [] }) → ⊥
+unfolding content chain
+ends-long ends =
+    elim ((ends (only-insert Clear (λ e. cc)) (only-insert Intersect (λ e. cc)) ended 1).0 refl) [
+      | inl start ↦ (let on = start in cc)
+      | inr later ↦ elim later [ inl is ↦ uninserted is | inr is ↦ none_found 1 is ]
+    ]

@@ -1,0 +1,68 @@
+-- Which words a step may find in a set, and which it may not.
+use Rattle.std.proofs.Common.{◌≡◌, ◌<◌, ◌^◌, ◌≤◌, ◌∷◌, [], ℕ, Bool, refl, arith, lit<, lit≤}
+use Rattle.bloom_parts.specs.Content.{content}
+use Rattle.bloom_steps.specs.declared.steps.vocabulary.Step.{Step}
+use Rattle.bloom_steps.specs.declared.steps.vocabulary.Step.TheVariants.{Load, Or, And, Zero, Other}
+use Rattle.bloom_steps.specs.Memories.{found_in}
+use Rattle.bloom_steps.specs.Traces.{MayFind}
+use Rattle.bloom_steps.proofs.RunLemmas.Keeping.{may_find-read}
+
+-- the content of two words
+abbrev set : ℕ → Bool
+set p = content (5 ∷ 9 ∷ []) p
+
+-- a word below the bound
+pub past : (word : ℕ) → 2 ^ 64 ≤ word → word < 2 ^ 64 → ⊥
+past word above below = omega (arith, above, below)
+
+-- what a step finds in the words
+finds : (step : Step) (found : ℕ) → found ≡ found_in (5 ∷ 9 ∷ []) found step → found < 2 ^ 64
+    → MayFind set step found
+finds step found is fits = may_find-read set (5 ∷ 9 ∷ []) found found step (λ p. refl) is fits
+
+-- a load finds its word
+load-word : MayFind set (Load 1) 9
+load-word = finds (Load 1) 9 refl (lit< tt)
+
+-- not the other's
+load-another : MayFind set (Load 1) 5 → ⊥
+unfolding content
+load-another may = let bit = may.bits 66 refl in cc
+
+-- nor one that has the same bits and further ones
+load-past : MayFind set (Load 1) 18446744073709551625 → ⊥
+load-past may = past 18446744073709551625 (lit≤ tt) may.fits
+
+-- so does a step that turns bits on
+or-word : MayFind set (Or 0 2) 5
+or-word = finds (Or 0 2) 5 refl (lit< tt)
+
+-- as it was before
+or-after : MayFind set (Or 0 2) 7 → ⊥
+unfolding content
+or-after may = let bit = may.bits 1 refl in cc
+
+-- and one that turns bits off
+and-word : MayFind set (And 0 1) 5
+and-word = finds (And 0 1) 5 refl (lit< tt)
+
+-- as it was before
+and-after : MayFind set (And 0 1) 1 → ⊥
+unfolding content
+and-after may = let bit = may.bits 2 refl in cc
+
+-- a step that turns a word off finds 0
+zero-word : MayFind set (Zero 0) 0
+zero-word = refl
+
+-- not the word as it was
+zero-found : MayFind set (Zero 0) 5 → ⊥
+zero-found may = omega (arith, may)
+
+-- the other filter's word may be any of 64 bits
+other-word : MayFind set (Other 0) 7
+other-word = lit< tt
+
+-- not of more
+other-past : MayFind set (Other 0) 18446744073709551616 → ⊥
+other-past may = past 18446744073709551616 (lit≤ tt) may

@@ -1,0 +1,97 @@
+-- How many positions the steps of the worked courses gain, and how many found their bit off.
+use Rattle.std.proofs.Common.{◌≡◌, ◌≢◌, ◌%◌, ◌==◌, ◌∷◌, [], true, false, not, ◌&&◌, count_by, refl, arith, sym}
+use Rattle.bloom_parts.specs.Content.{content}
+use Rattle.bloom_steps.specs.declared.steps.vocabulary.Step.TheVariants.{Load, Or, And, Zero, Other}
+use Rattle.bloom_steps.specs.declared.steps.vocabulary.Call.{Call}
+use Rattle.bloom_steps.specs.declared.steps.vocabulary.Call.TheVariants.{Insert, Clear, Union, Intersect}
+use Rattle.bloom_steps.specs.declared.steps.vocabulary.End.TheVariants.{Running}
+use Rattle.bloom_steps.specs.declared.steps.vocabulary.Record.TheVariants.{Began, Did}
+use Rattle.bloom_steps.specs.Interleavings.{CountsGains, count_below, found_off}
+use Rattle.bloom_steps.specs.Moments.{NoCall}
+use Rattle.bloom_steps.specs.Traces.{Course}
+use Rattle.bloom_steps.proofs.StepFacts.Members.{each-member}
+use Rattle.bloom_steps.proofs.CourseFacts.Courses.{disturbed, twins}
+use Rattle.bloom_steps.proofs.CourseFacts.Lawful.{lawful-twins}
+use Rattle.bloom_steps.proofs.RunLemmas.Gaining.{counts_gains}
+
+-- numbers below a bound
+even-below : count_below 5 (λ n. n % 2 == 0) ≡ 3
+even-below = refl
+
+-- the bound itself doesn't count
+even-below_one : count_below 4 (λ n. n % 2 == 0) ≡ 2
+even-below_one = refl
+
+-- a step that turns on a bit that was off
+or-off : found_off (Did 0 (Or 0 2) 5 Running) ≡ true
+or-off = refl
+
+-- one that found its bit on is none
+or-on : found_off (Did 0 (Or 0 1) 5 Running) ≡ false
+or-on = refl
+
+-- a load
+load-off : found_off (Did 0 (Load 0) 0 Running) ≡ false
+load-off = refl
+
+-- a step that turns bits off
+and-off : found_off (Did 0 (And 0 2) 5 Running) ≡ false
+and-off = refl
+
+-- a step that turns a word off
+zero-off : found_off (Did 0 (Zero 0) 0 Running) ≡ false
+zero-off = refl
+
+-- a read of the other filter
+other-off : found_off (Did 0 (Other 0) 0 Running) ≡ false
+other-off = refl
+
+-- a beginning
+began-off : found_off (Began 0 Clear) ≡ false
+began-off = refl
+
+-- two steps of the twins found their bit off
+twins-off : count_by found_off twins.records ≡ 2
+twins-off = refl
+
+-- and two positions were gained
+twins-gained : count_below 64 (λ p. content twins.words p && not (content twins.start p)) ≡ 2
+unfolding content
+twins-gained = refl
+
+-- the theorem holds of them
+gained : CountsGains twins
+gained = counts_gains 2 twins lawful-twins
+
+-- the twins only insert
+pub only-insert : (call : Call) → call ≢ Insert 1 → NoCall twins.records call
+only-insert call other m party g =
+    each-member (λ m r. r ≢ Began party call) twins.records (
+      (λ e. other (let is : call ≡ Insert 1 = cc in is)),
+      (
+        (λ e. other (let is : call ≡ Insert 1 = cc in is)),
+        ((λ e. cc), ((λ e. cc), ((λ e. cc), ((λ e. cc), tt)))),
+      ),
+    )
+    m (Began party call) g refl
+
+-- one position gained is too few
+abbrev one_gained : Course
+one_gained = record twins { words = 1 ∷ [] }
+
+-- counted as one
+few-gained :
+    count_below 64 (λ p. content one_gained.words p && not (content one_gained.start p)) ≡ 1
+unfolding content
+few-gained = refl
+
+-- the theorem fails of it
+ungained : CountsGains one_gained → ⊥
+ungained counts =
+    let two = counts (only-insert Clear (λ e. cc)) (only-insert Union (λ e. cc))
+    (only-insert Intersect (λ e. cc)) in
+    omega (arith, sym twins-off, two, few-gained)
+
+-- a call that is there
+clear-there : NoCall disturbed.records Clear → ⊥
+clear-there none = none 2 1 refl

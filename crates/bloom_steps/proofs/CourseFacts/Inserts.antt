@@ -1,0 +1,93 @@
+-- What the theorem on the answers of inserts says of the worked courses.
+use Rattle.std.proofs.Common.{◌≡◌, ℕ, Bool, true, false, not, ◌&&◌, refl, arith, subst}
+use Rattle.std.proofs.lemmas.Bool.{both_ways}
+use Rattle.bloom_parts.specs.Content.{content}
+use Rattle.bloom_steps.specs.declared.steps.vocabulary.Step.TheVariants.{Load, Or}
+use Rattle.bloom_steps.specs.declared.steps.vocabulary.Call.TheVariants.{Insert}
+use Rattle.bloom_steps.specs.declared.steps.vocabulary.End.{End}
+use Rattle.bloom_steps.specs.declared.steps.vocabulary.End.TheVariants.{Running, Answer}
+use Rattle.bloom_steps.specs.declared.steps.vocabulary.Record.TheVariants.{Did}
+use Rattle.bloom_steps.specs.Interleavings.{InsertsTell, TurnsOneOn}
+use Rattle.bloom_steps.specs.Moments.{moment, turns_on}
+use Rattle.bloom_steps.proofs.CourseFacts.Courses.{twins, twins_answering, idle_insert}
+use Rattle.bloom_steps.specs.declared.steps.vocabulary.Step.{Step}
+use Rattle.bloom_steps.proofs.StepFacts.Members.{each-member}
+use Rattle.bloom_steps.proofs.CourseFacts.Finished.{finished}
+use Rattle.bloom_steps.proofs.CourseFacts.Lawful.{lawful-twins}
+use Rattle.bloom_steps.proofs.RunLemmas.Telling.{inserts_tell}
+
+-- each of the twins turns a position on
+first-on : (answer : Bool) → TurnsOneOn (twins_answering answer) 0 0 5
+unfolding content
+first-on answer = record {
+  m = 2;
+  p = 0;
+  ended = Running;
+  later = omega arith;
+  upto = omega arith;
+  own = (Or 0 1, 0, refl);
+  on = refl;
+}
+
+-- the second, position 20
+second-on : TurnsOneOn twins 1 1 4
+unfolding content
+second-on = record {
+  m = 4;
+  p = 20;
+  ended = Answer false;
+  later = omega arith;
+  upto = omega arith;
+  own = (Or 0 1048576, 1, refl);
+  on = refl;
+}
+
+-- no record later than the last
+none-later : TurnsOneOn twins 0 5 5 → ⊥
+none-later one = omega (arith, one.later, one.upto)
+
+-- nor of a party that made none
+none-of_another : TurnsOneOn twins 7 0 5 → ⊥
+none-of_another one =
+    each-member
+    (λ m r. (step : Step) (found : ℕ) (e : End) → r ≡ Did 7 step found e → ⊥) twins.records (
+      (λ s f e is. cc),
+      (
+        (λ s f e is. cc),
+        ((λ s f e is. cc), ((λ s f e is. cc), ((λ s f e is. cc), ((λ s f e is. cc), tt)))),
+      ),
+    )
+    one.m _ one.own.2 one.own.0 one.own.1 one.ended refl
+
+-- the theorem holds of the twins, which answer false
+told : InsertsTell twins
+told = inserts_tell 2 twins lawful-twins (omega arith) (omega arith)
+
+-- the first may not answer true
+untold : InsertsTell (twins_answering true) → ⊥
+untold tell =
+    let is =
+    finished (twins_answering true) 0 (Insert 1) 0 5 (Answer true) refl (omega arith)
+    (Or 0 1048576, 1048577, refl) (λ e. cc) refl in
+    let wrong = (tell 0 1 0 5 true is).1 (first-on true) in
+    cc
+
+-- an insert that turns nothing on may not answer false
+idle-on : TurnsOneOn idle_insert 0 0 1 → ⊥
+unfolding content
+idle-on one =
+    let here : one.m ≡ 1 = omega (arith, one.later, one.upto) in
+    let on = subst (λ m. turns_on idle_insert m one.p ≡ true) here one.on in
+    both_ways (turns_on idle_insert 1 one.p) (never (moment idle_insert 1 one.p)) on
+  where
+    never : (b : Bool) → (not b && b) ≡ false
+    never true = refl
+    never false = refl
+
+-- the theorem fails of it
+idle-untold : InsertsTell idle_insert → ⊥
+idle-untold tell =
+    let is =
+    finished idle_insert 0 (Insert 0) 0 1 (Answer false) refl (omega arith) (Load 0, 0, refl)
+    (λ e. cc) refl in
+    idle-on ((tell 0 0 0 1 false is).0 refl)

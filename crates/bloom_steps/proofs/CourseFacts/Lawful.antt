@@ -1,0 +1,173 @@
+-- Worked courses that are lawful.
+use Rattle.std.proofs.Common.{◌≡◌, ◌∷◌, [], List, ℕ, zero, suc, true, false, refl, arith, sym, subst, lit<, ◌<◌, ◌^◌, ◌∙◌}
+use Rattle.std.proofs.lemmas.List.Elements.{All-cons, All-nil}
+use Rattle.bloom_parts.specs.Chain.{chain}
+use Rattle.bloom_parts.specs.Content.{AreWords, bit_is_on}
+use Rattle.bloom_parts.specs.Places.{place}
+use Rattle.bloom_steps.specs.declared.steps.vocabulary.Step.TheVariants.{Load, Or, Other}
+use Rattle.bloom_steps.specs.declared.steps.vocabulary.Call.TheVariants.{Insert, Contains, Union}
+use Rattle.bloom_steps.specs.declared.steps.vocabulary.End.TheVariants.{Running, Done, Answer}
+use Rattle.bloom_steps.specs.Scripts.{Any, Taken, IsScript}
+use Rattle.bloom_steps.specs.Traces.{CallAfterCall, IsLawful, no_call, begun_call, whole_call, records_of}
+use Rattle.bloom_steps.proofs.StepFacts.Members.{each-member, took}
+use Rattle.bloom_steps.proofs.StepFacts.Pairs.{one-pair}
+use Rattle.bloom_steps.proofs.StepFacts.Scripts.{insert, insert-script}
+use Rattle.bloom_steps.proofs.CourseFacts.Carrying.{carried}
+use Rattle.bloom_steps.proofs.CourseFacts.Courses.{twins, in_turn, insert_then_contains}
+use Rattle.bloom_steps.proofs.CourseFacts.Parties.{none-past}
+
+-- one word of 64 bits
+pub one-word : (word : ℕ) → word < 2 ^ 64 → AreWords (word ∷ [])
+one-word word fits = All-cons (λ w. w < 2 ^ 64) word [] fits (All-nil (λ w. w < 2 ^ 64))
+
+-- an insert of one step, which found its bit off
+abbrev inserted : List Taken
+inserted = took (Or 0 1) 4 (Answer false) ∷ []
+
+-- it is a whole insert
+pub inserted-script : IsScript 1 1 (Insert 0) inserted
+unfolding chain
+inserted-script =
+    let off = took (Or 0 1) 4 (Answer false) in
+    record {
+      count = refl;
+      steps = each-member _ inserted (refl, tt);
+      stops = tt;
+      running = each-member _ inserted ((λ l. absurd (omega (arith, l))), tt);
+      last =
+          each-member _ inserted
+          ((λ l. (false, refl, ((λ e. (0, off, refl, refl)), (λ e. refl)))), tt);
+    }
+
+-- a look-up of one load, which found its bit on
+abbrev found : List Taken
+found = took (Load 0) 5 (Answer true) ∷ []
+
+-- it is a whole look-up
+found-script : IsScript 1 1 (Contains 0) found
+unfolding chain
+found-script = record {
+  count = (omega arith, omega arith);
+  steps = each-member _ found (refl, tt);
+  stops = record {
+    earlier = each-member _ found ((λ l. absurd (omega (arith, l))), tt);
+    early = each-member _ found ((λ l m. absurd (omega (arith, m))), tt);
+  };
+  running = each-member _ found ((λ l. absurd (omega (arith, l))), tt);
+  last = each-member _ found ((λ l. each-member _ found ((λ m. refl), tt)), tt);
+}
+
+-- a union of one word
+abbrev read_write : ℕ → List Taken
+read_write other = took (Other 0) other Running ∷ took (Or 0 other) 0 Done ∷ []
+
+-- it is a whole union
+read_write-script : (other : ℕ) → IsScript 1 1 Union (read_write other)
+read_write-script other = record {
+  count = refl;
+  steps = one-pair Or 0 other;
+  stops = tt;
+  running = each-member _ (read_write other) ((λ l. refl), ((λ l. absurd (omega (arith, l))), tt));
+  last = each-member _ (read_write other) ((λ l. absurd (omega (arith, l))), ((λ l. refl), tt));
+}
+
+-- the calls of each party
+calls : (party : ℕ) → CallAfterCall 1 1 party (records_of party insert_then_contains.records)
+unfolding records_of
+calls zero =
+    whole_call (Insert 0) inserted _ inserted-script
+    (begun_call Union (took (Other 0) 9 Running ∷ []) (_, _, read_write-script 9))
+calls (suc zero) = whole_call (Contains 0) found [] found-script no_call
+calls (suc (suc party)) =
+    subst (CallAfterCall 1 1 (suc (suc party)))
+    (sym (none-past 2 (suc (suc party)) insert_then_contains.records 6 refl (omega arith))) no_call
+
+-- an insert, then a look-up of its hash, and a union that isn't finished
+pub lawful-insert_then_contains : IsLawful 1 insert_then_contains
+lawful-insert_then_contains =
+    carried 1 insert_then_contains
+    (omega arith, refl, lit< tt, (omega arith, refl, lit< tt, (omega arith, refl, lit< tt, tt)))
+    refl refl (one-word 5 (lit< tt)) calls
+
+-- the steps of the first of the twins
+abbrev first : List Taken
+first = took (Or 0 1) 0 Running ∷ took (Or 0 1048576) 1048577 (Answer false) ∷ []
+
+-- they are a whole insert
+first-script : IsScript 1 2 (Insert 1) first
+unfolding chain
+first-script =
+    let off = took (Or 0 1) 0 Running in
+    record {
+      count = refl;
+      steps = each-member _ first (refl, (refl, tt));
+      stops = tt;
+      running = each-member _ first ((λ l. refl), ((λ l. absurd (omega (arith, l))), tt));
+      last =
+          each-member _ first (
+            (λ l. absurd (omega (arith, l))),
+            ((λ l. (false, refl, ((λ e. (0, off, refl, refl)), (λ e. refl)))), tt),
+          );
+    }
+
+-- the calls of the twins: the second's steps are those of an insert that found its second bit off
+calls-twins : (party : ℕ) → CallAfterCall 1 2 party (records_of party twins.records)
+unfolding records_of
+calls-twins zero = whole_call (Insert 1) first [] first-script no_call
+calls-twins (suc zero) = whole_call (Insert 1) insert [] insert-script no_call
+calls-twins (suc (suc party)) =
+    subst (CallAfterCall 1 2 (suc (suc party)))
+    (sym (none-past 2 (suc (suc party)) twins.records 6 refl (omega arith))) no_call
+
+-- two inserts of one fresh hash
+pub lawful-twins : IsLawful 2 twins
+lawful-twins =
+    carried 2 twins (
+      omega arith,
+      refl,
+      lit< tt,
+      (
+        omega arith,
+        refl,
+        lit< tt,
+        (omega arith, refl, lit< tt, (omega arith, refl, lit< tt, tt)),
+      ),
+    )
+    refl refl (one-word 1048577 (lit< tt)) calls-twins
+
+-- an insert of one step, which found its bit on
+abbrev known : List Taken
+known = took (Or 0 1) 5 (Answer true) ∷ []
+
+-- it is a whole insert
+known-script : IsScript 1 1 (Insert 0) known
+unfolding chain
+known-script = record {
+  count = refl;
+  steps = each-member _ known (refl, tt);
+  stops = tt;
+  running = each-member _ known ((λ l. absurd (omega (arith, l))), tt);
+  last = each-member _ known ((λ l. (true, refl, ((λ e. absurd (cc)), off))), tt);
+}
+  where
+    off : Any known (λ i t. bit_is_on t.found (place 64 0 i) ≡ false) → true ≡ false
+    off a =
+        let on =
+        each-member (λ i t. bit_is_on t.found (place 64 0 i) ≡ true) known (refl, tt) a.0 a.1 a.2 in
+        sym on ∙ a.3
+
+-- the calls of a union, and then an insert
+calls-in_turn : (party : ℕ) → CallAfterCall 1 1 party (records_of party in_turn.records)
+unfolding records_of
+calls-in_turn zero = whole_call Union (read_write 5) [] (read_write-script 5) no_call
+calls-in_turn (suc zero) = whole_call (Insert 0) known [] known-script no_call
+calls-in_turn (suc (suc party)) =
+    subst (CallAfterCall 1 1 (suc (suc party)))
+    (sym (none-past 2 (suc (suc party)) in_turn.records 5 refl (omega arith))) no_call
+
+-- one call at a time
+pub lawful-in_turn : IsLawful 1 in_turn
+lawful-in_turn =
+    carried 1 in_turn
+    (omega arith, refl, lit< tt, (omega arith, refl, lit< tt, (omega arith, refl, lit< tt, tt)))
+    refl refl (one-word 5 (lit< tt)) calls-in_turn

@@ -1,0 +1,162 @@
+-- What the theorems on look-ups say of the worked courses.
+use Rattle.std.proofs.Common.{◌≡◌, true, false, Bool, refl, arith, sym, subst, zero, suc, ℕ, ◌≤◌}
+use Rattle.std.proofs.lemmas.Bool.{both_ways}
+use Rattle.bloom_parts.specs.Chain.{chain}
+use Rattle.bloom_parts.specs.Content.{content}
+use Rattle.bloom_parts.specs.Places.{are_in}
+use Rattle.bloom_steps.specs.declared.steps.vocabulary.Step.TheVariants.{Load, Or}
+use Rattle.bloom_steps.specs.declared.steps.vocabulary.Call.TheVariants.{Insert, Contains}
+use Rattle.bloom_steps.specs.declared.steps.vocabulary.End.TheVariants.{Answer}
+use Rattle.bloom_steps.specs.Interleavings.{ContainsTell, FindsInserted, IsRightAt}
+use Rattle.bloom_steps.specs.Moments.{IsFinished, NoneTurnedOff, moment, turns_off}
+use Rattle.bloom_steps.proofs.CourseFacts.Courses.{disturbed, insert_in_clear, insert_then_contains, insert_then_contains_answering, last_load_alone, off_and_on}
+use Rattle.bloom_steps.proofs.CourseFacts.Finished.{finished, finished-contains}
+use Rattle.bloom_steps.proofs.CourseFacts.Lawful.{lawful-insert_then_contains}
+use Rattle.bloom_steps.proofs.CourseFacts.Undisturbed.{alone, only}
+use Rattle.bloom_steps.proofs.RunLemmas.Telling.{contains_tell, finds_inserted}
+
+-- at no moment of its span was the disturbed look-up's hash contained
+disturbed-first : are_in 64 2 1 (moment disturbed 1) ≡ false
+unfolding content chain are_in
+disturbed-first = refl
+
+-- nor after the clear
+disturbed-cleared : are_in 64 2 1 (moment disturbed 4) ≡ false
+unfolding content chain are_in
+disturbed-cleared = refl
+
+-- nor after the union
+disturbed-united : are_in 64 2 1 (moment disturbed 7) ≡ false
+unfolding content chain are_in
+disturbed-united = refl
+
+-- nor in the end
+disturbed-last : are_in 64 2 1 (moment disturbed 8) ≡ false
+unfolding content chain are_in
+disturbed-last = refl
+
+-- it is finished with true, and right at its last load for all that the theorem says
+disturbed-right : IsRightAt 2 disturbed 1 0 7 7 true
+unfolding content chain
+disturbed-right = record {
+  within = (omega arith, omega arith);
+  undisturbed = λ alone.
+      let on : turns_off disturbed 3 0 ≡ true = refl in
+      absurd (both_ways (turns_off disturbed 3 0)
+      (alone 3 0 (omega arith) (omega arith) (0, omega arith, refl)) on);
+  off = λ e. absurd (cc);
+}
+
+-- a moment outside of the span is not right
+disturbed-before : IsRightAt 2 disturbed 1 0 7 0 true → ⊥
+disturbed-before right = omega (arith, right.within.0)
+
+-- a look-up that counts its last load alone breaks the theorem
+last-load : are_in 64 2 1 (moment last_load_alone 2) ≡ false
+unfolding content chain are_in
+last-load = refl
+
+-- for it is undisturbed, and answers true
+last-load_alone : ContainsTell 2 last_load_alone → ⊥
+last-load_alone tell =
+    let right = tell 0 1 0 2 true finished-contains in
+    both_ways (are_in 64 2 1 (moment last_load_alone 2)) last-load (sym (right.undisturbed alone))
+
+-- disturbed or not, it may not answer false where its hash is contained at its last load
+contained-late : are_in 64 1 0 (moment off_and_on 5) ≡ true
+unfolding content chain are_in
+contained-late = refl
+
+-- so it isn't right there
+off-late : IsRightAt 1 off_and_on 0 0 5 5 false → ⊥
+off-late right = both_ways (are_in 64 1 0 (moment off_and_on 5)) (right.off refl) contained-late
+
+-- just after the clear it would have been right
+off-then : IsRightAt 1 off_and_on 0 0 5 3 false
+unfolding content chain are_in
+off-then = record {
+  within = (omega arith, omega arith);
+  undisturbed = λ alone.
+      let on : turns_off off_and_on 2 0 ≡ true = refl in
+      absurd (both_ways (turns_off off_and_on 2 0)
+      (alone 2 0 (omega arith) (omega arith) (0, omega arith, refl)) on);
+  off = λ e. refl;
+}
+
+-- but the theorem speaks of its last load
+off-late_told : ContainsTell 1 off_and_on → ⊥
+off-late_told tell =
+    off-late
+    (tell 0 0 0 5 false
+    (finished off_and_on 0 (Contains 0) 0 5 (Answer false) refl (omega arith) (Load 0, 1, refl)
+    (λ e. cc) refl))
+
+-- both theorems hold of a look-up after a finished insert of its hash: it is right
+told : ContainsTell 1 insert_then_contains
+told = contains_tell 1 insert_then_contains lawful-insert_then_contains (omega arith) (omega arith)
+
+-- and so it answers true
+found : FindsInserted 1 insert_then_contains
+found =
+    finds_inserted 1 insert_then_contains lawful-insert_then_contains (omega arith) (omega arith)
+
+-- where the look-up answers false neither does; the insert is finished
+finished-insert : (answer : Bool)
+    → IsFinished (insert_then_contains_answering answer) 0 (Insert 0) 0 1 (Answer false)
+finished-insert answer =
+    finished (insert_then_contains_answering answer) 0 (Insert 0) 0 1 (Answer false) refl
+    (omega arith) (Or 0 1, 4, refl) (λ e. cc) refl
+
+-- the look-up is finished, whatever it answers
+finished-look_up : (answer : Bool)
+    → IsFinished (insert_then_contains_answering answer) 1 (Contains 0) 2 3 (Answer answer)
+finished-look_up answer =
+    finished (insert_then_contains_answering answer) 1 (Contains 0) 2 3 (Answer answer) refl
+    (omega arith) (Load 0, 5, refl) (λ e. cc) refl
+
+-- at its last load the hash is contained
+contained : are_in 64 1 0 (moment (insert_then_contains_answering false) 3) ≡ true
+unfolding content chain are_in
+contained = refl
+
+-- so false isn't right
+untold : ContainsTell 1 (insert_then_contains_answering false) → ⊥
+untold tell =
+    let right = tell 1 0 2 3 false (finished-look_up false) in
+    both_ways (are_in 64 1 0 (moment (insert_then_contains_answering false) 3)) (right.off refl)
+    contained
+
+-- nothing is turned off
+kept : NoneTurnedOff 1 (insert_then_contains_answering false) 0 0 3
+unfolding content
+kept m p a b x =
+    subst (λ q. turns_off (insert_then_contains_answering false) m q ≡ false) (sym (only p x))
+    (at m b)
+  where
+    at : (m : ℕ) → m ≤ 3 → turns_off (insert_then_contains_answering false) m 0 ≡ false
+    at zero b = refl
+    at (suc zero) b = refl
+    at (suc (suc zero)) b = refl
+    at (suc (suc (suc zero))) b = refl
+    at (suc (suc (suc (suc m)))) b = absurd (omega (arith, b))
+
+-- so false is no answer after the insert
+unfound : FindsInserted 1 (insert_then_contains_answering false) → ⊥
+unfound finds =
+    let answer =
+    finds 0 0 0 1 (Answer false) (finished-insert false) 1 2 3 false (finished-look_up false)
+    (omega arith) kept in
+    cc
+
+-- the clear's last step lies between the insert's beginning and the look-up's last step
+between : NoneTurnedOff 3 insert_in_clear 1 2 10 → ⊥
+unfolding content chain
+between none =
+    let on : turns_off insert_in_clear 6 64 ≡ true = refl in
+    both_ways (turns_off insert_in_clear 6 64)
+    (none 6 64 (omega arith) (omega arith) (2, omega arith, refl)) on
+
+-- and the look-up found that bit off
+between-off : are_in 128 3 1 (moment insert_in_clear 10) ≡ false
+unfolding content chain are_in
+between-off = refl

@@ -1,0 +1,80 @@
+-- What is on at the moments of the worked courses, and which records turn positions on and off.
+use Rattle.std.proofs.Common.{◌≡◌, true, false, refl, arith}
+use Rattle.bloom_parts.specs.Content.{content}
+use Rattle.bloom_steps.specs.Moments.{bits_of, moment, turns_on, turns_off, IsInSpan}
+use Rattle.bloom_steps.proofs.CourseFacts.Courses.{twins, disturbed, union_of_itself, insert_in_clear}
+
+-- 64 bits a word
+bits-two : bits_of insert_in_clear ≡ 128
+bits-two = refl
+
+-- the clear turns position 0 off
+off-clear : turns_off disturbed 3 0 ≡ true
+unfolding content
+off-clear = refl
+
+-- the union turns position 20 on
+on-union : turns_on disturbed 6 20 ≡ true
+unfolding content
+on-union = refl
+
+-- it turns off nothing that was off
+off-other : turns_off disturbed 3 20 ≡ false
+unfolding content
+off-other = refl
+
+-- and the union's read turns on nothing
+on-read : turns_on disturbed 5 20 ≡ false
+unfolding content
+on-read = refl
+
+-- the first of the twins turns position 0 on
+twins-on : turns_on twins 2 0 ≡ true
+unfolding content
+twins-on = refl
+
+-- the second no more
+twins-on_again : turns_on twins 3 0 ≡ false
+unfolding content
+twins-on_again = refl
+
+-- then the second turns on position 20
+twins-on_second : turns_on twins 4 20 ≡ true
+unfolding content
+twins-on_second = refl
+
+-- and nothing is turned off
+twins-off : turns_off twins 3 0 ≡ false
+unfolding content
+twins-off = refl
+
+-- just after the clear nothing is on
+cleared : moment union_of_itself 4 0 ≡ false
+unfolding content
+cleared = refl
+
+-- in the end what the union had read is on again
+united : moment union_of_itself 5 2 ≡ true
+unfolding content
+united = refl
+
+-- moment 0 is the start
+at_start : moment union_of_itself 0 2 ≡ true
+unfolding content
+at_start = refl
+
+-- a span begins just after the call's beginning
+span-first : IsInSpan 2 5 3
+span-first = (omega arith, omega arith)
+
+-- it ends just after its last step
+span-last : IsInSpan 2 5 6
+span-last = (omega arith, omega arith)
+
+-- the moment of its beginning is before it
+span-before : IsInSpan 2 5 2 → ⊥
+span-before h = omega (arith, h.0)
+
+-- and one further on is after it
+span-after : IsInSpan 2 5 7 → ⊥
+span-after h = omega (arith, h.1)

@@ -1,0 +1,79 @@
+-- Which look-ups of the worked courses are undisturbed, and which not.
+use Rattle.std.proofs.Common.{◌≡◌, ◌<◌, ◌≤◌, zero, suc, true, false, Bool, ℕ, not, ◌&&◌, refl, arith, subst, sym, ◌∙◌, ap}
+use Rattle.std.proofs.lemmas.Bool.{both_ways}
+use Rattle.bloom_parts.specs.Chain.{chain}
+use Rattle.bloom_parts.specs.Content.{content}
+use Rattle.bloom_parts.specs.Places.{place, IsPosition}
+use Rattle.bloom_steps.specs.Moments.{moment, turns_off, IsUndisturbed, NoneTurnedOff}
+use Rattle.bloom_steps.proofs.CourseFacts.Courses.{disturbed, last_load_alone, between_clears, clear_elsewhere}
+
+-- what stays as it is isn't turned off
+never : (b : Bool) → (b && not b) ≡ false
+never true = refl
+never false = refl
+
+-- position 0 is the first of hash 1
+first : IsPosition 64 2 1 0
+unfolding chain
+first = (0, omega arith, refl)
+
+-- position 0 is the only one of hash 0
+pub only : (p : ℕ) → IsPosition 64 1 0 p → p ≡ 0
+unfolding chain
+only p x = let zeroth : x.0 ≡ 0 = omega (arith, x.1) in sym x.2 ∙ ap (place 64 0) zeroth
+
+-- a look-up across a clear of its first position is disturbed
+clear-disturbs : IsUndisturbed 2 disturbed 1 0 7 → ⊥
+unfolding content
+clear-disturbs h =
+    let off = h 3 0 (omega arith) (omega arith) first in
+    let on : turns_off disturbed 3 0 ≡ true = refl in
+    both_ways (turns_off disturbed 3 0) off on
+
+-- a look-up on whose words nobody else works is undisturbed
+pub alone : IsUndisturbed 2 last_load_alone 1 0 2
+unfolding content
+alone zero p a b x = absurd (omega (arith, a))
+alone (suc zero) p a b x = never (content last_load_alone.start p)
+alone (suc (suc zero)) p a b x = never (content last_load_alone.start p)
+alone (suc (suc (suc m))) p a b x = absurd (omega (arith, b))
+
+-- what is turned off just before its beginning and just after its end disturbs no look-up
+between-clears : IsUndisturbed 1 between_clears 0 5 6
+unfolding content
+between-clears m p a b x =
+    let here : 6 ≡ m = omega (arith, a, b) in
+    subst (λ n. turns_off between_clears n p ≡ false) here (never (moment between_clears 6 p))
+
+-- a record earlier, and a record later, there is one
+before-clears : NoneTurnedOff 1 between_clears 0 1 6 → ⊥
+unfolding content chain
+before-clears h =
+    let on : turns_off between_clears 1 0 ≡ true = refl in
+    both_ways (turns_off between_clears 1 0)
+    (h 1 0 (omega arith) (omega arith) (0, omega arith, refl)) on
+
+-- a record later there is another
+after-clears : NoneTurnedOff 1 between_clears 0 6 7 → ⊥
+unfolding content chain
+after-clears h =
+    let on : turns_off between_clears 7 0 ≡ true = refl in
+    both_ways (turns_off between_clears 7 0)
+    (h 7 0 (omega arith) (omega arith) (0, omega arith, refl)) on
+
+-- what is turned off elsewhere doesn't disturb
+elsewhere : IsUndisturbed 1 clear_elsewhere 0 0 3
+unfolding content
+elsewhere m p a b x = subst (λ q. turns_off clear_elsewhere m q ≡ false) (sym (only p x)) (at m a b)
+  where
+    at : (m : ℕ) → 0 < m → m ≤ 3 → turns_off clear_elsewhere m 0 ≡ false
+    at zero a b = absurd (omega (arith, a))
+    at (suc zero) a b = refl
+    at (suc (suc zero)) a b = refl
+    at (suc (suc (suc zero))) a b = refl
+    at (suc (suc (suc (suc m)))) a b = absurd (omega (arith, b))
+
+-- though the clear does turn a position off
+elsewhere-off : turns_off clear_elsewhere 2 2 ≡ true
+unfolding content
+elsewhere-off = refl

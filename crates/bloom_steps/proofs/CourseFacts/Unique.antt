@@ -1,0 +1,46 @@
+-- What the law on one course says of a schedule.
+use Rattle.std.proofs.Common.{◌≡◌, ◌∷◌, [], List, ℕ, zero, suc, refl, arith, lit<, sym, subst}
+use Rattle.bloom_steps.specs.declared.steps.vocabulary.Step.TheVariants.{Zero}
+use Rattle.bloom_steps.specs.declared.steps.vocabulary.Call.TheVariants.{Clear}
+use Rattle.bloom_steps.specs.declared.steps.vocabulary.End.TheVariants.{Done}
+use Rattle.bloom_steps.specs.Scripts.{IsScript, Taken}
+use Rattle.bloom_steps.specs.Traces.{AtMostOne, CallAfterCall, Course, Follows, IsLawful, no_call, records_of, whole_call}
+use Rattle.bloom_steps.proofs.StepFacts.Members.{each-member, took}
+use Rattle.bloom_steps.proofs.CourseFacts.Carrying.{carried}
+use Rattle.bloom_steps.proofs.CourseFacts.Lawful.{one-word}
+use Rattle.bloom_steps.proofs.CourseFacts.Parties.{none-past}
+use Rattle.bloom_steps.proofs.CourseFacts.Schedules.{cleared, follows-words, schedule}
+
+-- a clear of one word
+abbrev zeroed : List Taken
+zeroed = took (Zero 0) 0 Done ∷ []
+
+-- it is a whole clear
+zeroed-script : IsScript 1 1 Clear zeroed
+zeroed-script = record {
+  count = refl;
+  steps = each-member _ zeroed (refl, tt);
+  stops = tt;
+  running = each-member _ zeroed ((λ l. absurd (omega (arith, l))), tt);
+  last = each-member _ zeroed ((λ l. refl), tt);
+}
+
+-- the calls of each party
+calls : (party : ℕ) → CallAfterCall 1 1 party (records_of party (cleared (9 ∷ [])).records)
+unfolding records_of
+calls zero = whole_call Clear zeroed [] zeroed-script no_call
+calls (suc party) =
+    subst (CallAfterCall 1 1 (suc party))
+    (sym (none-past 1 (suc party) (cleared (9 ∷ [])).records 2 refl (omega arith))) no_call
+
+-- the course that follows the schedule is lawful
+lawful : IsLawful 1 (cleared (9 ∷ []))
+lawful =
+    carried 1 (cleared (9 ∷ [])) (omega arith, refl, lit< tt, tt) refl refl
+    (one-word 0 (lit< tt)) calls
+
+-- and it is the only one
+only : AtMostOne → (other : Course) → IsLawful 1 other → Follows 1 (9 ∷ []) schedule other
+    → other ≡ cleared (9 ∷ [])
+only law other is follows =
+    law 1 1 (9 ∷ []) schedule other (cleared (9 ∷ [])) is follows lawful follows-words

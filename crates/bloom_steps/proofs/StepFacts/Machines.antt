@@ -1,0 +1,186 @@
+-- Where a machine stands, what it asks and answers, and what is near that and isn't so.
+use Rattle.std.proofs.Common.{◌≡◌, ◌∷◌, [], ℕ, None, Some, true, false, refl, arith, inl, lit<, ◌+◌, ◌*◌, ◌/◌, ◌%◌, ◌^◌, ◌∙◌, ◌<◌, ap, sym, subst, add-one}
+use Rattle.std.specs.Int.{rotate_left, w64}
+use Rattle.bloom_parts.specs.Places.{place}
+use Rattle.bloom_steps.specs.declared.steps.vocabulary.Step.{Step}
+use Rattle.bloom_steps.specs.Steps.{word_of}
+use Rattle.bloom_steps.specs.Machines as Machines
+use Rattle.bloom_steps.specs.Turns.{Replied}
+use Rattle.std.proofs.lemmas.Option.{none-some, same_Some}
+use Rattle.bloom_steps.proofs.StepLemmas.Replying.{stands-more}
+use Rattle.bloom_steps.proofs.StepLemmas.Asking.{asks_after}
+use Rattle.bloom_parts.specs.Chain.{chain, added_of}
+use Rattle.bloom_steps.specs.declared.steps.vocabulary.Step.TheVariants.{Load, Or}
+use Rattle.bloom_steps.specs.declared.steps.vocabulary.Call.TheVariants.{Insert}
+use Rattle.bloom_steps.specs.declared.steps.vocabulary.End.TheVariants.{Running}
+use Rattle.bloom_steps.specs.declared.steps.machine.Machine.{Machine}
+use Rattle.bloom_steps.specs.Machines.{StandsAt}
+use Rattle.bloom_steps.specs.Turns.{AsksAfter, AnswersAfter, AsksRight, AnswersRight, StandsFurther}
+use Rattle.bloom_steps.proofs.StepFacts.Members.{took}
+use Rattle.bloom_steps.proofs.StepFacts.Beginnings.{begun-none, begun-one, next-first}
+use Rattle.bloom_steps.proofs.StepFacts.Scripts.{insert, insert-script}
+
+-- an insert of hash 1 in one word with two hashes, at its beginning
+abbrev begun : Machine
+begun = record {
+  call = Insert 1;
+  num_words = 1;
+  num_hashes = 2;
+  turn = 0;
+  chain = record { newest = 0x517c_c1b7_2722_0ab5; added = 0x517c_c1b7_2722_0a95 };
+  place = 0;
+  other = 0;
+  all_on = true;
+  ended = false;
+  some_words = omega arith;
+  few_words = lit< tt;
+  some_hashes = omega arith;
+  within = omega arith;
+  room = λ e. omega arith;
+}
+
+-- after a step that found its bit on
+abbrev further : Machine
+further = record {
+  call = Insert 1;
+  num_words = 1;
+  num_hashes = 2;
+  turn = 1;
+  chain = record { newest = 0x8114_f89c_0b63_613f; added = 0x517c_c1b7_2722_0a95 };
+  place = 20;
+  other = 0;
+  all_on = true;
+  ended = false;
+  some_words = omega arith;
+  few_words = lit< tt;
+  some_hashes = omega arith;
+  within = omega arith;
+  room = λ e. omega arith;
+}
+
+-- a machine stands at its beginning
+stands : StandsAt begun 1 2 (Insert 1) []
+unfolding chain
+stands = record {
+  is_call = refl;
+  words = refl;
+  hashes = refl;
+  turns = refl;
+  placed = record { here = refl; chained = record { newest = refl; added = refl } };
+  keeps = ((λ e. cc), (λ a. absurd (none-some _ a.2)));
+  goes_on = λ e. record {
+    room = omega arith;
+    steps = λ i t g. absurd (none-some t g);
+    keeps_on = tt;
+    running = λ i t g. absurd (none-some t g);
+  };
+  whole = λ e. absurd (cc);
+  said = refl;
+}
+
+-- not at that of another call
+stands-another : StandsAt begun 1 2 (Insert 2) [] → ⊥
+stands-another st = let call = st.is_call in cc
+
+-- nor of a call on another filter
+stands-elsewhere : StandsAt begun 1 3 (Insert 1) [] → ⊥
+stands-elsewhere st = omega (arith, st.hashes)
+
+-- nor further on
+stands-further : StandsAt begun 1 2 (Insert 1) (took (Or 0 1) 1 Running ∷ []) → ⊥
+stands-further st = omega (arith, st.turns)
+
+-- after a step it stands one step further on
+replied : StandsFurther begun 1 further
+unfolding chain
+replied w k call s step asked st = stands-more begun further w k 1 call s step asked next st
+  where
+    on : ℕ → ℕ
+    on x = (rotate_left w64 x 5 + added_of 1) % 2 ^ 64
+
+    next : Replied begun 1 further
+    next = record {
+      same_call = refl;
+      same_words = refl;
+      same_hashes = refl;
+      turned = refl;
+      advances = (refl, refl);
+      moves_on = λ w i words at. record {
+        here =
+            ap (λ x. x * 64 / 2 ^ 64) at.chained.newest
+            ∙ ap (λ v. place (64 * v) 1 (i + 1)) words;
+        chained = record {
+          newest = ap on at.chained.newest ∙ ap (chain 1) (sym (add-one (i + 1)));
+          added = refl;
+        };
+      };
+    }
+
+-- not where it stood
+replied-nothing : StandsFurther begun 1 begun → ⊥
+replied-nothing next = omega (arith, (next 1 2 (Insert 1) [] (Or 0 1) refl stands).turns)
+
+-- wherever it stands it asks for the bit of its place
+asks : AsksRight begun (Some (Or 0 1))
+asks w k call s st = asks_after begun w k call s (Some (Or 0 1)) refl within st
+  where
+    within : (step : Step) → Machines.asks begun ≡ Some step → word_of step < 1
+    within step e = subst (λ x. word_of x < 1) (same_Some (Or 0 1) step e) (omega arith)
+
+-- not for a load
+asks-load : AsksRight begun (Some (Load 0)) → ⊥
+unfolding chain
+asks-load asks =
+    let comes = (asks 1 2 (Insert 1) [] stands).begun begun-none in
+    let next = comes.next _ _ insert-script in
+    let asked = comes.asks_it in
+    cc
+
+-- it answers nothing yet
+answers : AnswersRight begun None
+answers w k call s st = record { says = sym st.said; begun = λ b. refl }
+
+-- not that all was on
+answers-true_early : AnswersRight begun (Some true) → ⊥
+answers-true_early answers = let says = (answers 1 2 (Insert 1) [] stands).says in cc
+
+-- an insert asks for the bit of its first place
+asks-first : AsksAfter 1 2 (Insert 1) [] (Some (Or 0 1))
+asks-first = record {
+  either = inl begun-none;
+  begun = λ b. record { step = Or 0 1; asks_it = refl; next = next-first; within = omega arith };
+  over = λ is. absurd (omega (arith, is.count));
+}
+
+-- it asks for something
+asks-none : AsksAfter 1 2 (Insert 1) [] None → ⊥
+asks-none asks = let next = (asks.begun begun-none).asks_it in cc
+
+-- not for another bit
+asks-another : AsksAfter 1 2 (Insert 1) [] (Some (Or 0 2)) → ⊥
+unfolding chain
+asks-another asks =
+    let comes = asks.begun begun-none in
+    let next = comes.next _ _ insert-script in
+    let asked = comes.asks_it in
+    cc
+
+-- a call that has ended asks for nothing
+asks-over : AsksAfter 1 2 (Insert 1) insert (Some (Or 0 1)) → ⊥
+asks-over asks = let none = asks.over insert-script in cc
+
+-- and answers what its script does
+answers-false : AnswersAfter 1 2 (Insert 1) insert (Some false)
+answers-false = record { says = refl; begun = λ b. absurd (omega (arith, b.2.count)) }
+
+-- nothing else
+answers-true : AnswersAfter 1 2 (Insert 1) insert (Some true) → ⊥
+answers-true answers = let says = answers.says in cc
+
+-- before its end it answers nothing
+answers-early : AnswersAfter 1 2 (Insert 1) [] (Some true) → ⊥
+answers-early answers = let says = answers.says in cc
+
+-- nor while it runs
+answers-running : AnswersAfter 1 2 (Insert 1) (took (Or 0 1) 1 Running ∷ []) (Some false) → ⊥
+answers-running answers = let none = answers.begun begun-one in cc

@@ -1,0 +1,161 @@
+-- What a step finds and does in memory, and what is near that and isn't so.
+use Rattle.std.proofs.Common.{◌≡◌, ◌∷◌, [], List, ℕ, None, Some, true, refl, arith, ap, sym, length, slice_get, ◌∙◌}
+use Rattle.bloom_parts.specs.Content.{content}
+use Rattle.bloom_steps.specs.declared.steps.vocabulary.Step.TheVariants.{Load, Or, And, Zero, Other}
+use Rattle.bloom_steps.specs.declared.steps.vocabulary.Call.TheVariants.{Clear, Union}
+use Rattle.bloom_steps.specs.declared.steps.vocabulary.End.TheVariants.{Done}
+use Rattle.bloom_steps.specs.Memories.{Memory, Moves, Makes, MemoryLaw, words_after}
+use Rattle.bloom_steps.specs.Scripts.{Taken, Linked, Drives}
+use Rattle.bloom_steps.proofs.StepFacts.Members.{each-member, took}
+use Rattle.bloom_steps.proofs.StepFacts.Pairs.{union, union-script}
+use Rattle.bloom_steps.proofs.StepLemmas.Members.{some_member}
+use Rattle.bloom_steps.proofs.StepLemmas.Whole.{answer_of-last}
+
+-- one word, and one of the other filter
+abbrev memory : ℕ → Memory
+memory word = record { words = word ∷ []; other = 5 ∷ [] }
+
+-- a load finds the word, and leaves it
+load-moves : Moves (memory 9) (Load 0) 9 (memory 9)
+load-moves = record { within = omega arith; finds = refl; writes = refl; kept = refl }
+
+-- it finds no other word
+load-another : Moves (memory 9) (Load 0) 8 (memory 9) → ⊥
+load-another m = omega (arith, m.finds)
+
+-- it finds a word that is there
+load-past : Moves (memory 9) (Load 1) 0 (memory 9) → ⊥
+load-past m = omega (arith, m.within)
+
+-- it writes nothing
+load-writes : Moves (memory 9) (Load 0) 9 (memory 8) → ⊥
+load-writes m = let words = m.writes in cc
+
+-- a mask turns bits on, and finds the word as it was
+or-moves : Moves (memory 9) (Or 0 3) 9 (memory 11)
+or-moves = record { within = omega arith; finds = refl; writes = refl; kept = refl }
+
+-- it doesn't find the word as it is
+or-late : Moves (memory 9) (Or 0 3) 11 (memory 11) → ⊥
+or-late m = omega (arith, m.finds)
+
+-- nor leaves only the mask
+or-mask : Moves (memory 9) (Or 0 3) 9 (memory 3) → ⊥
+or-mask m = let words = m.writes in cc
+
+-- a mask turns off what it lacks
+and-moves : Moves (memory 9) (And 0 3) 9 (memory 1)
+and-moves = record { within = omega arith; finds = refl; writes = refl; kept = refl }
+
+-- not what it has
+and-without : Moves (memory 9) (And 0 3) 9 (memory 8) → ⊥
+and-without m = let words = m.writes in cc
+
+-- a whole word is turned off, and 0 is found
+zero-moves : Moves (memory 9) (Zero 0) 0 (memory 0)
+zero-moves = record { within = omega arith; finds = refl; writes = refl; kept = refl }
+
+-- the word isn't found
+zero-finds : Moves (memory 9) (Zero 0) 9 (memory 0) → ⊥
+zero-finds m = omega (arith, m.finds)
+
+-- the other filter's word is found
+other-moves : Moves (memory 9) (Other 0) 5 (memory 9)
+other-moves = record { within = omega arith; finds = refl; writes = refl; kept = refl }
+
+-- not this one's
+other-own : Moves (memory 9) (Other 0) 9 (memory 9) → ⊥
+other-own m = omega (arith, m.finds)
+
+-- no step changes the other filter's word
+other-kept : Moves (memory 9) (Other 0) 5 (record { words = 9 ∷ []; other = 0 ∷ [] }) → ⊥
+other-kept m = let words = m.kept in cc
+
+-- the steps of a union, one after the other
+union-linked : Linked Moves (memory 0) union (memory 5)
+union-linked = (
+  memory 0,
+  record { within = omega arith; finds = refl; writes = refl; kept = refl },
+  (
+    memory 5,
+    record { within = omega arith; finds = refl; writes = refl; kept = refl },
+    refl,
+  ),
+)
+
+-- they don't leave the words as they were
+union-unlinked : Linked Moves (memory 0) union (memory 0) → ⊥
+union-unlinked link =
+    let first = link.1.writes in
+    let second = link.2.1.writes in
+    let last = link.2.2 in
+    cc
+
+-- what the law on steps in memory says of them
+union-made : MemoryLaw → Makes (memory 0) union (memory 5)
+union-made law = law (memory 0) (memory 5) union union-linked
+
+-- a position that their last decider makes on isn't off
+union-unmade : Makes (memory 0) union (memory 4) → ⊥
+unfolding content
+union-unmade made = let off = made.set 0 in cc
+
+-- no word is added
+union-longer :
+    Makes (memory 0) union (record { words = 5 ∷ 0 ∷ []; other = 5 ∷ [] }) → ⊥
+union-longer made = omega (arith, made.count)
+
+-- the other filter's words stay
+union-other : Makes (memory 0) union (record { words = 5 ∷ []; other = 0 ∷ [] }) → ⊥
+union-other made = let words = made.other_stays in cc
+
+-- a drive of a union
+union-drives : Drives Moves 1 2 Union (memory 0) (memory 5) None
+union-drives = record {
+  taken = union;
+  script = union-script;
+  linked = union-linked;
+  count = refl;
+  answers = refl;
+}
+
+-- it answers nothing
+union-answers : Drives Moves 1 2 Union (memory 0) (memory 5) (Some true) → ⊥
+union-answers d =
+    let count = d.script.count in
+    let last = some_member d.taken 1 (omega (arith, count)) in
+    let answer = answer_of-last d.taken 1 last.0 last.1 (sym count) in
+    let done = d.script.last 1 last.0 last.1 (sym count) in
+    let says = d.answers in
+    cc
+
+-- a drive of a clear
+clear-drives : Drives Moves 1 2 Clear (memory 9) (memory 0) None
+clear-drives = record {
+  taken = took (Zero 0) 0 Done ∷ [];
+  script = record {
+    count = refl;
+    steps = each-member _ (took (Zero 0) 0 Done ∷ []) (refl, tt);
+    stops = tt;
+    running = each-member _ (took (Zero 0) 0 Done ∷ []) ((λ l. absurd (omega (arith, l))), tt);
+    last = each-member _ (took (Zero 0) 0 Done ∷ []) ((λ l. refl), tt);
+  };
+  linked = (memory 0, zero-moves, refl);
+  count = refl;
+  answers = refl;
+}
+
+-- it makes the steps
+clear-idle : Drives Moves 1 2 Clear (memory 9) (memory 9) None → ⊥
+clear-idle d = made d.taken d.script.count (λ t g. d.script.steps 0 t g) d.linked
+  where
+    made : (s : List Taken) → length s ≡ 1
+        → ((t : Taken) → slice_get s 0 ≡ Some t → t.step ≡ Zero 0)
+        → Linked Moves (memory 9) s (memory 9) → ⊥
+    made [] count steps link = omega (arith, count)
+    made (t ∷ []) count steps link =
+        let step = steps t refl in
+        let writes = link.1.writes ∙ ap (words_after (9 ∷ [])) step in
+        let last = link.2 in
+        cc
+    made (t ∷ (u ∷ s)) count steps link = omega (arith, count)

@@ -1,0 +1,42 @@
+-- Many items of an iterator, each inserted into a filter that threads share.
+use Rattle.std.proofs.Common.{◌≡◌, ℕ, zero, suc, arith, List, [], ◌∷◌, ◌++◌, Bool, map, sym, subst, Option, None}
+use Rattle.std.specs.List.{All}
+use Rattle.std.specs.Iterator.{Yields}
+use Rattle.std.specs.Iterator.Runs.{WholeRun}
+use Rattle.std.proofs.iter.runs.Made.{run_of_exit}
+use Rattle.std.proofs.lemmas.List.{map-append}
+use Rattle.std.proofs.lemmas.List.Elements.{All-append}
+use Rattle.fastbloom.specs.Shared.{SharedFilter, MakesInsert, MakesInserts}
+
+-- what holds of one element holds of a list of it
+all-one : {X : Type 0} (P : X → Type 0) (x : X) → P x → All P (x ∷ [])
+all-one P x holds zero d within = holds
+all-one P x holds (suc k) d within = absurd (omega (arith, within))
+
+module _ {S T : Type 0} (hash_of : S → T → ℕ) (f : SharedFilter S) where
+  -- a hash was inserted, whatever the reply
+  abbrev WasInserted : ℕ → Type 0
+  WasInserted hash = (reply : Bool) × MakesInsert f hash reply
+
+  -- one more item
+  pub made_inserts-next : (items : List T) (item : T) (reply : Bool) → MakesInserts hash_of f items
+      → MakesInsert f (hash_of f.hasher item) reply → MakesInserts hash_of f (items ++ item ∷ [])
+  made_inserts-next items item reply did next =
+      subst (All WasInserted) (sym (map-append (hash_of f.hasher) items (item ∷ [])))
+      (All-append WasInserted (map (hash_of f.hasher) items) (hash_of f.hasher item ∷ []) did
+      (all-one WasInserted (hash_of f.hasher item) (reply, next)))
+
+  -- when the iterator has ended, those were all its items
+  pub made_inserts-whole : {I : Type 0} (steps : I → Option T → I → Type 0) (start last end : I)
+      (items : List T) → Yields steps start items last → steps last None end
+      → MakesInserts hash_of f items → WholeRun steps start (λ run. MakesInserts hash_of f run.items)
+  made_inserts-whole steps start last end items came ended did =
+      let made = run_of_exit steps start items last came end ended in
+      (made.0, made.1, made.2, subst (MakesInserts hash_of f) (sym made.3.0) did)
+
+  -- what was inserted from an iterator was inserted from one that equals it
+  pub made_inserts-same : {I : Type 0} (steps : I → Option T → I → Type 0) (it : I)
+      → (same : I) × (same ≡ it) × WholeRun steps same (λ run. MakesInserts hash_of f run.items)
+      → WholeRun steps it (λ run. MakesInserts hash_of f run.items)
+  made_inserts-same steps it all =
+      subst (λ i. WholeRun steps i (λ run. MakesInserts hash_of f run.items)) all.1 all.2

@@ -1,0 +1,18 @@
+use Rattle.fastbloom.specs.SourceHash.{source_hash_of}
+use Rattle.fastbloom.proofs.InsertedLemmas.{made_inserts-next, made_inserts-whole}
+use Rattle.fastbloom.proofs.atomic.AtomicBloomFilter.extend.Goals as goal
+
+pub given-preserved : goal.given-preserved
+given-preserved g c =
+    made_inserts-next (source_hash_of g.S.BuildHasher g.S.Hasher.Hasher g.T.Hash.hash_input)
+    _ c.given.yielded _ _ c.given.invariant c.insert.ensures.made
+
+pub returns : goal.returns
+returns g c =
+    let it = c.into_iter-item-iterator in (
+      it.result,
+      it.ensures.into_iter_gives,
+      made_inserts-whole (source_hash_of g.S.BuildHasher g.S.Hasher.Hasher g.T.Hash.hash_input)
+          _ g.I.IntoIter.Iterator.next_gives _ _ _ c.given.yielded
+          c.given.yielded_by c.in-None.ensures.steps c.given.invariant,
+    )

@@ -1,0 +1,20 @@
+use Rattle.std.proofs.Common.{ap, subst, arith, rules}
+use Rattle.bloom_parts.specs.Made.{FoundByLoad}
+use Rattle.fastbloom.proofs.ReadingLemmas.{below-next}
+use Rattle.fastbloom.proofs.atomic.AtomicBloomFilter.same_words.Goals as goal
+
+pub words-preserved : goal.words-preserved
+words-preserved g c =
+    let at = c.words.word in
+    let here = subst (λ f. FoundByLoad f.words at c.load.result) c.self.view_is c.load.ensures in
+    let there = subst (λ f. FoundByLoad f.words at c.load-in-words.result) c.other.view_is c.load-in-words.ensures in
+    below-next _ at c.words.invariant (c.load.result, here, subst (FoundByLoad _ at) (search rules) there)
+
+pub returns : goal.returns
+returns g c =
+    let count = ap (λ f. f.words.count) c.self.view_is in
+    record {
+      shape = c.same_shape.ensures.0 c.if-not-same_shape.false;
+      words = λ i within. c.words.invariant i
+          (omega (arith, within, count, c.len-word-end.ensures.value, c.words-test.false));
+    }

@@ -1,0 +1,74 @@
+-- What contracts see of a filter that threads share, and of which steps its calls are made. Its words
+-- aren't seen, since any thread may change them. This project's own.
+use Rattle.std.specs.Prelude.{◌≡◌, ◌≢◌, ℕ, ◌<◌, Bool, List, length, map, All, Option, Some}
+use Rattle.bloom_parts.specs.Made.{SharedWords, FoundByLoad, FoundByOr, FoundByAnd, MadeZero}
+use Rattle.fastbloom.specs.Builders.{RateStart, IsSizeOf, sized_filter, empty_start}
+use Rattle.fastbloom.specs.Filter.{Filter}
+use Rattle.bloom_steps.specs.declared.steps.vocabulary.Step.{Step}
+use Rattle.bloom_steps.specs.declared.steps.vocabulary.Step.TheVariants.{Load, Or, And, Zero, Other}
+use Rattle.bloom_steps.specs.declared.steps.vocabulary.Call.{Call}
+use Rattle.bloom_steps.specs.declared.steps.vocabulary.Call.TheVariants.{Insert}
+use Rattle.bloom_steps.specs.Scripts.{Taken, Each, IsScript, answer_of}
+
+-- the vector of the words, the number of hashes, and the hasher
+pub record SharedFilter (S : Type 0) : Type 0 where
+  pub words : SharedWords
+  pub hashes : ℕ
+  pub hasher : S
+
+-- as many words and as many hashes
+pub record HaveSameShape {S : Type 0} (f g : SharedFilter S) : Type 0 where
+  pub words : f.words.count ≡ g.words.count
+  pub hashes : f.hashes ≡ g.hashes
+
+-- a shared filter has the number of words, the number of hashes and the hasher of a plain one
+pub record HasFormOf {S : Type 0} (f : SharedFilter S) (plain : Filter S) : Type 0 where
+  pub words : f.words.count ≡ length plain.words
+  pub hashes : f.hashes ≡ plain.hashes
+  pub hasher : f.hasher ≡ plain.hasher
+
+-- it has those of the filter for these items at the rate of a builder
+abbrev pub HasFormFor : {S : Type 0} → RateStart S → ℕ → SharedFilter S → Type 0
+HasFormFor start items f =
+    (bits : ℕ) × IsSizeOf start items bits
+    × HasFormOf f (sized_filter (empty_start start bits) items)
+
+-- a step was made on a vector, or on the other where it reads the other's word, and found this
+abbrev pub IsMade : SharedWords → SharedWords → Step → ℕ → Type 0
+IsMade words other (Load i) found = FoundByLoad words i found
+IsMade words other (Or i mask) found = FoundByOr words i mask found
+IsMade words other (And i mask) found = FoundByAnd words i mask found
+IsMade words other (Zero i) found = MadeZero words i × (found ≡ 0)
+IsMade words other (Other i) found = FoundByLoad other i found
+
+-- a call was made: the steps of a whole script of it on the words of a filter, and the script's
+-- answer given
+pub record MakesCall {S : Type 0} (f other : SharedFilter S) (call : Call) (reply : Option Bool) : Type 0 where
+  pub taken : List Taken
+  pub script : IsScript f.words.count f.hashes call taken
+  pub made : Each taken (λ i t. IsMade f.words other.words t.step t.found)
+  pub answers : reply ≡ answer_of taken
+
+-- a hash was inserted, and this was the reply
+abbrev pub MakesInsert : {S : Type 0} → SharedFilter S → ℕ → Bool → Type 0
+MakesInsert f hash reply = MakesCall f f (Insert hash) (Some reply)
+
+-- each item of a list was inserted by its hash under the hasher
+abbrev pub MakesInserts : {S T : Type 0} → (S → T → ℕ) → SharedFilter S → List T → Type 0
+MakesInserts hash_of f items =
+    All (λ hash. (reply : Bool) × MakesInsert f hash reply) (map (hash_of f.hasher) items)
+
+-- filters of one shape, of which each word that was loaded of the one equals that of the other
+pub record WereFoundAlike {S : Type 0} (f g : SharedFilter S) : Type 0 where
+  pub shape : HaveSameShape f g
+  pub words : (i : ℕ) → i < f.words.count
+      → (found : ℕ) × FoundByLoad f.words i found × FoundByLoad g.words i found
+
+-- filters of one shape, and a word that was loaded of the one and differs from that of the other
+pub record WereFoundToDiffer {S : Type 0} (f g : SharedFilter S) : Type 0 where
+  pub index : ℕ
+  pub found : ℕ
+  pub other : ℕ
+  pub here : FoundByLoad f.words index found
+  pub there : FoundByLoad g.words index other
+  pub differ : found ≢ other

@@ -1,0 +1,95 @@
+//! The Bloom filter that threads share, and change without waiting for one another.
+ghost use Rattle.std.specs.Prelude.{◌≡◌, ◌*◌, ◌≤◌, max, Some};
+ghost use Rattle.bloom_steps.specs.declared.steps.vocabulary.Call.TheVariants.{Contains};
+ghost use Rattle.fastbloom.specs.Shared.{MakesCall, MakesInsert};
+
+mod items;
+mod live_store;
+mod sets;
+mod words;
+
+use bloom_parts::bit_vector::AtomicBitVec;
+use bloom_parts::hasher::DefaultHasher;
+use bloom_steps::{Call, drive};
+use live_store::LiveStore;
+use std::marker::Model;
+
+/// A Bloom filter that threads share: each call takes `&self`, and none waits for another.
+///
+/// Contracts see the vector of its words, its number of hashes and its hasher. Each call is made of
+/// atomic operations on single words, so calls of several threads may come between one another's.
+#[derive(Debug, Drop)]
+pub struct AtomicBloomFilter<S = DefaultHasher> {
+    words: AtomicBitVec,
+    num_hashes: u32,
+    hasher: S,
+}
+
+impl<S> Model for AtomicBloomFilter<S> {
+    ghost use Rattle.std.specs.Prelude.{◌≤◌, ◌<◌, ◌^◌};
+    ghost use Rattle.fastbloom.specs.Shared.{SharedFilter};
+
+    ghost Value = { SharedFilter S };
+
+    ghost view = { λ f. record { words = f.words; hashes = f.num_hashes; hasher = f.hasher } };
+
+    ghost invariant = { λ f. (1 ≤ f.num_hashes) × (f.num_hashes < 2 ^ 32) };
+}
+
+impl<S> AtomicBloomFilter<S> {
+    // The filter of these parts. No hashes count as one.
+    pub(crate) fn from_parts(words: AtomicBitVec, num_hashes: u32, hasher: S) -> Self
+        ensures words { result.words ≡ words }
+        ensures hashes { result.hashes ≡ max 1 num_hashes }
+        ensures hasher { result.hasher ≡ hasher }
+    {
+        AtomicBloomFilter {
+            words,
+            num_hashes: num_hashes.max(1),
+            hasher,
+        }
+    }
+
+    // Makes all steps of a call, in order, and gives the call's answer.
+    fn make(&self, other: &Self, call: Call) -> Option<bool>
+        requires { other.now.words.count ≡ self.now.words.count }
+        ensures made { MakesCall self.now other.now call result }
+        ensures hashes { 1 ≤ self.now.hashes }
+    {
+        let mut store = LiveStore::new(&self.words, &other.words);
+        drive(&mut store, call, self.num_hashes)
+    }
+
+    /// The number of hashes, and so of positions of each hash, which may coincide.
+    pub fn num_hashes(&self) -> u32
+        ensures value { result ≡ self.now.hashes }
+        ensures least { 1 ≤ result }
+    {
+        self.num_hashes
+    }
+
+    /// The number of bits, 64 for each word.
+    pub fn num_bits(&self) -> usize
+        ensures value { result ≡ 64 * self.now.words.count }
+        ensures least { 64 ≤ result }
+    {
+        self.words.num_bits()
+    }
+
+    /// Turns on all positions of a hash, and answers whether its own steps found all of them on.
+    pub fn insert_hash(&self, hash: u64) -> bool
+        ensures { MakesInsert self.now hash result }
+    {
+        self.make(self, Call::Insert(hash)).unwrap_or(false)
+    }
+
+    /// Whether all positions of a hash were found on, one after the other.
+    ///
+    /// It stops at the first that is off. While other threads turn positions off, those found on may
+    /// never have been on together.
+    pub fn contains_hash(&self, hash: u64) -> bool
+        ensures { MakesCall self.now self.now (Contains hash) (Some result) }
+    {
+        self.make(self, Call::Contains(hash)).unwrap_or(false)
+    }
+}

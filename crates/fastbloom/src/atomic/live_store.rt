@@ -1,0 +1,63 @@
+//! The words of filters that threads share, as a store of steps.
+ghost use Rattle.fastbloom.specs.LiveStore.{MakesStep};
+
+use bloom_parts::bit_vector::AtomicBitVec;
+use bloom_steps::{Step, WordStore};
+use std::marker::Model;
+
+// Lends the words of one filter, and those of the other, which may be the same.
+#[derive(Drop)]
+pub(super) struct LiveStore<'a> {
+    words: &'a AtomicBitVec,
+    other: &'a AtomicBitVec,
+}
+
+impl<'a> Model for LiveStore<'a> {
+    ghost use Rattle.std.specs.Prelude.{◌≡◌};
+    ghost use Rattle.fastbloom.specs.LiveStore.{Lent};
+
+    ghost Value = { Lent };
+
+    ghost view = { λ s. record { words = s.words.now; other = s.other.now } };
+
+    ghost invariant = { λ s. s.other.now.count ≡ s.words.now.count };
+}
+
+impl<'a> LiveStore<'a> {
+    ghost use Rattle.std.specs.Prelude.{◌≡◌};
+
+    // The store of these words, as many of both.
+    pub(super) fn new(words: &'a AtomicBitVec, other: &'a AtomicBitVec) -> Self
+        requires { other.now.count ≡ words.now.count }
+        ensures words { result.words ≡ words.now }
+        ensures other { result.other ≡ other.now }
+    {
+        LiveStore { words, other }
+    }
+}
+
+impl<'a> WordStore for LiveStore<'a> {
+    ghost count = { λ s. s.words.count };
+
+    ghost moved = { MakesStep };
+
+    #[inline]
+    fn num_words(&self) -> usize {
+        self.words.len()
+    }
+
+    // Each step is one atomic operation.
+    #[inline]
+    fn step(&mut self, step: Step) -> u64 {
+        match step {
+            Step::Load(word) => self.words.load(word),
+            Step::Or(word, mask) => self.words.fetch_or(word, mask),
+            Step::And(word, mask) => self.words.fetch_and(word, mask),
+            Step::Zero(word) => {
+                self.words.store_zero(word);
+                0
+            }
+            Step::Other(word) => self.other.load(word),
+        }
+    }
+}

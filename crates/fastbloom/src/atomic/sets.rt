@@ -1,0 +1,56 @@
+//! Shared filters as sets: calls on all of a filter, or on two filters.
+ghost use Rattle.std.specs.Prelude.{◌↔◌, None, IsTrue};
+ghost use Rattle.bloom_steps.specs.declared.steps.vocabulary.Call.TheVariants as call;
+ghost use Rattle.fastbloom.specs.Shared.{HaveSameShape, MakesCall};
+
+use super::AtomicBloomFilter;
+use bloom_steps::Call;
+
+impl<S> AtomicBloomFilter<S> {
+    /// Turns every position off, one word after the other.
+    pub fn clear(&self)
+        ensures { MakesCall self.now self.now call.Clear None }
+    {
+        self.make(self, Call::Clear);
+    }
+
+    /// Whether numbers of words and of hashes are equal. The hashers aren't looked at.
+    pub fn same_shape(&self, other: &Self) -> bool
+        ensures { IsTrue result ↔ HaveSameShape self.now other.now }
+    {
+        self.words.len() == other.words.len() && self.num_hashes == other.num_hashes
+    }
+
+    /// Turns on what is found on in the other, one word after the other. The hashers aren't looked
+    /// at. A filter may be its own other.
+    ///
+    /// ```
+    /// bloom.insert_hash(1);
+    /// other.insert_hash(2);
+    /// bloom.union(&other);
+    /// // bloom contains 1 and 2
+    /// ```
+    pub fn union(&self, other: &Self)
+        requires { HaveSameShape self.now other.now }
+        ensures { MakesCall self.now other.now call.Union None }
+    {
+        self.make(other, Call::Union);
+    }
+
+    /// Turns off what is found off in the other, one word after the other. The hashers aren't looked
+    /// at. A filter may be its own other.
+    ///
+    /// ```
+    /// bloom.insert_hash(1);
+    /// bloom.insert_hash(2);
+    /// other.insert_hash(2);
+    /// bloom.intersect(&other);
+    /// // bloom contains 2
+    /// ```
+    pub fn intersect(&self, other: &Self)
+        requires { HaveSameShape self.now other.now }
+        ensures { MakesCall self.now other.now call.Intersect None }
+    {
+        self.make(other, Call::Intersect);
+    }
+}

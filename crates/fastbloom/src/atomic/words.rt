@@ -1,0 +1,75 @@
+//! The words of a shared filter, each as it is read.
+ghost use Rattle.std.specs.Prelude.{◌≡◌, ◌⊎◌, ◌+◌, ◌*◌, ◌≤◌, IfOk, IsOkUnless};
+ghost use Rattle.std.specs.Bool.{MatchBool};
+ghost use Rattle.bloom_parts.specs.Brackets.{low_of, high_of, width_of, HoldsRate, rate_low, rate_high};
+ghost use Rattle.fastbloom.specs.Shared.{HaveSameShape, WereFoundAlike, WereFoundToDiffer};
+
+use super::AtomicBloomFilter;
+use crate::bloom::expected_rate;
+use bloom_parts::bit_vector::{AtomicBitVec, AtomicWords};
+use bloom_parts::error::FilterError;
+use bloom_parts::math::Bracket;
+use std::alloc::Global;
+
+impl<S> AtomicBloomFilter<S> {
+    /// An iterator over the words, word 0 first, which loads each when it is asked for it.
+    pub fn iter(&self) -> AtomicWords<'_>
+        ensures vector { result.vector ≡ self.now.words }
+        ensures next { result.next ≡ 0 }
+    {
+        self.words.iter()
+    }
+
+    /// Whether numbers of words and of hashes are equal, and the words as they were loaded, one after
+    /// the other up to the first that differ. The hashers aren't looked at.
+    pub fn same_words(&self, other: &Self) -> bool
+        ensures { MatchBool result (WereFoundAlike self.now other.now)
+            ((HaveSameShape self.now other.now → ⊥) ⊎ WereFoundToDiffer self.now other.now) }
+    {
+        if !self.same_shape(other) {
+            return false;
+        }
+        'words: for word in 0..self.words.len() {
+            if self.words.load(word) != other.words.load(word) {
+                return false;
+            }
+        }
+        true
+    }
+
+    /// The rate of false positives to expect once `num_items` items are in the filter.
+    pub fn expected_false_pos(&self, num_items: usize) -> Bracket
+        ensures holds { let k = self.now.hashes in
+            HoldsRate result (64 * self.now.words.count) (k * num_items) k }
+        // The ends are exact.
+        ensures low { let k = self.now.hashes in
+            low_of result ≡ rate_low (64 * self.now.words.count) (k * num_items) k }
+        ensures high { let k = self.now.hashes in
+            high_of result ≡ rate_high (64 * self.now.words.count) (k * num_items) k }
+        ensures width { let k = self.now.hashes in width_of result ≤ 2 * (k * num_items) * k }
+    {
+        expected_rate(self.num_hashes, self.num_bits(), num_items)
+    }
+}
+
+impl<S: Clone> AtomicBloomFilter<S> {
+    /// A filter of the same shape with the words as they were loaded, one after the other, and the
+    /// clone of the hasher.
+    ///
+    /// # Errors
+    /// `Memory` where there is no room for the words, or none for the clone of the hasher.
+    pub fn try_clone(&self, alloc: Global) -> Result<Self, FilterError>
+        ensures words { IfOk result (λ copy. copy.words.count ≡ self.now.words.count) }
+        ensures hashes { IfOk result (λ copy. copy.hashes ≡ self.now.hashes) }
+        ensures hasher { IfOk result (λ copy. S.is_clone self.now.hasher copy.hasher) }
+        ensures refused { IsOkUnless result FilterError.Memory }
+    {
+        let words = AtomicBitVec::from_words(alloc, self.words.iter())?;
+        let hasher = self.hasher.clone()?;
+        Ok(AtomicBloomFilter {
+            words,
+            num_hashes: self.num_hashes,
+            hasher,
+        })
+    }
+}
