@@ -31,7 +31,8 @@ below A B (suc n) same p within =
     let parts = and_parts (same_below A B n) _ same in
     elim (cases_lt p n) [
       | inl less ↦ below A B n parts.0 p less
-      | inr last ↦ (let is : n ≡ p = omega (arith, last, within) in rw is at (one (A n) (B n) parts.1))
+      | inr last ↦ (let is : n ≡ p = omega (arith, last, within) in
+          rw is at (one (A n) (B n) parts.1))
     ]
   where
     one : (a b : Bool) → cond a b (not b) ≡ true → a ≡ b
@@ -43,7 +44,8 @@ below A B (suc n) same p within =
 past_word : (word p : ℕ) → 64 ≤ p → content (word ∷ []) p ≡ false
 unfolding content
 past_word word p far =
-    ap (λ w. bit_is_on w p) (get_or_past (word ∷ []) (p / 64) 0 (omega arith)) ∙ ap (λ d. eqb d 1) (bit_at-zero (p % 64))
+    ap (λ w. bit_is_on w p) (get_or_past (word ∷ []) (p / 64) 0 (omega arith))
+    ∙ ap (λ d. eqb d 1) (bit_at-zero (p % 64))
 
 -- the positions of hash 1 are 0, 20 and 32
 past_positions : (p : ℕ) → 64 ≤ p → positions 64 3 1 p ≡ false
@@ -61,7 +63,8 @@ zeros = record { words = 0 ∷ []; hashes = 3; hasher = tt }
 abbrev pub with_one : Filter (Unit {0})
 with_one = record { words = 0x1_0010_0001 ∷ []; hashes = 3; hasher = tt }
 
-below_64 : same_below (content (0x1_0010_0001 ∷ [])) (state_after 64 3 (content (0 ∷ [])) (command.Insert 1 ∷ [])) 64 ≡ true
+below_64 : same_below (content (0x1_0010_0001 ∷ []))
+    (state_after 64 3 (content (0 ∷ [])) (command.Insert 1 ∷ [])) 64 ≡ true
 unfolding content positions chain
 below_64 = refl
 
@@ -70,10 +73,12 @@ inserted : CarriesOut zeros (command.Insert 1 ∷ []) with_one (false ∷ [])
 unfolding content chain are_in
 inserted = record {
   bits = λ p. elim (cases_lt p 64) [
-    | inl within ↦ below (content (0x1_0010_0001 ∷ [])) (state_after 64 3 (content (0 ∷ [])) (command.Insert 1 ∷ [])) 64 below_64 p within
+    | inl within ↦ below (content (0x1_0010_0001 ∷ []))
+        (state_after 64 3 (content (0 ∷ [])) (command.Insert 1 ∷ [])) 64 below_64 p within
     | inr far ↦ (
         past_word 0x1_0010_0001 p far
-        ∙ sym (ap (λ b. unwrap_or (option_or None (cond b (Some true) None)) (content (0 ∷ []) p)) (past_positions p far)
+        ∙ sym (ap (λ b. unwrap_or (option_or None (cond b (Some true) None)) (content (0 ∷ []) p))
+        (past_positions p far)
         ∙ past_word 0 p far))
   ];
   answers = refl;
@@ -86,21 +91,26 @@ pub carried : Carried zeros with_one (Some []) (Some (codes "false\n")) (Insert 
 carried = record { given = false ∷ []; filter = inserted; text = refl }
 
 -- not if another reply was written
-pub carried-text : (lines : List Line) → lines ≡ Insert 1 ∷ [] → Carried zeros with_one (Some []) (Some (codes "true\n")) lines → ⊥
+pub carried-text : (lines : List Line) → lines ≡ Insert 1 ∷ []
+    → Carried zeros with_one (Some []) (Some (codes "true\n")) lines → ⊥
 unfolding chain are_in content
 carried-text lines is did =
-    let given : did.given ≡ false ∷ [] = did.filter.answers ∙ ap (λ l. replies 64 3 (content (0 ∷ [])) (operations l)) is in
+    let given : did.given ≡ false ∷ [] = did.filter.answers
+    ∙ ap (λ l. replies 64 3 (content (0 ∷ [])) (operations l)) is in
     let text : codes "true\n" ≡ codes "false\n" = rw (is, given) at did.text in
     cc
 
 -- nor if the filter stayed as it was
-pub carried-bits : (lines : List Line) → lines ≡ Insert 1 ∷ [] → Carried zeros zeros (Some []) (Some (codes "false\n")) lines → ⊥
+pub carried-bits : (lines : List Line) → lines ≡ Insert 1 ∷ []
+    → Carried zeros zeros (Some []) (Some (codes "false\n")) lines → ⊥
 unfolding content positions chain
 carried-bits lines is did =
-    both_ways (content (0 ∷ []) 0) refl (did.filter.bits 0 ∙ ap (λ l. state_after 64 3 (content (0 ∷ [])) (operations l) 0) is)
+    both_ways (content (0 ∷ []) 0) refl
+    (did.filter.bits 0 ∙ ap (λ l. state_after 64 3 (content (0 ∷ [])) (operations l) 0) is)
 
 -- the replies and the words of five lines
-text : text_of 1 3 (content (0 ∷ [])) (Insert 1 ∷ Words ∷ Clear ∷ Words ∷ Contains 1 ∷ []) (false ∷ false ∷ [])
+text : text_of 1 3 (content (0 ∷ [])) (Insert 1 ∷ Words ∷ Clear ∷ Words ∷ Contains 1 ∷ [])
+    (false ∷ false ∷ [])
     ≡ codes "false\n0000000100100001\n0000000000000000\nfalse\n"
 unfolding content positions chain word_with_bits words_with_content hex_text
 text = refl

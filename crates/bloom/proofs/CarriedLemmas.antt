@@ -25,7 +25,8 @@ module _ (w k : ℕ) (A : ℕ → Bool) where
   module _ (line : Line) (reply : List Bool) where
     -- one more line's text comes after that of the lines, whatever commands came before them
     text_after-more : (before : List Operation) (earlier lines : List Line)
-        → text_after w k A earlier (lines ++ line ∷ []) (replies_after (64 * w) k A before (operations lines) ++ reply)
+        → text_after w k A earlier (lines ++ line ∷ [])
+        (replies_after (64 * w) k A before (operations lines) ++ reply)
         ≡ text_after w k A earlier lines (replies_after (64 * w) k A before (operations lines))
         ++ text_after w k A (earlier ++ lines) (line ∷ []) reply
     text_after-more before earlier [] =
@@ -33,11 +34,14 @@ module _ (w k : ℕ) (A : ℕ → Bool) where
     text_after-more before earlier (Insert hash ∷ lines) =
         join (reply_text (are_in (64 * w) k hash (state_after (64 * w) k A before))) _ _ _ _
         (text_after-more (before ++ command.Insert hash ∷ []) (earlier ++ Insert hash ∷ []) lines)
-        (ap (λ e. text_after w k A e (line ∷ []) reply) (append_assoc earlier (Insert hash ∷ []) lines))
+        (ap (λ e. text_after w k A e (line ∷ []) reply)
+        (append_assoc earlier (Insert hash ∷ []) lines))
     text_after-more before earlier (Contains hash ∷ lines) =
         join (reply_text (are_in (64 * w) k hash (state_after (64 * w) k A before))) _ _ _ _
-        (text_after-more (before ++ command.Contains hash ∷ []) (earlier ++ Contains hash ∷ []) lines)
-        (ap (λ e. text_after w k A e (line ∷ []) reply) (append_assoc earlier (Contains hash ∷ []) lines))
+        (text_after-more (before ++ command.Contains hash ∷ []) (earlier ++ Contains hash ∷ [])
+        lines)
+        (ap (λ e. text_after w k A e (line ∷ []) reply)
+        (append_assoc earlier (Contains hash ∷ []) lines))
     text_after-more before earlier (Clear ∷ lines) =
         join [] _ _ _ _
         (text_after-more (before ++ command.Clear ∷ []) (earlier ++ Clear ∷ []) lines)
@@ -48,7 +52,8 @@ module _ (w k : ℕ) (A : ℕ → Bool) where
         (ap (λ e. text_after w k A e (line ∷ []) reply) (append_assoc earlier (Words ∷ []) lines))
 
 -- a line's text speaks of the content before it, whichever lines made it
-text_of-line : (w k : ℕ) (A : ℕ → Bool) (lines : List Line) (j : ℕ) (B : ℕ → Bool) (line : Line) (reply : List Bool)
+text_of-line : (w k : ℕ) (A : ℕ → Bool) (lines : List Line) (j : ℕ) (B : ℕ
+    → Bool) (line : Line) (reply : List Bool)
     → B ≡ state_after (64 * w) k A (operations lines)
     → text_of w j B (line ∷ []) reply ≡ text_after w k A lines (line ∷ []) reply
 text_of-line w k A lines j B (Insert hash) [] same = refl
@@ -56,7 +61,8 @@ text_of-line w k A lines j B (Insert hash) (r ∷ rs) same = refl
 text_of-line w k A lines j B (Contains hash) [] same = refl
 text_of-line w k A lines j B (Contains hash) (r ∷ rs) same = refl
 text_of-line w k A lines j B Clear reply same = refl
-text_of-line w k A lines j B Words reply same = ap (λ C. words_text (words_with_content C w) ++ []) same
+text_of-line w k A lines j B Words reply same =
+    ap (λ C. words_text (words_with_content C w) ++ []) same
 
 -- no line was carried out yet
 pub Carried-nil : {S : Type 0} (f : Filter S) (o : Option (List ℕ)) → Carried f f o o []
@@ -72,29 +78,36 @@ Carried-nil f o = record {
 }
 
 -- one more line was carried out
-module _ {S : Type 0} (joins : JoinedListsLaw S) (f g h : Filter S) (o p q : Option (List ℕ)) (lines : List Line) (line : Line)
+module _ {S : Type 0} (joins : JoinedListsLaw S) (f g h : Filter S) (o p q : Option (List ℕ))
+    (lines : List Line) (line : Line)
     (so_far : Carried f g o p lines) (one : Carried g h p q (line ∷ [])) where
   -- its text comes after that of the lines
   text-more : text_of (length f.words) f.hashes (content f.words) lines so_far.given
       ++ text_of (length g.words) g.hashes (content g.words) (line ∷ []) one.given
-      ≡ text_of (length f.words) f.hashes (content f.words) (lines ++ line ∷ []) (so_far.given ++ one.given)
+      ≡ text_of (length f.words) f.hashes (content f.words) (lines ++ line ∷ [])
+      (so_far.given ++ one.given)
   text-more =
       let w = length f.words in
       let k = f.hashes in
       let A = content f.words in
-      let B : content g.words ≡ state_after (64 * w) k A (operations lines) = λ i p. so_far.filter.bits p i in
+      let B : content g.words ≡ state_after (64 * w) k A (operations lines) =
+      λ i p. so_far.filter.bits p i in
       ap (λ t. text_of w k A lines so_far.given ++ t)
-      (ap (λ n. text_of n g.hashes (content g.words) (line ∷ []) one.given) (sym so_far.filter.shape.words)
+      (ap (λ n. text_of n g.hashes (content g.words) (line ∷ []) one.given)
+      (sym so_far.filter.shape.words)
       ∙ text_of-line w k A lines g.hashes (content g.words) line one.given B)
-      ∙ ap (λ r. text_of w k A lines r ++ text_after w k A lines (line ∷ []) one.given) so_far.filter.answers
+      ∙ ap (λ r. text_of w k A lines r ++ text_after w k A lines (line ∷ []) one.given)
+      so_far.filter.answers
       ∙ sym (text_after-more w k A line one.given [] [] lines)
       ∙ ap (λ r. text_of w k A (lines ++ line ∷ []) (r ++ one.given)) (sym so_far.filter.answers)
 
+  -- what the line did comes after what the lines did
   pub Carried-more : Carried f h o q (lines ++ line ∷ [])
   Carried-more = record {
     given = so_far.given ++ one.given;
     filter =
-        subst (λ l. CarriesOut f l h (so_far.given ++ one.given)) (sym (filter_map-append operation_of_line lines (line ∷ [])))
+        subst (λ l. CarriesOut f l h (so_far.given ++ one.given))
+        (sym (filter_map-append operation_of_line lines (line ∷ [])))
         (joins f g h _ _ so_far.given one.given so_far.filter one.filter);
     text = subst (Appends o q) text-more (Appends-trans o p q _ _ so_far.text one.text);
   }

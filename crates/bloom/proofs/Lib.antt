@@ -1,5 +1,6 @@
 mod CarriedFacts
 mod CarriedLemmas
+mod HexLemmas
 mod LineFacts
 mod LineLemmas
 mod NumberLemmas

@@ -144,12 +144,14 @@ replies_as_text : reply_text true ++ reply_text false ≡ codes "true\nfalse\n"
 replies_as_text = refl
 
 -- the words of a content, word 0 first and bit 0 the lowest
-words_back : words_with_content (content (5 ∷ 0x8000_0800_0000_0000 ∷ [])) 2 ≡ 5 ∷ 0x8000_0800_0000_0000 ∷ []
+words_back : words_with_content (content (5 ∷ 0x8000_0800_0000_0000 ∷ [])) 2
+    ≡ 5 ∷ 0x8000_0800_0000_0000 ∷ []
 unfolding content words_with_content word_with_bits
 words_back = refl
 
 -- the status of each fault
-statuses : status_of fault.Usage ∷ status_of (fault.Line 7) ∷ status_of fault.Memory ∷ status_of fault.Input ∷ status_of fault.Output ∷ []
+statuses : status_of fault.Usage ∷ status_of (fault.Line 7) ∷ status_of fault.Memory ∷ status_of
+    fault.Input ∷ status_of fault.Output ∷ []
     ≡ 2 ∷ 2 ∷ 3 ∷ 4 ∷ 4 ∷ []
 statuses = refl
 

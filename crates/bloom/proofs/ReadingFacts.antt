@@ -1,4 +1,5 @@
--- What reading a line takes: of each relation a case that holds, and one as near as can be that doesn't.
+-- What reading a line takes: of each relation a case that holds, and one as near as can be that
+-- doesn't.
 use Rattle.std.proofs.Common.{◌≡◌, ℕ, ◌+◌, ◌<◌, true, false, List, [], ◌∷◌, ◌++◌, length, get_or, replicate, Option, Some, None, refl, sym, ◌∙◌, ap, subst, arith, inl, inr, ◌⊎◌}
 use Rattle.std.specs.Prelude.{codes}
 use Rattle.std.proofs.lemmas.List.{append_cancel_right}
@@ -83,9 +84,11 @@ takes_line = (codes "i 1\n", refl, refl, inl (IsEnded-line (codes "i 1") refl))
 takes_line-not : TakesLine (Some (codes "i 1\nx\n")) (Some (codes "\nx\n")) (codes "i 1") → ⊥
 unfolding lines_of
 takes_line-not takes =
-    let taken : codes "i 1" ≡ takes.0 = append_cancel_right (codes "i 1") takes.0 (codes "\nx\n") takes.1 in
+    let taken : codes "i 1" ≡ takes.0 =
+    append_cancel_right (codes "i 1") takes.0 (codes "\nx\n") takes.1 in
     elim takes.3 [
-      | inl is ↦ (let cut : lines_of (codes "i 1\nx\n") ≡ codes "i 1" ∷ [] ∷ codes "x" ∷ [] = (rw (sym taken) at is) (codes "\nx\n") in cc)
+      | inl is ↦ (let cut : lines_of (codes "i 1\nx\n") ≡ codes "i 1" ∷ [] ∷ codes "x" ∷ [] =
+          (rw (sym taken) at is) (codes "\nx\n") in cc)
       | inr none ↦ (let left : codes "\nx\n" ≡ [] = none in cc)
     ]
 
@@ -95,7 +98,8 @@ takes_long = (replicate 23 49, refl, refl, omega arith)
 -- not after 22 bytes
 takes_long-not : TakesLong (Some (replicate 24 49)) (Some (49 ∷ 49 ∷ [])) → ⊥
 takes_long-not takes =
-    let taken : replicate 22 49 ≡ takes.0 = append_cancel_right (replicate 22 49) takes.0 (49 ∷ 49 ∷ []) takes.1 in
+    let taken : replicate 22 49 ≡ takes.0 =
+    append_cancel_right (replicate 22 49) takes.0 (49 ∷ 49 ∷ []) takes.1 in
     let count : 22 ≡ length takes.0 = ap length taken in
     omega (arith, count, takes.3)
 
@@ -118,7 +122,8 @@ next_bad-not : NextCommand (Some (codes "w\n")) (Some []) Bad → ⊥
 unfolding lines_of line_of
 next_bad-not next = elim next [
   | inl short ↦ (
-      let taken : codes "w\n" ≡ short.1.0 = append_cancel_right (codes "w\n") short.1.0 [] short.1.1 in
+      let taken : codes "w\n" ≡ short.1.0 =
+      append_cancel_right (codes "w\n") short.1.0 [] short.1.1 in
       let line : codes "w" ∷ [] ≡ short.0 ∷ [] = rw (sym taken) at short.1.2 in
       let text : codes "w" ≡ short.0 = cc in
       let bad : line_of (codes "w") ≡ None = rw (sym text) at short.2 in

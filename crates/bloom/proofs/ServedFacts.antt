@@ -1,4 +1,5 @@
--- What serving promises, at sessions of one and two lines: a case that holds, and near ones that don't.
+-- What serving promises, at sessions of one and two lines: a case that holds, and near ones that
+-- don't.
 use Rattle.std.proofs.Common.{◌≡◌, ℕ, ◌+◌, ◌-◌, ◌^◌, ◌<◌, min, zero, suc, List, [], ◌∷◌, ◌++◌, length, map, replicate, Option, Some, None, refl, sym, ◌∙◌, ap, subst, arith, inl, inr, ◌⊎◌}
 use Rattle.std.specs.Prelude.{codes}
 use Rattle.bloom.specs.declared.engine.line.Line.{Line}
@@ -20,14 +21,18 @@ whole-left lines is = let left : ◌≡◌ {A = Option (List ℕ)} (Some (10 ∷
 whole-bad : (lines : List Line) → IsReadWhole (Some (codes "x\n")) (Some []) lines → ⊥
 unfolding lines_of line_of
 whole-bad [] is = let bad : ◌≡◌ {A = List (Option Line)} (None ∷ []) [] = is.0 in cc
-whole-bad (line ∷ lines) is = let bad : ◌≡◌ {A = List (Option Line)} (None ∷ []) (Some line ∷ map Some lines) = is.0 in cc
+whole-bad (line ∷ lines) is =
+    let bad : ◌≡◌ {A = List (Option Line)} (None ∷ []) (Some line ∷ map Some lines) = is.0 in cc
 
 -- only these lines are good
-whole-lines : (left : Option (List ℕ)) (lines : List Line) → IsReadWhole (Some (codes "i 1\n")) left lines → lines ≡ Insert 1 ∷ []
+whole-lines : (left : Option (List ℕ)) (lines : List Line)
+    → IsReadWhole (Some (codes "i 1\n")) left lines → lines ≡ Insert 1 ∷ []
 unfolding lines_of line_of number_of
-whole-lines left [] is = let good : ◌≡◌ {A = List (Option Line)} (Some (Insert 1) ∷ []) [] = is.0 in cc
+whole-lines left [] is = let good : ◌≡◌ {A = List (Option Line)} (Some (Insert 1) ∷ []) [] = is.0 in
+    cc
 whole-lines left (line ∷ []) is = let good : Some (Insert 1) ∷ [] ≡ Some line ∷ [] = is.0 in cc
-whole-lines left (line ∷ (other ∷ lines)) is = let good : Some (Insert 1) ∷ [] ≡ Some line ∷ Some other ∷ map Some lines = is.0 in cc
+whole-lines left (line ∷ (other ∷ lines)) is =
+    let good : Some (Insert 1) ∷ [] ≡ Some line ∷ Some other ∷ map Some lines = is.0 in cc
 
 -- a bad line was given to its end
 reaches : Reaches (codes "i 1\nx\n") (codes "i 1" ∷ []) (codes "x")
@@ -57,7 +62,8 @@ unfolding lines_of
 reaches-before is = let lines : codes "i 1" ∷ [] ≡ codes "i 1" ∷ is.0 ∷ is.1 = is.2 in cc
 
 -- line 2 is bad, and the first was carried out
-served : ServedUpTo 2 (Some (codes "i 1\nx\n")) (Some []) zeros with_one (Some []) (Some (codes "false\n"))
+served : ServedUpTo 2 (Some (codes "i 1\nx\n")) (Some []) zeros with_one (Some [])
+    (Some (codes "false\n"))
 unfolding lines_of line_of number_of
 served = record {
   lines = Insert 1 ∷ [];
@@ -78,7 +84,8 @@ served = record {
 
 -- the good lines before the bad one are this one alone
 one-line : (good : List (List ℕ)) (bad : List ℕ) (later : List (List ℕ)) (lines : List Line)
-    → codes "i 1" ∷ codes "x" ∷ [] ≡ good ++ bad ∷ later → map line_of good ≡ map Some lines → line_of bad ≡ None
+    → codes "i 1" ∷ codes "x" ∷ [] ≡ good ++ bad ∷ later → map line_of good ≡ map Some lines
+    → line_of bad ≡ None
     → lines ≡ Insert 1 ∷ []
 unfolding line_of number_of
 one-line [] bad later lines cut all is_bad =
@@ -90,35 +97,42 @@ one-line (g ∷ []) bad later [] cut all is_bad =
     cc
 one-line (g ∷ []) bad later (l ∷ []) cut all is_bad =
     let first : codes "i 1" ≡ g = cc in
-    let same : ◌≡◌ {A = List (Option Line)} (Some (Insert 1) ∷ []) (Some l ∷ []) = rw (sym first) at all in
+    let same : ◌≡◌ {A = List (Option Line)} (Some (Insert 1) ∷ []) (Some l ∷ []) =
+    rw (sym first) at all in
     cc
 one-line (g ∷ []) bad later (l ∷ (m ∷ ls)) cut all is_bad =
-    let none : ◌≡◌ {A = List (Option Line)} (line_of g ∷ []) (Some l ∷ Some m ∷ map Some ls) = all in
+    let none : ◌≡◌ {A = List (Option Line)} (line_of g ∷ []) (Some l ∷ Some m ∷ map Some ls) =
+    all in
     cc
 one-line (g ∷ (h ∷ [])) bad later lines cut all is_bad =
     let none : ◌≡◌ {A = List (List ℕ)} (codes "i 1" ∷ codes "x" ∷ []) (g ∷ h ∷ bad ∷ later) = cut in
     cc
 one-line (g ∷ (h ∷ (i ∷ gs))) bad later lines cut all is_bad =
-    let none : ◌≡◌ {A = List (List ℕ)} (codes "i 1" ∷ codes "x" ∷ []) (g ∷ h ∷ i ∷ (gs ++ bad ∷ later)) = cut in
+    let none : ◌≡◌ {A = List (List ℕ)} (codes "i 1" ∷ codes "x" ∷ [])
+    (g ∷ h ∷ i ∷ (gs ++ bad ∷ later)) = cut in
     cc
 
-upto-lines : (left : Option (List ℕ)) (lines : List Line) → IsReadUpTo (codes "i 1\nx\n") (Some (codes "i 1\nx\n")) left lines → lines ≡ Insert 1 ∷ []
+upto-lines : (left : Option (List ℕ)) (lines : List Line)
+    → IsReadUpTo (codes "i 1\nx\n") (Some (codes "i 1\nx\n")) left lines → lines ≡ Insert 1 ∷ []
 unfolding lines_of
 upto-lines left lines is = one-line is.good is.bad is.later lines is.cut is.all_good is.is_bad
 
 -- not the first line
-served-number : ServedUpTo 1 (Some (codes "i 1\nx\n")) (Some []) zeros with_one (Some []) (Some (codes "false\n")) → ⊥
+served-number : ServedUpTo 1 (Some (codes "i 1\nx\n")) (Some []) zeros with_one (Some [])
+    (Some (codes "false\n")) → ⊥
 served-number did =
     let lines = upto-lines _ did.lines did.upto in
     let number : 1 ≡ min (length did.lines + 1) (2 ^ 64 - 1) = did.number in
     omega (arith, ap length lines, number)
 
 -- nor with another text
-served-text : ServedUpTo 2 (Some (codes "i 1\nx\n")) (Some []) zeros with_one (Some []) (Some (codes "true\n")) → ⊥
+served-text : ServedUpTo 2 (Some (codes "i 1\nx\n")) (Some []) zeros with_one (Some [])
+    (Some (codes "true\n")) → ⊥
 served-text did = carried-text did.lines (upto-lines _ did.lines did.upto) did.carried
 
 -- nor with a filter that stayed as it was
-served-filter : ServedUpTo 2 (Some (codes "i 1\nx\n")) (Some []) zeros zeros (Some []) (Some (codes "false\n")) → ⊥
+served-filter : ServedUpTo 2 (Some (codes "i 1\nx\n")) (Some []) zeros zeros (Some [])
+    (Some (codes "false\n")) → ⊥
 served-filter did = carried-bits did.lines (upto-lines _ did.lines did.upto) did.carried
 
 -- every line is good
@@ -126,9 +140,11 @@ all : ServedAll (Some (codes "i 1\n")) (Some []) zeros with_one (Some []) (Some 
 all = record { lines = Insert 1 ∷ []; carried = carried; whole = whole }
 
 -- not with another text
-all-text : ServedAll (Some (codes "i 1\n")) (Some []) zeros with_one (Some []) (Some (codes "true\n")) → ⊥
+all-text : ServedAll (Some (codes "i 1\n")) (Some []) zeros with_one (Some [])
+    (Some (codes "true\n")) → ⊥
 all-text did = carried-text did.lines (whole-lines _ did.lines did.whole) did.carried
 
 -- nor with a byte left
-all-left : ServedAll (Some (codes "i 1\n")) (Some (10 ∷ [])) zeros with_one (Some []) (Some (codes "false\n")) → ⊥
+all-left : ServedAll (Some (codes "i 1\n")) (Some (10 ∷ [])) zeros with_one (Some [])
+    (Some (codes "false\n")) → ⊥
 all-left did = whole-left did.lines did.whole

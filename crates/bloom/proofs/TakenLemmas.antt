@@ -1,37 +1,51 @@
 -- Good lines taken, one after the other.
 use Rattle.std.proofs.Common.{◌≡◌, ℕ, List, [], ◌∷◌, ◌++◌, map, Option, Some, None, refl, sym, ◌∙◌, ap, append_assoc, inl, inr, ◌⊎◌}
 use Rattle.std.specs.Io.KnownBytes.{prepend_known}
+use Rattle.std.proofs.lemmas.List.{map-append}
 use Rattle.bloom.specs.declared.engine.line.Line.{Line}
 use Rattle.bloom.specs.Lines.{lines_of, line_of}
-use Rattle.bloom.specs.Reading.{IsEnded, TakesLine, TakesGood}
+use Rattle.bloom.specs.Reading.{IsEnded, TakesLine}
 use Rattle.bloom.proofs.LineLemmas.{lines_of-nil, IsEnded-nil, IsEnded-append}
 
-map-append : {X Y : Type 0} (f : X → Y) (xs ys : List X) → map f (xs ++ ys) ≡ map f xs ++ map f ys
-map-append f [] ys = refl
-map-append f (x ∷ xs) ys = ap (λ l. f x ∷ l) (map-append f xs ys)
+-- these good lines were taken, and the last of them had its end or nothing is left
+abbrev pub TakesGood : Option (List ℕ) → Option (List ℕ) → List Line → Type 0
+TakesGood None new lines = Unit {0}
+TakesGood (Some old) None lines = ⊥
+TakesGood (Some old) (Some new) lines =
+    (taken : List ℕ) × (old ≡ taken ++ new) × (map line_of (lines_of taken) ≡ map Some lines)
+    × (IsEnded taken ⊎ (new ≡ []))
 
+-- what is joined to nothing is nothing
 pub nil-front : (xs ys : List ℕ) → xs ++ ys ≡ [] → xs ≡ []
 nil-front [] ys none = refl
 nil-front (x ∷ xs) ys none = cc
 
 -- what was taken last is a line, so something was left before it
-not-at-end : (old taken new text : List ℕ) → old ≡ taken ++ new → lines_of taken ≡ text ∷ [] → old ≡ [] → ⊥
+not-at-end : (old taken new text : List ℕ) → old ≡ taken ++ new → lines_of taken ≡ text ∷ []
+    → old ≡ [] → ⊥
 not-at-end old taken new text cut is none =
     let nothing : taken ≡ [] = nil-front taken new (sym cut ∙ none) in
     let same : text ∷ [] ≡ [] = sym is ∙ ap lines_of nothing ∙ lines_of-nil in
     cc
 
 -- so the lines before it had their ends
-pub ended-before : (before old taken new text : List ℕ) → IsEnded before ⊎ (old ≡ []) → old ≡ taken ++ new → lines_of taken ≡ text ∷ [] → IsEnded before
+pub ended-before : (before old taken new text : List ℕ) → IsEnded before ⊎ (old ≡ [])
+    → old ≡ taken ++ new → lines_of taken ≡ text ∷ [] → IsEnded before
 ended-before before old taken new text (inl ended) cut is = ended
-ended-before before old taken new text (inr none) cut is = absurd (not-at-end old taken new text cut is none)
+ended-before before old taken new text (inr none) cut is =
+    absurd (not-at-end old taken new text cut is none)
 
-pub TakesGood-nil : (block : List ℕ) (read : Option (List ℕ)) → block ≡ [] → TakesGood read (prepend_known block read) []
+-- no line was taken yet
+pub TakesGood-nil : (block : List ℕ) (read : Option (List ℕ)) → block ≡ []
+    → TakesGood read (prepend_known block read) []
 TakesGood-nil block None empty = tt
-TakesGood-nil block (Some x) empty = ([], ap (λ b. b ++ x) (sym empty), ap (map line_of) lines_of-nil, inl IsEnded-nil)
+TakesGood-nil block (Some x) empty =
+    ([], ap (λ b. b ++ x) (sym empty), ap (map line_of) lines_of-nil, inl IsEnded-nil)
 
 -- one more good line was taken
-pub TakesGood-more : (a b c : Option (List ℕ)) (lines : List Line) (text : List ℕ) (line : Line) → TakesGood a b lines → TakesLine b c text → line_of text ≡ Some line → TakesGood a c (lines ++ line ∷ [])
+pub TakesGood-more : (a b c : Option (List ℕ)) (lines : List Line) (text : List ℕ) (line : Line)
+    → TakesGood a b lines → TakesLine b c text → line_of text ≡ Some line
+    → TakesGood a c (lines ++ line ∷ [])
 TakesGood-more None b c lines text line p q good = tt
 TakesGood-more (Some x) None c lines text line p q good = absurd p
 TakesGood-more (Some x) (Some y) None lines text line p q good = absurd q
@@ -39,14 +53,17 @@ TakesGood-more (Some x) (Some y) (Some z) lines text line p q good =
     let before = p.0 in
     let taken = q.0 in
     let ended : IsEnded before = ended-before before y taken z text p.3 q.1 q.2 in
-    let cut : lines_of (before ++ taken) ≡ lines_of before ++ text ∷ [] = ended taken ∙ ap (λ l. lines_of before ++ l) q.2 in (
+    let cut : lines_of (before ++ taken) ≡ lines_of before ++ text ∷ [] = ended taken
+    ∙ ap (λ l. lines_of before ++ l) q.2 in (
       before ++ taken,
       p.1 ∙ ap (λ l. before ++ l) q.1 ∙ sym (append_assoc before taken z),
-      ap (map line_of) cut ∙ map-append line_of (lines_of before) (text ∷ []) ∙ ap (λ l. l ++ line_of text ∷ []) p.2
+      ap (map line_of) cut ∙ map-append line_of (lines_of before) (text ∷ [])
+          ∙ ap (λ l. l ++ line_of text ∷ []) p.2
           ∙ ap (λ o. map Some lines ++ o ∷ []) good ∙ sym (map-append Some lines (line ∷ [])),
       either before taken z q.3 ended,
     )
   where
-    either : (before taken z : List ℕ) → IsEnded taken ⊎ (z ≡ []) → IsEnded before → IsEnded (before ++ taken) ⊎ (z ≡ [])
+    either : (before taken z : List ℕ) → IsEnded taken ⊎ (z ≡ []) → IsEnded before
+        → IsEnded (before ++ taken) ⊎ (z ≡ [])
     either before taken z (inl last) ended = inl (IsEnded-append before taken ended last)
     either before taken z (inr none) ended = inr none

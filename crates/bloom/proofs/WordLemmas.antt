@@ -7,6 +7,7 @@ use Rattle.std.proofs.lemmas.Nat.Bits.{bit_at-lt}
 use Rattle.bloom_parts.specs.Content.{content}
 use Rattle.bloom.specs.Texts.{word_with_bits, words_with_content}
 
+-- a digit of base 2 counts its place or nothing
 digit : (d x : ℕ) → d < 2 → cond (eqb d 1) x 0 ≡ d * x
 digit zero x small = omega arith
 digit (suc zero) x small = omega arith
@@ -18,29 +19,44 @@ unfolding word_with_bits
 low n zero = omega arith
 low n (suc k) =
     let one : suc k ≡ 1 + k = omega arith in
-    ap (λ x. x + cond (eqb (bit_at n k) 1) (2 ^ k) 0) (low n k) ∙ ap (λ x. n % 2 ^ k + x) (digit (bit_at n k) (2 ^ k) (bit_at-lt n k))
+    ap (λ x. x + cond (eqb (bit_at n k) 1) (2 ^ k) 0) (low n k)
+    ∙ ap (λ x. n % 2 ^ k + x) (digit (bit_at n k) (2 ^ k) (bit_at-lt n k))
     ∙ sym (ap (λ j. n % 2 ^ j) one ∙ mod-pow-add n 1 k ∙ omega arith)
 
-same_word : (k : ℕ) (A B : ℕ → Bool) → ((j : ℕ) → j < k → A j ≡ B j) → word_with_bits A k ≡ word_with_bits B k
+-- sets that agree on the first bits have the same word
+same_word : (k : ℕ) (A B : ℕ → Bool) → ((j : ℕ) → j < k → A j ≡ B j)
+    → word_with_bits A k ≡ word_with_bits B k
 unfolding word_with_bits
 same_word zero A B same = refl
-same_word (suc k) A B same = ap (λ x. x + cond (A k) (2 ^ k) 0) (same_word k A B (λ j below. same j (omega arith))) ∙ ap (λ b. word_with_bits B k + cond b (2 ^ k) 0) (same k (omega arith))
+same_word (suc k) A B same =
+    ap (λ x. x + cond (A k) (2 ^ k) 0) (same_word k A B (λ j below. same j (omega arith)))
+    ∙ ap (λ b. word_with_bits B k + cond b (2 ^ k) 0) (same k (omega arith))
 
-word_at : (ws : List ℕ) (i : ℕ) → get_or ws i 0 < 2 ^ 64 → word_with_bits (λ bit. content ws (64 * i + bit)) 64 ≡ get_or ws i 0
+-- the word of a content at a place is that of the list
+word_at : (ws : List ℕ) (i : ℕ) → get_or ws i 0 < 2 ^ 64
+    → word_with_bits (λ bit. content ws (64 * i + bit)) 64 ≡ get_or ws i 0
 unfolding content
 word_at ws i fits =
-    same_word 64 (λ bit. content ws (64 * i + bit)) (λ bit. eqb (bit_at (get_or ws i 0) bit) 1) (λ j below.
+    same_word 64 (λ bit. content ws (64 * i + bit)) (λ bit. eqb (bit_at (get_or ws i 0) bit) 1)
+    (λ j below.
     let word : (64 * i + j) / 64 ≡ i = omega arith in
     let bit : (64 * i + j) % 64 ≡ j = omega arith in
-    ap (λ x. eqb (bit_at (get_or ws x 0) ((64 * i + j) % 64)) 1) word ∙ ap (λ x. eqb (bit_at (get_or ws i 0) x) 1) bit)
+    ap (λ x. eqb (bit_at (get_or ws x 0) ((64 * i + j) % 64)) 1) word
+    ∙ ap (λ x. eqb (bit_at (get_or ws i 0) x) 1) bit)
     ∙ low (get_or ws i 0) 64 ∙ omega (arith, fits)
 
-front : (ws : List ℕ) → ((i : ℕ) → get_or ws i 0 < 2 ^ 64) → (k : ℕ) → k ≤ length ws → words_with_content (content ws) k ≡ take k ws
+-- the first words of a content are those of the list
+front : (ws : List ℕ) → ((i : ℕ) → get_or ws i 0 < 2 ^ 64) → (k : ℕ) → k ≤ length ws
+    → words_with_content (content ws) k ≡ take k ws
 unfolding words_with_content
 front ws fit zero below = refl
 front ws fit (suc k) below =
-    ap (λ l. l ++ word_with_bits (λ bit. content ws (64 * k + bit)) 64 ∷ []) (front ws fit k (omega arith)) ∙ ap (λ x. take k ws ++ x ∷ []) (word_at ws k (fit k))
+    ap (λ l. l ++ word_with_bits (λ bit. content ws (64 * k + bit)) 64 ∷ [])
+    (front ws fit k (omega arith)) ∙ ap (λ x. take k ws ++ x ∷ []) (word_at ws k (fit k))
     ∙ sym (take_more ws k 0 below) ∙ ap (λ j. take j ws) (add-one k)
 
-pub words_of_content : (ws : List ℕ) → ((i : ℕ) → get_or ws i 0 < 2 ^ 64) → words_with_content (content ws) (length ws) ≡ ws
-words_of_content ws fit = front ws fit (length ws) (omega arith) ∙ take_all (length ws) ws (omega arith)
+-- a content has its words back
+pub words_of_content : (ws : List ℕ) → ((i : ℕ) → get_or ws i 0 < 2 ^ 64)
+    → words_with_content (content ws) (length ws) ≡ ws
+words_of_content ws fit = front ws fit (length ws) (omega arith)
+    ∙ take_all (length ws) ws (omega arith)

@@ -8,7 +8,8 @@ are_in_limits words hashes = nat_le 1 words && nat_le words (2 ^ 20) && nat_lt h
 
 -- the numbers of words and hashes, if both are numbers within the limits
 abbrev pub within_limits : Option ℕ → Option ℕ → Option (ℕ × ℕ)
-within_limits (Some words) (Some hashes) = if are_in_limits words hashes then Some (words, hashes) else None
+within_limits (Some words) (Some hashes) =
+    if are_in_limits words hashes then Some (words, hashes) else None
 within_limits (Some words) None = None
 within_limits None hashes = None
 

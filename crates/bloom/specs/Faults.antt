@@ -1,4 +1,5 @@
--- The exit status of each fault, and which of them a stream gives. The numbers are this project's own.
+-- The exit status of each fault, and which of them a stream gives. The numbers are this project's
+-- own.
 use Rattle.std.specs.Prelude.{ℕ}
 use Rattle.bloom.specs.declared.fault.Fault.{Fault}
 use Rattle.bloom.specs.declared.fault.Fault.TheVariants.{Usage, Line, Memory, Input, Output}

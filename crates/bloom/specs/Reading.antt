@@ -1,12 +1,10 @@
 -- What reading one line takes, from what a block and a reader have left.
 use Rattle.std.specs.Prelude.{◌≡◌, ◌⊎◌, ℕ, ◌+◌, ◌-◌, ◌^◌, ◌<◌, min, ◌≤◌, ◌==◌, List, [], ◌∷◌, ◌++◌, length, take, slice_index, map, Bool, true, not, ◌&&◌, Option, Some, None, MatchOption}
 use Rattle.std.specs.Io.KnownBytes.{Consumes, IsAtEnd, prepend_known}
-use Rattle.fastbloom.specs.Filter.{Filter}
 use Rattle.bloom.specs.declared.engine.line.Line.{Line}
 use Rattle.bloom.specs.declared.engine.line_reader.Next.{Next}
 use Rattle.bloom.specs.declared.engine.line_reader.Next.TheVariants.{End, Good, Bad}
 use Rattle.bloom.specs.Lines.{lines_of, line_of}
-use Rattle.bloom.specs.Served.{Carried}
 
 -- what a reader of lines keeps: the bytes that were read and wait, and whether the end was told
 pub record Waiting : Type 0 where
@@ -55,7 +53,8 @@ abbrev pub TakesLine : Option (List ℕ) → Option (List ℕ) → List ℕ → 
 TakesLine None new line = Unit {0}
 TakesLine (Some old) None line = ⊥
 TakesLine (Some old) (Some new) line =
-    (taken : List ℕ) × (old ≡ taken ++ new) × (lines_of taken ≡ line ∷ []) × (IsEnded taken ⊎ (new ≡ []))
+    (taken : List ℕ) × (old ≡ taken ++ new) × (lines_of taken ≡ line ∷ [])
+    × (IsEnded taken ⊎ (new ≡ []))
 
 -- from old to new more than 22 bytes of one line were taken
 abbrev pub TakesLong : Option (List ℕ) → Option (List ℕ) → Type 0
@@ -71,21 +70,7 @@ Ends old new = Consumes old new [] × IsAtEnd new
 -- what the next line comes to
 abbrev pub NextCommand : Option (List ℕ) → Option (List ℕ) → Next → Type 0
 NextCommand old new End = Ends old new
-NextCommand old new (Good line) = (text : List ℕ) × TakesLine old new text × (line_of text ≡ Some line)
+NextCommand old new (Good line) =
+    (text : List ℕ) × TakesLine old new text × (line_of text ≡ Some line)
 NextCommand old new Bad =
     ((text : List ℕ) × TakesLine old new text × (line_of text ≡ None)) ⊎ TakesLong old new
-
--- these good lines were taken, and the last of them had its end or nothing is left
-abbrev pub TakesGood : Option (List ℕ) → Option (List ℕ) → List Line → Type 0
-TakesGood None new lines = Unit {0}
-TakesGood (Some old) None lines = ⊥
-TakesGood (Some old) (Some new) lines =
-    (taken : List ℕ) × (old ≡ taken ++ new) × (map line_of (lines_of taken) ≡ map Some lines)
-    × (IsEnded taken ⊎ (new ≡ []))
-
--- half-way through serving: these lines were taken and carried out, and the next has this number
-pub record IsUnderWay {S : Type 0} (read left : Option (List ℕ)) (old now : Filter S) (from to : Option (List ℕ)) (number : ℕ) : Type 0 where
-  pub lines : List Line
-  pub carried : Carried old now from to lines
-  pub taken : TakesGood read left lines
-  pub counted : number ≡ min (length lines + 1) (2 ^ 64 - 1)

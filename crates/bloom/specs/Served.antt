@@ -9,8 +9,10 @@ use Rattle.bloom.specs.declared.engine.line.Line.{Line}
 use Rattle.bloom.specs.Lines.{lines_of, line_of, operations}
 use Rattle.bloom.specs.Texts.{text_of}
 
--- the filter carried out these lines' commands with some replies, and the text of the lines was written
-pub record Carried {S : Type 0} (old new : Filter S) (from to : Option (List ℕ)) (lines : List Line) : Type 0 where
+-- the filter carried out these lines' commands with some replies, and the text of the lines was
+-- written
+pub record Carried {S : Type 0} (old new : Filter S) (from to : Option (List ℕ))
+    (lines : List Line) : Type 0 where
   pub given : List Bool
   pub filter : CarriesOut old (operations lines) new given
   pub text : Appends from to (text_of (length old.words) old.hashes (content old.words) lines given)
@@ -27,25 +29,28 @@ Reaches given good bad =
     × ((seen ≡ bad) ⊎ (22 < length seen))
 
 -- the first line that isn't good comes after these good ones, and the reader gave it
-pub record IsReadUpTo (bytes : List ℕ) (read left : Option (List ℕ)) (lines : List Line) : Type 0 where
-  pub good : List (List ℕ)
-  pub bad : List ℕ
-  pub later : List (List ℕ)
-  pub cut : lines_of bytes ≡ good ++ bad ∷ later
-  pub all_good : map line_of good ≡ map Some lines
-  pub is_bad : line_of bad ≡ None
-  pub given : List ℕ
-  pub gave : Consumes read left given
-  pub reached : Reaches given good bad
+pub record IsReadUpTo (bytes : List ℕ) (read left : Option (List ℕ)) (lines : List Line) : Type 0
+  where
+    pub good : List (List ℕ)
+    pub bad : List ℕ
+    pub later : List (List ℕ)
+    pub cut : lines_of bytes ≡ good ++ bad ∷ later
+    pub all_good : map line_of good ≡ map Some lines
+    pub is_bad : line_of bad ≡ None
+    pub given : List ℕ
+    pub gave : Consumes read left given
+    pub reached : Reaches given good bad
 
 -- every line was good, and all were carried out
-pub record ServedAll {S : Type 0} (read left : Option (List ℕ)) (old new : Filter S) (from to : Option (List ℕ)) : Type 0 where
+pub record ServedAll {S : Type 0} (read left : Option (List ℕ)) (old new : Filter S)
+    (from to : Option (List ℕ)) : Type 0 where
   pub lines : List Line
   pub carried : Carried old new from to lines
   pub whole : IsReadWhole read left lines
 
 -- line n is the first that isn't good, and those before it were carried out; n stays at 2^64 - 1
-pub record ServedUpTo {S : Type 0} (n : ℕ) (read left : Option (List ℕ)) (old new : Filter S) (from to : Option (List ℕ)) : Type 0 where
+pub record ServedUpTo {S : Type 0} (n : ℕ) (read left : Option (List ℕ)) (old new : Filter S)
+    (from to : Option (List ℕ)) : Type 0 where
   pub lines : List Line
   pub carried : Carried old new from to lines
   pub number : n ≡ min (length lines + 1) (2 ^ 64 - 1)

@@ -30,7 +30,8 @@ word_with_bits A (suc k) = word_with_bits A k + (if A k then 2 ^ k else 0)
 -- the first w words with a content
 unfoldable pub words_with_content : (ℕ → Bool) → ℕ → List ℕ
 words_with_content A zero = []
-words_with_content A (suc w) = words_with_content A w ++ word_with_bits (λ bit. A (64 * w + bit)) 64 ∷ []
+words_with_content A (suc w) =
+    words_with_content A w ++ word_with_bits (λ bit. A (64 * w + bit)) 64 ∷ []
 
 -- the words after lines, where the content was A before them, at w words and k hashes
 abbrev pub words_after : ℕ → ℕ → (ℕ → Bool) → List Line → List ℕ
@@ -45,7 +46,8 @@ text_after w k A earlier (Insert hash ∷ lines) (reply ∷ given) =
 text_after w k A earlier (Contains hash ∷ lines) [] = []
 text_after w k A earlier (Contains hash ∷ lines) (reply ∷ given) =
     reply_text reply ++ text_after w k A (earlier ++ Contains hash ∷ []) lines given
-text_after w k A earlier (Clear ∷ lines) given = text_after w k A (earlier ++ Clear ∷ []) lines given
+text_after w k A earlier (Clear ∷ lines) given =
+    text_after w k A (earlier ++ Clear ∷ []) lines given
 text_after w k A earlier (Words ∷ lines) given =
     words_text (words_after w k A earlier) ++ text_after w k A (earlier ++ Words ∷ []) lines given
 

@@ -4,6 +4,7 @@ use Rattle.std.specs.Char.{is_ascii_digit}
 use Rattle.bloom.specs.Lines.{value_of}
 use Rattle.bloom.proofs.number.number.Given as goal
 
+-- the value of the digits so far
 abbrev pub invariant-digits : goal.invariant-digits
 invariant-digits l = record {
   value : l.value ≡ value_of (take l.digit-index l.text);

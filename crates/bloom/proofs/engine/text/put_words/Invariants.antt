@@ -5,4 +5,6 @@ use Rattle.bloom.proofs.engine.text.put_words.Given as goal
 
 -- the words so far are written
 abbrev pub invariant-words : goal.invariant-words
-invariant-words g l = Appends (g.W.Write.contents l.fn.output) (g.W.Write.contents l.output) (words_text (take l.word-index l.words))
+invariant-words g l =
+    Appends (g.W.Write.contents l.fn.output) (g.W.Write.contents l.output)
+    (words_text (take l.word-index l.words))

@@ -9,7 +9,8 @@ returns c =
     let at = inside.at in
     let count = c.args.count in
     let left = inside.end - at in
-    let held : count ≤ length (take left (drop at bytes)) = omega (arith, ap length c.self.view_is, c.requires) in
+    let held : count ≤ length (take left (drop at bytes)) =
+    omega (arith, ap length c.self.view_is, c.requires) in
     let few : count ≤ left = omega (arith, held, length-take left (drop at bytes)) in
     let rest : left ≡ count + (inside.end - (at + count)) = omega (arith, few) in
     ap (take (inside.end - (at + count))) (sym (drop-drop count at bytes))

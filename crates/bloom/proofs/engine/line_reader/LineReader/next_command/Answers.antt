@@ -9,6 +9,9 @@ returns-in-Some-clause-next g c =
     let block = c.self.inside.block in
     let rest = g.R.Read.remaining c.args.input.now in
     let next = c.next_in_block.ensures in
-    subst (λ self. NextCommand (left_of self rest) (prepend_known c.next_in_block.new.block rest) c.next_in_block.result) c.self.view_is
-    (subst (λ left. NextCommand (prepend_known block rest) (prepend_known left rest) c.next_in_block.result) (sym next.taken)
-    (NextCommand-from _ _ _ _ next.text (TakesLine-in_block block c.in-Some.length c.in-Some.ensures rest)))
+    subst (λ self. NextCommand (left_of self rest) (prepend_known c.next_in_block.new.block rest)
+    c.next_in_block.result) c.self.view_is
+    (subst (λ left. NextCommand (prepend_known block rest) (prepend_known left rest)
+    c.next_in_block.result) (sym next.taken)
+    (NextCommand-from _ _ _ _ next.text
+    (TakesLine-in_block block c.in-Some.length c.in-Some.ensures rest)))
