@@ -1,5 +1,5 @@
 -- What the definition of a reading says of single words, each with a case that nearly holds.
-use Rattle.std.proofs.Common.{◌≡◌, ℕ, ◌+◌, ◌<◌, ◌≤◌, Some, None, refl, arith, ap}
+use Rattle.std.proofs.Common.{◌≡◌, ℕ, Some, None, refl, arith, ap}
 use Rattle.bloom_parts.specs.Made.{SharedWords, FoundByLoad}
 use Rattle.bloom_parts.specs.Reading.{Reading, ReadsNext}
 
