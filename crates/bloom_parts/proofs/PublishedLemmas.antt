@@ -1,8 +1,8 @@
 -- The lemmas on the definitions of this crate that crates above may cite. The other files of lemmas
 -- are its own.
 
--- each position of a hash is a place that lies within the bits, and all are in a set exactly if they
--- are a part of it
+-- each position of a hash is a place that lies within the bits, and all are in a set exactly if
+-- they are a part of it
 pub use Rattle.bloom_parts.proofs.PlaceLemmas.{position-from, position-to, range_law}
 pub use Rattle.bloom_parts.proofs.PlaceLemmas.{part-from, part-to}
 -- where all are in a set each is, and one that is off decides

@@ -1,5 +1,5 @@
 -- What the definition of a reading says of single words, each with a case that nearly holds.
-use Rattle.std.proofs.Common.{◌≡◌, ℕ, ◌+◌, ◌<◌, ◌≤◌, Some, None, refl, arith, ap}
+use Rattle.std.proofs.Common.{◌≡◌, ℕ, Some, None, refl, arith, ap}
 use Rattle.bloom_parts.specs.Made.{SharedWords, FoundByLoad}
 use Rattle.bloom_parts.specs.Reading.{Reading, ReadsNext}
 
@@ -12,7 +12,8 @@ abbrev at : ℕ → ℕ → Reading
 at name i = record { vector = two name; next = i }
 
 -- a word that a load of word 1 found comes after word 0
-last-word : (name found : ℕ) → FoundByLoad (two name) 1 found → ReadsNext (at name 1) (Some found) (at name 2)
+last-word : (name found : ℕ) → FoundByLoad (two name) 1 found
+    → ReadsNext (at name 1) (Some found) (at name 2)
 last-word name found made = (refl, (made, omega arith, refl))
 
 -- after the last word none comes
@@ -32,5 +33,6 @@ none-skipped : (name found : ℕ) → ReadsNext (at name 0) (Some found) (at nam
 none-skipped name found reads = omega (arith, reads.1.2)
 
 -- and a reading stays with its vector
-same-vector : (name other found : ℕ) → ReadsNext (at name 0) (Some found) (at other 1) → other ≡ name
+same-vector : (name other found : ℕ) → ReadsNext (at name 0) (Some found) (at other 1)
+    → other ≡ name
 same-vector name other found reads = ap (λ (v : SharedWords). v.name) reads.0

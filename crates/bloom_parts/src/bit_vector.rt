@@ -37,7 +37,7 @@ pub fn word_and_mask(position: usize) -> (usize, u64)
     (position / 64, 1 << (position % 64))
 }
 
-// The same words, of 64 bits each: the clause is what a slice that was read from a field doesn't tell.
+// The same words, which a slice that was read from a field doesn't tell to be of 64 bits each.
 fn with_range(words: &[u64]) -> &[u64]
     ensures value { result.now ≡ words.now }
     ensures range { AreWords words.now }

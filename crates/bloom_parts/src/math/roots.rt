@@ -14,7 +14,7 @@ pub(crate) const ROOTS: [u64; 64] = [
     7877004751, 7962779709, 8049488695, 8137141880, 8225749546, 8315322086, 8405870006, 8497403929,
 ];
 
-// Root j.
+// Root j of the table.
 pub(super) fn root(j: usize) -> u64
     requires { j < 64 }
     ensures { IsRoot j result }
