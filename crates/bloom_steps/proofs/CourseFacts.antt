@@ -11,6 +11,7 @@ pub mod Lawful
 pub mod LookUps
 pub mod Moments
 pub mod Parties
+pub mod Premises
 pub mod Schedules
 pub mod Unique
 pub mod Unlawful

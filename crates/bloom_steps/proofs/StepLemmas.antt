@@ -5,6 +5,7 @@ pub mod Driving
 pub mod Going
 pub mod Growing
 pub mod Members
+pub mod Plans
 pub mod Replying
 pub mod Whole
 pub mod Writing

@@ -3,14 +3,15 @@
 use Rattle.std.specs.Prelude.{ℕ, zero, suc, ◌+◌, ◌/◌, ◌≤◌, ◌<◌, ◌≡◌, ◌↔◌, ◌⊎◌, ◌&&◌, ◌==◌, Bool, true, false, not, Some, slice_get, bit_and, count_by, if◌then◌else◌}
 use Rattle.bloom_parts.specs.Content.{bit_is_on, content}
 use Rattle.bloom_parts.specs.Places.{are_in, IsPosition}
-use Rattle.bloom_steps.specs.declared.steps.vocabulary.Step.TheVariants.{Or, Other}
-use Rattle.bloom_steps.specs.declared.steps.vocabulary.Call.TheVariants.{Insert, Contains, Clear, Union, Intersect}
+use Rattle.bloom_steps.specs.declared.steps.vocabulary.Step.TheVariants.{Load, Or, And, Zero, Other}
+use Rattle.bloom_steps.specs.declared.steps.vocabulary.Call.TheVariants.{Insert, Contains}
 use Rattle.bloom_steps.specs.declared.steps.vocabulary.End.{End}
 use Rattle.bloom_steps.specs.declared.steps.vocabulary.End.TheVariants.{Answer}
 use Rattle.bloom_steps.specs.declared.steps.vocabulary.Record.{Record}
 use Rattle.bloom_steps.specs.declared.steps.vocabulary.Record.TheVariants.{Began, Did}
-use Rattle.bloom_steps.specs.Traces.{Course}
-use Rattle.bloom_steps.specs.Moments.{bits_of, moment, IsStepAt, IsFinished, IsInSpan, turns_on, IsUndisturbed, NoneTurnedOff, NoCall, EveryCallEnded}
+use Rattle.bloom_steps.specs.Plans.{goes_by_hash, turns_none_off}
+use Rattle.bloom_steps.specs.Courses.{Course}
+use Rattle.bloom_steps.specs.Moments.{bits_of, moment, IsStepAt, IsFinished, IsInSpan, turns_on, IsUndisturbed, NoneTurnedOff, EveryCall, EveryCallEnded}
 
 -- some insert of the run has the position
 abbrev pub IsInserted : ℕ → Course → ℕ → Type 0
@@ -25,10 +26,10 @@ IsFoundInOther run p =
     × (slice_get run.records m ≡ Some (Did party (Other (p / 64)) found e))
     × (bit_is_on found p ≡ true)
 
--- growing runs: where nothing makes a position off, the end does not depend on the order
+-- growing runs: where no call turns anything off, the end does not depend on the order
 abbrev pub EndsWithAll : ℕ → Course → Type 0
 EndsWithAll k run =
-    NoCall run.records Clear → NoCall run.records Intersect → EveryCallEnded run.records
+    EveryCall turns_none_off run.records → EveryCallEnded run.records
     → (p : ℕ) → (content run.words p ≡ true)
     ↔ ((content run.start p ≡ true) ⊎ (IsInserted k run p ⊎ IsFoundInOther run p))
 
@@ -79,12 +80,16 @@ count_below (suc n) test = if test n then count_below n test + 1 else count_belo
 
 -- whether a record is a step that turns bits on and found none of them on
 abbrev pub found_off : Record → Bool
+found_off (Began party call) = false
+found_off (Did party (Load i) found ended) = false
 found_off (Did party (Or i mask) found ended) = bit_and found mask == 0
-found_off _ = false
+found_off (Did party (And i mask) found ended) = false
+found_off (Did party (Zero i) found ended) = false
+found_off (Did party (Other i) found ended) = false
 
--- each position is turned on once: as many steps found their bit off as positions were gained
+-- where each call goes by a hash, each position is turned on once: as many steps found their bit off
+-- as positions were gained
 abbrev pub CountsGains : Course → Type 0
 CountsGains run =
-    NoCall run.records Clear → NoCall run.records Union → NoCall run.records Intersect
-    → count_by found_off run.records ≡ count_below (bits_of run)
+    EveryCall goes_by_hash run.records → count_by found_off run.records ≡ count_below (bits_of run)
     (λ p. content run.words p && not (content run.start p))

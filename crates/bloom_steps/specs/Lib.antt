@@ -1,10 +1,11 @@
+pub mod Courses
 pub mod Interleavings
 pub mod Machines
 pub mod Memories
 pub mod Moments
+pub mod Plans
 pub mod Scripts
 pub mod Sequences
+pub mod Standing
 pub mod Steps
-pub mod Traces
-pub mod Turns
 pub mod Worlds

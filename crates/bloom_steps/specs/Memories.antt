@@ -4,7 +4,7 @@ use Rattle.bloom_parts.specs.Content.{content}
 use Rattle.bloom_parts.specs.Deciders.{state}
 use Rattle.bloom_steps.specs.declared.steps.vocabulary.Step.{Step}
 use Rattle.bloom_steps.specs.declared.steps.vocabulary.Step.TheVariants.{Load, Or, And, Zero, Other}
-use Rattle.bloom_steps.specs.Steps.{word_of, step_decides}
+use Rattle.bloom_steps.specs.Steps.{word_index, step_decides}
 use Rattle.bloom_steps.specs.Scripts.{Taken, Linked}
 
 -- the words of a filter, and those of the other
@@ -30,8 +30,8 @@ words_after words (Other i) = words
 
 -- from a memory to a memory by one step, as the table says
 pub record Moves (before : Memory) (step : Step) (found : ℕ) (after : Memory) : Type 0 where
-  pub within : word_of step < length before.words
-  pub finds : found ≡ found_in before.words (slice_index before.other (word_of step)) step
+  pub within : word_index step < length before.words
+  pub finds : found ≡ found_in before.words (slice_index before.other (word_index step)) step
   pub writes : after.words ≡ words_after before.words step
   pub kept : after.other ≡ before.other
 

@@ -9,8 +9,9 @@ use Rattle.bloom_steps.specs.declared.steps.vocabulary.End.{End}
 use Rattle.bloom_steps.specs.declared.steps.vocabulary.End.TheVariants.{Running}
 use Rattle.bloom_steps.specs.declared.steps.vocabulary.Record.{Record}
 use Rattle.bloom_steps.specs.declared.steps.vocabulary.Record.TheVariants.{Began, Did}
+use Rattle.bloom_steps.specs.Plans.{Plan, plan_of}
 use Rattle.bloom_steps.specs.Steps.{after_records}
-use Rattle.bloom_steps.specs.Traces.{Course, runs}
+use Rattle.bloom_steps.specs.Courses.{Course, runs}
 
 -- the number of bits, 64 for each word
 abbrev pub bits_of : Course → ℕ
@@ -58,9 +59,11 @@ NoneTurnedOff k run hash first last =
 abbrev pub IsUndisturbed : ℕ → Course → ℕ → ℕ → ℕ → Type 0
 IsUndisturbed k run hash began last = NoneTurnedOff k run hash (began + 1) last
 
--- no call that begins is of this kind
-abbrev pub NoCall : List Record → Call → Type 0
-NoCall records call = (m party : ℕ) → slice_get records m ≢ Some (Began party call)
+-- the plan of each call that begins passes a test
+abbrev pub EveryCall : (Plan → Bool) → List Record → Type 0
+EveryCall test records =
+    (m party : ℕ) (call : Call) → slice_get records m ≡ Some (Began party call)
+    → test (plan_of call) ≡ true
 
 -- no party runs a call after the last record
 abbrev pub EveryCallEnded : List Record → Type 0

@@ -4,11 +4,11 @@ use Rattle.std.specs.Prelude.{ℕ, ◌+◌, ◌*◌, ◌≤◌, ◌<◌, ◌≡�
 use Rattle.bloom_parts.specs.Content.{bit_is_on}
 use Rattle.bloom_parts.specs.Places.{place}
 use Rattle.bloom_steps.specs.declared.steps.vocabulary.Step.{Step}
-use Rattle.bloom_steps.specs.declared.steps.vocabulary.Step.TheVariants.{Or, And, Zero, Other}
+use Rattle.bloom_steps.specs.declared.steps.vocabulary.Step.TheVariants.{Other}
 use Rattle.bloom_steps.specs.declared.steps.vocabulary.Call.{Call}
-use Rattle.bloom_steps.specs.declared.steps.vocabulary.Call.TheVariants.{Insert, Contains, Clear, Union, Intersect}
 use Rattle.bloom_steps.specs.declared.steps.vocabulary.End.{End}
 use Rattle.bloom_steps.specs.declared.steps.vocabulary.End.TheVariants.{Running, Done, Answer}
+use Rattle.bloom_steps.specs.Plans.{Plan, TurnsOn, LooksAt, EachWord, EachPair, plan_of}
 use Rattle.bloom_steps.specs.Steps.{or_at, load_at}
 
 -- a step that was taken, with the word that it found and how the call stood after it
@@ -25,27 +25,20 @@ Each s P = (i : ℕ) (t : Taken) → slice_get s i ≡ Some t → P i t
 abbrev pub Any : List Taken → (ℕ → Taken → Type 0) → Type 0
 Any s P = (i : ℕ) × (t : Taken) × (slice_get s i ≡ Some t) × P i t
 
--- the hash of a call, or 0 where it has none
-abbrev pub hash_of : Call → ℕ
-hash_of (Insert hash) = hash
-hash_of (Contains hash) = hash
-hash_of _ = 0
+-- each member but the last has a property
+abbrev pub AllButLast : List Taken → (ℕ → Taken → Type 0) → Type 0
+AllButLast s P = Each s (λ i t. i + 1 < length s → P i t)
 
--- how many steps a call of w words and k hashes makes, whatever they find
-abbrev pub HasCount : ℕ → ℕ → Call → ℕ → Type 0
-HasCount w k (Insert hash) count = count ≡ k
-HasCount w k (Contains hash) count = (1 ≤ count) × (count ≤ k)
-HasCount w k Clear count = count ≡ w
-HasCount w k Union count = count ≡ 2 * w
-HasCount w k Intersect count = count ≡ 2 * w
+-- the last member, if there is one, has a property
+abbrev pub Last : List Taken → (ℕ → Taken → Type 0) → Type 0
+Last s P = Each s (λ i t. i + 1 ≡ length s → P i t)
 
--- the most steps that a call makes
-abbrev pub most_steps : ℕ → ℕ → Call → ℕ
-most_steps w k (Insert hash) = k
-most_steps w k (Contains hash) = k
-most_steps w k Clear = w
-most_steps w k Union = 2 * w
-most_steps w k Intersect = 2 * w
+-- how many steps a plan makes, whatever they find
+abbrev pub HasCount : ℕ → ℕ → Plan → ℕ → Type 0
+HasCount w k (TurnsOn hash) count = count ≡ k
+HasCount w k (LooksAt hash) count = (1 ≤ count) × (count ≤ k)
+HasCount w k (EachWord operation) count = count ≡ w
+HasCount w k (EachPair operation on) count = count ≡ 2 * w
 
 -- for each word: a load of the other filter's word, then the operation with what that found
 pub record ArePairs (operation : ℕ → ℕ → Step) (s : List Taken) : Type 0 where
@@ -55,44 +48,49 @@ pub record ArePairs (operation : ℕ → ℕ → Step) (s : List Taken) : Type 0
       → u.step ≡ operation i t.found
 
 -- which step stands at each index
-abbrev pub AreStepsOf : ℕ → Call → List Taken → Type 0
-AreStepsOf w (Insert hash) s = Each s (λ i t. t.step ≡ or_at (place (64 * w) hash i))
-AreStepsOf w (Contains hash) s = Each s (λ i t. t.step ≡ load_at (place (64 * w) hash i))
-AreStepsOf w Clear s = Each s (λ i t. t.step ≡ Zero i)
-AreStepsOf w Union s = ArePairs Or s
-AreStepsOf w Intersect s = ArePairs And s
+abbrev pub AreStepsOf : ℕ → Plan → List Taken → Type 0
+AreStepsOf w (TurnsOn hash) s = Each s (λ i t. t.step ≡ or_at (place (64 * w) hash i))
+AreStepsOf w (LooksAt hash) s = Each s (λ i t. t.step ≡ load_at (place (64 * w) hash i))
+AreStepsOf w (EachWord operation) s = Each s (λ i t. t.step ≡ operation i)
+AreStepsOf w (EachPair operation on) s = ArePairs operation s
 
 -- the steps so far found on the bits that they looked at
 abbrev pub AllFoundOn : ℕ → ℕ → List Taken → Type 0
 AllFoundOn w hash s = Each s (λ i t. bit_is_on t.found (place (64 * w) hash i) ≡ true)
 
--- a contains ends after the first step that found its bit off, and else after all hashes
+-- a look-up ends after the first step that found its bit off, and else after all hashes
 pub record StopsAtFirstOff (w k hash : ℕ) (s : List Taken) : Type 0 where
-  pub earlier : Each s (λ i t. i + 1 < length s → bit_is_on t.found (place (64 * w) hash i) ≡ true)
-  pub early :
-      Each s
-      (λ i t. i + 1 ≡ length s → i + 1 < k → bit_is_on t.found (place (64 * w) hash i) ≡ false)
+  pub earlier : AllButLast s (λ i t. bit_is_on t.found (place (64 * w) hash i) ≡ true)
+  pub early : Last s (λ i t. i + 1 < k → bit_is_on t.found (place (64 * w) hash i) ≡ false)
 
--- a call stops where it has to: a contains alone looks at what it found
-abbrev pub StopsRight : ℕ → ℕ → Call → List Taken → Type 0
-StopsRight w k (Contains hash) s = StopsAtFirstOff w k hash s
-StopsRight w k _ s = Unit {0}
+-- a plan stops where it has to: a look-up alone looks at what it found
+abbrev pub StopsRight : ℕ → ℕ → Plan → List Taken → Type 0
+StopsRight w k (TurnsOn hash) s = Unit {0}
+StopsRight w k (LooksAt hash) s = StopsAtFirstOff w k hash s
+StopsRight w k (EachWord operation) s = Unit {0}
+StopsRight w k (EachPair operation on) s = Unit {0}
 
--- how a call stands after its last step: an insert is false exactly if some step found its bit off
-abbrev pub IsLastEnd : ℕ → Call → List Taken → End → Type 0
-IsLastEnd w (Insert hash) s end = (reply : Bool) × (end ≡ Answer reply)
+-- how a plan stands after its last step: turning on a hash answers false exactly if some step found
+-- its bit off, and a look-up answers what its last step found
+abbrev pub IsLastEnd : ℕ → Plan → List Taken → End → Type 0
+IsLastEnd w (TurnsOn hash) s end = (reply : Bool) × (end ≡ Answer reply)
     × ((reply ≡ false) ↔ Any s (λ i t. bit_is_on t.found (place (64 * w) hash i) ≡ false))
-IsLastEnd w (Contains hash) s end =
-    Each s (λ i t. i + 1 ≡ length s → end ≡ Answer (bit_is_on t.found (place (64 * w) hash i)))
-IsLastEnd w _ s end = end ≡ Done
+IsLastEnd w (LooksAt hash) s end =
+    Last s (λ i t. end ≡ Answer (bit_is_on t.found (place (64 * w) hash i)))
+IsLastEnd w (EachWord operation) s end = end ≡ Done
+IsLastEnd w (EachPair operation on) s end = end ≡ Done
+
+-- steps that carry out a plan from its first to its last, in w words with k hashes
+pub record CarriesOut (w k : ℕ) (plan : Plan) (s : List Taken) : Type 0 where
+  pub count : HasCount w k plan (length s)
+  pub steps : AreStepsOf w plan s
+  pub stops : StopsRight w k plan s
+  pub running : AllButLast s (λ i t. t.ended ≡ Running)
+  pub last : Last s (λ i t. IsLastEnd w plan s t.ended)
 
 -- a script of a call, in w words with k hashes
-pub record IsScript (w k : ℕ) (call : Call) (s : List Taken) : Type 0 where
-  pub count : HasCount w k call (length s)
-  pub steps : AreStepsOf w call s
-  pub stops : StopsRight w k call s
-  pub running : Each s (λ i t. i + 1 < length s → t.ended ≡ Running)
-  pub last : Each s (λ i t. i + 1 ≡ length s → IsLastEnd w call s t.ended)
+abbrev pub IsScript : ℕ → ℕ → Call → List Taken → Type 0
+IsScript w k call s = CarriesOut w k (plan_of call) s
 
 -- a front of a script, shorter than it
 abbrev pub IsBeginning : ℕ → ℕ → Call → List Taken → Type 0
@@ -128,5 +126,4 @@ pub record Drives
   pub taken : List Taken
   pub script : IsScript w k call taken
   pub linked : Linked moved before taken after
-  pub count : HasCount w k call (length taken)
   pub answers : reply ≡ answer_of taken

@@ -3,7 +3,7 @@
 use Rattle.std.specs.Prelude.{◌≡◌, ℕ, Bool, List, [], ◌∷◌, ◌++◌, Some, slice_get, take, map}
 use Rattle.bloom_parts.specs.Content.{content}
 use Rattle.bloom_steps.specs.declared.steps.vocabulary.Step.{Step}
-use Rattle.bloom_steps.specs.declared.steps.vocabulary.Step.TheVariants.{Other}
+use Rattle.bloom_steps.specs.declared.steps.vocabulary.Step.TheVariants.{Load, Or, And, Zero, Other}
 use Rattle.bloom_steps.specs.declared.steps.vocabulary.Call.{Call}
 use Rattle.bloom_steps.specs.declared.steps.vocabulary.Call.TheVariants.{Insert, Contains, Clear, Union, Intersect}
 use Rattle.bloom_steps.specs.declared.steps.vocabulary.Record.{Record}
@@ -12,7 +12,7 @@ use Rattle.bloom_parts.specs.Operations.{Operation, state_after}
 use Rattle.bloom_parts.specs.Operations as operation
 use Rattle.bloom_parts.specs.Operations.{reply}
 use Rattle.bloom_steps.specs.Scripts.{Taken, answer_of}
-use Rattle.bloom_steps.specs.Traces.{Course}
+use Rattle.bloom_steps.specs.Courses.{Course}
 use Rattle.bloom_steps.specs.Moments.{bits_of, EveryCallEnded, OneAtATime}
 
 -- a call with the steps that were made of it
@@ -36,8 +36,11 @@ cut (Did party step found ended ∷ rs) =
 
 -- the word that a step found in the other filter, if it looked there
 abbrev pub found_in_other : Step → ℕ → List ℕ
+found_in_other (Load i) found = []
+found_in_other (Or i mask) found = []
+found_in_other (And i mask) found = []
+found_in_other (Zero i) found = []
 found_in_other (Other i) found = found ∷ []
-found_in_other _ found = []
 
 -- the other filter's words, as steps found them
 abbrev pub other_words : List Taken → List ℕ

@@ -9,12 +9,12 @@ use Rattle.bloom_steps.specs.declared.steps.vocabulary.Record.{Record}
 use Rattle.bloom_steps.specs.declared.steps.vocabulary.Record.TheVariants.{Began, Did}
 
 -- the index of a step's word
-abbrev pub word_of : Step → ℕ
-word_of (Load i) = i
-word_of (Or i mask) = i
-word_of (And i mask) = i
-word_of (Zero i) = i
-word_of (Other i) = i
+abbrev pub word_index : Step → ℕ
+word_index (Load i) = i
+word_index (Or i mask) = i
+word_index (And i mask) = i
+word_index (Zero i) = i
+word_index (Other i) = i
 
 -- the step that turns a position on
 abbrev pub or_at : ℕ → Step

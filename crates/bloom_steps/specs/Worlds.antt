@@ -9,8 +9,8 @@ use Rattle.bloom_steps.specs.declared.steps.machine.Machine.{Machine}
 use Rattle.bloom_steps.specs.declared.steps.runner.World.{World}
 use Rattle.bloom_steps.specs.Steps.{after_records}
 use Rattle.bloom_steps.specs.Scripts.{Taken, IsScript}
-use Rattle.bloom_steps.specs.Machines.{StandsAt}
-use Rattle.bloom_steps.specs.Traces.{FindsWhatIsThere, records_of, did, Gives}
+use Rattle.bloom_steps.specs.Standing.{StandsAt}
+use Rattle.bloom_steps.specs.Courses.{FindsWhatIsThere, records_of, did, Gives}
 
 -- whole calls of a party, one after the other
 pub data WholeCalls (w k party : ℕ) : List Record → Type 0 where

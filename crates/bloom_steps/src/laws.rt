@@ -1,6 +1,6 @@
 //! Laws of word steps.
 ghost use Rattle.bloom_steps.specs.Memories.{MemoryLaw};
-ghost use Rattle.bloom_steps.specs.Traces.{AtMostOne};
+ghost use Rattle.bloom_steps.specs.Courses.{AtMostOne};
 
 use bloom_parts::laws::content_of_words;
 

@@ -1,4 +1,5 @@
 -- Which records of a party are call after call, and which not.
+use Rattle.bloom_steps.specs.Plans.{plan_of}
 use Rattle.std.proofs.Common.{◌≡◌, ◌∷◌, [], List, ℕ, refl, arith, subst}
 use Rattle.bloom_steps.specs.declared.steps.vocabulary.Step.{Step}
 use Rattle.bloom_steps.specs.declared.steps.vocabulary.Step.TheVariants.{And, Zero, Other}
@@ -9,7 +10,7 @@ use Rattle.bloom_steps.specs.declared.steps.vocabulary.End.TheVariants.{Running,
 use Rattle.bloom_steps.specs.declared.steps.vocabulary.Record.{Record}
 use Rattle.bloom_steps.specs.declared.steps.vocabulary.Record.TheVariants.{Began, Did}
 use Rattle.bloom_steps.specs.Scripts.{HasCount}
-use Rattle.bloom_steps.specs.Traces.{CallAfterCall, no_call, begun_call, whole_call}
+use Rattle.bloom_steps.specs.Courses.{CallAfterCall, no_call, begun_call, whole_call}
 use Rattle.bloom_steps.proofs.StepFacts.Members.{took}
 use Rattle.bloom_steps.proofs.StepFacts.Pairs.{intersect, intersect-script, union-script}
 
@@ -39,7 +40,7 @@ another-party calls = let first = first-begins 1 2 0 _ calls _ _ refl in let is 
 -- where another call begins after one step, that step alone is a script
 pub one-step : (w k p : ℕ) (all : List Record) → CallAfterCall w k p all
     → (call next : Call) (step : Step) (found : ℕ) (e : End) (rs : List Record)
-    → all ≡ Began p call ∷ Did p step found e ∷ Began p next ∷ rs → HasCount w k call 1
+    → all ≡ Began p call ∷ Did p step found e ∷ Began p next ∷ rs → HasCount w k (plan_of call) 1
 one-step w k p _ no_call call next step found e rs same = absurd (cc)
 one-step w k p _ (begun_call c [] b) call next step found e rs same = absurd (cc)
 one-step w k p _ (begun_call c (t ∷ []) b) call next step found e rs same = absurd (cc)
@@ -49,7 +50,7 @@ one-step w k p _ (whole_call c [] later is more) call next step found e rs same 
     first-begins w k p later more (Did p step found e) (Began p next ∷ rs) (cc) in
     absurd (let begins = first.1 in cc)
 one-step w k p _ (whole_call c (t ∷ []) later is more) call next step found e rs same =
-    let here : c ≡ call = cc in subst (λ x. HasCount w k x 1) here is.count
+    let here : c ≡ call = cc in subst (λ x. HasCount w k (plan_of x) 1) here is.count
 one-step w k p _ (whole_call c (t ∷ (u ∷ s)) later is more) call next step found e rs same =
     absurd (cc)
 

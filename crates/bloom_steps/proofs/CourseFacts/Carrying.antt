@@ -5,9 +5,9 @@ use Rattle.bloom_parts.specs.Content.{AreWords, content}
 use Rattle.bloom_steps.specs.declared.steps.vocabulary.Record.{Record}
 use Rattle.bloom_steps.specs.declared.steps.vocabulary.Record.TheVariants.{Began, Did}
 use Rattle.bloom_steps.specs.Memories.{found_in, words_after}
-use Rattle.bloom_steps.specs.Steps.{after_records, record_decides, step_decides, word_of}
-use Rattle.bloom_steps.specs.Traces.{CallAfterCall, Course, FindsWhatIsThere, IsLawful, MayFind, records_of}
-use Rattle.bloom_steps.proofs.RunLemmas.Keeping.{may_find-read}
+use Rattle.bloom_steps.specs.Steps.{after_records, record_decides, step_decides, word_index}
+use Rattle.bloom_steps.specs.Courses.{CallAfterCall, Course, FindsWhatIsThere, IsLawful, MayFind, records_of}
+use Rattle.bloom_steps.proofs.RunLemmas.Worlds.{may_find-read}
 use Rattle.bloom_steps.proofs.StepLemmas.Deciding.{state-first}
 use Rattle.bloom_steps.proofs.StepLemmas.Writing.{content-step}
 
@@ -22,7 +22,7 @@ abbrev pub FindsIn : List ℕ → List Record → Type 0
 FindsIn words [] = Unit {0}
 FindsIn words (Began party call ∷ rs) = FindsIn words rs
 FindsIn words (Did party step found e ∷ rs) =
-    (word_of step < length words) × (found ≡ found_in words found step) × (found < 2 ^ 64)
+    (word_index step < length words) × (found ≡ found_in words found step) × (found < 2 ^ 64)
     × FindsIn (words_after words step) rs
 
 -- the set after one record

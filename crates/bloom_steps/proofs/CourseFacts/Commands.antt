@@ -14,7 +14,7 @@ use Rattle.bloom_steps.proofs.StepFacts.Members.{took}
 use Rattle.bloom_steps.proofs.CourseFacts.Courses.{in_turn, in_turn_answering}
 use Rattle.bloom_steps.proofs.CourseFacts.Lawful.{lawful-in_turn}
 use Rattle.bloom_steps.proofs.CourseFacts.Parties.{ended-in_turn, one-in_turn}
-use Rattle.bloom_steps.proofs.RunLemmas.Sequel.{acts_as_commands}
+use Rattle.bloom_steps.proofs.RunLemmas.Commands.{acts_as_commands}
 
 -- a call with its steps, in order
 abbrev united : Bool → List MadeCall

@@ -5,7 +5,7 @@ use Rattle.bloom_steps.specs.declared.steps.vocabulary.Step.TheVariants.{Load, O
 use Rattle.bloom_steps.specs.declared.steps.vocabulary.Call.TheVariants.{Insert, Contains, Clear, Union}
 use Rattle.bloom_steps.specs.declared.steps.vocabulary.End.TheVariants.{Running, Done, Answer}
 use Rattle.bloom_steps.specs.declared.steps.vocabulary.Record.TheVariants.{Began, Did}
-use Rattle.bloom_steps.specs.Traces.{Course}
+use Rattle.bloom_steps.specs.Courses.{Course}
 
 -- two inserts of one fresh hash, of which the first answers so
 abbrev pub twins_answering : Bool → Course

@@ -4,18 +4,18 @@ use Rattle.bloom_parts.specs.Chain.{chain}
 use Rattle.bloom_parts.specs.Content.{bit_is_on, content}
 use Rattle.bloom_parts.specs.Places.{place}
 use Rattle.bloom_steps.specs.declared.steps.vocabulary.Step.TheVariants.{Other}
-use Rattle.bloom_steps.specs.declared.steps.vocabulary.Call.TheVariants.{Insert, Clear, Intersect}
+use Rattle.bloom_steps.specs.declared.steps.vocabulary.Call.TheVariants.{Insert}
 use Rattle.bloom_steps.specs.declared.steps.vocabulary.End.TheVariants.{Running}
 use Rattle.bloom_steps.specs.declared.steps.vocabulary.Record.TheVariants.{Began, Did}
 use Rattle.bloom_steps.specs.Interleavings.{EndsWithAll, IsFoundInOther, IsInserted}
 use Rattle.bloom_steps.specs.Moments.{EveryCallEnded}
-use Rattle.bloom_steps.specs.Traces.{records_of}
+use Rattle.bloom_steps.specs.Courses.{records_of}
 use Rattle.bloom_steps.proofs.StepFacts.Members.{each-member}
 use Rattle.bloom_steps.proofs.CourseFacts.Courses.{in_turn, twins}
-use Rattle.bloom_steps.proofs.CourseFacts.Gains.{only-insert}
+use Rattle.bloom_steps.proofs.CourseFacts.Gains.{twins-grow}
 use Rattle.bloom_steps.proofs.CourseFacts.Lawful.{lawful-twins}
 use Rattle.bloom_steps.proofs.CourseFacts.Parties.{idle-past}
-use Rattle.bloom_steps.proofs.RunLemmas.Ending.{ends_with_all}
+use Rattle.bloom_steps.proofs.RunLemmas.Grows.{ends_with_all}
 
 -- position 20 was inserted
 inserted : IsInserted 2 twins 20
@@ -74,7 +74,7 @@ ends = ends_with_all 2 twins lawful-twins
 ends-short : EndsWithAll 2 (record twins { words = 1 ∷ [] }) → ⊥
 unfolding content chain
 ends-short ends =
-    let on = (ends (only-insert Clear (λ e. cc)) (only-insert Intersect (λ e. cc)) ended 20).1
+    let on = (ends twins-grow ended 20).1
     (inr (inl inserted)) in
     cc
 
@@ -82,7 +82,7 @@ ends-short ends =
 ends-long : EndsWithAll 2 (record twins { words = 1048579 ∷ [] }) → ⊥
 unfolding content chain
 ends-long ends =
-    elim ((ends (only-insert Clear (λ e. cc)) (only-insert Intersect (λ e. cc)) ended 1).0 refl) [
+    elim ((ends twins-grow ended 1).0 refl) [
       | inl start ↦ (let on = start in cc)
       | inr later ↦ elim later [ inl is ↦ uninserted is | inr is ↦ none_found 1 is ]
     ]

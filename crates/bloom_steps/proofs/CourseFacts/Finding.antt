@@ -4,8 +4,8 @@ use Rattle.bloom_parts.specs.Content.{content}
 use Rattle.bloom_steps.specs.declared.steps.vocabulary.Step.{Step}
 use Rattle.bloom_steps.specs.declared.steps.vocabulary.Step.TheVariants.{Load, Or, And, Zero, Other}
 use Rattle.bloom_steps.specs.Memories.{found_in}
-use Rattle.bloom_steps.specs.Traces.{MayFind}
-use Rattle.bloom_steps.proofs.RunLemmas.Keeping.{may_find-read}
+use Rattle.bloom_steps.specs.Courses.{MayFind}
+use Rattle.bloom_steps.proofs.RunLemmas.Worlds.{may_find-read}
 
 -- the content of two words
 abbrev set : ℕ → Bool

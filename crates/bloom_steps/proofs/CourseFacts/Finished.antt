@@ -8,7 +8,7 @@ use Rattle.bloom_steps.specs.declared.steps.vocabulary.End.{End}
 use Rattle.bloom_steps.specs.declared.steps.vocabulary.End.TheVariants.{Running, Done, Answer}
 use Rattle.bloom_steps.specs.declared.steps.vocabulary.Record.{Record}
 use Rattle.bloom_steps.specs.declared.steps.vocabulary.Record.TheVariants.{Began, Did}
-use Rattle.bloom_steps.specs.Traces.{Course}
+use Rattle.bloom_steps.specs.Courses.{Course}
 use Rattle.bloom_steps.specs.Moments.{IsStepAt, IsFinished}
 use Rattle.bloom_steps.proofs.StepFacts.Members.{all_pass, each-passes}
 use Rattle.std.proofs.lemmas.Bool.{both_ways, and_from, eq-eqb, lt-ltb}

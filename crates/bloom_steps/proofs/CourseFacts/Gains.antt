@@ -7,12 +7,14 @@ use Rattle.bloom_steps.specs.declared.steps.vocabulary.Call.TheVariants.{Insert,
 use Rattle.bloom_steps.specs.declared.steps.vocabulary.End.TheVariants.{Running}
 use Rattle.bloom_steps.specs.declared.steps.vocabulary.Record.TheVariants.{Began, Did}
 use Rattle.bloom_steps.specs.Interleavings.{CountsGains, count_below, found_off}
-use Rattle.bloom_steps.specs.Moments.{NoCall}
-use Rattle.bloom_steps.specs.Traces.{Course}
+use Rattle.bloom_steps.proofs.CourseFacts.Premises.{NoCall, by_hash, growing}
+use Rattle.bloom_steps.specs.Moments.{EveryCall}
+use Rattle.bloom_steps.specs.Plans.{goes_by_hash, turns_none_off}
+use Rattle.bloom_steps.specs.Courses.{Course}
 use Rattle.bloom_steps.proofs.StepFacts.Members.{each-member}
-use Rattle.bloom_steps.proofs.CourseFacts.Courses.{disturbed, twins}
+use Rattle.bloom_steps.proofs.CourseFacts.Courses.{twins}
 use Rattle.bloom_steps.proofs.CourseFacts.Lawful.{lawful-twins}
-use Rattle.bloom_steps.proofs.RunLemmas.Gaining.{counts_gains}
+use Rattle.bloom_steps.proofs.RunLemmas.Gained.{counts_gains}
 
 -- numbers below a bound
 even-below : count_below 5 (λ n. n % 2 == 0) ≡ 3
@@ -75,6 +77,17 @@ only-insert call other m party g =
     )
     m (Began party call) g refl
 
+-- so they go by hashes
+twins-by_hash : EveryCall goes_by_hash twins.records
+twins-by_hash =
+    (by_hash twins.records).1
+    (only-insert Clear (λ e. cc), only-insert Union (λ e. cc), only-insert Intersect (λ e. cc))
+
+-- and turn nothing off
+pub twins-grow : EveryCall turns_none_off twins.records
+twins-grow =
+    (growing twins.records).1 (only-insert Clear (λ e. cc), only-insert Intersect (λ e. cc))
+
 -- one position gained is too few
 abbrev one_gained : Course
 one_gained = record twins { words = 1 ∷ [] }
@@ -88,10 +101,4 @@ few-gained = refl
 -- the theorem fails of it
 ungained : CountsGains one_gained → ⊥
 ungained counts =
-    let two = counts (only-insert Clear (λ e. cc)) (only-insert Union (λ e. cc))
-    (only-insert Intersect (λ e. cc)) in
-    omega (arith, sym twins-off, two, few-gained)
-
--- a call that is there
-clear-there : NoCall disturbed.records Clear → ⊥
-clear-there none = none 2 1 refl
+    let two = counts twins-by_hash in omega (arith, sym twins-off, two, few-gained)

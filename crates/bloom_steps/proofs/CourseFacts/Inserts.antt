@@ -14,7 +14,7 @@ use Rattle.bloom_steps.specs.declared.steps.vocabulary.Step.{Step}
 use Rattle.bloom_steps.proofs.StepFacts.Members.{each-member}
 use Rattle.bloom_steps.proofs.CourseFacts.Finished.{finished}
 use Rattle.bloom_steps.proofs.CourseFacts.Lawful.{lawful-twins}
-use Rattle.bloom_steps.proofs.RunLemmas.Telling.{inserts_tell}
+use Rattle.bloom_steps.proofs.RunLemmas.Inserts.{inserts_tell}
 
 -- each of the twins turns a position on
 first-on : (answer : Bool) → TurnsOneOn (twins_answering answer) 0 0 5

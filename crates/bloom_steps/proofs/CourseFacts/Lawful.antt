@@ -8,7 +8,7 @@ use Rattle.bloom_steps.specs.declared.steps.vocabulary.Step.TheVariants.{Load, O
 use Rattle.bloom_steps.specs.declared.steps.vocabulary.Call.TheVariants.{Insert, Contains, Union}
 use Rattle.bloom_steps.specs.declared.steps.vocabulary.End.TheVariants.{Running, Done, Answer}
 use Rattle.bloom_steps.specs.Scripts.{Any, Taken, IsScript}
-use Rattle.bloom_steps.specs.Traces.{CallAfterCall, IsLawful, no_call, begun_call, whole_call, records_of}
+use Rattle.bloom_steps.specs.Courses.{CallAfterCall, IsLawful, no_call, begun_call, whole_call, records_of}
 use Rattle.bloom_steps.proofs.StepFacts.Members.{each-member, took}
 use Rattle.bloom_steps.proofs.StepFacts.Pairs.{one-pair}
 use Rattle.bloom_steps.proofs.StepFacts.Scripts.{insert, insert-script}

@@ -13,7 +13,8 @@ use Rattle.bloom_steps.proofs.CourseFacts.Courses.{disturbed, insert_in_clear, i
 use Rattle.bloom_steps.proofs.CourseFacts.Finished.{finished, finished-contains}
 use Rattle.bloom_steps.proofs.CourseFacts.Lawful.{lawful-insert_then_contains}
 use Rattle.bloom_steps.proofs.CourseFacts.Undisturbed.{alone, only}
-use Rattle.bloom_steps.proofs.RunLemmas.Telling.{contains_tell, finds_inserted}
+use Rattle.bloom_steps.proofs.RunLemmas.Contains.{contains_tell}
+use Rattle.bloom_steps.proofs.RunLemmas.Found.{finds_inserted}
 
 -- at no moment of its span was the disturbed look-up's hash contained
 disturbed-first : are_in 64 2 1 (moment disturbed 1) ≡ false

@@ -7,7 +7,7 @@ use Rattle.bloom_steps.specs.declared.steps.vocabulary.Event.{Event}
 use Rattle.bloom_steps.specs.declared.steps.vocabulary.Event.TheVariants.{Begin, Go}
 use Rattle.bloom_steps.specs.declared.steps.vocabulary.Record.{Record}
 use Rattle.bloom_steps.specs.declared.steps.vocabulary.Record.TheVariants.{Began, Did}
-use Rattle.bloom_steps.specs.Traces.{Course, Follows, FollowsFrom, Gives, no_event, next_event, records_of}
+use Rattle.bloom_steps.specs.Courses.{Course, Follows, FollowsFrom, Gives, no_event, next_event, records_of}
 
 -- events of which two alone make sense to one party: the beginning of its clear, and its step
 abbrev pub schedule : List Event

@@ -4,7 +4,7 @@ use Rattle.bloom_steps.specs.declared.steps.vocabulary.Step.TheVariants.{Zero}
 use Rattle.bloom_steps.specs.declared.steps.vocabulary.Call.TheVariants.{Clear}
 use Rattle.bloom_steps.specs.declared.steps.vocabulary.End.TheVariants.{Done}
 use Rattle.bloom_steps.specs.Scripts.{IsScript, Taken}
-use Rattle.bloom_steps.specs.Traces.{AtMostOne, CallAfterCall, Course, Follows, IsLawful, no_call, records_of, whole_call}
+use Rattle.bloom_steps.specs.Courses.{AtMostOne, CallAfterCall, Course, Follows, IsLawful, no_call, records_of, whole_call}
 use Rattle.bloom_steps.proofs.StepFacts.Members.{each-member, took}
 use Rattle.bloom_steps.proofs.CourseFacts.Carrying.{carried}
 use Rattle.bloom_steps.proofs.CourseFacts.Lawful.{one-word}

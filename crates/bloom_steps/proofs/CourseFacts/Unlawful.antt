@@ -6,7 +6,7 @@ use Rattle.bloom_steps.specs.declared.steps.vocabulary.Call.TheVariants.{Insert,
 use Rattle.bloom_steps.specs.declared.steps.vocabulary.End.TheVariants.{Running, Answer}
 use Rattle.bloom_steps.specs.declared.steps.vocabulary.Record.{Record}
 use Rattle.bloom_steps.specs.declared.steps.vocabulary.Record.TheVariants.{Began, Did}
-use Rattle.bloom_steps.specs.Traces.{Course, IsLawful, records_of}
+use Rattle.bloom_steps.specs.Courses.{Course, IsLawful, records_of}
 use Rattle.bloom_steps.proofs.CourseFacts.Calls.{first-begins, one-step}
 use Rattle.bloom_steps.proofs.CourseFacts.Courses.{insert_then_contains}
 use Rattle.bloom_steps.proofs.CourseFacts.Finding.{past}

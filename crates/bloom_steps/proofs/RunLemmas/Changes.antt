@@ -1,4 +1,5 @@
 -- What a record changes, and what stays.
+use Rattle.bloom_steps.specs.declared.steps.vocabulary.End.TheVariants.{Answer}
 use Rattle.std.proofs.Common.{◌%◌, ◌&&◌, ◌+◌, ◌/◌, ◌<◌, ◌^◌, ◌∙◌, ◌≡◌, ◌≢◌, ◌≤◌, ◌⊎◌, Bool, None, Option, Some, ap, arith, eq-eqb, false, if◌then◌else◌, inl, inr, nat_eq, not, refl, slice_get, subst, suc, sym, take, true, unwrap_or, zero, ℕ}
 use Rattle.std.proofs.lemmas.Bool.{and_from, and_parts, both_ways, eqb-true}
 use Rattle.std.proofs.lemmas.Bool.Decides.{eqb_tells}
@@ -11,7 +12,7 @@ use Rattle.bloom_steps.specs.declared.steps.vocabulary.Step.TheVariants.{Or}
 use Rattle.bloom_steps.specs.Moments.{moment, turns_off, turns_on}
 use Rattle.bloom_steps.specs.Scripts.{Taken}
 use Rattle.bloom_steps.specs.Steps.{after_records, load_at, or_at, record_decides, step_decides}
-use Rattle.bloom_steps.specs.Traces.{Course, IsLawful, MayFind}
+use Rattle.bloom_steps.specs.Courses.{Course, IsLawful, MayFind}
 use Rattle.bloom_steps.proofs.StepLemmas.Deciding.{records-more}
 use Rattle.bloom_steps.proofs.StepLemmas.Members.{take-more}
 
@@ -143,3 +144,7 @@ module _ (k : ℕ) (run : Course) (lawful : IsLawful k run) (m party q : ℕ) (t
   -- it makes its own on
   pub on-or : t.step ≡ or_at q → moment run (m + 1) q ≡ true
   on-or step = moment-or q step ∙ ap (λ o. unwrap_or o (moment run m q)) (or_at-own q)
+
+-- answers are told apart
+pub same-answer : (a b : Bool) → Answer a ≡ Answer b → a ≡ b
+same-answer a b e = cc

@@ -1,8 +1,10 @@
 -- Where a growing run's positions come from.
-use Rattle.std.proofs.Common.{[], ◌%◌, ◌*◌, ◌/◌, ◌^◌, ◌∙◌, ◌∷◌, ◌≡◌, ◌⊎◌, Bool, List, None, Option, Some, ap, if◌then◌else◌, inl, inr, length, map, nat_eq, refl, slice_get, subst, suc, sym, true, unwrap_or, ℕ}
-use Rattle.std.proofs.lemmas.Bool.{eqb-true}
+use Rattle.bloom_steps.proofs.StepLemmas.Plans.{plan_decides, TurnsBy, on-tells, PlanDecides, on-only}
+use Rattle.bloom_steps.specs.declared.steps.vocabulary.Step.{Step}
+use Rattle.bloom_steps.specs.Plans.{turns_none_off, Plan, plan_of, TurnsOn, LooksAt, EachWord, EachPair}
+use Rattle.std.proofs.Common.{[], ◌%◌, ◌*◌, ◌/◌, ◌^◌, ◌∙◌, ◌∷◌, ◌≡◌, ◌⊎◌, Bool, List, None, Option, Some, ap, inl, inr, length, map, refl, slice_get, subst, suc, sym, true, unwrap_or, ℕ, false}
+use Rattle.std.proofs.lemmas.Bool.{both_ways}
 use Rattle.std.proofs.lemmas.Option.{none-some}
-use Rattle.bloom_parts.specs.Content.{bit_is_on}
 use Rattle.bloom_parts.specs.Places.{place}
 use Rattle.bloom_steps.specs.declared.steps.vocabulary.Call.{Call}
 use Rattle.bloom_steps.specs.declared.steps.vocabulary.Call.TheVariants.{Clear, Contains, Insert, Intersect, Union}
@@ -10,14 +12,14 @@ use Rattle.bloom_steps.specs.declared.steps.vocabulary.Record.{Record}
 use Rattle.bloom_steps.specs.declared.steps.vocabulary.Record.TheVariants.{Began, Did}
 use Rattle.bloom_steps.specs.declared.steps.vocabulary.Step.TheVariants.{Or, Other}
 use Rattle.bloom_steps.specs.Interleavings.{IsFoundInOther, IsInserted}
-use Rattle.bloom_steps.specs.Moments.{NoCall, bits_of}
+use Rattle.bloom_steps.specs.Moments.{EveryCall, bits_of}
 use Rattle.bloom_steps.specs.Scripts.{Taken}
 use Rattle.bloom_steps.specs.Steps.{after_records, record_decides, step_decides}
-use Rattle.bloom_steps.specs.Traces.{Course, IsLawful}
+use Rattle.bloom_steps.specs.Courses.{Course, IsLawful}
 use Rattle.bloom_steps.proofs.RunLemmas.Bounds.{NoneMakesOff}
-use Rattle.bloom_steps.proofs.RunLemmas.Changes.{DecidesOnly, and_cases, or-decides_only, or_at-decides}
-use Rattle.bloom_steps.proofs.RunLemmas.Held.{step_held}
-use Rattle.bloom_steps.proofs.RunLemmas.Placing.{IsPlacedAt}
+use Rattle.bloom_steps.proofs.RunLemmas.Changes.{DecidesOnly, or-decides_only, or_at-decides}
+use Rattle.bloom_steps.proofs.RunLemmas.RecordedCalls.{step_held}
+use Rattle.bloom_steps.proofs.RunLemmas.PlacedSteps.{IsPlacedAt, IsPairAt}
 use Rattle.bloom_steps.proofs.StepLemmas.Deciding.{state-first}
 
 -- some record makes a position on
@@ -41,14 +43,6 @@ decider A (r ∷ rs) q on =
     go None e f = inl f
     go (Some b) e f = inr (0, r, refl, e ∙ ap Some f)
 
--- a mask that makes a position on has its bit
-mask_tells : (i mask q : ℕ) → step_decides (Or i mask) q ≡ Some true
-    → (q / 64 ≡ i) × (bit_is_on mask q ≡ true)
-mask_tells i mask q e = elim (and_cases (nat_eq (q / 64) i) (bit_is_on mask q)) [
-  | inl both ↦ (eqb-true _ _ both.0, both.1)
-  | inr off ↦ absurd (none-some true (sym (ap (λ b. if b then Some true else None) off) ∙ e))
-]
-
 -- some record begins this call of a party
 abbrev pub HasBegun : Course → ℕ → Call → Type 0
 HasBegun run p call = (n : ℕ) × (slice_get run.records n ≡ Some (Began p call))
@@ -59,48 +53,43 @@ HasSteps run p s =
     (i : ℕ) (t : Taken) → slice_get s i ≡ Some t → (n : ℕ)
     × (slice_get run.records n ≡ Some (Did p t.step t.found t.ended))
 
--- a lawful run without clears and intersections
-module _ (k : ℕ) (run : Course) (lawful : IsLawful k run) (no_clear : NoCall run.records Clear)
-    (no_intersect : NoCall run.records Intersect) where
+-- no step of a plan that turns nothing off makes anything off
+grows_at : (w k q : ℕ) (plan : Plan) (s : List Taken) (j : ℕ) (t : Taken) → PlanDecides plan
+    → turns_none_off plan ≡ true → IsPlacedAt w k plan s j t → DecidesOnly (Some true) q t.step
+grows_at w k q (TurnsOn h) s j t does none at =
+    let r = place (64 * w) h j in
+    subst (DecidesOnly (Some true) q) (sym at.1) (or-decides_only (r / 64) (2 ^ (r % 64)) q)
+grows_at w k q (LooksAt h) s j t does none at = inl (ap (λ x. step_decides x q) at)
+grows_at w k q (EachWord op) s j t does none at = absurd (both_ways false refl none)
+grows_at w k q (EachPair op on) s j t does none at = elim at.either [
+  | inl load ↦ inl (ap (λ x. step_decides x q) load)
+  | inr u ↦
+      subst (DecidesOnly (Some true) q) (sym u.3) (on-only op on does.0 none at.i u.0.found q)
+]
+
+-- a lawful run of calls that turn nothing off
+module _ (k : ℕ) (run : Course) (lawful : IsLawful k run)
+    (none_off : EveryCall turns_none_off run.records) where
   -- no step makes anything off
   pub growing : (q : ℕ) → NoneMakesOff run q
   growing q m p step found e g =
       let h = step_held k run lawful m p step found e g in
+      let began = h.of.began in
       subst (DecidesOnly (Some true) q) h.same_step
-      (by_call h.of.call h.of.s h.j h.t h.of.began h.at)
-    where
-      by_call : (call : Call) (s : List Taken) (j : ℕ) (t : Taken) → HasBegun run p call
-          → IsPlacedAt (length run.start) k call s j t → DecidesOnly (Some true) q t.step
-      by_call (Insert h) s j t began at =
-          let r = place (bits_of run) h j in
-          subst (DecidesOnly (Some true) q) (sym at.1) (or-decides_only (r / 64) (2 ^ (r % 64)) q)
-      by_call (Contains h) s j t began at = inl (ap (λ x. step_decides x q) at)
-      by_call Clear s j t began at = absurd (no_clear began.0 p began.1)
-      by_call Union s j t began at = elim at.either [
-        | inl load ↦ inl (ap (λ x. step_decides x q) load)
-        | inr u ↦ subst (DecidesOnly (Some true) q) (sym u.3) (or-decides_only at.i u.0.found q)
-      ]
-      by_call Intersect s j t began at = absurd (no_intersect began.0 p began.1)
+      (grows_at (length run.start) k q (plan_of h.of.call) h.of.s h.j h.t (plan_decides h.of.call)
+      (none_off began.0 p h.of.call began.1) h.at)
 
-  -- what a step made on was inserted, or found in the other filter
-  origin : (q p : ℕ) (call : Call) (s : List Taken) (j : ℕ) (t : Taken) → HasBegun run p call
-      → HasSteps run p s
-      → IsPlacedAt (length run.start) k call s j t → step_decides t.step q ≡ Some true
-      → IsInserted k run q ⊎ IsFoundInOther run q
-  origin q p (Insert h) s j t began steps at e = elim (or_at-decides (place (bits_of run) h j) q) [
-    | inl here ↦ inl (began.0, p, h, began.1, (j, at.0, sym here.0))
-    | inr other ↦ absurd (none-some true (sym other.1 ∙ ap (λ x. step_decides x q) (sym at.1) ∙ e))
-  ]
-  origin q p (Contains h) s j t began steps at e =
-      absurd (none-some true (ap (λ x. step_decides x q) (sym at) ∙ e))
-  origin q p Clear s j t began steps at e = absurd (no_clear began.0 p began.1)
-  origin q p Union s j t began steps at e = elim at.either [
+  -- what the write of a pair made on was found in the other filter
+  found_by : (op : ℕ → ℕ → Step) (on : Bool) (q p : ℕ) (s : List Taken) (t : Taken) → TurnsBy op on
+      → on ≡ true → HasSteps run p s → IsPairAt (length run.start) op s t
+      → step_decides t.step q ≡ Some true → IsFoundInOther run q
+  found_by op on q p s t does is steps at e = elim at.either [
     | inl load ↦ absurd (none-some true (ap (λ x. step_decides x q) (sym load) ∙ e))
     | inr u ↦
-        let its = mask_tells at.i u.0.found q (ap (λ x. step_decides x q) (sym u.3) ∙ e) in
+        let makes = ap (λ x. step_decides x q) (sym u.3) ∙ e in
+        let its = on-tells op on does is at.i u.0.found q makes in
         let n = steps (2 * at.i) u.0 u.1 in
-        let load = u.2 ∙ ap Other (sym its.0) in
-        inr (
+        let load = u.2 ∙ ap Other (sym its.0) in (
           n.0,
           p,
           u.0.found,
@@ -109,8 +98,26 @@ module _ (k : ℕ) (run : Course) (lawful : IsLawful k run) (no_clear : NoCall r
           its.1,
         )
   ]
-  origin q p Intersect s j t began steps at e = absurd (no_intersect began.0 p began.1)
 
+  -- what a step made on was inserted, or found in the other filter
+  origin : (q p : ℕ) (call : Call) (s : List Taken) (j : ℕ) (t : Taken) → HasBegun run p call
+      → HasSteps run p s
+      → IsPlacedAt (length run.start) k (plan_of call) s j t → step_decides t.step q ≡ Some true
+      → IsInserted k run q ⊎ IsFoundInOther run q
+  origin q p (Insert h) s j t began steps at e = elim (or_at-decides (place (bits_of run) h j) q) [
+    | inl here ↦ inl (began.0, p, h, began.1, (j, at.0, sym here.0))
+    | inr other ↦ absurd (none-some true (sym other.1 ∙ ap (λ x. step_decides x q) (sym at.1) ∙ e))
+  ]
+  origin q p (Contains h) s j t began steps at e =
+      absurd (none-some true (ap (λ x. step_decides x q) (sym at) ∙ e))
+  origin q p Clear s j t began steps at e =
+      absurd (both_ways false refl (none_off began.0 p Clear began.1))
+  origin q p Union s j t began steps at e =
+      inr (found_by Or true q p s t (plan_decides Union).0 refl steps at e)
+  origin q p Intersect s j t began steps at e =
+      absurd (both_ways false refl (none_off began.0 p Intersect began.1))
+
+  -- what a record made on was so too
   pub origin_of : (q m : ℕ) (r : Record) → slice_get run.records m ≡ Some r
       → record_decides r q ≡ Some true
       → IsInserted k run q ⊎ IsFoundInOther run q

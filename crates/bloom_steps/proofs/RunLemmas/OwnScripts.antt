@@ -10,10 +10,10 @@ use Rattle.bloom_steps.specs.declared.steps.vocabulary.Record.{Record}
 use Rattle.bloom_steps.specs.declared.steps.vocabulary.Record.TheVariants.{Began, Did}
 use Rattle.bloom_steps.specs.Moments.{IsFinished}
 use Rattle.bloom_steps.specs.Scripts.{IsScript, Taken}
-use Rattle.bloom_steps.specs.Traces.{Course, IsLawful, did, records_of}
-use Rattle.bloom_steps.proofs.RunLemmas.Newest.{OneEnd, one_end-script}
-use Rattle.bloom_steps.proofs.RunLemmas.Parties.{did-get, did-got, own_of_record, record_of_own, records_of-append, records_of-mine}
-use Rattle.bloom_steps.proofs.RunLemmas.Segments.{EndsAt, front_is, segment}
+use Rattle.bloom_steps.specs.Courses.{Course, IsLawful, did, records_of}
+use Rattle.bloom_steps.proofs.RunLemmas.RunningCalls.{OneEnd, one_end-script}
+use Rattle.bloom_steps.proofs.RunLemmas.PartyRecords.{did-get, did-got, own_of_record, record_of_own, records_of-append, records_of-mine}
+use Rattle.bloom_steps.proofs.RunLemmas.CallRecords.{EndsAt, front_is, segment}
 use Rattle.bloom_steps.proofs.StepLemmas.Members.{member-take, member_of_take}
 use Rattle.bloom_steps.proofs.StepLemmas.Whole.{beginning_runs, script_some}
 

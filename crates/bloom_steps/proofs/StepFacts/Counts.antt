@@ -1,52 +1,53 @@
 -- How many steps a call makes, and a count near it that none makes.
+use Rattle.bloom_steps.specs.Plans.{plan_of}
 use Rattle.std.proofs.Common.{refl, arith}
 use Rattle.bloom_steps.specs.declared.steps.vocabulary.Call.TheVariants.{Insert, Contains, Clear, Union, Intersect}
 use Rattle.bloom_steps.specs.Scripts.{HasCount}
 
 -- an insert makes a step for each hash
-insert-count : HasCount 2 3 (Insert 1) 3
+insert-count : HasCount 2 3 (plan_of (Insert 1)) 3
 insert-count = refl
 
 -- none fewer
-insert-count_less : HasCount 2 3 (Insert 1) 2 → ⊥
+insert-count_less : HasCount 2 3 (plan_of (Insert 1)) 2 → ⊥
 insert-count_less h = omega (arith, h)
 
 -- a look-up may end at its first step
-contains-count_one : HasCount 2 3 (Contains 1) 1
+contains-count_one : HasCount 2 3 (plan_of (Contains 1)) 1
 contains-count_one = (omega arith, omega arith)
 
 -- or at its last
-contains-count : HasCount 2 3 (Contains 1) 3
+contains-count : HasCount 2 3 (plan_of (Contains 1)) 3
 contains-count = (omega arith, omega arith)
 
 -- not before its first
-contains-count_none : HasCount 2 3 (Contains 1) 0 → ⊥
+contains-count_none : HasCount 2 3 (plan_of (Contains 1)) 0 → ⊥
 contains-count_none h = omega (arith, h.0)
 
 -- nor after its last
-contains-count_more : HasCount 2 3 (Contains 1) 4 → ⊥
+contains-count_more : HasCount 2 3 (plan_of (Contains 1)) 4 → ⊥
 contains-count_more h = omega (arith, h.1)
 
 -- a clear makes a step for each word
-clear-count : HasCount 2 3 Clear 2
+clear-count : HasCount 2 3 (plan_of Clear) 2
 clear-count = refl
 
 -- not for each hash
-clear-count_hashes : HasCount 2 3 Clear 3 → ⊥
+clear-count_hashes : HasCount 2 3 (plan_of Clear) 3 → ⊥
 clear-count_hashes h = omega (arith, h)
 
 -- a union makes two for each word
-union-count : HasCount 2 3 Union 4
+union-count : HasCount 2 3 (plan_of Union) 4
 union-count = refl
 
 -- not one
-union-count_half : HasCount 2 3 Union 2 → ⊥
+union-count_half : HasCount 2 3 (plan_of Union) 2 → ⊥
 union-count_half h = omega (arith, h)
 
 -- an intersection makes two for each word
-intersect-count : HasCount 2 3 Intersect 4
+intersect-count : HasCount 2 3 (plan_of Intersect) 4
 intersect-count = refl
 
 -- not one
-intersect-count_half : HasCount 2 3 Intersect 2 → ⊥
+intersect-count_half : HasCount 2 3 (plan_of Intersect) 2 → ⊥
 intersect-count_half h = omega (arith, h)

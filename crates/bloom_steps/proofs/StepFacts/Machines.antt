@@ -3,9 +3,9 @@ use Rattle.std.proofs.Common.{◌≡◌, ◌∷◌, [], ℕ, None, Some, true, f
 use Rattle.std.specs.Int.{rotate_left, w64}
 use Rattle.bloom_parts.specs.Places.{place}
 use Rattle.bloom_steps.specs.declared.steps.vocabulary.Step.{Step}
-use Rattle.bloom_steps.specs.Steps.{word_of}
-use Rattle.bloom_steps.specs.Machines as Machines
-use Rattle.bloom_steps.specs.Turns.{Replied}
+use Rattle.bloom_steps.specs.Steps.{word_index}
+use Rattle.bloom_steps.specs.Standing as Standing
+use Rattle.bloom_steps.specs.Standing.{Replied}
 use Rattle.std.proofs.lemmas.Option.{none-some, same_Some}
 use Rattle.bloom_steps.proofs.StepLemmas.Replying.{stands-more}
 use Rattle.bloom_steps.proofs.StepLemmas.Asking.{asks_after}
@@ -14,8 +14,8 @@ use Rattle.bloom_steps.specs.declared.steps.vocabulary.Step.TheVariants.{Load, O
 use Rattle.bloom_steps.specs.declared.steps.vocabulary.Call.TheVariants.{Insert}
 use Rattle.bloom_steps.specs.declared.steps.vocabulary.End.TheVariants.{Running}
 use Rattle.bloom_steps.specs.declared.steps.machine.Machine.{Machine}
-use Rattle.bloom_steps.specs.Machines.{StandsAt}
-use Rattle.bloom_steps.specs.Turns.{AsksAfter, AnswersAfter, AsksRight, AnswersRight, StandsFurther}
+use Rattle.bloom_steps.specs.Standing.{StandsAt}
+use Rattle.bloom_steps.specs.Machines.{AsksAfter, AnswersAfter, AsksRight, AnswersRight, StandsFurther}
 use Rattle.bloom_steps.proofs.StepFacts.Members.{took}
 use Rattle.bloom_steps.proofs.StepFacts.Beginnings.{begun-none, begun-one, next-first}
 use Rattle.bloom_steps.proofs.StepFacts.Scripts.{insert, insert-script}
@@ -124,8 +124,8 @@ replied-nothing next = omega (arith, (next 1 2 (Insert 1) [] (Or 0 1) refl stand
 asks : AsksRight begun (Some (Or 0 1))
 asks w k call s st = asks_after begun w k call s (Some (Or 0 1)) refl within st
   where
-    within : (step : Step) → Machines.asks begun ≡ Some step → word_of step < 1
-    within step e = subst (λ x. word_of x < 1) (same_Some (Or 0 1) step e) (omega arith)
+    within : (step : Step) → Standing.asks begun ≡ Some step → word_index step < 1
+    within step e = subst (λ x. word_index x < 1) (same_Some (Or 0 1) step e) (omega arith)
 
 -- not for a load
 asks-load : AsksRight begun (Some (Load 0)) → ⊥

@@ -115,7 +115,6 @@ union-drives = record {
   taken = union;
   script = union-script;
   linked = union-linked;
-  count = refl;
   answers = refl;
 }
 
@@ -141,7 +140,6 @@ clear-drives = record {
     last = each-member _ (took (Zero 0) 0 Done ∷ []) ((λ l. refl), tt);
   };
   linked = (memory 0, zero-moves, refl);
-  count = refl;
   answers = refl;
 }
 

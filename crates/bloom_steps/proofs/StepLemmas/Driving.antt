@@ -4,10 +4,10 @@ use Rattle.std.proofs.lemmas.Option.{none-some, same_Some}
 use Rattle.bloom_steps.specs.declared.steps.vocabulary.Call.{Call}
 use Rattle.bloom_steps.specs.declared.steps.vocabulary.Step.{Step}
 use Rattle.bloom_steps.specs.declared.steps.machine.Machine.{Machine}
-use Rattle.bloom_steps.specs.Machines.{StandsAt}
+use Rattle.bloom_steps.specs.Standing.{StandsAt}
 use Rattle.bloom_steps.specs.Scripts.{Linked, Taken}
-use Rattle.bloom_steps.specs.Steps.{word_of}
-use Rattle.bloom_steps.specs.Turns.{AsksAfter}
+use Rattle.bloom_steps.specs.Steps.{word_index}
+use Rattle.bloom_steps.specs.Machines.{AsksAfter}
 
 -- one step more at the end
 pub linked-more :
@@ -27,10 +27,10 @@ pub record HasMade
 
 -- a step that is asked for is the next, and on one of the words
 pub asked-within : (w k : ℕ) (call : Call) (s : List Taken) (step : Step)
-    → AsksAfter w k call s (Some step) → word_of step < w
+    → AsksAfter w k call s (Some step) → word_index step < w
 asked-within w k call s step asked = elim asked.either [
   | inl begun ↦
       let next = asked.begun begun in
-      subst (λ x. word_of x < w) (sym (same_Some step next.step next.asks_it)) next.within
+      subst (λ x. word_index x < w) (sym (same_Some step next.step next.asks_it)) next.within
   | inr whole ↦ absurd (none-some step (sym (asked.over whole)))
 ]

@@ -2,14 +2,14 @@
 use Rattle.std.proofs.Common.{◌*◌, ◌++◌, ◌+◌, ◌∙◌, ◌∷◌, ◌≡◌, ◌⊎◌, List, Some, ap, arith, inl, inr, length, refl, slice_get, subst, suc, sym, zero, ℕ}
 use Rattle.std.proofs.lemmas.Option.{same_Some}
 use Rattle.bloom_steps.specs.declared.steps.vocabulary.Call.{Call}
-use Rattle.bloom_steps.specs.declared.steps.vocabulary.Call.TheVariants.{Clear, Contains, Insert, Intersect, Union}
+use Rattle.bloom_steps.specs.Plans.{EachPair, EachWord, LooksAt, Plan, TurnsOn, plan_of}
 use Rattle.bloom_steps.specs.declared.steps.vocabulary.Step.{Step}
-use Rattle.bloom_steps.specs.declared.steps.vocabulary.Step.TheVariants.{And, Or, Other}
-use Rattle.bloom_steps.specs.Scripts.{ArePairs, IsNext, IsScript, Taken}
+use Rattle.bloom_steps.specs.declared.steps.vocabulary.Step.TheVariants.{Other}
+use Rattle.bloom_steps.specs.Scripts.{ArePairs, IsNext, IsScript, Taken, AreStepsOf}
 use Rattle.bloom_steps.proofs.StepLemmas.Growing.{FitsNext, IsNextOfPairs}
 use Rattle.bloom_steps.proofs.StepLemmas.Members.{member-front, member-seam, some_member}
 
--- whatever goes on from s goes on with the step that fits
+-- the step after some of pairs comes next of them
 pairs_next : (op : ℕ → ℕ → Step) (s rest : List Taken) (t : Taken) → ArePairs op (s ++ t ∷ rest)
     → IsNextOfPairs op s t.step
 pairs_next op s rest t all = (
@@ -19,13 +19,18 @@ pairs_next op s rest t all = (
       (subst (λ n. slice_get (s ++ t ∷ rest) n ≡ Some t) e (member-seam s rest t))),
 )
 
+-- the step after these fits them
+steps_next : (w : ℕ) (plan : Plan) (s rest : List Taken) (t : Taken)
+    → AreStepsOf w plan (s ++ t ∷ rest) → FitsNext w plan s t.step
+steps_next w (TurnsOn h) s rest t all = all (length s) t (member-seam s rest t)
+steps_next w (LooksAt h) s rest t all = all (length s) t (member-seam s rest t)
+steps_next w (EachWord op) s rest t all = all (length s) t (member-seam s rest t)
+steps_next w (EachPair op on) s rest t all = pairs_next op s rest t all
+
+-- whatever script goes on after a beginning goes on with a step that fits
 pub script_next : (w k : ℕ) (call : Call) (s rest : List Taken) (t : Taken)
-    → IsScript w k call (s ++ t ∷ rest) → FitsNext w call s t.step
-script_next w k (Insert h) s rest t is = is.steps (length s) t (member-seam s rest t)
-script_next w k (Contains h) s rest t is = is.steps (length s) t (member-seam s rest t)
-script_next w k Clear s rest t is = is.steps (length s) t (member-seam s rest t)
-script_next w k Union s rest t is = pairs_next Or s rest t is.steps
-script_next w k Intersect s rest t is = pairs_next And s rest t is.steps
+    → IsScript w k call (s ++ t ∷ rest) → FitsNext w (plan_of call) s t.step
+script_next w k call s rest t is = steps_next w (plan_of call) s rest t is.steps
 
 -- a number is even or odd
 pub parity : (n : ℕ) → ((i : ℕ) × (n ≡ 2 * i)) ⊎ ((i : ℕ) × (n ≡ 2 * i + 1))
@@ -36,6 +41,7 @@ parity (suc n) =
       | inr q ↦ inl (q.0 + 1, omega (arith, q.1))
     ]
 
+-- some step comes next of pairs
 pair_step : (op : ℕ → ℕ → Step) (s : List Taken) → (step : Step) × IsNextOfPairs op s step
 pair_step op s =
     elim (parity (length s)) [
@@ -61,14 +67,14 @@ pair_step op s =
       )
     ]
 
-pub some_step : (w : ℕ) (call : Call) (s : List Taken) → (step : Step) × FitsNext w call s step
-some_step w (Insert h) s = (_, refl)
-some_step w (Contains h) s = (_, refl)
-some_step w Clear s = (_, refl)
-some_step w Union s = pair_step Or s
-some_step w Intersect s = pair_step And s
+-- some step fits
+pub some_step : (w : ℕ) (plan : Plan) (s : List Taken) → (step : Step) × FitsNext w plan s step
+some_step w (TurnsOn h) s = (_, refl)
+some_step w (LooksAt h) s = (_, refl)
+some_step w (EachWord op) s = (_, refl)
+some_step w (EachPair op on) s = pair_step op s
 
--- there is one step alone that fits
+-- one step alone comes next of pairs
 pairs_one : (op : ℕ → ℕ → Step) (s : List Taken) (a b : Step) → IsNextOfPairs op s a
     → IsNextOfPairs op s b → a ≡ b
 pairs_one op s a b p q =
@@ -79,15 +85,16 @@ pairs_one op s a b p q =
           p.1 e.0 there.0 e.1 there.1 ∙ sym (q.1 e.0 there.0 e.1 there.1)
     ]
 
-pub fits_one : (w : ℕ) (call : Call) (s : List Taken) (a b : Step) → FitsNext w call s a
-    → FitsNext w call s b → a ≡ b
-fits_one w (Insert h) s a b p q = p ∙ sym q
-fits_one w (Contains h) s a b p q = p ∙ sym q
-fits_one w Clear s a b p q = p ∙ sym q
-fits_one w Union s a b p q = pairs_one Or s a b p q
-fits_one w Intersect s a b p q = pairs_one And s a b p q
+-- and no other
+pub fits_one : (w : ℕ) (plan : Plan) (s : List Taken) (a b : Step) → FitsNext w plan s a
+    → FitsNext w plan s b → a ≡ b
+fits_one w (TurnsOn h) s a b p q = p ∙ sym q
+fits_one w (LooksAt h) s a b p q = p ∙ sym q
+fits_one w (EachWord op) s a b p q = p ∙ sym q
+fits_one w (EachPair op on) s a b p q = pairs_one op s a b p q
 
-pub is_next : (w k : ℕ) (call : Call) (s : List Taken) (step : Step) → FitsNext w call s step
-    → IsNext w k call s step
+-- the step that fits is the next
+pub is_next : (w k : ℕ) (call : Call) (s : List Taken) (step : Step)
+    → FitsNext w (plan_of call) s step → IsNext w k call s step
 is_next w k call s step fits t rest is =
-    fits_one w call s t.step step (script_next w k call s rest t is) fits
+    fits_one w (plan_of call) s t.step step (script_next w k call s rest t is) fits

@@ -1,14 +1,14 @@
--- Steps of a call that grow by one at the end.
+-- Steps of a plan that grow by one at the end.
 use Rattle.std.proofs.Common.{[], ◌*◌, ◌++◌, ◌+◌, ◌<◌, ◌∙◌, ◌∷◌, ◌≡◌, ◌⊎◌, List, Some, ap, arith, false, inl, inr, length, length-append, slice_get, subst, sym, true, ℕ}
 use Rattle.bloom_parts.specs.Content.{bit_is_on}
 use Rattle.bloom_parts.specs.Places.{place}
-use Rattle.bloom_steps.specs.declared.steps.vocabulary.Call.{Call}
-use Rattle.bloom_steps.specs.declared.steps.vocabulary.Call.TheVariants.{Clear, Contains, Insert, Intersect, Union}
+use Rattle.bloom_steps.specs.Plans.{EachPair, EachWord, LooksAt, Plan, TurnsOn}
 use Rattle.bloom_steps.specs.declared.steps.vocabulary.End.TheVariants.{Answer, Done, Running}
 use Rattle.bloom_steps.specs.declared.steps.vocabulary.Step.{Step}
-use Rattle.bloom_steps.specs.declared.steps.vocabulary.Step.TheVariants.{And, Or, Other, Zero}
-use Rattle.bloom_steps.specs.Machines.{GoesOn, KeepsOn}
-use Rattle.bloom_steps.specs.Scripts.{ArePairs, AreStepsOf, Each, HasCount, IsLastEnd, IsScript, StopsRight, Taken, most_steps}
+use Rattle.bloom_steps.specs.declared.steps.vocabulary.Step.TheVariants.{Other}
+use Rattle.bloom_steps.specs.Standing.{GoesOn, KeepsOn}
+use Rattle.bloom_steps.specs.Plans.{most_steps}
+use Rattle.bloom_steps.specs.Scripts.{ArePairs, AreStepsOf, Each, HasCount, IsLastEnd, StopsRight, Taken, CarriesOut}
 use Rattle.bloom_steps.specs.Steps.{load_at, or_at}
 use Rattle.bloom_steps.proofs.StepLemmas.Members.{member_of_more}
 
@@ -19,12 +19,11 @@ IsNextOfPairs op s step =
     × ((i : ℕ) (t : Taken) → length s ≡ 2 * i + 1 → slice_get s (2 * i) ≡ Some t
     → step ≡ op i t.found)
 
-abbrev pub FitsNext : ℕ → Call → List Taken → Step → Type 0
-FitsNext w (Insert h) s step = step ≡ or_at (place (64 * w) h (length s))
-FitsNext w (Contains h) s step = step ≡ load_at (place (64 * w) h (length s))
-FitsNext w Clear s step = step ≡ Zero (length s)
-FitsNext w Union s step = IsNextOfPairs Or s step
-FitsNext w Intersect s step = IsNextOfPairs And s step
+abbrev pub FitsNext : ℕ → Plan → List Taken → Step → Type 0
+FitsNext w (TurnsOn h) s step = step ≡ or_at (place (64 * w) h (length s))
+FitsNext w (LooksAt h) s step = step ≡ load_at (place (64 * w) h (length s))
+FitsNext w (EachWord op) s step = step ≡ op (length s)
+FitsNext w (EachPair op on) s step = IsNextOfPairs op s step
 
 pub length-more : (s : List Taken) (t : Taken) → length (s ++ t ∷ []) ≡ length s + 1
 length-more s t = length-append s (t ∷ [])
@@ -56,63 +55,61 @@ pairs-more op s t all fits = record {
   ];
 }
 
-pub steps-more : (w : ℕ) (call : Call) (s : List Taken) (t : Taken) → AreStepsOf w call s
-    → FitsNext w call s t.step → AreStepsOf w call (s ++ t ∷ [])
-steps-more w (Insert h) s t all fits =
+pub steps-more : (w : ℕ) (plan : Plan) (s : List Taken) (t : Taken) → AreStepsOf w plan s
+    → FitsNext w plan s t.step → AreStepsOf w plan (s ++ t ∷ [])
+steps-more w (TurnsOn h) s t all fits =
     each-more s t (λ i t. t.step ≡ or_at (place (64 * w) h i)) all fits
-steps-more w (Contains h) s t all fits =
+steps-more w (LooksAt h) s t all fits =
     each-more s t (λ i t. t.step ≡ load_at (place (64 * w) h i)) all fits
-steps-more w Clear s t all fits = each-more s t (λ i t. t.step ≡ Zero i) all fits
-steps-more w Union s t all fits = pairs-more Or s t all fits
-steps-more w Intersect s t all fits = pairs-more And s t all fits
+steps-more w (EachWord op) s t all fits = each-more s t (λ i t. t.step ≡ op i) all fits
+steps-more w (EachPair op on) s t all fits = pairs-more op s t all fits
 
--- the call goes on after a step at which it doesn't end
-abbrev pub KeepsOnAt : ℕ → Call → List Taken → Taken → Type 0
-KeepsOnAt w (Contains h) s t = bit_is_on t.found (place (64 * w) h (length s)) ≡ true
-KeepsOnAt w _ s t = Unit {0}
+-- the plan goes on after a step at which it doesn't end
+abbrev pub KeepsOnAt : ℕ → Plan → List Taken → Taken → Type 0
+KeepsOnAt w (TurnsOn h) s t = Unit {0}
+KeepsOnAt w (LooksAt h) s t = bit_is_on t.found (place (64 * w) h (length s)) ≡ true
+KeepsOnAt w (EachWord op) s t = Unit {0}
+KeepsOnAt w (EachPair op on) s t = Unit {0}
 
-keeps_on-more : (w : ℕ) (call : Call) (s : List Taken) (t : Taken) → KeepsOn w call s
-    → KeepsOnAt w call s t → KeepsOn w call (s ++ t ∷ [])
-keeps_on-more w (Insert h) s t all on = tt
-keeps_on-more w (Contains h) s t all on =
+keeps_on-more : (w : ℕ) (plan : Plan) (s : List Taken) (t : Taken) → KeepsOn w plan s
+    → KeepsOnAt w plan s t → KeepsOn w plan (s ++ t ∷ [])
+keeps_on-more w (TurnsOn h) s t all on = tt
+keeps_on-more w (LooksAt h) s t all on =
     each-more s t (λ i t. bit_is_on t.found (place (64 * w) h i) ≡ true) all on
-keeps_on-more w Clear s t all on = tt
-keeps_on-more w Union s t all on = tt
-keeps_on-more w Intersect s t all on = tt
+keeps_on-more w (EachWord op) s t all on = tt
+keeps_on-more w (EachPair op way) s t all on = tt
 
-pub goes_on-more : (w k : ℕ) (call : Call) (s : List Taken) (t : Taken) → GoesOn w k call s
-    → FitsNext w call s t.step → t.ended ≡ Running → length s + 1 < most_steps w k call
-    → KeepsOnAt w call s t → GoesOn w k call (s ++ t ∷ [])
-goes_on-more w k call s t g fits running room on = record {
-  room = subst (λ n. n < most_steps w k call) (sym (length-more s t)) room;
-  steps = steps-more w call s t g.steps fits;
-  keeps_on = keeps_on-more w call s t g.keeps_on on;
+pub goes_on-more : (w k : ℕ) (plan : Plan) (s : List Taken) (t : Taken) → GoesOn w k plan s
+    → FitsNext w plan s t.step → t.ended ≡ Running → length s + 1 < most_steps w k plan
+    → KeepsOnAt w plan s t → GoesOn w k plan (s ++ t ∷ [])
+goes_on-more w k plan s t g fits running room on = record {
+  room = subst (λ n. n < most_steps w k plan) (sym (length-more s t)) room;
+  steps = steps-more w plan s t g.steps fits;
+  keeps_on = keeps_on-more w plan s t g.keeps_on on;
   running = each-more s t (λ i t. t.ended ≡ Running) g.running running;
 }
 
 -- it ends at a step
-abbrev pub EndsNext : ℕ → ℕ → Call → List Taken → Taken → Type 0
-EndsNext w k (Insert h) s t = (length s + 1 ≡ k) × IsLastEnd w (Insert h) (s ++ t ∷ []) t.ended
-EndsNext w k (Contains h) s t =
+abbrev pub EndsNext : ℕ → ℕ → Plan → List Taken → Taken → Type 0
+EndsNext w k (TurnsOn h) s t = (length s + 1 ≡ k) × IsLastEnd w (TurnsOn h) (s ++ t ∷ []) t.ended
+EndsNext w k (LooksAt h) s t =
     ((bit_is_on t.found (place (64 * w) h (length s)) ≡ false) ⊎ (length s + 1 ≡ k))
     × (t.ended ≡ Answer (bit_is_on t.found (place (64 * w) h (length s))))
-EndsNext w k Clear s t = (length s + 1 ≡ w) × (t.ended ≡ Done)
-EndsNext w k Union s t = (length s + 1 ≡ 2 * w) × (t.ended ≡ Done)
-EndsNext w k Intersect s t = (length s + 1 ≡ 2 * w) × (t.ended ≡ Done)
+EndsNext w k (EachWord op) s t = (length s + 1 ≡ w) × (t.ended ≡ Done)
+EndsNext w k (EachPair op way) s t = (length s + 1 ≡ 2 * w) × (t.ended ≡ Done)
 
-count-more : (w k : ℕ) (call : Call) (s : List Taken) (t : Taken) → length s < most_steps w k call
-    → EndsNext w k call s t → HasCount w k call (length (s ++ t ∷ []))
-count-more w k (Insert h) s t room e = length-more s t ∙ e.0
-count-more w k (Contains h) s t room e =
+count-more : (w k : ℕ) (plan : Plan) (s : List Taken) (t : Taken) → length s < most_steps w k plan
+    → EndsNext w k plan s t → HasCount w k plan (length (s ++ t ∷ []))
+count-more w k (TurnsOn h) s t room e = length-more s t ∙ e.0
+count-more w k (LooksAt h) s t room e =
     let l = length-more s t in (omega (arith, l), omega (arith, l))
-count-more w k Clear s t room e = length-more s t ∙ e.0
-count-more w k Union s t room e = length-more s t ∙ e.0
-count-more w k Intersect s t room e = length-more s t ∙ e.0
+count-more w k (EachWord op) s t room e = length-more s t ∙ e.0
+count-more w k (EachPair op on) s t room e = length-more s t ∙ e.0
 
-stops-more : (w k : ℕ) (call : Call) (s : List Taken) (t : Taken) → KeepsOn w call s
-    → EndsNext w k call s t → StopsRight w k call (s ++ t ∷ [])
-stops-more w k (Insert h) s t on e = tt
-stops-more w k (Contains h) s t on e =
+stops-more : (w k : ℕ) (plan : Plan) (s : List Taken) (t : Taken) → KeepsOn w plan s
+    → EndsNext w k plan s t → StopsRight w k plan (s ++ t ∷ [])
+stops-more w k (TurnsOn h) s t on e = tt
+stops-more w k (LooksAt h) s t on e =
     let l = length-more s t in
     record {
       earlier =
@@ -132,14 +129,13 @@ stops-more w k (Contains h) s t on e =
         ]
       ];
     }
-stops-more w k Clear s t on e = tt
-stops-more w k Union s t on e = tt
-stops-more w k Intersect s t on e = tt
+stops-more w k (EachWord op) s t on e = tt
+stops-more w k (EachPair op way) s t on e = tt
 
-last-more : (w k : ℕ) (call : Call) (s : List Taken) (t : Taken) → EndsNext w k call s t
-    → IsLastEnd w call (s ++ t ∷ []) t.ended
-last-more w k (Insert h) s t e = e.1
-last-more w k (Contains h) s t e = λ i u g last.
+last-more : (w k : ℕ) (plan : Plan) (s : List Taken) (t : Taken) → EndsNext w k plan s t
+    → IsLastEnd w plan (s ++ t ∷ []) t.ended
+last-more w k (TurnsOn h) s t e = e.1
+last-more w k (LooksAt h) s t e = λ i u g last.
     let l = length-more s t in
     elim (member_of_more s t u i g) [
       | inl p ↦ absurd (omega (arith, l, p.0))
@@ -151,18 +147,17 @@ last-more w k (Contains h) s t e = λ i u g last.
           (sym q.0)
           (ap (λ (v : Taken). Answer (bit_is_on v.found (place (64 * w) h (length s)))) (sym q.1))
     ]
-last-more w k Clear s t e = e.1
-last-more w k Union s t e = e.1
-last-more w k Intersect s t e = e.1
+last-more w k (EachWord op) s t e = e.1
+last-more w k (EachPair op on) s t e = e.1
 
-pub script-more : (w k : ℕ) (call : Call) (s : List Taken) (t : Taken) → GoesOn w k call s
-    → FitsNext w call s t.step → EndsNext w k call s t → IsScript w k call (s ++ t ∷ [])
-script-more w k call s t g fits ends =
+pub script-more : (w k : ℕ) (plan : Plan) (s : List Taken) (t : Taken) → GoesOn w k plan s
+    → FitsNext w plan s t.step → EndsNext w k plan s t → CarriesOut w k plan (s ++ t ∷ [])
+script-more w k plan s t g fits ends =
     let l = length-more s t in
     record {
-      count = count-more w k call s t g.room ends;
-      steps = steps-more w call s t g.steps fits;
-      stops = stops-more w k call s t g.keeps_on ends;
+      count = count-more w k plan s t g.room ends;
+      steps = steps-more w plan s t g.steps fits;
+      stops = stops-more w k plan s t g.keeps_on ends;
       running =
           λ i u e short.
           elim (member_of_more s t u i e) [
@@ -172,7 +167,7 @@ script-more w k call s t g fits ends =
       last = λ i u e last. elim (member_of_more s t u i e) [
         | inl p ↦ absurd (omega (arith, l, p.0))
         | inr q ↦
-            subst (λ (v : Taken). IsLastEnd w call (s ++ t ∷ []) v.ended) (sym q.1)
-            (last-more w k call s t ends)
+            subst (λ (v : Taken). IsLastEnd w plan (s ++ t ∷ []) v.ended) (sym q.1)
+            (last-more w k plan s t ends)
       ];
     }

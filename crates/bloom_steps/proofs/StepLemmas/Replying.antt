@@ -4,13 +4,14 @@ use Rattle.std.proofs.lemmas.Bool.{both_ways, eqb-true}
 use Rattle.bloom_parts.specs.Content.{bit_is_on}
 use Rattle.bloom_parts.specs.Places.{place}
 use Rattle.bloom_steps.specs.declared.steps.vocabulary.Call.{Call}
-use Rattle.bloom_steps.specs.declared.steps.vocabulary.Call.TheVariants.{Clear, Contains, Insert, Intersect, Union}
+use Rattle.bloom_steps.specs.Plans.{EachPair, EachWord, LooksAt, Plan, TurnsOn, plan_of}
 use Rattle.bloom_steps.specs.declared.steps.vocabulary.End.TheVariants.{Answer, Running}
 use Rattle.bloom_steps.specs.declared.steps.vocabulary.Step.{Step}
 use Rattle.bloom_steps.specs.declared.steps.machine.Machine.{Machine}
-use Rattle.bloom_steps.specs.Machines.{HoldsOther, IsAtPlace, IsPlaced, Keeps, StandsAt, answer_by, asks, end_by, end_of}
-use Rattle.bloom_steps.specs.Scripts.{Any, Taken, answer_of, answer_of_end, most_steps}
-use Rattle.bloom_steps.specs.Turns.{Advances, MovesOn, Replied}
+use Rattle.bloom_steps.specs.Standing.{HoldsOther, IsAtPlace, IsPlaced, Keeps, StandsAt, answer_by, asks, end_by, end_of}
+use Rattle.bloom_steps.specs.Plans.{most_steps}
+use Rattle.bloom_steps.specs.Scripts.{Any, Taken, answer_of, answer_of_end}
+use Rattle.bloom_steps.specs.Standing.{Advances, MovesOn, Replied}
 use Rattle.bloom_steps.proofs.StepLemmas.Asking.{fits_asked}
 use Rattle.bloom_steps.proofs.StepLemmas.Growing.{EndsNext, KeepsOnAt, goes_on-more, length-more, script-more}
 use Rattle.bloom_steps.proofs.StepLemmas.Members.{member-front, member-seam, member_of_more}
@@ -76,50 +77,57 @@ answer_of-more s t =
     let longer = length-more s t in
     answer_of-last (s ++ t ∷ []) (length s) t (member-seam s [] t) (sym longer)
 
-answer-end_of : (call : Call) (ended on : Bool)
+answer-end_of : (plan : Plan) (ended on : Bool)
     → answer_of_end
     (if ended then end_by
-    (answer_by call on) else Running) ≡ (if ended then answer_by call on else None)
-answer-end_of call false on = refl
-answer-end_of (Insert h) true on = refl
-answer-end_of (Contains h) true on = refl
-answer-end_of Clear true on = refl
-answer-end_of Union true on = refl
-answer-end_of Intersect true on = refl
+    (answer_by plan on) else Running) ≡ (if ended then answer_by plan on else None)
+answer-end_of plan false on = refl
+answer-end_of (TurnsOn h) true on = refl
+answer-end_of (LooksAt h) true on = refl
+answer-end_of (EachWord op) true on = refl
+answer-end_of (EachPair op w) true on = refl
+
+-- how a machine's fields stand to the steps of a plan
+record Stood (m : Machine) (w k : ℕ) (plan : Plan) (s : List Taken) : Type 0 where
+  pub words : m.num_words ≡ w
+  pub hashes : m.num_hashes ≡ k
+  pub turns : m.turn ≡ length s
+  pub placed : IsPlaced w plan m (length s)
+  pub keeps : Keeps w plan m s
 
 -- a machine and the same after a reply
 module _ (m n : Machine) (w k : ℕ) where
-  placed-more : (call : Call) (s : List Taken) (t : Taken) → StandsAt m w k call s
-      → MovesOn call m n
-      → IsPlaced w call n (length (s ++ t ∷ []))
-  placed-more (Insert h) s t st on =
+  -- it is at the next place
+  placed-more : (plan : Plan) (s : List Taken) (t : Taken) → Stood m w k plan s
+      → MovesOn plan m n
+      → IsPlaced w plan n (length (s ++ t ∷ []))
+  placed-more (TurnsOn h) s t st on =
       subst (λ i. IsAtPlace w h i n) (sym (length-more s t)) (on w (length s) st.words st.placed)
-  placed-more (Contains h) s t st on =
+  placed-more (LooksAt h) s t st on =
       subst (λ i. IsAtPlace w h i n) (sym (length-more s t)) (on w (length s) st.words st.placed)
-  placed-more Clear s t st on = tt
-  placed-more Union s t st on = tt
-  placed-more Intersect s t st on = tt
+  placed-more (EachWord op) s t st on = tt
+  placed-more (EachPair op way) s t st on = tt
 
-  keeps-more : (call : Call) (s : List Taken) (t : Taken) → StandsAt m w k call s
-      → Advances call m t.found n
-      → Keeps w call n (s ++ t ∷ [])
-  keeps-more (Insert h) s t st a =
+  -- it keeps what was found
+  keeps-more : (plan : Plan) (s : List Taken) (t : Taken) → Stood m w k plan s
+      → Advances plan m t.found n
+      → Keeps w plan n (s ++ t ∷ [])
+  keeps-more (TurnsOn h) s t st a =
       all_on-more s t (λ i t. bit_is_on t.found (place (64 * w) h i)) m.all_on n.all_on st.keeps
       (a.0 ∙ ap (λ p. m.all_on && bit_is_on t.found p) st.placed.here)
-  keeps-more (Contains h) s t st a = tt
-  keeps-more Clear s t st a = tt
-  keeps-more Union s t st a = holds_other-more n s t a.0
-  keeps-more Intersect s t st a = holds_other-more n s t a.0
+  keeps-more (LooksAt h) s t st a = tt
+  keeps-more (EachWord op) s t st a = tt
+  keeps-more (EachPair op way) s t st a = holds_other-more n s t a.0
 
   -- where the call goes on there is room for a further step, and no reason to stop
-  goes_on : (call : Call) (s : List Taken) (t : Taken) → StandsAt m w k call s
-      → Advances call m t.found n
-      → n.ended ≡ false → length s < most_steps w k call
-      → (length s + 1 < most_steps w k call) × KeepsOnAt w call s t
-  goes_on (Insert h) s t st a going room =
+  goes_on : (plan : Plan) (s : List Taken) (t : Taken) → Stood m w k plan s
+      → Advances plan m t.found n
+      → n.ended ≡ false → length s < most_steps w k plan
+      → (length s + 1 < most_steps w k plan) × KeepsOnAt w plan s t
+  goes_on (TurnsOn h) s t st a going room =
       let not_last = not_yet _ _ (sym a.1 ∙ going) in
       let turns = st.turns in let hashes = st.hashes in (omega arith, tt)
-  goes_on (Contains h) s t st a going room =
+  goes_on (LooksAt h) s t st a going room =
       go (bit_is_on t.found m.place) (nat_eq (m.turn + 1) m.num_hashes) refl refl (sym a.1 ∙ going)
     where
       go : (on last : Bool) → bit_is_on t.found m.place ≡ on
@@ -132,25 +140,22 @@ module _ (m n : Machine) (w k : ℕ) where
           let not_last = not_yet _ _ at in
           let turns = st.turns in let hashes = st.hashes in
           (omega arith, ap (λ p. bit_is_on t.found p) (sym st.placed.here) ∙ is)
-  goes_on Clear s t st a going room =
+  goes_on (EachWord op) s t st a going room =
       let not_last = not_yet _ _ (sym a ∙ going) in
       let turns = st.turns in let words = st.words in (omega arith, tt)
-  goes_on Union s t st a going room =
-      let not_last = not_yet _ _ (sym a.1 ∙ going) in
-      let turns = st.turns in let words = st.words in (omega arith, tt)
-  goes_on Intersect s t st a going room =
+  goes_on (EachPair op way) s t st a going room =
       let not_last = not_yet _ _ (sym a.1 ∙ going) in
       let turns = st.turns in let words = st.words in (omega arith, tt)
 
   -- where it ends, it ends as its script does
-  ends : (call : Call) (s : List Taken) (t : Taken) → StandsAt m w k call s
-      → Advances call m t.found n
-      → n.ended ≡ true → t.ended ≡ end_by (answer_by call n.all_on) → EndsNext w k call s t
-  ends (Insert h) s t st a over last =
+  ends : (plan : Plan) (s : List Taken) (t : Taken) → Stood m w k plan s
+      → Advances plan m t.found n
+      → n.ended ≡ true → t.ended ≡ end_by (answer_by plan n.all_on) → EndsNext w k plan s t
+  ends (TurnsOn h) s t st a over last =
       let at_last = eqb-true _ _ (sym a.1 ∙ over) in
       let turns = st.turns in let hashes = st.hashes in
-      (omega arith, (n.all_on, last, keeps-more (Insert h) s t st a))
-  ends (Contains h) s t st a over last = (
+      (omega arith, (n.all_on, last, keeps-more (TurnsOn h) s t st a))
+  ends (LooksAt h) s t st a over last = (
     go (bit_is_on t.found m.place) refl (sym a.1 ∙ over),
     last ∙ ap Answer a.0 ∙ ap (λ p. Answer (bit_is_on t.found p)) st.placed.here,
   )
@@ -162,13 +167,10 @@ module _ (m n : Machine) (w k : ℕ) where
           let at_last = eqb-true _ _ e in
           let turns = st.turns in let hashes = st.hashes in inr (omega arith)
       go false is e = inl (ap (λ p. bit_is_on t.found p) (sym st.placed.here) ∙ is)
-  ends Clear s t st a over last =
+  ends (EachWord op) s t st a over last =
       let at_last = eqb-true _ _ (sym a ∙ over) in
       let turns = st.turns in let words = st.words in (omega arith, last)
-  ends Union s t st a over last =
-      let at_last = eqb-true _ _ (sym a.1 ∙ over) in
-      let turns = st.turns in let words = st.words in (omega arith, last)
-  ends Intersect s t st a over last =
+  ends (EachPair op way) s t st a over last =
       let at_last = eqb-true _ _ (sym a.1 ∙ over) in
       let turns = st.turns in let words = st.words in (omega arith, last)
 
@@ -178,24 +180,34 @@ module _ (m n : Machine) (w k : ℕ) where
       → StandsAt n w k call (s ++ record { step = step; found = found; ended = end_of n } ∷ [])
   stands-more found call s step asked r st =
       let fits = fits_asked m w k call s step st asked in
+      let plan = plan_of call in
       let so_far = st.goes_on fits.0 in
       let t : Taken = record { step = step; found = found; ended = end_of n } in
-      let advances = subst (λ c. Advances c m found n) st.is_call r.advances in
+      let advances = subst (λ c. Advances (plan_of c) m found n) st.is_call r.advances in
+      let moves = subst (λ c. MovesOn (plan_of c) m n) st.is_call r.moves_on in
       let same : n.call ≡ call = r.same_call ∙ st.is_call in
+      let stood : Stood m w k plan s = record {
+        words = st.words;
+        hashes = st.hashes;
+        turns = st.turns;
+        placed = st.placed;
+        keeps = st.keeps;
+      } in
+      let end = λ (b : Bool).
+      if b then end_by (answer_by (plan_of n.call) n.all_on) else Running in
       record {
         is_call = same;
         words = r.same_words ∙ st.words;
         hashes = r.same_hashes ∙ st.hashes;
         turns = r.turned ∙ ap (λ x. x + 1) st.turns ∙ sym (length-more s t);
-        placed = placed-more call s t st (subst (λ c. MovesOn c m n) st.is_call r.moves_on);
-        keeps = keeps-more call s t st advances;
+        placed = placed-more plan s t stood moves;
+        keeps = keeps-more plan s t stood advances;
         goes_on = λ going.
-            let on = goes_on call s t st advances going so_far.room in
-            let runs = ap (λ b. if b then end_by (answer_by n.call n.all_on) else Running) going in
-            goes_on-more w k call s t so_far fits.1 runs on.0 on.1;
+            let on = goes_on plan s t stood advances going so_far.room in
+            goes_on-more w k plan s t so_far fits.1 (ap end going) on.0 on.1;
         whole = λ over.
-            let ended = ap (λ b. if b then end_by (answer_by n.call n.all_on) else Running) over in
-            script-more w k call s t so_far fits.1
-            (ends call s t st advances over (ended ∙ ap (λ c. end_by (answer_by c n.all_on)) same));
-        said = answer_of-more s t ∙ answer-end_of n.call n.ended n.all_on;
+            let answer = ap (λ c. end_by (answer_by (plan_of c) n.all_on)) same in
+            script-more w k plan s t so_far fits.1
+            (ends plan s t stood advances over (ap end over ∙ answer));
+        said = answer_of-more s t ∙ answer-end_of (plan_of n.call) n.ended n.all_on;
       }

@@ -2,28 +2,31 @@
 use Rattle.std.proofs.Common.{[], ◌+◌, ◌-◌, ◌∙◌, ◌∷◌, ◌≡◌, ◌≢◌, ◌≤◌, List, None, Some, ap, arith, length, length-append, refl, slice_get, suc, zero, ℕ}
 use Rattle.std.proofs.lemmas.Option.{none-some, same_Some, slice_get_within}
 use Rattle.bloom_steps.specs.declared.steps.vocabulary.Call.{Call}
-use Rattle.bloom_steps.specs.declared.steps.vocabulary.Call.TheVariants.{Clear, Contains, Insert, Intersect, Union}
+use Rattle.bloom_steps.specs.Plans.{EachPair, EachWord, LooksAt, Plan, TurnsOn, plan_of}
 use Rattle.bloom_steps.specs.declared.steps.vocabulary.End.TheVariants.{Running}
-use Rattle.bloom_steps.specs.Scripts.{IsBeginning, IsLastEnd, IsScript, Taken, answer_of, answer_of_end}
+use Rattle.bloom_steps.specs.Scripts.{IsBeginning, IsLastEnd, IsScript, Taken, answer_of, answer_of_end, HasCount}
 use Rattle.bloom_steps.proofs.StepLemmas.Members.{member-front, some_member}
 
--- a whole script has a step
+-- a plan has a step
+count_some : (w k count : ℕ) (plan : Plan) → 1 ≤ w → 1 ≤ k → HasCount w k plan count → 1 ≤ count
+count_some w k count (TurnsOn h) some_words some_hashes is = omega (arith, is)
+count_some w k count (LooksAt h) some_words some_hashes is = is.0
+count_some w k count (EachWord op) some_words some_hashes is = omega (arith, is)
+count_some w k count (EachPair op on) some_words some_hashes is = omega (arith, is)
+
+-- so a whole script has one
 pub script_some : (w k : ℕ) (call : Call) (s : List Taken) → 1 ≤ w → 1 ≤ k → IsScript w k call s
     → 1 ≤ length s
-script_some w k (Insert h) s some_words some_hashes is = let all = is.count in omega arith
-script_some w k (Contains h) s some_words some_hashes is = is.count.0
-script_some w k Clear s some_words some_hashes is = let all = is.count in omega arith
-script_some w k Union s some_words some_hashes is = let all = is.count in omega arith
-script_some w k Intersect s some_words some_hashes is = let all = is.count in omega arith
+script_some w k call s some_words some_hashes is =
+    count_some w k (length s) (plan_of call) some_words some_hashes is.count
 
 -- the last step of a script leaves nothing running
-pub last-not_running : (w : ℕ) (call : Call) (s : List Taken) (i : ℕ) (t : Taken)
-    → slice_get s i ≡ Some t → i + 1 ≡ length s → IsLastEnd w call s t.ended → t.ended ≢ Running
-last-not_running w (Insert h) s i t g l e f = let is = e.1 in cc
-last-not_running w (Contains h) s i t g l e f = let is = e i t g l in cc
-last-not_running w Clear s i t g l e f = cc
-last-not_running w Union s i t g l e f = cc
-last-not_running w Intersect s i t g l e f = cc
+pub last-not_running : (w : ℕ) (plan : Plan) (s : List Taken) (i : ℕ) (t : Taken)
+    → slice_get s i ≡ Some t → i + 1 ≡ length s → IsLastEnd w plan s t.ended → t.ended ≢ Running
+last-not_running w (TurnsOn h) s i t g l e f = let is = e.1 in cc
+last-not_running w (LooksAt h) s i t g l e f = let is = e i t g l in cc
+last-not_running w (EachWord op) s i t g l e f = cc
+last-not_running w (EachPair op on) s i t g l e f = cc
 
 -- every step of a beginning leaves the call running
 pub beginning_runs : (w k : ℕ) (call : Call) (s : List Taken) (i : ℕ) (t : Taken)
@@ -40,7 +43,7 @@ not_both w k call s some_words some_hashes is begun =
     let some = script_some w k call s some_words some_hashes is in
     let there = some_member s (length s - 1) (omega arith) in
     let at_end : (length s - 1) + 1 ≡ length s = omega arith in
-    last-not_running w call s (length s - 1) there.0 there.1 at_end
+    last-not_running w (plan_of call) s (length s - 1) there.0 there.1 at_end
     (is.last (length s - 1) there.0 there.1 at_end)
     (beginning_runs w k call s (length s - 1) there.0 begun there.1)
 

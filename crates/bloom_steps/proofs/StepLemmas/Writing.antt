@@ -10,7 +10,7 @@ use Rattle.bloom_steps.specs.declared.steps.vocabulary.Step.{Step}
 use Rattle.bloom_steps.specs.declared.steps.vocabulary.Step.TheVariants.{And, Load, Or, Other, Zero}
 use Rattle.bloom_steps.specs.Memories.{Memory, MemoryLaw, words_after}
 use Rattle.bloom_steps.specs.Scripts.{Taken}
-use Rattle.bloom_steps.specs.Steps.{step_decides, word_of}
+use Rattle.bloom_steps.specs.Steps.{step_decides, word_index}
 use Rattle.bloom_steps.proofs.StepLemmas.Deciding.{state-first, state-same}
 
 digit-below : (n i : ℕ) → bit_at n i < 2
@@ -93,7 +93,7 @@ joined true b o = refl
 joined false b o = refl
 
 -- the words after a step hold what the step decides
-pub content-step : (words : List ℕ) (step : Step) (p : ℕ) → word_of step < length words
+pub content-step : (words : List ℕ) (step : Step) (p : ℕ) → word_index step < length words
     → content (words_after words step) p ≡ unwrap_or (step_decides step p) (content words p)
 content-step words (Load i) p within = refl
 content-step words (Or i mask) p within =

@@ -1,7 +1,7 @@
 //! What step of a call comes next.
 ghost use Rattle.std.specs.Prelude.{◌≡◌, ◌+◌, ◌-◌, ◌*◌, ◌^◌, ◌<◌, ◌≤◌, false};
 ghost use Rattle.bloom_parts.specs.Content.{bit_is_on};
-ghost use Rattle.bloom_steps.specs.Scripts.{hash_of, most_steps};
+ghost use Rattle.bloom_steps.specs.Plans.{hash_of, most_steps, plan_of};
 
 use super::vocabulary::{Call, End, Step};
 use bloom_parts::bit_vector::index;
@@ -28,7 +28,7 @@ pub struct Machine {
     ghost few_words: { num_words < 2 ^ 58 },
     ghost some_hashes: { 1 ≤ num_hashes },
     ghost within: { place < 64 * num_words },
-    ghost room: { ended ≡ false → turn < most_steps num_words num_hashes call },
+    ghost room: { ended ≡ false → turn < most_steps num_words num_hashes (plan_of call) },
 }
 
 // Whether a position's bit is on in its word.
@@ -40,12 +40,14 @@ fn is_on(word: u64, position: usize) -> bool
 
 // The hash of a call, or 0 where it has none.
 fn own_hash(call: Call) -> u64
-    ensures { result ≡ hash_of call }
+    ensures { result ≡ hash_of (plan_of call) }
 {
     match call {
         Call::Insert(hash) => hash,
         Call::Contains(hash) => hash,
-        _ => 0,
+        Call::Clear => 0,
+        Call::Union => 0,
+        Call::Intersect => 0,
     }
 }
 
@@ -53,9 +55,9 @@ impl Machine {
     ghost use Rattle.std.specs.Prelude.{[], Some, IsSome, ◌/◌, ◌%◌, ◌==◌, if◌then◌else◌};
     ghost use Rattle.bloom_steps.specs.declared.steps.vocabulary.Step.TheVariants.{Other};
     ghost use Rattle.bloom_steps.specs.declared.steps.vocabulary.Step.{Step};
-    ghost use Rattle.bloom_steps.specs.Machines.{StandsAt, asks, answers, end_of};
-    ghost use Rattle.bloom_steps.specs.Turns.{AsksRight, AnswersRight, StandsFurther, Replied, left};
-    ghost use Rattle.bloom_steps.specs.Steps.{word_of};
+    ghost use Rattle.bloom_steps.specs.Machines.{AsksRight, AnswersRight, StandsFurther};
+    ghost use Rattle.bloom_steps.specs.Standing.{StandsAt, Replied, asks, answers, end_of, left};
+    ghost use Rattle.bloom_steps.specs.Steps.{word_index};
 
     /// A call at its beginning, on a filter of so many words and hashes.
     pub fn new(call: Call, num_words: usize, num_hashes: u32) -> Machine
@@ -91,7 +93,7 @@ impl Machine {
     fn asked(&self) -> Option<Step>
         ensures value { result ≡ asks self.now }
         ensures within { (step : Step) → asks self.now ≡ Some step
-            → word_of step < self.now.num_words }
+            → word_index step < self.now.num_words }
     {
         if self.ended {
             return None;
@@ -125,7 +127,7 @@ impl Machine {
         self.advance(found);
     }
 
-    // Takes the word found, field by field.
+    // Takes the word found, and goes on to the next turn.
     fn advance(&mut self, found: u64)
         requires { IsSome (asks self.old) }
         ensures fields { Replied self.old found self.new }
@@ -166,7 +168,7 @@ impl Machine {
         self.answered()
     }
 
-    // The answer, by the fields.
+    // The answer of a call that has ended.
     fn answered(&self) -> Option<bool>
         ensures { result ≡ answers self.now }
     {
@@ -176,7 +178,9 @@ impl Machine {
         match self.call {
             Call::Insert(_) => Some(self.all_on),
             Call::Contains(_) => Some(self.all_on),
-            _ => None,
+            Call::Clear => None,
+            Call::Union => None,
+            Call::Intersect => None,
         }
     }
 

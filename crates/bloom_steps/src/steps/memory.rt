@@ -2,7 +2,7 @@
 ghost use Rattle.std.specs.Prelude.{◌≡◌, ℕ, ◌^◌, ◌<◌, ◌≤◌, length, slice_index};
 ghost use Rattle.bloom_steps.specs.declared.steps.vocabulary.Step.TheVariants.{Other};
 ghost use Rattle.bloom_steps.specs.Memories.{Moves, found_in, words_after};
-ghost use Rattle.bloom_steps.specs.Steps.{word_of};
+ghost use Rattle.bloom_steps.specs.Steps.{word_index};
 
 use super::store::WordStore;
 use super::vocabulary::Step;
@@ -58,13 +58,13 @@ impl WordStore for MemoryStore {
 
     fn step(&mut self, step: Step) -> u64 {
         let given = word_given(&self.other, step);
-        carry_out(&mut self.words, given, step)
+        make_step(&mut self.words, given, step)
     }
 }
 
 // The other filter's word, where the step reads it.
 fn word_given(other: &Vec<u64>, step: Step) -> u64
-    requires { word_of step < length other.now.items }
+    requires { word_index step < length other.now.items }
     ensures { (i : ℕ) → step ≡ Other i → result ≡ slice_index other.now.items i }
 {
     match step {
@@ -73,9 +73,9 @@ fn word_given(other: &Vec<u64>, step: Step) -> u64
     }
 }
 
-// Carries out a step on words, and answers the word found. The other filter's word is given.
-pub(super) fn carry_out(words: &mut Vec<u64>, given: u64, step: Step) -> u64
-    requires { word_of step < length words.old.items }
+// Makes a step on words, and gives the word found. The other filter's word is given.
+pub(super) fn make_step(words: &mut Vec<u64>, given: u64, step: Step) -> u64
+    requires { word_index step < length words.old.items }
     ensures found { result ≡ found_in words.old.items given step }
     ensures words { words.new.items ≡ words_after words.old.items step }
     ensures fits { result < 2 ^ 64 }

@@ -3,11 +3,11 @@ ghost use Rattle.std.specs.Prelude.{◌≡◌, ◌+◌, ◌≤◌, ◌<◌, ◌^
 ghost use Rattle.bloom_steps.specs.declared.steps.vocabulary.Event.TheVariants.{Begin, Go};
 ghost use Rattle.bloom_steps.specs.Interleavings.{InsertsTell, ContainsTell, FindsInserted, EndsWithAll, CountsGains};
 ghost use Rattle.bloom_steps.specs.Sequences.{ActsAsCommands};
-ghost use Rattle.bloom_steps.specs.Traces.{IsLawful, Follows};
+ghost use Rattle.bloom_steps.specs.Courses.{IsLawful, Follows};
 ghost use Rattle.bloom_steps.specs.Worlds.{IsWorldOf, Happens, slot_runs};
 
 use super::machine::Machine;
-use super::memory::carry_out;
+use super::memory::make_step;
 use super::trace::Trace;
 use super::vocabulary::{Call, Event, Record};
 use bloom_parts::error::FilterError;
@@ -40,17 +40,17 @@ pub fn run(
     requires some_words { 1 ≤ length words.now }
     requires few_words { length words.now < 2 ^ 58 }
     requires hashes { 1 ≤ num_hashes }
-    ensures lawful { IfOk result (λ trace. IsLawful num_hashes trace) }
-    ensures follows { IfOk result (λ trace. Follows parties words.now schedule.now trace) }
+    ensures lawful { IfOk result (λ course. IsLawful num_hashes course) }
+    ensures follows { IfOk result (λ course. Follows parties words.now schedule.now course) }
     // One call at a time behaves as the list of commands.
-    ensures commands { IfOk result (λ trace. ActsAsCommands num_hashes trace) }
+    ensures commands { IfOk result (λ course. ActsAsCommands num_hashes course) }
     // An insert answers for its own steps; a look-up is right at one moment; an insert is found.
-    ensures inserts { IfOk result (λ trace. InsertsTell trace) }
-    ensures contains { IfOk result (λ trace. ContainsTell num_hashes trace) }
-    ensures found { IfOk result (λ trace. FindsInserted num_hashes trace) }
+    ensures inserts { IfOk result (λ course. InsertsTell course) }
+    ensures contains { IfOk result (λ course. ContainsTell num_hashes course) }
+    ensures found { IfOk result (λ course. FindsInserted num_hashes course) }
     // A growing run ends alike in any order, and each position is turned on once.
-    ensures grows { IfOk result (λ trace. EndsWithAll num_hashes trace) }
-    ensures gained { IfOk result (λ trace. CountsGains trace) }
+    ensures grows { IfOk result (λ course. EndsWithAll num_hashes course) }
+    ensures gained { IfOk result (λ course. CountsGains course) }
     ensures refused { IsOkUnless result FilterError.Memory }
 {
     let mut world = prepare(alloc, words, num_hashes, parties, schedule.len())?;
@@ -154,7 +154,7 @@ fn go(world: &mut World, num_hashes: u32, party: usize, given: u64)
     let Some(step) = machine.ask() else {
         return;
     };
-    let found = carry_out(&mut world.words, given, step);
+    let found = make_step(&mut world.words, given, step);
     machine.reply(found);
     let ended = machine.end();
     world.records.push_reserved(Record::Did {

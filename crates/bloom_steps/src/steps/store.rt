@@ -1,7 +1,7 @@
 //! Where steps are carried out.
 ghost use Rattle.std.specs.Prelude.{◌≡◌, ℕ, ◌^◌, ◌<◌, ◌≤◌};
 ghost use Rattle.bloom_steps.specs.declared.steps.vocabulary.Step.{Step};
-ghost use Rattle.bloom_steps.specs.Steps.{word_of};
+ghost use Rattle.bloom_steps.specs.Steps.{word_index};
 
 use super::vocabulary::Step;
 
@@ -21,7 +21,7 @@ pub trait WordStore {
 
     /// Carries out one step, and answers the word that it found.
     fn step(&mut self, step: Step) -> u64
-        requires within { word_of step < count self.old }
+        requires within { word_index step < count self.old }
         ensures moved { moved self.old step result self.new }
         ensures words { count self.new ≡ count self.old };
 }

@@ -2,7 +2,8 @@
 use super::vocabulary::Record;
 use std::marker::Model;
 
-/// The course of a run: the words before it, its records in order, and the words after it.
+/// The trace of a run: the words before it, its records in order, and the words after it. Contracts
+/// see it as the run's course.
 #[derive(Debug, Drop)]
 pub struct Trace {
     start: Vec<u64>,
@@ -11,7 +12,7 @@ pub struct Trace {
 }
 
 impl Model for Trace {
-    ghost use Rattle.bloom_steps.specs.Traces.{Course};
+    ghost use Rattle.bloom_steps.specs.Courses.{Course};
 
     ghost Value = { Course };
 
@@ -26,7 +27,7 @@ impl Trace {
     ghost use Rattle.std.specs.Prelude.{◌≡◌};
     ghost use Rattle.bloom_parts.specs.Content.{AreWords};
 
-    // The course of these parts.
+    // The trace of these parts.
     pub(super) fn from_parts(start: Vec<u64>, records: Vec<Record>, words: Vec<u64>) -> Self
         ensures parts { result
             ≡ record { start = start.items; records = records.items; words = words.items } }

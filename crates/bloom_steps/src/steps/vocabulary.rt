@@ -1,4 +1,4 @@
-//! The words that the core of word steps speaks in.
+//! Calls, the steps that they are made of, and what a run is asked and records.
 
 /// One operation on the word of an index.
 #[derive(Clone, Copy, Debug, PartialEq, Eq)]

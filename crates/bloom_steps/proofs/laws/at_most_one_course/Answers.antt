@@ -1,4 +1,4 @@
-use Rattle.bloom_steps.proofs.RunLemmas.OneCourse.{at_most_one}
+use Rattle.bloom_steps.proofs.RunLemmas.AtMostOne.{at_most_one}
 use Rattle.bloom_steps.proofs.laws.at_most_one_course.Goals as goal
 
 pub returns : goal.returns

@@ -1,5 +1,5 @@
 use Rattle.std.proofs.Common.{◌∙◌, sym, subst, ◌<◌}
-use Rattle.bloom_steps.specs.Steps.{word_of}
+use Rattle.bloom_steps.specs.Steps.{word_index}
 use Rattle.bloom_steps.proofs.StepLemmas.Driving.{asked-within, linked-more}
 use Rattle.bloom_steps.proofs.steps.driver.drive.Goals as goal
 
@@ -8,7 +8,7 @@ step-found-requires g c =
     let made = c.steps.invariant.made in
     let asked = c.in-Some.ensures.next _ _ _ made.taken made.stands in
     let within = asked-within _ _ _ _ c.in-Some.step asked in
-    record { within = subst (λ n. word_of c.in-Some.step < n) (sym c.steps.invariant.words) within }
+    record { within = subst (λ n. word_index c.in-Some.step < n) (sym c.steps.invariant.words) within }
 
 pub steps-preserved : goal.steps-preserved
 steps-preserved g c =

@@ -1,5 +1,5 @@
 use Rattle.std.proofs.Common.{◌≡◌}
-use Rattle.bloom_steps.specs.Turns.{left}
+use Rattle.bloom_steps.specs.Standing.{left}
 use Rattle.bloom_steps.proofs.StepLemmas.Driving.{HasMade}
 use Rattle.bloom_steps.proofs.steps.driver.drive.Given as goal
 

@@ -1,35 +1,33 @@
-use Rattle.std.proofs.Common.{[], ◌≤◌, ◌∙◌, ◌≡◌, ap, arith, length, subst, sym}
-use Rattle.bloom_steps.specs.Traces.{Course, FollowsFrom, IsLawful, no_event}
-use Rattle.bloom_steps.proofs.RunLemmas.Following.{follows-next, lawful_world}
-use Rattle.bloom_steps.proofs.RunLemmas.Ending.{ends_with_all}
-use Rattle.bloom_steps.proofs.RunLemmas.Gaining.{counts_gains}
-use Rattle.bloom_steps.proofs.RunLemmas.Sequel.{acts_as_commands}
-use Rattle.bloom_steps.proofs.RunLemmas.Telling.{contains_tell, finds_inserted, inserts_tell}
+use Rattle.std.proofs.Common.{◌≤◌, ◌∙◌, ◌≡◌, ap, arith, length, subst, sym}
+use Rattle.bloom_steps.specs.Courses.{Course, IsLawful}
+use Rattle.bloom_steps.proofs.RunLemmas.Follows.{run-first, run-next}
+use Rattle.bloom_steps.proofs.RunLemmas.Lawful.{lawful_world}
+use Rattle.bloom_steps.proofs.RunLemmas.Grows.{ends_with_all}
+use Rattle.bloom_steps.proofs.RunLemmas.Gained.{counts_gains}
+use Rattle.bloom_steps.proofs.RunLemmas.Commands.{acts_as_commands}
+use Rattle.bloom_steps.proofs.RunLemmas.Contains.{contains_tell}
+use Rattle.bloom_steps.proofs.RunLemmas.Found.{finds_inserted}
+use Rattle.bloom_steps.proofs.RunLemmas.Inserts.{inserts_tell}
 use Rattle.bloom_steps.proofs.steps.runner.run.Goals as goal
 
+-- before the first event nothing has happened
 pub events-init : goal.events-init
 events-init c =
-    let world = c.in_ok-world.ensures in
+    let made = c.in_ok-world.ensures in
     record {
-      parties = world.parties;
-      start = world.start;
-      world = world.world;
-      follows = subst (FollowsFrom c.args.parties [] []) (sym world.records) (no_event []);
-      len = omega (arith, world.len);
-      room = omega (arith, world.room);
+      so_far = run-first _ _ _ c.args.schedule.now _ made.world made.parties made.start made.records;
+      len = omega (arith, made.len);
+      room = omega (arith, made.room);
     }
 
+-- one event more
 pub events-preserved : goal.events-preserved
 events-preserved c =
     let before = c.events.invariant in
-    let did = c.happen.ensures.happens in
     record {
-      parties = did.parties ∙ before.parties;
-      start = did.start ∙ before.start;
-      world = did.keeps;
-      follows =
-          follows-next _ c.args.parties c.args.schedule.now c.events.event-index _ _ _
-          before.parties c.events-test.true before.follows did.grows;
+      so_far =
+          run-next _ _ _ _ c.events.event-index _ _ _ c.events-test.true before.so_far
+          c.happen.ensures.happens;
       len = omega (arith, before.len, c.happen.ensures.count);
       room = omega (arith, before.room, c.happen.ensures.capacity);
     }
@@ -37,14 +35,14 @@ events-preserved c =
 pub returns-clause-lawful : goal.returns-clause-lawful
 returns-clause-lawful c =
     subst (IsLawful c.args.num_hashes) (sym c.from_parts.ensures.parts)
-    (lawful_world c.args.num_hashes _ c.events.world.machines.items c.events.invariant.world
+    (lawful_world c.args.num_hashes _ c.events.world.machines.items c.events.invariant.so_far.world
     c.from_parts.ensures.fit)
 
 -- the run is of as many words as were given, so of some
 some_words : (c : goal.After-drop-world) → 1 ≤ length c.from_parts.result.start
 some_words c =
     let same : c.from_parts.result.start ≡ c.args.words.now =
-    ap (λ (run : Course). run.start) c.from_parts.ensures.parts ∙ c.events.invariant.start in
+    ap (λ (run : Course). run.start) c.from_parts.ensures.parts ∙ c.events.invariant.so_far.start in
     subst (λ l. 1 ≤ length l) (sym same) c.requires.some_words
 
 pub returns-clause-inserts : goal.returns-clause-inserts

@@ -12,12 +12,12 @@ use Rattle.bloom_parts.specs.Operations.{reply}
 use Rattle.bloom_steps.specs.Scripts.{AllFoundOn, IsScript, Taken, answer_of, answer_of_end}
 use Rattle.bloom_steps.specs.Sequences.{command_of}
 use Rattle.bloom_steps.specs.Steps.{after_records, step_decides}
-use Rattle.bloom_steps.specs.Traces.{MayFind, did}
+use Rattle.bloom_steps.specs.Courses.{MayFind, did}
 use Rattle.bloom_parts.proofs.PublishedLemmas.{are_in-off}
-use Rattle.bloom_steps.proofs.RunLemmas.Acting.{contains-all, insert-all}
+use Rattle.bloom_steps.proofs.RunLemmas.CallSets.{contains-all, insert-all}
 use Rattle.bloom_steps.proofs.RunLemmas.Changes.{or_at-decides}
-use Rattle.bloom_steps.proofs.RunLemmas.Lasting.{Fits, all_decide-take, steps-none, steps-on}
-use Rattle.bloom_steps.proofs.RunLemmas.Parties.{did-get, did-more, did-take}
+use Rattle.bloom_steps.proofs.RunLemmas.CallSteps.{Fits, all_decide-take, steps-none, steps-on}
+use Rattle.bloom_steps.proofs.RunLemmas.PartyRecords.{did-get, did-more, did-take}
 use Rattle.bloom_steps.proofs.RunLemmas.Positions.{are_in-all, both_alike}
 use Rattle.bloom_steps.proofs.StepLemmas.Deciding.{records-more}
 use Rattle.bloom_steps.proofs.StepLemmas.Members.{some_member, take-more}

@@ -9,9 +9,9 @@ use Rattle.bloom_steps.specs.declared.steps.vocabulary.Record.{Record}
 use Rattle.bloom_steps.specs.declared.steps.vocabulary.Record.TheVariants.{Began, Did}
 use Rattle.bloom_steps.specs.declared.steps.vocabulary.Step.{Step}
 use Rattle.bloom_steps.specs.Scripts.{IsBeginning, IsScript, Taken}
-use Rattle.bloom_steps.specs.Traces.{CallAfterCall, begun_call, did, no_call, party_of, records_of, whole_call}
-use Rattle.bloom_steps.proofs.RunLemmas.Newest.{OneEnd, one_end-later}
-use Rattle.bloom_steps.proofs.RunLemmas.Parties.{mine_or_not, records_of-mine, records_of-none, records_of-other}
+use Rattle.bloom_steps.specs.Courses.{CallAfterCall, begun_call, did, no_call, party_of, records_of, whole_call}
+use Rattle.bloom_steps.proofs.RunLemmas.RunningCalls.{OneEnd, one_end-later}
+use Rattle.bloom_steps.proofs.RunLemmas.PartyRecords.{mine_or_not, records_of-mine, records_of-none, records_of-other}
 
 -- no call begins among the steps of a script
 strip : (p : ℕ) (s : List Taken) (later pre post : List Record) (call : Call)

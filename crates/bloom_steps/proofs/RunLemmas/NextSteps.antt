@@ -5,8 +5,8 @@ use Rattle.bloom_steps.specs.declared.steps.vocabulary.Call.{Call}
 use Rattle.bloom_steps.specs.declared.steps.vocabulary.Record.{Record}
 use Rattle.bloom_steps.specs.declared.steps.vocabulary.Record.TheVariants.{Began, Did}
 use Rattle.bloom_steps.specs.Scripts.{IsScript, Taken}
-use Rattle.bloom_steps.specs.Traces.{CallAfterCall, begun_call, did, no_call, whole_call}
-use Rattle.bloom_steps.proofs.RunLemmas.Parties.{did-same, did_of-same}
+use Rattle.bloom_steps.specs.Courses.{CallAfterCall, begun_call, did, no_call, whole_call}
+use Rattle.bloom_steps.proofs.RunLemmas.PartyRecords.{did-same, did_of-same}
 
 -- the call that a step goes on with, after these records of its party
 pub record GoesAfter (w k p : ℕ) (xs : List Record) (t : Taken) : Type 0 where

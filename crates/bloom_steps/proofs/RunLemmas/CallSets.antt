@@ -1,5 +1,6 @@
 -- The set after a whole call, alone, is what its command makes of that before.
-use Rattle.std.proofs.Common.{◌*◌, ◌/◌, ◌<◌, ◌∙◌, ◌≡◌, ◌≤◌, ◌⊎◌, Bool, List, None, Some, ap, arith, eq-eqb, false, if◌then◌else◌, inl, inr, length, nat_eq, refl, subst, sym, true, unwrap_or, ℕ}
+use Rattle.bloom_steps.specs.declared.steps.vocabulary.Step.{Step}
+use Rattle.std.proofs.Common.{◌*◌, ◌/◌, ◌∙◌, ◌≡◌, ◌≤◌, ◌⊎◌, Bool, List, None, Some, ap, arith, eq-eqb, false, if◌then◌else◌, inl, inr, length, nat_eq, refl, sym, true, unwrap_or, ℕ}
 use Rattle.std.proofs.Math.Seq.{take-length}
 use Rattle.std.proofs.lemmas.Bool.{both_ways, cases_lt}
 use Rattle.std.proofs.lemmas.Option.{slice_get_within}
@@ -7,15 +8,16 @@ use Rattle.bloom_parts.specs.Content.{content}
 use Rattle.bloom_parts.specs.Places.{place, positions}
 use Rattle.bloom_steps.specs.declared.steps.vocabulary.Call.{Call}
 use Rattle.bloom_steps.specs.declared.steps.vocabulary.Call.TheVariants.{Clear, Contains, Insert, Intersect, Union}
-use Rattle.bloom_steps.specs.declared.steps.vocabulary.Step.TheVariants.{And, Or}
+use Rattle.bloom_steps.specs.declared.steps.vocabulary.Step.TheVariants.{And, Or, Zero}
 use Rattle.bloom_parts.specs.Operations.{decides}
-use Rattle.bloom_steps.specs.Scripts.{IsScript, Taken}
+use Rattle.bloom_steps.specs.Scripts.{IsScript, Taken, Each, ArePairs}
 use Rattle.bloom_steps.specs.Sequences.{command_of, other_words}
 use Rattle.bloom_steps.specs.Steps.{after_records, or_at, step_decides}
-use Rattle.bloom_steps.specs.Traces.{did}
-use Rattle.bloom_steps.proofs.RunLemmas.Changes.{DecidesOnly, or_at-decides}
-use Rattle.bloom_steps.proofs.RunLemmas.Lasting.{AllDecide, Fits, steps-none, steps-some}
-use Rattle.bloom_steps.proofs.RunLemmas.Pairing.{decides_by-and, decides_by-or, made_off, made_on, other-past, pairs-steps}
+use Rattle.bloom_steps.specs.Courses.{did}
+use Rattle.bloom_steps.proofs.RunLemmas.Changes.{or_at-decides}
+use Rattle.bloom_steps.proofs.RunLemmas.CallSteps.{AllDecide, Fits, steps-none, steps-some}
+use Rattle.bloom_steps.proofs.RunLemmas.PairSteps.{other-past, pairs-steps}
+use Rattle.bloom_steps.proofs.StepLemmas.Plans.{ReadsNoOther, TurnsBy, TurnsWordOff, made, plan_decides}
 use Rattle.bloom_steps.proofs.RunLemmas.Positions.{positions-from, positions-to}
 use Rattle.bloom_steps.proofs.StepLemmas.Members.{some_member}
 
@@ -41,12 +43,13 @@ module _ (w k p : ℕ) (s : List Taken) (A : ℕ → Bool) where
   pub contains-all : (h q : ℕ) → IsScript w k (Contains h) s → AllDecide s q None
   contains-all h q is i t g = inl (ap (λ x. step_decides x q) (is.steps i t g))
 
+  -- an insert leaves its positions on
   insert-steps : (h q : ℕ) → IsScript w k (Insert h) s
-      → after_records A (did p s) q ≡ unwrap_or (made_on (positions (64 * w) k h q)) (A q)
+      → after_records A (did p s) q ≡ unwrap_or (made true (positions (64 * w) k h q)) (A q)
   insert-steps h q is = go (positions (64 * w) k h q) refl
     where
       go : (b : Bool) → positions (64 * w) k h q ≡ b
-          → after_records A (did p s) q ≡ unwrap_or (made_on b) (A q)
+          → after_records A (did p s) q ≡ unwrap_or (made true b) (A q)
       go true e =
           let at = positions-from (64 * w) k h q e in
           let count = is.count in
@@ -69,16 +72,17 @@ module _ (w k p : ℕ) (s : List Taken) (A : ℕ → Bool) where
         | inr other ↦ inl (ap (λ x. step_decides x q) (is.steps i t g) ∙ other.1)
       ])
 
-  clear-steps : (q : ℕ) → IsScript w k Clear s → q / 64 < w → after_records A (did p s) q ≡ false
-  clear-steps q is inside =
-      let count = is.count in
-      let t = some_member s (q / 64) (omega arith) in
-      steps-some p s A q (Some false)
-      (λ i u g. subst (DecidesOnly (Some false) q) (sym (is.steps i u g))
-      (either (nat_eq (q / 64) i)))
-      (q / 64) t.0 t.1
-      (ap (λ x. step_decides x q) (is.steps (q / 64) t.0 t.1)
-      ∙ ap (λ b. if b then Some false else None) (eq-eqb (q / 64) (q / 64) refl))
+  -- one step for each word, which turns it off, leaves nothing on
+  words-steps : (op : ℕ → Step) → TurnsWordOff op → Each s (λ i t. t.step ≡ op i) → length s ≡ w
+      → (q : ℕ) → Fits w A (did p s) → after_records A (did p s) q ≡ false
+  words-steps op off steps count q f = elim (cases_lt (q / 64) w) [
+    | inl inside ↦
+        let t = some_member s (q / 64) (omega arith) in
+        steps-some p s A q (Some false) all (q / 64) t.0 t.1
+        (ap (λ x. step_decides x q) (steps (q / 64) t.0 t.1) ∙ off (q / 64) q
+        ∙ ap (λ b. if b then Some false else None) (eq-eqb (q / 64) (q / 64) refl))
+    | inr l ↦ (past w p A s q f l).1
+  ]
     where
       either : (b : Bool)
           → ((if b then Some false else None) ≡ None)
@@ -86,30 +90,36 @@ module _ (w k p : ℕ) (s : List Taken) (A : ℕ → Bool) where
       either true = inr refl
       either false = inl refl
 
+      all : AllDecide s q (Some false)
+      all i u g =
+          let decides = ap (λ x. step_decides x q) (steps i u g) ∙ off i q in
+          elim (either (nat_eq (q / 64) i)) [
+            | inl none ↦ inl (decides ∙ none)
+            | inr some ↦ inr (decides ∙ some)
+          ]
+
+  -- pairs make of each position what the other filter's bit says
+  pairs-make : (op : ℕ → ℕ → Step) (on : Bool) → TurnsBy op on × ReadsNoOther op → ArePairs op s
+      → length s ≡ 2 * w → (q : ℕ) → Fits w A (did p s)
+      → after_records A (did p s) q ≡ unwrap_or (made on (content (other_words s) q)) (A q)
+  pairs-make op on does steps count q f = elim (cases_lt (q / 64) w) [
+    | inl inside ↦ pairs-steps op on does.0 does.1 w s steps count p A q inside
+    | inr l ↦
+        let off = past w p A s q f l in
+        let other = other-past op on does.0 does.1 w s steps count q l in
+        off.1 ∙ sym (ap (λ b. unwrap_or (made on b) (A q)) other ∙ made-none on off.0)
+  ]
+    where
+      made-none : (on : Bool) → A q ≡ false → unwrap_or (made on false) (A q) ≡ false
+      made-none true none = none
+      made-none false none = refl
+
   -- the set after a whole call
   pub call-steps : (call : Call) (q : ℕ) → IsScript w k call s → Fits w A (did p s)
       → after_records A (did p s) q ≡ unwrap_or
       (decides (64 * w) k (command_of call (content (other_words s))) q) (A q)
   call-steps (Insert h) q is f = insert-steps h q is
   call-steps (Contains h) q is f = steps-none p s A q (contains-all h q is)
-  call-steps Clear q is f = elim (cases_lt (q / 64) w) [
-    | inl l ↦ clear-steps q is l
-    | inr l ↦ (past w p A s q f l).1
-  ]
-  call-steps Union q is f = elim (cases_lt (q / 64) w) [
-    | inl l ↦ pairs-steps Or made_on decides_by-or (λ i x found. refl) w s is.steps is.count p A q l
-    | inr l ↦
-        let off = past w p A s q f l in
-        let other =
-        other-past Or made_on decides_by-or (λ i x found. refl) w s is.steps is.count q l in
-        off.1 ∙ sym (ap (λ b. unwrap_or (made_on b) (A q)) other ∙ off.0)
-  ]
-  call-steps Intersect q is f = elim (cases_lt (q / 64) w) [
-    | inl l ↦
-        pairs-steps And made_off decides_by-and (λ i x found. refl) w s is.steps is.count p A q l
-    | inr l ↦
-        let off = past w p A s q f l in
-        let other =
-        other-past And made_off decides_by-and (λ i x found. refl) w s is.steps is.count q l in
-        off.1 ∙ sym (ap (λ b. unwrap_or (made_off b) (A q)) other)
-  ]
+  call-steps Clear q is f = words-steps Zero (plan_decides Clear) is.steps is.count q f
+  call-steps Union q is f = pairs-make Or true (plan_decides Union) is.steps is.count q f
+  call-steps Intersect q is f = pairs-make And false (plan_decides Intersect) is.steps is.count q f

@@ -11,13 +11,13 @@ use Rattle.bloom_steps.specs.declared.steps.vocabulary.Record.TheVariants.{Began
 use Rattle.bloom_steps.specs.declared.steps.vocabulary.Step.{Step}
 use Rattle.bloom_steps.specs.declared.steps.vocabulary.Step.TheVariants.{And, Load, Or, Other, Zero}
 use Rattle.bloom_steps.specs.declared.steps.machine.Machine.{Machine}
-use Rattle.bloom_steps.specs.Machines.{StandsAt, asks, end_of}
+use Rattle.bloom_steps.specs.Standing.{StandsAt, asks, end_of}
 use Rattle.bloom_steps.specs.Memories.{found_in, words_after}
-use Rattle.bloom_steps.specs.Steps.{after_records, step_decides, word_of}
-use Rattle.bloom_steps.specs.Traces.{FindsWhatIsThere, IsWordOf, MayFind, records_of, runs}
-use Rattle.bloom_steps.specs.Turns.{AsksRight, StandsFurther}
+use Rattle.bloom_steps.specs.Steps.{after_records, step_decides, word_index}
+use Rattle.bloom_steps.specs.Courses.{FindsWhatIsThere, IsWordOf, MayFind, records_of, runs}
+use Rattle.bloom_steps.specs.Machines.{AsksRight, StandsFurther}
 use Rattle.bloom_steps.specs.Worlds.{HasCalled, IsWorld, PartyAt, slot_runs}
-use Rattle.bloom_steps.proofs.RunLemmas.Calling.{parties-more, runs-party, step-party, step-within, whole-party}
+use Rattle.bloom_steps.proofs.RunLemmas.PartyCalls.{parties-more, runs-party, step-party, step-within, whole-party}
 use Rattle.bloom_steps.proofs.StepLemmas.Deciding.{records-more}
 use Rattle.bloom_steps.proofs.StepLemmas.Members.{member_of_more}
 use Rattle.bloom_steps.proofs.StepLemmas.Writing.{content-step, content-word, length-step}
@@ -111,9 +111,9 @@ module _ (k : ℕ) (start words : List ℕ) (machines : List (Option Machine)) (
   -- the step that its machine asks for is on one of the words
   pub step_inside : (m : Machine) (step : Step) → slice_index_or machines p None ≡ Some m
       → AsksRight m (Some step)
-      → word_of step < length words
+      → word_index step < length words
   step_inside m step slot asks_right =
-      subst (λ n. word_of step < n) (sym world.count)
+      subst (λ n. word_index step < n) (sym world.count)
       (step-within (length start) k p m (records_of p rs) step (called m slot) asks_right)
 
   -- a step that it makes

@@ -1,15 +1,16 @@
 -- What the steps of a union or an intersection make of a set.
-use Rattle.std.proofs.Common.{[], ◌&&◌, ◌*◌, ◌++◌, ◌+◌, ◌/◌, ◌<◌, ◌∙◌, ◌∷◌, ◌≡◌, ◌≤◌, Bool, List, None, Option, Some, ap, arith, eq-eqb, false, if◌then◌else◌, inl, inr, length, nat_eq, not, refl, slice_get, suc, sym, true, unwrap_or, zero, ℕ}
+use Rattle.bloom_steps.proofs.StepLemmas.Plans.{TurnsBy, ReadsNoOther, made}
+use Rattle.std.proofs.Common.{[], ◌*◌, ◌++◌, ◌+◌, ◌/◌, ◌<◌, ◌∙◌, ◌∷◌, ◌≡◌, ◌≤◌, Bool, List, None, Some, ap, arith, eq-eqb, false, if◌then◌else◌, inl, inr, length, refl, slice_get, suc, sym, unwrap_or, zero, ℕ}
 use Rattle.std.proofs.lemmas.Bool.Decides.{eqb_tells}
 use Rattle.std.proofs.lemmas.Option.{get_or_from_slice_get, none-some, same_Some, slice_get_within}
 use Rattle.bloom_parts.specs.Content.{bit_is_on, content}
 use Rattle.bloom_steps.specs.declared.steps.vocabulary.Step.{Step}
-use Rattle.bloom_steps.specs.declared.steps.vocabulary.Step.TheVariants.{And, Or, Other}
+use Rattle.bloom_steps.specs.declared.steps.vocabulary.Step.TheVariants.{Other}
 use Rattle.bloom_steps.specs.Scripts.{ArePairs, Taken}
 use Rattle.bloom_steps.specs.Sequences.{found_in_other, other_words}
 use Rattle.bloom_steps.specs.Steps.{after_records, step_decides}
-use Rattle.bloom_steps.specs.Traces.{did}
-use Rattle.bloom_steps.proofs.RunLemmas.Lasting.{AllDecide, steps-some}
+use Rattle.bloom_steps.specs.Courses.{did}
+use Rattle.bloom_steps.proofs.RunLemmas.CallSteps.{AllDecide, steps-some}
 use Rattle.bloom_steps.proofs.StepLemmas.Going.{parity}
 use Rattle.bloom_steps.proofs.StepLemmas.Members.{some_member}
 use Rattle.bloom_steps.proofs.StepLemmas.Writing.{content-past, content-word}
@@ -54,7 +55,7 @@ words-pair op j t u rest plain load write =
 
 -- the words found in the other filter are those of the loads
 words-at : (op : ℕ → ℕ → Step) (j : ℕ) (s : List Taken)
-    → ((i x found : ℕ) → found_in_other (op i x) found ≡ []) → PairsFrom op j s
+    → ReadsNoOther op → PairsFrom op j s
     → (i : ℕ) (t : Taken) → slice_get s (2 * i) ≡ Some t
     → slice_get (other_words s) i ≡ Some t.found
 words-at op j _ plain (no_pair _) i t g = absurd (none-some t g)
@@ -67,7 +68,7 @@ words-at op j _ plain (one_pair _ t u rest load write more) (suc i) v g =
     ∙ words-at op (j + 1) rest plain more i v (sym (ap (slice_get (t ∷ (u ∷ rest))) twice) ∙ g)
 
 words-length : (op : ℕ → ℕ → Step) (j : ℕ) (s : List Taken)
-    → ((i x found : ℕ) → found_in_other (op i x) found ≡ []) → PairsFrom op j s
+    → ReadsNoOther op → PairsFrom op j s
     → 2 * length (other_words s) ≡ length s
 words-length op j _ plain (no_pair _) = refl
 words-length op j _ plain (one_pair _ t u rest load write more) =
@@ -76,37 +77,8 @@ words-length op j _ plain (one_pair _ t u rest load write more) =
     ap length (words-pair op j t u rest (plain j t.found u.found) load write) in
     omega (arith, before, words)
 
--- what a write with a found word decides, by the bit of that word
-abbrev pub DecidesBy : (ℕ → ℕ → Step) → (Bool → Option Bool) → Type 0
-DecidesBy op D =
-    (i x q : ℕ) → step_decides (op i x) q ≡ (if nat_eq (q / 64) i then D (bit_is_on x q) else None)
-
--- a union makes on what is on
-abbrev pub made_on : Bool → Option Bool
-made_on b = if b then Some true else None
-
--- an intersection makes off what is off
-abbrev pub made_off : Bool → Option Bool
-made_off b = if b then None else Some false
-
-pub decides_by-or : DecidesBy Or made_on
-decides_by-or i x q = go (nat_eq (q / 64) i) (bit_is_on x q)
-  where
-    go : (a b : Bool) → (if a && b then Some true else None) ≡ (if a then made_on b else None)
-    go true b = refl
-    go false b = refl
-
-pub decides_by-and : DecidesBy And made_off
-decides_by-and i x q = go (nat_eq (q / 64) i) (bit_is_on x q)
-  where
-    go : (a b : Bool) → (if a && not b then Some false else None) ≡ (if a then made_off b else None)
-    go true true = refl
-    go true false = refl
-    go false b = refl
-
 -- a whole list of pairs
-module _ (op : ℕ → ℕ → Step) (D : Bool → Option Bool) (by : DecidesBy op D)
-    (plain : (i x found : ℕ) → found_in_other (op i x) found ≡ [])
+module _ (op : ℕ → ℕ → Step) (on : Bool) (by : TurnsBy op on) (plain : ReadsNoOther op)
     (w : ℕ) (s : List Taken) (pairs : ArePairs op s) (l : length s ≡ 2 * w) where
   from_start : PairsFrom op 0 s
   from_start =
@@ -131,15 +103,15 @@ module _ (op : ℕ → ℕ → Step) (D : Bool → Option Bool) (by : DecidesBy 
 
   write-decides : (q i : ℕ) (t u : Taken) → slice_get s (2 * i) ≡ Some t → u.step ≡ op i t.found
       → q / 64 ≡ i
-      → step_decides u.step q ≡ D (content (other_words s) q)
+      → step_decides u.step q ≡ made on (content (other_words s) q)
   write-decides q i t u g e at =
       let here : slice_get s (2 * (q / 64)) ≡ Some t = ap (λ j. slice_get s (2 * j)) at ∙ g in
       ap (λ x. step_decides x q) e ∙ by i t.found q
-      ∙ ap (λ b. if b then D (bit_is_on t.found q) else None) (eq-eqb _ _ at)
-      ∙ ap D (sym (other-bit q t here))
+      ∙ ap (λ b. if b then made on (bit_is_on t.found q) else None) (eq-eqb _ _ at)
+      ∙ ap (made on) (sym (other-bit q t here))
 
   -- each step decides as the other filter's bit says, or nothing
-  pairs-all : (q : ℕ) → AllDecide s q (D (content (other_words s) q))
+  pairs-all : (q : ℕ) → AllDecide s q (made on (content (other_words s) q))
   pairs-all q j u g = elim (parity j) [
     | inl even ↦
         inl (ap (λ x. step_decides x q) (pairs.loads even.0 u (ap (slice_get s) (sym even.1) ∙ g)))
@@ -153,15 +125,15 @@ module _ (op : ℕ → ℕ → Step) (D : Bool → Option Bool) (by : DecidesBy 
           | inr other ↦
               inl
               (ap (λ x. step_decides x q) e ∙ by i there.0.found q
-              ∙ ap (λ b. if b then D (bit_is_on there.0.found q) else None) other.0)
+              ∙ ap (λ b. if b then made on (bit_is_on there.0.found q) else None) other.0)
         ]
   ]
 
   -- and within the words the pair of its word does decide it
   pub pairs-steps : (p : ℕ) (A : ℕ → Bool) (q : ℕ) → q / 64 < w
-      → after_records A (did p s) q ≡ unwrap_or (D (content (other_words s) q)) (A q)
+      → after_records A (did p s) q ≡ unwrap_or (made on (content (other_words s) q)) (A q)
   pairs-steps p A q inside =
       let t = some_member s (2 * (q / 64)) (omega arith) in
       let u = some_member s (2 * (q / 64) + 1) (omega arith) in
-      steps-some p s A q (D (content (other_words s) q)) (pairs-all q) (2 * (q / 64) + 1) u.0 u.1
+      steps-some p s A q (made on (content (other_words s) q)) (pairs-all q) (2 * (q / 64) + 1) u.0 u.1
       (write-decides q (q / 64) t.0 u.0 t.1 (pairs.writes (q / 64) t.0 u.0 t.1 u.1) refl)

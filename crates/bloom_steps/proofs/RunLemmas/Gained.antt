@@ -1,4 +1,6 @@
 -- Each position is turned on once.
+use Rattle.bloom_steps.proofs.StepLemmas.Plans.{hash-grows}
+use Rattle.bloom_steps.specs.Plans.{goes_by_hash, turns_none_off, Plan, TurnsOn, LooksAt, plan_of, EachWord, EachPair}
 use Rattle.std.proofs.Common.{◌%◌, ◌&&◌, ◌*◌, ◌+◌, ◌/◌, ◌<◌, ◌^◌, ◌∙◌, ◌≡◌, ◌≢◌, ◌≤◌, ◌⊎◌, Bool, List, Some, add-one, ap, arith, bit_and, false, inl, inr, length, nat_eq, not, refl, slice_get, suc, sym, take, true, unwrap_or, zero, zero-mul, ℕ}
 use Rattle.std.proofs.Math.Seq.{take-length}
 use Rattle.std.proofs.lemmas.Bool.{both_ways, cases_lt, false_from_ne_true, ne_eqb}
@@ -11,23 +13,21 @@ use Rattle.std.specs.Int.{bit_at}
 use Rattle.std.specs.Prelude.{count_by}
 use Rattle.bloom_parts.specs.Content.{content}
 use Rattle.bloom_parts.specs.Places.{place}
-use Rattle.bloom_steps.specs.declared.steps.vocabulary.Call.{Call}
-use Rattle.bloom_steps.specs.declared.steps.vocabulary.Call.TheVariants.{Clear, Contains, Insert, Intersect, Union}
 use Rattle.bloom_steps.specs.declared.steps.vocabulary.End.{End}
 use Rattle.bloom_steps.specs.declared.steps.vocabulary.Record.{Record}
 use Rattle.bloom_steps.specs.declared.steps.vocabulary.Record.TheVariants.{Began, Did}
 use Rattle.bloom_steps.specs.declared.steps.vocabulary.Step.{Step}
 use Rattle.bloom_steps.specs.Interleavings.{CountsGains, count_below, found_off}
-use Rattle.bloom_steps.specs.Moments.{NoCall, bits_of, moment}
+use Rattle.bloom_steps.specs.Moments.{EveryCall, bits_of, moment}
 use Rattle.bloom_steps.specs.Scripts.{Taken}
 use Rattle.bloom_steps.specs.Steps.{or_at, step_decides}
-use Rattle.bloom_steps.specs.Traces.{Course, IsLawful}
+use Rattle.bloom_steps.specs.Courses.{Course, IsLawful}
 use Rattle.bloom_steps.proofs.RunLemmas.Bounds.{content-end, moment-past, none_off}
 use Rattle.bloom_steps.proofs.RunLemmas.Changes.{found-or, moment-more, moment-or, on-or, or_at-decides, persists}
 use Rattle.bloom_steps.proofs.RunLemmas.Counting.{count_below-more, count_below-none, count_below-same}
-use Rattle.bloom_steps.proofs.RunLemmas.Held.{step_held}
+use Rattle.bloom_steps.proofs.RunLemmas.RecordedCalls.{step_held}
 use Rattle.bloom_steps.proofs.RunLemmas.Origins.{growing}
-use Rattle.bloom_steps.proofs.RunLemmas.Placing.{IsPlacedAt}
+use Rattle.bloom_steps.proofs.RunLemmas.PlacedSteps.{IsPlacedAt}
 use Rattle.bloom_steps.proofs.StepLemmas.Members.{some_member}
 
 -- a step that turns one bit on found it off exactly if the word has no bit of the mask
@@ -53,10 +53,9 @@ pub record Stays (A B : ℕ → Bool) (r : Record) : Type 0 where
   pub does_not : found_off r ≡ false
   pub same : (q : ℕ) → B q ≡ A q
 
--- a lawful run of inserts and look-ups
-module _ (k : ℕ) (run : Course) (lawful : IsLawful k run) (no_clear : NoCall run.records Clear)
-    (no_union : NoCall run.records Union)
-    (no_intersect : NoCall run.records Intersect) where
+-- a lawful run of calls that go by a hash
+module _ (k : ℕ) (run : Course) (lawful : IsLawful k run)
+    (by_hash : EveryCall goes_by_hash run.records) where
   -- whether a position was gained by moment m
   abbrev gained_at : ℕ → ℕ → Bool
   gained_at m q = moment run m q && not (content run.start q)
@@ -110,16 +109,17 @@ module _ (k : ℕ) (run : Course) (lawful : IsLawful k run) (no_clear : NoCall r
       inr (record { does_not = refl; same = λ q. moment-more run m (Began p call) q g })
   gains_or_stays m (Did p step found e) g =
       let h = step_held k run lawful m p step found e g in
-      by_call h.of.call h.of.s h.j h.t h.of.began h.at h.same_step
+      let began = h.of.began in
+      by_plan (plan_of h.of.call) h.of.s h.j h.t (by_hash began.0 p h.of.call began.1) h.at
+      h.same_step
     where
-      by_call : (call : Call) (s : List Taken) (j : ℕ) (t : Taken)
-          → (n : ℕ) × (slice_get run.records n ≡ Some (Began p call))
-          → IsPlacedAt (length run.start) k call s j t → t.step ≡ step
+      by_plan : (plan : Plan) (s : List Taken) (j : ℕ) (t : Taken) → goes_by_hash plan ≡ true
+          → IsPlacedAt (length run.start) k plan s j t → t.step ≡ step
           → Gains (moment run m) (moment run (m + 1)) (Did p step found e) ⊎ Stays (moment run m)
           (moment run (m + 1)) (Did p step found e)
-      by_call (Insert h) s j t began at same =
+      by_plan (TurnsOn h) s j t hash at same =
           insert_gains m p (place (bits_of run) h j) found step e g (sym same ∙ at.1)
-      by_call (Contains h) s j t began at same =
+      by_plan (LooksAt h) s j t hash at same =
           let is = sym same ∙ at in
           inr (record {
             does_not = ap (λ x. found_off (Did p x found e)) is;
@@ -128,9 +128,12 @@ module _ (k : ℕ) (run : Course) (lawful : IsLawful k run) (no_clear : NoCall r
                 moment-more run m (Did p step found e) q g
                 ∙ ap (λ x. unwrap_or (step_decides x q) (moment run m q)) is;
           })
-      by_call Clear s j t began at same = absurd (no_clear began.0 p began.1)
-      by_call Union s j t began at same = absurd (no_union began.0 p began.1)
-      by_call Intersect s j t began at same = absurd (no_intersect began.0 p began.1)
+      by_plan (EachWord op) s j t hash at same = absurd (both_ways false refl hash)
+      by_plan (EachPair op on) s j t hash at same = absurd (both_ways false refl hash)
+
+  -- such a run turns nothing off
+  none_turned_off : EveryCall turns_none_off run.records
+  none_turned_off m p call g = hash-grows (plan_of call) (by_hash m p call g)
 
   -- what is off was off at the start
   was_off : (m q : ℕ) → m ≤ length run.records → moment run m q ≡ false
@@ -139,7 +142,7 @@ module _ (k : ℕ) (run : Course) (lawful : IsLawful k run) (no_clear : NoCall r
       false_from_ne_true (content run.start q)
       (λ on. both_ways (moment run m q) off
       (persists run q 0 m m (omega arith) on
-      (λ j a b t. none_off run q (growing k run lawful no_clear no_intersect q) j (omega arith) t)))
+      (λ j a b t. none_off run q (growing k run lawful none_turned_off q) j (omega arith) t)))
 
   -- what is on lies within the bits
   on_within : (m q : ℕ) → m ≤ length run.records → moment run m q ≡ true → q < bits_of run
@@ -196,5 +199,4 @@ module _ (k : ℕ) (run : Course) (lawful : IsLawful k run) (no_clear : NoCall r
 
 -- each position is turned on once
 pub counts_gains : (k : ℕ) (run : Course) → IsLawful k run → CountsGains run
-counts_gains k run lawful no_clear no_union no_intersect =
-    gained_at_end k run lawful no_clear no_union no_intersect
+counts_gains k run lawful by_hash = gained_at_end k run lawful by_hash

@@ -1,4 +1,5 @@
 -- Whether a party runs a call: its newest record.
+use Rattle.bloom_steps.specs.Plans.{plan_of}
 use Rattle.std.proofs.Common.{[], ◌++◌, ◌+◌, ◌-◌, ◌<◌, ◌∙◌, ◌∷◌, ◌≡◌, ◌≢◌, ◌≤◌, Bool, List, Some, ap, arith, false, length, not, refl, slice_get, subst, suc, sym, true, zero, ℕ}
 use Rattle.std.proofs.lemmas.Option.{none-some, same_Some}
 use Rattle.bloom_steps.specs.declared.steps.vocabulary.Call.{Call}
@@ -8,11 +9,11 @@ use Rattle.bloom_steps.specs.declared.steps.vocabulary.Record.{Record}
 use Rattle.bloom_steps.specs.declared.steps.vocabulary.Record.TheVariants.{Began, Did}
 use Rattle.bloom_steps.specs.declared.steps.vocabulary.Step.{Step}
 use Rattle.bloom_steps.specs.declared.steps.machine.Machine.{Machine}
-use Rattle.bloom_steps.specs.Machines.{StandsAt}
+use Rattle.bloom_steps.specs.Standing.{StandsAt}
 use Rattle.bloom_parts.specs.Operations.{reply}
 use Rattle.bloom_steps.specs.Scripts.{Each, IsBeginning, IsScript, Taken}
-use Rattle.bloom_steps.specs.Traces.{did, last_leaves_running, leaves_running, records_of, runs}
-use Rattle.bloom_steps.proofs.RunLemmas.Parties.{records_of-append}
+use Rattle.bloom_steps.specs.Courses.{did, last_leaves_running, leaves_running, records_of, runs}
+use Rattle.bloom_steps.proofs.RunLemmas.PartyRecords.{records_of-append}
 use Rattle.bloom_steps.proofs.StepLemmas.Members.{some_member}
 use Rattle.bloom_steps.proofs.StepLemmas.Whole.{beginning_runs, last-not_running, script_some}
 
@@ -46,7 +47,7 @@ pub one_end-script : (w k : ℕ) (call : Call) (s : List Taken) → 1 ≤ length
 one_end-script w k call s some is = record {
   some = some;
   running = is.running;
-  ended = λ i t g l. last-not_running w call s i t g l (is.last i t g l);
+  ended = λ i t g l. last-not_running w (plan_of call) s i t g l (is.last i t g l);
 }
 
 -- the newest of two lists is that of the second, where it has one
@@ -120,7 +121,7 @@ still_runs-script w k call s some_words some_hashes is =
     let at_end : (length s - 1) + 1 ≡ length s = omega arith in
     still_runs-last s (length s - 1) t.0 t.1 at_end
     ∙ not_running t.0.ended
-    (last-not_running w call s (length s - 1) t.0 t.1 at_end
+    (last-not_running w (plan_of call) s (length s - 1) t.0 t.1 at_end
     (is.last (length s - 1) t.0 t.1 at_end))
 
 -- a machine's call goes on exactly if its steps so far leave it running

@@ -6,12 +6,12 @@ use Rattle.std.specs.Int.{bit_at}
 use Rattle.bloom_parts.specs.Content.{bit_is_on}
 use Rattle.bloom_parts.specs.Places.{place}
 use Rattle.bloom_steps.specs.declared.steps.vocabulary.Call.{Call}
-use Rattle.bloom_steps.specs.declared.steps.vocabulary.Call.TheVariants.{Clear, Contains, Insert, Intersect, Union}
+use Rattle.bloom_steps.specs.Plans.{EachPair, EachWord, LooksAt, Plan, TurnsOn, plan_of}
 use Rattle.bloom_steps.specs.declared.steps.vocabulary.End.TheVariants.{Answer}
 use Rattle.bloom_steps.specs.declared.steps.vocabulary.Step.{Step}
 use Rattle.bloom_steps.specs.declared.steps.vocabulary.Step.TheVariants.{And, Load, Or, Other, Zero}
-use Rattle.bloom_steps.specs.Scripts.{Any, IsLastEnd, IsScript, Taken}
-use Rattle.bloom_steps.specs.Traces.{IsWordOf, MayFind}
+use Rattle.bloom_steps.specs.Scripts.{Any, IsLastEnd, IsScript, Taken, CarriesOut}
+use Rattle.bloom_steps.specs.Courses.{IsWordOf, MayFind}
 use Rattle.bloom_steps.proofs.StepLemmas.Growing.{length-more}
 use Rattle.bloom_steps.proofs.StepLemmas.Members.{member-front, member-seam, member_of_more}
 
@@ -33,16 +33,16 @@ word-same a b i f g all = same_from_bits_below 64 a b f g (λ j l.
     nat_eq (bit_at a x) 1) (sym low) ∙ all (64 * i + j) (omega arith) ∙ ap (λ x. nat_eq
     (bit_at b x) 1) low))
 
-word_of-same : (A : ℕ → Bool) (i a b : ℕ) → IsWordOf A i a → IsWordOf A i b → a ≡ b
-word_of-same A i a b f g = word-same a b i f.fits g.fits (λ p at. f.bits p at ∙ sym (g.bits p at))
+word_index-same : (A : ℕ → Bool) (i a b : ℕ) → IsWordOf A i a → IsWordOf A i b → a ≡ b
+word_index-same A i a b f g = word-same a b i f.fits g.fits (λ p at. f.bits p at ∙ sym (g.bits p at))
 
 -- what is found is one, where another filter's word is given
 pub found-same : (A : ℕ → Bool) (given : ℕ) (step : Step) (a b : ℕ) → MayFind A step a
     → MayFind A step b
     → ((i : ℕ) → step ≡ Other i → a ≡ given) → ((i : ℕ) → step ≡ Other i → b ≡ given) → a ≡ b
-found-same A given (Load i) a b f g x y = word_of-same A i a b f g
-found-same A given (Or i m) a b f g x y = word_of-same A i a b f g
-found-same A given (And i m) a b f g x y = word_of-same A i a b f g
+found-same A given (Load i) a b f g x y = word_index-same A i a b f g
+found-same A given (Or i m) a b f g x y = word_index-same A i a b f g
+found-same A given (And i m) a b f g x y = word_index-same A i a b f g
 found-same A given (Zero i) a b f g x y = f ∙ sym g
 found-same A given (Other i) a b f g x y = x i refl ∙ sym (y i refl)
 
@@ -73,49 +73,47 @@ last-same : (w k : ℕ) (call : Call) (s : List Taken) (t u : Taken) → t.found
     → IsScript w k call (s ++ t ∷ [])
     → IsScript w k call (s ++ u ∷ []) → t.ended ≡ u.ended
 last-same w k call s t u e a b =
-    by_call call (a.last (length s) t (member-seam s [] t) (closes t))
+    by_plan (plan_of call) (a.last (length s) t (member-seam s [] t) (closes t))
     (b.last (length s) u (member-seam s [] u) (closes u))
   where
     closes : (v : Taken) → length s + 1 ≡ length (s ++ v ∷ [])
     closes v = sym (length-more s v)
 
-    by_call : (call : Call) → IsLastEnd w call (s ++ t ∷ []) t.ended
-        → IsLastEnd w call (s ++ u ∷ []) u.ended → t.ended ≡ u.ended
-    by_call (Insert h) a b =
+    by_plan : (plan : Plan) → IsLastEnd w plan (s ++ t ∷ []) t.ended
+        → IsLastEnd w plan (s ++ u ∷ []) u.ended → t.ended ≡ u.ended
+    by_plan (TurnsOn h) a b =
         a.1
         ∙ ap Answer
         (alike a.0 b.0 (λ x. b.2.1 (any_off-same w h s t u e (a.2.0 x)))
         (λ x. a.2.1 (any_off-same w h s u t (sym e) (b.2.0 x))))
         ∙ sym b.1
-    by_call (Contains h) a b =
+    by_plan (LooksAt h) a b =
         a (length s) t (member-seam s [] t) (closes t)
         ∙ ap (λ f. Answer (bit_is_on f (place (64 * w) h (length s)))) e
         ∙ sym (b (length s) u (member-seam s [] u) (closes u))
-    by_call Clear a b = a ∙ sym b
-    by_call Union a b = a ∙ sym b
-    by_call Intersect a b = a ∙ sym b
+    by_plan (EachWord op) a b = a ∙ sym b
+    by_plan (EachPair op on) a b = a ∙ sym b
 
 -- a script that ends here is no front of another that found the same
 ends_here : (w k : ℕ) (call : Call) (s rest : List Taken) (t u v : Taken) → t.found ≡ u.found
     → IsScript w k call (s ++ t ∷ [])
     → IsScript w k call (s ++ u ∷ (v ∷ rest)) → ⊥
 ends_here w k call s rest t u v e a b =
-    by_call call a b (length-more s t) (length-append s (u ∷ (v ∷ rest)))
+    by_plan (plan_of call) a b (length-more s t) (length-append s (u ∷ (v ∷ rest)))
   where
-    by_call : (call : Call) → IsScript w k call (s ++ t ∷ [])
-        → IsScript w k call (s ++ u ∷ (v ∷ rest))
+    by_plan : (plan : Plan) → CarriesOut w k plan (s ++ t ∷ [])
+        → CarriesOut w k plan (s ++ u ∷ (v ∷ rest))
         → length (s ++ t ∷ []) ≡ length s + 1
         → length (s ++ u ∷ (v ∷ rest)) ≡ length s + suc (suc (length rest)) → ⊥
-    by_call (Insert h) a b l n = let x = a.count in let y = b.count in omega arith
-    by_call (Contains h) a b l n =
+    by_plan (TurnsOn h) a b l n = let x = a.count in let y = b.count in omega arith
+    by_plan (LooksAt h) a b l n =
         let y = b.count in
         let here = place (64 * w) h (length s) in
         let off = a.stops.early (length s) t (member-seam s [] t) (omega arith) (omega arith) in
         let on = b.stops.earlier (length s) u (member-seam s (v ∷ rest) u) (omega arith) in
         both_ways (bit_is_on u.found here) (ap (λ f. bit_is_on f here) (sym e) ∙ off) on
-    by_call Clear a b l n = let x = a.count in let y = b.count in omega arith
-    by_call Union a b l n = let x = a.count in let y = b.count in omega arith
-    by_call Intersect a b l n = let x = a.count in let y = b.count in omega arith
+    by_plan (EachWord op) a b l n = let x = a.count in let y = b.count in omega arith
+    by_plan (EachPair op on) a b l n = let x = a.count in let y = b.count in omega arith
 
 -- how a step leaves its call is one
 pub end-same : (w k : ℕ) (call : Call) (s x y : List Taken) (t u : Taken) → t.found ≡ u.found

@@ -1,9 +1,10 @@
 -- Whole calls, one after the other, act as the list of their commands.
-use Rattle.std.proofs.Common.{[], ◌*◌, ◌∙◌, ◌∷◌, ◌≡◌, ◌≤◌, Bool, List, Some, ap, length, map, refl, slice_get, subst, suc, sym, take, unwrap_or, zero, ℕ}
+use Rattle.std.proofs.Common.{[], ◌*◌, ◌∙◌, ◌∷◌, ◌≡◌, ◌≤◌, Bool, List, None, Option, Some, ap, option_map, length, map, refl, slice_get, subst, suc, sym, take, unwrap_or, zero, ℕ}
 use Rattle.std.proofs.lemmas.Option.{none-some, same_Some}
 use Rattle.bloom_parts.specs.Content.{content}
 use Rattle.bloom_steps.specs.declared.steps.vocabulary.Call.{Call}
-use Rattle.bloom_steps.specs.declared.steps.vocabulary.Call.TheVariants.{Clear, Contains, Insert, Intersect, Union}
+use Rattle.bloom_parts.specs.Operations.{asked_by}
+use Rattle.bloom_parts.specs.Places.{are_in}
 use Rattle.bloom_steps.specs.declared.steps.vocabulary.Record.{Record}
 use Rattle.bloom_steps.specs.declared.steps.vocabulary.Record.TheVariants.{Began}
 use Rattle.bloom_parts.specs.Operations.{Operation, decides, state_after}
@@ -11,23 +12,24 @@ use Rattle.bloom_parts.specs.Operations.{reply}
 use Rattle.bloom_steps.specs.Scripts.{answer_of}
 use Rattle.bloom_steps.specs.Sequences.{ActsAs, ActsAsCommands, Cut, MadeCall, command_of, commands_of, cut, other_words}
 use Rattle.bloom_steps.specs.Steps.{after_records}
-use Rattle.bloom_steps.specs.Traces.{Course, IsLawful, did}
-use Rattle.bloom_steps.proofs.RunLemmas.Acting.{call-steps}
-use Rattle.bloom_steps.proofs.RunLemmas.Answering.{call-answer}
+use Rattle.bloom_steps.specs.Courses.{Course, IsLawful, did}
+use Rattle.bloom_steps.proofs.RunLemmas.CallSets.{call-steps}
+use Rattle.bloom_steps.proofs.RunLemmas.CallReplies.{call-answer}
 use Rattle.bloom_steps.proofs.RunLemmas.Bounds.{moment-past}
-use Rattle.bloom_steps.proofs.RunLemmas.Cutting.{OneByOne, cut-calls, next_call, no_more, one_by_one}
-use Rattle.bloom_steps.proofs.RunLemmas.Lasting.{Fits, fits-back, fits-front}
+use Rattle.bloom_steps.proofs.RunLemmas.OneByOne.{OneByOne, cut-calls, next_call, no_more, one_by_one}
+use Rattle.bloom_steps.proofs.RunLemmas.CallSteps.{Fits, fits-back, fits-front}
 use Rattle.bloom_steps.proofs.RunLemmas.Positions.{are_in-same}
 use Rattle.bloom_steps.proofs.StepLemmas.Deciding.{records-append, state-first, state-same}
 
 -- a reply looks at the bits of the set alone
 reply-same : (n k : ℕ) (call : Call) (other A B : ℕ → Bool) → ((q : ℕ) → A q ≡ B q)
     → reply n k A (command_of call other) ≡ reply n k B (command_of call other)
-reply-same n k (Insert h) other A B same = ap Some (are_in-same n k h A B same)
-reply-same n k (Contains h) other A B same = ap Some (are_in-same n k h A B same)
-reply-same n k Clear other A B same = refl
-reply-same n k Union other A B same = refl
-reply-same n k Intersect other A B same = refl
+reply-same n k call other A B same = go (asked_by (command_of call other))
+  where
+    go : (hash : Option ℕ)
+        → option_map (λ h. are_in n k h A) hash ≡ option_map (λ h. are_in n k h B) hash
+    go None = refl
+    go (Some h) = ap Some (are_in-same n k h A B same)
 
 -- the set and the answers of calls, over a set of w words
 record Acts (w k : ℕ) (A : ℕ → Bool) (rs : List Record) (made : List MadeCall) : Type 0 where

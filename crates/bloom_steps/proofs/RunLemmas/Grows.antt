@@ -1,72 +1,69 @@
 -- What is on at the end of a growing run.
-use Rattle.std.proofs.Common.{◌&&◌, ◌*◌, ◌+◌, ◌/◌, ◌↔◌, ◌∙◌, ◌≡◌, ◌⊎◌, List, None, Some, ap, arith, eq-eqb, if◌then◌else◌, inl, inr, length, slice_get, subst, sym, true, unwrap_or, ℕ}
+use Rattle.bloom_steps.specs.Plans.{turns_none_off, plan_of, Plan, TurnsOn, LooksAt, EachWord, EachPair}
+use Rattle.bloom_steps.proofs.StepLemmas.Plans.{TurnsBy, ReadsNoOther, PlanDecides, plan_decides, on-does, no-read}
+use Rattle.std.proofs.Common.{refl, ◌*◌, ◌+◌, ◌/◌, ◌↔◌, ◌∙◌, ◌≡◌, ◌⊎◌, List, Some, ap, arith, inl, inr, length, slice_get, subst, sym, true, unwrap_or, ℕ, Bool, false}
 use Rattle.std.proofs.lemmas.Bool.{both_ways}
 use Rattle.std.proofs.lemmas.Option.{slice_get_within}
 use Rattle.bloom_parts.specs.Content.{bit_is_on, content}
 use Rattle.bloom_parts.specs.Places.{place}
 use Rattle.bloom_steps.specs.declared.steps.vocabulary.Call.{Call}
-use Rattle.bloom_steps.specs.declared.steps.vocabulary.Call.TheVariants.{Clear, Contains, Insert, Intersect, Union}
+use Rattle.bloom_steps.specs.declared.steps.vocabulary.Call.TheVariants.{Insert}
 use Rattle.bloom_steps.specs.declared.steps.vocabulary.End.{End}
 use Rattle.bloom_steps.specs.declared.steps.vocabulary.Record.TheVariants.{Began, Did}
 use Rattle.bloom_steps.specs.declared.steps.vocabulary.Step.{Step}
 use Rattle.bloom_steps.specs.declared.steps.vocabulary.Step.TheVariants.{Other}
 use Rattle.bloom_steps.specs.Interleavings.{EndsWithAll, IsFoundInOther, IsInserted}
-use Rattle.bloom_steps.specs.Moments.{EveryCallEnded, NoCall, bits_of, moment}
-use Rattle.bloom_steps.specs.Scripts.{IsBeginning, IsScript, Taken}
+use Rattle.bloom_steps.specs.Moments.{EveryCallEnded, EveryCall, bits_of, moment}
+use Rattle.bloom_steps.specs.Scripts.{IsBeginning, IsScript, Taken, ArePairs, CarriesOut}
 use Rattle.bloom_steps.specs.Steps.{or_at, step_decides}
-use Rattle.bloom_steps.specs.Traces.{Course, IsLawful, runs}
+use Rattle.bloom_steps.specs.Courses.{Course, IsLawful, runs}
 use Rattle.bloom_steps.proofs.RunLemmas.Bounds.{stays_to_end}
 use Rattle.bloom_steps.proofs.RunLemmas.Changes.{moment-more, or_at-decides}
-use Rattle.bloom_steps.proofs.RunLemmas.Held.{held, step_held}
-use Rattle.bloom_steps.proofs.RunLemmas.Origins.{HasBegun, HasSteps, decider, growing, origin_of}
-use Rattle.bloom_steps.proofs.RunLemmas.Placing.{IsPlacedAt}
+use Rattle.bloom_steps.proofs.RunLemmas.RecordedCalls.{held, step_held}
+use Rattle.bloom_steps.proofs.RunLemmas.Origins.{HasSteps, decider, growing, origin_of}
+use Rattle.bloom_steps.proofs.RunLemmas.PlacedSteps.{IsPlacedAt}
 use Rattle.bloom_steps.proofs.StepLemmas.Going.{parity}
 use Rattle.bloom_steps.proofs.StepLemmas.Members.{some_member}
 
--- the load of a union is followed by a step that makes on what it found
-paired : (w k q : ℕ) (s : List Taken) (j : ℕ) (t : Taken) → IsScript w k Union s
+-- the read of a pair is followed by a step that makes on what it found
+paired : (op : ℕ → ℕ → Step) (on : Bool) (w q : ℕ) (s : List Taken) (j : ℕ) (t : Taken)
+    → TurnsBy op on × ReadsNoOther op → on ≡ true → ArePairs op s → length s ≡ 2 * w
     → slice_get s j ≡ Some t
     → t.step ≡ Other (q / 64) → bit_is_on t.found q ≡ true
     → (i : ℕ) × (u : Taken) × (slice_get s i ≡ Some u) × (step_decides u.step q ≡ Some true)
-paired w k q s j t is g e on =
-    let count = is.count in
+paired op on w q s j t does is pairs count g e bit =
     let inside = slice_get_within s j t g in
     elim (parity j) [
       | inl even ↦
           let here = ap (slice_get s) (sym even.1) ∙ g in
           let u = some_member s (2 * even.0 + 1) (omega (arith, even.1)) in
-          let other = is.steps.loads even.0 t here in
+          let other = pairs.loads even.0 t here in
           let same : even.0 ≡ q / 64 = (let f = sym other ∙ e in cc) in
-          let step = is.steps.writes even.0 t u.0 here u.1 in
-          let here_too = eq-eqb _ _ (sym same) in
-          let decides = ap (λ b. if b && bit_is_on t.found q then Some true else None) here_too in (
-            2 * even.0 + 1,
-            u.0,
-            u.1,
-            ap (λ x. step_decides x q) step ∙ decides ∙ ap (λ b. if b then Some true else None) on,
-          )
+          let step = pairs.writes even.0 t u.0 here u.1 in
+          let makes = on-does op on does.0 is even.0 t.found q (sym same) bit in
+          (2 * even.0 + 1, u.0, u.1, ap (λ x. step_decides x q) step ∙ makes)
       | inr odd ↦
           let v = some_member s (2 * odd.0) (omega (arith, odd.1)) in
-          absurd
-          (let f = sym (is.steps.writes odd.0 v.0 t v.1 (ap (slice_get s) (sym odd.1) ∙ g))
-          ∙ e in cc)
+          let write = pairs.writes odd.0 v.0 t v.1 (ap (slice_get s) (sym odd.1) ∙ g) in
+          absurd (no-read op does.1 odd.0 v.0.found (q / 64) (sym write ∙ e))
     ]
 
--- a lawful run without clears and intersections
-module _ (k : ℕ) (run : Course) (lawful : IsLawful k run) (no_clear : NoCall run.records Clear)
-    (no_intersect : NoCall run.records Intersect) where
+-- a lawful run of calls that turn nothing off
+module _ (k : ℕ) (run : Course) (lawful : IsLawful k run)
+    (none_off : EveryCall turns_none_off run.records) where
   -- after a step that makes a position on it is so to the end
   stays : (q m p : ℕ) (step : Step) (found : ℕ) (e : End)
       → slice_get run.records m ≡ Some (Did p step found e)
       → step_decides step q ≡ Some true → content run.words q ≡ true
   stays q m p step found e g makes =
       let inside = slice_get_within run.records m (Did p step found e) g in
-      stays_to_end k run lawful q (growing k run lawful no_clear no_intersect q) (m + 1)
+      stays_to_end k run lawful q (growing k run lawful none_off q) (m + 1)
       (omega arith)
       (moment-more run m (Did p step found e) q g ∙ ap (λ o. unwrap_or o (moment run m q)) makes)
 
   -- where every call has ended
   module _ (ended : EveryCallEnded run.records) where
+    -- then each call of a record is whole
     is_whole : (p : ℕ) (call : Call) (s : List Taken)
         → IsScript
         (length run.start) k call s ⊎ (IsBeginning
@@ -98,38 +95,43 @@ module _ (k : ℕ) (run : Course) (lawful : IsLawful k run) (no_clear : NoCall r
           | inr at ↦ absurd (let e = at.3 in cc)
         ]
 
-    -- and what a union found in the other filter
-    made_on : (q p : ℕ) (call : Call) (s : List Taken) (j : ℕ) (t : Taken) → HasBegun run p call
-        → HasSteps run p s
-        → IsScript (length run.start) k call s → IsPlacedAt (length run.start) k call s j t
+    -- and what a call found in the other filter
+    made_on : (q p : ℕ) (plan : Plan) (s : List Taken) (j : ℕ) (t : Taken) → PlanDecides plan
+        → turns_none_off plan ≡ true → HasSteps run p s
+        → CarriesOut (length run.start) k plan s → IsPlacedAt (length run.start) k plan s j t
         → slice_get s j ≡ Some t
         → t.step ≡ Other (q / 64) → bit_is_on t.found q ≡ true → content run.words q ≡ true
-    made_on q p (Insert h) s j t began steps is at g e on = absurd (let f = sym at.1 ∙ e in cc)
-    made_on q p (Contains h) s j t began steps is at g e on = absurd (let f = sym at ∙ e in cc)
-    made_on q p Clear s j t began steps is at g e on = absurd (no_clear began.0 p began.1)
-    made_on q p Union s j t began steps is at g e on =
-        let u = paired (length run.start) k q s j t is g e on in
+    made_on q p (TurnsOn h) s j t does none steps is at g e on =
+        absurd (let f = sym at.1 ∙ e in cc)
+    made_on q p (LooksAt h) s j t does none steps is at g e on = absurd (let f = sym at ∙ e in cc)
+    made_on q p (EachWord op) s j t does none steps is at g e on =
+        absurd (both_ways false refl none)
+    made_on q p (EachPair op way) s j t does none steps is at g e on =
+        let u = paired op way (length run.start) q s j t does none is.steps is.count g e on in
         let n = steps u.0 u.1 u.2 in
         stays q n.0 p u.1.step u.1.found u.1.ended n.1 u.3
-    made_on q p Intersect s j t began steps is at g e on = absurd (no_intersect began.0 p began.1)
 
+    -- so what was found on there is on
     found_there : (q : ℕ) → IsFoundInOther run q → content run.words q ≡ true
     found_there q x =
         let h = step_held k run lawful x.0 x.1 (Other (q / 64)) x.2 x.3 x.4 in
-        made_on q x.1 h.of.call h.of.s h.j h.t h.of.began h.of.members
-        (is_whole x.1 h.of.call h.of.s h.of.kind) h.at h.here
-        h.same_step (ap (λ f. bit_is_on f q) h.same_found ∙ x.5)
+        let call = h.of.call in
+        let began = h.of.began in
+        made_on q x.1 (plan_of call) h.of.s h.j h.t (plan_decides call)
+        (none_off began.0 x.1 call began.1) h.of.members (is_whole x.1 call h.of.s h.of.kind) h.at
+        h.here h.same_step (ap (λ f. bit_is_on f q) h.same_found ∙ x.5)
 
+    -- what is on at the end was on at the start, inserted, or found there; and the other way round
     pub on_at_end : (q : ℕ) → (content run.words q ≡ true)
         ↔ ((content run.start q ≡ true) ⊎ (IsInserted k run q ⊎ IsFoundInOther run q))
     on_at_end q = (
       (λ on. elim (decider (content run.start) run.records q (sym (lawful.bits q) ∙ on)) [
         | inl before ↦ inl before
-        | inr r ↦ inr (origin_of k run lawful no_clear no_intersect q r.0 r.1 r.2 r.3)
+        | inr r ↦ inr (origin_of k run lawful none_off q r.0 r.1 r.2 r.3)
       ]),
       (λ x. elim x [
         | inl on ↦
-            stays_to_end k run lawful q (growing k run lawful no_clear no_intersect q) 0
+            stays_to_end k run lawful q (growing k run lawful none_off q) 0
             (omega arith) on
         | inr y ↦ elim y [ inl i ↦ inserted q i | inr o ↦ found_there q o ]
       ]),
@@ -137,5 +139,4 @@ module _ (k : ℕ) (run : Course) (lawful : IsLawful k run) (no_clear : NoCall r
 
 -- growing runs: the end does not depend on the order
 pub ends_with_all : (k : ℕ) (run : Course) → IsLawful k run → EndsWithAll k run
-ends_with_all k run lawful no_clear no_intersect ended q =
-    on_at_end k run lawful no_clear no_intersect ended q
+ends_with_all k run lawful none_off ended q = on_at_end k run lawful none_off ended q

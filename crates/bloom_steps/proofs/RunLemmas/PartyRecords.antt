@@ -6,7 +6,7 @@ use Rattle.std.proofs.lemmas.Option.{none-some, same_Some}
 use Rattle.bloom_steps.specs.declared.steps.vocabulary.Record.{Record}
 use Rattle.bloom_steps.specs.declared.steps.vocabulary.Record.TheVariants.{Began, Did}
 use Rattle.bloom_steps.specs.Scripts.{Taken}
-use Rattle.bloom_steps.specs.Traces.{did, party_of, records_of}
+use Rattle.bloom_steps.specs.Courses.{did, party_of, records_of}
 
 -- its own record stays, another's goes
 pub records_of-mine : (p : ℕ) (r : Record) (rs : List Record) → party_of r ≡ p

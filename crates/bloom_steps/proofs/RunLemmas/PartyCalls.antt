@@ -8,14 +8,14 @@ use Rattle.bloom_steps.specs.declared.steps.vocabulary.Record.{Record}
 use Rattle.bloom_steps.specs.declared.steps.vocabulary.Record.TheVariants.{Began, Did}
 use Rattle.bloom_steps.specs.declared.steps.vocabulary.Step.{Step}
 use Rattle.bloom_steps.specs.declared.steps.machine.Machine.{Machine}
-use Rattle.bloom_steps.specs.Machines.{asks, end_of}
+use Rattle.bloom_steps.specs.Standing.{asks, end_of}
 use Rattle.bloom_steps.specs.Scripts.{Taken}
-use Rattle.bloom_steps.specs.Steps.{word_of}
-use Rattle.bloom_steps.specs.Traces.{CallAfterCall, begun_call, did, last_leaves_running, no_call, party_of, records_of, whole_call}
-use Rattle.bloom_steps.specs.Turns.{AsksRight, StandsFurther}
+use Rattle.bloom_steps.specs.Steps.{word_index}
+use Rattle.bloom_steps.specs.Courses.{CallAfterCall, begun_call, did, last_leaves_running, no_call, party_of, records_of, whole_call}
+use Rattle.bloom_steps.specs.Machines.{AsksRight, StandsFurther}
 use Rattle.bloom_steps.specs.Worlds.{HasCalled, PartyAt, WholeCalls, no_calls, one_more, slot_runs}
-use Rattle.bloom_steps.proofs.RunLemmas.Newest.{newest-append, newest-call, still_runs-machine}
-use Rattle.bloom_steps.proofs.RunLemmas.Parties.{did-more, records_of-more, records_of-same}
+use Rattle.bloom_steps.proofs.RunLemmas.RunningCalls.{newest-append, newest-call, still_runs-machine}
+use Rattle.bloom_steps.proofs.RunLemmas.PartyRecords.{did-more, records_of-more, records_of-same}
 use Rattle.bloom_steps.proofs.StepLemmas.Completing.{finish}
 use Rattle.bloom_steps.proofs.StepLemmas.Driving.{asked-within}
 
@@ -66,7 +66,7 @@ module _ (w k p : ℕ) where
   -- a step that its machine asks for is on one of the words
   pub step-within : (m : Machine) (rs : List Record) (step : Step) → HasCalled w k p m rs
       → AsksRight m (Some step)
-      → word_of step < w
+      → word_index step < w
   step-within m rs step at asks_right =
       asked-within w k at.call at.taken step (asks_right w k at.call at.taken at.stands)
 

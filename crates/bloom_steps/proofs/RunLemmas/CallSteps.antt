@@ -10,7 +10,7 @@ use Rattle.bloom_steps.specs.declared.steps.vocabulary.Step.{Step}
 use Rattle.bloom_steps.specs.declared.steps.vocabulary.Step.TheVariants.{And, Load, Or, Other, Zero}
 use Rattle.bloom_steps.specs.Scripts.{Each, Taken}
 use Rattle.bloom_steps.specs.Steps.{after_records, record_decides, step_decides}
-use Rattle.bloom_steps.specs.Traces.{FindsWhatIsThere, IsWordOf, MayFind, did}
+use Rattle.bloom_steps.specs.Courses.{FindsWhatIsThere, IsWordOf, MayFind, did}
 use Rattle.bloom_steps.proofs.RunLemmas.Changes.{DecidesOnly}
 use Rattle.bloom_steps.proofs.StepLemmas.Deciding.{records-append}
 use Rattle.bloom_steps.proofs.StepLemmas.Members.{member-back, member-front, member_of_take}

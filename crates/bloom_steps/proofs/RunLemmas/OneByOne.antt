@@ -10,9 +10,9 @@ use Rattle.bloom_steps.specs.declared.steps.vocabulary.Record.TheVariants.{Began
 use Rattle.bloom_steps.specs.Moments.{EveryCallEnded, OneAtATime}
 use Rattle.bloom_steps.specs.Scripts.{IsScript, Taken}
 use Rattle.bloom_steps.specs.Sequences.{Cut, MadeCall, cut}
-use Rattle.bloom_steps.specs.Traces.{CallAfterCall, begun_call, did, last_leaves_running, leaves_running, party_of, records_of, runs, whole_call}
-use Rattle.bloom_steps.proofs.RunLemmas.Newest.{OneEnd, newest-call, one_end-later, one_end-script, runs_after, still_runs-beginning}
-use Rattle.bloom_steps.proofs.RunLemmas.Parties.{mine_or_not, records_of-mine, records_of-none, records_of-other}
+use Rattle.bloom_steps.specs.Courses.{CallAfterCall, begun_call, did, last_leaves_running, leaves_running, party_of, records_of, runs, whole_call}
+use Rattle.bloom_steps.proofs.RunLemmas.RunningCalls.{OneEnd, newest-call, one_end-later, one_end-script, runs_after, still_runs-beginning}
+use Rattle.bloom_steps.proofs.RunLemmas.PartyRecords.{mine_or_not, records_of-mine, records_of-none, records_of-other}
 use Rattle.bloom_steps.proofs.StepLemmas.Whole.{script_some}
 
 one_later : (xs ys : List Record) → OneAtATime (xs ++ ys) → OneAtATime ys

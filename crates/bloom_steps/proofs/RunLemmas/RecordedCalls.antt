@@ -1,4 +1,5 @@
 -- Each record is of a call whose script, or a beginning of it, stands among the records.
+use Rattle.bloom_steps.specs.Plans.{plan_of}
 use Rattle.std.proofs.Common.{[], ◌++◌, ◌+◌, ◌∙◌, ◌∷◌, ◌≡◌, ◌⊎◌, Bool, List, Some, inl, inr, length, refl, slice_get, suc, sym, zero, ℕ}
 use Rattle.std.proofs.lemmas.Option.{none-some, same_Some}
 use Rattle.bloom_steps.specs.declared.steps.vocabulary.Call.{Call}
@@ -7,10 +8,10 @@ use Rattle.bloom_steps.specs.declared.steps.vocabulary.Record.{Record}
 use Rattle.bloom_steps.specs.declared.steps.vocabulary.Record.TheVariants.{Began, Did}
 use Rattle.bloom_steps.specs.declared.steps.vocabulary.Step.{Step}
 use Rattle.bloom_steps.specs.Scripts.{Taken}
-use Rattle.bloom_steps.specs.Traces.{CallAfterCall, Course, IsLawful, begun_call, did, last_leaves_running, no_call, party_of, records_of, runs, whole_call}
-use Rattle.bloom_steps.proofs.RunLemmas.Newest.{newest-call, newest_kept, still_runs-beginning}
-use Rattle.bloom_steps.proofs.RunLemmas.Parties.{did-get, own_of_record, record_of_own}
-use Rattle.bloom_steps.proofs.RunLemmas.Placing.{Holds, IsOneOf, IsPlacedAt, front_of, placed}
+use Rattle.bloom_steps.specs.Courses.{CallAfterCall, Course, IsLawful, begun_call, did, last_leaves_running, no_call, party_of, records_of, runs, whole_call}
+use Rattle.bloom_steps.proofs.RunLemmas.RunningCalls.{newest-call, newest_kept, still_runs-beginning}
+use Rattle.bloom_steps.proofs.RunLemmas.PartyRecords.{did-get, own_of_record, record_of_own}
+use Rattle.bloom_steps.proofs.RunLemmas.PlacedSteps.{Holds, IsOneOf, IsPlacedAt, front_of, placed}
 use Rattle.bloom_steps.proofs.StepLemmas.Members.{member-back, member-front, member_of_append}
 
 -- a record of a call is its beginning, or one of its steps
@@ -79,7 +80,7 @@ pub record HoldsStep
   pub here : slice_get of.s j ≡ Some t
   pub same_step : t.step ≡ step
   pub same_found : t.found ≡ found
-  pub at : IsPlacedAt w k of.call of.s j t
+  pub at : IsPlacedAt w k (plan_of of.call) of.s j t
 
 -- a lawful run
 module _ (k : ℕ) (run : Course) (lawful : IsLawful k run) where

@@ -3,12 +3,12 @@ use Rattle.std.proofs.Common.{◌*◌, ◌++◌, ◌<◌, ◌∙◌, ◌∷◌, 
 use Rattle.std.proofs.lemmas.Option.{slice_get_within}
 use Rattle.bloom_parts.specs.Places.{place}
 use Rattle.bloom_steps.specs.declared.steps.vocabulary.Call.{Call}
-use Rattle.bloom_steps.specs.declared.steps.vocabulary.Call.TheVariants.{Clear, Contains, Insert, Intersect, Union}
+use Rattle.bloom_steps.specs.Plans.{EachPair, EachWord, LooksAt, Plan, TurnsOn, plan_of}
 use Rattle.bloom_steps.specs.declared.steps.vocabulary.Record.{Record}
 use Rattle.bloom_steps.specs.declared.steps.vocabulary.Record.TheVariants.{Began, Did}
 use Rattle.bloom_steps.specs.declared.steps.vocabulary.Step.{Step}
-use Rattle.bloom_steps.specs.declared.steps.vocabulary.Step.TheVariants.{And, Or, Other, Zero}
-use Rattle.bloom_steps.specs.Scripts.{ArePairs, IsBeginning, IsScript, Taken}
+use Rattle.bloom_steps.specs.declared.steps.vocabulary.Step.TheVariants.{Other}
+use Rattle.bloom_steps.specs.Scripts.{ArePairs, IsBeginning, IsScript, Taken, HasCount, AreStepsOf}
 use Rattle.bloom_steps.specs.Steps.{load_at, or_at}
 use Rattle.bloom_steps.proofs.StepLemmas.Going.{parity}
 use Rattle.bloom_steps.proofs.StepLemmas.Members.{member-front, some_member}
@@ -28,7 +28,7 @@ pub record Holds (w k p : ℕ) (rs : List Record) (going : Bool) (r : Record) : 
   pub kind : IsScript w k call s ⊎ (IsBeginning w k call s × (going ≡ true))
   pub which : (r ≡ Began p call) ⊎ IsOneOf p s r
 
--- the step at place j of a union or intersection
+-- a step of a plan of pairs
 pub record IsPairAt (w : ℕ) (op : ℕ → ℕ → Step) (s : List Taken) (t : Taken) : Type 0 where
   pub i : ℕ
   pub below : i < w
@@ -36,13 +36,12 @@ pub record IsPairAt (w : ℕ) (op : ℕ → ℕ → Step) (s : List Taken) (t : 
       ⊎ ((u : Taken) × (slice_get s (2 * i) ≡ Some u) × (u.step ≡ Other i)
       × (t.step ≡ op i u.found))
 
--- the step at place j of a call
-abbrev pub IsPlacedAt : ℕ → ℕ → Call → List Taken → ℕ → Taken → Type 0
-IsPlacedAt w k (Insert h) s j t = (j < k) × (t.step ≡ or_at (place (64 * w) h j))
-IsPlacedAt w k (Contains h) s j t = t.step ≡ load_at (place (64 * w) h j)
-IsPlacedAt w k Clear s j t = (j < w) × (t.step ≡ Zero j)
-IsPlacedAt w k Union s j t = IsPairAt w Or s t
-IsPlacedAt w k Intersect s j t = IsPairAt w And s t
+-- the step at place j of a plan
+abbrev pub IsPlacedAt : ℕ → ℕ → Plan → List Taken → ℕ → Taken → Type 0
+IsPlacedAt w k (TurnsOn h) s j t = (j < k) × (t.step ≡ or_at (place (64 * w) h j))
+IsPlacedAt w k (LooksAt h) s j t = t.step ≡ load_at (place (64 * w) h j)
+IsPlacedAt w k (EachWord op) s j t = (j < w) × (t.step ≡ op j)
+IsPlacedAt w k (EachPair op on) s j t = IsPairAt w op s t
 
 -- some steps are a script, or the front of one
 pub record IsFront (w k : ℕ) (call : Call) (s : List Taken) : Type 0 where
@@ -50,6 +49,7 @@ pub record IsFront (w k : ℕ) (call : Call) (s : List Taken) : Type 0 where
   pub is : IsScript w k call full
   pub front : (i : ℕ) (t : Taken) → slice_get s i ≡ Some t → slice_get full i ≡ Some t
 
+-- a call that a record is of is such a front
 pub front_of :
     (w k p : ℕ) (rs : List Record) (going : Bool) (r : Record) (h : Holds w k p rs going r)
     → IsFront w k h.call h.s
@@ -62,6 +62,7 @@ front_of w k p rs going r h = elim h.kind [
   }
 ]
 
+-- each step of a plan of pairs is one of a pair
 pair-placed : (w : ℕ) (op : ℕ → ℕ → Step) (s full : List Taken) (j : ℕ) (t : Taken)
     → ArePairs op full → length full ≡ 2 * w
     → ((i : ℕ) (u : Taken) → slice_get s i ≡ Some u → slice_get full i ≡ Some u)
@@ -91,15 +92,25 @@ pair-placed w op s full j t pairs l front g =
           }
     ]
 
+-- each step of a front stands where its plan has it
+placed_in : (w k : ℕ) (plan : Plan) (s full : List Taken) → HasCount w k plan (length full)
+    → AreStepsOf w plan full
+    → ((i : ℕ) (t : Taken) → slice_get s i ≡ Some t → slice_get full i ≡ Some t) → (j : ℕ) (t : Taken)
+    → slice_get s j ≡ Some t
+    → IsPlacedAt w k plan s j t
+placed_in w k (TurnsOn h) s full count steps front j t g =
+    let inside = slice_get_within full j t (front j t g) in
+    (omega (arith, count, inside), steps j t (front j t g))
+placed_in w k (LooksAt h) s full count steps front j t g = steps j t (front j t g)
+placed_in w k (EachWord op) s full count steps front j t g =
+    let inside = slice_get_within full j t (front j t g) in
+    (omega (arith, count, inside), steps j t (front j t g))
+placed_in w k (EachPair op on) s full count steps front j t g =
+    pair-placed w op s full j t steps count front g
+
+-- so does each step of a call
 pub placed : (w k : ℕ) (call : Call) (s : List Taken) → IsFront w k call s → (j : ℕ) (t : Taken)
     → slice_get s j ≡ Some t
-    → IsPlacedAt w k call s j t
-placed w k (Insert h) s f j t g =
-    let inside = slice_get_within f.full j t (f.front j t g) in
-    let count = f.is.count in (omega arith, f.is.steps j t (f.front j t g))
-placed w k (Contains h) s f j t g = f.is.steps j t (f.front j t g)
-placed w k Clear s f j t g =
-    let inside = slice_get_within f.full j t (f.front j t g) in
-    let count = f.is.count in (omega arith, f.is.steps j t (f.front j t g))
-placed w k Union s f j t g = pair-placed w Or s f.full j t f.is.steps f.is.count f.front g
-placed w k Intersect s f j t g = pair-placed w And s f.full j t f.is.steps f.is.count f.front g
+    → IsPlacedAt w k (plan_of call) s j t
+placed w k call s f j t g =
+    placed_in w k (plan_of call) s f.full f.is.count f.is.steps f.front j t g

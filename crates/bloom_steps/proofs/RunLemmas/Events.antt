@@ -1,0 +1,63 @@
+-- What one event adds to the records of a run.
+use Rattle.std.proofs.Common.{[], ◌++◌, ◌<◌, ◌∙◌, ◌∷◌, ◌≡◌, List, None, Option, ap, false, inl, inr, length, refl, slice_index_or, sym, true, ℕ}
+use Rattle.std.proofs.lemmas.List.{append-nil}
+use Rattle.bloom_steps.specs.declared.steps.machine.Machine.{Machine}
+use Rattle.bloom_steps.specs.declared.steps.runner.World.{World}
+use Rattle.bloom_steps.specs.declared.steps.vocabulary.Call.{Call}
+use Rattle.bloom_steps.specs.declared.steps.vocabulary.End.{End}
+use Rattle.bloom_steps.specs.declared.steps.vocabulary.Event.{Event}
+use Rattle.bloom_steps.specs.declared.steps.vocabulary.Event.TheVariants.{Begin, Go}
+use Rattle.bloom_steps.specs.declared.steps.vocabulary.Record.{Record}
+use Rattle.bloom_steps.specs.declared.steps.vocabulary.Record.TheVariants.{Began, Did}
+use Rattle.bloom_steps.specs.declared.steps.vocabulary.Step.{Step}
+use Rattle.bloom_steps.specs.Courses.{Gives, runs}
+use Rattle.bloom_steps.specs.Memories.{found_in}
+use Rattle.bloom_steps.specs.Worlds.{Grows, IsWorldOf, slot_runs}
+use Rattle.bloom_steps.proofs.RunLemmas.Worlds.{runs-slot}
+
+-- records grow by nothing
+pub grows-none : (parties : ℕ) (e : Event) (before : List Record) → Gives parties before e []
+    → Grows parties e before before
+grows-none parties e before gives =
+    record { added = []; same = sym (append-nil before); gives = gives }
+
+-- or by one
+pub grows-one : (parties : ℕ) (e : Event) (before after : List Record) (r : Record)
+    → after ≡ before ++ r ∷ [] → Gives parties before e (r ∷ []) → Grows parties e before after
+grows-one parties e before after r same gives =
+    record { added = r ∷ []; same = same; gives = gives }
+
+-- a world, and a party of it that has this slot
+module _ (k : ℕ) (world : World) (is : IsWorldOf k world) (p : ℕ)
+    (within : p < length world.machines.items) (slot : Option Machine)
+    (at : slice_index_or world.machines.items p None ≡ slot) where
+  -- whether it runs a call is whether its machine does
+  runs-so : runs p world.records.items ≡ slot_runs slot
+  runs-so = runs-slot k _ _ _ _ is p within slot at
+
+  -- where it runs a call it begins none
+  pub gives-busy : (call : Call) → slot_runs slot ≡ true
+      → Gives (length world.machines.items) world.records.items (Begin p call) []
+  gives-busy call running = inr ((λ _. runs-so ∙ running), refl)
+
+  -- and else it begins one
+  pub gives-begun : (call : Call) → slot_runs slot ≡ false
+      → Gives (length world.machines.items) world.records.items (Begin p call)
+      (Began p call ∷ [])
+  gives-begun call idle = inl (within, runs-so ∙ idle, refl)
+
+  -- where it runs none it makes no step
+  pub gives-idle : (given : ℕ) → slot_runs slot ≡ false
+      → Gives (length world.machines.items) world.records.items (Go p given) []
+  gives-idle given idle = inr (runs-so ∙ idle, refl)
+
+  -- and else it makes one, which finds the word given where it reads the other filter
+  pub gives-step : (given : ℕ) (step : Step) (found : ℕ) (e : End) → slot_runs slot ≡ true
+      → found ≡ found_in world.words.items given step
+      → Gives (length world.machines.items) world.records.items (Go p given)
+      (Did p step found e ∷ [])
+  gives-step given step found e running told =
+      inl (
+        runs-so ∙ running,
+        (step, found, e, refl, (λ i same. told ∙ ap (found_in world.words.items given) same)),
+      )

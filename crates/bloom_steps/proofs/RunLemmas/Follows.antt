@@ -1,0 +1,79 @@
+-- Events, one after the other, and what they add.
+use Rattle.bloom_steps.specs.declared.steps.runner.World.{World}
+use Rattle.std.proofs.Common.{[], ◌++◌, ◌+◌, ◌<◌, ◌∷◌, ◌≡◌, List, append_assoc, length, subst, sym, take, ℕ, ◌∙◌}
+use Rattle.std.proofs.lemmas.List.{append-nil}
+use Rattle.std.proofs.lemmas.Option.{slice_get-get_or}
+use Rattle.std.specs.Prelude.{slice_index_or}
+use Rattle.bloom_steps.specs.declared.steps.vocabulary.Event.{Event}
+use Rattle.bloom_steps.specs.declared.steps.vocabulary.Record.{Record}
+use Rattle.bloom_steps.specs.Courses.{FollowsFrom, Gives, next_event, no_event}
+use Rattle.bloom_steps.specs.Worlds.{Grows, IsWorldOf, Happens}
+use Rattle.bloom_steps.proofs.StepLemmas.Members.{take-more}
+
+-- one event more
+pub follows-more :
+    (parties : ℕ) (before : List Record) (es : List Event) (added : List Record) (e : Event)
+    (more : List Record)
+    → FollowsFrom parties before es added → Gives parties (before ++ added) e more
+    → FollowsFrom parties before (es ++ e ∷ []) (added ++ more)
+follows-more parties before [] [] e more (no_event _) g =
+    let gives = subst (λ l. Gives parties l e more) (append-nil before) g in
+    subst (λ l. FollowsFrom parties before (e ∷ []) l) (append-nil more)
+    (next_event before e [] more [] gives (no_event (before ++ more)))
+follows-more parties before [] (a ∷ later) e more x g = elim x [ ]
+follows-more parties before (first ∷ es) _ e more (next_event _ _ _ added later gives rest) g =
+    let last = subst (λ l. Gives parties l e more) (sym (append_assoc before added later)) g in
+    subst (λ l. FollowsFrom parties before (first ∷ (es ++ e ∷ [])) l)
+    (sym (append_assoc added later more))
+    (next_event before first (es ++ e ∷ []) added (later ++ more) gives
+    (follows-more parties (before ++ added) es later e more rest last))
+
+take-read : (xs : List Event) (i : ℕ) (d : Event) → i < length xs
+    → take (i + 1) xs ≡ take i xs ++ slice_index_or xs i d ∷ []
+take-read xs i d within = take-more xs i (slice_index_or xs i d) (slice_get-get_or xs i d within)
+
+-- the next event of a schedule
+pub follows-next :
+    (count parties : ℕ) (schedule : List Event) (i : ℕ) (d : Event) (before after : List Record)
+    → count ≡ parties → i < length schedule → FollowsFrom parties [] (take i schedule) before
+    → Grows count (slice_index_or schedule i d) before after
+    → FollowsFrom parties [] (take (i + 1) schedule) after
+follows-next count parties schedule i d before after all within so grows =
+    let event = slice_index_or schedule i d in
+    let g = subst (λ n. Grows n event before after) all grows in
+    subst (λ es. FollowsFrom parties [] es after) (sym (take-read schedule i d within))
+    (subst (λ rs. FollowsFrom parties [] (take i schedule ++ event ∷ []) rs) (sym g.same)
+    (follows-more parties [] (take i schedule) before event g.added so g.gives))
+
+-- a run so far: its world is that of the events up to one, from given words
+pub record HasRun
+    (k count : ℕ) (words : List ℕ) (schedule : List Event) (i : ℕ) (now : World) : Type 0 where
+  pub parties : length now.machines.items ≡ count
+  pub start : now.start.items ≡ words
+  pub world : IsWorldOf k now
+  pub follows : FollowsFrom count [] (take i schedule) now.records.items
+
+-- before the first event it has run
+pub run-first : (k parties : ℕ) (words : List ℕ) (schedule : List Event) (world : World)
+    → IsWorldOf k world → length world.machines.items ≡ parties → world.start.items ≡ words
+    → world.records.items ≡ [] → HasRun k parties words schedule 0 world
+run-first k parties words schedule world is all start none = record {
+  parties = all;
+  start = start;
+  world = is;
+  follows = subst (FollowsFrom parties [] []) (sym none) (no_event []);
+}
+
+-- and after each event
+pub run-next : (k parties : ℕ) (words : List ℕ) (schedule : List Event) (i : ℕ) (d : Event)
+    (old new : World)
+    → i < length schedule → HasRun k parties words schedule i old
+    → Happens k (slice_index_or schedule i d) old new
+    → HasRun k parties words schedule (i + 1) new
+run-next k parties words schedule i d old new within before did = record {
+  parties = did.parties ∙ before.parties;
+  start = did.start ∙ before.start;
+  world = did.keeps;
+  follows =
+      follows-next _ parties schedule i d _ _ before.parties within before.follows did.grows;
+}

@@ -1,0 +1,113 @@
+-- What the steps of a plan decide.
+use Rattle.std.proofs.Common.{◌/◌, ◌≡◌, ◌∙◌, ◌⊎◌, [], Bool, ap, inl, inr, sym, None, Option, Some, false, if◌then◌else◌, nat_eq, not, ◌&&◌, refl, true, ℕ}
+use Rattle.std.proofs.lemmas.Bool.{both_ways, eq-eqb, eqb-true}
+use Rattle.std.proofs.lemmas.Option.{none-some}
+use Rattle.bloom_parts.specs.Content.{bit_is_on}
+use Rattle.bloom_steps.specs.declared.steps.vocabulary.Call.{Call}
+use Rattle.bloom_steps.specs.declared.steps.vocabulary.Call.TheVariants.{Clear, Contains, Insert, Intersect, Union}
+use Rattle.bloom_steps.specs.declared.steps.vocabulary.Step.{Step}
+use Rattle.bloom_steps.specs.declared.steps.vocabulary.Step.TheVariants.{And, Or, Other}
+use Rattle.bloom_steps.specs.Plans.{EachPair, EachWord, LooksAt, Plan, TurnsOn, goes_by_hash, plan_of, turns_none_off}
+use Rattle.bloom_steps.specs.Sequences.{found_in_other}
+use Rattle.bloom_steps.specs.Steps.{step_decides}
+
+-- what a step that turns bits on, or else off, makes of a bit of the word that it was given
+abbrev pub made : Bool → Bool → Option Bool
+made true b = if b then Some true else None
+made false b = if b then None else Some false
+
+-- an operation on a word turns its bits off
+abbrev pub TurnsWordOff : (ℕ → Step) → Type 0
+TurnsWordOff op = (i q : ℕ) → step_decides (op i) q ≡ (if nat_eq (q / 64) i then Some false else None)
+
+-- an operation with a word turns bits on where the word's are, or else off where they aren't
+abbrev pub TurnsBy : (ℕ → ℕ → Step) → Bool → Type 0
+TurnsBy op on =
+    (i x q : ℕ) → step_decides (op i x) q
+    ≡ (if nat_eq (q / 64) i then made on (bit_is_on x q) else None)
+
+-- an operation doesn't read the other filter
+abbrev pub ReadsNoOther : (ℕ → ℕ → Step) → Type 0
+ReadsNoOther op = (i x found : ℕ) → found_in_other (op i x) found ≡ []
+
+-- what the operations of a plan decide
+abbrev pub PlanDecides : Plan → Type 0
+PlanDecides (TurnsOn h) = Unit {0}
+PlanDecides (LooksAt h) = Unit {0}
+PlanDecides (EachWord op) = TurnsWordOff op
+PlanDecides (EachPair op on) = TurnsBy op on × ReadsNoOther op
+
+-- a mask turns on what it has
+by-or : TurnsBy Or true
+by-or i x q = go (nat_eq (q / 64) i) (bit_is_on x q)
+  where
+    go : (a b : Bool) → (if a && b then Some true else None) ≡ (if a then made true b else None)
+    go true b = refl
+    go false b = refl
+
+-- and another off what it lacks
+by-and : TurnsBy And false
+by-and i x q = go (nat_eq (q / 64) i) (bit_is_on x q)
+  where
+    go : (a b : Bool)
+        → (if a && not b then Some false else None) ≡ (if a then made false b else None)
+    go true true = refl
+    go true false = refl
+    go false b = refl
+
+-- so do those of each call
+pub plan_decides : (call : Call) → PlanDecides (plan_of call)
+plan_decides (Insert h) = tt
+plan_decides (Contains h) = tt
+plan_decides Clear = λ i q. refl
+plan_decides Union = (by-or, (λ i x found. refl))
+plan_decides Intersect = (by-and, (λ i x found. refl))
+
+-- an operation that turns bits on makes no other decision
+pub on-only : (op : ℕ → ℕ → Step) (on : Bool) → TurnsBy op on → on ≡ true → (i x q : ℕ)
+    → (step_decides (op i x) q ≡ None) ⊎ (step_decides (op i x) q ≡ Some true)
+on-only op on by is i x q =
+    let decides =
+    by i x q ∙ ap (λ o. if nat_eq (q / 64) i then made o (bit_is_on x q) else None) is in
+    elim (go (nat_eq (q / 64) i) (bit_is_on x q)) [
+      | inl none ↦ inl (decides ∙ none)
+      | inr some ↦ inr (decides ∙ some)
+    ]
+  where
+    go : (a b : Bool)
+        → ((if a then made true b else None) ≡ None) ⊎ ((if a then made true b else None) ≡ Some true)
+    go true true = inr refl
+    go true false = inl refl
+    go false b = inl refl
+
+-- it turns on a position of its word that its word has
+pub on-tells : (op : ℕ → ℕ → Step) (on : Bool) → TurnsBy op on → on ≡ true → (i x q : ℕ)
+    → step_decides (op i x) q ≡ Some true → (q / 64 ≡ i) × (bit_is_on x q ≡ true)
+on-tells op on by is i x q e =
+    let decides =
+    by i x q ∙ ap (λ o. if nat_eq (q / 64) i then made o (bit_is_on x q) else None) is in
+    let parts = go (nat_eq (q / 64) i) (bit_is_on x q) (sym decides ∙ e) in
+    (eqb-true (q / 64) i parts.0, parts.1)
+  where
+    go : (a b : Bool) → (if a then made true b else None) ≡ Some true → (a ≡ true) × (b ≡ true)
+    go true true f = (refl, refl)
+    go true false f = absurd (none-some true f)
+    go false b f = absurd (none-some true f)
+
+-- and each such position
+pub on-does : (op : ℕ → ℕ → Step) (on : Bool) → TurnsBy op on → on ≡ true → (i x q : ℕ)
+    → q / 64 ≡ i → bit_is_on x q ≡ true → step_decides (op i x) q ≡ Some true
+on-does op on by is i x q at bit =
+    by i x q ∙ ap (λ a. if a then made on (bit_is_on x q) else None) (eq-eqb (q / 64) i at)
+    ∙ ap (λ b. made on b) bit ∙ ap (λ o. made o true) is
+
+-- an operation that doesn't read the other filter is no read of it
+pub no-read : (op : ℕ → ℕ → Step) → ReadsNoOther op → (i x j : ℕ) → op i x ≡ Other j → ⊥
+no-read op plain i x j e = let none = sym (ap (λ s. found_in_other s 0) e) ∙ plain i x 0 in cc
+
+-- a plan that goes by a hash turns nothing off
+pub hash-grows : (plan : Plan) → goes_by_hash plan ≡ true → turns_none_off plan ≡ true
+hash-grows (TurnsOn h) e = refl
+hash-grows (LooksAt h) e = refl
+hash-grows (EachWord op) e = e
+hash-grows (EachPair op on) e = absurd (both_ways false refl e)

@@ -1,0 +1,139 @@
+-- How a machine's fields stand to a call and the steps made so far, and what a reply changes in them.
+-- No steps are stored. A private field of a machine is named here alone: what public clauses say of
+-- machines stands in Machines. The machine is this project's own.
+use Rattle.std.specs.Prelude.{ℕ, ◌+◌, ◌-◌, ◌*◌, ◌/◌, ◌%◌, ◌<◌, ◌≡◌, ◌↔◌, Bool, true, false, not, ◌&&◌, ◌||◌, ◌==◌, List, length, Option, Some, None, slice_get, if◌then◌else◌}
+use Rattle.bloom_parts.specs.Chain.{IsAt}
+use Rattle.bloom_parts.specs.Content.{bit_is_on}
+use Rattle.bloom_parts.specs.Places.{place}
+use Rattle.bloom_steps.specs.declared.steps.vocabulary.Step.{Step}
+use Rattle.bloom_steps.specs.declared.steps.vocabulary.Step.TheVariants.{Other}
+use Rattle.bloom_steps.specs.declared.steps.vocabulary.Call.{Call}
+use Rattle.bloom_steps.specs.declared.steps.vocabulary.End.{End}
+use Rattle.bloom_steps.specs.declared.steps.vocabulary.End.TheVariants.{Running, Done, Answer}
+use Rattle.bloom_steps.specs.declared.steps.machine.Machine.{Machine}
+use Rattle.bloom_steps.specs.Plans.{Plan, TurnsOn, LooksAt, EachWord, EachPair, most_steps, plan_of}
+use Rattle.bloom_steps.specs.Steps.{or_at, load_at}
+use Rattle.bloom_steps.specs.Scripts.{Taken, Each, Any, IsScript, AreStepsOf, AllFoundOn, answer_of}
+
+-- the next step of a plan of pairs: a read of the other filter, or the operation with what it found
+abbrev pub next_of_pairs : (ℕ → ℕ → Step) → Machine → Step
+next_of_pairs operation m =
+    if m.turn % 2 == 0 then Other (m.turn / 2) else operation (m.turn / 2) m.other
+
+-- the next step of a machine whose plan goes on
+abbrev pub next_step : Plan → Machine → Step
+next_step (TurnsOn hash) m = or_at m.place
+next_step (LooksAt hash) m = load_at m.place
+next_step (EachWord operation) m = operation m.turn
+next_step (EachPair operation on) m = next_of_pairs operation m
+
+-- the step that a machine asks for
+abbrev pub asks : Machine → Option Step
+asks m = if m.ended then None else Some (next_step (plan_of m.call) m)
+
+-- the answer of a plan whose bits were all on, or not
+abbrev pub answer_by : Plan → Bool → Option Bool
+answer_by (TurnsOn hash) all_on = Some all_on
+answer_by (LooksAt hash) all_on = Some all_on
+answer_by (EachWord operation) all_on = None
+answer_by (EachPair operation on) all_on = None
+
+-- what a machine answers
+abbrev pub answers : Machine → Option Bool
+answers m = if m.ended then answer_by (plan_of m.call) m.all_on else None
+
+-- the end of a call that gives an answer, or none
+abbrev pub end_by : Option Bool → End
+end_by None = Done
+end_by (Some reply) = Answer reply
+
+-- how a machine's call stands
+abbrev pub end_of : Machine → End
+end_of m = if m.ended then end_by (answer_by (plan_of m.call) m.all_on) else Running
+
+-- how many steps are left at most
+abbrev pub left : Machine → ℕ
+left m = if m.ended then 0 else most_steps m.num_words m.num_hashes (plan_of m.call) - m.turn
+
+-- a plan goes on only while it has no reason to stop
+abbrev pub KeepsOn : ℕ → Plan → List Taken → Type 0
+KeepsOn w (TurnsOn hash) s = Unit {0}
+KeepsOn w (LooksAt hash) s = AllFoundOn w hash s
+KeepsOn w (EachWord operation) s = Unit {0}
+KeepsOn w (EachPair operation on) s = Unit {0}
+
+-- the steps so far are right, and the plan goes on
+pub record GoesOn (w k : ℕ) (plan : Plan) (s : List Taken) : Type 0 where
+  pub room : length s < most_steps w k plan
+  pub steps : AreStepsOf w plan s
+  pub keeps_on : KeepsOn w plan s
+  pub running : Each s (λ i t. t.ended ≡ Running)
+
+-- the machine is at place i of a hash
+pub record IsAtPlace (w hash i : ℕ) (m : Machine) : Type 0 where
+  pub here : m.place ≡ place (64 * w) hash i
+  pub chained : IsAt hash (i + 1) m.chain
+
+-- a plan of a hash is at the place of its next step
+abbrev pub IsPlaced : ℕ → Plan → Machine → ℕ → Type 0
+IsPlaced w (TurnsOn hash) m i = IsAtPlace w hash i m
+IsPlaced w (LooksAt hash) m i = IsAtPlace w hash i m
+IsPlaced w (EachWord operation) m i = Unit {0}
+IsPlaced w (EachPair operation on) m i = Unit {0}
+
+-- between the two steps of a pair the machine holds what the first found
+abbrev pub HoldsOther : Machine → List Taken → Type 0
+HoldsOther m s =
+    (i : ℕ) (t : Taken) → length s ≡ 2 * i + 1 → slice_get s (2 * i) ≡ Some t → m.other ≡ t.found
+
+-- what a machine keeps of the words found
+abbrev pub Keeps : ℕ → Plan → Machine → List Taken → Type 0
+Keeps w (TurnsOn hash) m s =
+    (m.all_on ≡ false) ↔ Any s (λ i t. bit_is_on t.found (place (64 * w) hash i) ≡ false)
+Keeps w (LooksAt hash) m s = Unit {0}
+Keeps w (EachWord operation) m s = Unit {0}
+Keeps w (EachPair operation on) m s = HoldsOther m s
+
+-- the machine stands where these steps of the call leave it
+pub record StandsAt (m : Machine) (w k : ℕ) (of : Call) (s : List Taken) : Type 0 where
+  pub is_call : m.call ≡ of
+  pub words : m.num_words ≡ w
+  pub hashes : m.num_hashes ≡ k
+  pub turns : m.turn ≡ length s
+  pub placed : IsPlaced w (plan_of of) m (length s)
+  pub keeps : Keeps w (plan_of of) m s
+  pub goes_on : m.ended ≡ false → GoesOn w k (plan_of of) s
+  pub whole : m.ended ≡ true → IsScript w k of s
+  pub said : answer_of s ≡ answers m
+
+-- what a reply changes in a machine's fields
+abbrev pub Advances : Plan → Machine → ℕ → Machine → Type 0
+Advances (TurnsOn hash) m found n =
+    (n.all_on ≡ (m.all_on && bit_is_on found m.place)) × (n.ended ≡ (m.turn + 1 == m.num_hashes))
+Advances (LooksAt hash) m found n =
+    (n.all_on ≡ bit_is_on found m.place)
+    × (n.ended ≡ (not (bit_is_on found m.place) || m.turn + 1 == m.num_hashes))
+Advances (EachWord operation) m found n = n.ended ≡ (m.turn + 1 == m.num_words)
+Advances (EachPair operation on) m found n =
+    (n.other ≡ found) × (n.ended ≡ (m.turn + 1 == 2 * m.num_words))
+
+-- at a reply a machine goes one place on along the chain
+abbrev pub GoesToNextPlace : ℕ → Machine → Machine → Type 0
+GoesToNextPlace hash m n =
+    (w i : ℕ) → m.num_words ≡ w → IsAtPlace w hash i m → IsAtPlace w hash (i + 1) n
+
+-- a plan of a hash does
+abbrev pub MovesOn : Plan → Machine → Machine → Type 0
+MovesOn (TurnsOn hash) m n = GoesToNextPlace hash m n
+MovesOn (LooksAt hash) m n = GoesToNextPlace hash m n
+MovesOn (EachWord operation) m n = Unit {0}
+MovesOn (EachPair operation on) m n = Unit {0}
+
+-- from a machine to a machine by one reply
+pub record Replied (m : Machine) (found : ℕ) (n : Machine) : Type 0 where
+  pub same_call : n.call ≡ m.call
+  pub same_words : n.num_words ≡ m.num_words
+  pub same_hashes : n.num_hashes ≡ m.num_hashes
+  pub turned : n.turn ≡ m.turn + 1
+  pub advances : Advances (plan_of m.call) m found n
+  pub moves_on : MovesOn (plan_of m.call) m n
