@@ -63,6 +63,7 @@ zeros = record { words = 0 ∷ []; hashes = 3; hasher = tt }
 abbrev pub with_one : Filter (Unit {0})
 with_one = record { words = 0x1_0010_0001 ∷ []; hashes = 3; hasher = tt }
 
+-- below 64 hash 1 makes on what that word has on
 below_64 : same_below (content (0x1_0010_0001 ∷ []))
     (state_after 64 3 (content (0 ∷ [])) (command.Insert 1 ∷ [])) 64 ≡ true
 unfolding content positions chain

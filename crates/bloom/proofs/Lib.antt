@@ -1,3 +1,4 @@
+mod BadLineLemmas
 mod CarriedFacts
 mod CarriedLemmas
 mod HexLemmas

@@ -21,6 +21,7 @@ ended = record { bytes = []; ended = true }
 abbrev not_ended : Waiting
 not_ended = record { bytes = []; ended = false }
 
+-- a reader that told its end has nothing left
 knows_end : KnowsEnd ended (Some [])
 knows_end _ = refl
 
@@ -28,6 +29,7 @@ knows_end _ = refl
 knows_end-not : KnowsEnd ended (Some (1 ∷ [])) → ⊥
 knows_end-not knows = not_nil _ _ (knows refl)
 
+-- the reader wasn't asked
 quiet : IsQuiet {R = ℕ} ended ended 7 7
 quiet _ = (refl, refl)
 
@@ -39,20 +41,25 @@ quiet-not is = let same : 8 ≡ 7 = (is refl).1 in omega (arith, same)
 quiet-forgotten : IsQuiet {R = ℕ} ended not_ended 7 7 → ⊥
 quiet-forgotten is = let told : false ≡ true = (is refl).0 in cc
 
+-- the line `w` is good
 asks : Asks (codes "w") (Good Words)
 unfolding line_of
 asks = refl
 
+-- with a space behind it isn't
 asks-not : Asks (codes "w ") (Good Words) → ⊥
 unfolding line_of number_of
 asks-not is = let bad : Good Words ≡ Bad = is in cc
 
+-- the first byte is taken
 takes_byte : TakesByte (Some (5 ∷ 6 ∷ [])) (Some (6 ∷ [])) (Some 5)
 takes_byte = refl
 
+-- not the second
 takes_byte-other : TakesByte (Some (5 ∷ 6 ∷ [])) (Some (6 ∷ [])) (Some 6) → ⊥
 takes_byte-other same = let first : 5 ≡ 6 = ap (λ l. get_or l 0 0) same in omega (arith, first)
 
+-- no byte is left
 takes_none : TakesByte (Some []) (Some []) None
 takes_none = (refl, refl)
 
@@ -76,6 +83,7 @@ no_end first = let within : 3 < 3 = first.within in omega (arith, within)
 ended_before : IsFirstLine (codes "w\nw\n") 3 → ⊥
 ended_before first = let same : false ≡ true = first.inside in cc
 
+-- a line is taken with its end
 takes_line : TakesLine (Some (codes "i 1\nx\n")) (Some (codes "x\n")) (codes "i 1")
 unfolding lines_of
 takes_line = (codes "i 1\n", refl, refl, inl (IsEnded-line (codes "i 1") refl))
@@ -92,6 +100,7 @@ takes_line-not takes =
       | inr none ↦ (let left : codes "\nx\n" ≡ [] = none in cc)
     ]
 
+-- 23 bytes of a line are taken
 takes_long : TakesLong (Some (replicate 24 49)) (Some (49 ∷ []))
 takes_long = (replicate 23 49, refl, refl, omega arith)
 
@@ -103,16 +112,20 @@ takes_long-not takes =
     let count : 22 ≡ length takes.0 = ap length taken in
     omega (arith, count, takes.3)
 
+-- nothing is left
 ends : Ends (Some []) (Some [])
 ends = (refl, refl)
 
+-- not if a byte was taken
 ends-not : Ends (Some (10 ∷ [])) (Some []) → ⊥
 ends-not is = not_nil _ _ is.0
 
+-- a good line comes next
 next_good : NextCommand (Some (codes "w\nx\n")) (Some (codes "x\n")) (Good Words)
 unfolding lines_of line_of
 next_good = (codes "w", (codes "w\n", refl, refl, inl (IsEnded-line (codes "w") refl)), refl)
 
+-- a bad line comes next
 next_bad : NextCommand (Some (codes "x\n")) (Some []) Bad
 unfolding lines_of line_of
 next_bad = inl (codes "x", (codes "x\n", refl, refl, inl (IsEnded-line (codes "x") refl)), refl)

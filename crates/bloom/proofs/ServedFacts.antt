@@ -112,6 +112,7 @@ one-line (g ∷ (h ∷ (i ∷ gs))) bad later lines cut all is_bad =
     (g ∷ h ∷ i ∷ (gs ++ bad ∷ later)) = cut in
     cc
 
+-- so they are wherever the reader stands
 upto-lines : (left : Option (List ℕ)) (lines : List Line)
     → IsReadUpTo (codes "i 1\nx\n") (Some (codes "i 1\nx\n")) left lines → lines ≡ Insert 1 ∷ []
 unfolding lines_of

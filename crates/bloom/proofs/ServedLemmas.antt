@@ -9,7 +9,7 @@ use Rattle.bloom.specs.declared.engine.line_reader.Next.TheVariants as next
 use Rattle.bloom.specs.Lines.{lines_of, line_of, number_of, is_number, value_of, numbered}
 use Rattle.bloom.specs.Reading.{IsEnded, has_no_end, Ends, NextCommand}
 use Rattle.bloom.specs.Served.{Carried, IsReadWhole, IsReadUpTo, ServedAll, ServedUpTo}
-use Rattle.bloom.proofs.LineLemmas.{lines_of-front}
+use Rattle.bloom.proofs.BadLineLemmas.{upto}
 use Rattle.bloom.proofs.CarriedLemmas.{Carried-nil, Carried-more}
 use Rattle.bloom.proofs.TakenLemmas.{TakesGood, nil-front, ended-before, TakesGood-nil, TakesGood-more}
 
@@ -55,122 +55,6 @@ IsReadWhole-from (Some x) (Some z) (Some y) block lines p q =
     nil-back : (xs ys : List ℕ) → xs ++ ys ≡ [] → ys ≡ []
     nil-back [] ys none = none
     nil-back (x ∷ xs) ys none = cc
-
--- no line of more than 22 bytes is good
-line_of-long : (line : List ℕ) → 22 < length line → line_of line ≡ None
-unfolding line_of number_of
-line_of-long [] long = absurd (omega arith)
-line_of-long (letter ∷ []) long = absurd (omega arith)
-line_of-long (letter ∷ (space ∷ text)) long =
-    let many : leb (length text) 20 ≡ false = lt-leb (length text) 20 (omega arith) in
-    let no_number : is_number text ≡ false =
-    and_left _ _ (and_left _ _ (and_right (leb 1 (length text)) _ many)) in
-    ap (λ o. cond (eqb space 32) (numbered letter o) None)
-    (cond-false (is_number text) (Some (value_of text)) None no_number)
-    ∙ same (eqb space 32)
-  where
-    same : (b : Bool) → cond {A = Option Line} b None None ≡ None
-    same true = refl
-    same false = refl
-
--- a line that was taken is the first of what was left
-first-line : (taken rest text : List ℕ) → lines_of taken ≡ text ∷ [] → IsEnded taken ⊎ (rest ≡ [])
-    → (later : List (List ℕ)) × (lines_of (taken ++ rest) ≡ text ∷ later)
-first-line taken rest text is (inl ended) =
-    (lines_of rest, ended rest ∙ ap (λ l. l ++ lines_of rest) is)
-first-line taken rest text is (inr none) =
-    ([], ap lines_of (ap (λ l. taken ++ l) none ∙ append-nil taken) ∙ is)
-
--- the good lines before, what was left after them, what was taken of it, the block, and what the
--- reader has left
-module _ (before left taken block rest : List ℕ) (lines : List Line)
-    (all_good : map line_of (lines_of before) ≡ map Some lines)
-    (ended : IsEnded before) (cut : left ≡ taken ++ (block ++ rest)) where
-  -- what was read of the input
-  gave : before ++ left ≡ (before ++ (taken ++ block)) ++ rest
-  gave =
-      ap (λ l. before ++ l) (cut ∙ sym (append_assoc taken block rest))
-      ∙ sym (append_assoc before (taken ++ block) rest)
-
-  -- a short line that isn't good
-  upto-short : (text : List ℕ) → lines_of taken ≡ text ∷ [] → IsEnded taken ⊎ (block ++ rest ≡ [])
-      → line_of text ≡ None
-      → IsReadUpTo (before ++ left) (Some (before ++ left)) (Some rest) lines
-  upto-short text is last bad =
-      let whole = first-line taken (block ++ rest) text is last in
-      let seen = first-line taken block text is (within last) in
-      record {
-        good = lines_of before;
-        bad = text;
-        later = whole.0;
-        cut = ended left ∙ ap (λ l. lines_of before ++ lines_of l) cut
-            ∙ ap (λ l. lines_of before ++ l) whole.1;
-        all_good = all_good;
-        is_bad = bad;
-        given = before ++ (taken ++ block);
-        gave = gave;
-        reached = (
-          text,
-          seen.0,
-          ended (taken ++ block)
-              ∙ ap (λ l. lines_of before ++ l) seen.1,
-          inl refl,
-        );
-      }
-    where
-      within : IsEnded taken ⊎ (block ++ rest ≡ []) → IsEnded taken ⊎ (block ≡ [])
-      within (inl e) = inl e
-      within (inr none) = inr (nil-front block rest none)
-
-  -- a line of more than 22 bytes
-  upto-long : has_no_end taken ≡ true → 22 < length taken
-      → IsReadUpTo (before ++ left) (Some (before ++ left)) (Some rest) lines
-  upto-long inside long =
-      let some : 0 < length taken = omega arith in
-      let whole = lines_of-front taken (block ++ rest) inside some in
-      let seen = lines_of-front taken block inside some in
-      record {
-        good = lines_of before;
-        bad = taken ++ whole.0;
-        later = whole.1;
-        cut = ended left ∙ ap (λ l. lines_of before ++ lines_of l) cut
-            ∙ ap (λ l. lines_of before ++ l) whole.2;
-        all_good = all_good;
-        is_bad = line_of-long (taken ++ whole.0) (simp length-append (omega arith));
-        given = before ++ (taken ++ block);
-        gave = gave;
-        reached = (
-          taken ++ seen.0,
-          seen.1,
-          ended (taken ++ block) ∙ ap (λ l. lines_of before ++ l) seen.2,
-          inr (simp length-append (omega arith)),
-        );
-      }
-
--- line n isn't good, after these good lines
-upto : (read mid left : Option (List ℕ)) (block : List ℕ) (lines : List Line)
-    → TakesGood read mid lines
-    → NextCommand mid (prepend_known block left) next.Bad
-    → IfSome read (λ bytes. IsReadUpTo bytes read left lines)
-upto None mid left block lines p q = tt
-upto (Some x) None left block lines p q = absurd p
-upto (Some x) (Some y) None block lines p (inl q) = absurd q.1
-upto (Some x) (Some y) None block lines p (inr q) = absurd q
-upto (Some x) (Some y) (Some z) block lines p (inl q) =
-    let taken = q.1 in
-    let ended = ended-before p.0 y taken.0 (block ++ z) q.0 p.3 taken.1 taken.2 in
-    subst (λ bytes. IsReadUpTo bytes (Some bytes) (Some z) lines) (sym p.1)
-    (upto-short p.0 y taken.0 block z lines p.2 ended taken.1 q.0 taken.2 taken.3 q.2)
-upto (Some x) (Some y) (Some z) block lines p (inr q) =
-    let some : y ≡ [] → ⊥ = λ none.
-    let nothing : q.0 ≡ [] = nil-front q.0 (block ++ z) (sym q.1 ∙ none) in
-    omega (arith, q.3, ap length nothing) in
-    subst (λ bytes. IsReadUpTo bytes (Some bytes) (Some z) lines) (sym p.1)
-    (upto-long p.0 y q.0 block z lines p.2 (ended p.3 some) q.1 q.2 q.3)
-  where
-    ended : {A B : Type 0} → A ⊎ B → (B → ⊥) → A
-    ended (inl a) none = a
-    ended (inr b) none = absurd (none b)
 
 module _ {S : Type 0} (read : Option (List ℕ)) (old : Filter S) (from : Option (List ℕ)) where
   -- nothing was taken yet

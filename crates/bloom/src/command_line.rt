@@ -1,5 +1,5 @@
 //! The arguments of the program.
-ghost use Rattle.std.specs.Prelude.{◌≡◌, ◌≢◌, ◌^◌, ◌≤◌, map, string_bytes, IfOk, IfErr, IfSome};
+ghost use Rattle.std.specs.Prelude.{◌≡◌, ◌≢◌, ◌⊎◌, ◌^◌, ◌≤◌, map, string_bytes, IfOk, IfErr, IfSome};
 ghost use Rattle.std.specs.Result.{result_ok};
 ghost use Rattle.bloom.specs.Arguments.{asked_of, within_limits};
 
@@ -17,7 +17,9 @@ const MAX_WORDS: u64 = 1_048_576;
 ///
 /// # Errors
 /// `Usage` where one of them isn't text, and `Memory`.
-pub fn given_words<R: Env + AllocGlobal>(rt: &R) -> Result<Vec<String>, Fault> {
+pub fn given_words<R: Env + AllocGlobal>(rt: &R) -> Result<Vec<String>, Fault>
+    ensures fault { IfErr result (λ fault. (fault ≡ Fault.Usage) ⊎ (fault ≡ Fault.Memory)) }
+{
     let mut words = Vec::new(rt.alloc());
     'words: for word in env::args(rt).map_err(|error| unread(error.kind()))?.skip(1) {
         words.push(word).map_err(|_| Fault::Memory)?;
