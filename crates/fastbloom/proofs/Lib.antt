@@ -8,5 +8,6 @@ mod ListLemmas
 mod RateLemmas
 mod ReadingLemmas
 mod ReplyLemmas
+mod SharedFacts
 mod SharedLemmas
 mod StretchLemmas
