@@ -2,7 +2,7 @@
 ghost use Rattle.std.specs.Prelude.{◌≡◌, ◌*◌, IfOk, max, replicate};
 ghost use Rattle.fastbloom.specs.Builders.{words_for};
 
-use fastbloom::{BloomFilter, FilterError};
+use fastbloom::{AtomicBloomFilter, BloomFilter, FilterError};
 use std::alloc::Global;
 
 /// An empty filter with ten bits for each key, and one bit at least.
@@ -13,6 +13,20 @@ pub fn filter_for(alloc: Global, keys: u32, num_hashes: u32) -> Result<BloomFilt
 {
     let builder = BloomFilter::with_num_bits(alloc, (keys as usize * 10).max(1))?;
     Ok(builder.hashes(num_hashes))
+}
+
+/// The same filter, for threads to share.
+pub fn shared_filter_for(
+    alloc: Global,
+    keys: u32,
+    num_hashes: u32,
+) -> Result<AtomicBloomFilter, FilterError>
+    ensures words { IfOk result (λ filter.
+        filter.words.count ≡ words_for (max 1 (keys * 10))) }
+    ensures hashes { IfOk result (λ filter. filter.hashes ≡ max 1 num_hashes) }
+{
+    let builder = AtomicBloomFilter::with_num_bits(alloc, (keys as usize * 10).max(1))?;
+    builder.hashes(alloc, num_hashes)
 }
 
 /// The hash of a key: the numbers of keys, spread evenly.

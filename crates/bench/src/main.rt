@@ -7,8 +7,10 @@
 mod filters;
 mod hashes;
 mod items;
+mod shared;
 mod steps;
 mod table;
+mod threads;
 mod whole;
 
 use anyhow::{Context, bail};
@@ -48,5 +50,7 @@ fn main(rt: HostRuntime) -> anyhow::Result<()> {
         hashes::measure(&rt, keys, rounds, num_hashes)?;
     }
     whole::measure(&rt, keys, rounds)?;
-    steps::measure(&rt, keys, rounds)
+    steps::measure(&rt, keys, rounds)?;
+    shared::measure(&rt, keys, rounds)?;
+    threads::measure(&rt, keys, rounds)
 }

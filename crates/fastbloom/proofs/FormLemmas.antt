@@ -24,11 +24,12 @@ pub form_of-zeros : {S : Type 0} (start : RateStart S) (f : SharedFilter S) (bit
     → f.hasher ≡ start.hasher
     → HasFormOf f (sized_filter (empty_start start bits) items)
 form_of-zeros start f bits items count hashes words size is_hashes some best hasher =
+    let as_many : f.hashes ≡ hashes = omega (arith, is_hashes, some) in
     let zeros : count ≡ length (replicate (words_for bits) 0) =
     size ∙ sym (length-replicate (words_for bits) 0) in
     record {
       words = words ∙ zeros;
-      hashes = omega (arith, is_hashes, some) ∙ best
+      hashes = as_many ∙ best
           ∙ ap (λ w. hashes_for (64 * w) (max 1 items)) zeros;
       hasher = hasher;
     }

@@ -18,6 +18,7 @@ mod RateLemmas
 mod ReadingLemmas
 mod ReplyLemmas
 mod SetFacts
+mod SharedFacts
 mod SharedLemmas
 mod StretchLemmas
 mod TurnLemmas

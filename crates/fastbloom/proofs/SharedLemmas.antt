@@ -58,7 +58,7 @@ last-of (t ∷ (u ∷ rest)) some =
     }
 
 -- steps that end with `Done` have no answer
-silent : (s : List Taken) → Each s (λ i t. i + 1 ≡ length s → t.ended ≡ Done) → answer_of s ≡ None
+pub silent : (s : List Taken) → Each s (λ i t. i + 1 ≡ length s → t.ended ≡ Done) → answer_of s ≡ None
 silent [] ends = refl
 silent (t ∷ rest) ends =
     let last = last-of (t ∷ rest) (omega arith) in

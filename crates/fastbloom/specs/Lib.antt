@@ -8,11 +8,13 @@ pub mod Replies
 pub mod Shared
 pub mod SourceHash
 pub mod Stretches
+pub use Rattle.bloom_steps.specs.Courses
 pub use Rattle.bloom_steps.specs.Interleavings
 pub use Rattle.bloom_steps.specs.Machines
 pub use Rattle.bloom_steps.specs.Memories
 pub use Rattle.bloom_steps.specs.Moments
+pub use Rattle.bloom_steps.specs.Plans
 pub use Rattle.bloom_steps.specs.Scripts
 pub use Rattle.bloom_steps.specs.Sequences
+pub use Rattle.bloom_steps.specs.Standing
 pub use Rattle.bloom_steps.specs.Steps
-pub use Rattle.bloom_steps.specs.Traces

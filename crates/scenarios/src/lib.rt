@@ -2,6 +2,8 @@
 #![tactic(auto)]
 
 #[cfg(test)]
+mod atomic;
+#[cfg(test)]
 mod builders;
 #[cfg(test)]
 mod by_hash;
@@ -13,3 +15,5 @@ mod lists;
 mod sizing;
 #[cfg(test)]
 mod steps;
+#[cfg(test)]
+mod threads;

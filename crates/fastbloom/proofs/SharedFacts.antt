@@ -1,0 +1,153 @@
+-- What the definitions of calls on shared filters say: cases that hold, and cases that nearly do.
+use Rattle.std.proofs.Common.{◌≡◌, ◌≢◌, ◌∙◌, ℕ, zero, suc, ◌+◌, ◌*◌, ◌/◌, ◌%◌, ◌^◌, ◌<◌, Bool, true, false, List, [], ◌∷◌, length, Option, Some, None, ap, refl, sym, subst, arith, slice_get}
+use Rattle.std.proofs.lemmas.Option.{none-some, same_Some}
+use Rattle.bloom_parts.specs.Chain.{chain}
+use Rattle.bloom_parts.specs.Places.{place}
+use Rattle.bloom_parts.specs.Made.{SharedWords, FoundByLoad, FoundByOr, MadeZero}
+use Rattle.bloom_steps.specs.declared.steps.vocabulary.Step.TheVariants.{Or, Zero, Other}
+use Rattle.bloom_steps.specs.declared.steps.vocabulary.Call.TheVariants.{Insert, Clear, Union}
+use Rattle.bloom_steps.specs.declared.steps.vocabulary.End.TheVariants.{Running, Done, Answer}
+use Rattle.bloom_steps.specs.Scripts.{Taken, Each, IsScript, answer_of}
+use Rattle.fastbloom.specs.Filter.{Filter}
+use Rattle.fastbloom.specs.Shared.{SharedFilter, HaveSameShape, HasFormOf, IsMade, MakesCall, MakesInsert, WereFoundAlike, WereFoundToDiffer}
+use Rattle.fastbloom.proofs.SharedLemmas.{insert-answers, silent}
+
+-- a filter of so many words and hashes, under any name, whose hasher is a number
+abbrev filter : ℕ → ℕ → ℕ → SharedFilter ℕ
+filter name words hashes = record {
+  words = record { name = name; count = words };
+  hashes = hashes;
+  hasher = 7;
+}
+
+-- names and hashers make no difference to the shape
+same-shape : HaveSameShape (filter 1 2 3) (filter 4 2 3)
+same-shape = record { words = refl; hashes = refl }
+
+-- one word more does
+other-words : HaveSameShape (filter 1 2 3) (filter 1 3 3) → ⊥
+other-words same = omega (arith, same.words)
+
+-- and so does one hash more
+other-hashes : HaveSameShape (filter 1 2 3) (filter 1 2 4) → ⊥
+other-hashes same = omega (arith, same.hashes)
+
+-- a plain filter of two words, which are looked at by their number alone
+abbrev plain : ℕ → Filter ℕ
+plain hasher = record { words = 5 ∷ 6 ∷ []; hashes = 3; hasher = hasher }
+
+-- the form is that of the number of words, the hashes and the hasher
+same-form : HasFormOf (filter 1 2 3) (plain 7)
+same-form = record { words = refl; hashes = refl; hasher = refl }
+
+-- another hasher is another form
+other-hasher : HasFormOf (filter 1 2 3) (plain 8) → ⊥
+other-hasher form = omega (arith, form.hasher)
+
+-- one word less is another form
+word-short : HasFormOf (filter 1 1 3) (plain 7) → ⊥
+word-short form = omega (arith, form.words)
+
+-- what holds of the one member of a list holds of each
+only : (P : ℕ → Taken → Type 0) (t : Taken) → P 0 t → Each (t ∷ []) P
+only P t holds zero u got = subst (P 0) (same_Some t u got) holds
+only P t holds (suc i) u got = absurd (none-some u got)
+
+-- an insert of hash 0 into one word with one hash, which found a word
+abbrev one_or : ℕ → Bool → List Taken
+one_or found reply = record { step = Or 0 1; found = found; ended = Answer reply } ∷ []
+
+-- it found its bit off, and so its reply is false
+insert-of-new : (name : ℕ) → FoundByOr (filter name 1 1).words 0 1 0
+    → MakesInsert (filter name 1 1) 0 false
+unfolding chain
+insert-of-new name made = record {
+  taken = one_or 0 false;
+  script = record {
+    count = refl;
+    steps = only _ _ refl;
+    stops = tt;
+    running = only _ _ (λ early. absurd (omega (arith, early)));
+    last = only _ _ (λ last. (false, refl, (λ e. (0, _, refl, refl), λ any. refl)));
+  };
+  made = only _ _ made;
+  answers = refl;
+}
+
+-- an insert has a reply
+insert-replies : (name hash : ℕ) → MakesCall (filter name 1 1) (filter name 1 1) (Insert hash) None → ⊥
+insert-replies name hash calls =
+    let some = insert-answers 1 1 hash calls.taken (omega arith) calls.script in
+    none-some some.0 (calls.answers ∙ some.1)
+
+-- a clear has none
+clear-is-silent : (name : ℕ) (reply : Bool)
+    → MakesCall (filter name 2 1) (filter name 2 1) Clear (Some reply) → ⊥
+clear-is-silent name reply calls =
+    none-some reply (sym (calls.answers ∙ silent calls.taken calls.script.last))
+
+-- a list has a member at each index below its length
+member : (s : List Taken) (i : ℕ) → i < length s → (t : Taken) × (slice_get s i ≡ Some t)
+member [] i within = absurd (omega (arith, within))
+member (t ∷ rest) zero within = (t, refl)
+member (t ∷ rest) (suc i) within = member rest i (omega (arith, within))
+
+-- by an insert each position of its hash was turned on, in the filter's own words
+insert-turns-on-each : {S : Type 0} (f : SharedFilter S) (hash : ℕ) (reply : Bool)
+    → MakesInsert f hash reply → (i : ℕ) → i < f.hashes
+    → let p = place (64 * f.words.count) hash i in
+    (found : ℕ) × FoundByOr f.words (p / 64) (2 ^ (p % 64)) found
+insert-turns-on-each f hash reply calls i within =
+    let at = member calls.taken i (omega (arith, within, calls.script.count)) in
+    (at.0.found, subst (λ step. IsMade f.words f.words step at.0.found)
+        (calls.script.steps i at.0 at.1) (calls.made i at.0 at.1))
+
+-- by a clear each word was made 0
+clear-zeroes-each : {S : Type 0} (f : SharedFilter S) → MakesCall f f Clear None
+    → (i : ℕ) → i < f.words.count → MadeZero f.words i
+clear-zeroes-each f calls i within =
+    let at = member calls.taken i (omega (arith, within, calls.script.count)) in
+    (subst (λ step. IsMade f.words f.words step at.0.found)
+        (calls.script.steps i at.0 at.1) (calls.made i at.0 at.1)).0
+
+-- by a union each word of the other was loaded, and what was found was turned on here
+union-loads-the-other : {S : Type 0} (f other : SharedFilter S) → MakesCall f other Union None
+    → (i : ℕ) → i < f.words.count
+    → (x : ℕ) × (found : ℕ) × FoundByLoad other.words i x × FoundByOr f.words i x found
+union-loads-the-other f other calls i within =
+    let count = calls.script.count in
+    let load = member calls.taken (2 * i) (omega (arith, within, count)) in
+    let write = member calls.taken (2 * i + 1) (omega (arith, within, count)) in
+    let loads = calls.script.steps.loads i load.0 load.1 in
+    let writes = calls.script.steps.writes i load.0 write.0 load.1 write.1 in (
+      load.0.found,
+      write.0.found,
+      subst (λ step. IsMade f.words other.words step load.0.found) loads
+          (calls.made (2 * i) load.0 load.1),
+      subst (λ step. IsMade f.words other.words step write.0.found) writes
+          (calls.made (2 * i + 1) write.0 write.1),
+    )
+
+-- one word, found alike by a load of either filter
+found-alike : FoundByLoad (filter 1 1 3).words 0 5 → FoundByLoad (filter 2 1 3).words 0 5
+    → WereFoundAlike (filter 1 1 3) (filter 2 1 3)
+found-alike here there = record {
+  shape = record { words = refl; hashes = refl };
+  words = λ i within. subst
+      (λ j. (found : ℕ) × FoundByLoad (filter 1 1 3).words j found × FoundByLoad (filter 2 1 3).words j found)
+      (omega (arith, within)) (5, here, there);
+}
+
+-- filters of other hash counts are never found alike
+hashes-differ : WereFoundAlike (filter 1 1 3) (filter 2 1 4) → ⊥
+hashes-differ alike = omega (arith, alike.shape.hashes)
+
+-- a word that was loaded of both, and differs
+found-to-differ : FoundByLoad (filter 1 1 3).words 0 5 → FoundByLoad (filter 2 1 3).words 0 6
+    → WereFoundToDiffer (filter 1 1 3) (filter 2 1 3)
+found-to-differ here there =
+    record { index = 0; found = 5; other = 6; here = here; there = there; differ = λ e. omega (arith, e) }
+
+-- words that are equal don't differ
+equal-words : (differ : WereFoundToDiffer (filter 1 1 3) (filter 2 1 3)) → differ.found ≡ differ.other → ⊥
+equal-words differ same = differ.differ same
