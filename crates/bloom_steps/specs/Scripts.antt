@@ -81,7 +81,7 @@ IsLastEnd w (EachWord operation) s end = end ≡ Done
 IsLastEnd w (EachPair operation on) s end = end ≡ Done
 
 -- steps that carry out a plan from its first to its last, in w words with k hashes
-pub record CarriesOut (w k : ℕ) (plan : Plan) (s : List Taken) : Type 0 where
+pub record Fulfils (w k : ℕ) (plan : Plan) (s : List Taken) : Type 0 where
   pub count : HasCount w k plan (length s)
   pub steps : AreStepsOf w plan s
   pub stops : StopsRight w k plan s
@@ -90,7 +90,7 @@ pub record CarriesOut (w k : ℕ) (plan : Plan) (s : List Taken) : Type 0 where
 
 -- a script of a call, in w words with k hashes
 abbrev pub IsScript : ℕ → ℕ → Call → List Taken → Type 0
-IsScript w k call s = CarriesOut w k (plan_of call) s
+IsScript w k call s = Fulfils w k (plan_of call) s
 
 -- a front of a script, shorter than it
 abbrev pub IsBeginning : ℕ → ℕ → Call → List Taken → Type 0

@@ -98,9 +98,11 @@ insert-turns-on-each : {S : Type 0} (f : SharedFilter S) (hash : ℕ) (reply : B
     → let p = place (64 * f.words.count) hash i in
     (found : ℕ) × FoundByOr f.words (p / 64) (2 ^ (p % 64)) found
 insert-turns-on-each f hash reply calls i within =
-    let at = member calls.taken i (omega (arith, within, calls.script.count)) in
-    (at.0.found, subst (λ step. IsMade f.words f.words step at.0.found)
-        (calls.script.steps i at.0 at.1) (calls.made i at.0 at.1))
+    let at = member calls.taken i (omega (arith, within, calls.script.count)) in (
+      at.0.found,
+      subst (λ step. IsMade f.words f.words step at.0.found)
+          (calls.script.steps i at.0 at.1) (calls.made i at.0 at.1),
+    )
 
 -- by a clear each word was made 0
 clear-zeroes-each : {S : Type 0} (f : SharedFilter S) → MakesCall f f Clear None
@@ -108,7 +110,7 @@ clear-zeroes-each : {S : Type 0} (f : SharedFilter S) → MakesCall f f Clear No
 clear-zeroes-each f calls i within =
     let at = member calls.taken i (omega (arith, within, calls.script.count)) in
     (subst (λ step. IsMade f.words f.words step at.0.found)
-        (calls.script.steps i at.0 at.1) (calls.made i at.0 at.1)).0
+    (calls.script.steps i at.0 at.1) (calls.made i at.0 at.1)).0
 
 -- by a union each word of the other was loaded, and what was found was turned on here
 union-loads-the-other : {S : Type 0} (f other : SharedFilter S) → MakesCall f other Union None

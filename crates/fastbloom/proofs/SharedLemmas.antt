@@ -5,6 +5,7 @@ use Rattle.bloom_parts.specs.Made.{SharedWords}
 use Rattle.bloom_steps.specs.declared.steps.vocabulary.Call.TheVariants.{Insert, Contains}
 use Rattle.bloom_steps.specs.declared.steps.vocabulary.End.TheVariants.{Done}
 use Rattle.bloom_steps.specs.declared.steps.vocabulary.Call.{Call}
+use Rattle.bloom_steps.specs.Plans.{plan_of}
 use Rattle.bloom_steps.specs.Scripts.{Taken, Each, Linked, IsScript, IsLastEnd, Drives, answer_of, answer_of_end}
 use Rattle.fastbloom.specs.LiveStore.{Lent, MakesStep}
 use Rattle.fastbloom.specs.Shared.{SharedFilter, IsMade, MakesCall}
@@ -96,7 +97,7 @@ replies f call reply result other calls answers is = record {
 -- a call whose script ends with `Done` replies nothing
 pub replies-none : {S : Type 0} (f other : SharedFilter S) (call : Call) (reply : Option Bool)
     → (calls : MakesCall f other call reply)
-    → ((t : Taken) → IsLastEnd f.words.count call calls.taken t.ended → t.ended ≡ Done)
+    → ((t : Taken) → IsLastEnd f.words.count (plan_of call) calls.taken t.ended → t.ended ≡ Done)
     → MakesCall f other call None
 replies-none f other call reply calls ends = record {
   taken = calls.taken;

@@ -14,7 +14,7 @@ use Rattle.bloom_steps.specs.declared.steps.vocabulary.Step.{Step}
 use Rattle.bloom_steps.specs.declared.steps.vocabulary.Step.TheVariants.{Other}
 use Rattle.bloom_steps.specs.Interleavings.{EndsWithAll, IsFoundInOther, IsInserted}
 use Rattle.bloom_steps.specs.Moments.{EveryCallEnded, EveryCall, bits_of, moment}
-use Rattle.bloom_steps.specs.Scripts.{IsBeginning, IsScript, Taken, ArePairs, CarriesOut}
+use Rattle.bloom_steps.specs.Scripts.{IsBeginning, IsScript, Taken, ArePairs, Fulfils}
 use Rattle.bloom_steps.specs.Steps.{or_at, step_decides}
 use Rattle.bloom_steps.specs.Courses.{Course, IsLawful, runs}
 use Rattle.bloom_steps.proofs.RunLemmas.Bounds.{stays_to_end}
@@ -98,7 +98,7 @@ module _ (k : ℕ) (run : Course) (lawful : IsLawful k run)
     -- and what a call found in the other filter
     made_on : (q p : ℕ) (plan : Plan) (s : List Taken) (j : ℕ) (t : Taken) → PlanDecides plan
         → turns_none_off plan ≡ true → HasSteps run p s
-        → CarriesOut (length run.start) k plan s → IsPlacedAt (length run.start) k plan s j t
+        → Fulfils (length run.start) k plan s → IsPlacedAt (length run.start) k plan s j t
         → slice_get s j ≡ Some t
         → t.step ≡ Other (q / 64) → bit_is_on t.found q ≡ true → content run.words q ≡ true
     made_on q p (TurnsOn h) s j t does none steps is at g e on =

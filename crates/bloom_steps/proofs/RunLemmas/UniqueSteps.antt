@@ -10,7 +10,7 @@ use Rattle.bloom_steps.specs.Plans.{EachPair, EachWord, LooksAt, Plan, TurnsOn, 
 use Rattle.bloom_steps.specs.declared.steps.vocabulary.End.TheVariants.{Answer}
 use Rattle.bloom_steps.specs.declared.steps.vocabulary.Step.{Step}
 use Rattle.bloom_steps.specs.declared.steps.vocabulary.Step.TheVariants.{And, Load, Or, Other, Zero}
-use Rattle.bloom_steps.specs.Scripts.{Any, IsLastEnd, IsScript, Taken, CarriesOut}
+use Rattle.bloom_steps.specs.Scripts.{Any, IsLastEnd, IsScript, Taken, Fulfils}
 use Rattle.bloom_steps.specs.Courses.{IsWordOf, MayFind}
 use Rattle.bloom_steps.proofs.StepLemmas.Growing.{length-more}
 use Rattle.bloom_steps.proofs.StepLemmas.Members.{member-front, member-seam, member_of_more}
@@ -101,8 +101,8 @@ ends_here : (w k : ℕ) (call : Call) (s rest : List Taken) (t u v : Taken) → 
 ends_here w k call s rest t u v e a b =
     by_plan (plan_of call) a b (length-more s t) (length-append s (u ∷ (v ∷ rest)))
   where
-    by_plan : (plan : Plan) → CarriesOut w k plan (s ++ t ∷ [])
-        → CarriesOut w k plan (s ++ u ∷ (v ∷ rest))
+    by_plan : (plan : Plan) → Fulfils w k plan (s ++ t ∷ [])
+        → Fulfils w k plan (s ++ u ∷ (v ∷ rest))
         → length (s ++ t ∷ []) ≡ length s + 1
         → length (s ++ u ∷ (v ∷ rest)) ≡ length s + suc (suc (length rest)) → ⊥
     by_plan (TurnsOn h) a b l n = let x = a.count in let y = b.count in omega arith

@@ -9,7 +9,7 @@ use Rattle.bloom_steps.specs.declared.steps.vocabulary.End.TheVariants.{Answer, 
 use Rattle.bloom_steps.specs.declared.steps.vocabulary.Step.{Step}
 use Rattle.bloom_steps.specs.Standing.{GoesOn}
 use Rattle.bloom_steps.specs.Plans.{most_steps}
-use Rattle.bloom_steps.specs.Scripts.{IsBeginning, Taken, CarriesOut}
+use Rattle.bloom_steps.specs.Scripts.{IsBeginning, Taken, Fulfils}
 use Rattle.bloom_steps.proofs.StepLemmas.Going.{some_step}
 use Rattle.bloom_steps.proofs.StepLemmas.Growing.{EndsNext, FitsNext, KeepsOnAt, goes_on-more, length-more, script-more}
 use Rattle.bloom_steps.proofs.StepLemmas.Members.{member-seam}
@@ -17,13 +17,13 @@ use Rattle.bloom_steps.proofs.StepLemmas.Writing.{bit_is_on-zero}
 
 -- steps that can be brought to an end
 abbrev CanEnd : ℕ → ℕ → Plan → List Taken → Type 0
-CanEnd w k plan s = (t : Taken) × (rest : List Taken) × CarriesOut w k plan (s ++ t ∷ rest)
+CanEnd w k plan s = (t : Taken) × (rest : List Taken) × Fulfils w k plan (s ++ t ∷ rest)
 
 -- so can those before them
 after : (w k : ℕ) (plan : Plan) (s : List Taken) (t : Taken) → CanEnd w k plan (s ++ t ∷ [])
     → CanEnd w k plan s
 after w k plan s t b =
-    (t, b.0 ∷ b.1, subst (CarriesOut w k plan) (append_assoc s (t ∷ []) (b.0 ∷ b.1)) b.2)
+    (t, b.0 ∷ b.1, subst (Fulfils w k plan) (append_assoc s (t ∷ []) (b.0 ∷ b.1)) b.2)
 
 -- where one step is left, one that finds 0 ends the plan
 last_end : (w k : ℕ) (plan : Plan) (s : List Taken) (step : Step)

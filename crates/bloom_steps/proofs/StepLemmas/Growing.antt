@@ -8,7 +8,7 @@ use Rattle.bloom_steps.specs.declared.steps.vocabulary.Step.{Step}
 use Rattle.bloom_steps.specs.declared.steps.vocabulary.Step.TheVariants.{Other}
 use Rattle.bloom_steps.specs.Standing.{GoesOn, KeepsOn}
 use Rattle.bloom_steps.specs.Plans.{most_steps}
-use Rattle.bloom_steps.specs.Scripts.{ArePairs, AreStepsOf, Each, HasCount, IsLastEnd, StopsRight, Taken, CarriesOut}
+use Rattle.bloom_steps.specs.Scripts.{ArePairs, AreStepsOf, Each, HasCount, IsLastEnd, StopsRight, Taken, Fulfils}
 use Rattle.bloom_steps.specs.Steps.{load_at, or_at}
 use Rattle.bloom_steps.proofs.StepLemmas.Members.{member_of_more}
 
@@ -151,7 +151,7 @@ last-more w k (EachWord op) s t e = e.1
 last-more w k (EachPair op on) s t e = e.1
 
 pub script-more : (w k : ℕ) (plan : Plan) (s : List Taken) (t : Taken) → GoesOn w k plan s
-    → FitsNext w plan s t.step → EndsNext w k plan s t → CarriesOut w k plan (s ++ t ∷ [])
+    → FitsNext w plan s t.step → EndsNext w k plan s t → Fulfils w k plan (s ++ t ∷ [])
 script-more w k plan s t g fits ends =
     let l = length-more s t in
     record {
