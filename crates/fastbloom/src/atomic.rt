@@ -85,8 +85,8 @@ impl<S> AtomicBloomFilter<S> {
 
     /// Whether all positions of a hash were found on, one after the other.
     ///
-    /// It stops at the first that is off. While other threads turn positions off, those found on may
-    /// never have been on together.
+    /// It stops at the first that is off. While other threads turn positions off, those found on
+    /// may never have been on together.
     pub fn contains_hash(&self, hash: u64) -> bool
         ensures { MakesCall self.now self.now (Contains hash) (Some result) }
     {

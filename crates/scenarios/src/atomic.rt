@@ -1,4 +1,5 @@
-//! Filters that threads share, used by one thread: words, replies and shapes at values from outside.
+//! Filters that threads share, used by one thread: words, replies and shapes, at values from
+//! outside.
 use fastbloom::{AtomicBloomFilter, FilterError, Rate};
 use std::alloc::Global;
 use std::test::Fail;

@@ -37,8 +37,8 @@ impl<S> AtomicBloomFilter<S> {
         self.make(other, Call::Union);
     }
 
-    /// Turns off what is found off in the other, one word after the other. The hashers aren't looked
-    /// at. A filter may be its own other.
+    /// Turns off what is found off in the other, one word after the other. The hashers aren't
+    /// looked at. A filter may be its own other.
     ///
     /// ```
     /// bloom.insert_hash(1);

@@ -20,8 +20,8 @@ impl<S> AtomicBloomFilter<S> {
         self.words.iter()
     }
 
-    /// Whether numbers of words and of hashes are equal, and the words as they were loaded, one after
-    /// the other up to the first that differ. The hashers aren't looked at.
+    /// Whether numbers of words and of hashes are equal, and the words as they were loaded, one
+    /// after the other up to the first that differ. The hashers aren't looked at.
     pub fn same_words(&self, other: &Self) -> bool
         ensures { MatchBool result (WereFoundAlike self.now other.now)
             ((HaveSameShape self.now other.now → ⊥) ⊎ WereFoundToDiffer self.now other.now) }
