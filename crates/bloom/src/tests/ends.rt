@@ -36,22 +36,27 @@ fn a_long_line_is_bad_at_once(rt: HostRuntime) -> Result<(), Fail> {
 // Tells its end after each of its parts, as a terminal does, and counts in a cell how often.
 #[derive(Drop)]
 struct Ending<'a> {
-    parts: [&'a [u8]; 3],
+    parts: [&'static str; 3],
     part: usize,
+    at: usize,
     ends: &'a Cell<usize>,
 }
 
 impl<'a> Read for Ending<'a> {
     fn read(&mut self, buf: &mut [u8]) -> io::Result<usize> {
-        if self.part >= 3 || self.parts[self.part].is_empty() {
+        let rest = match self.parts.get(self.part) {
+            Some(part) => part.as_bytes().get(self.at..).unwrap_or(&[]),
+            None => &[],
+        };
+        if rest.is_empty() {
             self.part = self.part.saturating_add(1);
+            self.at = 0;
             self.ends.set(self.ends.get().saturating_add(1));
             return Ok(0);
         }
-        let rest = self.parts[self.part];
         let count = rest.len().min(buf.len());
         buf[..count].copy_from_slice(&rest[..count]);
-        self.parts[self.part] = &rest[count..];
+        self.at = self.at.saturating_add(count);
         Ok(count)
     }
 }
@@ -73,8 +78,9 @@ fn the_first_end_is_the_end(rt: HostRuntime) -> Result<(), Fail> {
         let mut filter = filter_of(&rt, rt.alloc(), 1, 2)?;
         let mut written = Vec::new(rt.alloc());
         let mut input = Ending {
-            parts: [first.as_bytes(), b" 1\n", b"x\n"],
+            parts: [first, " 1\n", "x\n"],
             part: 0,
+            at: 0,
             ends: &ends,
         };
         let ended = serve(rt.alloc(), &mut filter, &mut input, &mut written);
