@@ -15,6 +15,7 @@ pub mod Gained
 pub mod Grows
 pub mod Inserts
 pub mod Lawful
+pub mod Masks
 pub mod NextSteps
 pub mod OneByOne
 pub mod Origins

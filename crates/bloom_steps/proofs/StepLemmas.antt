@@ -2,6 +2,7 @@ pub mod Asking
 pub mod Completing
 pub mod Deciding
 pub mod Driving
+pub mod Finding
 pub mod Going
 pub mod Growing
 pub mod Members

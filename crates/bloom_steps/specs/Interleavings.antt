@@ -87,8 +87,8 @@ found_off (Did party (And i mask) found ended) = false
 found_off (Did party (Zero i) found ended) = false
 found_off (Did party (Other i) found ended) = false
 
--- where each call goes by a hash, each position is turned on once: as many steps found their bit off
--- as positions were gained
+-- each position is turned on once: where each call goes by a hash, as many steps found their bit
+-- off as positions were gained
 abbrev pub CountsGains : Course → Type 0
 CountsGains run =
     EveryCall goes_by_hash run.records → count_by found_off run.records ≡ count_below (bits_of run)

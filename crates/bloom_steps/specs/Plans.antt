@@ -1,14 +1,15 @@
--- How a call goes through the words of a filter. A call of a new kind is a line of `plan_of`, and of
--- what its steps decide. Which plans there are, and which call has which, is this project's choice.
+-- How a call goes through the words of a filter. A call of a new kind is a line of `plan_of`, and
+-- of what its steps decide. Which plans there are, and which call has which, is this project's
+-- choice.
 use Rattle.std.specs.Prelude.{ℕ, ◌*◌, Bool, true, false}
 use Rattle.bloom_steps.specs.declared.steps.vocabulary.Step.{Step}
 use Rattle.bloom_steps.specs.declared.steps.vocabulary.Step.TheVariants.{Or, And, Zero}
 use Rattle.bloom_steps.specs.declared.steps.vocabulary.Call.{Call}
 use Rattle.bloom_steps.specs.declared.steps.vocabulary.Call.TheVariants.{Insert, Contains, Clear, Union, Intersect}
 
--- the plan of a call: it turns on the places of a hash; or looks at them up to the first that is off;
--- or turns off each word by one step; or reads each word of the other filter, and turns bits on, or
--- else off, by a step with what it read
+-- the plan of a call: it turns on the places of a hash; or looks at them up to the first that is
+-- off; or turns off each word by one step; or reads each word of the other filter, and turns bits
+-- on, or else off, by a step with what it read
 pub data Plan : Type 0 where
   TurnsOn : ℕ → Plan
   LooksAt : ℕ → Plan

@@ -1,6 +1,6 @@
--- How a machine's fields stand to a call and the steps made so far, and what a reply changes in them.
--- No steps are stored. A private field of a machine is named here alone: what public clauses say of
--- machines stands in Machines. The machine is this project's own.
+-- How a machine's fields stand to a call and the steps made so far, and what a reply changes in
+-- them. No steps are stored. A private field of a machine is named here alone: what public clauses
+-- say of machines stands in Machines. The machine is this project's own.
 use Rattle.std.specs.Prelude.{ℕ, ◌+◌, ◌-◌, ◌*◌, ◌/◌, ◌%◌, ◌<◌, ◌≡◌, ◌↔◌, Bool, true, false, not, ◌&&◌, ◌||◌, ◌==◌, List, length, Option, Some, None, slice_get, if◌then◌else◌}
 use Rattle.bloom_parts.specs.Chain.{IsAt}
 use Rattle.bloom_parts.specs.Content.{bit_is_on}

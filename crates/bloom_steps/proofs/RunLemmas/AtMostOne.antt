@@ -47,6 +47,7 @@ record AreLawful (w k : ℕ) (A : ℕ → Bool) (rs : List Record) : Type 0 wher
 
 -- w words and k hashes, and a set
 module _ (w k : ℕ) (A : ℕ → Bool) where
+  -- a step goes on from its party's newest beginning
   after_at : (before later : List Record) (p : ℕ) (t : Taken)
       → AreLawful w k A (before ++ Did p t.step t.found t.ended ∷ later)
       → GoesAfter w k p (records_of p before) t
@@ -57,6 +58,7 @@ module _ (w k : ℕ) (A : ℕ → Bool) where
       (records_of-append p before (r ∷ later)
       ∙ ap (λ l. records_of p before ++ l) (records_of-mine p r later refl))
 
+  -- and finds what the records before it left
   found_at : (before later : List Record) (p : ℕ) (t : Taken)
       → AreLawful w k A (before ++ Did p t.step t.found t.ended ∷ later)
       → MayFind (after_records A before) t.step t.found

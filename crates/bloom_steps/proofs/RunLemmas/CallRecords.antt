@@ -28,6 +28,7 @@ pub record Segment (w k p : ℕ) (call : Call) (post : List Record) : Type 0 whe
   pub same : post ≡ did p s ++ later
   pub kind : IsScript w k call s ⊎ (IsBeginning w k call s × (later ≡ []))
 
+-- each beginning among a party's records is followed by one
 pub segment : (w k p : ℕ) (rs pre post : List Record) (call : Call) → CallAfterCall w k p rs
     → rs ≡ pre ++ Began p call ∷ post → Segment w k p call post
 segment w k p [] [] post call no_call e = absurd (cc)
@@ -71,6 +72,7 @@ pub record EndsAt (mid : List Record) (p n : ℕ) (last : Taken) : Type 0 where
   pub still : (m : ℕ) (step : Step) (found : ℕ) (e : End) → m < n
       → slice_get mid m ≡ Some (Did p step found e) → e ≡ Running
 
+-- the end stands one record nearer after the first
 later_end : (r : Record) (mid : List Record) (p n : ℕ) (last : Taken)
     → EndsAt (r ∷ mid) p (suc n) last → EndsAt mid p n last
 later_end r mid p n last e = record {

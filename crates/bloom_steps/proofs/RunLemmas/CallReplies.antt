@@ -1,15 +1,18 @@
 -- The answer of a whole call, alone, is its command's reply in the set before.
-use Rattle.std.proofs.Common.{◌*◌, ◌+◌, ◌-◌, ◌∙◌, ◌≡◌, ◌≤◌, Bool, List, None, Some, add-one, ap, arith, false, inl, inr, length, refl, slice_get, subst, suc, sym, take, true, unwrap_or, zero, ℕ}
+use Rattle.bloom_steps.specs.Plans.{TurnsOn}
+use Rattle.bloom_steps.specs.Plans.{TurnsOn}
+use Rattle.std.proofs.Common.{◌*◌, ◌+◌, ◌-◌, ◌∙◌, ◌≡◌, ◌≤◌, Bool, List, None, Some, add-one, ap, arith, false, inl, inr, length, refl, slice_get, subst, suc, sym, take, true, unwrap_or, zero, ℕ, ◌<◌}
 use Rattle.std.proofs.lemmas.Bool.{both_ways, cases_lt, false_from_ne_true, true_from_ne_false}
 use Rattle.std.proofs.lemmas.Option.{slice_get_within}
 use Rattle.bloom_parts.specs.Content.{bit_is_on}
 use Rattle.bloom_parts.specs.Places.{are_in, place}
+use Rattle.bloom_steps.specs.declared.steps.vocabulary.End.{End}
 use Rattle.bloom_steps.specs.declared.steps.vocabulary.Call.{Call}
 use Rattle.bloom_steps.specs.declared.steps.vocabulary.Call.TheVariants.{Clear, Contains, Insert, Intersect, Union}
 use Rattle.bloom_steps.specs.declared.steps.vocabulary.End.TheVariants.{Done}
 use Rattle.bloom_steps.specs.declared.steps.vocabulary.Record.TheVariants.{Did}
 use Rattle.bloom_parts.specs.Operations.{reply}
-use Rattle.bloom_steps.specs.Scripts.{AllFoundOn, IsScript, Taken, answer_of, answer_of_end}
+use Rattle.bloom_steps.specs.Scripts.{AllFoundOn, IsScript, Taken, answer_of, answer_of_end, Any, IsLastEnd}
 use Rattle.bloom_steps.specs.Sequences.{command_of}
 use Rattle.bloom_steps.specs.Steps.{after_records, step_decides}
 use Rattle.bloom_steps.specs.Courses.{MayFind, did}
@@ -35,6 +38,7 @@ done-answer s some all =
 
 -- a script that a party makes alone
 module _ (w k p : ℕ) (s : List Taken) (A : ℕ → Bool) (fits : Fits w A (did p s)) where
+  -- a step finds what those before it left
   may_find_at : (i : ℕ) (t : Taken) → slice_get s i ≡ Some t
       → MayFind (after_records A (did p (take i s))) t.step t.found
   may_find_at i t g =
@@ -83,27 +87,25 @@ module _ (w k p : ℕ) (s : List Taken) (A : ℕ → Bool) (fits : Fits w A (did
         | inr other ↦ ap (λ o. unwrap_or o (after_records A (did p (take n s)) q)) other.1 ∙ before
       ]
 
-  insert-answer : (h : ℕ) → 1 ≤ k → IsScript w k (Insert h) s
-      → answer_of s ≡ Some (are_in (64 * w) k h A)
-  insert-answer h some_hashes is =
+  -- where the steps of an insert found all their bits on, its positions were in the set before
+  insert_all : (h : ℕ) → IsScript w k (Insert h) s → AllFoundOn w h s
+      → are_in (64 * w) k h A ≡ true
+  insert_all h is all =
       let n = 64 * w in
       let count = is.count in
-      let last = some_member s (length s - 1) (omega arith) in
-      let closes : (length s - 1) + 1 ≡ length s = omega arith in
-      let e = is.last (length s - 1) last.0 last.1 closes in
-      let on : e.0 ≡ true → are_in n k h A ≡ true =
-      λ yes. are_in-all n k h A (λ i below. true_from_ne_false (A (place n h i)) (λ off.
-      let all : AllFoundOn w h s =
-      λ j t g.
-      true_from_ne_false (bit_is_on t.found (place n h j))
-      (λ none. both_ways e.0 (e.2.1 (j, t, g, none)) yes) in
+      are_in-all n k h A (λ i below. true_from_ne_false (A (place n h i)) (λ off.
       let t = some_member s i (omega arith) in
       let was =
       insert_found h i t.0 is t.1 ∙ stays_off h (place n h i) i is off all (omega arith) in
-      both_ways (bit_is_on t.0.found (place n h i)) was (all i t.0 t.1))) in
-      let off : e.0 ≡ false → are_in n k h A ≡ false =
-      λ no_hit.
-      let any = e.2.0 no_hit in
+      both_ways (bit_is_on t.0.found (place n h i)) was (all i t.0 t.1)))
+
+  -- and where one found its bit off, one of them wasn't
+  insert_some : (h : ℕ) → IsScript w k (Insert h) s
+      → Any s (λ i t. bit_is_on t.found (place (64 * w) h i) ≡ false)
+      → are_in (64 * w) k h A ≡ false
+  insert_some h is any =
+      let n = 64 * w in
+      let count = is.count in
       let i = any.0 in
       let q = place n h i in
       let inside = slice_get_within s i any.1 any.2 in
@@ -111,24 +113,44 @@ module _ (w k p : ℕ) (s : List Taken) (A : ℕ → Bool) (fits : Fits w A (did
       let all = all_decide-take s i q (Some true) (insert-all w k p s A h q is) in
       both_ways (bit_is_on any.1.found q) any.3
       (insert_found h i any.1 is any.2 ∙ steps-on p (take i s) A q all hit)) in
-      are_in-off n k h A i (omega arith) was in
-      answer_of-last s (length s - 1) last.0 last.1 closes ∙ ap answer_of_end e.1
-      ∙ ap Some (both_alike e.0 (are_in n k h A) on off)
+      are_in-off n k h A i (omega arith) was
 
-  contains-answer : (h : ℕ) → IsScript w k (Contains h) s
+  -- an insert answers whether its positions were all in the set before
+  insert-answer : (h : ℕ) → 1 ≤ k → IsScript w k (Insert h) s
       → answer_of s ≡ Some (are_in (64 * w) k h A)
-  contains-answer h is =
-      let n = 64 * w in
+  insert-answer h some_hashes is =
       let count = is.count in
       let m = length s - 1 in
-      let last = some_member s m (omega arith) in
       let closes : m + 1 ≡ length s = omega arith in
-      let e = is.last m last.0 last.1 closes m last.0 last.1 closes in
-      let look = bit_is_on last.0.found (place n h m) in
-      let on : look ≡ true → are_in n k h A ≡ true =
-      λ yes.
+      let last = some_member s m (omega arith) in
+      answer_of-last s m last.0 last.1 closes
+      ∙ by_end last.0.ended (is.last m last.0 last.1 closes)
+    where
+      found_on : (says : Bool)
+          → (Any s (λ i t. bit_is_on t.found (place (64 * w) h i) ≡ false) → says ≡ false)
+          → says ≡ true → AllFoundOn w h s
+      found_on says off on j t g =
+          true_from_ne_false (bit_is_on t.found (place (64 * w) h j))
+          (λ none. both_ways says (off (j, t, g, none)) on)
+
+      by_end : (end : End) → IsLastEnd w (TurnsOn h) s end
+          → answer_of_end end ≡ Some (are_in (64 * w) k h A)
+      by_end end e =
+          ap answer_of_end e.1
+          ∙ ap Some
+          (both_alike e.0 (are_in (64 * w) k h A)
+          (λ on. insert_all h is (found_on e.0 e.2.1 on)) (λ off. insert_some h is (e.2.0 off)))
+
+  -- where the last step of a look-up found its bit on, its positions were in the set before
+  contains_all : (h m : ℕ) (last : Taken) → IsScript w k (Contains h) s → slice_get s m ≡ Some last
+      → m + 1 ≡ length s → bit_is_on last.found (place (64 * w) h m) ≡ true
+      → are_in (64 * w) k h A ≡ true
+  contains_all h m last is g closes hit =
+      let n = 64 * w in
       let reached : k ≤ m + 1 = elim (cases_lt (m + 1) k) [
-        | inl l ↦ absurd (both_ways look (is.stops.early m last.0 last.1 closes l) yes)
+        | inl l ↦
+            let look = bit_is_on last.found (place n h m) in
+            absurd (both_ways look (is.stops.early m last g closes l) hit)
         | inr l ↦ l
       ] in
       are_in-all n k h A (λ i below. elim (cases_lt i m) [
@@ -137,13 +159,27 @@ module _ (w k p : ℕ) (s : List Taken) (A : ℕ → Bool) (fits : Fits w A (did
             sym (contains_found h i t.0 is t.1) ∙ is.stops.earlier i t.0 t.1 (omega arith)
         | inr l ↦
             let same : m ≡ i = omega arith in
-            ap (λ j. A (place n h j)) (sym same) ∙ sym (contains_found h m last.0 is last.1) ∙ yes
-      ]) in
-      let off : look ≡ false → are_in n k h A ≡ false =
-      λ no_hit.
-      are_in-off n k h A m (omega arith) (sym (contains_found h m last.0 is last.1) ∙ no_hit) in
-      answer_of-last s m last.0 last.1 closes ∙ ap answer_of_end e
-      ∙ ap Some (both_alike look (are_in n k h A) on off)
+            ap (λ j. A (place n h j)) (sym same) ∙ sym (contains_found h m last is g) ∙ hit
+      ])
+
+  -- a look-up answers whether they were
+  contains-answer : (h : ℕ) → IsScript w k (Contains h) s
+      → answer_of s ≡ Some (are_in (64 * w) k h A)
+  contains-answer h is =
+      let count = is.count in
+      let m = length s - 1 in
+      let closes : m + 1 ≡ length s = omega arith in
+      let last = some_member s m (omega arith) in
+      answer_of-last s m last.0 last.1 closes
+      ∙ ap answer_of_end (is.last m last.0 last.1 closes m last.0 last.1 closes)
+      ∙ ap Some (by_bit m last.0 last.1 closes (omega arith))
+    where
+      by_bit : (m : ℕ) (last : Taken) → slice_get s m ≡ Some last → m + 1 ≡ length s → m < k
+          → bit_is_on last.found (place (64 * w) h m) ≡ are_in (64 * w) k h A
+      by_bit m last g closes below =
+          both_alike (bit_is_on last.found (place (64 * w) h m)) (are_in (64 * w) k h A)
+          (λ on. contains_all h m last is g closes on)
+          (λ off. are_in-off (64 * w) k h A m below (sym (contains_found h m last is g) ∙ off))
 
   -- the answer of a whole call
   pub call-answer : (call : Call) (other : ℕ → Bool) → 1 ≤ w → 1 ≤ k → IsScript w k call s

@@ -15,6 +15,7 @@ use Rattle.bloom_steps.proofs.RunLemmas.Changes.{DecidesOnly}
 use Rattle.bloom_steps.proofs.StepLemmas.Deciding.{records-append}
 use Rattle.bloom_steps.proofs.StepLemmas.Members.{member-back, member-front, member_of_take}
 
+-- a word of a set looks at its bits alone
 is_word-same : (A B : ℕ → Bool) (i found : ℕ) → ((q : ℕ) → A q ≡ B q) → IsWordOf A i found
     → IsWordOf B i found
 is_word-same A B i found same f = record { fits = f.fits; bits = λ p at. f.bits p at ∙ same p }
@@ -70,22 +71,27 @@ fits-back w A xs ys f =
 abbrev pub AllDecide : List Taken → ℕ → Option Bool → Type 0
 AllDecide s q d = Each s (λ i t. DecidesOnly d q t.step)
 
+-- what the last of some steps that decides a position makes it
 abbrev decision : ℕ → List Taken → ℕ → Option Bool
 decision p s q = last_decision (map record_decides (did p s)) q
 
+-- a decision that is nothing or this stays so behind another such
 or_only : (l x d : Option Bool) → (x ≡ None) ⊎ (x ≡ d) → (l ≡ None) ⊎ (l ≡ d)
     → (option_or l x ≡ None) ⊎ (option_or l x ≡ d)
 or_only None x d a b = a
 or_only (Some c) x d a b = b
 
+-- and is this where the first is
 or_here : (l x d : Option Bool) → x ≡ d → (l ≡ None) ⊎ (l ≡ d) → option_or l x ≡ d
 or_here None x d a b = a
 or_here (Some c) x d a b = elim b [ inl n ↦ absurd (none-some _ (sym n)) | inr y ↦ y ]
 
+-- or where the later is
 or_there : (l x d : Option Bool) → (x ≡ None) ⊎ (x ≡ d) → l ≡ d → option_or l x ≡ d
 or_there None x d a b = elim a [ inl n ↦ n ∙ b | inr y ↦ y ]
 or_there (Some c) x d a b = b
 
+-- where each step decides nothing or this, so do all together
 decision-all : (p : ℕ) (s : List Taken) (q : ℕ) (d : Option Bool) → AllDecide s q d
     → (decision p s q ≡ None) ⊎ (decision p s q ≡ d)
 decision-all p [] q d all = inl refl
@@ -93,6 +99,7 @@ decision-all p (t ∷ s) q d all =
     or_only (decision p s q) (step_decides t.step q) d (all 0 t refl)
     (decision-all p s q d (λ i u g. all (suc i) u g))
 
+-- and this where one of them does
 decision-some : (p : ℕ) (s : List Taken) (q : ℕ) (d : Option Bool) → AllDecide s q d
     → (i : ℕ) (t : Taken) → slice_get s i ≡ Some t
     → step_decides t.step q ≡ d → decision p s q ≡ d
@@ -127,6 +134,7 @@ steps-on p s A q all on = elim (decision-all p s q (Some true) all) [
   | inr some ↦ ap (λ o. unwrap_or o (A q)) some
 ]
 
+-- what each step decides each of the first ones does
 pub all_decide-take : (s : List Taken) (n q : ℕ) (d : Option Bool) → AllDecide s q d
     → AllDecide (take n s) q d
 all_decide-take s n q d all i t g = all i t (member_of_take s n i t g).1

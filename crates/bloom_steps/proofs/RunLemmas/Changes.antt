@@ -30,11 +30,13 @@ mask_alone q j on = elim (eqb_tells (j % 64) (q % 64)) [
       absurd (both_ways (bit_is_on (2 ^ (q % 64)) j) off on)
 ]
 
+-- both tests pass, or not both do
 pub and_cases : (a b : Bool) → ((a ≡ true) × (b ≡ true)) ⊎ ((a && b) ≡ false)
 and_cases true true = inl (refl, refl)
 and_cases true false = inr refl
 and_cases false b = inr refl
 
+-- the step that turns a position on makes it on
 or_at-own : (q : ℕ) → step_decides (or_at q) q ≡ Some true
 or_at-own q =
     ap (λ b. if b && bit_is_on (2 ^ (q % 64)) q then Some true else None)
@@ -78,10 +80,12 @@ TurnsOff run m p = (moment run m p ≡ true) × (moment run (m + 1) p ≡ false)
 
 -- a run, whatever its records
 module _ (run : Course) where
+  -- a record that turns a position off is no record that doesn't
   pub not_turned_off : (m p : ℕ) → turns_off run m p ≡ false → TurnsOff run m p → ⊥
   not_turned_off m p calm off =
       both_ways (turns_off run m p) calm (and_from (moment run m p) _ off.0 (ap not off.1))
 
+  -- a position that a record turned on was off before, and is on after
   pub turned_on : (m p : ℕ) → turns_on run m p ≡ true
       → (moment run m p ≡ false) × (moment run (m + 1) p ≡ true)
   turned_on m p on =
@@ -92,6 +96,7 @@ module _ (run : Course) where
       was true e = absurd (both_ways false refl e)
       was false e = refl
 
+  -- and the other way round
   pub turning_on : (m p : ℕ) → moment run m p ≡ false → moment run (m + 1) p ≡ true
       → turns_on run m p ≡ true
   turning_on m p off on = and_from (not (moment run m p)) (moment run (m + 1) p) (ap not off) on

@@ -38,6 +38,7 @@ record Acts (w k : ℕ) (A : ℕ → Bool) (rs : List Record) (made : List MadeC
       ≡ reply (64 * w) k (state_after (64 * w) k A (commands_of (take i made)))
       (command_of m.call (content (other_words m.taken)))
 
+-- whole calls, one after the other, act as their commands
 acts : (w k : ℕ) (A : ℕ → Bool) (rs : List Record) (made : List MadeCall) → 1 ≤ w → 1 ≤ k
     → OneByOne w k rs made → Fits w A rs
     → Acts w k A rs made

@@ -3,6 +3,7 @@ use Rattle.std.proofs.Common.{◌+◌, ◌<◌, ◌∙◌, ◌≡◌, ◌≢◌,
 use Rattle.std.proofs.lemmas.Bool.Decides.{eqb_tells}
 use Rattle.bloom_steps.specs.Interleavings.{count_below}
 
+-- tests that agree below a bound pass as many
 pub count_below-same : (n : ℕ) (f g : ℕ → Bool) → ((i : ℕ) → i < n → f i ≡ g i)
     → count_below n f ≡ count_below n g
 count_below-same zero f g same = refl
@@ -11,6 +12,7 @@ count_below-same (suc n) f g same =
     ap (λ b. if b then count_below n f + 1 else count_below n f) (same n (omega arith))
     ∙ ap (λ c. if g n then c + 1 else c) below
 
+-- where none passes there are none
 pub count_below-none : (n : ℕ) (f : ℕ → Bool) → ((i : ℕ) → f i ≡ false) → count_below n f ≡ 0
 count_below-none zero f none = refl
 count_below-none (suc n) f none =

@@ -28,6 +28,7 @@ follows-more parties before (first ∷ es) _ e more (next_event _ _ _ added late
     (next_event before first (es ++ e ∷ []) added (later ++ more) gives
     (follows-more parties (before ++ added) es later e more rest last))
 
+-- the first events, and the one that is read next
 take-read : (xs : List Event) (i : ℕ) (d : Event) → i < length xs
     → take (i + 1) xs ≡ take i xs ++ slice_index_or xs i d ∷ []
 take-read xs i d within = take-more xs i (slice_index_or xs i d) (slice_get-get_or xs i d within)

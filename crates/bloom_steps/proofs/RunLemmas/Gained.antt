@@ -1,15 +1,13 @@
 -- Each position is turned on once.
+use Rattle.bloom_steps.proofs.RunLemmas.Masks.{found_off-test}
 use Rattle.bloom_steps.proofs.StepLemmas.Plans.{hash-grows}
 use Rattle.bloom_steps.specs.Plans.{goes_by_hash, turns_none_off, Plan, TurnsOn, LooksAt, plan_of, EachWord, EachPair}
-use Rattle.std.proofs.Common.{◌%◌, ◌&&◌, ◌*◌, ◌+◌, ◌/◌, ◌<◌, ◌^◌, ◌∙◌, ◌≡◌, ◌≢◌, ◌≤◌, ◌⊎◌, Bool, List, Some, add-one, ap, arith, bit_and, false, inl, inr, length, nat_eq, not, refl, slice_get, suc, sym, take, true, unwrap_or, zero, zero-mul, ℕ}
+use Rattle.std.proofs.Common.{◌%◌, ◌&&◌, ◌+◌, ◌/◌, ◌<◌, ◌∙◌, ◌≡◌, ◌≢◌, ◌≤◌, ◌⊎◌, Bool, List, Some, add-one, ap, arith, false, inl, inr, length, not, refl, slice_get, suc, sym, take, true, unwrap_or, zero, ℕ}
 use Rattle.std.proofs.Math.Seq.{take-length}
-use Rattle.std.proofs.lemmas.Bool.{both_ways, cases_lt, false_from_ne_true, ne_eqb}
+use Rattle.std.proofs.lemmas.Bool.{both_ways, cases_lt, false_from_ne_true}
 use Rattle.std.proofs.lemmas.Bool.Decides.{eqb_tells}
 use Rattle.std.proofs.lemmas.List.Sums.{count_by_more_no, count_by_more_yes}
-use Rattle.std.proofs.lemmas.Nat.{pow_pos}
-use Rattle.std.proofs.lemmas.Nat.Bits.{and_pow, bit_at-lt}
 use Rattle.std.proofs.lemmas.Option.{get_or_from_slice_get}
-use Rattle.std.specs.Int.{bit_at}
 use Rattle.std.specs.Prelude.{count_by}
 use Rattle.bloom_parts.specs.Content.{content}
 use Rattle.bloom_parts.specs.Places.{place}
@@ -29,16 +27,6 @@ use Rattle.bloom_steps.proofs.RunLemmas.RecordedCalls.{step_held}
 use Rattle.bloom_steps.proofs.RunLemmas.Origins.{growing}
 use Rattle.bloom_steps.proofs.RunLemmas.PlacedSteps.{IsPlacedAt}
 use Rattle.bloom_steps.proofs.StepLemmas.Members.{some_member}
-
--- a step that turns one bit on found it off exactly if the word has no bit of the mask
-found_off-test : (x j : ℕ) → nat_eq (bit_and x (2 ^ j)) 0 ≡ not (nat_eq (bit_at x j) 1)
-found_off-test x j = ap (λ n. nat_eq n 0) (and_pow x j) ∙ go (bit_at x j) (bit_at-lt x j)
-  where
-    go : (b : ℕ) → b < 2 → nat_eq (b * 2 ^ j) 0 ≡ not (nat_eq b 1)
-    go zero l = ap (λ n. nat_eq n 0) (zero-mul (2 ^ j))
-    go (suc zero) l =
-        let up = pow_pos j in ne_eqb (1 * 2 ^ j) 0 (λ e. absurd (omega (arith, e, up)))
-    go (suc (suc b)) l = absurd (omega arith)
 
 -- a record that found its bit off turns that position on, and leaves the others
 pub record Gains (A B : ℕ → Bool) (r : Record) : Type 0 where
@@ -187,6 +175,7 @@ module _ (k : ℕ) (run : Course) (lawful : IsLawful k run)
       ]
       ∙ ap (λ n. count_below (bits_of run) (gained_at n)) (add-one m)
 
+  -- so it is at the end
   pub gained_at_end :
       count_by found_off run.records ≡ count_below (bits_of run)
       (λ p. content run.words p && not (content run.start p))

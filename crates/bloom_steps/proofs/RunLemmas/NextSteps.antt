@@ -30,6 +30,7 @@ IsLater p s later xs ys t =
     (more : List Record) × (xs ≡ did p s ++ more)
     × (later ≡ more ++ Did p t.step t.found t.ended ∷ ys)
 
+-- a step behind the steps of a script is one of them, or stands later
 split-did : (p : ℕ) (s : List Taken) (later xs ys : List Record) (t : Taken)
     → did p s ++ later ≡ xs ++ Did p t.step t.found t.ended ∷ ys
     → Inside p s xs t ⊎ IsLater p s later xs ys t
@@ -55,10 +56,12 @@ split-did p (u ∷ s) later (x ∷ xs) ys t e =
       | inr m ↦ inr (m.0, ap (λ l. x ∷ l) m.1 ∙ ap (λ y. y ∷ (did p s ++ m.0)) (sym head), m.2)
     ]
 
+-- no records have no member
 no_member : (xs ys : List Record) (r : Record) → [] ≡ xs ++ r ∷ ys → ⊥
 no_member [] ys r e = cc
 no_member (x ∷ xs) ys r e = cc
 
+-- a step among a party's records goes on with the call that began last
 pub goes_after : (w k p : ℕ) (rs xs ys : List Record) (t : Taken) → CallAfterCall w k p rs
     → rs ≡ xs ++ Did p t.step t.found t.ended ∷ ys → GoesAfter w k p xs t
 goes_after w k p _ xs ys t no_call e = absurd (no_member xs ys _ e)
@@ -107,6 +110,7 @@ goes_after w k p _ (x ∷ xs) ys t (whole_call call s later is more) e =
           }
     ]
 
+-- no beginning stands among steps
 no_beginning : (p : ℕ) (s : List Taken) (xs ys : List Record) (call : Call)
     → did p s ≡ xs ++ Began p call ∷ ys → ⊥
 no_beginning p [] xs ys call e = no_member xs ys (Began p call) e

@@ -15,12 +15,14 @@ use Rattle.bloom_steps.proofs.RunLemmas.RunningCalls.{OneEnd, newest-call, one_e
 use Rattle.bloom_steps.proofs.RunLemmas.PartyRecords.{mine_or_not, records_of-mine, records_of-none, records_of-other}
 use Rattle.bloom_steps.proofs.StepLemmas.Whole.{script_some}
 
+-- calls made one at a time are so in later records too
 one_later : (xs ys : List Record) → OneAtATime (xs ++ ys) → OneAtATime ys
 one_later xs ys one m p q a b = one (length xs + m) p q (more p a) (more q b)
   where
     more : (p : ℕ) → runs p (take m ys) ≡ true → runs p (take (length xs + m) (xs ++ ys)) ≡ true
     more p a = ap (runs p) (take-append-add xs ys m) ∙ runs_after p xs (take m ys) a
 
+-- a call that has ended has ended in the later records
 ended_later : (xs ys : List Record) → EveryCallEnded (xs ++ ys) → EveryCallEnded ys
 ended_later xs ys ended p =
     false_from_ne_true (runs p ys)
@@ -61,6 +63,7 @@ record Front (p : ℕ) (s : List Taken) (later rest : List Record) : Type 0 wher
   pub own : records_of p after ≡ later
   pub others : (q : ℕ) → q ≢ p → records_of q after ≡ records_of q rest
 
+-- the records begin with the steps of the call that runs alone
 front : (w k p : ℕ) (x : Record) (s : List Taken) (later rest : List Record) → OneEnd s
     → party_of x ≡ p → leaves_running x ≡ true
     → OneAtATime (x ∷ rest) → ((q : ℕ) → q ≢ p → CallAfterCall w k q (records_of q rest))
@@ -110,6 +113,7 @@ record First (w k p : ℕ) (r : Record) (rs : List Record) : Type 0 where
   pub begins : r ≡ Began p call
   pub same : rs ≡ did p s ++ later
 
+-- where no call runs in the end, the first is whole
 first_call : (w k p : ℕ) (r : Record) (rs : List Record) → CallAfterCall w k p (r ∷ rs)
     → last_leaves_running (r ∷ rs) ≡ false
     → First w k p r rs
@@ -128,6 +132,7 @@ pub data OneByOne (w k : ℕ) : List Record → List MadeCall → Type 0 where
 
 -- w words and k hashes, some of each
 module _ (w k : ℕ) (some_words : 1 ≤ w) (some_hashes : 1 ≤ k) where
+  -- fewer records than a bound are whole calls, one after the other
   one_by_one_in : (n : ℕ) (rs : List Record) → length rs < n
       → ((q : ℕ) → CallAfterCall w k q (records_of q rs)) → OneAtATime rs
       → EveryCallEnded rs → (made : List MadeCall) × OneByOne w k rs made
@@ -166,6 +171,7 @@ module _ (w k : ℕ) (some_words : 1 ≤ w) (some_hashes : 1 ≤ k) where
             (next_call p its.call its.s fr.after more.0 its.is more.1),
       )
 
+  -- so are all
   pub one_by_one : (rs : List Record) → ((q : ℕ) → CallAfterCall w k q (records_of q rs))
       → OneAtATime rs → EveryCallEnded rs
       → (made : List MadeCall) × OneByOne w k rs made
@@ -178,6 +184,7 @@ cut-did p [] later = refl
 cut-did p (t ∷ s) later =
     ap (λ (c : Cut). record { ahead = t ∷ c.ahead; calls = c.calls }) (cut-did p s later)
 
+-- the cut of whole calls, one after the other, is those calls
 pub cut-calls : (w k : ℕ) (rs : List Record) (made : List MadeCall) → OneByOne w k rs made
     → cut rs ≡ record { ahead = []; calls = made }
 cut-calls w k _ _ no_more = refl

@@ -17,12 +17,14 @@ use Rattle.bloom_steps.proofs.RunLemmas.CallRecords.{EndsAt, front_is, segment}
 use Rattle.bloom_steps.proofs.StepLemmas.Members.{member-take, member_of_take}
 use Rattle.bloom_steps.proofs.StepLemmas.Whole.{beginning_runs, script_some}
 
+-- records before a member, the member, and those after it
 split-at : (xs : List Record) (m : ℕ) (r : Record) → slice_get xs m ≡ Some r
     → xs ≡ take m xs ++ r ∷ drop (suc m) xs
 split-at [] m r e = absurd (none-some r e)
 split-at (x ∷ xs) zero r e = ap (λ y. y ∷ xs) (same_Some _ _ e)
 split-at (x ∷ xs) (suc m) r e = ap (λ l. x ∷ l) (split-at xs m r e)
 
+-- a member of the records after the first ones
 member-drop : (xs : List Record) (n j q : ℕ) → q ≡ n + j → slice_get (drop n xs) j ≡ slice_get xs q
 member-drop xs zero j q e = let same : j ≡ q = omega arith in ap (slice_get xs) same
 member-drop [] (suc n) j q e = refl
@@ -65,6 +67,7 @@ is_last s one i t g over =
 -- a lawful run of some words and hashes
 module _ (k : ℕ) (run : Course) (lawful : IsLawful k run) (some_words : 1 ≤ length run.start)
     (some_hashes : 1 ≤ k) where
+  -- a finished call has its script
   pub own_script : (p : ℕ) (call : Call) (began last : ℕ) (ended : End)
       → IsFinished run p call began last ended
       → OwnScript k run p call began last ended

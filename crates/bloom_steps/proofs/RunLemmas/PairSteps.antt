@@ -21,6 +21,7 @@ pub data PairsFrom (op : ℕ → ℕ → Step) : ℕ → List Taken → Type 0 w
   one_pair : (j : ℕ) (t u : Taken) (rest : List Taken) → t.step ≡ Other j → u.step ≡ op j t.found
       → PairsFrom op (j + 1) rest → PairsFrom op j (t ∷ (u ∷ rest))
 
+-- reads and writes in turn are pairs
 pairs_from : (op : ℕ → ℕ → Step) (w j : ℕ) (s : List Taken) → length s ≡ 2 * w
     → ((i : ℕ) (t : Taken) → slice_get s (2 * i) ≡ Some t → t.step ≡ Other (j + i))
     → ((i : ℕ) (t u : Taken) → slice_get s (2 * i) ≡ Some t → slice_get s (2 * i + 1) ≡ Some u
@@ -67,6 +68,7 @@ words-at op j _ plain (one_pair _ t u rest load write more) (suc i) v g =
     ap (λ l. slice_get l (suc i)) (words-pair op j t u rest (plain j t.found u.found) load write)
     ∙ words-at op (j + 1) rest plain more i v (sym (ap (slice_get (t ∷ (u ∷ rest))) twice) ∙ g)
 
+-- there is a word for each pair
 words-length : (op : ℕ → ℕ → Step) (j : ℕ) (s : List Taken)
     → ReadsNoOther op → PairsFrom op j s
     → 2 * length (other_words s) ≡ length s
@@ -80,6 +82,7 @@ words-length op j _ plain (one_pair _ t u rest load write more) =
 -- a whole list of pairs
 module _ (op : ℕ → ℕ → Step) (on : Bool) (by : TurnsBy op on) (plain : ReadsNoOther op)
     (w : ℕ) (s : List Taken) (pairs : ArePairs op s) (l : length s ≡ 2 * w) where
+  -- they are pairs from word 0 on
   from_start : PairsFrom op 0 s
   from_start =
       let none : (i : ℕ) → i ≡ 0 + i = λ i. omega arith in
@@ -101,6 +104,7 @@ module _ (op : ℕ → ℕ → Step) (on : Bool) (by : TurnsBy op on) (plain : R
       let count = words-length op 0 s plain from_start in
       content-past (other_words s) q (omega (arith, count, l, past))
 
+  -- the write of a word decides as the other filter's bit says
   write-decides : (q i : ℕ) (t u : Taken) → slice_get s (2 * i) ≡ Some t → u.step ≡ op i t.found
       → q / 64 ≡ i
       → step_decides u.step q ≡ made on (content (other_words s) q)
@@ -135,5 +139,6 @@ module _ (op : ℕ → ℕ → Step) (on : Bool) (by : TurnsBy op on) (plain : R
   pairs-steps p A q inside =
       let t = some_member s (2 * (q / 64)) (omega arith) in
       let u = some_member s (2 * (q / 64) + 1) (omega arith) in
-      steps-some p s A q (made on (content (other_words s) q)) (pairs-all q) (2 * (q / 64) + 1) u.0 u.1
+      steps-some p s A q (made on (content (other_words s) q)) (pairs-all q) (2 * (q / 64) + 1) u.0
+      u.1
       (write-decides q (q / 64) t.0 u.0 t.1 (pairs.writes (q / 64) t.0 u.0 t.1 u.1) refl)

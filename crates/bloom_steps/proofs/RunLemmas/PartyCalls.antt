@@ -29,6 +29,7 @@ module _ (w k p : ℕ) where
       ap last_leaves_running at.same ∙ newest-append at.earlier (did p at.taken) (Began p at.call)
       ∙ newest-call p at.call at.taken ∙ still_runs-machine m w k at.call at.taken at.stands
 
+  -- whole calls, and call after call behind them, are call after call
   calls-append : (earlier rest : List Record) → WholeCalls w k p earlier → CallAfterCall w k p rest
       → CallAfterCall w k p (earlier ++ rest)
   calls-append _ rest no_calls c = c

@@ -15,6 +15,7 @@ unfolding records_of
 records_of-mine p r rs e =
     ap (λ b. if b then r ∷ records_of p rs else records_of p rs) (eq-eqb _ _ e)
 
+-- another's record goes
 pub records_of-other : (p : ℕ) (r : Record) (rs : List Record) → party_of r ≢ p
     → records_of p (r ∷ rs) ≡ records_of p rs
 unfolding records_of
@@ -24,13 +25,16 @@ records_of-other p r rs ne =
       | inr n ↦ ap (λ b. if b then r ∷ records_of p rs else records_of p rs) n.0
     ]
 
+-- of no records none is its own
 pub records_of-none : (p : ℕ) → records_of p [] ≡ []
 unfolding records_of
 records_of-none p = refl
 
+-- a record is a party's own or not
 pub mine_or_not : (p : ℕ) (r : Record) → (party_of r ≡ p) ⊎ (party_of r ≢ p)
 mine_or_not p r = elim (eqb_tells (party_of r) p) [ inl y ↦ inl y.1 | inr n ↦ inr n.1 ]
 
+-- its own of two lists, one after the other
 pub records_of-append : (p : ℕ) (xs ys : List Record)
     → records_of p (xs ++ ys) ≡ records_of p xs ++ records_of p ys
 records_of-append p [] ys = ap (λ l. l ++ records_of p ys) (sym (records_of-none p))
@@ -51,6 +55,7 @@ own_at : (p : ℕ) (x : Record) (xs : List Record) (i : ℕ) (r : Record)
 own_at p x xs zero r rec f = (0, f)
 own_at p x xs (suc j) r rec f = let rest = rec j f in (suc rest.0, rest.1)
 
+-- its own record stands among all
 pub record_of_own : (p : ℕ) (xs : List Record) (i : ℕ) (r : Record)
     → slice_get (records_of p xs) i ≡ Some r → (m : ℕ) × (slice_get xs m ≡ Some r)
 record_of_own p [] i r e =
@@ -67,6 +72,7 @@ record_of_own p (x ∷ xs) i r e =
           (suc rest.0, rest.1)
     ]
 
+-- and a record of the party among its own
 pub own_of_record : (p : ℕ) (xs : List Record) (m : ℕ) (r : Record) → slice_get xs m ≡ Some r
     → party_of r ≡ p → (i : ℕ) × (slice_get (records_of p xs) i ≡ Some r)
 own_of_record p [] m r e y = absurd (none-some r e)
@@ -86,6 +92,7 @@ own_of_record p (x ∷ xs) (suc m) r e y =
       )
     ]
 
+-- one more record of its own
 pub records_of-more : (p : ℕ) (rs : List Record) (r : Record) → party_of r ≡ p
     → records_of p (rs ++ r ∷ []) ≡ records_of p rs ++ r ∷ []
 records_of-more p rs r e =
@@ -93,6 +100,7 @@ records_of-more p rs r e =
     ∙ ap (λ l. records_of p rs ++ l)
     (records_of-mine p r [] e ∙ ap (λ l. r ∷ l) (records_of-none p))
 
+-- one more record of another's
 pub records_of-same : (p : ℕ) (rs : List Record) (r : Record) → party_of r ≢ p
     → records_of p (rs ++ r ∷ []) ≡ records_of p rs
 records_of-same p rs r e =
@@ -118,22 +126,26 @@ did-get p (u ∷ s) zero t e =
     ap (λ (v : Taken). Some (Did p v.step v.found v.ended)) (same_Some _ _ e)
 did-get p (u ∷ s) (suc i) t e = did-get p s i t e
 
+-- a record of steps is of the step at its place
 pub did-got : (p : ℕ) (s : List Taken) (i q : ℕ) (t : Taken)
     → slice_get (did p s) i ≡ Some (Did q t.step t.found t.ended) → slice_get s i ≡ Some t
 did-got p [] i q t e = absurd (none-some _ e)
 did-got p (u ∷ s) zero q t e = ap Some (did_of-same p q u t (same_Some _ _ e))
 did-got p (u ∷ s) (suc i) q t e = did-got p s i q t e
 
+-- the records of one step more
 pub did-more : (p : ℕ) (s : List Taken) (t : Taken)
     → did p (s ++ t ∷ []) ≡ did p s ++ Did p t.step t.found t.ended ∷ []
 did-more p [] t = refl
 did-more p (u ∷ s) t = ap (λ l. Did p u.step u.found u.ended ∷ l) (did-more p s t)
 
+-- the records of the first steps
 pub did-take : (p n : ℕ) (s : List Taken) → take n (did p s) ≡ did p (take n s)
 did-take p zero s = refl
 did-take p (suc n) [] = refl
 did-take p (suc n) (t ∷ s) = ap (λ l. Did p t.step t.found t.ended ∷ l) (did-take p n s)
 
+-- the same records are of the same steps
 pub did-same : (p : ℕ) (s u : List Taken) → did p s ≡ did p u → s ≡ u
 did-same p [] [] e = refl
 did-same p [] (t ∷ u) e = absurd (cc)

@@ -95,8 +95,8 @@ pair-placed w op s full j t pairs l front g =
 -- each step of a front stands where its plan has it
 placed_in : (w k : ℕ) (plan : Plan) (s full : List Taken) → HasCount w k plan (length full)
     → AreStepsOf w plan full
-    → ((i : ℕ) (t : Taken) → slice_get s i ≡ Some t → slice_get full i ≡ Some t) → (j : ℕ) (t : Taken)
-    → slice_get s j ≡ Some t
+    → ((i : ℕ) (t : Taken) → slice_get s i ≡ Some t → slice_get full i ≡ Some t)
+    → (j : ℕ) (t : Taken) → slice_get s j ≡ Some t
     → IsPlacedAt w k plan s j t
 placed_in w k (TurnsOn h) s full count steps front j t g =
     let inside = slice_get_within full j t (front j t g) in

@@ -35,6 +35,7 @@ pub record OneEnd (s : List Taken) : Type 0 where
   pub running : Each s (λ i t. i + 1 < length s → t.ended ≡ Running)
   pub ended : Each s (λ i t. i + 1 ≡ length s → t.ended ≢ Running)
 
+-- so it is after the first step
 pub one_end-later : (t u : Taken) (s : List Taken) → OneEnd (t ∷ (u ∷ s)) → OneEnd (u ∷ s)
 one_end-later t u s one = record {
   some = omega arith;
@@ -42,6 +43,7 @@ one_end-later t u s one = record {
   ended = λ i v g l. one.ended (suc i) v g (omega arith);
 }
 
+-- a whole script has one end
 pub one_end-script : (w k : ℕ) (call : Call) (s : List Taken) → 1 ≤ length s → IsScript w k call s
     → OneEnd s
 one_end-script w k call s some is = record {
@@ -57,12 +59,14 @@ newest-append [] ys y = refl
 newest-append (x ∷ []) ys y = refl
 newest-append (x ∷ (z ∷ xs)) ys y = newest-append (z ∷ xs) ys y
 
+-- a record of a step leaves a call running as the step does
 leaves-did : (p : ℕ) (step : Step) (found : ℕ) (e : End)
     → leaves_running (Did p step found e) ≡ is_running e
 leaves-did p step found Running = refl
 leaves-did p step found Done = refl
 leaves-did p step found (Answer b) = refl
 
+-- records of steps leave it running as the last does
 newest-did : (p : ℕ) (t : Taken) (s : List Taken)
     → last_leaves_running (did p (t ∷ s)) ≡ still_runs (t ∷ s)
 newest-did p t [] = leaves-did p t.step t.found t.ended
@@ -82,6 +86,7 @@ newest_kept (x ∷ []) [] e = absurd (cc)
 newest_kept (x ∷ []) (y ∷ ys) e = e
 newest_kept (x ∷ (z ∷ xs)) ys e = newest_kept (z ∷ xs) ys e
 
+-- a party that runs a call after the later records runs it after all
 pub runs_after : (p : ℕ) (xs ys : List Record) → runs p ys ≡ true → runs p (xs ++ ys) ≡ true
 runs_after p xs ys e =
     ap last_leaves_running (records_of-append p xs ys)
@@ -93,11 +98,13 @@ still_runs-all [] all = refl
 still_runs-all (t ∷ []) all = ap is_running (all 0 t refl)
 still_runs-all (t ∷ (u ∷ s)) all = still_runs-all (u ∷ s) (λ i v g. all (suc i) v g)
 
+-- after a beginning the call goes on
 pub still_runs-beginning : (w k : ℕ) (call : Call) (s : List Taken) → IsBeginning w k call s
     → still_runs s ≡ true
 still_runs-beginning w k call s begun =
     still_runs-all s (λ i t g. beginning_runs w k call s i t begun g)
 
+-- whether it goes on is what the last step says
 still_runs-last : (s : List Taken) (i : ℕ) (t : Taken) → slice_get s i ≡ Some t → i + 1 ≡ length s
     → still_runs s ≡ is_running t.ended
 still_runs-last [] i t g l = absurd (none-some t g)
@@ -106,6 +113,7 @@ still_runs-last (u ∷ []) (suc i) t g l = absurd (none-some t g)
 still_runs-last (u ∷ (v ∷ s)) zero t g l = absurd (omega arith)
 still_runs-last (u ∷ (v ∷ s)) (suc i) t g l = still_runs-last (v ∷ s) i t g (omega arith)
 
+-- an end that isn't running is over
 not_running : (e : End) → e ≢ Running → is_running e ≡ false
 not_running Running apart = absurd (apart refl)
 not_running Done apart = refl

@@ -23,7 +23,8 @@ slot-read machines p o within e = same machines p within ∙ sym e
 pub asks-going : (m : Machine) (step : Step) → asks m ≡ Some step → not m.ended ≡ true
 asks-going m step e = go m.ended e
   where
-    go : (b : Bool) → (if b then None else Some (next_step (plan_of m.call) m)) ≡ Some step → not b ≡ true
+    go : (b : Bool) → (if b then None else Some (next_step (plan_of m.call) m)) ≡ Some step
+        → not b ≡ true
     go true f = absurd (none-some _ f)
     go false f = refl
 
@@ -31,6 +32,7 @@ asks-going m step e = go m.ended e
 pub asks-over : (m : Machine) → asks m ≡ None → not m.ended ≡ false
 asks-over m e = go m.ended e
   where
-    go : (b : Bool) → (if b then None else Some (next_step (plan_of m.call) m)) ≡ None → not b ≡ false
+    go : (b : Bool) → (if b then None else Some (next_step (plan_of m.call) m)) ≡ None
+        → not b ≡ false
     go true f = refl
     go false f = absurd (none-some _ (sym f))

@@ -15,6 +15,7 @@ use Rattle.bloom_steps.specs.Courses.{IsWordOf, MayFind}
 use Rattle.bloom_steps.proofs.StepLemmas.Growing.{length-more}
 use Rattle.bloom_steps.proofs.StepLemmas.Members.{member-front, member-seam, member_of_more}
 
+-- digits that are 1 together are the same
 digit-same : (a b : ℕ) → a < 2 → b < 2 → nat_eq a 1 ≡ nat_eq b 1 → a ≡ b
 digit-same zero zero l m e = refl
 digit-same zero (suc zero) l m e = absurd (both_ways (nat_eq 0 1) refl e)
@@ -33,16 +34,18 @@ word-same a b i f g all = same_from_bits_below 64 a b f g (λ j l.
     nat_eq (bit_at a x) 1) (sym low) ∙ all (64 * i + j) (omega arith) ∙ ap (λ x. nat_eq
     (bit_at b x) 1) low))
 
-word_index-same : (A : ℕ → Bool) (i a b : ℕ) → IsWordOf A i a → IsWordOf A i b → a ≡ b
-word_index-same A i a b f g = word-same a b i f.fits g.fits (λ p at. f.bits p at ∙ sym (g.bits p at))
+-- a set has one word at an index
+word_there-same : (A : ℕ → Bool) (i a b : ℕ) → IsWordOf A i a → IsWordOf A i b → a ≡ b
+word_there-same A i a b f g =
+    word-same a b i f.fits g.fits (λ p at. f.bits p at ∙ sym (g.bits p at))
 
 -- what is found is one, where another filter's word is given
 pub found-same : (A : ℕ → Bool) (given : ℕ) (step : Step) (a b : ℕ) → MayFind A step a
     → MayFind A step b
     → ((i : ℕ) → step ≡ Other i → a ≡ given) → ((i : ℕ) → step ≡ Other i → b ≡ given) → a ≡ b
-found-same A given (Load i) a b f g x y = word_index-same A i a b f g
-found-same A given (Or i m) a b f g x y = word_index-same A i a b f g
-found-same A given (And i m) a b f g x y = word_index-same A i a b f g
+found-same A given (Load i) a b f g x y = word_there-same A i a b f g
+found-same A given (Or i m) a b f g x y = word_there-same A i a b f g
+found-same A given (And i m) a b f g x y = word_there-same A i a b f g
 found-same A given (Zero i) a b f g x y = f ∙ sym g
 found-same A given (Other i) a b f g x y = x i refl ∙ sym (y i refl)
 
@@ -62,6 +65,7 @@ any_off-same w h s t u e any = elim (member_of_more s t any.1 any.0 any.2) [
       )
 ]
 
+-- tests that fail together are the same
 alike : (a b : Bool) → (a ≡ false → b ≡ false) → (b ≡ false → a ≡ false) → a ≡ b
 alike true true f g = refl
 alike true false f g = g refl

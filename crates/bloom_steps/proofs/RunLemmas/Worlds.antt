@@ -40,6 +40,7 @@ finds-more A rs r all here m party step found e g =
           (here party step found e (sym q.1))
     ]
 
+-- a word of the words is one of their content
 is_word-read : (A : ℕ → Bool) (words : List ℕ) (i found : ℕ) → ((p : ℕ) → content words p ≡ A p)
     → found ≡ slice_index words i → found < 2 ^ 64 → IsWordOf A i found
 is_word-read A words i found all e fits = record {

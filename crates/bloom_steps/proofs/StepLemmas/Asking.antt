@@ -19,9 +19,11 @@ use Rattle.bloom_steps.proofs.StepLemmas.Whole.{not_both}
 half-even : (n i : ℕ) → n ≡ 2 * i → (n % 2 ≡ 0) × (n / 2 ≡ i)
 half-even n i e = (omega arith, omega arith)
 
+-- the same of an odd number
 half-odd : (n i : ℕ) → n ≡ 2 * i + 1 → (n % 2 ≡ 1) × (n / 2 ≡ i)
 half-odd n i e = (omega arith, omega arith)
 
+-- the step that a machine holds for a plan of pairs comes next
 pair_fits : (op : ℕ → ℕ → Step) (m : Machine) (s : List Taken) → m.turn ≡ length s → HoldsOther m s
     → IsNextOfPairs op s (next_of_pairs op m)
 pair_fits op m s turn holds = (

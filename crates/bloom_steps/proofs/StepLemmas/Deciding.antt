@@ -5,15 +5,18 @@ use Rattle.bloom_parts.specs.Deciders.{Decider, last_decision, state}
 use Rattle.bloom_steps.specs.declared.steps.vocabulary.Record.{Record}
 use Rattle.bloom_steps.specs.Steps.{after_records, record_decides}
 
+-- three choices, whichever two are made first
 option_or-assoc : {X : Type 0} (a b c : Option X)
     → option_or (option_or a b) c ≡ option_or a (option_or b c)
 option_or-assoc None b c = refl
 option_or-assoc (Some x) b c = refl
 
+-- no choice changes nothing, ahead or behind
 option_or-none : {X : Type 0} (a : Option X) → option_or None a ≡ option_or a None
 option_or-none None = refl
 option_or-none (Some x) = refl
 
+-- a choice of two, or else a third
 unwrap_or-option_or : {X : Type 0} (a b : Option X) (c : X)
     → unwrap_or (option_or a b) c ≡ unwrap_or a (unwrap_or b c)
 unwrap_or-option_or None b c = refl
@@ -27,6 +30,7 @@ last_decision-more (e ∷ ds) d p =
     ap (λ o. option_or o (e p)) (last_decision-more ds d p)
     ∙ option_or-assoc (d p) (last_decision ds p) (e p)
 
+-- a map over one member more
 pub map-more : {A B : Type 0} (f : A → B) (xs : List A) (x : A)
     → map f (xs ++ x ∷ []) ≡ map f xs ++ f x ∷ []
 map-more f [] x = refl

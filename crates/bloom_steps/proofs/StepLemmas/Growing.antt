@@ -12,22 +12,25 @@ use Rattle.bloom_steps.specs.Scripts.{ArePairs, AreStepsOf, Each, HasCount, IsLa
 use Rattle.bloom_steps.specs.Steps.{load_at, or_at}
 use Rattle.bloom_steps.proofs.StepLemmas.Members.{member_of_more}
 
--- the step that comes next after these
+-- the step that comes next of pairs
 abbrev pub IsNextOfPairs : (ℕ → ℕ → Step) → List Taken → Step → Type 0
 IsNextOfPairs op s step =
     ((i : ℕ) → length s ≡ 2 * i → step ≡ Other i)
     × ((i : ℕ) (t : Taken) → length s ≡ 2 * i + 1 → slice_get s (2 * i) ≡ Some t
     → step ≡ op i t.found)
 
+-- a step that fits a plan after these steps
 abbrev pub FitsNext : ℕ → Plan → List Taken → Step → Type 0
 FitsNext w (TurnsOn h) s step = step ≡ or_at (place (64 * w) h (length s))
 FitsNext w (LooksAt h) s step = step ≡ load_at (place (64 * w) h (length s))
 FitsNext w (EachWord op) s step = step ≡ op (length s)
 FitsNext w (EachPair op on) s step = IsNextOfPairs op s step
 
+-- one step more
 pub length-more : (s : List Taken) (t : Taken) → length (s ++ t ∷ []) ≡ length s + 1
 length-more s t = length-append s (t ∷ [])
 
+-- what each step has, and one more, each of them has
 pub each-more : (s : List Taken) (t : Taken) (P : ℕ → Taken → Type 0) → Each s P → P (length s) t
     → Each (s ++ t ∷ []) P
 each-more s t P all here i u e =
@@ -36,6 +39,7 @@ each-more s t P all here i u e =
       | inr q ↦ subst (λ j. P j u) (sym q.0) (subst (λ v. P (length s) v) (sym q.1) here)
     ]
 
+-- a step that comes next of pairs leaves them pairs
 pairs-more : (op : ℕ → ℕ → Step) (s : List Taken) (t : Taken) → ArePairs op s
     → IsNextOfPairs op s t.step → ArePairs op (s ++ t ∷ [])
 pairs-more op s t all fits = record {
@@ -55,6 +59,7 @@ pairs-more op s t all fits = record {
   ];
 }
 
+-- a step that fits leaves the steps right
 pub steps-more : (w : ℕ) (plan : Plan) (s : List Taken) (t : Taken) → AreStepsOf w plan s
     → FitsNext w plan s t.step → AreStepsOf w plan (s ++ t ∷ [])
 steps-more w (TurnsOn h) s t all fits =
@@ -71,6 +76,7 @@ KeepsOnAt w (LooksAt h) s t = bit_is_on t.found (place (64 * w) h (length s)) �
 KeepsOnAt w (EachWord op) s t = Unit {0}
 KeepsOnAt w (EachPair op on) s t = Unit {0}
 
+-- a step at which the plan doesn't end leaves it going on
 keeps_on-more : (w : ℕ) (plan : Plan) (s : List Taken) (t : Taken) → KeepsOn w plan s
     → KeepsOnAt w plan s t → KeepsOn w plan (s ++ t ∷ [])
 keeps_on-more w (TurnsOn h) s t all on = tt
@@ -79,6 +85,7 @@ keeps_on-more w (LooksAt h) s t all on =
 keeps_on-more w (EachWord op) s t all on = tt
 keeps_on-more w (EachPair op way) s t all on = tt
 
+-- after such a step that fits, the plan goes on
 pub goes_on-more : (w k : ℕ) (plan : Plan) (s : List Taken) (t : Taken) → GoesOn w k plan s
     → FitsNext w plan s t.step → t.ended ≡ Running → length s + 1 < most_steps w k plan
     → KeepsOnAt w plan s t → GoesOn w k plan (s ++ t ∷ [])
@@ -98,6 +105,7 @@ EndsNext w k (LooksAt h) s t =
 EndsNext w k (EachWord op) s t = (length s + 1 ≡ w) × (t.ended ≡ Done)
 EndsNext w k (EachPair op way) s t = (length s + 1 ≡ 2 * w) × (t.ended ≡ Done)
 
+-- where the plan ends there are as many steps as it makes
 count-more : (w k : ℕ) (plan : Plan) (s : List Taken) (t : Taken) → length s < most_steps w k plan
     → EndsNext w k plan s t → HasCount w k plan (length (s ++ t ∷ []))
 count-more w k (TurnsOn h) s t room e = length-more s t ∙ e.0
@@ -106,6 +114,7 @@ count-more w k (LooksAt h) s t room e =
 count-more w k (EachWord op) s t room e = length-more s t ∙ e.0
 count-more w k (EachPair op on) s t room e = length-more s t ∙ e.0
 
+-- it stops where it has to
 stops-more : (w k : ℕ) (plan : Plan) (s : List Taken) (t : Taken) → KeepsOn w plan s
     → EndsNext w k plan s t → StopsRight w k plan (s ++ t ∷ [])
 stops-more w k (TurnsOn h) s t on e = tt
@@ -132,6 +141,7 @@ stops-more w k (LooksAt h) s t on e =
 stops-more w k (EachWord op) s t on e = tt
 stops-more w k (EachPair op way) s t on e = tt
 
+-- and its last step says how it ended
 last-more : (w k : ℕ) (plan : Plan) (s : List Taken) (t : Taken) → EndsNext w k plan s t
     → IsLastEnd w plan (s ++ t ∷ []) t.ended
 last-more w k (TurnsOn h) s t e = e.1
@@ -150,6 +160,7 @@ last-more w k (LooksAt h) s t e = λ i u g last.
 last-more w k (EachWord op) s t e = e.1
 last-more w k (EachPair op on) s t e = e.1
 
+-- so the steps up to there carry it out
 pub script-more : (w k : ℕ) (plan : Plan) (s : List Taken) (t : Taken) → GoesOn w k plan s
     → FitsNext w plan s t.step → EndsNext w k plan s t → Fulfils w k plan (s ++ t ∷ [])
 script-more w k plan s t g fits ends =

@@ -2,6 +2,7 @@
 use Rattle.std.proofs.Common.{[], ◌++◌, ◌+◌, ◌<◌, ◌∙◌, ◌∷◌, ◌≡◌, ◌⊎◌, List, Some, add-one, ap, arith, inl, inr, length, refl, slice_get, suc, sym, take, zero, ℕ}
 use Rattle.std.proofs.lemmas.Option.{none-some, same_Some}
 
+-- a member of one more at the end is an earlier one or the last
 pub member_of_more : {X : Type 0} (s : List X) (x y : X) (i : ℕ)
     → slice_get (s ++ x ∷ []) i ≡ Some y
     → ((i < length s) × (slice_get s i ≡ Some y)) ⊎ ((i ≡ length s) × (y ≡ x))
@@ -14,12 +15,14 @@ member_of_more (a ∷ s) x y (suc i) e =
       | inr q ↦ inr (ap suc q.0, q.1)
     ]
 
+-- a member of the front is one of the whole
 pub member-front : {X : Type 0} (s r : List X) (y : X) (i : ℕ) → slice_get s i ≡ Some y
     → slice_get (s ++ r) i ≡ Some y
 member-front [] r y i e = absurd (none-some _ e)
 member-front (a ∷ s) r y zero e = e
 member-front (a ∷ s) r y (suc i) e = member-front s r y i e
 
+-- the member just behind the front
 pub member-seam : {X : Type 0} (s r : List X) (y : X) → slice_get (s ++ y ∷ r) (length s) ≡ Some y
 member-seam [] r y = refl
 member-seam (a ∷ s) r y = member-seam s r y
@@ -31,6 +34,7 @@ some_member [] i h = absurd (omega arith)
 some_member (a ∷ s) zero h = (a, refl)
 some_member (a ∷ s) (suc i) h = some_member s i (omega arith)
 
+-- a member of the first ones is one of all
 pub member_of_take : {X : Type 0} (xs : List X) (n i : ℕ) (r : X) → slice_get (take n xs) i ≡ Some r
     → (i < n) × (slice_get xs i ≡ Some r)
 member_of_take xs zero i r e = absurd (none-some r e)
@@ -39,6 +43,7 @@ member_of_take (x ∷ xs) (suc n) zero r e = (omega arith, e)
 member_of_take (x ∷ xs) (suc n) (suc i) r e =
     let rest = member_of_take xs n i r e in (omega (arith, rest.0), rest.1)
 
+-- and the other way round
 pub member-take : {X : Type 0} (xs : List X) (n i : ℕ) (r : X) → i < n → slice_get xs i ≡ Some r
     → slice_get (take n xs) i ≡ Some r
 member-take xs zero i r l e = absurd (omega arith)
@@ -46,6 +51,7 @@ member-take [] (suc n) i r l e = absurd (none-some r e)
 member-take (x ∷ xs) (suc n) zero r l e = e
 member-take (x ∷ xs) (suc n) (suc i) r l e = member-take xs n i r (omega arith) e
 
+-- one more of the first ones
 pub take-more : {X : Type 0} (xs : List X) (m : ℕ) (r : X) → slice_get xs m ≡ Some r
     → take (m + 1) xs ≡ take m xs ++ r ∷ []
 take-more {X} xs m r e = ap (λ n. take n xs) (add-one m) ∙ go xs m e
@@ -55,12 +61,14 @@ take-more {X} xs m r e = ap (λ n. take n xs) (add-one m) ∙ go xs m e
     go (x ∷ xs) zero e = ap (λ y. y ∷ []) (same_Some _ _ e)
     go (x ∷ xs) (suc m) e = ap (λ l. x ∷ l) (go xs m e)
 
+-- a member behind the front is one of the rest
 pub member-back : {X : Type 0} (xs ys : List X) (i j : ℕ) → j ≡ length xs + i
     → slice_get (xs ++ ys) j ≡ slice_get ys i
 member-back [] ys i j e = let same : j ≡ i = omega arith in ap (slice_get ys) same
 member-back (x ∷ xs) ys i zero e = absurd (omega arith)
 member-back (x ∷ xs) ys i (suc j) e = member-back xs ys i j (omega arith)
 
+-- a member of two lists is one of the first, or one of the second
 pub member_of_append : {X : Type 0} (xs ys : List X) (i : ℕ) (y : X)
     → slice_get (xs ++ ys) i ≡ Some y
     → (slice_get xs i ≡ Some y) ⊎ ((j : ℕ) × (i ≡ length xs + j) × (slice_get ys j ≡ Some y))

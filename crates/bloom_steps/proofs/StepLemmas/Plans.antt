@@ -18,7 +18,8 @@ made false b = if b then None else Some false
 
 -- an operation on a word turns its bits off
 abbrev pub TurnsWordOff : (ℕ → Step) → Type 0
-TurnsWordOff op = (i q : ℕ) → step_decides (op i) q ≡ (if nat_eq (q / 64) i then Some false else None)
+TurnsWordOff op =
+    (i q : ℕ) → step_decides (op i) q ≡ (if nat_eq (q / 64) i then Some false else None)
 
 -- an operation with a word turns bits on where the word's are, or else off where they aren't
 abbrev pub TurnsBy : (ℕ → ℕ → Step) → Bool → Type 0
@@ -75,7 +76,8 @@ on-only op on by is i x q =
     ]
   where
     go : (a b : Bool)
-        → ((if a then made true b else None) ≡ None) ⊎ ((if a then made true b else None) ≡ Some true)
+        → ((if a then made true b else None) ≡ None)
+        ⊎ ((if a then made true b else None) ≡ Some true)
     go true true = inr refl
     go true false = inl refl
     go false b = inl refl

@@ -1,5 +1,6 @@
 -- How a machine that was replied stands one step further on.
-use Rattle.std.proofs.Common.{[], ◌&&◌, ◌*◌, ◌++◌, ◌+◌, ◌<◌, ◌||◌, ◌↔◌, ◌∙◌, ◌∷◌, ◌≡◌, ◌≢◌, ◌⊎◌, Bool, List, None, Some, ap, arith, eq-eqb, false, if◌then◌else◌, inl, inr, length, nat_eq, not, refl, subst, sym, true, ℕ}
+use Rattle.bloom_steps.proofs.StepLemmas.Finding.{all_on-more}
+use Rattle.std.proofs.Common.{[], ◌&&◌, ◌*◌, ◌++◌, ◌+◌, ◌<◌, ◌||◌, ◌∙◌, ◌∷◌, ◌≡◌, ◌≢◌, ◌⊎◌, Bool, List, None, Some, ap, arith, eq-eqb, false, if◌then◌else◌, inl, inr, length, nat_eq, not, refl, subst, sym, true, ℕ}
 use Rattle.std.proofs.lemmas.Bool.{both_ways, eqb-true}
 use Rattle.bloom_parts.specs.Content.{bit_is_on}
 use Rattle.bloom_parts.specs.Places.{place}
@@ -10,56 +11,14 @@ use Rattle.bloom_steps.specs.declared.steps.vocabulary.Step.{Step}
 use Rattle.bloom_steps.specs.declared.steps.machine.Machine.{Machine}
 use Rattle.bloom_steps.specs.Standing.{HoldsOther, IsAtPlace, IsPlaced, Keeps, StandsAt, answer_by, asks, end_by, end_of}
 use Rattle.bloom_steps.specs.Plans.{most_steps}
-use Rattle.bloom_steps.specs.Scripts.{Any, Taken, answer_of, answer_of_end}
+use Rattle.bloom_steps.specs.Scripts.{Taken, answer_of, answer_of_end}
 use Rattle.bloom_steps.specs.Standing.{Advances, MovesOn, Replied}
 use Rattle.bloom_steps.proofs.StepLemmas.Asking.{fits_asked}
 use Rattle.bloom_steps.proofs.StepLemmas.Growing.{EndsNext, KeepsOnAt, goes_on-more, length-more, script-more}
-use Rattle.bloom_steps.proofs.StepLemmas.Members.{member-front, member-seam, member_of_more}
+use Rattle.bloom_steps.proofs.StepLemmas.Members.{member-seam, member_of_more}
 use Rattle.bloom_steps.proofs.StepLemmas.Whole.{answer_of-last}
 
-any_front : (s : List Taken) (t : Taken) (P : ℕ → Taken → Type 0) → Any s P → Any (s ++ t ∷ []) P
-any_front s t P a = (a.0, a.1, member-front s (t ∷ []) a.1 a.0 a.2, a.3)
-
-any_last : (s : List Taken) (t : Taken) (P : ℕ → Taken → Type 0) → P (length s) t
-    → Any (s ++ t ∷ []) P
-any_last s t P here = (length s, t, member-seam s [] t, here)
-
-any_split : (s : List Taken) (t : Taken) (P : ℕ → Taken → Type 0) → Any (s ++ t ∷ []) P
-    → Any s P ⊎ P (length s) t
-any_split s t P a =
-    elim (member_of_more s t a.1 a.0 a.2) [
-      | inl p ↦ inl (a.0, a.1, p.1, a.3)
-      | inr q ↦ inr (subst (λ j. P j t) q.0 (subst (λ u. P a.0 u) q.1 a.3))
-    ]
-
--- whether all bits were on, after one more
-all_on-more : (s : List Taken) (t : Taken) (f : ℕ → Taken → Bool) (before after : Bool)
-    → ((before ≡ false) ↔ Any s (λ i t. f i t ≡ false)) → after ≡ (before && f (length s) t)
-    → (after ≡ false) ↔ Any (s ++ t ∷ []) (λ i t. f i t ≡ false)
-all_on-more s t f before after is e = go before (f (length s) t) refl refl
-  where
-    P : ℕ → Taken → Type 0
-    P i u = f i u ≡ false
-
-    go : (a b : Bool) → before ≡ a → f (length s) t ≡ b
-        → (after ≡ false) ↔ Any (s ++ t ∷ []) (λ i t. f i t ≡ false)
-    go false b was here = (
-      (λ _. any_front s t (λ i t. f i t ≡ false) (is.0 was)),
-      (λ _. e ∙ ap (λ x. x && f (length s) t) was),
-    )
-    go true true was here =
-        let on : after ≡ true = e ∙ ap (λ x. x && f (length s) t) was ∙ here in (
-          (λ off. absurd (both_ways after off on)),
-          (λ a. elim (any_split s t (λ i t. f i t ≡ false) a) [
-            | inl earlier ↦ absurd (both_ways before (is.1 earlier) was)
-            | inr last ↦ absurd (both_ways (f (length s) t) last here)
-          ]),
-        )
-    go true false was here = (
-      (λ _. any_last s t (λ i t. f i t ≡ false) here),
-      (λ _. e ∙ ap (λ x. x && f (length s) t) was ∙ here),
-    )
-
+-- a machine that holds what was found holds it for the write
 holds_other-more : (n : Machine) (s : List Taken) (t : Taken) → n.other ≡ t.found
     → HoldsOther n (s ++ t ∷ [])
 holds_other-more n s t e i u l g =
@@ -69,14 +28,17 @@ holds_other-more n s t e i u l g =
       | inr q ↦ e ∙ ap (λ (v : Taken). v.found) (sym q.1)
     ]
 
+-- numbers that a test tells apart differ
 not_yet : (a b : ℕ) → nat_eq a b ≡ false → a ≢ b
 not_yet a b off e = let on : nat_eq a b ≡ true = eq-eqb a b e in cc
 
+-- steps answer what the last does
 answer_of-more : (s : List Taken) (t : Taken) → answer_of (s ++ t ∷ []) ≡ answer_of_end t.ended
 answer_of-more s t =
     let longer = length-more s t in
     answer_of-last (s ++ t ∷ []) (length s) t (member-seam s [] t) (sym longer)
 
+-- the end of a plan answers what the machine does
 answer-end_of : (plan : Plan) (ended on : Bool)
     → answer_of_end
     (if ended then end_by

@@ -13,13 +13,16 @@ use Rattle.bloom_steps.specs.Scripts.{Taken}
 use Rattle.bloom_steps.specs.Steps.{step_decides, word_index}
 use Rattle.bloom_steps.proofs.StepLemmas.Deciding.{state-first, state-same}
 
+-- a binary digit is 0 or 1
 digit-below : (n i : ℕ) → bit_at n i < 2
 digit-below n i = omega arith
 
+-- the larger of two digits is 1 where one is
 or_digits : (a b : ℕ) → a < 2 → b < 2
     → nat_eq (max a b) 1 ≡ (if nat_eq b 1 then true else nat_eq a 1)
 or_digits a b p q = grind (arith, nat_tests)
 
+-- the lesser where both are
 and_digits : (a b : ℕ) → a < 2 → b < 2
     → nat_eq (min a b) 1 ≡ (if not (nat_eq b 1) then false else nat_eq a 1)
 and_digits a b p q = grind (arith, nat_tests)
@@ -87,6 +90,7 @@ content-set words i x p false o within e f =
     let apart : p / 64 ≢ i = λ at. both_ways (nat_eq (p / 64) i) e (eq-eqb _ _ at) in
     ap (λ y. bit_is_on y p) (get_or-set_other words i (p / 64) x 0 apart)
 
+-- two tests, one after the other, are both at once
 joined : (a b o : Bool)
     → (if a then (if b then Some o else None) else None) ≡ (if a && b then Some o else None)
 joined true b o = refl

@@ -8,7 +8,8 @@ step-found-requires g c =
     let made = c.steps.invariant.made in
     let asked = c.in-Some.ensures.next _ _ _ made.taken made.stands in
     let within = asked-within _ _ _ _ c.in-Some.step asked in
-    record { within = subst (λ n. word_index c.in-Some.step < n) (sym c.steps.invariant.words) within }
+    let same = sym c.steps.invariant.words in
+    record { within = subst (λ n. word_index c.in-Some.step < n) same within }
 
 pub steps-preserved : goal.steps-preserved
 steps-preserved g c =

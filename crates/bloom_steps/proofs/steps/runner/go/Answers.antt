@@ -37,7 +37,8 @@ returns-in_default-ask-clause-happens c =
       start = refl;
       parties = length-set c.args.world.now.machines.items p _;
       grows =
-          grows-none _ _ _ (gives-idle _ c.args.world.now world p (within at) _ (slot at) c.args.given over);
+          grows-none _ _ _
+          (gives-idle _ c.args.world.now world p (within at) _ (slot at) c.args.given over);
     }
 
 -- and else it makes one
@@ -58,8 +59,8 @@ returns-clause-happens c =
     let ended =
     ap (λ e. c.args.world.now.records.items ++ Did p step found e ∷ []) c.end-ended.ensures in
     let gives =
-    gives-step _ c.args.world.now world p (within at) _ (slot at) c.args.given step found c.end-ended.result
-    (asks-going c.in-Some.machine step asked) told.found in
+    gives-step _ c.args.world.now world p (within at) _ (slot at) c.args.given step found
+    c.end-ended.result (asks-going c.in-Some.machine step asked) told.found in
     record {
       keeps = world-same _ _ _ _ _ _ _ told.words (same ∙ ended) kept;
       start = refl;

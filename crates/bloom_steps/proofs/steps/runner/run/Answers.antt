@@ -15,7 +15,8 @@ pub events-init : goal.events-init
 events-init c =
     let made = c.in_ok-world.ensures in
     record {
-      so_far = run-first _ _ _ c.args.schedule.now _ made.world made.parties made.start made.records;
+      so_far =
+          run-first _ _ _ c.args.schedule.now _ made.world made.parties made.start made.records;
       len = omega (arith, made.len);
       room = omega (arith, made.room);
     }
