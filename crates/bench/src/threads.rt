@@ -76,10 +76,11 @@ fn measure_threads<R: Print + AllocGlobal + Clock + Threads>(
     keys: u64,
     rounds: u32,
     filter: &Shared,
-    threads: u64,
+    threads: u32,
 ) -> anyhow::Result<()> {
-    let mut inserts = Row::new("insert by threads:", threads as u32, keys);
-    let mut hits = Row::new("hit by threads:", threads as u32, keys);
+    let mut inserts = Row::new("insert by threads:", threads, keys);
+    let mut hits = Row::new("hit by threads:", threads, keys);
+    let threads = u64::from(threads);
     'rounds: for _round in 0..rounds {
         filter.clear();
         let begin = Instant::now(rt)?;
