@@ -34,7 +34,10 @@ fn inserts_turn_on_the_listed_positions(rt: HostRuntime) -> Result<(), Fail> {
         assert!(rt; !filter.insert_hash(hash), "{hash} is new");
         assert!(rt; filter.insert_hash(hash), "{hash} again");
         assert!(rt; filter.contains_hash(hash), "{hash} after");
-        assert_eq!(rt; words_of(rt.alloc(), &filter)?.as_slice(), [word].as_slice());
+        assert_eq!(rt;
+            words_of(rt.alloc(), &filter)?.as_slice(),
+            [word].as_slice()
+        );
     }
     Ok(())
 }
@@ -46,7 +49,10 @@ fn union_and_intersect_go_word_by_word(rt: HostRuntime) -> Result<(), Fail> {
     let either = filter_of(rt.alloc(), &[5, 0], 1)?;
     assert!(rt; either.same_shape(&other));
     either.union(&other);
-    assert_eq!(rt; words_of(rt.alloc(), &either)?.as_slice(), [7, 3].as_slice());
+    assert_eq!(rt;
+        words_of(rt.alloc(), &either)?.as_slice(),
+        [7, 3].as_slice()
+    );
     let both = filter_of(rt.alloc(), &[5, 2], 1)?;
     assert!(rt; both.same_shape(&other));
     both.intersect(&other);
@@ -60,9 +66,15 @@ fn a_filter_may_be_its_own_other(rt: HostRuntime) -> Result<(), Fail> {
     let filter = filter_of(rt.alloc(), &[5, 6, 0], 2)?;
     assert!(rt; filter.same_shape(&filter));
     filter.union(&filter);
-    assert_eq!(rt; words_of(rt.alloc(), &filter)?.as_slice(), [5, 6, 0].as_slice());
+    assert_eq!(rt;
+        words_of(rt.alloc(), &filter)?.as_slice(),
+        [5, 6, 0].as_slice()
+    );
     filter.intersect(&filter);
-    assert_eq!(rt; words_of(rt.alloc(), &filter)?.as_slice(), [5, 6, 0].as_slice());
+    assert_eq!(rt;
+        words_of(rt.alloc(), &filter)?.as_slice(),
+        [5, 6, 0].as_slice()
+    );
     assert!(rt; filter.same_words(&filter));
     Ok(())
 }
@@ -229,6 +241,9 @@ fn builders_are_equal_by_words_or_by_rate(rt: HostRuntime) -> Result<(), Fail> {
 #[test]
 fn the_rate_is_that_of_the_shape(rt: HostRuntime) -> Result<(), Fail> {
     let rate = filter_of(rt.alloc(), &[0], 1)?.expected_false_pos(1);
-    assert_eq!(rt; (rate.low(), rate.high()), (144115188075855872, 144115188075855872));
+    assert_eq!(rt;
+        (rate.low(), rate.high()),
+        (144115188075855872, 144115188075855872)
+    );
     Ok(())
 }
