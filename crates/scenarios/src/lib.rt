@@ -2,8 +2,6 @@
 #![tactic(auto)]
 
 #[cfg(test)]
-mod atomic;
-#[cfg(test)]
 mod builders;
 #[cfg(test)]
 mod by_hash;
@@ -15,5 +13,3 @@ mod lists;
 mod sizing;
 #[cfg(test)]
 mod steps;
-#[cfg(test)]
-mod threads;
