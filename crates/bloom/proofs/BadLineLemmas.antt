@@ -1,14 +1,14 @@
 -- The first line that isn't good.
-use Rattle.std.proofs.Common.{◌≡◌, ℕ, ◌+◌, ◌<◌, ◌^◌, ◌-◌, min, Bool, true, false, cond, eqb, leb, List, [], ◌∷◌, ◌++◌, length, map, Option, Some, None, IfSome, refl, sym, ◌∙◌, ap, append_assoc, append-nil, length-append, arith, inl, inr, ◌⊎◌, subst}
-use Rattle.std.specs.Io.KnownBytes.{Keeps, Appends, prepend_known}
+use Rattle.std.proofs.Common.{◌≡◌, ℕ, ◌<◌, Bool, true, false, cond, eqb, leb, List, [], ◌∷◌, ◌++◌, length, map, Option, Some, None, IfSome, refl, sym, ◌∙◌, ap, append_assoc, append-nil, length-append, arith, inl, inr, ◌⊎◌, subst}
+use Rattle.std.specs.Io.KnownBytes.{prepend_known}
 use Rattle.std.proofs.lemmas.Bool.{and_left, and_right, cond-false, lt-leb}
 use Rattle.bloom.specs.declared.engine.line.Line.{Line}
 use Rattle.bloom.specs.declared.engine.line_reader.Next.TheVariants as next
 use Rattle.bloom.specs.Lines.{lines_of, line_of, number_of, is_number, value_of, numbered}
-use Rattle.bloom.specs.Reading.{IsEnded, has_no_end, Ends, NextCommand}
-use Rattle.bloom.specs.Served.{Carried, IsReadWhole, IsReadUpTo, ServedAll, ServedUpTo}
+use Rattle.bloom.specs.Reading.{IsEnded, has_no_end, NextCommand}
+use Rattle.bloom.specs.Served.{IsReadUpTo}
 use Rattle.bloom.proofs.LineLemmas.{lines_of-front}
-use Rattle.bloom.proofs.TakenLemmas.{TakesGood, nil-front, ended-before, TakesGood-nil, TakesGood-more}
+use Rattle.bloom.proofs.TakenLemmas.{TakesGood, nil-front, ended-before}
 
 -- no line of more than 22 bytes is good
 line_of-long : (line : List ℕ) → 22 < length line → line_of line ≡ None

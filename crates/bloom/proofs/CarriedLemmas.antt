@@ -7,7 +7,7 @@ use Rattle.bloom_parts.specs.Content.{content}
 use Rattle.bloom_parts.specs.Operations as command
 use Rattle.bloom_parts.specs.Operations.{Operation, state_after}
 use Rattle.bloom_parts.specs.Places.{are_in}
-use Rattle.fastbloom.specs.Filter.{Filter, SameShape}
+use Rattle.fastbloom.specs.Filter.{Filter}
 use Rattle.fastbloom.specs.Laws.{JoinedListsLaw}
 use Rattle.fastbloom.specs.Replies.{CarriesOut, replies_after}
 use Rattle.bloom.specs.declared.engine.line.Line.{Line}

@@ -1,12 +1,11 @@
--- What reading a line takes: of each relation a case that holds, and one as near as can be that
--- doesn't.
-use Rattle.std.proofs.Common.{◌≡◌, ℕ, ◌+◌, ◌<◌, true, false, List, [], ◌∷◌, ◌++◌, length, get_or, replicate, Option, Some, None, refl, sym, ◌∙◌, ap, subst, arith, inl, inr, ◌⊎◌}
+-- What reading a line takes: of each relation a case that holds, and a near one that doesn't.
+use Rattle.std.proofs.Common.{◌≡◌, ℕ, ◌<◌, true, false, List, [], ◌∷◌, ◌++◌, length, get_or, replicate, Some, None, refl, sym, ap, arith, inl, inr}
 use Rattle.std.specs.Prelude.{codes}
 use Rattle.std.proofs.lemmas.List.{append_cancel_right}
-use Rattle.bloom.specs.declared.engine.line.Line.TheVariants.{Insert, Words}
-use Rattle.bloom.specs.declared.engine.line_reader.Next.TheVariants.{End, Good, Bad}
+use Rattle.bloom.specs.declared.engine.line.Line.TheVariants.{Words}
+use Rattle.bloom.specs.declared.engine.line_reader.Next.TheVariants.{Good, Bad}
 use Rattle.bloom.specs.Lines.{lines_of, line_of, number_of}
-use Rattle.bloom.specs.Reading.{Waiting, KnowsEnd, IsQuiet, Asks, TakesByte, IsFirstLine, IsEnded, TakesLine, TakesLong, Ends, NextCommand}
+use Rattle.bloom.specs.Reading.{Waiting, KnowsEnd, IsQuiet, Asks, TakesByte, IsFirstLine, TakesLine, TakesLong, Ends, NextCommand}
 use Rattle.bloom.proofs.LineLemmas.{IsEnded-line}
 
 -- a list with a number isn't empty

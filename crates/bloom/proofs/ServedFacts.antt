@@ -1,9 +1,8 @@
--- What serving promises, at sessions of one and two lines: a case that holds, and near ones that
--- don't.
-use Rattle.std.proofs.Common.{◌≡◌, ℕ, ◌+◌, ◌-◌, ◌^◌, ◌<◌, min, zero, suc, List, [], ◌∷◌, ◌++◌, length, map, replicate, Option, Some, None, refl, sym, ◌∙◌, ap, subst, arith, inl, inr, ◌⊎◌}
+-- What serving promises of one and two lines: a case that holds, and near ones that don't.
+use Rattle.std.proofs.Common.{◌≡◌, ℕ, ◌+◌, ◌-◌, ◌^◌, min, List, [], ◌∷◌, ◌++◌, length, map, replicate, Option, Some, None, refl, sym, ap, arith, inl, inr}
 use Rattle.std.specs.Prelude.{codes}
 use Rattle.bloom.specs.declared.engine.line.Line.{Line}
-use Rattle.bloom.specs.declared.engine.line.Line.TheVariants.{Insert, Words}
+use Rattle.bloom.specs.declared.engine.line.Line.TheVariants.{Insert}
 use Rattle.bloom.specs.Lines.{lines_of, line_of, number_of}
 use Rattle.bloom.specs.Served.{IsReadWhole, Reaches, IsReadUpTo, ServedAll, ServedUpTo}
 use Rattle.bloom.proofs.CarriedFacts.{zeros, with_one, carried, carried-text, carried-bits}

@@ -1,17 +1,16 @@
 -- From lines taken and carried out to what serving promises.
-use Rattle.std.proofs.Common.{◌≡◌, ℕ, ◌+◌, ◌<◌, ◌^◌, ◌-◌, min, Bool, true, false, cond, eqb, leb, List, [], ◌∷◌, ◌++◌, length, map, Option, Some, None, IfSome, refl, sym, ◌∙◌, ap, append_assoc, append-nil, length-append, arith, inl, inr, ◌⊎◌, subst}
+use Rattle.std.proofs.Common.{◌≡◌, ℕ, ◌+◌, ◌^◌, ◌-◌, min, List, [], ◌∷◌, ◌++◌, length, map, Option, Some, None, refl, sym, ◌∙◌, ap, append-nil, length-append, arith}
 use Rattle.std.specs.Io.KnownBytes.{Keeps, Appends, prepend_known}
-use Rattle.std.proofs.lemmas.Bool.{and_left, and_right, cond-false, lt-leb}
 use Rattle.fastbloom.specs.Filter.{Filter}
 use Rattle.fastbloom.specs.Laws.{JoinedListsLaw}
 use Rattle.bloom.specs.declared.engine.line.Line.{Line}
 use Rattle.bloom.specs.declared.engine.line_reader.Next.TheVariants as next
-use Rattle.bloom.specs.Lines.{lines_of, line_of, number_of, is_number, value_of, numbered}
-use Rattle.bloom.specs.Reading.{IsEnded, has_no_end, Ends, NextCommand}
-use Rattle.bloom.specs.Served.{Carried, IsReadWhole, IsReadUpTo, ServedAll, ServedUpTo}
+use Rattle.bloom.specs.Lines.{lines_of, line_of}
+use Rattle.bloom.specs.Reading.{Ends, NextCommand}
+use Rattle.bloom.specs.Served.{Carried, IsReadWhole, ServedAll, ServedUpTo}
 use Rattle.bloom.proofs.BadLineLemmas.{upto}
 use Rattle.bloom.proofs.CarriedLemmas.{Carried-nil, Carried-more}
-use Rattle.bloom.proofs.TakenLemmas.{TakesGood, nil-front, ended-before, TakesGood-nil, TakesGood-more}
+use Rattle.bloom.proofs.TakenLemmas.{TakesGood, TakesGood-nil, TakesGood-more}
 
 -- half-way through serving: these lines were taken and carried out, and the next has this number
 pub record IsUnderWay {S : Type 0} (read left : Option (List ℕ)) (old now : Filter S)

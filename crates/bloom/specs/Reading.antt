@@ -1,7 +1,6 @@
 -- What reading one line takes, from what a block and a reader have left.
-use Rattle.std.specs.Prelude.{◌≡◌, ◌⊎◌, ℕ, ◌+◌, ◌-◌, ◌^◌, ◌<◌, min, ◌≤◌, ◌==◌, List, [], ◌∷◌, ◌++◌, length, take, slice_index, map, Bool, true, not, ◌&&◌, Option, Some, None, MatchOption}
+use Rattle.std.specs.Prelude.{◌≡◌, ◌⊎◌, ℕ, ◌<◌, ◌≤◌, ◌==◌, List, [], ◌∷◌, ◌++◌, length, take, slice_index, Bool, true, not, ◌&&◌, Option, Some, None, MatchOption}
 use Rattle.std.specs.Io.KnownBytes.{Consumes, IsAtEnd, prepend_known}
-use Rattle.bloom.specs.declared.engine.line.Line.{Line}
 use Rattle.bloom.specs.declared.engine.line_reader.Next.{Next}
 use Rattle.bloom.specs.declared.engine.line_reader.Next.TheVariants.{End, Good, Bad}
 use Rattle.bloom.specs.Lines.{lines_of, line_of}

@@ -9,8 +9,7 @@ use Rattle.bloom.specs.declared.engine.line.Line.{Line}
 use Rattle.bloom.specs.Lines.{lines_of, line_of, operations}
 use Rattle.bloom.specs.Texts.{text_of}
 
--- the filter carried out these lines' commands with some replies, and the text of the lines was
--- written
+-- these lines' commands were carried out with some replies, and the lines' text was written
 pub record Carried {S : Type 0} (old new : Filter S) (from to : Option (List ℕ))
     (lines : List Line) : Type 0 where
   pub given : List Bool

@@ -7,7 +7,6 @@ ghost use Rattle.bloom.specs.Texts.{hex_digit_of, hex_text, words_text, reply_te
 use crate::fault::Fault;
 use std::io::Write;
 
-// Writes bytes.
 fn put<W: Write>(output: &mut W, text: &[u8]) -> Result<(), Fault>
     ensures text { OnOk result (Appends (W.contents output.old) (W.contents output.new) text.now) }
     ensures fault { IfErr result (λ fault. fault ≡ Fault.Output) }

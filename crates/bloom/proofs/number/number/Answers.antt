@@ -1,8 +1,5 @@
-use Rattle.std.proofs.Common.{◌≡◌, ◌≤◌, sym, ap, ◌∙◌, arith, length, true, cond, ltb, ◌^◌, Some, None, take, take_all}
-use Rattle.std.specs.List.{list_all}
-use Rattle.std.specs.Char.{is_ascii_digit}
+use Rattle.std.proofs.Common.{sym, ◌∙◌, length}
 use Rattle.std.proofs.lemmas.Bool.{eqb-true, eqb-false}
-use Rattle.bloom.specs.Lines.{value_of}
 use Rattle.bloom.proofs.NumberLemmas.{tried, number_of-short, number_of-long, number_of-letter, number_of-whole}
 use Rattle.bloom.proofs.number.number.Goals as goal
 use Rattle.bloom.proofs.number.number.Goals.{then-is_empty-via-then-is_empty, then-is_empty-via-else-is_empty+then-text-gt-MOST_DIGITS}

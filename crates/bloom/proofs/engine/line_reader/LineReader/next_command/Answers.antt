@@ -1,4 +1,4 @@
-use Rattle.std.proofs.Common.{sym, refl, subst}
+use Rattle.std.proofs.Common.{sym, subst}
 use Rattle.std.specs.Io.KnownBytes.{prepend_known}
 use Rattle.bloom.specs.Reading.{NextCommand, left_of}
 use Rattle.bloom.proofs.ReadingLemmas.{TakesLine-in_block, NextCommand-from}
