@@ -1,14 +1,14 @@
 -- What the definitions of calls on shared filters say: cases that hold, and cases that nearly do.
-use Rattle.std.proofs.Common.{◌≡◌, ◌≢◌, ◌∙◌, ℕ, zero, suc, ◌+◌, ◌*◌, ◌/◌, ◌%◌, ◌^◌, ◌<◌, Bool, true, false, List, [], ◌∷◌, length, Option, Some, None, ap, refl, sym, subst, arith, slice_get}
+use Rattle.std.proofs.Common.{◌≡◌, ◌∙◌, ℕ, zero, suc, ◌+◌, ◌*◌, ◌/◌, ◌%◌, ◌^◌, ◌<◌, Bool, false, List, [], ◌∷◌, length, Some, None, refl, sym, subst, arith, slice_get}
 use Rattle.std.proofs.lemmas.Option.{none-some, same_Some}
 use Rattle.bloom_parts.specs.Chain.{chain}
 use Rattle.bloom_parts.specs.Places.{place}
-use Rattle.bloom_parts.specs.Made.{SharedWords, FoundByLoad, FoundByOr, MadeZero}
-use Rattle.bloom_steps.specs.declared.steps.vocabulary.Step.TheVariants.{Or, Zero, Other}
+use Rattle.bloom_parts.specs.Made.{FoundByLoad, FoundByOr, MadeZero}
+use Rattle.bloom_steps.specs.declared.steps.vocabulary.Step.TheVariants.{Or}
 use Rattle.bloom_steps.specs.declared.steps.vocabulary.Call.TheVariants.{Insert, Clear, Union}
-use Rattle.bloom_steps.specs.declared.steps.vocabulary.End.TheVariants.{Running, Done, Answer}
-use Rattle.bloom_steps.specs.Scripts.{Taken, Each, IsScript, answer_of}
-use Rattle.fastbloom.specs.Filter.{Filter}
+use Rattle.bloom_steps.specs.declared.steps.vocabulary.End.TheVariants.{Answer}
+use Rattle.bloom_steps.specs.Scripts.{Taken, Each}
+use Rattle.bloom_plain.specs.Filter.{Filter}
 use Rattle.fastbloom.specs.Shared.{SharedFilter, HaveSameShape, HasFormOf, IsMade, MakesCall, MakesInsert, WereFoundAlike, WereFoundToDiffer}
 use Rattle.fastbloom.proofs.SharedLemmas.{insert-answers, silent}
 

@@ -5,10 +5,10 @@ ghost use Rattle.bloom_parts.specs.Brackets.{low_of, high_of, width_of, HoldsRat
 ghost use Rattle.fastbloom.specs.Shared.{HaveSameShape, WereFoundAlike, WereFoundToDiffer};
 
 use super::AtomicBloomFilter;
-use crate::bloom::expected_rate;
 use bloom_parts::bit_vector::{AtomicBitVec, AtomicWords};
 use bloom_parts::error::FilterError;
 use bloom_parts::math::Bracket;
+use bloom_plain::expected_rate;
 use std::alloc::Global;
 
 impl<S> AtomicBloomFilter<S> {

@@ -1,7 +1,7 @@
 use Rattle.std.proofs.Common.{subst}
-use Rattle.fastbloom.specs.Builders.{sized_filter}
+use Rattle.bloom_plain.specs.Builders.{sized_filter}
 use Rattle.fastbloom.specs.Shared.{HasFormOf}
-use Rattle.fastbloom.specs.SourceHash.{lent_hash_of}
+use Rattle.bloom_plain.specs.SourceHash.{lent_hash_of}
 use Rattle.fastbloom.proofs.InsertedLemmas.{made_inserts-same}
 use Rattle.fastbloom.proofs.builder.atomic_bits.AtomicBuilderWithBits.items.Goals as goal
 

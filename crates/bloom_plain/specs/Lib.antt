@@ -1,0 +1,7 @@
+pub mod Builders
+pub mod CommandOf
+pub mod Filter
+pub mod Laws
+pub mod Replies
+pub mod SourceHash
+pub mod Stretches
