@@ -16,7 +16,8 @@ record CameTo (n : ℕ) (s t : Reading) (count : ℕ) : Type 0 where
 counted : (n : ℕ) (s t : Reading) (words : List ℕ) → Yields ReadsNext s words t
     → s.vector.count ≡ n → s.next ≤ n → CameTo n s t (length words)
 counted n s t [] came size most =
-    subst (λ (r : Reading). CameTo n s r 0) came record { size = size; next = omega arith; most = most }
+    subst (λ (r : Reading). CameTo n s r 0) came
+    record { size = size; next = omega arith; most = most }
 counted n s t (word ∷ words) came size most =
     let first = came.1 in
     let later = counted n came.0 t words came.2 (ap (λ (v : SharedWords). v.count) first.0 ∙ size)

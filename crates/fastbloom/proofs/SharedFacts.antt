@@ -75,7 +75,8 @@ insert-of-new name made = record {
 }
 
 -- an insert has a reply
-insert-replies : (name hash : ℕ) → MakesCall (filter name 1 1) (filter name 1 1) (Insert hash) None → ⊥
+insert-replies : (name hash : ℕ)
+    → MakesCall (filter name 1 1) (filter name 1 1) (Insert hash) None → ⊥
 insert-replies name hash calls =
     let some = insert-answers 1 1 hash calls.taken (omega arith) calls.script in
     none-some some.0 (calls.answers ∙ some.1)
@@ -136,7 +137,8 @@ found-alike : FoundByLoad (filter 1 1 3).words 0 5 → FoundByLoad (filter 2 1 3
 found-alike here there = record {
   shape = record { words = refl; hashes = refl };
   words = λ i within. subst
-      (λ j. (found : ℕ) × FoundByLoad (filter 1 1 3).words j found × FoundByLoad (filter 2 1 3).words j found)
+      (λ j. (found : ℕ) × FoundByLoad (filter 1 1 3).words j found
+      × FoundByLoad (filter 2 1 3).words j found)
       (omega (arith, within)) (5, here, there);
 }
 
@@ -148,8 +150,16 @@ hashes-differ alike = omega (arith, alike.shape.hashes)
 found-to-differ : FoundByLoad (filter 1 1 3).words 0 5 → FoundByLoad (filter 2 1 3).words 0 6
     → WereFoundToDiffer (filter 1 1 3) (filter 2 1 3)
 found-to-differ here there =
-    record { index = 0; found = 5; other = 6; here = here; there = there; differ = λ e. omega (arith, e) }
+    record {
+      index = 0;
+      found = 5;
+      other = 6;
+      here = here;
+      there = there;
+      differ = λ e. omega (arith, e);
+    }
 
 -- words that are equal don't differ
-equal-words : (differ : WereFoundToDiffer (filter 1 1 3) (filter 2 1 3)) → differ.found ≡ differ.other → ⊥
+equal-words : (differ : WereFoundToDiffer (filter 1 1 3) (filter 2 1 3))
+    → differ.found ≡ differ.other → ⊥
 equal-words differ same = differ.differ same

@@ -28,7 +28,8 @@ pub drives-make : {S : Type 0} (f other : SharedFilter S) (call : Call) (reply :
     → MakesCall f other call reply
 drives-make f other call reply store after words others drives = record {
   taken = drives.taken;
-  script = subst (λ (v : SharedWords). IsScript v.count f.hashes call drives.taken) words drives.script;
+  script =
+      subst (λ (v : SharedWords). IsScript v.count f.hashes call drives.taken) words drives.script;
   made =
       subst (λ o. Each drives.taken (λ i t. IsMade f.words o t.step t.found)) others
       (subst (λ w. Each drives.taken (λ i t. IsMade w store.other t.step t.found)) words
@@ -47,7 +48,8 @@ pub record LastOf (s : List Taken) : Type 0 where
 -- some steps have a last one, which gives their answer
 pub last-of : (s : List Taken) → 1 ≤ length s → LastOf s
 last-of [] some = absurd (omega (arith, some))
-last-of (t ∷ []) some = record { index = 0; step = t; is_last = refl; stands = refl; answers = refl }
+last-of (t ∷ []) some =
+    record { index = 0; step = t; is_last = refl; stands = refl; answers = refl }
 last-of (t ∷ (u ∷ rest)) some =
     let last = last-of (u ∷ rest) (omega arith) in
     record {
@@ -59,7 +61,8 @@ last-of (t ∷ (u ∷ rest)) some =
     }
 
 -- steps that end with `Done` have no answer
-pub silent : (s : List Taken) → Each s (λ i t. i + 1 ≡ length s → t.ended ≡ Done) → answer_of s ≡ None
+pub silent : (s : List Taken) → Each s (λ i t. i + 1 ≡ length s → t.ended ≡ Done)
+    → answer_of s ≡ None
 silent [] ends = refl
 silent (t ∷ rest) ends =
     let last = last-of (t ∷ rest) (omega arith) in
@@ -82,7 +85,8 @@ contains-answers w k hash s script =
     (_, last.answers ∙ ap answer_of_end (ends last.index last.step last.stands last.is_last))
 
 -- a call whose script has an answer replies it, whatever stands in for none
-pub replies : {S : Type 0} (f : SharedFilter S) (call : Call) (reply : Option Bool) (result other : Bool)
+pub replies : {S : Type 0} (f : SharedFilter S) (call : Call) (reply : Option Bool)
+    (result other : Bool)
     → (calls : MakesCall f f call reply)
     → (b : Bool) × (answer_of calls.taken ≡ Some b)
     → result ≡ unwrap_or reply other → MakesCall f f call (Some result)

@@ -1,5 +1,5 @@
--- What contracts see of a filter that threads share, and of which steps its calls are made. Its words
--- aren't seen, since any thread may change them. This project's own.
+-- What contracts see of a filter that threads share, and of which steps its calls are made. Its
+-- words aren't seen, since any thread may change them. This project's own.
 use Rattle.std.specs.Prelude.{◌≡◌, ◌≢◌, ℕ, ◌<◌, Bool, List, length, map, All, Option, Some}
 use Rattle.bloom_parts.specs.Made.{SharedWords, FoundByLoad, FoundByOr, FoundByAnd, MadeZero}
 use Rattle.bloom_plain.specs.Builders.{RateStart, IsSizeOf, sized_filter, empty_start}
@@ -43,7 +43,8 @@ IsMade words other (Other i) found = FoundByLoad other i found
 
 -- a call was made: the steps of a whole script of it on the words of a filter, and the script's
 -- answer given
-pub record MakesCall {S : Type 0} (f other : SharedFilter S) (call : Call) (reply : Option Bool) : Type 0 where
+pub record MakesCall {S : Type 0} (f other : SharedFilter S) (call : Call) (reply : Option Bool)
+    : Type 0 where
   pub taken : List Taken
   pub script : IsScript f.words.count f.hashes call taken
   pub made : Each taken (λ i t. IsMade f.words other.words t.step t.found)
