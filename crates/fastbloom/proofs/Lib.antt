@@ -2,4 +2,5 @@ mod FormLemmas
 mod InsertedLemmas
 mod ReadingLemmas
 mod SharedFacts
+mod SharedFormFacts
 mod SharedLemmas

@@ -13,7 +13,7 @@ use Rattle.fastbloom.specs.Shared.{SharedFilter, HaveSameShape, HasFormOf, IsMad
 use Rattle.fastbloom.proofs.SharedLemmas.{insert-answers, silent}
 
 -- a filter of so many words and hashes, under any name, whose hasher is a number
-abbrev filter : ℕ → ℕ → ℕ → SharedFilter ℕ
+abbrev pub filter : ℕ → ℕ → ℕ → SharedFilter ℕ
 filter name words hashes = record {
   words = record { name = name; count = words };
   hashes = hashes;
