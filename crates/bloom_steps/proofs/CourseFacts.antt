@@ -13,6 +13,7 @@ pub mod Moments
 pub mod Parties
 pub mod Premises
 pub mod Schedules
+pub mod Takes
 pub mod Unique
 pub mod Unlawful
 pub mod Undisturbed

@@ -28,5 +28,6 @@ pub mod Positions
 pub mod RecordedCalls
 pub mod RunningCalls
 pub mod Slots
+pub mod Taken
 pub mod UniqueSteps
 pub mod Worlds

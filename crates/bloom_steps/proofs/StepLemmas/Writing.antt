@@ -7,7 +7,7 @@ use Rattle.std.proofs.lemmas.Nat.Bits.{bit_at-zero, bit_at_and, bit_at_or}
 use Rattle.std.specs.Int.{bit_at}
 use Rattle.bloom_parts.specs.Content.{bit_is_on, content}
 use Rattle.bloom_steps.specs.declared.steps.vocabulary.Step.{Step}
-use Rattle.bloom_steps.specs.declared.steps.vocabulary.Step.TheVariants.{And, Load, Or, Other, Zero}
+use Rattle.bloom_steps.specs.declared.steps.vocabulary.Step.TheVariants.{And, Load, Or, Other, Take, Zero}
 use Rattle.bloom_steps.specs.Memories.{Memory, MemoryLaw, words_after}
 use Rattle.bloom_steps.specs.Scripts.{Taken}
 use Rattle.bloom_steps.specs.Steps.{step_decides, word_index}
@@ -114,6 +114,8 @@ content-step words (And i mask) p within =
 content-step words (Zero i) p within =
     content-set words i 0 p (nat_eq (p / 64) i) (Some false) within refl (bit_is_on-zero p)
 content-step words (Other i) p within = refl
+content-step words (Take i) p within =
+    content-set words i 0 p (nat_eq (p / 64) i) (Some false) within refl (bit_is_on-zero p)
 
 -- a step keeps the number of words
 pub length-step : (words : List ℕ) (step : Step) → length (words_after words step) ≡ length words
@@ -122,6 +124,7 @@ length-step words (Or i mask) = length-set words i _
 length-step words (And i mask) = length-set words i _
 length-step words (Zero i) = length-set words i 0
 length-step words (Other i) = refl
+length-step words (Take i) = length-set words i 0
 
 -- steps in memory, one after the other
 pub memory_law : MemoryLaw

@@ -4,6 +4,7 @@ use Rattle.bloom_steps.proofs.RunLemmas.Follows.{run-first, run-next}
 use Rattle.bloom_steps.proofs.RunLemmas.Lawful.{lawful_world}
 use Rattle.bloom_steps.proofs.RunLemmas.Grows.{ends_with_all}
 use Rattle.bloom_steps.proofs.RunLemmas.Gained.{counts_gains}
+use Rattle.bloom_steps.proofs.RunLemmas.Taken.{takes_lose_nothing}
 use Rattle.bloom_steps.proofs.RunLemmas.Commands.{acts_as_commands}
 use Rattle.bloom_steps.proofs.RunLemmas.Contains.{contains_tell}
 use Rattle.bloom_steps.proofs.RunLemmas.Found.{finds_inserted}
@@ -63,6 +64,9 @@ returns-clause-grows c = ends_with_all c.args.num_hashes _ (returns-clause-lawfu
 
 pub returns-clause-gained : goal.returns-clause-gained
 returns-clause-gained c = counts_gains c.args.num_hashes _ (returns-clause-lawful c)
+
+pub returns-clause-taken : goal.returns-clause-taken
+returns-clause-taken c = takes_lose_nothing c.args.num_hashes _ (returns-clause-lawful c)
 
 pub returns-clause-commands : goal.returns-clause-commands
 returns-clause-commands c =
