@@ -4,3 +4,4 @@ mod ReadingLemmas
 mod SharedFacts
 mod SharedFormFacts
 mod SharedLemmas
+mod TakenLemmas

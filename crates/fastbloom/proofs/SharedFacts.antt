@@ -49,7 +49,7 @@ word-short : HasFormOf (filter 1 1 3) (plain 7) → ⊥
 word-short form = omega (arith, form.words)
 
 -- what holds of the one member of a list holds of each
-only : (P : ℕ → Taken → Type 0) (t : Taken) → P 0 t → Each (t ∷ []) P
+pub only : (P : ℕ → Taken → Type 0) (t : Taken) → P 0 t → Each (t ∷ []) P
 only P t holds zero u got = subst (P 0) (same_Some t u got) holds
 only P t holds (suc i) u got = absurd (none-some u got)
 
@@ -88,7 +88,7 @@ clear-is-silent name reply calls =
     none-some reply (sym (calls.answers ∙ silent calls.taken calls.script.last))
 
 -- a list has a member at each index below its length
-member : (s : List Taken) (i : ℕ) → i < length s → (t : Taken) × (slice_get s i ≡ Some t)
+pub member : (s : List Taken) (i : ℕ) → i < length s → (t : Taken) × (slice_get s i ≡ Some t)
 member [] i within = absurd (omega (arith, within))
 member (t ∷ rest) zero within = (t, refl)
 member (t ∷ rest) (suc i) within = member rest i (omega (arith, within))

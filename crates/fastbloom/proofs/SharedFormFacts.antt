@@ -1,10 +1,16 @@
 -- What filters that threads share are made of: the form for items at a rate, and many inserts.
 -- How many sixty-fourths of a halving one half has is a premise here; `bloom_parts` shows it.
-use Rattle.std.proofs.Common.{◌≡◌, ◌∙◌, ℕ, zero, suc, ◌+◌, Bool, [], ◌∷◌, length, replicate, refl, ap, sym, subst, arith, lit<}
+use Rattle.std.proofs.Common.{◌≡◌, ◌∙◌, ℕ, zero, suc, ◌+◌, ◌<◌, Bool, List, [], ◌∷◌, Some, length, option_map, replicate, refl, ap, slice_get, sym, subst, arith, lit<}
+use Rattle.std.proofs.lemmas.Option.{slice_get-map}
+use Rattle.bloom_parts.specs.Made.{FoundBySwap}
 use Rattle.bloom_parts.specs.Sizing.{IsHalvings, size_for}
 use Rattle.bloom_plain.specs.Builders.{RateStart, words_for, empty_start, sized_filter, IsSizeOf}
-use Rattle.fastbloom.specs.Shared.{SharedFilter, HasFormFor, MakesInsert, MakesInserts}
-use Rattle.fastbloom.proofs.SharedFacts.{filter}
+use Rattle.bloom_steps.specs.declared.steps.vocabulary.Step.TheVariants.{Take}
+use Rattle.bloom_steps.specs.declared.steps.vocabulary.End.TheVariants.{Done}
+use Rattle.bloom_steps.specs.Scripts.{Taken}
+use Rattle.fastbloom.specs.Shared.{SharedFilter, HasFormFor, IsMade, MakesInsert, MakesInserts, TakesWords}
+use Rattle.fastbloom.proofs.SharedFacts.{filter, member, only}
+use Rattle.fastbloom.proofs.TakenLemmas.{taken-count}
 
 -- a builder of the rate one half, whose hasher is the number 7
 abbrev half : RateStart ℕ
@@ -70,3 +76,49 @@ inserts-second : (f : SharedFilter ℕ) → f.hasher ≡ 7 → MakesInserts sum 
 inserts-second f seven all =
     let second = all 1 0 (omega arith) in
     (second.0, subst (λ s. MakesInsert f (s + 4) second.0) seven second.1)
+
+-- a take of one word, which found a word
+abbrev one_take : ℕ → List Taken
+one_take found = record { step = Take 0; found = found; ended = Done } ∷ []
+
+-- it was made by a swap of word 0, and the word taken is the one found
+takes-one : (name : ℕ) → FoundBySwap (filter name 1 1).words 0 5
+    → TakesWords (filter name 1 1) (5 ∷ [])
+takes-one name made = record {
+  made = record {
+    taken = one_take 5;
+    script = record {
+      count = refl;
+      steps = only _ _ refl;
+      stops = tt;
+      running = only _ _ (λ early. absurd (omega (arith, early)));
+      last = only _ _ (λ last. refl);
+    };
+    made = only _ _ made;
+    answers = refl;
+  };
+  found = refl;
+}
+
+-- no fewer words are taken than there are
+takes-fewer : (name : ℕ) → TakesWords (filter name 1 1) [] → ⊥
+takes-fewer name takes = let count = taken-count _ _ takes in omega (arith, count)
+
+-- nor more
+takes-more : (name : ℕ) → TakesWords (filter name 1 1) (5 ∷ 6 ∷ []) → ⊥
+takes-more name takes = let count = taken-count _ _ takes in omega (arith, count)
+
+-- each word taken was found by a swap of the word of its index
+takes-each : {S : Type 0} (f : SharedFilter S) (words : List ℕ) → TakesWords f words
+    → (i : ℕ) → i < f.words.count
+    → (found : ℕ) × FoundBySwap f.words i found × (slice_get words i ≡ Some found)
+takes-each f words takes i within =
+    let s = takes.made.taken in
+    let at = member s i (omega (arith, within, takes.made.script.count)) in (
+      at.0.found,
+      subst (λ step. IsMade f.words f.words step at.0.found)
+          (takes.made.script.steps i at.0 at.1) (takes.made.made i at.0 at.1),
+      ap (λ l. slice_get l i) takes.found
+          ∙ slice_get-map (λ (t : Taken). t.found) s i
+          ∙ ap (option_map (λ (t : Taken). t.found)) at.1,
+    )

@@ -21,6 +21,22 @@ linked-made lent (u ∷ us) before after same linked zero t got =
 linked-made lent (u ∷ us) before after same linked (suc i) t got =
     linked-made lent us linked.0 after (linked.1.1 ∙ same) linked.2 i t got
 
+-- the linked steps of a store were made on the filters whose words it lends
+pub steps-made : {S : Type 0} (f other : SharedFilter S) (store after : Lent) (taken : List Taken)
+    → store.words ≡ f.words → store.other ≡ other.words → Linked MakesStep store taken after
+    → Each taken (λ i t. IsMade f.words other.words t.step t.found)
+steps-made f other store after taken words others linked =
+    subst (λ o. Each taken (λ i t. IsMade f.words o t.step t.found)) others
+    (subst (λ w. Each taken (λ i t. IsMade w store.other t.step t.found)) words
+    (linked-made store taken store after refl linked))
+
+-- a script in as many words as a store has is one in the words of the filter that it lends
+pub script-in : {S : Type 0} (f : SharedFilter S) (call : Call) (store : Lent) (taken : List Taken)
+    → store.words ≡ f.words → IsScript store.words.count f.hashes call taken
+    → IsScript f.words.count f.hashes call taken
+script-in f call store taken words script =
+    subst (λ (v : SharedWords). IsScript v.count f.hashes call taken) words script
+
 -- a whole script that a store was driven through is a call on the filters whose words it lends
 pub drives-make : {S : Type 0} (f other : SharedFilter S) (call : Call) (reply : Option Bool)
     (store after : Lent) → store.words ≡ f.words → store.other ≡ other.words
@@ -28,12 +44,8 @@ pub drives-make : {S : Type 0} (f other : SharedFilter S) (call : Call) (reply :
     → MakesCall f other call reply
 drives-make f other call reply store after words others drives = record {
   taken = drives.taken;
-  script =
-      subst (λ (v : SharedWords). IsScript v.count f.hashes call drives.taken) words drives.script;
-  made =
-      subst (λ o. Each drives.taken (λ i t. IsMade f.words o t.step t.found)) others
-      (subst (λ w. Each drives.taken (λ i t. IsMade w store.other t.step t.found)) words
-      (linked-made store drives.taken store after refl drives.linked));
+  script = script-in f call store drives.taken words drives.script;
+  made = steps-made f other store after drives.taken words others drives.linked;
   answers = drives.answers;
 }
 

@@ -4,6 +4,7 @@ ghost use Rattle.bloom_steps.specs.declared.steps.vocabulary.Call.TheVariants.{C
 ghost use Rattle.fastbloom.specs.Shared.{MakesCall, MakesInsert};
 
 mod items;
+mod keeping_store;
 mod live_store;
 mod sets;
 mod words;

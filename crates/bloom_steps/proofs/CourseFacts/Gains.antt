@@ -80,9 +80,12 @@ only-insert call other m party g =
 -- so they go by hashes
 twins-by_hash : EveryCall goes_by_hash twins.records
 twins-by_hash =
-    (by_hash twins.records).1
-    (only-insert Clear (λ e. cc), only-insert Union (λ e. cc), only-insert Intersect (λ e. cc),
-    only-insert Take (λ e. cc))
+    (by_hash twins.records).1 (
+      only-insert Clear (λ e. cc),
+      only-insert Union (λ e. cc),
+      only-insert Intersect (λ e. cc),
+      only-insert Take (λ e. cc),
+    )
 
 -- and turn nothing off
 pub twins-grow : EveryCall turns_none_off twins.records
