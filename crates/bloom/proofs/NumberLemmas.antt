@@ -5,6 +5,7 @@ use Rattle.std.specs.Result.{result_ok}
 use Rattle.std.specs.List.{list_all}
 use Rattle.std.specs.Char.{is_ascii_digit}
 use Rattle.std.proofs.lemmas.Bool.{and_left, and_right, cond-true, cond-false, lt-ltb, le-ltb, lt-leb, le-leb, cases_lt}
+use Rattle.std.proofs.lemmas.Bool.Decides.{nat_tests}
 use Rattle.std.proofs.lemmas.List.Folds.{list_all_at}
 use Rattle.bloom.specs.Lines.{number_of, is_number, value_of}
 
@@ -30,6 +31,9 @@ pub number_of-letter : (ds : List ℕ) (i : ℕ) → i < length ds
     → is_ascii_digit (get_or ds i 0) ≡ false → number_of ds ≡ None
 number_of-letter ds i below off =
     none ds (and_left _ _ (and_right _ _ (list_all_at is_ascii_digit ds i 0 below off)))
+
+-- what a text that is no number comes to
+pub ruleset no_numbers = (number_of-short, number_of-long, number_of-letter, nat_tests)
 
 -- digits, as many as are taken, are one if it is below 2^64
 pub number_of-digits : (ds : List ℕ) → 1 ≤ length ds → length ds ≤ 20

@@ -1,14 +1,14 @@
 -- What reading one line took.
-use Rattle.std.proofs.Common.{◌≡◌, ◌≢◌, ℕ, ◌+◌, ◌<◌, ◌≤◌, true, List, [], ◌∷◌, ◌++◌, length, take, drop, set, Option, Some, None, refl, sym, ◌∙◌, ap, subst, append_assoc, append-nil, length-append, length-set, length-take, take_all, take-append-drop, arith, inl, inr}
+use Rattle.std.proofs.Common.{◌≡◌, ◌≢◌, ℕ, ◌+◌, ◌<◌, ◌≤◌, true, List, [], ◌∷◌, ◌++◌, length, take, drop, set, Option, Some, None, refl, sym, ◌∙◌, ap, subst, append_assoc, append-nil, length-set, length-take, take-append-drop, arith, inl, inr}
 use Rattle.std.specs.Prelude.{MatchOption}
-use Rattle.std.specs.Io.KnownBytes.{Consumes, IsAtEnd, prepend_known}
-use Rattle.std.proofs.KnownBytes.{Consumes-trans}
+use Rattle.std.specs.Io.KnownBytes.{Consumes, IsAtEnd, Keeps, prepend_known}
+use Rattle.std.proofs.KnownBytes.{Consumes-trans, Keeps-trans}
 use Rattle.std.proofs.lemmas.List.{take_more, take_more_set}
 use Rattle.bloom.specs.declared.engine.line.Line.{Line}
 use Rattle.bloom.specs.declared.engine.line_reader.Next.{Next}
 use Rattle.bloom.specs.declared.engine.line_reader.Next.TheVariants as next
 use Rattle.bloom.specs.Lines.{line_of}
-use Rattle.bloom.specs.Reading.{Asks, Waiting, IsQuiet, has_no_end, IsFirstLine, TakesByte, TakesLine, TakesLong, NextCommand}
+use Rattle.bloom.specs.Reading.{Asks, Waiting, IsQuiet, KnowsEnd, left_of, has_no_end, IsFirstLine, TakesByte, TakesLine, TakesLong, NextCommand}
 use Rattle.bloom.proofs.LineLemmas.{lines_of-nil, lines_of-ended, lines_of-last, has_no_end-more, IsEnded-line}
 
 -- what a line asks for that was taken
@@ -24,93 +24,84 @@ NextCommand-from old new text came told took = go (line_of text) refl told
 
 -- the first bytes of the buffer were taken, and none of them ends a line
 pub record IsInLine (old mid : Option (List ℕ)) (line : List ℕ) (at : ℕ) : Type 0 where
-  pub room : length line ≡ 22
+  pub room : length line ≡ 23
   pub taken : Consumes old mid (take at line)
   pub inside : has_no_end (take at line) ≡ true
 
-module _ (old mid new : Option (List ℕ)) (line : List ℕ) (at : ℕ)
-    (so_far : IsInLine old mid line at) where
-  -- the byte at the line's end is taken too
-  ended : TakesByte mid new (Some 10) → TakesLine old new (take at line)
-  ended end = go old new (Consumes-trans old mid new (take at line) (10 ∷ []) so_far.taken end)
-    where
-      go : (a c : Option (List ℕ)) → Consumes a c (take at line ++ 10 ∷ [])
-          → TakesLine a c (take at line)
-      go None c p = tt
-      go (Some x) None p = absurd p
-      go (Some x) (Some z) p = (
-        take at line ++ 10 ∷ [],
-        p,
-        lines_of-ended (take at line) [] so_far.inside ∙ ap (λ l. take at line ∷ l) lines_of-nil,
-        inl (IsEnded-line (take at line) so_far.inside),
-      )
+module _ {old mid : Option (List ℕ)} {line : List ℕ} {at : ℕ} (so_far : IsInLine old mid line at)
+  where
+    -- they are more than a good line has
+    pub next_long : 23 ≤ at → NextCommand old mid next.Bad
+    next_long all = inr (go old mid so_far.taken)
+      where
+        go : (a c : Option (List ℕ)) → Consumes a c (take at line) → TakesLong a c
+        go None c p = tt
+        go (Some x) None p = absurd p
+        go (Some x) (Some z) p =
+            (take at line, p, so_far.inside, simp length-take (omega (arith, all, so_far.room)))
 
-  -- nothing follows the line
-  last : 0 < length (take at line) → TakesByte mid new None → TakesLine old new (take at line)
-  last some end = go old new (Consumes-trans old mid new (take at line) [] so_far.taken end.0) end.1
-    where
-      go : (a c : Option (List ℕ)) → Consumes a c (take at line ++ []) → IsAtEnd c
-          → TakesLine a c (take at line)
-      go None c p end = tt
-      go (Some x) None p end = absurd p
-      go (Some x) (Some z) p end = (
-        take at line,
-        p ∙ ap (λ l. l ++ z) (append-nil (take at line)),
-        lines_of-last (take at line) so_far.inside some,
-        inr end,
-      )
+    module _ (new : Option (List ℕ)) where
+      -- the byte at the line's end is taken too
+      ended : TakesByte mid new (Some 10) → TakesLine old new (take at line)
+      ended end =
+          go old new (Consumes-trans old mid new (take at line) (10 ∷ []) so_far.taken end)
+        where
+          go : (a c : Option (List ℕ)) → Consumes a c (take at line ++ 10 ∷ [])
+              → TakesLine a c (take at line)
+          go None c p = tt
+          go (Some x) None p = absurd p
+          go (Some x) (Some z) p = (
+            take at line ++ 10 ∷ [],
+            p,
+            lines_of-ended (take at line) [] so_far.inside
+                ∙ ap (λ l. take at line ∷ l) lines_of-nil,
+            inl (IsEnded-line (take at line) so_far.inside),
+          )
 
-  -- what a line asks for whose end is taken too
-  pub next-ended : (came : Next) → Asks (take at line) came → TakesByte mid new (Some 10)
-      → NextCommand old new came
-  next-ended came asks end = NextCommand-from old new (take at line) came asks (ended end)
+      -- nothing follows the line
+      last : 0 < length (take at line) → TakesByte mid new None → TakesLine old new (take at line)
+      last some end =
+          go old new (Consumes-trans old mid new (take at line) [] so_far.taken end.0) end.1
+        where
+          go : (a c : Option (List ℕ)) → Consumes a c (take at line ++ []) → IsAtEnd c
+              → TakesLine a c (take at line)
+          go None c p end = tt
+          go (Some x) None p end = absurd p
+          go (Some x) (Some z) p end = (
+            take at line,
+            p ∙ ap (λ l. l ++ z) (append-nil (take at line)),
+            lines_of-last (take at line) so_far.inside some,
+            inr end,
+          )
 
-  -- what a line asks for that nothing follows
-  pub next-last : (came : Next) → 0 < at → Asks (take at line) came → TakesByte mid new None
-      → NextCommand old new came
-  next-last came some asks end =
-      let more : 0 < length (take at line) = simp length-take (omega (arith, some, so_far.room)) in
-      NextCommand-from old new (take at line) came asks (last more end)
+      -- what a line asks for whose end is taken too
+      pub next-ended : (taken : Option ℕ) (byte : ℕ) (came : Next) → Asks (take at line) came
+          → taken ≡ Some byte → byte ≡ 10 → TakesByte mid new taken → NextCommand old new came
+      next-ended taken byte came asks is is_end takes =
+          NextCommand-from old new (take at line) came asks (ended (rw (is, is_end) at takes))
 
-  -- a line that goes on past 22 bytes
-  pub next-long : (byte : ℕ) → 22 ≤ at → byte ≢ 10 → TakesByte mid new (Some byte)
-      → NextCommand old new next.Bad
-  next-long byte all other more =
-      inr (go old new (Consumes-trans old mid new (take at line) (byte ∷ []) so_far.taken more))
-    where
-      long : length (take at line) ≡ 22
-      long = simp length-take (omega (arith, all, so_far.room))
+      -- what a line asks for that nothing follows
+      pub next-last : (taken : Option ℕ) (came : Next) → at ≢ 0 → Asks (take at line) came
+          → taken ≡ None → TakesByte mid new taken → NextCommand old new came
+      next-last taken came some asks is takes =
+          let more : 0 < length (take at line) =
+          simp length-take (omega (arith, some, so_far.room)) in
+          NextCommand-from old new (take at line) came asks (last more (rw is at takes))
 
-      go : (a c : Option (List ℕ)) → Consumes a c (take at line ++ byte ∷ []) → TakesLong a c
-      go None c p = tt
-      go (Some x) None p = absurd p
-      go (Some x) (Some z) p = (
-        take at line ++ byte ∷ [],
-        p,
-        has_no_end-more (take at line) byte so_far.inside other,
-        simp length-append (omega (arith, long)),
-      )
-
-  -- one more byte is taken, and put into the buffer
-  pub in_line-more : (byte : ℕ) → at < 22 → byte ≢ 10 → TakesByte mid new (Some byte)
-      → IsInLine old new (set line at byte) (at + 1)
-  in_line-more byte below other more =
-      let front : take (at + 1) (set line at byte) ≡ take at line ++ byte ∷ [] =
-      take_more_set line at byte (omega (arith, below, so_far.room)) in
-      record {
-        room = length-set line at byte ∙ so_far.room;
-        taken =
-            subst (Consumes old new) (sym front)
-            (Consumes-trans old mid new (take at line) (byte ∷ []) so_far.taken more);
-        inside =
-            ap has_no_end front ∙ has_no_end-more (take at line) byte so_far.inside other;
-      }
-
--- all of a full buffer is the line
-pub asks-full : (old mid : Option (List ℕ)) (line : List ℕ) (at : ℕ) → IsInLine old mid line at
-    → (came : Next) → 22 ≤ at → Asks line came → Asks (take at line) came
-asks-full old mid line at so_far came all asks =
-    subst (λ l. Asks l came) (sym (take_all at line (omega (arith, all, so_far.room)))) asks
+      -- one more byte is taken, and put into the buffer
+      in_line-more : (byte : ℕ) → at < 23 → byte ≢ 10 → TakesByte mid new (Some byte)
+          → IsInLine old new (set line at byte) (at + 1)
+      in_line-more byte below other more =
+          let front : take (at + 1) (set line at byte) ≡ take at line ++ byte ∷ [] =
+          take_more_set line at byte (omega (arith, below, so_far.room)) in
+          record {
+            room = length-set line at byte ∙ so_far.room;
+            taken =
+                subst (Consumes old new) (sym front)
+                (Consumes-trans old mid new (take at line) (byte ∷ []) so_far.taken more);
+            inside =
+                ap has_no_end front ∙ has_no_end-more (take at line) byte so_far.inside other;
+          }
 
 -- what is quiet through two calls is quiet through both
 pub quiet-trans : {R : Type 0} (a b c : Waiting) (from mid to : R) → IsQuiet a b from mid
@@ -119,6 +110,31 @@ quiet-trans a b c from mid to first second ended =
     let before = first ended in
     let after = second before.0 in
     (after.0, after.1 ∙ before.1)
+
+-- half-way through a line: its bytes so far, and where the reader of lines, its input and the writer
+-- came from and stand
+pub record IsHalfway {R : Type 0} (before now : Waiting) (from to : R)
+    (read rest written held : Option (List ℕ)) (line : List ℕ) (at : ℕ) : Type 0 where
+  pub in_line : IsInLine (left_of before read) (left_of now rest) line at
+  pub knows : KnowsEnd now rest
+  pub quiet : IsQuiet before now from to
+  pub kept : Keeps written held
+
+-- and one byte more
+module _ {R : Type 0} {before now : Waiting} {from to : R}
+    {read rest written held : Option (List ℕ)} {line : List ℕ} {at : ℕ}
+    (so_far : IsHalfway before now from to read rest written held line at) where
+  pub halfway-more : (byte : ℕ) → at < 23 → byte ≢ 10 → (taken : Option ℕ) → taken ≡ Some byte
+      → (after : Waiting) (end : R) (left kept : Option (List ℕ))
+      → TakesByte (left_of now rest) (left_of after left) taken → KnowsEnd after left
+      → IsQuiet now after to end → Keeps held kept
+      → IsHalfway before after from end read left written kept (set line at byte) (at + 1)
+  halfway-more byte below other taken is after end left kept takes knows quiet keeps = record {
+    in_line = in_line-more so_far.in_line _ byte below other (rw is at takes);
+    knows = knows;
+    quiet = quiet-trans before now after from to end so_far.quiet quiet;
+    kept = Keeps-trans written held kept so_far.kept keeps;
+  }
 
 -- the first line of a block is taken with its end
 pub TakesLine-in_block : (block : List ℕ) (n : ℕ) → IsFirstLine block n → (left : Option (List ℕ))

@@ -1,24 +1,31 @@
 -- From lines taken and carried out to what serving promises.
-use Rattle.std.proofs.Common.{◌≡◌, ℕ, ◌+◌, ◌^◌, ◌-◌, min, List, [], ◌∷◌, ◌++◌, length, map, Option, Some, None, refl, sym, ◌∙◌, ap, append-nil, length-append, arith}
+use Rattle.std.proofs.Common.{◌≡◌, ℕ, ◌+◌, ◌^◌, ◌-◌, min, List, [], ◌∷◌, ◌++◌, length, map, Option, Some, None, Result, Err, false, refl, sym, ◌∙◌, ap, append-nil, length-append, arith}
 use Rattle.std.specs.Io.KnownBytes.{Keeps, Appends, prepend_known}
+use Rattle.std.proofs.lemmas.Bool.{both_ways}
 use Rattle.fastbloom.specs.Filter.{Filter}
 use Rattle.fastbloom.specs.Laws.{JoinedListsLaw}
 use Rattle.bloom.specs.declared.engine.line.Line.{Line}
+use Rattle.bloom.specs.declared.engine.line_reader.Next.{Next}
 use Rattle.bloom.specs.declared.engine.line_reader.Next.TheVariants as next
+use Rattle.bloom.specs.declared.fault.Fault.{Fault}
+use Rattle.bloom.specs.declared.fault.Fault.TheVariants as fault
 use Rattle.bloom.specs.Lines.{lines_of, line_of}
-use Rattle.bloom.specs.Reading.{Ends, NextCommand}
+use Rattle.bloom.specs.Reading.{Ends, KnowsEnd, NextCommand, Waiting, left_of}
 use Rattle.bloom.specs.Served.{Carried, IsReadWhole, ServedAll, ServedUpTo}
 use Rattle.bloom.proofs.BadLineLemmas.{upto}
 use Rattle.bloom.proofs.CarriedLemmas.{Carried-nil, Carried-more}
 use Rattle.bloom.proofs.TakenLemmas.{TakesGood, TakesGood-nil, TakesGood-more}
 
--- half-way through serving: these lines were taken and carried out, and the next has this number
-pub record IsUnderWay {S : Type 0} (read left : Option (List ℕ)) (old now : Filter S)
-    (from to : Option (List ℕ)) (number : ℕ) : Type 0 where
+-- half-way through serving: these lines were taken and carried out, the next has this number, and
+-- the reader of lines and its input stand where those leave them
+pub record IsServing {S : Type 0} (read : Option (List ℕ)) (old : Filter S)
+    (from : Option (List ℕ)) (waiting : Waiting) (rest : Option (List ℕ)) (now : Filter S)
+    (to : Option (List ℕ)) (number : ℕ) : Type 0 where
   pub lines : List Line
   pub carried : Carried old now from to lines
-  pub taken : TakesGood read left lines
+  pub taken : TakesGood read (left_of waiting rest) lines
   pub counted : number ≡ min (length lines + 1) (2 ^ 64 - 1)
+  pub knows : KnowsEnd waiting rest
 
 -- bytes that were appended stay
 Appends-kept : (a b c : Option (List ℕ)) (bytes : List ℕ) → Appends a b bytes → Keeps b c
@@ -55,54 +62,69 @@ IsReadWhole-from (Some x) (Some z) (Some y) block lines p q =
     nil-back [] ys none = none
     nil-back (x ∷ xs) ys none = cc
 
-module _ {S : Type 0} (read : Option (List ℕ)) (old : Filter S) (from : Option (List ℕ)) where
-  -- nothing was taken yet
-  pub under_way-nil : (block : List ℕ) → block ≡ []
-      → IsUnderWay read (prepend_known block read) old old from from 1
-  under_way-nil block empty = record {
-    lines = [];
-    carried = Carried-nil old from;
-    taken = TakesGood-nil block read empty;
-    counted = refl;
+-- nothing was taken yet
+pub serving_nothing : {S : Type 0} (read from : Option (List ℕ)) (filter : Filter S)
+    (waiting : Waiting) → waiting.bytes ≡ [] → waiting.ended ≡ false
+    → IsServing read filter from waiting read filter from 1
+serving_nothing read from filter waiting empty untold = record {
+  lines = [];
+  carried = Carried-nil filter from;
+  taken = TakesGood-nil waiting.bytes read empty;
+  counted = refl;
+  knows = λ told. absurd (both_ways waiting.ended untold told);
+}
+
+-- half-way, after a flush, and the next line
+module _ {S : Type 0} {read : Option (List ℕ)} {old : Filter S} {from : Option (List ℕ)}
+    {waiting : Waiting} {rest : Option (List ℕ)} {now : Filter S} {to : Option (List ℕ)}
+    {number : ℕ} (so_far : IsServing read old from waiting rest now to number)
+    (kept : Option (List ℕ)) (keeps : Keeps to kept) (after : Waiting) (left : Option (List ℕ))
+    (came : Next) (is_next : NextCommand (left_of waiting rest) (left_of after left) came) where
+  -- what lines did so far, after the flush
+  carried : Carried old now from kept so_far.lines
+  carried = Carried-kept old now from to kept so_far.lines so_far.carried keeps
+
+  -- one more good line was taken and carried out
+  pub serving_more : (line : Line) (new : Filter S) (end : Option (List ℕ)) (more : ℕ)
+      → came ≡ next.Good line → KnowsEnd after left → JoinedListsLaw S
+      → Carried now new kept end (line ∷ []) → more ≡ min (number + 1) (2 ^ 64 - 1)
+      → IsServing read old from after left new end more
+  serving_more line new end more good knows joins one count =
+      let took = rw good at is_next in
+      record {
+        lines = so_far.lines ++ line ∷ [];
+        carried = Carried-more joins old now new from kept end so_far.lines line carried one;
+        taken =
+            TakesGood-more read (left_of waiting rest) (left_of after left) so_far.lines took.0 line
+            so_far.taken took.1 took.2;
+        counted = simp length-append (omega (arith, count, so_far.counted));
+        knows = knows;
+      }
+
+  -- nothing is left
+  pub served_all : came ≡ next.End → ServedAll read left old now from kept
+  served_all end = record {
+    lines = so_far.lines;
+    carried = carried;
+    whole =
+        IsReadWhole-from read left (left_of waiting rest) after.bytes so_far.lines so_far.taken
+        (rw end at is_next);
   }
 
-  module _ (now : Filter S) (to kept : Option (List ℕ)) (mid : Option (List ℕ)) (number : ℕ)
-      (so_far : IsUnderWay read mid old now from to number) (keeps : Keeps to kept) where
-    -- one more good line was taken and carried out
-    pub under_way-more : JoinedListsLaw S
-        → (left : Option (List ℕ)) (new : Filter S) (end : Option (List ℕ)) (line : Line) (more : ℕ)
-        → NextCommand mid left (next.Good line) → Carried now new kept end (line ∷ [])
-        → more ≡ min (number + 1) (2 ^ 64 - 1)
-        → IsUnderWay read left old new from end more
-    under_way-more joins left new end line more good one count = record {
-      lines = so_far.lines ++ line ∷ [];
-      carried =
-          Carried-more joins old now new from kept end so_far.lines line
-          (Carried-kept old now from to kept so_far.lines so_far.carried keeps) one;
-      taken = TakesGood-more read mid left so_far.lines good.0 line so_far.taken good.1 good.2;
-      counted = simp length-append (omega (arith, count, so_far.counted));
-    }
-
-    -- nothing is left
-    pub served_all : (left : Option (List ℕ)) (block : List ℕ)
-        → NextCommand mid (prepend_known block left) next.End
-        → ServedAll read left old now from kept
-    served_all left block end = record {
-      lines = so_far.lines;
-      carried = Carried-kept old now from to kept so_far.lines so_far.carried keeps;
-      whole = IsReadWhole-from read left mid block so_far.lines so_far.taken end;
-    }
-
-    -- the next line isn't good
-    pub served_upto : (left : Option (List ℕ)) (block : List ℕ) (n : ℕ) → number ≡ n
-        → NextCommand mid (prepend_known block left) next.Bad
-        → ServedUpTo n read left old now from kept
-    served_upto left block n same bad = record {
-      lines = so_far.lines;
-      carried = Carried-kept old now from to kept so_far.lines so_far.carried keeps;
-      number = sym same ∙ so_far.counted;
-      upto = upto read mid left block so_far.lines so_far.taken bad;
-    }
+  -- the next line isn't good
+  pub served_upto : came ≡ next.Bad → (n : ℕ)
+      → ◌≡◌ {A = Result (Unit {0}) Fault} (Err (fault.Line number)) (Err (fault.Line n))
+      → ServedUpTo n read left old now from kept
+  served_upto bad n same =
+      let is : number ≡ n = cc in
+      record {
+        lines = so_far.lines;
+        carried = carried;
+        number = sym is ∙ so_far.counted;
+        upto =
+            upto read (left_of waiting rest) left after.bytes so_far.lines so_far.taken
+            (rw bad at is_next);
+      }
 
 -- a flush changes nothing of what was written
 pub served_upto-kept : {S : Type 0} (n : ℕ) (read left : Option (List ℕ)) (old new : Filter S)

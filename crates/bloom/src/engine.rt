@@ -36,6 +36,7 @@ fn serve_line<W: Write>(filter: &mut BloomFilter, line: Line, output: &mut W) ->
 }
 
 // Serves each line of the input, of which nothing was read yet.
+#[tactic(auto, using(crate::proofs::ServedLemmas::serving_nothing))]
 fn serve_lines<R: Read, W: Write>(
     lines: &mut LineReader,
     filter: &mut BloomFilter,

@@ -6,6 +6,7 @@ ghost use Rattle.bloom.specs.Lines.{number_of};
 const MOST_DIGITS: usize = 20;
 
 /// The number that a text of 1 to 20 decimal digits is, if it is below 2^64.
+#[tactic(auto, using(crate::proofs::NumberLemmas::no_numbers))]
 pub fn number(text: &[u8]) -> Option<u64>
     ensures { result ≡ number_of text.now }
 {

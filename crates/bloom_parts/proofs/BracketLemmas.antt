@@ -6,7 +6,7 @@ use Rattle.std.proofs.lemmas.Grind.{div_ceil_times}
 use Rattle.std.proofs.lemmas.Nat.{mul-le, div_below}
 use Rattle.bloom_parts.specs.declared.math.bracket.Bracket.{Bracket}
 use Rattle.bloom_parts.specs.Powers.{lower_power_of, upper_power_of}
-use Rattle.bloom_parts.specs.Brackets.{width_of, Holds, HoldsDensity, density_low, density_high}
+use Rattle.bloom_parts.specs.Brackets.{low_of, high_of, width_of, Holds, HoldsDensity, density_low, density_high}
 use Rattle.bloom_parts.proofs.EndLemmas.{lower-holds, upper-holds, ends-apart, ends-ordered, upper-none}
 use Rattle.bloom_parts.proofs.RoundingLemmas.{div_ceil-le}
 use Rattle.bloom_parts.proofs.PowerWidths.{AreApart}
@@ -56,10 +56,14 @@ sets-fit hashes items hashes_fit items_fit =
     omega (arith, mul-le hashes items (2 ^ 32) (2 ^ 64) few many)
 
 -- what the bracket of a density promises
-pub record IsDensity (bracket : Bracket) (b t : ℕ) : Type 0 where
-  pub holds : HoldsDensity bracket b t
-  pub width : 0 < t → width_of bracket ≤ 2 * t - 1
-  pub width_none : t ≡ 0 → width_of bracket ≡ 0
+abbrev pub IsDensity : Bracket → ℕ → ℕ → Type 0
+IsDensity bracket b t = record {
+  holds : HoldsDensity bracket b t;
+  low : low_of bracket ≡ density_low b t;
+  high : high_of bracket ≡ density_high b t;
+  width : 0 < t → width_of bracket ≤ 2 * t - 1;
+  width_none : t ≡ 0 → width_of bracket ≡ 0;
+}
 
 module _ (b t : ℕ) (some : 0 < b) (fits : t < 2 ^ 128) where
   -- what is on is ordered, since what stays off is
@@ -89,6 +93,8 @@ module _ (b t : ℕ) (some : 0 < b) (fits : t < 2 ^ 128) where
               rw high_is (missing-above (2 ^ 63) (lower_power_of off_low t) (b ^ t) ((b - 1) ^ t)
               apart.low_fits less (lower-holds off_low t (b - 1) b fits kept.below));
         };
+        low = low_is;
+        high = high_is;
         width = λ above.
             omega (arith, low_is, high_is, apart.some above, apart.low_fits, apart.high_fits);
         width_none = λ none.
@@ -96,10 +102,14 @@ module _ (b t : ℕ) (some : 0 < b) (fits : t < 2 ^ 128) where
       }
 
 -- what the bracket of a power promises of the one of its base
-pub record IsPower (base bracket : Bracket) (k : ℕ) : Type 0 where
-  pub holds : (p q : ℕ) → 0 < q → Holds base p q → Holds bracket (p ^ k) (q ^ k)
-  pub width : width_of bracket ≤ k * (width_of base + 1)
-  pub width_none : 0 < k → base.high ≡ 0 → width_of bracket ≡ 0
+abbrev pub IsPower : Bracket → Bracket → ℕ → Type 0
+IsPower base bracket k = record {
+  holds : (p q : ℕ) → 0 < q → Holds base p q → Holds bracket (p ^ k) (q ^ k);
+  low : low_of bracket ≡ lower_power_of (low_of base) k;
+  high : high_of bracket ≡ upper_power_of (high_of base) k;
+  width : width_of bracket ≤ k * (width_of base + 1);
+  width_none : 0 < k → high_of base ≡ 0 → width_of bracket ≡ 0;
+}
 
 module _ (base : Bracket) (k : ℕ) (fits : k < 2 ^ 128) where
   -- the lower power of the lower bound is at most the upper power of the upper one
@@ -121,6 +131,8 @@ module _ (base : Bracket) (k : ℕ) (fits : k < 2 ^ 128) where
           at_least = rw low_is (lower-holds base.low k p q fits is.at_least);
           at_most = rw high_is (upper-holds base.high k p q fits is.at_most);
         };
+        low = low_is;
+        high = high_is;
         width = omega (arith, low_is, high_is, within k apart);
         width_none = λ some none.
             let nothing : upper_power_of base.high k ≡ 0 = rw none (upper-none k fits some) in

@@ -160,6 +160,11 @@ stores buffer count bytes word small few counted is stored =
     ∙ take-append_seam bytes _ in
     record { padding = whole ∙ ap padded (sym held); held = held }
 
+-- as many bytes of a buffer count as were taken in since the last whole word
+pub length-held_in : (buffer : List ℕ) (count : ℕ) → length buffer ≡ 8
+    → length (held_in buffer count) ≡ count % 8
+length-held_in buffer count eight = simp length-take (omega arith)
+
 -- what a buffer holds
 pub record Holds (buffer : List ℕ) (count : ℕ) : Type 0 where
   pub few : length (held_in buffer count) ≡ count % 8
@@ -170,7 +175,7 @@ pub record Holds (buffer : List ℕ) (count : ℕ) : Type 0 where
 pub holds : (buffer : List ℕ) (count : ℕ) → length buffer ≡ 8 → IsPadded buffer count
     → AreBytes buffer → Holds buffer count
 holds buffer count eight padding small =
-    let few : length (held_in buffer count) ≡ count % 8 = simp length-take (omega arith) in
+    let few = length-held_in buffer count eight in
     record {
       few = few;
       bytes = AreBytes-take (count % 8) buffer small;

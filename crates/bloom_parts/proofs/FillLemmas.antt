@@ -1,98 +1,109 @@
 -- What a hasher is after bytes that don't go past the end of the word begun.
-use Rattle.std.proofs.Common.{◌≡◌, ℕ, ◌+◌, ◌%◌, ◌*◌, ◌^◌, ◌<◌, ◌≤◌, ◌++◌, List, [], ◌∷◌, length, take, get_or, bit_or, arith, ap, sym, ◌∙◌, take_all, length-append}
+use Rattle.std.proofs.Common.{◌≡◌, ◌≢◌, ℕ, ◌+◌, ◌%◌, ◌*◌, ◌^◌, ◌<◌, ◌≤◌, ◌++◌, List, [], ◌∷◌, length, take, get_or, bit_or, arith, ap, sym, ◌∙◌, take_all, length-append}
 use Rattle.std.proofs.lemmas.List.{append-nil}
 use Rattle.std.specs.Int.{w64, from_le_bytes, to_le_bytes}
-use Rattle.bloom_parts.specs.Buffers.{AreBytes, held_in, IsPadded}
+use Rattle.bloom_parts.specs.Buffers.{AreBytes, held_in}
 use Rattle.bloom_parts.specs.Hashed.{SipState, write}
 use Rattle.bloom_parts.specs.Sip.{Words, absorb}
-use Rattle.bloom_parts.proofs.BufferLemmas.{Holds, holds, Stores, stores, next-byte, AreBytes-append}
+use Rattle.bloom_parts.proofs.BufferLemmas.{Holds, Stores, stores, next-byte, AreBytes-append}
 use Rattle.bloom_parts.proofs.HashedLemmas.{write-few, write-full}
 
 -- the number of the bytes held and of the first i that come, and how many these are
-pub record IsFilled (old : SipState) (bytes : List ℕ) (i word held : ℕ) : Type 0 where
-  pub at : held ≡ length old.held + i
-  pub value : word ≡ from_le_bytes w64 (old.held ++ take i bytes)
+pub record IsFilled (buffer : List ℕ) (count : ℕ) (bytes : List ℕ) (i word held : ℕ) : Type 0 where
+  pub before : Holds buffer count
+  pub at : held ≡ length (held_in buffer count) + i
+  pub value : word ≡ from_le_bytes w64 (held_in buffer count ++ take i bytes)
 
--- a hasher, its buffer, and bytes
-module _ (old : SipState) (buffer : List ℕ) (eight : length buffer ≡ 8)
-    (padding : IsPadded buffer old.count) (all_bytes : AreBytes buffer)
-    (same : old.held ≡ held_in buffer old.count) (bytes : List ℕ) (small : AreBytes bytes) where
-  -- what the buffer holds
-  before : Holds buffer old.count
-  before = holds buffer old.count eight padding all_bytes
+-- the number of these, which are bytes
+abbrev pub IsNumberOf : List ℕ → ℕ → Type 0
+IsNumberOf bytes word = record {
+  value : word ≡ from_le_bytes w64 bytes;
+  bytes : AreBytes bytes;
+}
 
-  -- as many bytes are held as the length says
-  held-size : length old.held ≡ old.count % 8
-  held-size = omega (arith, ap length same, before.few)
-
-  -- the bytes held are bytes
-  held-bytes : AreBytes old.held
-  held-bytes = rw same before.bytes
-
+-- a buffer, and the bytes that come
+module _ (buffer : List ℕ) (count : ℕ) (bytes : List ℕ) where
   -- before the first byte that comes
-  pub filled-start : (word held : ℕ) → word ≡ from_le_bytes w64 buffer → held ≡ old.count % 8 →
-      IsFilled old bytes 0 word held
-  filled-start word held is count = record {
-    at = omega (arith, count, held-size);
-    value = is ∙ before.value ∙ ap (from_le_bytes w64) (sym same ∙ sym (append-nil old.held));
+  pub filled-start : (word held : ℕ) → Holds buffer count → word ≡ from_le_bytes w64 buffer →
+      held ≡ count % 8 → IsFilled buffer count bytes 0 word held
+  filled-start word held before is counted = record {
+    before = before;
+    at = omega (arith, counted, before.few);
+    value = is ∙ before.value ∙ ap (from_le_bytes w64) (sym (append-nil (held_in buffer count)));
   }
 
   -- one byte more
-  pub filled-next : (i word held : ℕ) → IsFilled old bytes i word held → i < length bytes →
-      length old.held + length bytes ≤ 8 →
-      IsFilled old bytes (i + 1)
+  pub filled-next : (i word held : ℕ) → AreBytes bytes → IsFilled buffer count bytes i word held →
+      i < length bytes → count % 8 + length bytes ≤ 8 →
+      IsFilled buffer count bytes (i + 1)
       (bit_or word (get_or bytes i 0 * 2 ^ (8 * held) % 2 ^ 64)) (held + 1)
-  filled-next i word held is within room = record {
+  filled-next i word held small is within room = record {
+    before = is.before;
     at = omega (arith, is.at);
-    value = next-byte old.held bytes i word held held-bytes small within room is.value is.at;
+    value =
+        next-byte (held_in buffer count) bytes i word held is.before.bytes small within
+        (omega (arith, is.before.few, room)) is.value is.at;
   }
 
-  -- after the last byte
-  module _ (i word held : ℕ) (is : IsFilled old bytes i word held) (within : i ≤ length bytes)
-      (all : length bytes ≤ i) where
-    -- all bytes are in the number
-    all-in : word ≡ from_le_bytes w64 (old.held ++ bytes)
-    all-in = is.value ∙ ap (λ more. from_le_bytes w64 (old.held ++ more)) (take_all i bytes all)
+  -- after the last byte all are in the number
+  pub filled-all : (i word held : ℕ) → AreBytes bytes → IsFilled buffer count bytes i word held →
+      length bytes ≤ i → IsNumberOf (held_in buffer count ++ bytes) word
+  filled-all i word held small is all = record {
+    value =
+        is.value
+        ∙ ap (λ more. from_le_bytes w64 (held_in buffer count ++ more)) (take_all i bytes all);
+    bytes = AreBytes-append (held_in buffer count) bytes is.before.bytes small;
+  }
 
-    -- the length loses nothing where it is counted in 64 bits
-    counted : (old.count + length bytes) % 2 ^ 64 % 256 ≡ (old.count + length bytes) % 256
-    counted = omega arith
+-- the length after bytes, as the code counts it
+abbrev pub count_after : SipState → List ℕ → ℕ
+count_after h bytes = (h.count + length bytes) % 2 ^ 64 % 256
 
-    -- where they are fewer than eight, a buffer with the number's bytes is these bytes, and zeros
-    module _ (few : held < 8) (after : List ℕ) (stored : after ≡ to_le_bytes w64 word) where
-      pub stored-few : Stores after ((old.count + length bytes) % 2 ^ 64 % 256) (old.held ++ bytes)
-      stored-few =
-          let size = length-append old.held bytes in
-          stores after _ (old.held ++ bytes) word (AreBytes-append old.held bytes held-bytes small)
-          (omega (arith, size, few, is.at, all)) (omega (arith, size, few, is.at, all, held-size))
-          all-in stored
+-- a hasher as it was given and as it is opened, bytes, and the number of those held and of these
+module _ (old h : SipState) (view : h ≡ old) (size : length h.held ≡ h.count % 8)
+    (bytes : List ℕ) (room : length old.held + length bytes ≤ 8) (word : ℕ)
+    (is : IsNumberOf (h.held ++ bytes) word) where
+  -- the length loses nothing where it is counted in 64 bits
+  counted : count_after h bytes ≡ (h.count + length bytes) % 256
+  counted = omega arith
 
-      -- so the hasher has taken them in
-      pub filled-few : record old {
-        held = held_in after ((old.count + length bytes) % 2 ^ 64 % 256);
-        count = (old.count + length bytes) % 2 ^ 64 % 256;
+  -- how many bytes these are
+  joined : length (h.held ++ bytes) ≡ h.count % 8 + length bytes
+  joined = omega (arith, length-append h.held bytes, size)
+
+  -- where they are fewer than eight, a buffer with the number's bytes is these bytes, and zeros
+  module _ (other : h.count % 8 + length bytes ≢ 8) (after : List ℕ)
+      (stored : after ≡ to_le_bytes w64 word) where
+    -- so they are
+    few : length (h.held ++ bytes) < 8
+    few = omega (arith, other, room, joined, size, ap (λ x. length x.held) view)
+
+    pub stored-few : Stores after (count_after h bytes) (h.held ++ bytes)
+    stored-few =
+        stores after (count_after h bytes) (h.held ++ bytes) word is.bytes few
+        (omega (arith, few, joined)) is.value stored
+
+    -- so the hasher has taken them in
+    pub filled-few : record h {
+      held = held_in after (count_after h bytes);
+      count = count_after h bytes;
+    } ≡ write old bytes
+    filled-few =
+        (λ j. record h { held = stored-few.held j; count = counted j })
+        ∙ sym (write-few h bytes few) ∙ ap (λ x. write x bytes) view
+
+  -- where they are eight, the number is taken in as a word, and none is held
+  pub filled-full : h.count % 8 + length bytes ≡ 8 → (words : Words) → words ≡ absorb h.words word →
+      record h {
+        words = words;
+        held = held_in (0 ∷ 0 ∷ 0 ∷ 0 ∷ 0 ∷ 0 ∷ 0 ∷ 0 ∷ []) (count_after h bytes);
+        count = count_after h bytes;
       } ≡ write old bytes
-      filled-few =
-          let size = length-append old.held bytes in
-          (λ j. record old { held = stored-few.held j; count = counted j })
-          ∙ sym (write-few old bytes (omega (arith, size, few, is.at, all)))
-
-    -- where they are eight, the number is taken in as a word, and none is held
-    pub filled-full : held ≡ 8 → (words : Words) → words ≡ absorb old.words word →
-        record old {
-          words = words;
-          held =
-              held_in (0 ∷ 0 ∷ 0 ∷ 0 ∷ 0 ∷ 0 ∷ 0 ∷ 0 ∷ [])
-              ((old.count + length bytes) % 2 ^ 64 % 256);
-          count = (old.count + length bytes) % 2 ^ 64 % 256;
-        } ≡ write old bytes
-    filled-full full words taken =
-        let size = length-append old.held bytes in
-        let none : (old.count + length bytes) % 2 ^ 64 % 256 % 8 ≡ 0 =
-        omega (arith, full, is.at, all, within, held-size) in
-        (λ j. record old {
-          words = taken j;
-          held = take (none j) (0 ∷ 0 ∷ 0 ∷ 0 ∷ 0 ∷ 0 ∷ 0 ∷ 0 ∷ []);
-          count = counted j;
-        })
-        ∙ sym (write-full old bytes word (omega (arith, size, full, is.at, all, within)) all-in)
+  filled-full full words taken =
+      let none : count_after h bytes % 8 ≡ 0 = omega (arith, full) in
+      (λ j. record h {
+        words = taken j;
+        held = take (none j) (0 ∷ 0 ∷ 0 ∷ 0 ∷ 0 ∷ 0 ∷ 0 ∷ 0 ∷ []);
+        count = counted j;
+      })
+      ∙ sym (write-full h bytes word (joined ∙ full) is.value) ∙ ap (λ x. write x bytes) view

@@ -22,7 +22,7 @@ digits-enough e fits =
     rw same below
 
 -- an exponent has no more digits than it is given room for
-pub digits-needed : (e digits : ℕ) → e < 2 ^ 128 → e < 2 ^ digits → digits_of e ≤ digits
+digits-needed : (e digits : ℕ) → e < 2 ^ 128 → e < 2 ^ digits → digits_of e ≤ digits
 digits-needed e digits fits below =
     let (m, sum, _, tight) = leading_length 128 e fits in
     elim (cases_lt digits m) as (λ _. digits_of e ≤ digits) [
@@ -43,12 +43,20 @@ pub record IsSoFar (whole : ℕ) (product : ℕ → ℕ → ℕ) (base e i power
   pub products : count ≤ 2 * (digits_of e - i)
   pub fits : power ≤ whole
 
+-- a product that was rounded and counted
+abbrev pub IsProduct : ℕ → (ℕ → ℕ → ℕ) → ℕ → ℕ → ℕ → ℕ → ℕ → Type 0
+IsProduct whole product x y result before after = record {
+  value : result ≡ product x y;
+  fits : result ≤ whole;
+  products : after ≡ before + 1;
+}
+
 module _ (whole : ℕ) (product : ℕ → ℕ → ℕ) (base e : ℕ) where
   -- no digit at all: the power is one whole
-  pub power-start : (count : ℕ) → count ≡ 0 →
+  pub power-start : {count : ℕ} → count ≡ 0 →
       IsSoFar whole product base e (digits_of e) whole count
   unfolding rounded_power
-  power-start count none = record {
+  power-start none = record {
     value =
         let no_digit : digits_of e - digits_of e ≡ 0 = omega arith in
         rw no_digit refl;
@@ -68,31 +76,33 @@ module _ (whole : ℕ) (product : ℕ → ℕ → ℕ) (base e : ℕ) where
       let half : e / 2 ^ (i - 1) / 2 ≡ e / 2 ^ i = shr-shr e (i - 1) 1 ∙ rw place refl in
       rw (digits, half, is) refl
 
-  -- a place above the lowest, and the power down to it
-  module _ (i power count : ℕ) (some : 0 < i) (within : i ≤ digits_of e)
-      (is : IsSoFar whole product base e i power count) (square : ℕ)
-      (first : square ≡ product power power) where
+  -- a place above the lowest, the power down to it, and its square
+  module _ {i power count square next : ℕ} (is : IsSoFar whole product base e i power count)
+      (some : 0 < i) (within : i ≤ digits_of e)
+      (squared : IsProduct whole product power power square count next) where
     -- where the digit below is 1, the power is squared and multiplied
-    pub power-one : (times more : ℕ) → e / 2 ^ (i - 1) % 2 ≡ 1 → times ≡ product square base →
-        times ≤ whole → more ≡ count + 2 → IsSoFar whole product base e (i - 1) times more
-    power-one times more digit second fits counted =
+    pub power-one : {times more : ℕ} → e / 2 ^ (i - 1) % 2 ≡ 1 →
+        IsProduct whole product square base times next more →
+        IsSoFar whole product base e (i - 1) times more
+    power-one digit multiplied =
         let next = power-next i power some within is.value in
         record {
-          value = second ∙ rw first (sym (rw digit at next));
-          products = omega (arith, counted, is.products, some, within);
-          fits = fits;
+          value = multiplied.value ∙ rw squared.value (sym (rw digit at next));
+          products =
+              omega (arith, multiplied.products, squared.products, is.products, some, within);
+          fits = multiplied.fits;
         }
 
     -- where it is 0, the power is squared
-    pub power-zero : (more : ℕ) → (e / 2 ^ (i - 1) % 2 ≡ 1 → ⊥) → square ≤ whole →
-        more ≡ count + 1 → IsSoFar whole product base e (i - 1) square more
-    power-zero more other fits counted =
+    pub power-zero : (e / 2 ^ (i - 1) % 2 ≡ 1 → ⊥) →
+        IsSoFar whole product base e (i - 1) square next
+    power-zero other =
         let next = power-next i power some within is.value in
         let digit : e / 2 ^ (i - 1) % 2 ≡ 0 = omega (arith, other) in
         record {
-          value = first ∙ sym (rw digit at next);
-          products = omega (arith, counted, is.products, some, within);
-          fits = fits;
+          value = squared.value ∙ sym (rw digit at next);
+          products = omega (arith, squared.products, is.products, some, within);
+          fits = squared.fits;
         }
 
   -- high digits that are zero change nothing, since one whole times one whole is one whole
@@ -116,12 +126,21 @@ module _ (whole : ℕ) (product : ℕ → ℕ → ℕ) (base e : ℕ) where
     more-digits (suc n) (suc m) d more below =
         rw (more-digits n m (d / 2) (omega arith) (half-below n d below)) refl
 
-    -- with no digit left out, it is the power
-    pub power-end : (i power count : ℕ) → e < 2 ^ 128 → i ≤ 0 →
-        IsSoFar whole product base e i power count → power ≡ rounded_power whole product base 128 e
-    power-end i power count fits last is =
+    -- with no digit left out, it is the power, with at most two products for each digit
+    pub power-end : {i power count : ℕ} → IsSoFar whole product base e i power count →
+        e < 2 ^ 128 → i ≤ 0 → record {
+          value : power ≡ rounded_power whole product base 128 e;
+          fits : power ≤ whole;
+          products : (digits : ℕ) → e < 2 ^ digits → count ≤ 2 * digits;
+        }
+    power-end {i} is fits last =
         let none : i ≡ 0 = omega arith in
         let all : digits_of e - i ≡ digits_of e = omega arith in
         let same : e / 2 ^ i ≡ e = rw none (div-one e) in
         let more = more-digits (digits_of e) 128 e (omega arith) (digits-enough e fits) in
-        is.value ∙ rw (all, same) (sym more)
+        record {
+          value = is.value ∙ rw (all, same) (sym more);
+          fits = is.fits;
+          products = λ digits below.
+              omega (arith, is.products, digits-needed e digits fits below);
+        }

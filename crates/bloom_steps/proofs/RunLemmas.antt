@@ -13,6 +13,7 @@ pub mod Follows
 pub mod Found
 pub mod Gained
 pub mod Grows
+pub mod Happens
 pub mod Inserts
 pub mod Lawful
 pub mod Masks
@@ -29,5 +30,6 @@ pub mod RecordedCalls
 pub mod RunningCalls
 pub mod Slots
 pub mod Taken
+pub mod Told
 pub mod UniqueSteps
 pub mod Worlds

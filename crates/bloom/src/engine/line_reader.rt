@@ -11,6 +11,9 @@ use std::alloc::Global;
 use std::io::{Read, Write};
 use std::marker::Model;
 
+// As many bytes of one line are too many for a good one.
+const TOO_LONG: usize = LONGEST + 1;
+
 /// What the next line comes to.
 #[derive(Clone, Copy)]
 pub enum Next {
@@ -79,7 +82,8 @@ impl LineReader {
         }
     }
 
-    // What the next line asks for, read byte by byte, of which there are 23 in a line too long.
+    // What the next line asks for, read byte by byte, up to the first that makes it too long.
+    #[tactic(auto, using(crate::proofs::ReadingLemmas::next_long))]
     fn across_blocks<R: Read, W: Write>(
         &mut self,
         input: &mut R,
@@ -94,8 +98,8 @@ impl LineReader {
         ensures kept { Keeps (W.contents output.old) (W.contents output.new) }
         ensures fault { IfErr result IsOfStream }
     {
-        let mut line = [0u8; LONGEST];
-        'bytes: for at in 0..LONGEST {
+        let mut line = [0u8; TOO_LONG];
+        'bytes: for at in 0..TOO_LONG {
             match self.next_byte(input, output)? {
                 None if at == 0 => return Ok(Next::End),
                 None => return Ok(asked(&line[..at])),
@@ -103,11 +107,7 @@ impl LineReader {
                 Some(byte) => line[at] = byte,
             }
         }
-        match self.next_byte(input, output)? {
-            None => Ok(asked(&line)),
-            Some(b'\n') => Ok(asked(&line)),
-            Some(_) => Ok(Next::Bad),
-        }
+        Ok(Next::Bad)
     }
 
     /// Reads the next line, and what it asks for. After the end it reads nothing.

@@ -1,8 +1,8 @@
 //! The hasher of SipHash-1-3.
-ghost use Rattle.std.specs.Prelude.{◌≡◌, ℕ, ◌%◌, ◌∷◌, [], length, ◌≤◌, ◌+◌};
+ghost use Rattle.std.specs.Prelude.{◌≡◌, ℕ, ◌%◌, ◌∷◌, ◌++◌, [], length, ◌≤◌, ◌+◌};
 ghost use Rattle.std.specs.List.{concat};
 ghost use Rattle.std.specs.Int.{w64, from_le_bytes};
-ghost use Rattle.bloom_parts.specs.Buffers.{AreBytes};
+ghost use Rattle.bloom_parts.specs.Buffers.{AreBytes, IsPadded, held_in};
 ghost use Rattle.bloom_parts.specs.Hashed as hashed;
 ghost use Rattle.bloom_parts.specs.Hashed.{Hashed};
 ghost use Rattle.bloom_parts.specs.Keys.{key_low, key_high};
@@ -98,12 +98,8 @@ impl RandomDefaultHasher {
         requires { length self.old.held + length bytes.now ≤ 8 }
         ensures { self.new ≡ hashed.write self.old bytes.now }
     {
-        let mut word = number_of(self.rest);
-        let mut held = (self.length % 8) as u32;
-        'bytes: for byte in bytes {
-            word |= (*byte as u64) << (8 * held);
-            held += 1;
-        }
+        let word = number_with(self.rest, self.length, bytes);
+        let held = self.length % 8 + bytes.len() as u64;
         self.length = self.length.wrapping_add(bytes.len() as u64) % 256;
         if held == 8 {
             self.state.absorb(word);
@@ -149,6 +145,23 @@ fn number_of(buffer: [u8; 8]) -> u64
     ensures bytes { AreBytes buffer }
 {
     u64::from_le_bytes(buffer)
+}
+
+// The number of the bytes that a buffer holds and of more bytes behind them, with room for all.
+#[inline(always)]
+fn number_with(buffer: [u8; 8], count: u64, bytes: &[u8]) -> u64
+    requires padding { IsPadded buffer count }
+    requires room { count % 8 + length bytes.now ≤ 8 }
+    ensures value { result ≡ from_le_bytes w64 (held_in buffer count ++ bytes.now) }
+    ensures bytes { AreBytes (held_in buffer count ++ bytes.now) }
+{
+    let mut word = number_of(buffer);
+    let mut held = (count % 8) as u32;
+    'bytes: for byte in bytes {
+        word |= (*byte as u64) << (8 * held);
+        held += 1;
+    }
+    word
 }
 
 impl Default for RandomDefaultHasher {

@@ -1,6 +1,6 @@
 -- Events, one after the other, and what they add.
 use Rattle.bloom_steps.specs.declared.steps.runner.World.{World}
-use Rattle.std.proofs.Common.{[], ◌++◌, ◌+◌, ◌<◌, ◌∷◌, ◌≡◌, List, append_assoc, length, subst, sym, take, ℕ, ◌∙◌}
+use Rattle.std.proofs.Common.{[], ◌++◌, ◌+◌, ◌<◌, ◌∷◌, ◌≡◌, ◌≤◌, List, append_assoc, arith, length, subst, sym, take, vec_capacity, vec_len, ℕ, ◌∙◌}
 use Rattle.std.proofs.lemmas.List.{append-nil}
 use Rattle.std.proofs.lemmas.Option.{slice_get-get_or}
 use Rattle.std.specs.Prelude.{slice_index_or}
@@ -46,35 +46,52 @@ follows-next count parties schedule i d before after all within so grows =
     (subst (λ rs. FollowsFrom parties [] (take i schedule ++ event ∷ []) rs) (sym g.same)
     (follows-more parties [] (take i schedule) before event g.added so g.gives))
 
--- a run so far: its world is that of the events up to one, from given words
+-- a run so far: its world is that of the events up to one, from given words, and there is room for
+-- a record of each event that is left
 pub record HasRun
     (k count : ℕ) (words : List ℕ) (schedule : List Event) (i : ℕ) (now : World) : Type 0 where
   pub parties : length now.machines.items ≡ count
   pub start : now.start.items ≡ words
   pub world : IsWorldOf k now
   pub follows : FollowsFrom count [] (take i schedule) now.records.items
+  pub recorded : vec_len now.records ≤ i
+  pub room : length schedule ≤ vec_capacity now.records
 
 -- before the first event it has run
 pub run-first : (k parties : ℕ) (words : List ℕ) (schedule : List Event) (world : World)
     → IsWorldOf k world → length world.machines.items ≡ parties → world.start.items ≡ words
-    → world.records.items ≡ [] → HasRun k parties words schedule 0 world
-run-first k parties words schedule world is all start none = record {
+    → world.records.items ≡ [] → vec_len world.records ≡ 0
+    → length schedule ≤ vec_capacity world.records → HasRun k parties words schedule 0 world
+run-first k parties words schedule world is all start none empty room = record {
   parties = all;
   start = start;
   world = is;
   follows = subst (FollowsFrom parties [] []) (sym none) (no_event []);
+  recorded = omega (arith, empty);
+  room = room;
+}
+
+-- what one event does, with room for its record
+abbrev pub HappensInRoom : ℕ → Event → World → World → Type 0
+HappensInRoom k event old new = record {
+  happens : Happens k event old new;
+  capacity : vec_capacity new.records ≡ vec_capacity old.records;
+  count : vec_len new.records ≤ vec_len old.records + 1;
 }
 
 -- and after each event
 pub run-next : (k parties : ℕ) (words : List ℕ) (schedule : List Event) (i : ℕ) (d : Event)
     (old new : World)
     → i < length schedule → HasRun k parties words schedule i old
-    → Happens k (slice_index_or schedule i d) old new
+    → HappensInRoom k (slice_index_or schedule i d) old new
     → HasRun k parties words schedule (i + 1) new
 run-next k parties words schedule i d old new within before did = record {
-  parties = did.parties ∙ before.parties;
-  start = did.start ∙ before.start;
-  world = did.keeps;
+  parties = did.happens.parties ∙ before.parties;
+  start = did.happens.start ∙ before.start;
+  world = did.happens.keeps;
   follows =
-      follows-next _ parties schedule i d _ _ before.parties within before.follows did.grows;
+      follows-next _ parties schedule i d _ _ before.parties within before.follows
+      did.happens.grows;
+  recorded = omega (arith, before.recorded, did.count);
+  room = omega (arith, before.room, did.capacity);
 }

@@ -59,15 +59,6 @@ may_find-read A words given found (Zero i) all e fits = e
 may_find-read A words given found (Other i) all e fits = fits
 may_find-read A words given found (Take i) all e fits = is_word-read A words i found all e fits
 
--- a world of the same words and records
-pub world-same :
-    (k : ℕ) (start words other : List ℕ) (machines : List (Option Machine)) (rs qs : List Record)
-    → other ≡ words → qs ≡ rs → IsWorld k start words machines rs
-    → IsWorld k start other machines qs
-world-same k start words other machines rs qs e f world =
-    subst (λ l. IsWorld k start l machines qs) (sym e)
-    (subst (λ l. IsWorld k start words machines l) (sym f) world)
-
 -- a world, and a party of it
 module _ (k : ℕ) (start words : List ℕ) (machines : List (Option Machine)) (rs : List Record)
     (world : IsWorld k start words machines rs) (p : ℕ) (within : p < length machines) where

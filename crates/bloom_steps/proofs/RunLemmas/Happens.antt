@@ -1,0 +1,120 @@
+-- What an event does to the world of a run: a party begins a call, makes a step, or does nothing.
+use Rattle.std.proofs.Common.{[], ◌++◌, ◌<◌, ◌^◌, ◌∙◌, ◌∷◌, ◌≡◌, List, None, Option, Some, ap, arith, false, length, length-set, refl, slice_index_or, slice_set, true, vec_len, ℕ}
+use Rattle.std.specs.Vec.{with_item}
+use Rattle.bloom_steps.specs.declared.steps.machine.Machine.{Machine}
+use Rattle.bloom_steps.specs.declared.steps.runner.World.{World}
+use Rattle.bloom_steps.specs.declared.steps.vocabulary.Call.{Call}
+use Rattle.bloom_steps.specs.declared.steps.vocabulary.End.{End}
+use Rattle.bloom_steps.specs.declared.steps.vocabulary.Event.{Event}
+use Rattle.bloom_steps.specs.declared.steps.vocabulary.Event.TheVariants.{Begin, Go}
+use Rattle.bloom_steps.specs.declared.steps.vocabulary.Record.{Record}
+use Rattle.bloom_steps.specs.declared.steps.vocabulary.Record.TheVariants.{Began, Did}
+use Rattle.bloom_steps.specs.declared.steps.vocabulary.Step.{Step}
+use Rattle.bloom_steps.specs.Courses.{Gives}
+use Rattle.bloom_steps.specs.Machines.{AsksRight, StandsFurther}
+use Rattle.bloom_steps.specs.Memories.{found_in, words_after}
+use Rattle.bloom_steps.specs.Standing.{StandsAt, asks, end_of}
+use Rattle.bloom_steps.specs.Steps.{word_index}
+use Rattle.bloom_steps.specs.Worlds.{Happens, IsWorld, IsWorldOf, slot_runs}
+use Rattle.bloom_steps.proofs.RunLemmas.Events.{gives-begun, gives-busy, gives-idle, gives-step, grows-none, grows-one}
+use Rattle.bloom_steps.proofs.RunLemmas.Slots.{asks-going, asks-over, slot-read}
+use Rattle.bloom_steps.proofs.RunLemmas.Worlds.{begin_keeps, go_keeps, slot_same, step_inside}
+
+-- an event wrote these words, this machine into a party's slot, and one more record
+record Writes (old new : World) (p : ℕ) (words : List ℕ) (m : Machine) (r : Record) : Type 0
+  where
+    start : new.start.items ≡ old.start.items
+    now : new.words.items ≡ words
+    machines : new.machines.items ≡ slice_set old.machines.items p (Some m)
+    records : new.records.items ≡ old.records.items ++ r ∷ []
+
+-- a world, a party of it, and what was read at its slot
+module _ (k : ℕ) (world : World) (is : IsWorldOf k world) (p : ℕ)
+    (within : p < length world.machines.items) (slot : Option Machine)
+    (read : slot ≡ slice_index_or world.machines.items p slot) where
+  -- its slot
+  at : slice_index_or world.machines.items p None ≡ slot
+  at = slot-read world.machines.items p slot within read
+
+  -- what is written keeps the world, and adds what the event gives
+  happens-written : (new : World) (event : Event) (words : List ℕ) (m : Machine) (r : Record)
+      → Writes world new p words m r
+      → IsWorld k world.start.items words (slice_set world.machines.items p (Some m))
+      (world.records.items ++ r ∷ [])
+      → Gives (length world.machines.items) world.records.items event (r ∷ [])
+      → Happens k event world new
+  happens-written new event words m r writes keeps gives = record {
+    keeps = rw (writes.start, writes.now, writes.machines, writes.records) keeps;
+    start = writes.start;
+    parties = ap length writes.machines ∙ length-set world.machines.items p _;
+    grows = grows-one _ _ _ _ r writes.records gives;
+  }
+
+  -- where it runs a call it begins none
+  pub happens-busy : (call : Call) → slot_runs slot ≡ true → Happens k (Begin p call) world world
+  happens-busy call running = record {
+    keeps = is;
+    start = refl;
+    parties = refl;
+    grows = grows-none _ _ _ (gives-busy k world is p within slot at call running);
+  }
+
+  -- and else it begins one
+  pub happens-begun : (call : Call) (m : Machine) (new : World) (count : ℕ)
+      → slot_runs slot ≡ false → count ≡ vec_len world.words → StandsAt m count k call []
+      → new.start.items ≡ world.start.items → new.words.items ≡ world.words.items
+      → new.machines.items ≡ slice_set world.machines.items p (Some m)
+      → new.records.items ≡ world.records.items ++ Began p call ∷ []
+      → Happens k (Begin p call) world new
+  happens-begun call m new count idle counted stands start words machines more =
+      let all : count ≡ length world.words.items = omega (arith, counted) in
+      happens-written new (Begin p call) world.words.items m (Began p call)
+      (record { start = start; now = words; machines = machines; records = more })
+      (begin_keeps k _ _ _ _ is p within call m count all (ap slot_runs at ∙ idle) stands)
+      (gives-begun k world is p within slot at call idle)
+
+  -- where it has a machine
+  module _ (m : Machine) (here : slot ≡ Some m) where
+    -- the step asked for is on one of the words
+    pub step-within : (step : Step) → AsksRight m (Some step)
+        → word_index step < length world.words.items
+    step-within step asks_right = step_inside k _ _ _ _ is p within m step (at ∙ here) asks_right
+
+    -- where that asks for no step, none is made, and the machine is written back
+    pub happens-idle : (given : ℕ) → asks m ≡ None
+        → Happens k (Go p given) world
+        (record world { machines = with_item world.machines p (Some m) })
+    happens-idle given over = record {
+      keeps = slot_same k _ _ _ _ is p within m (at ∙ here);
+      start = refl;
+      parties = length-set world.machines.items p _;
+      grows =
+          grows-none _ _ _
+          (gives-idle k world is p within slot at given (ap slot_runs here ∙ asks-over m over));
+    }
+
+    -- and else it makes one
+    pub happens-step : (given word : ℕ) (step : Step) (n : Machine) (ended : End) (new : World)
+        → asks m ≡ Some step → AsksRight m (Some step) → StandsFurther m word n → ended ≡ end_of n
+        → record {
+          found : word ≡ found_in world.words.items given step;
+          words : new.words.items ≡ words_after world.words.items step;
+          fits : word < 2 ^ 64;
+        }
+        → new.start.items ≡ world.start.items
+        → new.machines.items ≡ slice_set world.machines.items p (Some n)
+        → new.records.items ≡ world.records.items ++ Did p step word ended ∷ []
+        → Happens k (Go p given) world new
+    happens-step given word step n ended new asked right further is_end made start machines more =
+        happens-written new (Go p given) (words_after world.words.items step) n
+        (Did p step word (end_of n))
+        (record {
+          start = start;
+          now = made.words;
+          machines = machines;
+          records = more ∙ ap (λ e. world.records.items ++ Did p step word e ∷ []) is_end;
+        })
+        (go_keeps k _ _ _ _ is p within given word step m n (at ∙ here) right asked made.found
+        made.fits further)
+        (gives-step k world is p within slot at given step word (end_of n)
+        (ap slot_runs here ∙ asks-going m step asked) made.found)

@@ -1,0 +1,70 @@
+-- What a finished run tells: all that is promised of its course.
+use Rattle.std.proofs.Common.{[], ◌≡◌, ◌≤◌, List, Ok, length, subst, sym, take_all, ℕ}
+use Rattle.std.specs.Prelude.{IsOkUnless}
+use Rattle.bloom_parts.specs.Content.{AreWords}
+use Rattle.bloom_parts.specs.declared.error.FilterError.TheVariants.{Memory}
+use Rattle.bloom_steps.specs.declared.steps.runner.World.{World}
+use Rattle.bloom_steps.specs.declared.steps.vocabulary.Event.{Event}
+use Rattle.bloom_steps.specs.Courses.{Course, Follows, FollowsFrom, IsLawful}
+use Rattle.bloom_steps.specs.Interleavings.{ContainsTell, CountsGains, EndsWithAll, FindsInserted, InsertsTell, TakesLoseNothing}
+use Rattle.bloom_steps.specs.Sequences.{ActsAsCommands}
+use Rattle.bloom_steps.proofs.RunLemmas.Commands.{acts_as_commands}
+use Rattle.bloom_steps.proofs.RunLemmas.Contains.{contains_tell}
+use Rattle.bloom_steps.proofs.RunLemmas.Follows.{HasRun}
+use Rattle.bloom_steps.proofs.RunLemmas.Found.{finds_inserted}
+use Rattle.bloom_steps.proofs.RunLemmas.Gained.{counts_gains}
+use Rattle.bloom_steps.proofs.RunLemmas.Grows.{ends_with_all}
+use Rattle.bloom_steps.proofs.RunLemmas.Inserts.{inserts_tell}
+use Rattle.bloom_steps.proofs.RunLemmas.Lawful.{lawful_world}
+use Rattle.bloom_steps.proofs.RunLemmas.Taken.{takes_lose_nothing}
+
+-- the clauses of a run that wasn't refused
+abbrev pub TellsAll : ℕ → ℕ → List ℕ → List Event → Course → Type 0
+TellsAll k parties words schedule run = record {
+  lawful : IsLawful k run;
+  follows : Follows parties words schedule run;
+  commands : ActsAsCommands k run;
+  inserts : InsertsTell run;
+  contains : ContainsTell k run;
+  found : FindsInserted k run;
+  grows : EndsWithAll k run;
+  gained : CountsGains run;
+  taken : TakesLoseNothing run;
+  refused : IsOkUnless (Ok run) Memory;
+}
+
+-- the course of a world
+abbrev pub course_of : World → Course
+course_of now =
+    record { start = now.start.items; records = now.records.items; words = now.words.items }
+
+-- a run after its last event
+module _ (k parties : ℕ) (words : List ℕ) (schedule : List Event) (i : ℕ) (now : World)
+    (so_far : HasRun k parties words schedule i now) (all : length schedule ≤ i) where
+  -- the records are those of the whole schedule
+  follows_all : FollowsFrom parties [] schedule now.records.items
+  follows_all =
+      subst (λ es. FollowsFrom parties [] es now.records.items) (take_all i schedule all)
+      so_far.follows
+
+  -- the course of its world tells all
+  pub tells_all : 1 ≤ length words → 1 ≤ k → (run : Course)
+      → record { parts : run ≡ course_of now; fit : AreWords now.words.items }
+      → TellsAll k parties words schedule run
+  tells_all some_words some_hashes run made =
+      subst (TellsAll k parties words schedule) (sym made.parts)
+      (let course = course_of now in
+      let lawful = lawful_world k course now.machines.items so_far.world made.fit in
+      let some : 1 ≤ length course.start = subst (λ l. 1 ≤ length l) (sym so_far.start) some_words in
+      record {
+        lawful = lawful;
+        follows = record { begins = so_far.start; events = follows_all };
+        commands = acts_as_commands k course lawful some some_hashes;
+        inserts = inserts_tell k course lawful some some_hashes;
+        contains = contains_tell k course lawful some some_hashes;
+        found = finds_inserted k course lawful some some_hashes;
+        grows = ends_with_all k course lawful;
+        gained = counts_gains k course lawful;
+        taken = takes_lose_nothing k course lawful;
+        refused = tt;
+      })
