@@ -2,6 +2,8 @@ mod AlgebraLemmas
 mod BuilderFacts
 mod BuilderLemmas
 mod CaseLemmas
+mod DataFacts
+mod DataLemmas
 mod FilterFacts
 mod FoundLemmas
 mod HashFacts

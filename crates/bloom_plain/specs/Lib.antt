@@ -1,5 +1,6 @@
 pub mod Builders
 pub mod CommandOf
+pub mod Data
 pub mod Filter
 pub mod Laws
 pub mod Replies

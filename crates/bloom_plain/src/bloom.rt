@@ -6,6 +6,7 @@ ghost use Rattle.bloom_plain.specs.Filter.{HasShape, num_bits_of, contains, Inse
 ghost use Rattle.bloom_plain.specs.Replies.{CarriesOut};
 
 mod command;
+mod data;
 mod items;
 mod positions;
 mod rates;
@@ -14,6 +15,7 @@ mod sets;
 use bloom_parts::bit_vector::{BitVec, Words};
 use bloom_parts::hasher::DefaultHasher;
 pub use command::Command;
+pub use data::{BitsData, FilterData, shape_of_data};
 use positions::{contains_positions, insert_positions};
 pub use rates::expected_rate;
 use std::marker::Model;

@@ -4,6 +4,7 @@ ghost use Rattle.std.specs.List.{concat};
 ghost use Rattle.bloom_parts.specs.Keys.{HasKey};
 ghost use Rattle.bloom_parts.specs.Sip.{sip};
 ghost use Rattle.bloom_parts.specs.declared.hasher.CloneBuildHasher.{CloneBuildHasher as Builder};
+ghost use Rattle.bloom_plain.specs.Data.{DataLaw, SameItemsLaw};
 ghost use Rattle.bloom_plain.specs.Filter.{Unites, Intersects};
 ghost use Rattle.bloom_plain.specs.Laws.{InsertLaw, KeptByInsertLaw, KeptByUnionLaw, KeptByListLaw, KeptByInsertsLaw, IntersectionLaw, UnionLaw, ClearLaw, IsCommutative, IsAssociative, IsIdempotent, RebuiltLaw, EqualityLaw, EqualContentLaw, EqualStartsLaw, EqualRateStartsLaw, JoinedListsLaw, FoundLaw, FoundAfterInsertsLaw, FoundAfterReplayLaw};
 ghost use Rattle.bloom_plain.specs.SourceHash.{source_hash_of, IsFunctionOfBytes};
@@ -99,4 +100,15 @@ pub fn source_hash_by_default<T: Hash>()
         T.hash_input builder item ≡ sip k0 k1 (concat (T.hash_input item)) }
 {
     hash_of_pieces();
+}
+
+/// What is made of a filter's data has its words, number of hashes and key, and answers every hash
+/// and every item alike.
+pub fn data_answer_alike<T: Hash>()
+    ensures filters { DataLaw }
+    // The left and right sides are what `source_hash` answers.
+    ensures items { SameItemsLaw (source_hash_of ⟦<DefaultHasher as BuildHasher>⟧
+        ⟦<RandomDefaultHasher as Hasher>⟧ T.hash_input) }
+{
+    source_hash_by_default::<T>();
 }

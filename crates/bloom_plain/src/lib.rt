@@ -5,4 +5,4 @@ mod bloom;
 pub mod builder;
 pub mod laws;
 
-pub use bloom::{BloomFilter, Command, expected_rate};
+pub use bloom::{BitsData, BloomFilter, Command, FilterData, expected_rate, shape_of_data};

@@ -4,11 +4,13 @@ pub mod LiveStore
 pub mod Shared
 pub use Rattle.bloom_plain.specs.Builders
 pub use Rattle.bloom_plain.specs.CommandOf
+pub use Rattle.bloom_plain.specs.Data
 pub use Rattle.bloom_plain.specs.Filter
 pub use Rattle.bloom_plain.specs.Laws
 pub use Rattle.bloom_plain.specs.Replies
 pub use Rattle.bloom_plain.specs.SourceHash
 pub use Rattle.bloom_plain.specs.declared.bloom.command.Command
+pub use Rattle.bloom_plain.specs.declared.bloom.data.FilterData
 pub use Rattle.bloom_steps.specs.Courses
 pub use Rattle.bloom_steps.specs.Interleavings
 pub use Rattle.bloom_steps.specs.Machines
