@@ -1,3 +1,4 @@
+mod DataLemmas
 mod FormLemmas
 mod InsertedLemmas
 mod ReadingLemmas

@@ -1,14 +1,14 @@
 -- What filters that threads share are made of: the form for items at a rate, and many inserts.
 -- How many sixty-fourths of a halving one half has is a premise here; `bloom_parts` shows it.
 use Rattle.std.proofs.Common.{◌≡◌, ◌∙◌, ℕ, zero, suc, ◌+◌, ◌<◌, Bool, List, [], ◌∷◌, Some, length, option_map, replicate, refl, ap, slice_get, sym, subst, arith, lit<}
-use Rattle.std.proofs.lemmas.Option.{slice_get-map}
-use Rattle.bloom_parts.specs.Made.{FoundBySwap}
+use Rattle.std.proofs.lemmas.Option.{same_Some, slice_get-map}
+use Rattle.bloom_parts.specs.Made.{FoundByLoad, FoundBySwap}
 use Rattle.bloom_parts.specs.Sizing.{IsHalvings, size_for}
 use Rattle.bloom_plain.specs.Builders.{RateStart, words_for, empty_start, sized_filter, IsSizeOf}
 use Rattle.bloom_steps.specs.declared.steps.vocabulary.Step.TheVariants.{Take}
 use Rattle.bloom_steps.specs.declared.steps.vocabulary.End.TheVariants.{Done}
 use Rattle.bloom_steps.specs.Scripts.{Taken}
-use Rattle.fastbloom.specs.Shared.{SharedFilter, HasFormFor, IsMade, MakesInsert, MakesInserts, TakesWords}
+use Rattle.fastbloom.specs.Shared.{SharedFilter, HasFormFor, IsMade, MakesInsert, MakesInserts, TakesWords, WereLoaded}
 use Rattle.fastbloom.proofs.SharedFacts.{filter, member, only}
 use Rattle.fastbloom.proofs.TakenLemmas.{taken-count}
 
@@ -122,3 +122,24 @@ takes-each f words takes i within =
           ∙ slice_get-map (λ (t : Taken). t.found) s i
           ∙ ap (option_map (λ (t : Taken). t.found)) at.1,
     )
+
+-- the words of a vector of one word
+were-loaded : (name : ℕ) → FoundByLoad (filter name 1 1).words 0 5
+    → WereLoaded (filter name 1 1).words (5 ∷ [])
+were-loaded name made = record {
+  count = refl;
+  each = λ i within. subst
+      (λ j. (found : ℕ) × FoundByLoad (filter name 1 1).words j found
+      × (slice_get (5 ∷ []) j ≡ Some found)) (omega (arith, within)) (5, made, refl);
+}
+
+-- no fewer, and no more
+fewer-loaded : (name : ℕ) → WereLoaded (filter name 2 1).words (5 ∷ []) → ⊥
+fewer-loaded name words = omega (arith, words.count)
+
+-- each is one that was found there
+other-loaded : (name : ℕ) → WereLoaded (filter name 1 1).words (5 ∷ [])
+    → FoundByLoad (filter name 1 1).words 0 5
+other-loaded name words =
+    let first = words.each 0 (omega arith) in
+    subst (FoundByLoad (filter name 1 1).words 0) (sym (same_Some 5 first.0 first.2)) first.1

@@ -1,6 +1,6 @@
 -- What contracts see of a filter that threads share, and of which steps its calls are made. Its
 -- words aren't seen, since any thread may change them. This project's own.
-use Rattle.std.specs.Prelude.{◌≡◌, ◌≢◌, ℕ, ◌<◌, Bool, List, length, map, All, Option, Some, None}
+use Rattle.std.specs.Prelude.{◌≡◌, ◌≢◌, ℕ, ◌<◌, Bool, List, length, map, slice_get, All, Option, Some, None}
 use Rattle.bloom_parts.specs.Made.{SharedWords, FoundByLoad, FoundByOr, FoundByAnd, MadeZero, FoundBySwap}
 use Rattle.bloom_plain.specs.Builders.{RateStart, IsSizeOf, sized_filter, empty_start}
 use Rattle.bloom_plain.specs.Filter.{Filter}
@@ -65,6 +65,12 @@ MakesInserts hash_of f items =
 pub record TakesWords {S : Type 0} (f : SharedFilter S) (words : List ℕ) : Type 0 where
   pub made : MakesCall f f call.Take None
   pub found : words ≡ map (λ t. t.found) made.taken
+
+-- these are the words of a vector, each found by a load of the word of its index
+pub record WereLoaded (vector : SharedWords) (words : List ℕ) : Type 0 where
+  pub count : length words ≡ vector.count
+  pub each : (i : ℕ) → i < vector.count
+      → (found : ℕ) × FoundByLoad vector i found × (slice_get words i ≡ Some found)
 
 -- filters of one shape, of which each word that was loaded of the one equals that of the other
 pub record WereFoundAlike {S : Type 0} (f g : SharedFilter S) : Type 0 where

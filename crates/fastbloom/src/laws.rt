@@ -1,7 +1,8 @@
 //! The laws of all that this library holds: of plain filters and of word steps.
 pub use bloom_plain::laws::{
-    clear_contains_nothing, contained_stays, data_answer_alike, equality_of_builders, equality_of_filters,
-    insert_answers_contains, inserted_stays_found, intersection_contains, intersection_of_contents,
-    lists_join, rebuilt_answers_alike, source_hash_by_default, union_contains, union_of_contents,
+    clear_contains_nothing, contained_stays, data_answer_alike, equality_of_builders,
+    equality_of_filters, insert_answers_contains, inserted_stays_found, intersection_contains,
+    intersection_of_contents, lists_join, rebuilt_answers_alike, source_hash_by_default,
+    union_contains, union_of_contents,
 };
 pub use bloom_steps::laws::{at_most_one_course, steps_in_memory};
