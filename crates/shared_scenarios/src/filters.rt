@@ -1,0 +1,28 @@
+//! Shared filters that the tests make, and what they read of them.
+use fastbloom::{AtomicBloomFilter, FilterError};
+use std::alloc::Global;
+
+// A shared filter of these words.
+pub fn filter_of(
+    alloc: Global,
+    words: &[u64],
+    num_hashes: u32,
+) -> Result<AtomicBloomFilter, FilterError> {
+    let words = words.to_vec(alloc)?;
+    AtomicBloomFilter::from_vec(words)?.hashes(alloc, num_hashes)
+}
+
+// Whether the words of a filter are these.
+pub fn has_words(filter: &AtomicBloomFilter, words: &[u64]) -> bool {
+    filter.iter().eq(words.iter().copied())
+}
+
+// Whether all bits of a filter are off.
+pub fn is_empty(filter: &AtomicBloomFilter) -> bool {
+    filter.iter().all(|word| word == 0)
+}
+
+// The numbers of bits and hashes.
+pub fn shape_of(filter: &AtomicBloomFilter) -> (usize, u32) {
+    (filter.num_bits(), filter.num_hashes())
+}
