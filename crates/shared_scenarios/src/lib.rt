@@ -9,3 +9,5 @@ mod by_hash;
 mod filters;
 #[cfg(test)]
 mod items;
+#[cfg(test)]
+mod threads;

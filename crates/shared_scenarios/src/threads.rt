@@ -1,0 +1,266 @@
+//! Threads that share a filter. Each is started with an `Arc` of it, and joined.
+ghost use Rattle.std.specs.Prelude.{⊤};
+
+use crate::filters::{filter_of, has_words};
+use fastbloom::AtomicBloomFilter;
+use std::alloc::Global;
+use std::sync::Arc;
+use std::test::Fail;
+use std::thread;
+use std::thread::{Promise, PromisedHandle, Threads};
+
+type Shared = Arc<AtomicBloomFilter, Global>;
+
+// What a thread promises of the number that it counts: nothing.
+#[derive(Clone, Copy)]
+struct Anything;
+
+impl Promise<u64> for Anything {
+    ghost kept_by = { λ _ _. ⊤ };
+}
+
+type Child = PromisedHandle<u64, Anything>;
+
+// What a thread does with the filter that it shares, and what it counts.
+trait Work: Drop + Send + 'static {
+    fn work(&self, filter: &AtomicBloomFilter) -> u64;
+}
+
+// Starts a thread that shares the filter.
+fn start<R: Threads, W: Work>(rt: &R, filter: &Shared, work: W) -> Result<Child, Fail> {
+    let shared = Arc::try_clone(filter)?;
+    Ok(thread::spawn_with(rt, Anything, move || work.work(&shared))?)
+}
+
+// Waits for every thread, and adds up what they counted.
+fn join_all<R: Threads>(rt: &R, children: Vec<Child>) -> u64 {
+    let mut sum = 0u64;
+    for child in children {
+        sum = sum.saturating_add(child.join(rt));
+    }
+    sum
+}
+
+// A filter of zero words in an `Arc`.
+fn share(alloc: Global, words: &[u64], num_hashes: u32) -> Result<Shared, Fail> {
+    Ok(Arc::new(alloc, filter_of(alloc, words, num_hashes)?)?)
+}
+
+// A position that one thread alone changes: its hash, a filter in which it alone is off, and one in
+// which it alone is on.
+#[derive(Drop)]
+struct Turns {
+    hash: u64,
+    without: AtomicBloomFilter,
+    alone: AtomicBloomFilter,
+}
+
+// A turn with a position, and whether each answer was right.
+fn turn(filter: &AtomicBloomFilter, turns: &Turns) -> bool {
+    if !filter.same_shape(&turns.without) || !filter.same_shape(&turns.alone) {
+        return false;
+    }
+    let was_off = !filter.insert_hash(turns.hash);
+    let inserted = filter.contains_hash(turns.hash);
+    filter.intersect(&turns.without);
+    let turned_off = !filter.contains_hash(turns.hash);
+    filter.union(&turns.alone);
+    let turned_on = filter.contains_hash(turns.hash);
+    filter.intersect(&turns.without);
+    was_off && inserted && turned_off && turned_on
+}
+
+// Counts the turns in which an answer was wrong.
+impl Work for Turns {
+    fn work(&self, filter: &AtomicBloomFilter) -> u64 {
+        let mut wrong = 0u64;
+        for _ in 0..200_000 {
+            if !turn(filter, self) {
+                wrong = wrong.saturating_add(1);
+            }
+        }
+        wrong
+    }
+}
+
+// The turns of a thread with a position.
+fn turns_of(alloc: Global, position: u64) -> Result<Turns, Fail> {
+    let bit = 1u64 << (position % 64);
+    Ok(Turns {
+        hash: position << 58,
+        without: filter_of(alloc, &[!bit], 1)?,
+        alone: filter_of(alloc, &[bit], 1)?,
+    })
+}
+
+// Starts four threads, each of which takes turns with a position of its own.
+fn start_turns<R: Threads>(rt: &R, alloc: Global, filter: &Shared) -> Result<Vec<Child>, Fail> {
+    let mut children = Vec::new(alloc);
+    for position in 0..4u64 {
+        children.push(start(rt, filter, turns_of(alloc, position)?)?)?;
+    }
+    Ok(children)
+}
+
+// Whatever the order of the steps, each thread sees its own position change as it alone changes it,
+// since every other step leaves it as it is.
+#[test]
+fn each_of_four_threads_has_a_bit_of_its_own_in_one_word(rt: HostRuntime) -> Result<(), Fail> {
+    let filter = share(rt.alloc(), &[0], 1)?;
+    let children = start_turns(&rt, rt.alloc(), &filter)?;
+    assert_eq!(rt; join_all(&rt, children), 0);
+    assert!(rt; has_words(&filter, &[0]));
+    Ok(())
+}
+
+// The hashes 0, 1, .. spread over all numbers of 64 bits.
+fn spread(i: u64) -> u64 {
+    i.wrapping_mul(0x9e37_79b9_7f4a_7c15)
+}
+
+// Inserts so many hashes, and counts the answers that were false.
+#[derive(Drop)]
+struct Inserts {
+    hashes: u64,
+}
+
+impl Work for Inserts {
+    fn work(&self, filter: &AtomicBloomFilter) -> u64 {
+        let mut new = 0u64;
+        for i in 0..self.hashes {
+            if !filter.insert_hash(spread(i)) {
+                new = new.saturating_add(1);
+            }
+        }
+        new
+    }
+}
+
+// How many positions are on.
+fn count_on(filter: &AtomicBloomFilter) -> u64 {
+    let mut on = 0u64;
+    for word in filter.iter() {
+        on = on.saturating_add(word.count_ones() as u64);
+    }
+    on
+}
+
+// Starts so many threads that insert so many hashes each, the same ones.
+fn start_inserts<R: Threads>(
+    rt: &R,
+    alloc: Global,
+    filter: &Shared,
+    threads: u64,
+    hashes: u64,
+) -> Result<Vec<Child>, Fail> {
+    let mut children = Vec::new(alloc);
+    for _ in 0..threads {
+        children.push(start(rt, filter, Inserts { hashes })?)?;
+    }
+    Ok(children)
+}
+
+// 64 words, all off.
+const ZEROS: [u64; 64] = [0; 64];
+
+// A position is found off by one insert alone, since none is turned off.
+#[test]
+fn four_threads_insert_the_same_hashes(rt: HostRuntime) -> Result<(), Fail> {
+    let filter = share(rt.alloc(), &ZEROS, 1)?;
+    let children = start_inserts(&rt, rt.alloc(), &filter, 4, 1000)?;
+    let new = join_all(&rt, children);
+    assert_eq!(rt; new, count_on(&filter));
+    let by_one = filter_of(rt.alloc(), &ZEROS, 1)?;
+    assert_eq!(rt; Inserts { hashes: 1000 }.work(&by_one), new);
+    assert!(rt; filter.same_words(&by_one));
+    Ok(())
+}
+
+// Asks so often for each of so many hashes, and counts the answers that were false.
+#[derive(Drop)]
+struct Asks {
+    times: u64,
+    hashes: u64,
+}
+
+// Counts those of so many hashes that are missing.
+fn count_missing(filter: &AtomicBloomFilter, hashes: u64) -> u64 {
+    let mut missing = 0u64;
+    for i in 0..hashes {
+        if !filter.contains_hash(spread(i)) {
+            missing = missing.saturating_add(1);
+        }
+    }
+    missing
+}
+
+impl Work for Asks {
+    fn work(&self, filter: &AtomicBloomFilter) -> u64 {
+        let mut missing = 0u64;
+        for _ in 0..self.times {
+            missing = missing.saturating_add(count_missing(filter, self.hashes));
+        }
+        missing
+    }
+}
+
+// A filter with so many hashes in it.
+fn share_filled(alloc: Global, hashes: u64) -> Result<Shared, Fail> {
+    let filter = share(alloc, &ZEROS, 3)?;
+    Inserts { hashes }.work(&filter);
+    Ok(filter)
+}
+
+// What was inserted before the threads started is found at every moment.
+#[test]
+fn what_was_inserted_is_found_beside_three_that_insert(rt: HostRuntime) -> Result<(), Fail> {
+    let filter = share_filled(rt.alloc(), 100)?;
+    let inserting = start_inserts(&rt, rt.alloc(), &filter, 3, 20_000)?;
+    let asking = start(&rt, &filter, Asks { times: 500, hashes: 100 })?;
+    assert_eq!(rt; asking.join(&rt), 0);
+    join_all(&rt, inserting);
+    Ok(())
+}
+
+// The thread's own `Arc` keeps the filter.
+#[test]
+fn a_thread_goes_on_when_the_filter_was_let_go(rt: HostRuntime) -> Result<(), Fail> {
+    let filter = share_filled(rt.alloc(), 100)?;
+    let asking = start(&rt, &filter, Asks { times: 2000, hashes: 100 })?;
+    drop(filter);
+    assert_eq!(rt; asking.join(&rt), 0);
+    Ok(())
+}
+
+// Inserts the items from the first up to the end, which it leaves out, and counts nothing.
+#[derive(Drop)]
+struct Items {
+    first: u64,
+    end: u64,
+}
+
+impl Work for Items {
+    fn work(&self, filter: &AtomicBloomFilter) -> u64 {
+        filter.extend(self.first..self.end);
+        0
+    }
+}
+
+// A filter of 128 bits and 2 hashes under the seed 42.
+fn share_seeded(alloc: Global) -> Result<Shared, Fail> {
+    let builder = AtomicBloomFilter::with_num_bits(alloc, 128)?.seed(&42);
+    Ok(Arc::new(alloc, builder.hashes(alloc, 2)?)?)
+}
+
+#[test]
+fn two_threads_make_the_words_that_one_makes(rt: HostRuntime) -> Result<(), Fail> {
+    let filter = share_seeded(rt.alloc())?;
+    let first = start(&rt, &filter, Items { first: 1, end: 3 })?;
+    let second = start(&rt, &filter, Items { first: 2, end: 4 })?;
+    first.join(&rt);
+    second.join(&rt);
+    let by_one = share_seeded(rt.alloc())?;
+    by_one.insert_all(&[1u64, 2, 3]);
+    assert!(rt; filter.same_words(&by_one));
+    Ok(())
+}
