@@ -10,4 +10,6 @@ mod filters;
 #[cfg(test)]
 mod items;
 #[cfg(test)]
+mod sessions;
+#[cfg(test)]
 mod threads;

@@ -216,7 +216,14 @@ fn share_filled(alloc: Global, hashes: u64) -> Result<Shared, Fail> {
 fn what_was_inserted_is_found_beside_three_that_insert(rt: HostRuntime) -> Result<(), Fail> {
     let filter = share_filled(rt.alloc(), 100)?;
     let inserting = start_inserts(&rt, rt.alloc(), &filter, 3, 20_000)?;
-    let asking = start(&rt, &filter, Asks { times: 500, hashes: 100 })?;
+    let asking = start(
+        &rt,
+        &filter,
+        Asks {
+            times: 500,
+            hashes: 100,
+        },
+    )?;
     assert_eq!(rt; asking.join(&rt), 0);
     join_all(&rt, inserting);
     Ok(())
@@ -226,7 +233,14 @@ fn what_was_inserted_is_found_beside_three_that_insert(rt: HostRuntime) -> Resul
 #[test]
 fn a_thread_goes_on_when_the_filter_was_let_go(rt: HostRuntime) -> Result<(), Fail> {
     let filter = share_filled(rt.alloc(), 100)?;
-    let asking = start(&rt, &filter, Asks { times: 2000, hashes: 100 })?;
+    let asking = start(
+        &rt,
+        &filter,
+        Asks {
+            times: 2000,
+            hashes: 100,
+        },
+    )?;
     drop(filter);
     assert_eq!(rt; asking.join(&rt), 0);
     Ok(())
