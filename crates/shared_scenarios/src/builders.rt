@@ -6,41 +6,47 @@ use fastbloom::{
 use std::alloc::Global;
 use std::hash::{BuildHasherDefault, DefaultHasher};
 
-// The shape of the empty filter of so many bits and hashes, or no hashes where a bit is on.
-fn shape_of_bits(alloc: Global, bits: usize, hashes: u32) -> Result<(usize, u32), FilterError> {
+// Whether the filter of so many bits and hashes is empty, and has this shape.
+fn is_sized(
+    alloc: Global,
+    bits: usize,
+    hashes: u32,
+    shape: (usize, u32),
+) -> Result<bool, FilterError> {
     let filter = AtomicBloomFilter::with_num_bits(alloc, bits)?.hashes(alloc, hashes)?;
-    Ok(if is_empty(&filter) {
-        shape_of(&filter)
-    } else {
-        (0, 0)
-    })
+    Ok(is_empty(&filter) && shape_of(&filter) == shape)
 }
 
 #[test]
-fn bits_and_hashes_are_as_many_as_asked(rt: HostRuntime) -> Result<(), FilterError> {
-    for (bits, hashes, shape) in [
-        (1, 0, (64, 1)),
-        (64, 4, (64, 4)),
-        (65, 4, (128, 4)),
-        (512000, 4, (512000, 4)),
-    ] {
-        assert!(rt;
-            shape_of_bits(rt.alloc(), bits, hashes)? == shape,
-            "{bits} bits"
-        );
+fn bits_are_rounded_up_to_words(rt: HostRuntime) -> Result<(), FilterError> {
+    for (asked, bits) in [(1, 64), (64, 64), (65, 128), (512000, 512000)] {
+        assert!(rt; is_sized(rt.alloc(), asked, 4, (bits, 4))?, "{asked} bits");
     }
     Ok(())
 }
 
 #[test]
 fn hashes_are_as_many_as_asked(rt: HostRuntime) -> Result<(), FilterError> {
+    assert!(rt; is_sized(rt.alloc(), 1, 0, (64, 1))?);
     for hashes in 1..1000 {
         assert!(rt;
-            shape_of_bits(rt.alloc(), 1, hashes)? == (64, hashes),
+            is_sized(rt.alloc(), 1, hashes, (64, hashes))?,
             "{hashes} hashes"
         );
     }
     Ok(())
+}
+
+// Whether the filter of so many bits for so many items has this shape, and its first item is new.
+fn is_sized_for(
+    alloc: Global,
+    bits: usize,
+    items: usize,
+    shape: (usize, u32),
+) -> Result<bool, FilterError> {
+    let builder = AtomicBloomFilter::with_num_bits(alloc, bits)?;
+    let filter = builder.expected_items(alloc, items)?;
+    Ok(shape_of(&filter) == shape && !filter.insert(&5))
 }
 
 // The logarithm of 2 times 64 is 44.4, times 1216 / 4 it is 210.7, and times 64 / 500 it is 0.09.
@@ -51,10 +57,8 @@ fn bits_and_items_fix_the_number_of_hashes(rt: HostRuntime) -> Result<(), Filter
         (1202, 4, (1216, 211)),
         (64, 500, (64, 1)),
     ] {
-        let builder = AtomicBloomFilter::with_num_bits(rt.alloc(), bits)?;
-        let filter = builder.expected_items(rt.alloc(), items)?;
-        assert!(rt; shape_of(&filter) == shape, "{bits} bits, {items} items");
-        assert!(rt; !filter.insert(&5), "{bits} bits, {items} items");
+        let as_said = is_sized_for(rt.alloc(), bits, items, shape)?;
+        assert!(rt; as_said, "{bits} bits, {items} items");
     }
     Ok(())
 }
@@ -78,8 +82,8 @@ fn a_rate_and_items_fix_the_shape(rt: HostRuntime) -> Result<(), FilterError> {
         ((1, 1000), 1000, (14400, 10)),
     ] {
         let filter = filter_at(rt.alloc(), rate, items)?;
-        assert!(rt; shape_of(&filter) == shape, "{rate:?}, {items} items");
-        assert!(rt; is_empty(&filter), "{rate:?}, {items} items");
+        let as_said = is_empty(&filter) && shape_of(&filter) == shape;
+        assert!(rt; as_said, "{rate:?}, {items} items");
     }
     Ok(())
 }
@@ -180,12 +184,16 @@ fn at_rate(
     Ok(AtomicBloomFilter::with_false_pos(Rate::new(num, den)?).seed(seed))
 }
 
+// Whether a builder at this rate, under this seed, equals that at a half under the seed 1.
+fn is_half(num: u64, den: u64, seed: &u128) -> Result<bool, FilterError> {
+    Ok(at_rate(num, den, seed)? == at_rate(1, 2, &1)?)
+}
+
 // The hashers aren't looked at, and rates are compared as fractions.
 #[test]
 fn builders_of_a_rate_are_equal_by_rate(rt: HostRuntime) -> Result<(), FilterError> {
-    let half = at_rate(1, 2, &1)?;
-    assert!(rt; half == at_rate(2, 4, &2)?);
-    assert!(rt; half != at_rate(1, 3, &1)?);
+    assert!(rt; is_half(2, 4, &2)?);
+    assert!(rt; !is_half(1, 3, &1)?);
     Ok(())
 }
 
@@ -195,11 +203,16 @@ fn builder_of(alloc: Global, word: u64, seed: &u128) -> Result<AtomicBuilderWith
     Ok(AtomicBloomFilter::from_vec(words)?.seed(seed))
 }
 
+// Whether a builder of this word, under this seed, equals that of the word 5 under the seed 1.
+fn is_five(alloc: Global, word: u64, seed: &u128) -> Result<bool, FilterError> {
+    let five = builder_of(alloc, 5, &1)?;
+    Ok(builder_of(alloc, word, seed)? == five)
+}
+
 #[test]
 fn builders_of_bits_are_equal_by_words(rt: HostRuntime) -> Result<(), FilterError> {
-    let five = builder_of(rt.alloc(), 5, &1)?;
-    assert!(rt; five == builder_of(rt.alloc(), 5, &2)?);
-    assert!(rt; five != builder_of(rt.alloc(), 6, &1)?);
+    assert!(rt; is_five(rt.alloc(), 5, &2)?);
+    assert!(rt; !is_five(rt.alloc(), 6, &1)?);
     Ok(())
 }
 

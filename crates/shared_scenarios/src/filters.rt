@@ -1,8 +1,8 @@
-//! Shared filters that the tests make, and what they read of them.
+//! Shared filters of given words, and what the tests read of filters.
 use fastbloom::{AtomicBloomFilter, FilterError};
 use std::alloc::Global;
 
-// A shared filter of these words.
+/// A shared filter of these words.
 pub fn filter_of(
     alloc: Global,
     words: &[u64],
@@ -12,17 +12,17 @@ pub fn filter_of(
     AtomicBloomFilter::from_vec(words)?.hashes(alloc, num_hashes)
 }
 
-// Whether the words of a filter are these.
+/// Whether the words of a filter are these.
 pub fn has_words(filter: &AtomicBloomFilter, words: &[u64]) -> bool {
     filter.iter().eq(words.iter().copied())
 }
 
-// Whether all bits of a filter are off.
+/// Whether all bits of a filter are off.
 pub fn is_empty(filter: &AtomicBloomFilter) -> bool {
     filter.iter().all(|word| word == 0)
 }
 
-// The numbers of bits and hashes.
+/// The numbers of bits and hashes.
 pub fn shape_of(filter: &AtomicBloomFilter) -> (usize, u32) {
     (filter.num_bits(), filter.num_hashes())
 }

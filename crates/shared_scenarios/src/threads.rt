@@ -86,10 +86,12 @@ impl Work for Turns {
 // The turns of a thread with a position.
 fn turns_of(alloc: Global, position: u64) -> Result<Turns, Fail> {
     let bit = 1u64 << (position % 64);
+    let without = filter_of(alloc, &[!bit], 1)?;
+    let alone = filter_of(alloc, &[bit], 1)?;
     Ok(Turns {
         hash: position << 58,
-        without: filter_of(alloc, &[!bit], 1)?,
-        alone: filter_of(alloc, &[bit], 1)?,
+        without,
+        alone,
     })
 }
 
@@ -155,7 +157,8 @@ fn start_inserts<R: Threads>(
 ) -> Result<Vec<Child>, Fail> {
     let mut children = Vec::new(alloc);
     for _ in 0..threads {
-        children.push(start(rt, filter, Inserts { hashes })?)?;
+        let child = start(rt, filter, Inserts { hashes })?;
+        children.push(child)?;
     }
     Ok(children)
 }
@@ -204,11 +207,11 @@ impl Work for Asks {
     }
 }
 
-// A filter with so many hashes in it.
+// A filter of many positions, so that most stay off, with so many hashes in it.
 fn share_filled(alloc: Global, hashes: u64) -> Result<Shared, Fail> {
-    let filter = share(alloc, &ZEROS, 3)?;
+    let filter = AtomicBloomFilter::with_num_bits(alloc, 1 << 20)?.hashes(alloc, 3)?;
     Inserts { hashes }.work(&filter);
-    Ok(filter)
+    Ok(Arc::new(alloc, filter)?)
 }
 
 // What was inserted before the threads started is found at every moment.
