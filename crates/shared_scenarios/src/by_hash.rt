@@ -1,5 +1,5 @@
 //! A shared filter from words, by hash, in one thread: positions, replies and words.
-use crate::filters::{filter_of, has_words};
+use crate::filters::{filter_of, has_words, pair_of};
 use fastbloom::{AtomicBloomFilter, FilterError};
 use std::alloc::Global;
 
@@ -34,7 +34,7 @@ fn inserts_turn_on_the_listed_positions(rt: HostRuntime) -> Result<(), FilterErr
     Ok(())
 }
 
-// Whether a union makes these words, and leaves the other's as they were.
+// Whether a union makes these words.
 fn unites_to(filter: &AtomicBloomFilter, other: &AtomicBloomFilter, words: &[u64]) -> bool {
     if !filter.same_shape(other) {
         return false;
@@ -52,11 +52,10 @@ fn intersects_to(filter: &AtomicBloomFilter, other: &AtomicBloomFilter, words: &
     has_words(filter, words)
 }
 
-// 5 or 6 is 7.
+// 5 or 6 is 7. The other stays as it was.
 #[test]
 fn union_goes_word_by_word(rt: HostRuntime) -> Result<(), FilterError> {
-    let other = filter_of(rt.alloc(), &[6, 3], 1)?;
-    let filter = filter_of(rt.alloc(), &[5, 0], 1)?;
+    let (filter, other) = pair_of(rt.alloc(), &[5, 0], &[6, 3], 1)?;
     assert!(rt; unites_to(&filter, &other, &[7, 3]));
     assert!(rt; has_words(&other, &[6, 3]));
     Ok(())
@@ -65,8 +64,7 @@ fn union_goes_word_by_word(rt: HostRuntime) -> Result<(), FilterError> {
 // 5 and 6 is 4.
 #[test]
 fn intersect_goes_word_by_word(rt: HostRuntime) -> Result<(), FilterError> {
-    let other = filter_of(rt.alloc(), &[6, 3], 1)?;
-    let filter = filter_of(rt.alloc(), &[5, 2], 1)?;
+    let (filter, other) = pair_of(rt.alloc(), &[5, 2], &[6, 3], 1)?;
     assert!(rt; intersects_to(&filter, &other, &[4, 2]));
     assert!(rt; has_words(&other, &[6, 3]));
     Ok(())

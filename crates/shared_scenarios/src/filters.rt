@@ -12,6 +12,18 @@ pub fn filter_of(
     AtomicBloomFilter::from_vec(words)?.hashes(alloc, num_hashes)
 }
 
+/// Two shared filters of these words, with as many hashes.
+pub fn pair_of(
+    alloc: Global,
+    words: &[u64],
+    others: &[u64],
+    num_hashes: u32,
+) -> Result<(AtomicBloomFilter, AtomicBloomFilter), FilterError> {
+    let filter = filter_of(alloc, words, num_hashes)?;
+    let other = filter_of(alloc, others, num_hashes)?;
+    Ok((filter, other))
+}
+
 /// Whether the words of a filter are these.
 pub fn has_words(filter: &AtomicBloomFilter, words: &[u64]) -> bool {
     filter.iter().eq(words.iter().copied())

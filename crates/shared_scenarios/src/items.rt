@@ -28,19 +28,27 @@ fn filter_of_three(alloc: Global) -> Result<AtomicBloomFilter, FilterError> {
     Ok(filter)
 }
 
-#[test]
-fn items_that_are_lent_go_in_one_by_one(rt: HostRuntime) -> Result<(), FilterError> {
-    let filter = filter_of(rt.alloc(), &[0, 0], 4)?;
-    filter.insert_all(&[1, 2, 3]);
-    assert!(rt; filter.same_words(&filter_of_three(rt.alloc())?));
-    Ok(())
+// Inserts the same items all at once, lent or given.
+fn insert_three(filter: &AtomicBloomFilter, lent: bool) {
+    if lent {
+        filter.insert_all(&[1, 2, 3]);
+    } else {
+        filter.extend(1..4);
+    }
+}
+
+// Whether that makes the same words.
+fn makes_the_same(alloc: Global, lent: bool) -> Result<bool, FilterError> {
+    let by_one = filter_of_three(alloc)?;
+    let at_once = filter_of(alloc, &[0, 0], 4)?;
+    insert_three(&at_once, lent);
+    Ok(at_once.same_words(&by_one))
 }
 
 #[test]
-fn items_that_are_given_go_in_one_by_one(rt: HostRuntime) -> Result<(), FilterError> {
-    let filter = filter_of(rt.alloc(), &[0, 0], 4)?;
-    filter.extend(1..4);
-    assert!(rt; filter.same_words(&filter_of_three(rt.alloc())?));
+fn many_items_go_in_one_by_one(rt: HostRuntime) -> Result<(), FilterError> {
+    assert!(rt; makes_the_same(rt.alloc(), true)?, "items that are lent");
+    assert!(rt; makes_the_same(rt.alloc(), false)?, "items that are given");
     Ok(())
 }
 

@@ -1,7 +1,7 @@
 //! Threads that share a filter. Each is started with an `Arc` of it, and joined.
 ghost use Rattle.std.specs.Prelude.{⊤};
 
-use crate::filters::{filter_of, has_words};
+use crate::filters::{filter_of, has_words, pair_of};
 use fastbloom::AtomicBloomFilter;
 use std::alloc::Global;
 use std::sync::Arc;
@@ -86,8 +86,7 @@ impl Work for Turns {
 // The turns of a thread with a position.
 fn turns_of(alloc: Global, position: u64) -> Result<Turns, Fail> {
     let bit = 1u64 << (position % 64);
-    let without = filter_of(alloc, &[!bit], 1)?;
-    let alone = filter_of(alloc, &[bit], 1)?;
+    let (alone, without) = pair_of(alloc, &[bit], &[!bit], 1)?;
     Ok(Turns {
         hash: position << 58,
         without,
@@ -218,12 +217,12 @@ fn share_filled(alloc: Global, hashes: u64) -> Result<Shared, Fail> {
 #[test]
 fn what_was_inserted_is_found_beside_three_that_insert(rt: HostRuntime) -> Result<(), Fail> {
     let filter = share_filled(rt.alloc(), 100)?;
-    let inserting = start_inserts(&rt, rt.alloc(), &filter, 3, 20_000)?;
+    let inserting = start_inserts(&rt, rt.alloc(), &filter, 3, 50_000)?;
     let asking = start(
         &rt,
         &filter,
         Asks {
-            times: 500,
+            times: 1000,
             hashes: 100,
         },
     )?;
