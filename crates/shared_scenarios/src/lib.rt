@@ -10,6 +10,6 @@ mod filters;
 #[cfg(test)]
 mod items;
 #[cfg(test)]
-mod sessions;
+mod original;
 #[cfg(test)]
 mod threads;

@@ -1,12 +1,12 @@
-//! Calls in one thread are answered as the original crate answered them.
+//! Calls in one thread are answered as the original crate answered them on its plain filter.
 
-mod table;
+mod sessions;
 
 use fastbloom::{AtomicBloomFilter, FilterError};
+use sessions::{Line, Session, recorded};
 use std::alloc::Global;
-use table::{Line, Session, sessions};
 
-// Whether a filter answers a call as said, or has the words.
+// Whether a filter answers a call as said, or has the word.
 fn answers(filter: &AtomicBloomFilter, line: &Line) -> bool {
     match line {
         Line::Insert(hash, answer) => filter.insert_hash(*hash) == *answer,
@@ -28,7 +28,7 @@ fn answers_all(alloc: Global, session: &Session) -> Result<bool, FilterError> {
 
 #[test]
 fn answers_as_the_original_crate(rt: HostRuntime) -> Result<(), FilterError> {
-    for (i, session) in sessions().iter().enumerate() {
+    for (i, session) in recorded().iter().enumerate() {
         assert!(rt; answers_all(rt.alloc(), session)?, "session {i}");
     }
     Ok(())

@@ -2,7 +2,7 @@
 //! unchanged but for its default key, 16 zero bytes, and driven by lines that were drawn.
 use Line::{Clear, Contains, Insert, Word};
 
-/// A call and its answer, or the words at that point.
+/// A call and its answer, or the word of an index at that point.
 #[derive(Clone, Copy)]
 pub enum Line {
     Insert(u64, bool),
@@ -19,8 +19,8 @@ pub struct Session {
     pub lines: &'static [Line],
 }
 
-/// What the original crate answered.
-pub const SESSIONS: [Session; 40] = [
+// What the original crate answered.
+const SESSIONS: [Session; 40] = [
     Session {
         words: 5,
         hashes: 7,
@@ -1387,6 +1387,6 @@ pub const SESSIONS: [Session; 40] = [
 ];
 
 /// What the original crate answered.
-pub fn sessions() -> &'static [Session] {
+pub fn recorded() -> &'static [Session] {
     &SESSIONS
 }
