@@ -2,6 +2,7 @@
 ghost use Rattle.std.specs.Prelude.{⊤};
 
 mod inserts;
+mod takes;
 mod turns;
 
 use crate::filters::filter_of;
