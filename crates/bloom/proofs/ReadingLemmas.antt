@@ -111,8 +111,8 @@ quiet-trans a b c from mid to first second ended =
     let after = second before.0 in
     (after.0, after.1 ∙ before.1)
 
--- half-way through a line: its bytes so far, and where the reader of lines, its input and the writer
--- came from and stand
+-- half-way through a line: its bytes so far, and where the reader of lines, its input and the
+-- writer came from and stand
 pub record IsHalfway {R : Type 0} (before now : Waiting) (from to : R)
     (read rest written held : Option (List ℕ)) (line : List ℕ) (at : ℕ) : Type 0 where
   pub in_line : IsInLine (left_of before read) (left_of now rest) line at
