@@ -42,7 +42,8 @@ module _ {S : Type 0} (count : S → ℕ) (moved : S → Step → ℕ → S → 
         → AsksRight m (Some step) → word_index step < count now
     made-within before now m made step asks_right =
         subst (λ n. word_index step < n) (sym made.words)
-        (asked-within (count before) k call made.taken step (asks_right _ _ _ made.taken made.stands))
+        (asked-within (count before) k call made.taken step
+        (asks_right _ _ _ made.taken made.stands))
 
     -- it was made too, and the machine was told what it found
     pub made-more : (before now after : S) (m n : Machine) → HasMade before now m
