@@ -4,14 +4,14 @@ use Rattle.std.specs.Io.KnownBytes.{prepend_known}
 use Rattle.std.proofs.lemmas.Bool.{and_left, and_right, cond-false, lt-leb}
 use Rattle.bloom.specs.declared.engine.line.Line.{Line}
 use Rattle.bloom.specs.declared.engine.line_reader.Next.TheVariants as next
-use Rattle.bloom.specs.Lines.{lines_of, line_of, number_of, is_number, value_of, numbered}
+use Rattle.bloom.specs.Lines.{lines_of, line_of, longest_line, number_of, is_number, value_of, numbered}
 use Rattle.bloom.specs.Reading.{IsEnded, has_no_end, NextCommand}
 use Rattle.bloom.specs.Served.{IsReadUpTo}
 use Rattle.bloom.proofs.LineLemmas.{lines_of-front}
 use Rattle.bloom.proofs.TakenLemmas.{TakesGood, nil-front, ended-before}
 
--- no line of more than 22 bytes is good
-line_of-long : (line : List ℕ) → 22 < length line → line_of line ≡ None
+-- no line is good that is longer than the longest
+line_of-long : (line : List ℕ) → longest_line < length line → line_of line ≡ None
 unfolding line_of number_of
 line_of-long [] long = absurd (omega arith)
 line_of-long (letter ∷ []) long = absurd (omega arith)
@@ -76,8 +76,8 @@ module _ (before left taken block rest : List ℕ) (lines : List Line)
       within (inl e) = inl e
       within (inr none) = inr (nil-front block rest none)
 
-  -- a line of more than 22 bytes
-  upto-long : has_no_end taken ≡ true → 22 < length taken
+  -- a line that is too long
+  upto-long : has_no_end taken ≡ true → longest_line < length taken
       → IsReadUpTo (before ++ left) (Some (before ++ left)) (Some rest) lines
   upto-long inside long =
       let some : 0 < length taken = omega arith in

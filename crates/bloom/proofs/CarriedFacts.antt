@@ -1,11 +1,10 @@
 -- What carrying out lines promises: a case that holds, and near ones that don't.
-use Rattle.std.proofs.Common.{◌≡◌, ℕ, ◌/◌, ◌%◌, ◌<◌, ◌≤◌, zero, suc, Bool, true, false, not, cond, ◌&&◌, ◌||◌, eqb, List, [], ◌∷◌, Some, None, unwrap_or, refl, sym, ◌∙◌, ap, arith, inl, inr}
+use Rattle.std.proofs.Common.{◌≡◌, ℕ, ◌<◌, ◌≤◌, zero, suc, Bool, true, false, not, cond, ◌&&◌, ◌||◌, eqb, List, [], ◌∷◌, Some, None, unwrap_or, refl, sym, ◌∙◌, ap, arith, inl, inr}
 use Rattle.std.specs.Prelude.{codes}
 use Rattle.std.specs.Option.{option_or}
 use Rattle.std.proofs.lemmas.Bool.{both_ways, cases_lt, and_parts, ne_eqb}
-use Rattle.std.proofs.lemmas.List.{get_or_past}
-use Rattle.std.proofs.lemmas.Nat.Bits.{bit_at-zero}
-use Rattle.bloom_parts.specs.Content.{bit_is_on, content}
+use Rattle.bloom_parts.specs.Content.{content}
+use Rattle.bloom_parts.proofs.PublishedLemmas.{content-past}
 use Rattle.bloom_parts.specs.Chain.{chain}
 use Rattle.bloom_parts.specs.Places.{positions, are_in}
 use Rattle.bloom_parts.specs.Operations as command
@@ -41,10 +40,7 @@ below A B (suc n) same p within =
 
 -- a word has no position past its bits
 past_word : (word p : ℕ) → 64 ≤ p → content (word ∷ []) p ≡ false
-unfolding content
-past_word word p far =
-    ap (λ w. bit_is_on w p) (get_or_past (word ∷ []) (p / 64) 0 (omega arith))
-    ∙ ap (λ d. eqb d 1) (bit_at-zero (p % 64))
+past_word word p far = content-past (word ∷ []) p (omega arith)
 
 -- the positions of hash 1 are 0, 20 and 32
 past_positions : (p : ℕ) → 64 ≤ p → positions 64 3 1 p ≡ false

@@ -1,12 +1,12 @@
 -- Lines, numbers, arguments and texts at values from outside: a wrong definition fails here.
-use Rattle.std.proofs.Common.{◌≡◌, true, false, [], ◌∷◌, ◌++◌, map, replicate, Some, None, refl}
+use Rattle.std.proofs.Common.{◌≡◌, true, false, [], ◌∷◌, ◌++◌, length, map, replicate, Some, None, refl}
 use Rattle.std.specs.Prelude.{codes}
 use Rattle.bloom_parts.specs.Content.{content}
 use Rattle.bloom.specs.declared.engine.line.Line.TheVariants.{Insert, Contains, Clear, Words}
 use Rattle.bloom.specs.declared.fault.Fault.TheVariants as fault
 use Rattle.bloom.specs.Arguments.{within_limits, asked_of}
 use Rattle.bloom.specs.Faults.{status_of, IsOfStream}
-use Rattle.bloom.specs.Lines.{lines_of, number_of, line_of}
+use Rattle.bloom.specs.Lines.{lines_of, number_of, line_of, longest_line}
 use Rattle.bloom.specs.Texts.{hex_text, words_text, reply_text, word_with_bits, words_with_content}
 
 -- two lines
@@ -42,6 +42,10 @@ good_lines : map line_of (codes "i 1" ∷ codes "c 01" ∷ codes "z" ∷ codes "
     ≡ Some (Insert 1) ∷ Some (Contains 1) ∷ Some Clear ∷ Some Words ∷ []
 unfolding line_of number_of
 good_lines = refl
+
+-- the longest good line
+longest : length (codes "c 00000000000000000001") ≡ longest_line
+longest = refl
 
 -- an empty line, two spaces, a space behind, a number after `z`, a letter alone, a capital, a tab
 bad_lines : map line_of ([] ∷ codes "i  1" ∷ codes "i 1 " ∷ codes "z 1" ∷ codes "i" ∷ codes "W"

@@ -1,5 +1,5 @@
 -- What reading one line took.
-use Rattle.std.proofs.Common.{◌≡◌, ◌≢◌, ℕ, ◌+◌, ◌<◌, ◌≤◌, true, List, [], ◌∷◌, ◌++◌, length, take, drop, set, Option, Some, None, refl, sym, ◌∙◌, ap, subst, append_assoc, append-nil, length-set, length-take, take-append-drop, arith, inl, inr}
+use Rattle.std.proofs.Common.{◌≡◌, ◌≢◌, ℕ, ◌+◌, ◌<◌, true, List, [], ◌∷◌, ◌++◌, length, take, drop, set, Option, Some, None, refl, sym, ◌∙◌, ap, subst, append_assoc, append-nil, length-set, length-take, take-append-drop, arith, inl, inr}
 use Rattle.std.specs.Prelude.{MatchOption}
 use Rattle.std.specs.Io.KnownBytes.{Consumes, IsAtEnd, Keeps, prepend_known}
 use Rattle.std.proofs.KnownBytes.{Consumes-trans, Keeps-trans}
@@ -7,7 +7,7 @@ use Rattle.std.proofs.lemmas.List.{take_more, take_more_set}
 use Rattle.bloom.specs.declared.engine.line.Line.{Line}
 use Rattle.bloom.specs.declared.engine.line_reader.Next.{Next}
 use Rattle.bloom.specs.declared.engine.line_reader.Next.TheVariants as next
-use Rattle.bloom.specs.Lines.{line_of}
+use Rattle.bloom.specs.Lines.{line_of, longest_line}
 use Rattle.bloom.specs.Reading.{Asks, Waiting, IsQuiet, KnowsEnd, left_of, has_no_end, IsFirstLine, TakesByte, TakesLine, TakesLong, NextCommand}
 use Rattle.bloom.proofs.LineLemmas.{lines_of-nil, lines_of-ended, lines_of-last, has_no_end-more, IsEnded-line}
 
@@ -24,14 +24,14 @@ NextCommand-from old new text came told took = go (line_of text) refl told
 
 -- the first bytes of the buffer were taken, and none of them ends a line
 pub record IsInLine (old mid : Option (List ℕ)) (line : List ℕ) (at : ℕ) : Type 0 where
-  pub room : length line ≡ 23
+  pub room : length line ≡ longest_line + 1
   pub taken : Consumes old mid (take at line)
   pub inside : has_no_end (take at line) ≡ true
 
 module _ {old mid : Option (List ℕ)} {line : List ℕ} {at : ℕ} (so_far : IsInLine old mid line at)
   where
     -- they are more than a good line has
-    pub next_long : 23 ≤ at → NextCommand old mid next.Bad
+    pub next_long : longest_line < at → NextCommand old mid next.Bad
     next_long all = inr (go old mid so_far.taken)
       where
         go : (a c : Option (List ℕ)) → Consumes a c (take at line) → TakesLong a c
@@ -89,7 +89,7 @@ module _ {old mid : Option (List ℕ)} {line : List ℕ} {at : ℕ} (so_far : Is
           NextCommand-from old new (take at line) came asks (last more (rw is at takes))
 
       -- one more byte is taken, and put into the buffer
-      in_line-more : (byte : ℕ) → at < 23 → byte ≢ 10 → TakesByte mid new (Some byte)
+      in_line-more : (byte : ℕ) → at < longest_line + 1 → byte ≢ 10 → TakesByte mid new (Some byte)
           → IsInLine old new (set line at byte) (at + 1)
       in_line-more byte below other more =
           let front : take (at + 1) (set line at byte) ≡ take at line ++ byte ∷ [] =
@@ -111,8 +111,8 @@ quiet-trans a b c from mid to first second ended =
     let after = second before.0 in
     (after.0, after.1 ∙ before.1)
 
--- half-way through a line: its bytes so far, and where the reader of lines, its input and the writer
--- came from and stand
+-- half-way through a line: its bytes so far, and where the reader of lines, its input and the
+-- writer came from and stand
 pub record IsHalfway {R : Type 0} (before now : Waiting) (from to : R)
     (read rest written held : Option (List ℕ)) (line : List ℕ) (at : ℕ) : Type 0 where
   pub in_line : IsInLine (left_of before read) (left_of now rest) line at
@@ -124,8 +124,8 @@ pub record IsHalfway {R : Type 0} (before now : Waiting) (from to : R)
 module _ {R : Type 0} {before now : Waiting} {from to : R}
     {read rest written held : Option (List ℕ)} {line : List ℕ} {at : ℕ}
     (so_far : IsHalfway before now from to read rest written held line at) where
-  pub halfway-more : (byte : ℕ) → at < 23 → byte ≢ 10 → (taken : Option ℕ) → taken ≡ Some byte
-      → (after : Waiting) (end : R) (left kept : Option (List ℕ))
+  pub halfway-more : (byte : ℕ) → at < longest_line + 1 → byte ≢ 10 → (taken : Option ℕ)
+      → taken ≡ Some byte → (after : Waiting) (end : R) (left kept : Option (List ℕ))
       → TakesByte (left_of now rest) (left_of after left) taken → KnowsEnd after left
       → IsQuiet now after to end → Keeps held kept
       → IsHalfway before after from end read left written kept (set line at byte) (at + 1)

@@ -1,10 +1,11 @@
 -- The words of a content.
-use Rattle.std.proofs.Common.{◌≡◌, ℕ, zero, suc, ◌+◌, ◌*◌, ◌/◌, ◌%◌, ◌^◌, ◌<◌, ◌≤◌, Bool, cond, eqb, List, [], ◌∷◌, ◌++◌, length, get_or, take, refl, sym, ◌∙◌, ap, arith, add-one, take_all}
+use Rattle.std.proofs.Common.{◌≡◌, ℕ, zero, suc, ◌+◌, ◌*◌, ◌%◌, ◌^◌, ◌<◌, ◌≤◌, Bool, cond, eqb, List, [], ◌∷◌, ◌++◌, length, get_or, take, refl, sym, ◌∙◌, ap, arith, add-one, take_all}
 use Rattle.std.specs.Int.{bit_at}
 use Rattle.std.proofs.lemmas.List.{take_more}
 use Rattle.std.proofs.lemmas.Nat.{mod-pow-add}
 use Rattle.std.proofs.lemmas.Nat.Bits.{bit_at-lt}
 use Rattle.bloom_parts.specs.Content.{content}
+use Rattle.bloom_parts.proofs.PublishedLemmas.{content-at}
 use Rattle.bloom.specs.Texts.{word_with_bits, words_with_content}
 
 -- a digit of base 2 counts its place or nothing
@@ -35,14 +36,9 @@ same_word (suc k) A B same =
 -- the word of a content at a place is that of the list
 word_at : (ws : List ℕ) (i : ℕ) → get_or ws i 0 < 2 ^ 64
     → word_with_bits (λ bit. content ws (64 * i + bit)) 64 ≡ get_or ws i 0
-unfolding content
 word_at ws i fits =
     same_word 64 (λ bit. content ws (64 * i + bit)) (λ bit. eqb (bit_at (get_or ws i 0) bit) 1)
-    (λ j below.
-    let word : (64 * i + j) / 64 ≡ i = omega arith in
-    let bit : (64 * i + j) % 64 ≡ j = omega arith in
-    ap (λ x. eqb (bit_at (get_or ws x 0) ((64 * i + j) % 64)) 1) word
-    ∙ ap (λ x. eqb (bit_at (get_or ws i 0) x) 1) bit)
+    (λ j below. content-at ws i j below)
     ∙ low (get_or ws i 0) 64 ∙ omega (arith, fits)
 
 -- the first words of a content are those of the list

@@ -41,6 +41,10 @@ numbered letter (Some n) =
 abbrev pub alone : ℕ → Option Line
 alone letter = if letter == 122 then Some Clear else if letter == 119 then Some Words else None
 
+-- the length of the longest good line, which is a letter, a space and twenty digits
+abbrev pub longest_line : ℕ
+longest_line = 22
+
 -- what a line asks for, if it is good: a letter, one space and a number, or a letter alone
 unfoldable pub line_of : List ℕ → Option Line
 line_of [] = None

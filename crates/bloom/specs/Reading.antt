@@ -3,7 +3,7 @@ use Rattle.std.specs.Prelude.{◌≡◌, ◌⊎◌, ℕ, ◌<◌, ◌≤◌, ◌
 use Rattle.std.specs.Io.KnownBytes.{Consumes, IsAtEnd, prepend_known}
 use Rattle.bloom.specs.declared.engine.line_reader.Next.{Next}
 use Rattle.bloom.specs.declared.engine.line_reader.Next.TheVariants.{End, Good, Bad}
-use Rattle.bloom.specs.Lines.{lines_of, line_of}
+use Rattle.bloom.specs.Lines.{lines_of, line_of, longest_line}
 
 -- what a reader of lines keeps: the bytes that were read and wait, and whether the end was told
 pub record Waiting : Type 0 where
@@ -36,10 +36,10 @@ abbrev pub has_no_end : List ℕ → Bool
 has_no_end [] = true
 has_no_end (b ∷ bytes) = not (b == 10) && has_no_end bytes
 
--- the first line of these bytes has n bytes, at most 22, and its end is there too
+-- the first line of these bytes has n bytes, no more than a good one may, and its end is there too
 pub record IsFirstLine (bytes : List ℕ) (n : ℕ) : Type 0 where
   pub within : n < length bytes
-  pub short : n ≤ 22
+  pub short : n ≤ longest_line
   pub ended : slice_index bytes n ≡ 10
   pub inside : has_no_end (take n bytes) ≡ true
 
@@ -55,12 +55,13 @@ TakesLine (Some old) (Some new) line =
     (taken : List ℕ) × (old ≡ taken ++ new) × (lines_of taken ≡ line ∷ [])
     × (IsEnded taken ⊎ (new ≡ []))
 
--- from old to new more than 22 bytes of one line were taken
+-- from old to new more bytes of one line were taken than a good one has
 abbrev pub TakesLong : Option (List ℕ) → Option (List ℕ) → Type 0
 TakesLong None new = Unit {0}
 TakesLong (Some old) None = ⊥
 TakesLong (Some old) (Some new) =
-    (taken : List ℕ) × (old ≡ taken ++ new) × (has_no_end taken ≡ true) × (22 < length taken)
+    (taken : List ℕ) × (old ≡ taken ++ new) × (has_no_end taken ≡ true)
+    × (longest_line < length taken)
 
 -- nothing is left, and nothing was taken
 abbrev pub Ends : Option (List ℕ) → Option (List ℕ) → Type 0

@@ -6,7 +6,7 @@ use Rattle.bloom_parts.specs.Content.{content}
 use Rattle.fastbloom.specs.Filter.{Filter}
 use Rattle.fastbloom.specs.Replies.{CarriesOut}
 use Rattle.bloom.specs.declared.engine.line.Line.{Line}
-use Rattle.bloom.specs.Lines.{lines_of, line_of, operations}
+use Rattle.bloom.specs.Lines.{lines_of, line_of, longest_line, operations}
 use Rattle.bloom.specs.Texts.{text_of}
 
 -- these lines' commands were carried out with some replies, and the lines' text was written
@@ -21,11 +21,11 @@ abbrev pub IsReadWhole : Option (List ℕ) → Option (List ℕ) → List Line �
 IsReadWhole read left lines =
     IfSome read (λ bytes. (map line_of (lines_of bytes) ≡ map Some lines) × (left ≡ Some []))
 
--- of these bytes the reader gave the line `bad` to its end, or more than 22 bytes of it
+-- of these bytes the reader gave the line `bad` to its end, or more of it than a good line has
 abbrev pub Reaches : List ℕ → List (List ℕ) → List ℕ → Type 0
 Reaches given good bad =
     (seen : List ℕ) × (later : List (List ℕ)) × (lines_of given ≡ good ++ seen ∷ later)
-    × ((seen ≡ bad) ⊎ (22 < length seen))
+    × ((seen ≡ bad) ⊎ (longest_line < length seen))
 
 -- the first line that isn't good comes after these good ones, and the reader gave it
 pub record IsReadUpTo (bytes : List ℕ) (read left : Option (List ℕ)) (lines : List Line) : Type 0

@@ -55,6 +55,10 @@ bit_is_on-and a b p =
     ap (λ d. eqb d 1) (bit_at_and a b (p % 64))
     ∙ min-digits _ _ (bit_at-lt a (p % 64)) (bit_at-lt b (p % 64))
 
+-- no bit of 0 is on
+pub bit_is_on-zero : (p : ℕ) → bit_is_on 0 p ≡ false
+bit_is_on-zero p = ap (λ d. eqb d 1) (bit_at-zero (p % 64))
+
 -- a digit that a bitwise or changes
 changed-digit : (d e : ℕ) → d < 2 → e < 2 → (d + max d e) % 2 ≡ (if eqb d 1 then 0 else e)
 changed-digit zero zero p q = refl

@@ -3,6 +3,7 @@ mod BracketLemmas
 mod BufferLemmas
 mod ContentLemmas
 mod DeciderFacts
+mod DeciderLemmas
 mod EndLemmas
 mod FillLemmas
 mod HalvingFacts

@@ -9,5 +9,10 @@ pub use Rattle.bloom_parts.proofs.PlaceLemmas.{part-from, part-to}
 pub use Rattle.bloom_parts.proofs.PlaceLemmas.{are_in-at, are_in-off}
 -- a power of a power
 pub use Rattle.bloom_parts.proofs.PowerBounds.{pow-pow}
--- bits of words that are or-ed or and-ed
-pub use Rattle.bloom_parts.proofs.ContentLemmas.{bit_is_on-or, bit_is_on-and}
+-- bits of words that are or-ed or and-ed, and of the word 0
+pub use Rattle.bloom_parts.proofs.ContentLemmas.{bit_is_on-or, bit_is_on-and, bit_is_on-zero}
+-- the content at a bit of a word, and past the words, where no position is on
+pub use Rattle.bloom_parts.proofs.WordLemmas.{content-at, content-past}
+-- two lists of deciders, one after the other, and the decisions that they come to
+pub use Rattle.bloom_parts.proofs.DeciderLemmas.{last_decision-append, state-append}
+pub use Rattle.bloom_parts.proofs.DeciderLemmas.{option_or-assoc, unwrap_or-option_or}

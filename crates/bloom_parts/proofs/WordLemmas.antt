@@ -1,11 +1,12 @@
 -- Words and their content determine each other.
-use Rattle.std.proofs.Common.{◌≡◌, ℕ, zero, suc, ◌+◌, ◌*◌, ◌/◌, ◌%◌, ◌^◌, ◌<◌, false, eqb, List, length, get_or, refl, sym, ◌∙◌, ap, arith, inl, inr}
+use Rattle.std.proofs.Common.{◌≡◌, ℕ, zero, suc, ◌+◌, ◌*◌, ◌/◌, ◌%◌, ◌^◌, ◌<◌, ◌≤◌, false, eqb, List, length, get_or, refl, sym, ◌∙◌, ap, arith, inl, inr}
 use Rattle.std.specs.Int.{bit_at}
-use Rattle.std.proofs.lemmas.Nat.Bits.{bit_at-lt, bit_at-zero, same_from_bits_below}
+use Rattle.std.proofs.lemmas.Nat.Bits.{bit_at-lt, same_from_bits_below}
 use Rattle.std.proofs.lemmas.Bool.{cases_lt, both_ways}
 use Rattle.std.proofs.lemmas.List.{ext_get_or, get_or_past}
 use Rattle.std.proofs.lemmas.List.Elements.{All-get_or}
 use Rattle.bloom_parts.specs.Content.{bit_is_on, content, AreWords, EqualWordsLaw, BoundLaw}
+use Rattle.bloom_parts.proofs.ContentLemmas.{bit_is_on-zero}
 
 -- digits of 0 or 1 that are 1 alike are equal
 same_digits : (a b : ℕ) → a < 2 → b < 2 → eqb a 1 ≡ eqb b 1 → a ≡ b
@@ -18,7 +19,7 @@ same_digits zero (suc (suc b)) p q same = absurd (omega arith)
 same_digits (suc zero) (suc (suc b)) p q same = absurd (omega arith)
 
 -- the content at bit i of word k
-content-at : (words : List ℕ) (k i : ℕ) → i < 64
+pub content-at : (words : List ℕ) (k i : ℕ) → i < 64
     → content words (64 * k + i) ≡ eqb (bit_at (get_or words k 0) i) 1
 unfolding content
 content-at words k i below =
@@ -45,14 +46,15 @@ equal_words_law a b fit fit' long = (
   same_words a b fit fit' long,
 )
 
+-- past the words no position is on
+pub content-past : (words : List ℕ) (p : ℕ) → length words ≤ p / 64 → content words p ≡ false
+unfolding content
+content-past words p past =
+    ap (λ word. bit_is_on word p) (get_or_past words (p / 64) 0 past) ∙ bit_is_on-zero p
+
 -- the law that no position lies past the words
 pub bound_law : BoundLaw
-unfolding content
 bound_law words p on = elim (cases_lt (p / 64) (length words)) [
   | inl within ↦ omega arith
-  | inr past ↦
-      let off : content words p ≡ false =
-      ap (λ word. bit_is_on word p) (get_or_past words (p / 64) 0 past)
-      ∙ ap (λ d. eqb d 1) (bit_at-zero (p % 64)) in
-      absurd (both_ways _ off on)
+  | inr past ↦ absurd (both_ways _ (content-past words p past) on)
 ]

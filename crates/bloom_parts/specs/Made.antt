@@ -1,5 +1,5 @@
--- That a step was made on a word of a vector that threads share, and what it found there. Outside of
--- this file nothing unfolds these facts: a proof has one only where the step itself handed it out.
+-- That a step was made on a word of a vector that threads share, and what it found there. Outside
+-- of this file nothing unfolds these facts: a proof has one only where the step itself handed it out.
 -- The lemmas that make them are cited by the proofs of those steps alone. This project's own.
 use Rattle.std.specs.Prelude.{ℕ, ◌<◌, ◌^◌}
 

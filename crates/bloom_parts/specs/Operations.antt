@@ -1,6 +1,6 @@
--- What a command to a filter of n bits and k hashes decides, and replies. The other filter of a union
--- or an intersection counts by its content, so that plain commands and calls made of word steps share
--- one text.
+-- What a command to a filter of n bits and k hashes decides, and replies. The other filter of a
+-- union or an intersection counts by its content, so that plain commands and calls made of word
+-- steps share one text.
 use Rattle.std.specs.Prelude.{ℕ, Bool, List, Option, Some, None, map, option_map}
 use Rattle.bloom_parts.specs.Places.{positions, are_in}
 use Rattle.bloom_parts.specs.Deciders.{Decider, decides_nothing, makes_on, makes_all_off, makes_off_outside, state}
@@ -33,6 +33,7 @@ asked_by Clear = None
 asked_by (Union other) = None
 asked_by (Intersect other) = None
 
--- the reply to a command, if it gives one: whether the positions of its hash are in the set just before
+-- the reply to a command, if it gives one: whether the positions of its hash are in the set just
+-- before
 abbrev pub reply : ℕ → ℕ → (ℕ → Bool) → Operation → Option Bool
 reply n k A operation = option_map (λ hash. are_in n k hash A) (asked_by operation)

@@ -5,6 +5,7 @@ use Rattle.std.proofs.Math.Seq.{take-length}
 use Rattle.std.proofs.lemmas.Bool.{both_ways, false_from_ne_true, ne_eqb}
 use Rattle.bloom_parts.specs.Content.{bit_is_on, content}
 use Rattle.bloom_parts.specs.Places.{place}
+use Rattle.bloom_parts.proofs.PublishedLemmas.{content-past}
 use Rattle.bloom_steps.specs.Plans.{EachPair, EachWord, LooksAt, Plan, TurnsOn, plan_of}
 use Rattle.bloom_steps.specs.declared.steps.vocabulary.End.{End}
 use Rattle.bloom_steps.specs.declared.steps.vocabulary.Record.{Record}
@@ -18,7 +19,6 @@ use Rattle.bloom_steps.proofs.RunLemmas.Changes.{DecidesOnly, TurnsOff, moment-m
 use Rattle.bloom_steps.proofs.RunLemmas.RecordedCalls.{step_held}
 use Rattle.bloom_steps.proofs.RunLemmas.PlacedSteps.{IsPairAt, IsPlacedAt}
 use Rattle.bloom_steps.proofs.StepLemmas.Members.{some_member}
-use Rattle.bloom_steps.proofs.StepLemmas.Writing.{content-past}
 
 -- a word within isn't that of a position past
 not_here : (q i w : ℕ) → i < w → w ≤ q / 64 → nat_eq (q / 64) i ≡ false

@@ -11,6 +11,7 @@ use Rattle.bloom_steps.specs.declared.steps.vocabulary.Call.TheVariants.{Clear, 
 use Rattle.bloom_steps.specs.declared.steps.vocabulary.Step.TheVariants.{And, Or, Zero}
 use Rattle.bloom_steps.specs.declared.steps.vocabulary.Step.TheVariants as step
 use Rattle.bloom_parts.specs.Operations.{decides}
+use Rattle.bloom_parts.proofs.PublishedLemmas.{position-from, position-to}
 use Rattle.bloom_steps.specs.Scripts.{IsScript, Taken, Each, ArePairs}
 use Rattle.bloom_steps.specs.Sequences.{command_of, other_words}
 use Rattle.bloom_steps.specs.Steps.{after_records, or_at, step_decides}
@@ -19,7 +20,6 @@ use Rattle.bloom_steps.proofs.RunLemmas.Changes.{or_at-decides}
 use Rattle.bloom_steps.proofs.RunLemmas.CallSteps.{AllDecide, Fits, steps-none, steps-some}
 use Rattle.bloom_steps.proofs.RunLemmas.PairSteps.{other-past, pairs-steps}
 use Rattle.bloom_steps.proofs.StepLemmas.Plans.{ReadsNoOther, TurnsBy, TurnsWordOff, made, plan_decides}
-use Rattle.bloom_steps.proofs.RunLemmas.Positions.{positions-from, positions-to}
 use Rattle.bloom_steps.proofs.StepLemmas.Members.{some_member}
 
 -- past the words nothing is on, before a call and after it
@@ -52,7 +52,7 @@ module _ (w k p : ℕ) (s : List Taken) (A : ℕ → Bool) where
       go : (b : Bool) → positions (64 * w) k h q ≡ b
           → after_records A (did p s) q ≡ unwrap_or (made true b) (A q)
       go true e =
-          let at = positions-from (64 * w) k h q e in
+          let at = position-from (64 * w) k h q e in
           let count = is.count in
           let below = at.1 in
           let t = some_member s at.0 (omega arith) in
@@ -69,7 +69,7 @@ module _ (w k p : ℕ) (s : List Taken) (A : ℕ → Bool) where
             let count = is.count in
             absurd
             (both_ways (positions (64 * w) k h q) e
-            (positions-to (64 * w) k h q i (omega arith) here.0))
+            (position-to (64 * w) k h q (i, omega arith, sym here.0)))
         | inr other ↦ inl (ap (λ x. step_decides x q) (is.steps i t g) ∙ other.1)
       ])
 

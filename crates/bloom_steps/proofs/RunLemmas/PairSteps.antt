@@ -4,6 +4,7 @@ use Rattle.std.proofs.Common.{[], ◌*◌, ◌++◌, ◌+◌, ◌/◌, ◌<◌, 
 use Rattle.std.proofs.lemmas.Bool.Decides.{eqb_tells}
 use Rattle.std.proofs.lemmas.Option.{get_or_from_slice_get, none-some, same_Some, slice_get_within}
 use Rattle.bloom_parts.specs.Content.{bit_is_on, content}
+use Rattle.bloom_parts.proofs.PublishedLemmas.{content-past}
 use Rattle.bloom_steps.specs.declared.steps.vocabulary.Step.{Step}
 use Rattle.bloom_steps.specs.declared.steps.vocabulary.Step.TheVariants.{Other}
 use Rattle.bloom_steps.specs.Scripts.{ArePairs, Taken}
@@ -13,7 +14,7 @@ use Rattle.bloom_steps.specs.Courses.{did}
 use Rattle.bloom_steps.proofs.RunLemmas.CallSteps.{AllDecide, steps-some}
 use Rattle.bloom_steps.proofs.StepLemmas.Going.{parity}
 use Rattle.bloom_steps.proofs.StepLemmas.Members.{some_member}
-use Rattle.bloom_steps.proofs.StepLemmas.Writing.{content-past, content-word}
+use Rattle.bloom_steps.proofs.StepLemmas.Writing.{content-word}
 
 -- pairs of a load of the other filter's word and a write with what it found, from word j on
 pub data PairsFrom (op : ℕ → ℕ → Step) : ℕ → List Taken → Type 0 where

@@ -55,7 +55,8 @@ module _ (k parties : ℕ) (words : List ℕ) (schedule : List Event) (i : ℕ) 
       subst (TellsAll k parties words schedule) (sym made.parts)
       (let course = course_of now in
       let lawful = lawful_world k course now.machines.items so_far.world made.fit in
-      let some : 1 ≤ length course.start = subst (λ l. 1 ≤ length l) (sym so_far.start) some_words in
+      let some : 1 ≤ length course.start =
+      subst (λ l. 1 ≤ length l) (sym so_far.start) some_words in
       record {
         lawful = lawful;
         follows = record { begins = so_far.start; events = follows_all };

@@ -2,6 +2,7 @@
 use Rattle.std.proofs.Common.{[], ◌*◌, ◌++◌, ◌+◌, ◌-◌, ◌∷◌, ◌≡◌, ◌⊎◌, List, append_assoc, arith, false, inl, inr, length, refl, subst, suc, zero, ℕ}
 use Rattle.bloom_parts.specs.Content.{bit_is_on}
 use Rattle.bloom_parts.specs.Places.{place}
+use Rattle.bloom_parts.proofs.PublishedLemmas.{bit_is_on-zero}
 use Rattle.bloom_steps.specs.declared.steps.vocabulary.Call.{Call}
 use Rattle.bloom_steps.specs.Plans.{EachPair, EachWord, LooksAt, Plan, TurnsOn, plan_of}
 use Rattle.bloom_steps.specs.declared.steps.vocabulary.End.{End}
@@ -13,7 +14,6 @@ use Rattle.bloom_steps.specs.Scripts.{IsBeginning, Taken, Fulfils}
 use Rattle.bloom_steps.proofs.StepLemmas.Going.{some_step}
 use Rattle.bloom_steps.proofs.StepLemmas.Growing.{EndsNext, FitsNext, KeepsOnAt, goes_on-more, length-more, script-more}
 use Rattle.bloom_steps.proofs.StepLemmas.Members.{member-seam}
-use Rattle.bloom_steps.proofs.StepLemmas.Writing.{bit_is_on-zero}
 
 -- steps that can be brought to an end
 abbrev CanEnd : ℕ → ℕ → Plan → List Taken → Type 0

@@ -28,29 +28,31 @@ asked-within w k call s step asked = elim asked.either [
 ]
 
 -- stores with a number of words, and the steps between them
-module _ {S : Type 0} (count : S → ℕ) (moved : S → Step → ℕ → S → Type 0) (k : ℕ) (call : Call) where
-  -- some steps were made, one after the other, and the machine stands where they leave it
-  pub record HasMade (before now : S) (m : Machine) : Type 0 where
-    pub taken : List Taken
-    pub words : count now ≡ count before
-    pub stands : StandsAt m (count before) k call taken
-    pub linked : Linked moved before taken now
+module _ {S : Type 0} (count : S → ℕ) (moved : S → Step → ℕ → S → Type 0) (k : ℕ) (call : Call)
+  where
+    -- some steps were made, one after the other, and the machine stands where they leave it
+    pub record HasMade (before now : S) (m : Machine) : Type 0 where
+      pub taken : List Taken
+      pub words : count now ≡ count before
+      pub stands : StandsAt m (count before) k call taken
+      pub linked : Linked moved before taken now
 
-  -- the step asked for is on one of the words
-  pub made-within : (before now : S) (m : Machine) → HasMade before now m → (step : Step)
-      → AsksRight m (Some step) → word_index step < count now
-  made-within before now m made step asks_right =
-      subst (λ n. word_index step < n) (sym made.words)
-      (asked-within (count before) k call made.taken step (asks_right _ _ _ made.taken made.stands))
+    -- the step asked for is on one of the words
+    pub made-within : (before now : S) (m : Machine) → HasMade before now m → (step : Step)
+        → AsksRight m (Some step) → word_index step < count now
+    made-within before now m made step asks_right =
+        subst (λ n. word_index step < n) (sym made.words)
+        (asked-within (count before) k call made.taken step
+        (asks_right _ _ _ made.taken made.stands))
 
-  -- it was made too, and the machine was told what it found
-  pub made-more : (before now after : S) (m n : Machine) → HasMade before now m
-      → (step : Step) (found : ℕ) → asks m ≡ Some step → StandsFurther m found n
-      → record { moved : moved now step found after; words : count after ≡ count now }
-      → HasMade before after n
-  made-more before now after m n made step found asked further did = record {
-    taken = _;
-    words = did.words ∙ made.words;
-    stands = further _ _ _ made.taken step asked made.stands;
-    linked = linked-more moved before now after made.taken _ made.linked did.moved;
-  }
+    -- it was made too, and the machine was told what it found
+    pub made-more : (before now after : S) (m n : Machine) → HasMade before now m
+        → (step : Step) (found : ℕ) → asks m ≡ Some step → StandsFurther m found n
+        → record { moved : moved now step found after; words : count after ≡ count now }
+        → HasMade before after n
+    made-more before now after m n made step found asked further did = record {
+      taken = _;
+      words = did.words ∙ made.words;
+      stands = further _ _ _ made.taken step asked made.stands;
+      linked = linked-more moved before now after made.taken _ made.linked did.moved;
+    }

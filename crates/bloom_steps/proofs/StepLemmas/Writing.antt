@@ -1,11 +1,9 @@
 -- What one step does to the content of words.
-use Rattle.std.proofs.Common.{[], ◌%◌, ◌&&◌, ◌/◌, ◌<◌, ◌∙◌, ◌∷◌, ◌≡◌, ◌≢◌, ◌≤◌, Bool, List, None, Option, Some, ap, arith, bit_and, bit_or, eq-eqb, false, get_or-set_other, get_or-set_same, if◌then◌else◌, length, map, max, min, nat_eq, not, refl, slice_index, slice_set, sym, true, unwrap_or, ℕ}
+use Rattle.std.proofs.Common.{[], ◌&&◌, ◌/◌, ◌<◌, ◌∙◌, ◌∷◌, ◌≡◌, ◌≢◌, ◌||◌, Bool, List, None, Option, Some, ap, bit_and, bit_or, eq-eqb, false, get_or-set_other, get_or-set_same, if◌then◌else◌, length, map, nat_eq, not, refl, slice_index, slice_set, sym, true, unwrap_or, ℕ}
 use Rattle.std.proofs.lemmas.Bool.{both_ways, eqb-true}
-use Rattle.std.proofs.lemmas.Bool.Decides.{nat_tests}
-use Rattle.std.proofs.lemmas.List.{get_or_past, length-set}
-use Rattle.std.proofs.lemmas.Nat.Bits.{bit_at-zero, bit_at_and, bit_at_or}
-use Rattle.std.specs.Int.{bit_at}
+use Rattle.std.proofs.lemmas.List.{length-set}
 use Rattle.bloom_parts.specs.Content.{bit_is_on, content}
+use Rattle.bloom_parts.proofs.PublishedLemmas.{bit_is_on-and, bit_is_on-or, bit_is_on-zero}
 use Rattle.bloom_steps.specs.declared.steps.vocabulary.Step.{Step}
 use Rattle.bloom_steps.specs.declared.steps.vocabulary.Step.TheVariants.{And, Load, Or, Other, Take, Zero}
 use Rattle.bloom_steps.specs.Memories.{Memory, MemoryLaw, words_after}
@@ -13,61 +11,19 @@ use Rattle.bloom_steps.specs.Scripts.{Taken}
 use Rattle.bloom_steps.specs.Steps.{step_decides, word_index}
 use Rattle.bloom_steps.proofs.StepLemmas.Deciding.{state-first, state-same}
 
--- a binary digit is 0 or 1
-digit-below : (n i : ℕ) → bit_at n i < 2
-digit-below n i = omega arith
+-- a bit that is or-ed is on where a decision to turn it on is made, and else as it was
+or-decides : (a b : Bool) → (a || b) ≡ unwrap_or (if b then Some true else None) a
+or-decides true true = refl
+or-decides true false = refl
+or-decides false true = refl
+or-decides false false = refl
 
--- the larger of two digits is 1 where one is
-or_digits : (a b : ℕ) → a < 2 → b < 2
-    → nat_eq (max a b) 1 ≡ (if nat_eq b 1 then true else nat_eq a 1)
-or_digits a b p q = grind (arith, nat_tests)
-
--- the lesser where both are
-and_digits : (a b : ℕ) → a < 2 → b < 2
-    → nat_eq (min a b) 1 ≡ (if not (nat_eq b 1) then false else nat_eq a 1)
-and_digits a b p q = grind (arith, nat_tests)
-
--- a mask turns bits on
-bit_is_on-or : (x mask p : ℕ)
-    → bit_is_on (bit_or x mask) p ≡ unwrap_or (if bit_is_on mask p then Some true else None)
-    (bit_is_on x p)
-bit_is_on-or x mask p =
-    ap (λ b. nat_eq b 1) (bit_at_or x mask (p % 64))
-    ∙ or_digits (bit_at x (p % 64)) (bit_at mask (p % 64)) (digit-below x (p % 64))
-    (digit-below mask (p % 64))
-    ∙ go (bit_is_on mask p)
-  where
-    go : (b : Bool)
-        → (if b then true else bit_is_on x p) ≡ unwrap_or (if b then Some true else None)
-        (bit_is_on x p)
-    go true = refl
-    go false = refl
-
--- and off
-bit_is_on-and : (x mask p : ℕ)
-    → bit_is_on (bit_and x mask) p ≡ unwrap_or (if not (bit_is_on mask p) then Some false else None)
-    (bit_is_on x p)
-bit_is_on-and x mask p =
-    ap (λ b. nat_eq b 1) (bit_at_and x mask (p % 64))
-    ∙ and_digits (bit_at x (p % 64)) (bit_at mask (p % 64)) (digit-below x (p % 64))
-    (digit-below mask (p % 64))
-    ∙ go (bit_is_on mask p)
-  where
-    go : (b : Bool)
-        → (if not b then false else bit_is_on x p) ≡ unwrap_or (if not b then Some false else None)
-        (bit_is_on x p)
-    go true = refl
-    go false = refl
-
--- a word of 0 has no bit on
-pub bit_is_on-zero : (p : ℕ) → bit_is_on 0 p ≡ false
-bit_is_on-zero p = ap (λ b. nat_eq b 1) (bit_at-zero (p % 64))
-
--- past the words nothing is on
-pub content-past : (words : List ℕ) (p : ℕ) → length words ≤ p / 64 → content words p ≡ false
-unfolding content
-content-past words p past =
-    ap (λ x. bit_is_on x p) (get_or_past words (p / 64) 0 past) ∙ bit_is_on-zero p
+-- a bit that is and-ed is off where a decision to turn it off is made, and else as it was
+and-decides : (a b : Bool) → (a && b) ≡ unwrap_or (if not b then Some false else None) a
+and-decides true true = refl
+and-decides true false = refl
+and-decides false true = refl
+and-decides false false = refl
 
 -- the content at the positions of one word
 pub content-word : (words : List ℕ) (i p : ℕ) → p / 64 ≡ i
@@ -103,12 +59,16 @@ content-step words (Load i) p within = refl
 content-step words (Or i mask) p within =
     content-set words i (bit_or (slice_index words i) mask) p (nat_eq (p / 64) i)
     (if bit_is_on mask p then Some true else None)
-    within refl (bit_is_on-or (slice_index words i) mask p)
+    within refl
+    (bit_is_on-or (slice_index words i) mask p
+    ∙ or-decides (bit_is_on (slice_index words i) p) (bit_is_on mask p))
     ∙ ap (λ o. unwrap_or o (content words p)) (joined (nat_eq (p / 64) i) (bit_is_on mask p) true)
 content-step words (And i mask) p within =
     content-set words i (bit_and (slice_index words i) mask) p (nat_eq (p / 64) i)
     (if not (bit_is_on mask p) then Some false else None)
-    within refl (bit_is_on-and (slice_index words i) mask p)
+    within refl
+    (bit_is_on-and (slice_index words i) mask p
+    ∙ and-decides (bit_is_on (slice_index words i) p) (bit_is_on mask p))
     ∙ ap (λ o. unwrap_or o (content words p))
     (joined (nat_eq (p / 64) i) (not (bit_is_on mask p)) false)
 content-step words (Zero i) p within =

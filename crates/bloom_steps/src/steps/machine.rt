@@ -4,7 +4,7 @@ ghost use Rattle.bloom_parts.specs.Content.{bit_is_on};
 ghost use Rattle.bloom_steps.specs.Plans.{hash_of, most_steps, plan_of};
 
 use super::vocabulary::{Call, End, Step};
-use bloom_parts::bit_vector::index;
+use bloom_parts::bit_vector::{index, word_and_mask};
 use bloom_parts::hasher::DoubleHasher;
 
 /// A call under way: it says which step comes next, and is told what each step found.
@@ -99,9 +99,10 @@ impl Machine {
         if self.ended {
             return None;
         }
+        let (word, mask) = word_and_mask(self.place);
         Some(match self.call {
-            Call::Insert(_) => Step::Or(self.place / 64, 1 << (self.place % 64)),
-            Call::Contains(_) => Step::Load(self.place / 64),
+            Call::Insert(_) => Step::Or(word, mask),
+            Call::Contains(_) => Step::Load(word),
             Call::Clear => Step::Zero(self.turn),
             Call::Union => self.read_or(Step::Or(self.turn / 2, self.other)),
             Call::Intersect => self.read_or(Step::And(self.turn / 2, self.other)),

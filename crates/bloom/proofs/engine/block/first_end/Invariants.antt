@@ -1,4 +1,5 @@
-use Rattle.std.proofs.Common.{◌≡◌, ◌≤◌, true, take}
+use Rattle.std.proofs.Common.{◌≡◌, ◌+◌, ◌≤◌, true, take}
+use Rattle.bloom.specs.Lines.{longest_line}
 use Rattle.bloom.specs.Reading.{has_no_end}
 use Rattle.bloom.proofs.engine.block.first_end.Given as goal
 
@@ -6,5 +7,5 @@ use Rattle.bloom.proofs.engine.block.first_end.Given as goal
 abbrev pub invariant-bytes : goal.invariant-bytes
 invariant-bytes l = record {
   inside : has_no_end (take l.at l.bytes) ≡ true;
-  short : l.at ≤ 23;
+  short : l.at ≤ longest_line + 1;
 }
