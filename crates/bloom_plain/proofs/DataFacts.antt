@@ -1,4 +1,5 @@
--- Data of filters: cases that hold, and cases that nearly do. A form is given by what is seen of it.
+-- Data of filters: cases that hold, and cases that nearly do. A form is given by what is seen of
+-- it.
 use Rattle.std.proofs.Common.{◌≡◌, ℕ, Some, None, [], ◌∷◌, refl, arith, ap}
 use Rattle.std.specs.Prelude.{vec_len}
 use Rattle.bloom_parts.specs.declared.error.FilterError.TheVariants.{EmptyWords, TooManyWords, HashCount}

@@ -1,4 +1,5 @@
 pub mod AtMostOne
+pub mod Balances
 pub mod Bounds
 pub mod CallRecords
 pub mod CallReplies

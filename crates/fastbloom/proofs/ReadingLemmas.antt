@@ -68,7 +68,8 @@ read-loaded run reading vector from of start whole =
       count = count;
       each = λ i within.
           let loaded =
-          each-loaded run.from run.gave.0.0 run.items run.gave.0.1 i (omega (arith, within, count)) in
+          each-loaded run.from run.gave.0.0 run.items run.gave.0.1 i
+          (omega (arith, within, count)) in
           let on : run.from.next + i ≡ i = omega (arith, first) in (
             loaded.0,
             subst (λ n. FoundByLoad vector n loaded.0) on

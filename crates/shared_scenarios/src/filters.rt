@@ -3,7 +3,7 @@ use fastbloom::{AtomicBloomFilter, FilterError};
 use std::alloc::Global;
 
 /// A shared filter of these words.
-pub fn filter_of(
+pub(crate) fn filter_of(
     alloc: Global,
     words: &[u64],
     num_hashes: u32,
@@ -13,7 +13,7 @@ pub fn filter_of(
 }
 
 /// Two shared filters of these words, with as many hashes.
-pub fn pair_of(
+pub(crate) fn pair_of(
     alloc: Global,
     words: &[u64],
     others: &[u64],
@@ -25,16 +25,16 @@ pub fn pair_of(
 }
 
 /// Whether the words of a filter are these.
-pub fn has_words(filter: &AtomicBloomFilter, words: &[u64]) -> bool {
+pub(crate) fn has_words(filter: &AtomicBloomFilter, words: &[u64]) -> bool {
     filter.iter().eq(words.iter().copied())
 }
 
 /// Whether all bits of a filter are off.
-pub fn is_empty(filter: &AtomicBloomFilter) -> bool {
+pub(crate) fn is_empty(filter: &AtomicBloomFilter) -> bool {
     filter.iter().all(|word| word == 0)
 }
 
 /// The numbers of bits and hashes.
-pub fn shape_of(filter: &AtomicBloomFilter) -> (usize, u32) {
+pub(crate) fn shape_of(filter: &AtomicBloomFilter) -> (usize, u32) {
     (filter.num_bits(), filter.num_hashes())
 }

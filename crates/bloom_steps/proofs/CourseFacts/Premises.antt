@@ -54,7 +54,8 @@ by_hash records = (
   where
     by_call :
         NoCall records Clear × NoCall records Union × NoCall records Intersect
-        × NoCall records Take → (m party : ℕ) (call : Call) → slice_get records m ≡ Some (Began party call)
+        × NoCall records Take → (m party : ℕ) (call : Call)
+        → slice_get records m ≡ Some (Began party call)
         → goes_by_hash (plan_of call) ≡ true
     by_call none m party (Insert hash) g = refl
     by_call none m party (Contains hash) g = refl

@@ -108,7 +108,8 @@ pub count_below-word : (w i word : ℕ) (f g : ℕ → Bool) → i < w
     → count_below (64 * w) f ≡ bits_on word + count_below (64 * w) g
 unfolding bits_on
 count_below-word w i word f g l part same =
-    count_below-less (64 * w) (64 * w - (64 + 64 * i)) 64 (64 * i) f g (bit_is_on word) (omega arith)
+    count_below-less (64 * w) (64 * w - (64 + 64 * i)) 64 (64 * i) f g (bit_is_on word)
+    (omega arith)
     (λ j b.
     let its = part (j + 64 * i) (omega (arith, b)) in
     let bit : j % 64 ≡ (j + 64 * i) % 64 = omega (arith, b) in

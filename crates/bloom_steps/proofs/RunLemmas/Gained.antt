@@ -1,7 +1,6 @@
 -- Each position is turned on once.
 use Rattle.std.proofs.Common.{◌∙◌, ◌≡◌, Some, ap, arith, length, refl, slice_get, sym, true, ℕ}
 use Rattle.std.proofs.Math.Seq.{take-length}
-use Rattle.std.proofs.lemmas.Bool.{both_ways}
 use Rattle.std.specs.Prelude.{sum_by}
 use Rattle.bloom_parts.specs.Content.{content}
 use Rattle.bloom_steps.specs.declared.steps.vocabulary.Call.{Call}

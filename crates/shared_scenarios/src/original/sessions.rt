@@ -1387,6 +1387,6 @@ const SESSIONS: [Session; 40] = [
 ];
 
 /// What the original crate answered.
-pub fn recorded() -> &'static [Session] {
+pub(crate) fn recorded() -> &'static [Session] {
     &SESSIONS
 }
