@@ -48,7 +48,7 @@ fn take_often(
     for i in 0..times {
         take(alloc, filter, kept)?;
         for j in 0..20 {
-            filter.contains_hash(spread(20 * i + j));
+            filter.contains_hash(spread(i ^ j));
         }
     }
     Ok(())
