@@ -91,21 +91,21 @@ abbrev pub runs : ℕ → List Record → Bool
 runs party records = last_leaves_running (records_of party records)
 
 -- a party that is one of the run's and runs no call begins one
-pub record Begins (parties : ℕ) (before : List Record) (party : ℕ) (call : Call)
+pub record BeginsCall (parties : ℕ) (before : List Record) (party : ℕ) (call : Call)
     (added : List Record) : Type 0 where
   pub within : party < parties
   pub idle : runs party before ≡ false
   pub same : added ≡ Began party call ∷ []
 
 -- any other party begins none
-pub record BeginsNone (parties : ℕ) (before : List Record) (party : ℕ)
+pub record BeginsNoCall (parties : ℕ) (before : List Record) (party : ℕ)
     (added : List Record) : Type 0 where
   pub busy : party < parties → runs party before ≡ true
   pub same : added ≡ []
 
 -- a party that runs a call makes one step, which finds the word given where it reads the other
 -- filter
-pub record Steps (before : List Record) (party given : ℕ) (added : List Record) : Type 0 where
+pub record TakesStep (before : List Record) (party given : ℕ) (added : List Record) : Type 0 where
   pub running : runs party before ≡ true
   pub step : Step
   pub found : ℕ
@@ -114,16 +114,16 @@ pub record Steps (before : List Record) (party given : ℕ) (added : List Record
   pub reads : (i : ℕ) → step ≡ Other i → found ≡ given
 
 -- a party that runs none makes none
-pub record StepsNone (before : List Record) (party : ℕ) (added : List Record) : Type 0 where
+pub record TakesNoStep (before : List Record) (party : ℕ) (added : List Record) : Type 0 where
   pub idle : runs party before ≡ false
   pub same : added ≡ []
 
 -- what an event adds to the records before it
 abbrev pub Gives : ℕ → List Record → Event → List Record → Type 0
 Gives parties before (Begin party call) added =
-    Begins parties before party call added ⊎ BeginsNone parties before party added
+    BeginsCall parties before party call added ⊎ BeginsNoCall parties before party added
 Gives parties before (Go party given) added =
-    Steps before party given added ⊎ StepsNone before party added
+    TakesStep before party given added ⊎ TakesNoStep before party added
 
 -- the records of events in order, after the records before
 pub data FollowsFrom (parties : ℕ) : List Record → List Event → List Record → Type 0 where

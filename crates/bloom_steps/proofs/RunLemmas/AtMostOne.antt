@@ -11,7 +11,7 @@ use Rattle.bloom_steps.specs.declared.steps.vocabulary.Record.TheVariants.{Did}
 use Rattle.bloom_steps.specs.declared.steps.vocabulary.Step.TheVariants.{Other}
 use Rattle.bloom_steps.specs.Scripts.{IsScript, Taken}
 use Rattle.bloom_steps.specs.Steps.{after_records}
-use Rattle.bloom_steps.specs.Courses.{AtMostOne, CallAfterCall, FindsWhatIsThere, FollowsFrom, Gives, Steps, MayFind, next_event, no_event, records_of, runs}
+use Rattle.bloom_steps.specs.Courses.{AtMostOne, CallAfterCall, FindsWhatIsThere, FollowsFrom, Gives, TakesStep, MayFind, next_event, no_event, records_of, runs}
 use Rattle.bloom_steps.proofs.RunLemmas.NextSteps.{GoesAfter, goes_after, newest-same}
 use Rattle.bloom_steps.proofs.RunLemmas.PartyRecords.{records_of-append, records_of-mine}
 use Rattle.bloom_steps.proofs.RunLemmas.UniqueSteps.{end-same, found-same}
@@ -69,7 +69,7 @@ module _ (w k : ℕ) (A : ℕ → Bool) where
 
   -- a step that is recorded is one
   step-same : (before : List Record) (p given : ℕ) (a b later other : List Record)
-      → Steps before p given a → Steps before p given b
+      → TakesStep before p given a → TakesStep before p given b
       → AreLawful w k A (before ++ (a ++ later)) → AreLawful w k A (before ++ (b ++ other)) → a ≡ b
   step-same before p given a b later other x y f g =
       let t : Taken = record { step = x.step; found = x.found; ended = x.ended } in
