@@ -29,8 +29,8 @@ whole-bad (line ∷ lines) is =
 whole-lines : (left : Option (List ℕ)) (lines : List Line)
     → IsReadWhole (Some (codes "i 1\n")) left lines → lines ≡ Insert 1 ∷ []
 unfolding lines_of line_of number_of
-whole-lines left [] is = let good : ◌≡◌ {A = List (Option Line)} (Some (Insert 1) ∷ []) [] = is.good in
-    cc
+whole-lines left [] is =
+    let good : ◌≡◌ {A = List (Option Line)} (Some (Insert 1) ∷ []) [] = is.good in cc
 whole-lines left (line ∷ []) is = let good : Some (Insert 1) ∷ [] ≡ Some line ∷ [] = is.good in cc
 whole-lines left (line ∷ (other ∷ lines)) is =
     let good : Some (Insert 1) ∷ [] ≡ Some line ∷ Some other ∷ map Some lines = is.good in cc

@@ -68,7 +68,7 @@ untold : InsertsTell (twins_answering true) → ⊥
 untold tell =
     let is =
     finished (twins_answering true) 0 (Insert 1) 0 5 (Answer true) refl (omega arith)
-    (step_at (Or 0 1048576) 1048577 refl) (λ e. cc) refl in
+    (Or 0 1048576) 1048577 refl (λ e. cc) refl in
     let wrong = (tell 0 1 0 5 true is).1 (first-on true) in
     cc
 
@@ -88,6 +88,6 @@ idle-on one =
 idle-untold : InsertsTell idle_insert → ⊥
 idle-untold tell =
     let is =
-    finished idle_insert 0 (Insert 0) 0 1 (Answer false) refl (omega arith) (step_at (Load 0) 0 refl)
+    finished idle_insert 0 (Insert 0) 0 1 (Answer false) refl (omega arith) (Load 0) 0 refl
     (λ e. cc) refl in
     idle-on ((tell 0 0 0 1 false is).0 refl)

@@ -73,7 +73,8 @@ calls : (party : ℕ) → CallAfterCall 1 1 party (records_of party insert_then_
 unfolding records_of
 calls zero =
     whole_call (Insert 0) inserted _ inserted-script
-    (begun_call Union (took (Other 0) 9 Running ∷ []) (record { next = _; rest = _; script = read_write-script 9 }))
+    (begun_call Union (took (Other 0) 9 Running ∷ [])
+    (record { next = _; rest = _; script = read_write-script 9 }))
 calls (suc zero) = whole_call (Contains 0) found [] found-script no_call
 calls (suc (suc party)) =
     subst (CallAfterCall 1 1 (suc (suc party)))

@@ -11,7 +11,7 @@ use Rattle.bloom_steps.specs.declared.steps.vocabulary.End.TheVariants.{Answer}
 use Rattle.bloom_steps.specs.Interleavings.{ContainsTell, FindsInserted, IsRightAt}
 use Rattle.bloom_steps.specs.Moments.{IsFinished, NoneTurnedOff, moment, turns_off}
 use Rattle.bloom_steps.proofs.CourseFacts.Courses.{disturbed, insert_in_clear, insert_then_contains, insert_then_contains_answering, last_load_alone, off_and_on}
-use Rattle.bloom_steps.proofs.CourseFacts.Finished.{finished, finished-contains, step_at}
+use Rattle.bloom_steps.proofs.CourseFacts.Finished.{finished, finished-contains}
 use Rattle.bloom_steps.proofs.CourseFacts.Lawful.{lawful-insert_then_contains}
 use Rattle.bloom_steps.proofs.CourseFacts.Undisturbed.{alone, only}
 use Rattle.bloom_steps.proofs.RunLemmas.Contains.{contains_tell}
@@ -90,7 +90,7 @@ off-late_told : ContainsTell 1 off_and_on → ⊥
 off-late_told tell =
     off-late
     (tell 0 0 0 5 false
-    (finished off_and_on 0 (Contains 0) 0 5 (Answer false) refl (omega arith) (step_at (Load 0) 1 refl)
+    (finished off_and_on 0 (Contains 0) 0 5 (Answer false) refl (omega arith) (Load 0) 1 refl
     (λ e. cc) refl))
 
 -- both theorems hold of a look-up after a finished insert of its hash: it is right
@@ -107,14 +107,14 @@ finished-insert : (answer : Bool)
     → IsFinished (insert_then_contains_answering answer) 0 (Insert 0) 0 1 (Answer false)
 finished-insert answer =
     finished (insert_then_contains_answering answer) 0 (Insert 0) 0 1 (Answer false) refl
-    (omega arith) (step_at (Or 0 1) 4 refl) (λ e. cc) refl
+    (omega arith) (Or 0 1) 4 refl (λ e. cc) refl
 
 -- the look-up is finished, whatever it answers
 finished-look_up : (answer : Bool)
     → IsFinished (insert_then_contains_answering answer) 1 (Contains 0) 2 3 (Answer answer)
 finished-look_up answer =
     finished (insert_then_contains_answering answer) 1 (Contains 0) 2 3 (Answer answer) refl
-    (omega arith) (step_at (Load 0) 5 refl) (λ e. cc) refl
+    (omega arith) (Load 0) 5 refl (λ e. cc) refl
 
 -- at its last load the hash is contained
 contained : are_in 64 1 0 (moment (insert_then_contains_answering false) 3) ≡ true

@@ -84,8 +84,8 @@ module _ (k : ℕ) (run : Course) (lawful : IsLawful k run) (some_words : 1 ≤ 
       let later = at.later in
       persists run q at.m (last - at.m) last (omega arith) (sym was ∙ found)
       (λ j l u turns.
-      not_turned_off run j q (calm j q (omega arith) (omega arith) (place-position n k hash i below))
-      turns)) in
+      let here = place-position n k hash i below in
+      not_turned_off run j q (calm j q (omega arith) (omega arith) here) turns)) in
       record {
         within = record { after = omega arith; upto = omega arith };
         undisturbed = λ calm. both_alike answer (are_in n k hash (moment run last)) (on calm) off;

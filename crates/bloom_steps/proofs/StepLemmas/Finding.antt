@@ -28,7 +28,8 @@ any_split s t P (i, u, here, has) =
 
 -- where a step found its bit off, turning on a hash ends with false
 pub ends-off : (w hash : ℕ) (s : List Taken) (i : ℕ) (t : Taken) → slice_get s i ≡ Some t
-    → bit_is_on t.found (place (64 * w) hash i) ≡ false → IsLastEnd w (TurnsOn hash) s (Answer false)
+    → bit_is_on t.found (place (64 * w) hash i) ≡ false
+    → IsLastEnd w (TurnsOn hash) s (Answer false)
 ends-off w hash s i t here off = (false, refl, ((λ _. (i, t, here, off)), (λ _. refl)))
 
 -- whether all bits were on, after one more

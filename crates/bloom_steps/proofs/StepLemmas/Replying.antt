@@ -115,7 +115,8 @@ module _ (m n : Machine) (w k : ℕ) where
       → n.ended ≡ true → t.ended ≡ end_by (answer_by plan n.all_on) → EndsNext w k plan s t
   ends (TurnsOn h) s t st a e over last =
       let at_last = eqb-true _ _ (sym e ∙ over) in
-      let turns = st.turns in let hashes = st.hashes in (omega arith, (n.all_on, last, keeps-more (TurnsOn h) s t st a))
+      let turns = st.turns in let hashes = st.hashes in
+      (omega arith, (n.all_on, last, keeps-more (TurnsOn h) s t st a))
   ends (LooksAt h) s t st a e over last = (
     go (bit_is_on t.found m.place) refl (sym e ∙ over),
     last ∙ ap Answer a ∙ ap (λ p. Answer (bit_is_on t.found p)) st.placed.here,
