@@ -63,13 +63,12 @@ module _ (before left taken block rest : List ℕ) (lines : List Line)
         is_bad = bad;
         given = before ++ (taken ++ block);
         gave = gave;
-        reached = (
-          text,
-          seen.0,
-          ended (taken ++ block)
-              ∙ ap (λ l. lines_of before ++ l) seen.1,
-          inl refl,
-        );
+        reached = record {
+          seen = text;
+          later = seen.0;
+          cut = ended (taken ++ block) ∙ ap (λ l. lines_of before ++ l) seen.1;
+          enough = inl refl;
+        };
       }
     where
       within : IsEnded taken ⊎ (block ++ rest ≡ []) → IsEnded taken ⊎ (block ≡ [])
@@ -93,12 +92,12 @@ module _ (before left taken block rest : List ℕ) (lines : List Line)
         is_bad = line_of-long (taken ++ whole.0) (simp length-append (omega arith));
         given = before ++ (taken ++ block);
         gave = gave;
-        reached = (
-          taken ++ seen.0,
-          seen.1,
-          ended (taken ++ block) ∙ ap (λ l. lines_of before ++ l) seen.2,
-          inr (simp length-append (omega arith)),
-        );
+        reached = record {
+          seen = taken ++ seen.0;
+          later = seen.1;
+          cut = ended (taken ++ block) ∙ ap (λ l. lines_of before ++ l) seen.2;
+          enough = inr (simp length-append (omega arith));
+        };
       }
 
 -- line n isn't good, after these good lines
@@ -108,19 +107,21 @@ pub upto : (read mid left : Option (List ℕ)) (block : List ℕ) (lines : List 
     → IfSome read (λ bytes. IsReadUpTo bytes read left lines)
 upto None mid left block lines p q = tt
 upto (Some x) None left block lines p q = absurd p
-upto (Some x) (Some y) None block lines p (inl q) = absurd q.1
+upto (Some x) (Some y) None block lines p (inl q) = absurd q.takes
 upto (Some x) (Some y) None block lines p (inr q) = absurd q
 upto (Some x) (Some y) (Some z) block lines p (inl q) =
-    let taken = q.1 in
-    let ended = ended-before p.0 y taken.0 (block ++ z) q.0 p.3 taken.1 taken.2 in
-    subst (λ bytes. IsReadUpTo bytes (Some bytes) (Some z) lines) (sym p.1)
-    (upto-short p.0 y taken.0 block z lines p.2 ended taken.1 q.0 taken.2 taken.3 q.2)
+    let took = q.takes in
+    let ended =
+    ended-before p.taken y took.taken (block ++ z) q.text p.last took.cut took.is_line in
+    subst (λ bytes. IsReadUpTo bytes (Some bytes) (Some z) lines) (sym p.cut)
+    (upto-short p.taken y took.taken block z lines p.good ended took.cut q.text took.is_line
+    took.last q.asks)
 upto (Some x) (Some y) (Some z) block lines p (inr q) =
     let some : y ≡ [] → ⊥ = λ none.
-    let nothing : q.0 ≡ [] = nil-front q.0 (block ++ z) (sym q.1 ∙ none) in
-    omega (arith, q.3, ap length nothing) in
-    subst (λ bytes. IsReadUpTo bytes (Some bytes) (Some z) lines) (sym p.1)
-    (upto-long p.0 y q.0 block z lines p.2 (ended p.3 some) q.1 q.2 q.3)
+    let nothing : q.taken ≡ [] = nil-front q.taken (block ++ z) (sym q.cut ∙ none) in
+    omega (arith, q.long, ap length nothing) in
+    subst (λ bytes. IsReadUpTo bytes (Some bytes) (Some z) lines) (sym p.cut)
+    (upto-long p.taken y q.taken block z lines p.good (ended p.last some) q.cut q.inside q.long)
   where
     ended : {A B : Type 0} → A ⊎ B → (B → ⊥) → A
     ended (inl a) none = a

@@ -6,7 +6,7 @@ use Rattle.bloom.specs.declared.engine.line.Line.TheVariants.{Words}
 use Rattle.bloom.specs.declared.engine.line_reader.Next.TheVariants.{Good, Bad}
 use Rattle.bloom.specs.Lines.{lines_of, line_of, number_of}
 use Rattle.bloom.specs.Reading.{Waiting, KnowsEnd, IsQuiet, Asks, TakesByte, IsFirstLine, TakesLine, TakesLong, Ends, NextCommand}
-use Rattle.bloom.proofs.LineLemmas.{IsEnded-line}
+use Rattle.bloom.proofs.ReadingLemmas.{taken-ended}
 
 -- a list with a number isn't empty
 not_nil : (x : ℕ) (xs : List ℕ) → x ∷ xs ≡ [] → ⊥
@@ -30,15 +30,15 @@ knows_end-not knows = not_nil _ _ (knows refl)
 
 -- the reader wasn't asked
 quiet : IsQuiet {R = ℕ} ended ended 7 7
-quiet _ = (refl, refl)
+quiet _ = record { told = refl; same = refl }
 
 -- not if the reader was asked and changed
 quiet-not : IsQuiet {R = ℕ} ended ended 7 8 → ⊥
-quiet-not is = let same : 8 ≡ 7 = (is refl).1 in omega (arith, same)
+quiet-not is = let same : 8 ≡ 7 = (is refl).same in omega (arith, same)
 
 -- nor if the end was forgotten
 quiet-forgotten : IsQuiet {R = ℕ} ended not_ended 7 7 → ⊥
-quiet-forgotten is = let told : false ≡ true = (is refl).0 in cc
+quiet-forgotten is = let told : false ≡ true = (is refl).told in cc
 
 -- the line `w` is good
 asks : Asks (codes "w") (Good Words)
@@ -60,11 +60,11 @@ takes_byte-other same = let first : 5 ≡ 6 = ap (λ l. get_or l 0 0) same in om
 
 -- no byte is left
 takes_none : TakesByte (Some []) (Some []) None
-takes_none = (refl, refl)
+takes_none = record { nothing = refl; end = refl }
 
 -- not if a byte is left
 takes_none-not : TakesByte (Some (6 ∷ [])) (Some (6 ∷ [])) None → ⊥
-takes_none-not takes = not_nil _ _ takes.1
+takes_none-not takes = not_nil _ _ takes.end
 
 -- a line of 22 bytes
 longest : IsFirstLine (replicate 22 49 ++ 10 ∷ []) 22
@@ -85,15 +85,15 @@ ended_before first = let same : false ≡ true = first.inside in cc
 -- a line is taken with its end
 takes_line : TakesLine (Some (codes "i 1\nx\n")) (Some (codes "x\n")) (codes "i 1")
 unfolding lines_of
-takes_line = (codes "i 1\n", refl, refl, inl (IsEnded-line (codes "i 1") refl))
+takes_line = taken-ended refl refl
 
 -- not if its end is left
 takes_line-not : TakesLine (Some (codes "i 1\nx\n")) (Some (codes "\nx\n")) (codes "i 1") → ⊥
 unfolding lines_of
 takes_line-not takes =
-    let taken : codes "i 1" ≡ takes.0 =
-    append_cancel_right (codes "i 1") takes.0 (codes "\nx\n") takes.1 in
-    elim takes.3 [
+    let taken : codes "i 1" ≡ takes.taken =
+    append_cancel_right (codes "i 1") takes.taken (codes "\nx\n") takes.cut in
+    elim takes.last [
       | inl is ↦ (let cut : lines_of (codes "i 1\nx\n") ≡ codes "i 1" ∷ [] ∷ codes "x" ∷ [] =
           (rw (sym taken) at is) (codes "\nx\n") in cc)
       | inr none ↦ (let left : codes "\nx\n" ≡ [] = none in cc)
@@ -101,47 +101,50 @@ takes_line-not takes =
 
 -- 23 bytes of a line are taken
 takes_long : TakesLong (Some (replicate 24 49)) (Some (49 ∷ []))
-takes_long = (replicate 23 49, refl, refl, omega arith)
+takes_long =
+    record { taken = replicate 23 49; cut = refl; inside = refl; long = omega arith }
 
 -- not after 22 bytes
 takes_long-not : TakesLong (Some (replicate 24 49)) (Some (49 ∷ 49 ∷ [])) → ⊥
 takes_long-not takes =
-    let taken : replicate 22 49 ≡ takes.0 =
-    append_cancel_right (replicate 22 49) takes.0 (49 ∷ 49 ∷ []) takes.1 in
-    let count : 22 ≡ length takes.0 = ap length taken in
-    omega (arith, count, takes.3)
+    let taken : replicate 22 49 ≡ takes.taken =
+    append_cancel_right (replicate 22 49) takes.taken (49 ∷ 49 ∷ []) takes.cut in
+    let count : 22 ≡ length takes.taken = ap length taken in
+    omega (arith, count, takes.long)
 
 -- nothing is left
 ends : Ends (Some []) (Some [])
-ends = (refl, refl)
+ends = record { nothing = refl; end = refl }
 
 -- not if a byte was taken
 ends-not : Ends (Some (10 ∷ [])) (Some []) → ⊥
-ends-not is = not_nil _ _ is.0
+ends-not is = not_nil _ _ is.nothing
 
 -- a good line comes next
 next_good : NextCommand (Some (codes "w\nx\n")) (Some (codes "x\n")) (Good Words)
 unfolding lines_of line_of
-next_good = (codes "w", (codes "w\n", refl, refl, inl (IsEnded-line (codes "w") refl)), refl)
+next_good = record { text = codes "w"; takes = taken-ended refl refl; asks = refl }
 
 -- a bad line comes next
 next_bad : NextCommand (Some (codes "x\n")) (Some []) Bad
 unfolding lines_of line_of
-next_bad = inl (codes "x", (codes "x\n", refl, refl, inl (IsEnded-line (codes "x") refl)), refl)
+next_bad = inl (record { text = codes "x"; takes = taken-ended refl refl; asks = refl })
 
 -- a good line isn't bad
 next_bad-not : NextCommand (Some (codes "w\n")) (Some []) Bad → ⊥
 unfolding lines_of line_of
 next_bad-not next = elim next [
   | inl short ↦ (
-      let taken : codes "w\n" ≡ short.1.0 =
-      append_cancel_right (codes "w\n") short.1.0 [] short.1.1 in
-      let line : codes "w" ∷ [] ≡ short.0 ∷ [] = rw (sym taken) at short.1.2 in
-      let text : codes "w" ≡ short.0 = cc in
-      let bad : line_of (codes "w") ≡ None = rw (sym text) at short.2 in
+      let took = short.takes in
+      let taken : codes "w\n" ≡ took.taken =
+      append_cancel_right (codes "w\n") took.taken [] took.cut in
+      let line : codes "w" ∷ [] ≡ short.text ∷ [] = rw (sym taken) at took.is_line in
+      let text : codes "w" ≡ short.text = cc in
+      let bad : line_of (codes "w") ≡ None = rw (sym text) at short.asks in
       cc)
   | inr long ↦ (
-      let taken : codes "w\n" ≡ long.0 = append_cancel_right (codes "w\n") long.0 [] long.1 in
-      let count : 2 ≡ length long.0 = ap length taken in
-      omega (arith, count, long.3))
+      let taken : codes "w\n" ≡ long.taken =
+      append_cancel_right (codes "w\n") long.taken [] long.cut in
+      let count : 2 ≡ length long.taken = ap length taken in
+      omega (arith, count, long.long))
 ]

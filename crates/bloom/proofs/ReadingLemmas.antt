@@ -8,8 +8,18 @@ use Rattle.bloom.specs.declared.engine.line.Line.{Line}
 use Rattle.bloom.specs.declared.engine.line_reader.Next.{Next}
 use Rattle.bloom.specs.declared.engine.line_reader.Next.TheVariants as next
 use Rattle.bloom.specs.Lines.{line_of, longest_line}
-use Rattle.bloom.specs.Reading.{Asks, Waiting, IsQuiet, KnowsEnd, left_of, has_no_end, IsFirstLine, TakesByte, TakesLine, TakesLong, NextCommand}
+use Rattle.bloom.specs.Reading.{Asks, Waiting, IsQuiet, KnowsEnd, left_of, has_no_end, HasTakenLine, IsFirstLine, TakesByte, TakesLine, TakesLong, NextCommand}
 use Rattle.bloom.proofs.LineLemmas.{lines_of-nil, lines_of-ended, lines_of-last, has_no_end-more, IsEnded-line}
+
+-- a line that was taken with its end
+pub taken-ended : {old new line : List ℕ} → old ≡ (line ++ 10 ∷ []) ++ new → has_no_end line ≡ true
+    → HasTakenLine old new line
+taken-ended {line = line} cut inside = record {
+  taken = line ++ 10 ∷ [];
+  cut = cut;
+  is_line = lines_of-ended line [] inside ∙ ap (λ l. line ∷ l) lines_of-nil;
+  last = inl (IsEnded-line line inside);
+}
 
 -- what a line asks for that was taken
 pub NextCommand-from : (old new : Option (List ℕ)) (text : List ℕ) (came : Next) → Asks text came
@@ -19,8 +29,11 @@ NextCommand-from old new text came told took = go (line_of text) refl told
     go : (asked : Option Line) → line_of text ≡ asked
         → MatchOption asked (came ≡ next.Bad) (λ line. came ≡ next.Good line)
         → NextCommand old new came
-    go None is told = subst (NextCommand old new) (sym told) (inl (text, took, is))
-    go (Some line) is told = subst (NextCommand old new) (sym told) (text, took, is)
+    go None is told =
+        subst (NextCommand old new) (sym told)
+        (inl (record { text = text; takes = took; asks = is }))
+    go (Some line) is told =
+        subst (NextCommand old new) (sym told) (record { text = text; takes = took; asks = is })
 
 -- the first bytes of the buffer were taken, and none of them ends a line
 pub record IsInLine (old mid : Option (List ℕ)) (line : List ℕ) (at : ℕ) : Type 0 where
@@ -37,8 +50,12 @@ module _ {old mid : Option (List ℕ)} {line : List ℕ} {at : ℕ} (so_far : Is
         go : (a c : Option (List ℕ)) → Consumes a c (take at line) → TakesLong a c
         go None c p = tt
         go (Some x) None p = absurd p
-        go (Some x) (Some z) p =
-            (take at line, p, so_far.inside, simp length-take (omega (arith, all, so_far.room)))
+        go (Some x) (Some z) p = record {
+          taken = take at line;
+          cut = p;
+          inside = so_far.inside;
+          long = simp length-take (omega (arith, all, so_far.room));
+        }
 
     module _ (new : Option (List ℕ)) where
       -- the byte at the line's end is taken too
@@ -50,29 +67,24 @@ module _ {old mid : Option (List ℕ)} {line : List ℕ} {at : ℕ} (so_far : Is
               → TakesLine a c (take at line)
           go None c p = tt
           go (Some x) None p = absurd p
-          go (Some x) (Some z) p = (
-            take at line ++ 10 ∷ [],
-            p,
-            lines_of-ended (take at line) [] so_far.inside
-                ∙ ap (λ l. take at line ∷ l) lines_of-nil,
-            inl (IsEnded-line (take at line) so_far.inside),
-          )
+          go (Some x) (Some z) p = taken-ended p so_far.inside
 
       -- nothing follows the line
       last : 0 < length (take at line) → TakesByte mid new None → TakesLine old new (take at line)
       last some end =
-          go old new (Consumes-trans old mid new (take at line) [] so_far.taken end.0) end.1
+          go old new (Consumes-trans old mid new (take at line) [] so_far.taken end.nothing)
+          end.end
         where
           go : (a c : Option (List ℕ)) → Consumes a c (take at line ++ []) → IsAtEnd c
               → TakesLine a c (take at line)
           go None c p end = tt
           go (Some x) None p end = absurd p
-          go (Some x) (Some z) p end = (
-            take at line,
-            p ∙ ap (λ l. l ++ z) (append-nil (take at line)),
-            lines_of-last (take at line) so_far.inside some,
-            inr end,
-          )
+          go (Some x) (Some z) p end = record {
+            taken = take at line;
+            cut = p ∙ ap (λ l. l ++ z) (append-nil (take at line));
+            is_line = lines_of-last (take at line) so_far.inside some;
+            last = inr end;
+          }
 
       -- what a line asks for whose end is taken too
       pub next-ended : (taken : Option ℕ) (byte : ℕ) (came : Next) → Asks (take at line) came
@@ -108,8 +120,8 @@ pub quiet-trans : {R : Type 0} (a b c : Waiting) (from mid to : R) → IsQuiet a
     → IsQuiet b c mid to → IsQuiet a c from to
 quiet-trans a b c from mid to first second ended =
     let before = first ended in
-    let after = second before.0 in
-    (after.0, after.1 ∙ before.1)
+    let after = second before.told in
+    record { told = after.told; same = after.same ∙ before.same }
 
 -- half-way through a line: its bytes so far, and where the reader of lines, its input and the
 -- writer came from and stand
@@ -146,9 +158,5 @@ TakesLine-in_block block n first (Some bytes) =
     let front : take (n + 1) block ≡ line ++ 10 ∷ [] =
     take_more block n 0 first.within ∙ ap (λ b. line ++ b ∷ []) first.ended in
     let cut : block ≡ (line ++ 10 ∷ []) ++ rest = sym (take-append-drop (n + 1) block)
-    ∙ ap (λ l. l ++ rest) front in (
-      line ++ 10 ∷ [],
-      ap (λ l. l ++ bytes) cut ∙ append_assoc (line ++ 10 ∷ []) rest bytes,
-      lines_of-ended line [] first.inside ∙ ap (λ l. line ∷ l) lines_of-nil,
-      inl (IsEnded-line line first.inside),
-    )
+    ∙ ap (λ l. l ++ rest) front in
+    taken-ended (ap (λ l. l ++ bytes) cut ∙ append_assoc (line ++ 10 ∷ []) rest bytes) first.inside

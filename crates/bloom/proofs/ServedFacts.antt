@@ -10,55 +10,58 @@ use Rattle.bloom.proofs.CarriedFacts.{zeros, with_one, carried, carried-text, ca
 -- each line was good, and nothing is left
 whole : IsReadWhole (Some (codes "i 1\n")) (Some []) (Insert 1 ∷ [])
 unfolding lines_of line_of number_of
-whole = (refl, refl)
+whole = record { good = refl; none_left = refl }
 
 -- not if a byte is left
 whole-left : (lines : List Line) → IsReadWhole (Some (codes "i 1\n")) (Some (10 ∷ [])) lines → ⊥
-whole-left lines is = let left : ◌≡◌ {A = Option (List ℕ)} (Some (10 ∷ [])) (Some []) = is.1 in cc
+whole-left lines is = let left : ◌≡◌ {A = Option (List ℕ)} (Some (10 ∷ [])) (Some []) =
+    is.none_left in
+    cc
 
 -- nor if a line is bad
 whole-bad : (lines : List Line) → IsReadWhole (Some (codes "x\n")) (Some []) lines → ⊥
 unfolding lines_of line_of
-whole-bad [] is = let bad : ◌≡◌ {A = List (Option Line)} (None ∷ []) [] = is.0 in cc
+whole-bad [] is = let bad : ◌≡◌ {A = List (Option Line)} (None ∷ []) [] = is.good in cc
 whole-bad (line ∷ lines) is =
-    let bad : ◌≡◌ {A = List (Option Line)} (None ∷ []) (Some line ∷ map Some lines) = is.0 in cc
+    let bad : ◌≡◌ {A = List (Option Line)} (None ∷ []) (Some line ∷ map Some lines) = is.good in cc
 
 -- only these lines are good
 whole-lines : (left : Option (List ℕ)) (lines : List Line)
     → IsReadWhole (Some (codes "i 1\n")) left lines → lines ≡ Insert 1 ∷ []
 unfolding lines_of line_of number_of
-whole-lines left [] is = let good : ◌≡◌ {A = List (Option Line)} (Some (Insert 1) ∷ []) [] = is.0 in
-    cc
-whole-lines left (line ∷ []) is = let good : Some (Insert 1) ∷ [] ≡ Some line ∷ [] = is.0 in cc
+whole-lines left [] is =
+    let good : ◌≡◌ {A = List (Option Line)} (Some (Insert 1) ∷ []) [] = is.good in cc
+whole-lines left (line ∷ []) is = let good : Some (Insert 1) ∷ [] ≡ Some line ∷ [] = is.good in cc
 whole-lines left (line ∷ (other ∷ lines)) is =
-    let good : Some (Insert 1) ∷ [] ≡ Some line ∷ Some other ∷ map Some lines = is.0 in cc
+    let good : Some (Insert 1) ∷ [] ≡ Some line ∷ Some other ∷ map Some lines = is.good in cc
 
 -- a bad line was given to its end
 reaches : Reaches (codes "i 1\nx\n") (codes "i 1" ∷ []) (codes "x")
 unfolding lines_of
-reaches = (codes "x", [], refl, inl refl)
+reaches = record { seen = codes "x"; later = []; cut = refl; enough = inl refl }
 
 -- or 23 bytes of it
 reaches-long : Reaches (replicate 23 49) [] (replicate 30 49)
 unfolding lines_of
-reaches-long = (replicate 23 49, [], refl, inr (omega arith))
+reaches-long =
+    record { seen = replicate 23 49; later = []; cut = refl; enough = inr (omega arith) }
 
 -- not if only 22 were
 reaches-short : Reaches (replicate 22 49) [] (replicate 30 49) → ⊥
 unfolding lines_of
 reaches-short is =
-    let line : replicate 22 49 ∷ [] ≡ is.0 ∷ is.1 = is.2 in
-    let seen : replicate 22 49 ≡ is.0 = cc in
-    let count : 22 ≡ length is.0 = ap length seen in
-    elim is.3 [
-      | inl all ↦ (let more : length is.0 ≡ 30 = ap length all in omega (arith, count, more))
+    let line : replicate 22 49 ∷ [] ≡ is.seen ∷ is.later = is.cut in
+    let seen : replicate 22 49 ≡ is.seen = cc in
+    let count : 22 ≡ length is.seen = ap length seen in
+    elim is.enough [
+      | inl all ↦ (let more : length is.seen ≡ 30 = ap length all in omega (arith, count, more))
       | inr long ↦ omega (arith, count, long)
     ]
 
 -- nor if nothing of it was
 reaches-before : Reaches (codes "i 1\n") (codes "i 1" ∷ []) (codes "x") → ⊥
 unfolding lines_of
-reaches-before is = let lines : codes "i 1" ∷ [] ≡ codes "i 1" ∷ is.0 ∷ is.1 = is.2 in cc
+reaches-before is = let lines : codes "i 1" ∷ [] ≡ codes "i 1" ∷ is.seen ∷ is.later = is.cut in cc
 
 -- line 2 is bad, and the first was carried out
 served : ServedUpTo 2 (Some (codes "i 1\nx\n")) (Some []) zeros with_one (Some [])

@@ -50,13 +50,15 @@ IsReadWhole-from : (read left : Option (List ℕ)) (mid : Option (List ℕ)) (bl
     (prepend_known block left) → IsReadWhole read left lines
 IsReadWhole-from None left mid block lines p q = tt
 IsReadWhole-from (Some x) left None block lines p q = absurd p
-IsReadWhole-from (Some x) None (Some y) block lines p q = absurd q.0
+IsReadWhole-from (Some x) None (Some y) block lines p q = absurd q.nothing
 IsReadWhole-from (Some x) (Some z) (Some y) block lines p q =
-    let none : block ++ z ≡ [] = q.1 in
-    let rest : y ≡ [] = q.0 ∙ none in (
-      ap (λ l. map line_of (lines_of l)) (p.1 ∙ ap (λ l. p.0 ++ l) rest ∙ append-nil p.0) ∙ p.2,
-      ap Some (nil-back block z none),
-    )
+    let none : block ++ z ≡ [] = q.end in
+    let rest : y ≡ [] = q.nothing ∙ none in
+    let all : x ≡ p.taken = p.cut ∙ ap (λ l. p.taken ++ l) rest ∙ append-nil p.taken in
+    record {
+      good = ap (λ l. map line_of (lines_of l)) all ∙ p.good;
+      none_left = ap Some (nil-back block z none);
+    }
   where
     nil-back : (xs ys : List ℕ) → xs ++ ys ≡ [] → ys ≡ []
     nil-back [] ys none = none
@@ -95,8 +97,8 @@ module _ {S : Type 0} {read : Option (List ℕ)} {old : Filter S} {from : Option
         lines = so_far.lines ++ line ∷ [];
         carried = Carried-more joins old now new from kept end so_far.lines line carried one;
         taken =
-            TakesGood-more read (left_of waiting rest) (left_of after left) so_far.lines took.0 line
-            so_far.taken took.1 took.2;
+            TakesGood-more read (left_of waiting rest) (left_of after left) so_far.lines took.text
+            line so_far.taken took.takes took.asks;
         counted = simp length-append (omega (arith, count, so_far.counted));
         knows = knows;
       }

@@ -1,6 +1,7 @@
 -- What reading one line takes, from what a block and a reader have left.
 use Rattle.std.specs.Prelude.{◌≡◌, ◌⊎◌, ℕ, ◌<◌, ◌≤◌, ◌==◌, List, [], ◌∷◌, ◌++◌, length, take, slice_index, Bool, true, not, ◌&&◌, Option, Some, None, MatchOption}
 use Rattle.std.specs.Io.KnownBytes.{Consumes, IsAtEnd, prepend_known}
+use Rattle.bloom.specs.declared.engine.line.Line.{Line}
 use Rattle.bloom.specs.declared.engine.line_reader.Next.{Next}
 use Rattle.bloom.specs.declared.engine.line_reader.Next.TheVariants.{End, Good, Bad}
 use Rattle.bloom.specs.Lines.{lines_of, line_of, longest_line}
@@ -18,17 +19,27 @@ left_of waiting rest = prepend_known waiting.bytes rest
 abbrev pub KnowsEnd : Waiting → Option (List ℕ) → Type 0
 KnowsEnd waiting rest = waiting.ended ≡ true → IsAtEnd rest
 
--- an end that was told stays told, and then the reader isn't asked again: it is as it was
+-- the end stays told, and the reader isn't asked: it is as it was
+pub record StaysEnded {R : Type 0} (new : Waiting) (from to : R) : Type 0 where
+  pub told : new.ended ≡ true
+  pub same : to ≡ from
+
+-- an end that was told stays told, and then the reader isn't asked again
 abbrev pub IsQuiet : {R : Type 0} → Waiting → Waiting → R → R → Type 0
-IsQuiet old new from to = old.ended ≡ true → (new.ended ≡ true) × (to ≡ from)
+IsQuiet old new from to = old.ended ≡ true → StaysEnded new from to
 
 -- what a line comes to
 abbrev pub Asks : List ℕ → Next → Type 0
 Asks line came = MatchOption (line_of line) (came ≡ Bad) (λ good. came ≡ Good good)
 
+-- nothing is left, and nothing was taken
+pub record Ends (old new : Option (List ℕ)) : Type 0 where
+  pub nothing : Consumes old new []
+  pub end : IsAtEnd new
+
 -- a byte is taken, or there is none
 abbrev pub TakesByte : Option (List ℕ) → Option (List ℕ) → Option ℕ → Type 0
-TakesByte old new None = Consumes old new [] × IsAtEnd new
+TakesByte old new None = Ends old new
 TakesByte old new (Some byte) = Consumes old new (byte ∷ [])
 
 -- whether no byte ends a line
@@ -47,30 +58,40 @@ pub record IsFirstLine (bytes : List ℕ) (n : ℕ) : Type 0 where
 abbrev pub IsEnded : List ℕ → Type 0
 IsEnded bytes = (rest : List ℕ) → lines_of (bytes ++ rest) ≡ lines_of bytes ++ lines_of rest
 
--- from old to new one line was taken, with its end or with all that was left
+-- from these bytes to those one line was taken, with its end or with all that was left
+pub record HasTakenLine (old new line : List ℕ) : Type 0 where
+  pub taken : List ℕ
+  pub cut : old ≡ taken ++ new
+  pub is_line : lines_of taken ≡ line ∷ []
+  pub last : IsEnded taken ⊎ (new ≡ [])
+
+-- from old to new it was
 abbrev pub TakesLine : Option (List ℕ) → Option (List ℕ) → List ℕ → Type 0
 TakesLine None new line = Unit {0}
 TakesLine (Some old) None line = ⊥
-TakesLine (Some old) (Some new) line =
-    (taken : List ℕ) × (old ≡ taken ++ new) × (lines_of taken ≡ line ∷ [])
-    × (IsEnded taken ⊎ (new ≡ []))
+TakesLine (Some old) (Some new) line = HasTakenLine old new line
 
--- from old to new more bytes of one line were taken than a good one has
+-- from these bytes to those more bytes of one line were taken than a good one has
+pub record HasTakenLong (old new : List ℕ) : Type 0 where
+  pub taken : List ℕ
+  pub cut : old ≡ taken ++ new
+  pub inside : has_no_end taken ≡ true
+  pub long : longest_line < length taken
+
+-- from old to new they were
 abbrev pub TakesLong : Option (List ℕ) → Option (List ℕ) → Type 0
 TakesLong None new = Unit {0}
 TakesLong (Some old) None = ⊥
-TakesLong (Some old) (Some new) =
-    (taken : List ℕ) × (old ≡ taken ++ new) × (has_no_end taken ≡ true)
-    × (longest_line < length taken)
+TakesLong (Some old) (Some new) = HasTakenLong old new
 
--- nothing is left, and nothing was taken
-abbrev pub Ends : Option (List ℕ) → Option (List ℕ) → Type 0
-Ends old new = Consumes old new [] × IsAtEnd new
+-- a line was taken that asks for this, or for nothing
+pub record TakesAsking (old new : Option (List ℕ)) (asked : Option Line) : Type 0 where
+  pub text : List ℕ
+  pub takes : TakesLine old new text
+  pub asks : line_of text ≡ asked
 
 -- what the next line comes to
 abbrev pub NextCommand : Option (List ℕ) → Option (List ℕ) → Next → Type 0
 NextCommand old new End = Ends old new
-NextCommand old new (Good line) =
-    (text : List ℕ) × TakesLine old new text × (line_of text ≡ Some line)
-NextCommand old new Bad =
-    ((text : List ℕ) × TakesLine old new text × (line_of text ≡ None)) ⊎ TakesLong old new
+NextCommand old new (Good line) = TakesAsking old new (Some line)
+NextCommand old new Bad = TakesAsking old new None ⊎ TakesLong old new

@@ -16,16 +16,21 @@ pub record Carried {S : Type 0} (old new : Filter S) (from to : Option (List ℕ
   pub filter : CarriesOut old (operations lines) new given
   pub text : Appends from to (text_of (length old.words) old.hashes (content old.words) lines given)
 
--- each line of what the reader had is good, and the reader is at its end
+-- each line of these bytes is good, and the reader is at its end
+pub record AreAllGood (bytes : List ℕ) (left : Option (List ℕ)) (lines : List Line) : Type 0 where
+  pub good : map line_of (lines_of bytes) ≡ map Some lines
+  pub none_left : left ≡ Some []
+
+-- so it is with what the reader had
 abbrev pub IsReadWhole : Option (List ℕ) → Option (List ℕ) → List Line → Type 0
-IsReadWhole read left lines =
-    IfSome read (λ bytes. (map line_of (lines_of bytes) ≡ map Some lines) × (left ≡ Some []))
+IsReadWhole read left lines = IfSome read (λ bytes. AreAllGood bytes left lines)
 
 -- of these bytes the reader gave the line `bad` to its end, or more of it than a good line has
-abbrev pub Reaches : List ℕ → List (List ℕ) → List ℕ → Type 0
-Reaches given good bad =
-    (seen : List ℕ) × (later : List (List ℕ)) × (lines_of given ≡ good ++ seen ∷ later)
-    × ((seen ≡ bad) ⊎ (longest_line < length seen))
+pub record Reaches (given : List ℕ) (good : List (List ℕ)) (bad : List ℕ) : Type 0 where
+  pub seen : List ℕ
+  pub later : List (List ℕ)
+  pub cut : lines_of given ≡ good ++ seen ∷ later
+  pub enough : (seen ≡ bad) ⊎ (longest_line < length seen)
 
 -- the first line that isn't good comes after these good ones, and the reader gave it
 pub record IsReadUpTo (bytes : List ℕ) (read left : Option (List ℕ)) (lines : List Line) : Type 0

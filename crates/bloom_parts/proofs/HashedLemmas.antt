@@ -130,16 +130,17 @@ takes-each k0 k1 before [] old new is same =
     let P : List ℕ → Type 0 = λ bytes. Hashed new k0 k1 bytes in
     let Q : SipState → Type 0 = λ h. Hashed h k0 k1 before in
     subst P (sym (append-nil before)) (subst Q same is)
-takes-each k0 k1 before (piece ∷ pieces) old new is taken =
+takes-each k0 k1 before (piece ∷ pieces) old new is (between, taken, others) =
     let P : List ℕ → Type 0 = λ bytes. Hashed new k0 k1 bytes in
     subst P (append_assoc before piece (concat pieces))
-    (takes-each k0 k1 (before ++ piece) pieces taken.0 new (taken.1 k0 k1 before is) taken.2)
+    (takes-each k0 k1 (before ++ piece) pieces between new (taken k0 k1 before is) others)
 
 -- a hash is that of the joined pieces
 hash-of-pieces : (k0 k1 : ℕ) (pieces : List (List ℕ)) (hash : ℕ)
     → HashesPieces k0 k1 pieces hash → hash ≡ sip k0 k1 (concat pieces)
 hash-of-pieces k0 k1 pieces hash made =
-    made.4 k0 k1 (concat pieces) (takes-each k0 k1 [] pieces made.0 made.1 made.2 made.3)
+    made.answers k0 k1 (concat pieces)
+    (takes-each k0 k1 [] pieces made.fresh made.last made.begins made.taken)
 
 -- the law that cutting doesn't matter
 pub cutting_law : CuttingLaw

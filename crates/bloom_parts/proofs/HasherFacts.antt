@@ -142,7 +142,13 @@ unfolding finish start round absorb answer
 hashes_pieces-two =
     let told : Answers after_two 0xcef0_aac2_190e_4bfa =
     λ k0 k1 bytes is. answers after_two k0 k1 bytes is in
-    (fresh, after_two, hashed-fresh, takes_each-two, told)
+    record {
+      fresh = fresh;
+      last = after_two;
+      begins = hashed-fresh;
+      taken = takes_each-two;
+      answers = told;
+    }
 
 -- the chain of the hash 1 before its first value and before its second
 is_at-first : IsAt 1 0 (record { newest = 1; added = 0x517c_c1b7_2722_0a95 })

@@ -13,23 +13,29 @@ position-from n (suc k) hash p is =
     elim (or_cases (positions n k hash p) (eqb p (place n hash k)) is) [
       | inl earlier ↦
           let found = position-from n k hash p earlier in
-          (found.0, omega (arith, found.1), found.2)
-      | inr here ↦ (k, omega arith, sym (eqb-true p (place n hash k) here))
+          record { index = found.index; below = omega (arith, found.below); here = found.here }
+      | inr here ↦
+          record { index = k; below = omega arith; here = sym (eqb-true p (place n hash k) here) }
     ]
 
 -- and each place is a position
 pub position-to : (n k hash p : ℕ) → IsPosition n k hash p → positions n k hash p ≡ true
 unfolding positions
-position-to n zero hash p found = absurd (omega (arith, found.1))
-position-to n (suc k) hash p found = elim (cases_lt found.0 k) [
+position-to n zero hash p found = absurd (omega (arith, found.below))
+position-to n (suc k) hash p found = elim (cases_lt found.index k) [
   | inl earlier ↦
       or_left (positions n k hash p) (eqb p (place n hash k))
-      (position-to n k hash p (found.0, earlier, found.2))
+      (position-to n k hash p
+      (record { index = found.index; below = earlier; here = found.here }))
   | inr late ↦
-      let same : found.0 ≡ k = omega (arith, found.1) in
+      let same : found.index ≡ k = omega (arith, found.below) in
       or_right (positions n k hash p) (eqb p (place n hash k))
-      (eq-eqb p (place n hash k) (sym found.2 ∙ ap (place n hash) same))
+      (eq-eqb p (place n hash k) (sym found.here ∙ ap (place n hash) same))
 ]
+
+-- a place among the first k is a position
+pub place-position : (n k hash i : ℕ) → i < k → IsPosition n k hash (place n hash i)
+place-position n k hash i below = record { index = i; below = below; here = refl }
 
 -- the law of positions
 pub positions_law : PositionsLaw
@@ -98,5 +104,5 @@ share-below n hash some fits =
 pub range_law : RangeLaw
 range_law n k hash p some fits is =
     let found = position-from n k hash p is in
-    subst (λ q. q < n) found.2
-    (share-below n (chain hash found.0) some (chain-fits hash found.0 fits))
+    subst (λ q. q < n) found.here
+    (share-below n (chain hash found.index) some (chain-fits hash found.index fits))

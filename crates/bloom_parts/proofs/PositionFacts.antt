@@ -4,7 +4,7 @@ use Rattle.std.proofs.Common.{◌≡◌, ℕ, zero, suc, ◌+◌, ◌-◌, ◌^�
 use Rattle.std.proofs.lemmas.Bool.{both_ways, eqb-true, eq-eqb}
 use Rattle.bloom_parts.specs.Chain.{chain}
 use Rattle.bloom_parts.specs.Content.{bit_is_on, content, index_of, AreWords, EqualWordsLaw, BoundLaw}
-use Rattle.bloom_parts.specs.Places.{positions, are_in, IsPosition, IsPart, PositionsLaw, SubsetLaw, RangeLaw}
+use Rattle.bloom_parts.specs.Places.{place, positions, are_in, IsPosition, IsPart, PositionsLaw, SubsetLaw, RangeLaw}
 use Rattle.bloom_parts.specs.Shares.{share_start, IsOnly, ShareLaw, ReachedLaw, EvenLaw}
 use Rattle.bloom_parts.proofs.PlaceLemmas.{part-from}
 
@@ -49,14 +49,18 @@ positions-none = refl
 
 is_position-third : IsPosition 64 3 1 32
 unfolding chain
-is_position-third = (2, lit< tt, refl)
+is_position-third = record { index = 2; below = lit< tt; here = refl }
+
+-- none of the first three places is 29
+no_place : (i : ℕ) → i < 3 → place 64 1 i ≡ 29 → ⊥
+unfolding chain
+no_place zero below is = omega (arith, is)
+no_place (suc zero) below is = omega (arith, is)
+no_place (suc (suc zero)) below is = omega (arith, is)
+no_place (suc (suc (suc i))) below is = omega (arith, below)
 
 is_position-fourth : IsPosition 64 3 1 29 → ⊥
-unfolding chain
-is_position-fourth (zero, below, is) = omega (arith, is)
-is_position-fourth (suc zero, below, is) = omega (arith, is)
-is_position-fourth (suc (suc zero), below, is) = omega (arith, is)
-is_position-fourth (suc (suc (suc i)), below, is) = omega (arith, below)
+is_position-fourth found = no_place found.index found.below found.here
 
 -- they are in a word with the bits 0, 20 and 32, and not in one without the last
 are_in-all : are_in 64 3 1 (content (4296015873 ∷ [])) ≡ true

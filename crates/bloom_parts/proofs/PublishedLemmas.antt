@@ -3,7 +3,8 @@
 
 -- each position of a hash is a place that lies within the bits, and all are in a set exactly if
 -- they are a part of it
-pub use Rattle.bloom_parts.proofs.PlaceLemmas.{position-from, position-to, range_law}
+pub use Rattle.bloom_parts.proofs.PlaceLemmas.{position-from, position-to, place-position}
+pub use Rattle.bloom_parts.proofs.PlaceLemmas.{range_law}
 pub use Rattle.bloom_parts.proofs.PlaceLemmas.{part-from, part-to}
 -- where all are in a set each is, and one that is off decides
 pub use Rattle.bloom_parts.proofs.PlaceLemmas.{are_in-at, are_in-off}

@@ -3,7 +3,7 @@ use Rattle.std.proofs.Common.{◌≡◌, ℕ, ◌+◌, ◌-◌, ◌*◌, ◌%◌
 use Rattle.std.specs.Prelude.{map}
 use Rattle.std.specs.List.{concat}
 use Rattle.std.specs.Int.{w64, from_le_bytes}
-use Rattle.bloom_parts.specs.Buffers.{padded, held_in, IsPadded}
+use Rattle.bloom_parts.specs.Buffers.{padded, held_in, IsKept}
 use Rattle.bloom_parts.specs.Hashed.{SipState, write, finish, Takes}
 use Rattle.bloom_parts.specs.Sip.{Words, absorb, answer, last_word}
 use Rattle.bloom_parts.proofs.BufferLemmas.{topped, length-held_in}
@@ -90,14 +90,15 @@ last-padded buffer held count is few small =
 
 -- what is made of that word is the answer, where h is the hasher as it is opened
 pub finished : (old h : SipState) (buffer : List ℕ) → h ≡ old → length buffer ≡ 8
-    → IsPadded buffer h.count × (h.count < 256) → h.held ≡ held_in buffer h.count
+    → IsKept buffer h.count → h.held ≡ held_in buffer h.count
     → (word : ℕ) → word ≡ from_le_bytes w64 (set buffer 7 h.count)
     → (last : Words) → last ≡ absorb h.words word → (hash : ℕ) → hash ≡ answer last
     → hash ≡ finish old
 unfolding finish
-finished old h buffer view eight padding held word is_word last is_last hash is =
+finished old h buffer view eight kept held word is_word last is_last hash is =
     let few : length h.held < 8 =
     omega (arith, ap length held, length-held_in buffer h.count eight) in
     let whole : word ≡ last_word h.held h.count =
-    is_word ∙ last-padded buffer h.held h.count (padding.0 ∙ ap padded (sym held)) few padding.1 in
+    is_word
+    ∙ last-padded buffer h.held h.count (kept.padding ∙ ap padded (sym held)) few kept.small in
     is ∙ ap answer (is_last ∙ ap (absorb h.words) whole) ∙ ap finish view

@@ -17,3 +17,8 @@ held_in buffer count = take (count % 8) buffer
 -- the buffer is the bytes that count, and zeros
 abbrev pub IsPadded : List ℕ → ℕ → Type 0
 IsPadded buffer count = buffer ≡ padded (held_in buffer count)
+
+-- what a hasher keeps of its bytes: a buffer, and how many were taken in, modulo 256
+pub record IsKept (buffer : List ℕ) (count : ℕ) : Type 0 where
+  pub padding : IsPadded buffer count
+  pub small : count < 256

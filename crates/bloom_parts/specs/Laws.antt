@@ -11,10 +11,12 @@ TakesEach old new (piece ∷ pieces) =
     (between : SipState) × Takes old between piece × TakesEach between new pieces
 
 -- a fresh hasher that was given these pieces answers this hash
-abbrev pub HashesPieces : ℕ → ℕ → List (List ℕ) → ℕ → Type 0
-HashesPieces k0 k1 pieces hash =
-    (fresh : SipState) × (last : SipState) × Hashed fresh k0 k1 [] × TakesEach fresh last pieces
-    × Answers last hash
+pub record HashesPieces (k0 k1 : ℕ) (pieces : List (List ℕ)) (hash : ℕ) : Type 0 where
+  pub fresh : SipState
+  pub last : SipState
+  pub begins : Hashed fresh k0 k1 []
+  pub taken : TakesEach fresh last pieces
+  pub answers : Answers last hash
 
 -- how the bytes are cut doesn't matter: the same bytes under the same key have one hash
 abbrev pub CuttingLaw : Type 0

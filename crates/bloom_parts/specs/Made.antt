@@ -1,6 +1,6 @@
 -- That a step was made on a word of a vector that threads share, and what it found there. Outside
--- of this file nothing unfolds these facts: a proof has one only where the step itself handed it out.
--- The lemmas that make them are cited by the proofs of those steps alone. This project's own.
+-- of this file nothing unfolds these facts: a proof has one only where the step itself handed it
+-- out. The lemmas that make them are cited by the proofs of those steps alone. This project's own.
 use Rattle.std.specs.Prelude.{ℕ, ◌<◌, ◌^◌}
 
 -- a vector that threads share: a name that tells it from others, and how many words it has

@@ -18,8 +18,10 @@ are_in n zero hash A = true
 are_in n (suc k) hash A = are_in n k hash A && A (place n hash k)
 
 -- p is one of the first k places of a hash
-abbrev pub IsPosition : ℕ → ℕ → ℕ → ℕ → Type 0
-IsPosition n k hash p = (i : ℕ) × (i < k) × (place n hash i ≡ p)
+pub record IsPosition (n k hash p : ℕ) : Type 0 where
+  pub index : ℕ
+  pub below : index < k
+  pub here : place n hash index ≡ p
 
 -- one set is a part of the other
 abbrev pub IsPart : (ℕ → Bool) → (ℕ → Bool) → Type 0

@@ -91,28 +91,40 @@ last_leaves_running (r ∷ (s ∷ rest)) = last_leaves_running (s ∷ rest)
 abbrev pub runs : ℕ → List Record → Bool
 runs party records = last_leaves_running (records_of party records)
 
--- the beginning of a call is recorded exactly where the party is one of the run's and runs no call
-abbrev pub GivesBeginning : ℕ → List Record → ℕ → Call → List Record → Type 0
-GivesBeginning parties before party call added =
-    ((party < parties) × (runs party before ≡ false) × (added ≡ Began party call ∷ []))
-    ⊎ ((party < parties → runs party before ≡ true) × (added ≡ []))
+-- a party that is one of the run's and runs no call begins one
+pub record BeginsCall (parties : ℕ) (before : List Record) (party : ℕ) (call : Call)
+    (added : List Record) : Type 0 where
+  pub within : party < parties
+  pub idle : runs party before ≡ false
+  pub same : added ≡ Began party call ∷ []
 
--- one step of the party, which finds the word given where it reads the other filter
-abbrev pub IsStepOf : ℕ → ℕ → List Record → Type 0
-IsStepOf party given added =
-    (step : Step) × (found : ℕ) × (ended : End) × (added ≡ Did party step found ended ∷ [])
-    × ((i : ℕ) → step ≡ Other i → found ≡ given)
+-- any other party begins none
+pub record BeginsNoCall (parties : ℕ) (before : List Record) (party : ℕ)
+    (added : List Record) : Type 0 where
+  pub busy : party < parties → runs party before ≡ true
+  pub same : added ≡ []
 
--- a step is recorded exactly where the party runs a call
-abbrev pub GivesStep : List Record → ℕ → ℕ → List Record → Type 0
-GivesStep before party given added =
-    ((runs party before ≡ true) × IsStepOf party given added)
-    ⊎ ((runs party before ≡ false) × (added ≡ []))
+-- a party that runs a call makes one step, which finds the word given where it reads the other
+-- filter
+pub record TakesStep (before : List Record) (party given : ℕ) (added : List Record) : Type 0 where
+  pub running : runs party before ≡ true
+  pub step : Step
+  pub found : ℕ
+  pub ended : End
+  pub same : added ≡ Did party step found ended ∷ []
+  pub reads : (i : ℕ) → step ≡ Other i → found ≡ given
+
+-- a party that runs none makes none
+pub record TakesNoStep (before : List Record) (party : ℕ) (added : List Record) : Type 0 where
+  pub idle : runs party before ≡ false
+  pub same : added ≡ []
 
 -- what an event adds to the records before it
 abbrev pub Gives : ℕ → List Record → Event → List Record → Type 0
-Gives parties before (Begin party call) added = GivesBeginning parties before party call added
-Gives parties before (Go party given) added = GivesStep before party given added
+Gives parties before (Begin party call) added =
+    BeginsCall parties before party call added ⊎ BeginsNoCall parties before party added
+Gives parties before (Go party given) added =
+    TakesStep before party given added ⊎ TakesNoStep before party added
 
 -- the records of events in order, after the records before
 pub data FollowsFrom (parties : ℕ) : List Record → List Event → List Record → Type 0 where

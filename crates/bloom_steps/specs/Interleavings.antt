@@ -16,17 +16,21 @@ use Rattle.bloom_steps.specs.Courses.{Course}
 use Rattle.bloom_steps.specs.Moments.{bits_of, moment, IsStepAt, IsFinished, IsInSpan, turns_on, IsUndisturbed, NoneTurnedOff, EveryCall, EveryCallEnded}
 
 -- some insert of the run has the position
-abbrev pub IsInserted : ℕ → Course → ℕ → Type 0
-IsInserted k run p =
-    (m party hash : ℕ) × (slice_get run.records m ≡ Some (Began party (Insert hash)))
-    × IsPosition (bits_of run) k hash p
+pub record IsInserted (k : ℕ) (run : Course) (p : ℕ) : Type 0 where
+  pub m : ℕ
+  pub party : ℕ
+  pub hash : ℕ
+  pub begins : slice_get run.records m ≡ Some (Began party (Insert hash))
+  pub position : IsPosition (bits_of run) k hash p
 
 -- some step that read the other filter found the position on
-abbrev pub IsFoundInOther : Course → ℕ → Type 0
-IsFoundInOther run p =
-    (m party found : ℕ) × (e : End)
-    × (slice_get run.records m ≡ Some (Did party (Other (p / 64)) found e))
-    × (bit_is_on found p ≡ true)
+pub record IsFoundInOther (run : Course) (p : ℕ) : Type 0 where
+  pub m : ℕ
+  pub party : ℕ
+  pub found : ℕ
+  pub ended : End
+  pub reads : slice_get run.records m ≡ Some (Did party (Other (p / 64)) found ended)
+  pub on : bit_is_on found p ≡ true
 
 -- growing runs: where no call turns anything off, the end does not depend on the order
 abbrev pub EndsWithAll : ℕ → Course → Type 0

@@ -22,9 +22,10 @@ abbrev pub moment : Course → ℕ → ℕ → Bool
 moment run m = after_records (content run.start) (take m run.records)
 
 -- record m is a step of a party
-abbrev pub IsStepAt : List Record → ℕ → ℕ → End → Type 0
-IsStepAt records m party ended =
-    (step : Step) × (found : ℕ) × (slice_get records m ≡ Some (Did party step found ended))
+pub record IsStepAt (records : List Record) (m party : ℕ) (ended : End) : Type 0 where
+  pub step : Step
+  pub found : ℕ
+  pub here : slice_get records m ≡ Some (Did party step found ended)
 
 -- a finished call: its beginning and its last step are these records, and between them it runs on
 pub record IsFinished
@@ -39,8 +40,9 @@ pub record IsFinished
       → e ≡ Running
 
 -- a moment of its span: from just after its beginning to just after its last step
-abbrev pub IsInSpan : ℕ → ℕ → ℕ → Type 0
-IsInSpan began last m = (began + 1 ≤ m) × (m ≤ last + 1)
+pub record IsInSpan (began last m : ℕ) : Type 0 where
+  pub after : began + 1 ≤ m
+  pub upto : m ≤ last + 1
 
 -- whether record m turns a position on: it is off at the moment before, and on at the moment after
 abbrev pub turns_on : Course → ℕ → ℕ → Bool

@@ -93,8 +93,10 @@ abbrev pub IsScript : ℕ → ℕ → Call → List Taken → Type 0
 IsScript w k call s = Fulfils w k (plan_of call) s
 
 -- a front of a script, shorter than it
-abbrev pub IsBeginning : ℕ → ℕ → Call → List Taken → Type 0
-IsBeginning w k call s = (t : Taken) × (rest : List Taken) × IsScript w k call (s ++ t ∷ rest)
+pub record IsBeginning (w k : ℕ) (call : Call) (s : List Taken) : Type 0 where
+  pub next : Taken
+  pub rest : List Taken
+  pub script : IsScript w k call (s ++ next ∷ rest)
 
 -- the step with which every script of the call that begins so goes on
 abbrev pub IsNext : ℕ → ℕ → Call → List Taken → Step → Type 0

@@ -106,16 +106,19 @@ pub record StandsAt (m : Machine) (w k : ℕ) (of : Call) (s : List Taken) : Typ
   pub whole : m.ended ≡ true → IsScript w k of s
   pub said : answer_of s ≡ answers m
 
--- what a reply changes in a machine's fields
-abbrev pub Advances : Plan → Machine → ℕ → Machine → Type 0
-Advances (TurnsOn hash) m found n =
-    (n.all_on ≡ (m.all_on && bit_is_on found m.place)) × (n.ended ≡ (m.turn + 1 == m.num_hashes))
-Advances (LooksAt hash) m found n =
-    (n.all_on ≡ bit_is_on found m.place)
-    × (n.ended ≡ (not (bit_is_on found m.place) || m.turn + 1 == m.num_hashes))
-Advances (EachWord operation) m found n = n.ended ≡ (m.turn + 1 == m.num_words)
-Advances (EachPair operation on) m found n =
-    (n.other ≡ found) × (n.ended ≡ (m.turn + 1 == 2 * m.num_words))
+-- what a machine keeps of the word that a step found
+abbrev pub Learns : Plan → Machine → ℕ → Machine → Type 0
+Learns (TurnsOn hash) m found n = n.all_on ≡ (m.all_on && bit_is_on found m.place)
+Learns (LooksAt hash) m found n = n.all_on ≡ bit_is_on found m.place
+Learns (EachWord operation) m found n = Unit {0}
+Learns (EachPair operation on) m found n = n.other ≡ found
+
+-- whether a machine's plan ends with the step that found this word
+abbrev pub ends_with : Plan → Machine → ℕ → Bool
+ends_with (TurnsOn hash) m found = m.turn + 1 == m.num_hashes
+ends_with (LooksAt hash) m found = not (bit_is_on found m.place) || m.turn + 1 == m.num_hashes
+ends_with (EachWord operation) m found = m.turn + 1 == m.num_words
+ends_with (EachPair operation on) m found = m.turn + 1 == 2 * m.num_words
 
 -- at a reply a machine goes one place on along the chain
 abbrev pub GoesToNextPlace : ℕ → Machine → Machine → Type 0
@@ -135,5 +138,6 @@ pub record Replied (m : Machine) (found : ℕ) (n : Machine) : Type 0 where
   pub same_words : n.num_words ≡ m.num_words
   pub same_hashes : n.num_hashes ≡ m.num_hashes
   pub turned : n.turn ≡ m.turn + 1
-  pub advances : Advances (plan_of m.call) m found n
+  pub learns : Learns (plan_of m.call) m found n
+  pub ends : n.ended ≡ ends_with (plan_of m.call) m found
   pub moves_on : MovesOn (plan_of m.call) m n

@@ -30,7 +30,7 @@ impl Model for RandomDefaultHasher {
     ghost use Rattle.std.specs.Prelude.{◌<◌};
     ghost use Rattle.std.proofs.Common.{ap, sym};
     ghost use Rattle.bloom_parts.specs.Hashed.{SipState};
-    ghost use Rattle.bloom_parts.specs.Buffers.{padded, held_in, IsPadded};
+    ghost use Rattle.bloom_parts.specs.Buffers.{padded, held_in, IsKept};
     ghost use Rattle.bloom_parts.specs.States.{words_of, of_words};
 
     ghost Value = { SipState };
@@ -43,7 +43,7 @@ impl Model for RandomDefaultHasher {
       count = h.length;
     } };
 
-    ghost invariant = { λ h. IsPadded h.rest h.length × (h.length < 256) };
+    ghost invariant = { λ h. IsKept h.rest h.length };
 
     ghost inverse = { λ s. record {
       k0 = s.low;
@@ -53,7 +53,7 @@ impl Model for RandomDefaultHasher {
       length = s.count;
     } };
 
-    ghost inverse_ok = { λ h is. ap (λ buffer. record h { rest = buffer }) (sym is.0) };
+    ghost inverse_ok = { λ h is. ap (λ buffer. record h { rest = buffer }) (sym is.padding) };
 }
 
 impl RandomDefaultHasher {

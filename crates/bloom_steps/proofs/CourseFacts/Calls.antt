@@ -20,7 +20,8 @@ whole-and-begun : CallAfterCall 1 2 0
     ∷ Did 0 (Other 0) 5 Running ∷ [])
 whole-and-begun =
     whole_call Intersect intersect _ intersect-script
-    (begun_call Union (took (Other 0) 5 Running ∷ []) (_, _, union-script))
+    (begun_call Union (took (Other 0) 5 Running ∷ [])
+    (record { next = _; rest = _; script = union-script }))
 
 -- the first record is a beginning
 pub first-begins : (w k p : ℕ) (all : List Record) → CallAfterCall w k p all

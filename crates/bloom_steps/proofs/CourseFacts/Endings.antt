@@ -1,5 +1,5 @@
 -- What the theorem on growing runs says of the worked courses.
-use Rattle.std.proofs.Common.{◌≡◌, ◌<◌, ◌∷◌, [], zero, suc, ℕ, true, refl, arith, inl, inr, ◌/◌, subst}
+use Rattle.std.proofs.Common.{◌≡◌, ◌<◌, ◌∷◌, [], List, zero, suc, ℕ, true, refl, arith, inl, inr, ◌/◌, subst}
 use Rattle.bloom_parts.specs.Chain.{chain}
 use Rattle.bloom_parts.specs.Content.{bit_is_on, content}
 use Rattle.bloom_parts.specs.Places.{place}
@@ -17,21 +17,27 @@ use Rattle.bloom_steps.proofs.CourseFacts.Lawful.{lawful-twins}
 use Rattle.bloom_steps.proofs.CourseFacts.Parties.{idle-past}
 use Rattle.bloom_steps.proofs.RunLemmas.Grows.{ends_with_all}
 
--- position 20 was inserted
-inserted : IsInserted 2 twins 20
+-- position 20 was inserted, whatever the words in the end
+inserted : (words : List ℕ) → IsInserted 2 (record twins { words = words }) 20
 unfolding chain
-inserted = (1, 1, 1, refl, (1, omega arith, refl))
+inserted words = record {
+  m = 1;
+  party = 1;
+  hash = 1;
+  begins = refl;
+  position = record { index = 1; below = omega arith; here = refl };
+}
 
 -- position 1 was not
-uninserted : IsInserted 2 twins 1 → ⊥
+uninserted : (words : List ℕ) → IsInserted 2 (record twins { words = words }) 1 → ⊥
 unfolding chain
-uninserted is =
+uninserted words is =
     let hash =
-    each-member (λ m r. r ≡ Began is.1 (Insert is.2) → is.2 ≡ 1) twins.records
+    each-member (λ m r. r ≡ Began is.party (Insert is.hash) → is.hash ≡ 1) twins.records
     ((λ e. cc), ((λ e. cc), ((λ e. cc), ((λ e. cc), ((λ e. cc), ((λ e. cc), tt))))))
-    is.0 _ is.3 refl in
-    let at = is.4 in
-    none at.0 at.1 (subst (λ h. place 64 h at.0 ≡ 1) hash at.2)
+    is.m _ is.begins refl in
+    let at = is.position in
+    none at.index at.below (subst (λ h. place 64 h at.index ≡ 1) hash at.here)
   where
     none : (i : ℕ) → i < 2 → place 64 1 i ≡ 1 → ⊥
     none zero below e = omega (arith, e)
@@ -40,24 +46,24 @@ uninserted is =
 
 -- position 2 was found on in the other filter
 found : IsFoundInOther in_turn 2
-found = (1, 0, 5, Running, refl, refl)
+found = record { m = 1; party = 0; found = 5; ended = Running; reads = refl; on = refl }
 
 -- position 1 was not
 unfound : IsFoundInOther in_turn 1 → ⊥
 unfound is =
     let word =
-    each-member (λ m r. r ≡ Did is.1 (Other 0) is.2 is.3 → is.2 ≡ 5) in_turn.records
-    ((λ e. cc), ((λ e. cc), ((λ e. cc), ((λ e. cc), ((λ e. cc), tt))))) is.0 _ is.4 refl in
-    let on = subst (λ x. bit_is_on x 1 ≡ true) word is.5 in
+    each-member (λ m r. r ≡ Did is.party (Other 0) is.found is.ended → is.found ≡ 5) in_turn.records
+    ((λ e. cc), ((λ e. cc), ((λ e. cc), ((λ e. cc), ((λ e. cc), tt))))) is.m _ is.reads refl in
+    let on = subst (λ x. bit_is_on x 1 ≡ true) word is.on in
     cc
 
 -- the twins found nothing there
-none_found : (p : ℕ) → IsFoundInOther twins p → ⊥
-none_found p is =
+none_found : (words : List ℕ) (p : ℕ) → IsFoundInOther (record twins { words = words }) p → ⊥
+none_found words p is =
     each-member
-    (λ m r. r ≡ Did is.1 (Other (p / 64)) is.2 is.3 → ⊥) twins.records
+    (λ m r. r ≡ Did is.party (Other (p / 64)) is.found is.ended → ⊥) twins.records
     ((λ e. cc), ((λ e. cc), ((λ e. cc), ((λ e. cc), ((λ e. cc), ((λ e. cc), tt))))))
-    is.0 _ is.4 refl
+    is.m _ is.reads refl
 
 -- every call of the twins has ended
 ended : EveryCallEnded twins.records
@@ -75,7 +81,7 @@ ends-short : EndsWithAll 2 (record twins { words = 1 ∷ [] }) → ⊥
 unfolding content chain
 ends-short ends =
     let on = (ends twins-grow ended 20).1
-    (inr (inl inserted)) in
+    (inr (inl (inserted (1 ∷ [])))) in
     cc
 
 -- nor one on that was not
@@ -84,5 +90,8 @@ unfolding content chain
 ends-long ends =
     elim ((ends twins-grow ended 1).0 refl) [
       | inl start ↦ (let on = start in cc)
-      | inr later ↦ elim later [ inl is ↦ uninserted is | inr is ↦ none_found 1 is ]
+      | inr later ↦ elim later [
+        | inl is ↦ uninserted _ is
+        | inr is ↦ none_found _ 1 is
+      ]
     ]

@@ -1,5 +1,5 @@
 -- Which calls of the worked courses are finished, and which not.
-use Rattle.std.proofs.Common.{◌≡◌, ◌≢◌, ◌<◌, ◌∷◌, [], ℕ, Some, slice_get, true, false, refl, arith, Bool, not, ◌&&◌, ◌||◌, ◌==◌, ap, sym, ◌∙◌, ltb}
+use Rattle.std.proofs.Common.{◌≡◌, ◌≢◌, ◌<◌, ◌∷◌, [], List, ℕ, Some, slice_get, true, false, refl, arith, Bool, not, ◌&&◌, ◌||◌, ◌==◌, ap, sym, ◌∙◌, ltb}
 use Rattle.bloom_steps.specs.declared.steps.vocabulary.Step.{Step}
 use Rattle.bloom_steps.specs.declared.steps.vocabulary.Step.TheVariants.{Load, Or, Zero}
 use Rattle.bloom_steps.specs.declared.steps.vocabulary.Call.{Call}
@@ -46,32 +46,37 @@ between party began last m r a b is =
     let inside = and_from (ltb began m) (ltb m last) (lt-ltb began m a) (lt-ltb m last b) in
     sym (ap (λ i. not i || leaves party r) inside) ∙ is
 
+-- a record that is a step of a party
+pub step_at : {records : List Record} {m party : ℕ} {ended : End} (step : Step) (found : ℕ)
+    → slice_get records m ≡ Some (Did party step found ended) → IsStepAt records m party ended
+step_at step found here = record { step = step; found = found; here = here }
+
 -- a call is finished that each record between leaves going on
 pub finished : (run : Course) (party : ℕ) (call : Call) (began last : ℕ) (e : End)
     → slice_get run.records began ≡ Some (Began party call) → began < last
-    → IsStepAt run.records last party e → e ≢ Running
-    → all_pass (leaves_between party began last) run.records ≡ true
+    → (step : Step) (found : ℕ) → slice_get run.records last ≡ Some (Did party step found e)
+    → e ≢ Running → all_pass (leaves_between party began last) run.records ≡ true
     → IsFinished run party call began last e
-finished run party call began last e begins order ends over all =
+finished run party call began last e begins order step found here over all =
     let on = each-passes (leaves_between party began last) run.records all in
     record {
       begins = begins;
       order = order;
-      ends = ends;
+      ends = step_at step found here;
       over = over;
       no_other = λ m other a b g.
           let r = Began party other in
           no_beginning party other (between party began last m r a b (on m r g));
       still = λ m e a b s.
-          let r = Did party s.0 s.1 e in
-          runs_on party s.0 s.1 e (between party began last m r a b (on m r s.2));
+          let r = Did party s.step s.found e in
+          runs_on party s.step s.found e (between party began last m r a b (on m r s.here));
     }
 
 -- a look-up of two loads
 pub finished-contains : IsFinished last_load_alone 0 (Contains 1) 0 2 (Answer true)
 finished-contains =
     finished last_load_alone 0 (Contains 1) 0 2 (Answer true) refl (omega arith)
-    (Load 0, 1048576, refl) (λ e. cc) refl
+    (Load 0) 1048576 refl (λ e. cc) refl
 
 -- not at its first load
 unfinished-contains : IsFinished last_load_alone 0 (Contains 1) 0 1 Running → ⊥
@@ -79,7 +84,7 @@ unfinished-contains is = is.over refl
 
 -- not with another answer
 another-answer : IsFinished last_load_alone 0 (Contains 1) 0 2 (Answer false) → ⊥
-another-answer is = let ends = is.ends.2 in cc
+another-answer is = let ends = is.ends.here in cc
 
 -- nor as another call
 another-call : IsFinished last_load_alone 0 (Contains 2) 0 2 (Answer true) → ⊥
@@ -88,30 +93,30 @@ another-call is = let begins = is.begins in cc
 -- a look-up, while others begin and end calls
 pub finished-disturbed : IsFinished disturbed 0 (Contains 1) 0 7 (Answer true)
 finished-disturbed =
-    finished disturbed 0 (Contains 1) 0 7 (Answer true) refl (omega arith) (Load 0, 1048576, refl)
+    finished disturbed 0 (Contains 1) 0 7 (Answer true) refl (omega arith) (Load 0) 1048576 refl
     (λ e. cc) refl
 
 -- its last step is its own
 another-party : IsFinished disturbed 0 (Contains 1) 0 6 Done → ⊥
-another-party is = let ends = is.ends.2 in cc
+another-party is = let ends = is.ends.here in cc
 
 -- the twins
 pub finished-first : IsFinished twins 0 (Insert 1) 0 5 (Answer false)
 finished-first =
     finished twins 0 (Insert 1) 0 5 (Answer false) refl (omega arith)
-    (Or 0 1048576, 1048577, refl) (λ e. cc) refl
+    (Or 0 1048576) 1048577 refl (λ e. cc) refl
 
 -- the second, in the first's span
 pub finished-second : IsFinished twins 1 (Insert 1) 1 4 (Answer false)
 finished-second =
-    finished twins 1 (Insert 1) 1 4 (Answer false) refl (omega arith) (Or 0 1048576, 1, refl)
+    finished twins 1 (Insert 1) 1 4 (Answer false) refl (omega arith) (Or 0 1048576) 1 refl
     (λ e. cc) refl
 
 -- an insert, and then a look-up by the same party
 pub finished-insert : IsFinished insert_in_clear 1 (Insert 1) 2 5 (Answer false)
 finished-insert =
     finished insert_in_clear 1 (Insert 1) 2 5 (Answer false) refl (omega arith)
-    (Or 1 1, 0, refl) (λ e. cc) refl
+    (Or 1 1) 0 refl (λ e. cc) refl
 
 -- the insert isn't finished where the look-up is
 finished-by_next : IsFinished insert_in_clear 1 (Insert 1) 2 10 (Answer false) → ⊥
@@ -141,11 +146,12 @@ ended_twice = record {
 -- it is finished at its first end
 ended-first : IsFinished ended_twice 0 Clear 0 1 Done
 ended-first =
-    finished ended_twice 0 Clear 0 1 Done refl (omega arith) (Zero 0, 0, refl) (λ e. cc) refl
+    finished ended_twice 0 Clear 0 1 Done refl (omega arith) (Zero 0) 0 refl (λ e. cc) refl
 
 -- not at another
 ended-second : IsFinished ended_twice 0 Clear 0 2 Done → ⊥
-ended-second is = let runs = is.still 1 Done (omega arith) (omega arith) (Zero 0, 0, refl) in cc
+ended-second is =
+    let runs = is.still 1 Done (omega arith) (omega arith) (step_at (Zero 0) 0 refl) in cc
 
 -- a call doesn't end before it begins
 abbrev ended_before : Course

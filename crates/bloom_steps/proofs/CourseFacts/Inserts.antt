@@ -12,7 +12,7 @@ use Rattle.bloom_steps.specs.Moments.{moment, turns_on}
 use Rattle.bloom_steps.proofs.CourseFacts.Courses.{twins, twins_answering, idle_insert}
 use Rattle.bloom_steps.specs.declared.steps.vocabulary.Step.{Step}
 use Rattle.bloom_steps.proofs.StepFacts.Members.{each-member}
-use Rattle.bloom_steps.proofs.CourseFacts.Finished.{finished}
+use Rattle.bloom_steps.proofs.CourseFacts.Finished.{finished, step_at}
 use Rattle.bloom_steps.proofs.CourseFacts.Lawful.{lawful-twins}
 use Rattle.bloom_steps.proofs.RunLemmas.Inserts.{inserts_tell}
 
@@ -25,7 +25,7 @@ first-on answer = record {
   ended = Running;
   later = omega arith;
   upto = omega arith;
-  own = (Or 0 1, 0, refl);
+  own = step_at (Or 0 1) 0 refl;
   on = refl;
 }
 
@@ -38,7 +38,7 @@ second-on = record {
   ended = Answer false;
   later = omega arith;
   upto = omega arith;
-  own = (Or 0 1048576, 1, refl);
+  own = step_at (Or 0 1048576) 1 refl;
   on = refl;
 }
 
@@ -57,7 +57,7 @@ none-of_another one =
         ((λ s f e is. cc), ((λ s f e is. cc), ((λ s f e is. cc), ((λ s f e is. cc), tt)))),
       ),
     )
-    one.m _ one.own.2 one.own.0 one.own.1 one.ended refl
+    one.m _ one.own.here one.own.step one.own.found one.ended refl
 
 -- the theorem holds of the twins, which answer false
 told : InsertsTell twins
@@ -68,7 +68,7 @@ untold : InsertsTell (twins_answering true) → ⊥
 untold tell =
     let is =
     finished (twins_answering true) 0 (Insert 1) 0 5 (Answer true) refl (omega arith)
-    (Or 0 1048576, 1048577, refl) (λ e. cc) refl in
+    (Or 0 1048576) 1048577 refl (λ e. cc) refl in
     let wrong = (tell 0 1 0 5 true is).1 (first-on true) in
     cc
 
@@ -88,6 +88,6 @@ idle-on one =
 idle-untold : InsertsTell idle_insert → ⊥
 idle-untold tell =
     let is =
-    finished idle_insert 0 (Insert 0) 0 1 (Answer false) refl (omega arith) (Load 0, 0, refl)
+    finished idle_insert 0 (Insert 0) 0 1 (Answer false) refl (omega arith) (Load 0) 0 refl
     (λ e. cc) refl in
     idle-on ((tell 0 0 0 1 false is).0 refl)

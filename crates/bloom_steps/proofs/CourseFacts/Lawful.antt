@@ -15,6 +15,7 @@ use Rattle.bloom_steps.proofs.StepFacts.Scripts.{insert, insert-script}
 use Rattle.bloom_steps.proofs.CourseFacts.Carrying.{carried}
 use Rattle.bloom_steps.proofs.CourseFacts.Courses.{twins, in_turn, insert_then_contains}
 use Rattle.bloom_steps.proofs.CourseFacts.Parties.{none-past}
+use Rattle.bloom_steps.proofs.StepLemmas.Finding.{ends-off}
 
 -- one word of 64 bits
 pub one-word : (word : ℕ) → word < 2 ^ 64 → AreWords (word ∷ [])
@@ -27,17 +28,13 @@ inserted = took (Or 0 1) 4 (Answer false) ∷ []
 -- it is a whole insert
 pub inserted-script : IsScript 1 1 (Insert 0) inserted
 unfolding chain
-inserted-script =
-    let off = took (Or 0 1) 4 (Answer false) in
-    record {
-      count = refl;
-      steps = each-member _ inserted (refl, tt);
-      stops = tt;
-      running = each-member _ inserted ((λ l. absurd (omega (arith, l))), tt);
-      last =
-          each-member _ inserted
-          ((λ l. (false, refl, ((λ e. (0, off, refl, refl)), (λ e. refl)))), tt);
-    }
+inserted-script = record {
+  count = refl;
+  steps = each-member _ inserted (refl, tt);
+  stops = tt;
+  running = each-member _ inserted ((λ l. absurd (omega (arith, l))), tt);
+  last = each-member _ inserted ((λ l. ends-off 1 0 inserted 0 _ refl refl), tt);
+}
 
 -- a look-up of one load, which found its bit on
 abbrev found : List Taken
@@ -76,7 +73,8 @@ calls : (party : ℕ) → CallAfterCall 1 1 party (records_of party insert_then_
 unfolding records_of
 calls zero =
     whole_call (Insert 0) inserted _ inserted-script
-    (begun_call Union (took (Other 0) 9 Running ∷ []) (_, _, read_write-script 9))
+    (begun_call Union (took (Other 0) 9 Running ∷ [])
+    (record { next = _; rest = _; script = read_write-script 9 }))
 calls (suc zero) = whole_call (Contains 0) found [] found-script no_call
 calls (suc (suc party)) =
     subst (CallAfterCall 1 1 (suc (suc party)))
@@ -96,19 +94,15 @@ first = took (Or 0 1) 0 Running ∷ took (Or 0 1048576) 1048577 (Answer false) �
 -- they are a whole insert
 first-script : IsScript 1 2 (Insert 1) first
 unfolding chain
-first-script =
-    let off = took (Or 0 1) 0 Running in
-    record {
-      count = refl;
-      steps = each-member _ first (refl, (refl, tt));
-      stops = tt;
-      running = each-member _ first ((λ l. refl), ((λ l. absurd (omega (arith, l))), tt));
-      last =
-          each-member _ first (
-            (λ l. absurd (omega (arith, l))),
-            ((λ l. (false, refl, ((λ e. (0, off, refl, refl)), (λ e. refl)))), tt),
-          );
-    }
+first-script = record {
+  count = refl;
+  steps = each-member _ first (refl, (refl, tt));
+  stops = tt;
+  running = each-member _ first ((λ l. refl), ((λ l. absurd (omega (arith, l))), tt));
+  last =
+      each-member _ first
+      ((λ l. absurd (omega (arith, l))), ((λ l. ends-off 1 1 first 0 _ refl refl), tt));
+}
 
 -- the calls of the twins: the second's steps are those of an insert that found its second bit off
 calls-twins : (party : ℕ) → CallAfterCall 1 2 party (records_of party twins.records)
@@ -151,10 +145,10 @@ known-script = record {
 }
   where
     off : Any known (λ i t. bit_is_on t.found (place 64 0 i) ≡ false) → true ≡ false
-    off a =
+    off (i, t, here, is) =
         let on =
-        each-member (λ i t. bit_is_on t.found (place 64 0 i) ≡ true) known (refl, tt) a.0 a.1 a.2 in
-        sym on ∙ a.3
+        each-member (λ j u. bit_is_on u.found (place 64 0 j) ≡ true) known (refl, tt) i t here in
+        sym on ∙ is
 
 -- the calls of a union, and then an insert
 calls-in_turn : (party : ℕ) → CallAfterCall 1 1 party (records_of party in_turn.records)

@@ -4,6 +4,7 @@ use Rattle.std.proofs.lemmas.Bool.{both_ways}
 use Rattle.bloom_parts.specs.Chain.{chain}
 use Rattle.bloom_parts.specs.Content.{content}
 use Rattle.bloom_parts.specs.Places.{are_in}
+use Rattle.bloom_parts.proofs.PublishedLemmas.{place-position}
 use Rattle.bloom_steps.specs.declared.steps.vocabulary.Step.TheVariants.{Load, Or}
 use Rattle.bloom_steps.specs.declared.steps.vocabulary.Call.TheVariants.{Insert, Contains}
 use Rattle.bloom_steps.specs.declared.steps.vocabulary.End.TheVariants.{Answer}
@@ -40,17 +41,17 @@ disturbed-last = refl
 disturbed-right : IsRightAt 2 disturbed 1 0 7 7 true
 unfolding content chain
 disturbed-right = record {
-  within = (omega arith, omega arith);
+  within = record { after = omega arith; upto = omega arith };
   undisturbed = λ alone.
       let on : turns_off disturbed 3 0 ≡ true = refl in
       absurd (both_ways (turns_off disturbed 3 0)
-      (alone 3 0 (omega arith) (omega arith) (0, omega arith, refl)) on);
+      (alone 3 0 (omega arith) (omega arith) (place-position 64 2 1 0 (omega arith))) on);
   off = λ e. absurd (cc);
 }
 
 -- a moment outside of the span is not right
 disturbed-before : IsRightAt 2 disturbed 1 0 7 0 true → ⊥
-disturbed-before right = omega (arith, right.within.0)
+disturbed-before right = omega (arith, right.within.after)
 
 -- a look-up that counts its last load alone breaks the theorem
 last-load : are_in 64 2 1 (moment last_load_alone 2) ≡ false
@@ -76,11 +77,11 @@ off-late right = both_ways (are_in 64 1 0 (moment off_and_on 5)) (right.off refl
 off-then : IsRightAt 1 off_and_on 0 0 5 3 false
 unfolding content chain are_in
 off-then = record {
-  within = (omega arith, omega arith);
+  within = record { after = omega arith; upto = omega arith };
   undisturbed = λ alone.
       let on : turns_off off_and_on 2 0 ≡ true = refl in
       absurd (both_ways (turns_off off_and_on 2 0)
-      (alone 2 0 (omega arith) (omega arith) (0, omega arith, refl)) on);
+      (alone 2 0 (omega arith) (omega arith) (place-position 64 1 0 0 (omega arith))) on);
   off = λ e. refl;
 }
 
@@ -89,7 +90,7 @@ off-late_told : ContainsTell 1 off_and_on → ⊥
 off-late_told tell =
     off-late
     (tell 0 0 0 5 false
-    (finished off_and_on 0 (Contains 0) 0 5 (Answer false) refl (omega arith) (Load 0, 1, refl)
+    (finished off_and_on 0 (Contains 0) 0 5 (Answer false) refl (omega arith) (Load 0) 1 refl
     (λ e. cc) refl))
 
 -- both theorems hold of a look-up after a finished insert of its hash: it is right
@@ -106,14 +107,14 @@ finished-insert : (answer : Bool)
     → IsFinished (insert_then_contains_answering answer) 0 (Insert 0) 0 1 (Answer false)
 finished-insert answer =
     finished (insert_then_contains_answering answer) 0 (Insert 0) 0 1 (Answer false) refl
-    (omega arith) (Or 0 1, 4, refl) (λ e. cc) refl
+    (omega arith) (Or 0 1) 4 refl (λ e. cc) refl
 
 -- the look-up is finished, whatever it answers
 finished-look_up : (answer : Bool)
     → IsFinished (insert_then_contains_answering answer) 1 (Contains 0) 2 3 (Answer answer)
 finished-look_up answer =
     finished (insert_then_contains_answering answer) 1 (Contains 0) 2 3 (Answer answer) refl
-    (omega arith) (Load 0, 5, refl) (λ e. cc) refl
+    (omega arith) (Load 0) 5 refl (λ e. cc) refl
 
 -- at its last load the hash is contained
 contained : are_in 64 1 0 (moment (insert_then_contains_answering false) 3) ≡ true
@@ -155,7 +156,7 @@ unfolding content chain
 between none =
     let on : turns_off insert_in_clear 6 64 ≡ true = refl in
     both_ways (turns_off insert_in_clear 6 64)
-    (none 6 64 (omega arith) (omega arith) (2, omega arith, refl)) on
+    (none 6 64 (omega arith) (omega arith) (place-position 128 3 1 2 (omega arith))) on
 
 -- and the look-up found that bit off
 between-off : are_in 128 3 1 (moment insert_in_clear 10) ≡ false

@@ -65,16 +65,16 @@ at_start = refl
 
 -- a span begins just after the call's beginning
 span-first : IsInSpan 2 5 3
-span-first = (omega arith, omega arith)
+span-first = record { after = omega arith; upto = omega arith }
 
 -- it ends just after its last step
 span-last : IsInSpan 2 5 6
-span-last = (omega arith, omega arith)
+span-last = record { after = omega arith; upto = omega arith }
 
 -- the moment of its beginning is before it
 span-before : IsInSpan 2 5 2 → ⊥
-span-before h = omega (arith, h.0)
+span-before h = omega (arith, h.after)
 
 -- and one further on is after it
 span-after : IsInSpan 2 5 7 → ⊥
-span-after h = omega (arith, h.1)
+span-after h = omega (arith, h.upto)

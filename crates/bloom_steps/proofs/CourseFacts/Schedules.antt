@@ -18,81 +18,98 @@ schedule =
 pub two-records : FollowsFrom 1 [] schedule (Began 0 Clear ∷ Did 0 (Zero 0) 0 Done ∷ [])
 unfolding records_of
 two-records =
-    next_event [] (Go 0 0) _ [] _ (inr (refl, refl))
-    (next_event [] (Begin 7 Clear) _ [] _ (inr ((λ l. absurd (omega (arith, l))), refl))
-    (next_event [] (Begin 0 Clear) _ (Began 0 Clear ∷ []) _ (inl (omega arith, refl, refl))
-    (next_event _ (Begin 0 (Insert 0)) _ [] _ (inr ((λ l. refl), refl))
+    next_event [] (Go 0 0) _ [] _ (inr (record { idle = refl; same = refl }))
+    (next_event [] (Begin 7 Clear) _ [] _
+    (inr (record { busy = λ l. absurd (omega (arith, l)); same = refl }))
+    (next_event [] (Begin 0 Clear) _ (Began 0 Clear ∷ []) _
+    (inl (record { within = omega arith; idle = refl; same = refl }))
+    (next_event _ (Begin 0 (Insert 0)) _ [] _ (inr (record { busy = λ l. refl; same = refl }))
     (next_event _ (Go 0 0) _ (Did 0 (Zero 0) 0 Done ∷ []) _
-    (inl (refl, (Zero 0, 0, Done, refl, (λ i e. refl))))
-    (next_event _ (Go 0 0) _ [] _ (inr (refl, refl)) (no_event _))))))
+    (inl (record {
+      running = refl;
+      step = Zero 0;
+      found = 0;
+      ended = Done;
+      same = refl;
+      reads = λ i e. refl;
+    }))
+    (next_event _ (Go 0 0) _ [] _ (inr (record { idle = refl; same = refl })) (no_event _))))))
 
 -- a beginning is recorded
 begin-dropped : Gives 1 [] (Begin 0 Clear) [] → ⊥
 unfolding records_of
 begin-dropped gives = elim gives [
-  | inl is ↦ let same = is.2 in cc
-  | inr is ↦ let runs = is.0 (omega arith) in cc
+  | inl is ↦ let same = is.same in cc
+  | inr is ↦ let runs = is.busy (omega arith) in cc
 ]
 
 -- as what it is
 begin-another : Gives 1 [] (Begin 0 Clear) (Began 0 Union ∷ []) → ⊥
 begin-another gives = elim gives [
-  | inl is ↦ let same = is.2 in cc
-  | inr is ↦ let same = is.1 in cc
+  | inl is ↦ let same = is.same in cc
+  | inr is ↦ let same = is.same in cc
 ]
 
 -- not twice
 begin-twice : Gives 1 [] (Begin 0 Clear) (Began 0 Clear ∷ Began 0 Clear ∷ []) → ⊥
 begin-twice gives = elim gives [
-  | inl is ↦ let same = is.2 in cc
-  | inr is ↦ let same = is.1 in cc
+  | inl is ↦ let same = is.same in cc
+  | inr is ↦ let same = is.same in cc
 ]
 
 -- not of a party past the run's
 begin-past : Gives 1 [] (Begin 1 Clear) (Began 1 Clear ∷ []) → ⊥
 begin-past gives = elim gives [
-  | inl is ↦ omega (arith, is.0)
-  | inr is ↦ let same = is.1 in cc
+  | inl is ↦ omega (arith, is.within)
+  | inr is ↦ let same = is.same in cc
 ]
 
 -- not of a party that runs a call
 begin-busy : Gives 1 (Began 0 Union ∷ []) (Begin 0 Clear) (Began 0 Clear ∷ []) → ⊥
 unfolding records_of
 begin-busy gives = elim gives [
-  | inl is ↦ let runs = is.1 in cc
-  | inr is ↦ let same = is.1 in cc
+  | inl is ↦ let idle = is.idle in cc
+  | inr is ↦ let same = is.same in cc
 ]
 
 -- a party that runs a call makes a step
 go-union : Gives 1 (Began 0 Union ∷ []) (Go 0 7) (Did 0 (Other 0) 7 Running ∷ [])
 unfolding records_of
-go-union = inl (refl, (Other 0, 7, Running, refl, (λ i e. refl)))
+go-union =
+    inl (record {
+      running = refl;
+      step = Other 0;
+      found = 7;
+      ended = Running;
+      same = refl;
+      reads = λ i e. refl;
+    })
 
 -- which is recorded
 go-dropped : Gives 1 (Began 0 Union ∷ []) (Go 0 7) [] → ⊥
 unfolding records_of
 go-dropped gives = elim gives [
-  | inl is ↦ let same = is.1.3 in cc
-  | inr is ↦ let runs = is.0 in cc
+  | inl is ↦ let same = is.same in cc
+  | inr is ↦ let idle = is.idle in cc
 ]
 
 -- which finds the word given, where it reads the other filter
 go-another_word : Gives 1 (Began 0 Union ∷ []) (Go 0 7) (Did 0 (Other 0) 8 Running ∷ []) → ⊥
 go-another_word gives = elim gives [
   | inl is ↦
-      let same = is.1.3 in
-      let given = is.1.4 0 (cc) in
+      let same = is.same in
+      let given = is.reads 0 (cc) in
       let same_word : ◌≡◌ {A = ℕ} 8 7 = cc in
       omega (arith, same_word)
-  | inr is ↦ let same = is.1 in cc
+  | inr is ↦ let same = is.same in cc
 ]
 
 -- a party that runs none makes none
 go-idle : Gives 1 [] (Go 0 0) (Did 0 (Zero 0) 0 Done ∷ []) → ⊥
 unfolding records_of
 go-idle gives = elim gives [
-  | inl is ↦ let runs = is.0 in cc
-  | inr is ↦ let same = is.1 in cc
+  | inl is ↦ let running = is.running in cc
+  | inr is ↦ let same = is.same in cc
 ]
 
 -- without events there are no records

@@ -4,6 +4,7 @@ use Rattle.std.proofs.lemmas.Bool.{both_ways}
 use Rattle.bloom_parts.specs.Chain.{chain}
 use Rattle.bloom_parts.specs.Content.{content}
 use Rattle.bloom_parts.specs.Places.{place, IsPosition}
+use Rattle.bloom_parts.proofs.PublishedLemmas.{place-position}
 use Rattle.bloom_steps.specs.Moments.{moment, turns_off, IsUndisturbed, NoneTurnedOff}
 use Rattle.bloom_steps.proofs.CourseFacts.Courses.{disturbed, last_load_alone, between_clears, clear_elsewhere}
 
@@ -15,12 +16,13 @@ never false = refl
 -- position 0 is the first of hash 1
 first : IsPosition 64 2 1 0
 unfolding chain
-first = (0, omega arith, refl)
+first = record { index = 0; below = omega arith; here = refl }
 
 -- position 0 is the only one of hash 0
 pub only : (p : ℕ) → IsPosition 64 1 0 p → p ≡ 0
 unfolding chain
-only p x = let zeroth : x.0 ≡ 0 = omega (arith, x.1) in sym x.2 ∙ ap (place 64 0) zeroth
+only p x = let zeroth : x.index ≡ 0 = omega (arith, x.below) in
+    sym x.here ∙ ap (place 64 0) zeroth
 
 -- a look-up across a clear of its first position is disturbed
 clear-disturbs : IsUndisturbed 2 disturbed 1 0 7 → ⊥
@@ -51,7 +53,7 @@ unfolding content chain
 before-clears h =
     let on : turns_off between_clears 1 0 ≡ true = refl in
     both_ways (turns_off between_clears 1 0)
-    (h 1 0 (omega arith) (omega arith) (0, omega arith, refl)) on
+    (h 1 0 (omega arith) (omega arith) (place-position 64 1 0 0 (omega arith))) on
 
 -- a record later there is another
 after-clears : NoneTurnedOff 1 between_clears 0 6 7 → ⊥
@@ -59,7 +61,7 @@ unfolding content chain
 after-clears h =
     let on : turns_off between_clears 7 0 ≡ true = refl in
     both_ways (turns_off between_clears 7 0)
-    (h 7 0 (omega arith) (omega arith) (0, omega arith, refl)) on
+    (h 7 0 (omega arith) (omega arith) (place-position 64 1 0 0 (omega arith))) on
 
 -- what is turned off elsewhere doesn't disturb
 elsewhere : IsUndisturbed 1 clear_elsewhere 0 0 3

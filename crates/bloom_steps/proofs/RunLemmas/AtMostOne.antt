@@ -11,7 +11,7 @@ use Rattle.bloom_steps.specs.declared.steps.vocabulary.Record.TheVariants.{Did}
 use Rattle.bloom_steps.specs.declared.steps.vocabulary.Step.TheVariants.{Other}
 use Rattle.bloom_steps.specs.Scripts.{IsScript, Taken}
 use Rattle.bloom_steps.specs.Steps.{after_records}
-use Rattle.bloom_steps.specs.Courses.{AtMostOne, CallAfterCall, FindsWhatIsThere, FollowsFrom, Gives, IsStepOf, MayFind, next_event, no_event, records_of, runs}
+use Rattle.bloom_steps.specs.Courses.{AtMostOne, CallAfterCall, FindsWhatIsThere, FollowsFrom, Gives, TakesStep, MayFind, next_event, no_event, records_of, runs}
 use Rattle.bloom_steps.proofs.RunLemmas.NextSteps.{GoesAfter, goes_after, newest-same}
 use Rattle.bloom_steps.proofs.RunLemmas.PartyRecords.{records_of-append, records_of-mine}
 use Rattle.bloom_steps.proofs.RunLemmas.UniqueSteps.{end-same, found-same}
@@ -69,19 +69,19 @@ module _ (w k : ℕ) (A : ℕ → Bool) where
 
   -- a step that is recorded is one
   step-same : (before : List Record) (p given : ℕ) (a b later other : List Record)
-      → IsStepOf p given a → IsStepOf p given b
+      → TakesStep before p given a → TakesStep before p given b
       → AreLawful w k A (before ++ (a ++ later)) → AreLawful w k A (before ++ (b ++ other)) → a ≡ b
   step-same before p given a b later other x y f g =
-      let t : Taken = record { step = x.0; found = x.1; ended = x.2 } in
-      let u : Taken = record { step = y.0; found = y.1; ended = y.2 } in
-      let ft = subst (λ l. AreLawful w k A (before ++ (l ++ later))) x.3 f in
-      let fu = subst (λ l. AreLawful w k A (before ++ (l ++ other))) y.3 g in
-      x.3
+      let t : Taken = record { step = x.step; found = x.found; ended = x.ended } in
+      let u : Taken = record { step = y.step; found = y.found; ended = y.ended } in
+      let ft = subst (λ l. AreLawful w k A (before ++ (l ++ later))) x.same f in
+      let fu = subst (λ l. AreLawful w k A (before ++ (l ++ other))) y.same g in
+      x.same
       ∙ ap (λ r. r ∷ [])
       (next-same w k p given (after_records A before) (records_of p before) t u
       (after_at before later p t ft) (after_at before other p u fu) (found_at before later p t ft)
-      (found_at before other p u fu) x.4 y.4)
-      ∙ sym y.3
+      (found_at before other p u fu) x.reads y.reads)
+      ∙ sym y.same
 
   -- what an event adds is one
   gives-same : (parties : ℕ) (before : List Record) (e : Event) (a b later other : List Record)
@@ -89,17 +89,24 @@ module _ (w k : ℕ) (A : ℕ → Bool) where
       → Gives parties before e b → AreLawful w k A (before ++ (a ++ later))
       → AreLawful w k A (before ++ (b ++ other)) → a ≡ b
   gives-same parties before (Begin p call) a b later other g h f f2 = elim g [
-    | inl x ↦
-        elim h [ inl y ↦ x.2 ∙ sym y.2 | inr y ↦ absurd (both_ways (runs p before) x.1 (y.0 x.0)) ]
-    | inr x ↦
-        elim h [ inl y ↦ absurd (both_ways (runs p before) y.1 (x.0 y.0)) | inr y ↦ x.1 ∙ sym y.1 ]
+    | inl x ↦ elim h [
+      | inl y ↦ x.same ∙ sym y.same
+      | inr y ↦ absurd (both_ways (runs p before) x.idle (y.busy x.within))
+    ]
+    | inr x ↦ elim h [
+      | inl y ↦ absurd (both_ways (runs p before) y.idle (x.busy y.within))
+      | inr y ↦ x.same ∙ sym y.same
+    ]
   ]
   gives-same parties before (Go p given) a b later other g h f f2 = elim g [
     | inl x ↦ elim h [
-      | inl y ↦ step-same before p given a b later other x.1 y.1 f f2
-      | inr y ↦ absurd (both_ways (runs p before) y.0 x.0)
+      | inl y ↦ step-same before p given a b later other x y f f2
+      | inr y ↦ absurd (both_ways (runs p before) y.idle x.running)
     ]
-    | inr x ↦ elim h [ inl y ↦ absurd (both_ways (runs p before) x.0 y.0) | inr y ↦ x.1 ∙ sym y.1 ]
+    | inr x ↦ elim h [
+      | inl y ↦ absurd (both_ways (runs p before) x.idle y.running)
+      | inr y ↦ x.same ∙ sym y.same
+    ]
   ]
 
   -- and so are the records of events

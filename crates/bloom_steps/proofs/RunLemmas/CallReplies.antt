@@ -103,16 +103,15 @@ module _ (w k p : ℕ) (s : List Taken) (A : ℕ → Bool) (fits : Fits w A (did
   insert_some : (h : ℕ) → IsScript w k (Insert h) s
       → Any s (λ i t. bit_is_on t.found (place (64 * w) h i) ≡ false)
       → are_in (64 * w) k h A ≡ false
-  insert_some h is any =
+  insert_some h is (i, t, here, off) =
       let n = 64 * w in
       let count = is.count in
-      let i = any.0 in
       let q = place n h i in
-      let inside = slice_get_within s i any.1 any.2 in
+      let inside = slice_get_within s i t here in
       let was : A q ≡ false = false_from_ne_true (A q) (λ hit.
       let all = all_decide-take s i q (Some true) (insert-all w k p s A h q is) in
-      both_ways (bit_is_on any.1.found q) any.3
-      (insert_found h i any.1 is any.2 ∙ steps-on p (take i s) A q all hit)) in
+      both_ways (bit_is_on t.found q) off
+      (insert_found h i t is here ∙ steps-on p (take i s) A q all hit)) in
       are_in-off n k h A i (omega arith) was
 
   -- an insert answers whether its positions were all in the set before
@@ -135,11 +134,12 @@ module _ (w k p : ℕ) (s : List Taken) (A : ℕ → Bool) (fits : Fits w A (did
 
       by_end : (end : End) → IsLastEnd w (TurnsOn h) s end
           → answer_of_end end ≡ Some (are_in (64 * w) k h A)
-      by_end end e =
-          ap answer_of_end e.1
+      by_end end (says, is_end, tells) =
+          ap answer_of_end is_end
           ∙ ap Some
-          (both_alike e.0 (are_in (64 * w) k h A)
-          (λ on. insert_all h is (found_on e.0 e.2.1 on)) (λ off. insert_some h is (e.2.0 off)))
+          (both_alike says (are_in (64 * w) k h A)
+          (λ on. insert_all h is (found_on says tells.1 on))
+          (λ off. insert_some h is (tells.0 off)))
 
   -- where the last step of a look-up found its bit on, its positions were in the set before
   contains_all : (h m : ℕ) (last : Taken) → IsScript w k (Contains h) s → slice_get s m ≡ Some last

@@ -54,22 +54,23 @@ module _ (w k p : ℕ) (s : List Taken) (A : ℕ → Bool) where
       go true e =
           let at = position-from (64 * w) k h q e in
           let count = is.count in
-          let below = at.1 in
-          let t = some_member s at.0 (omega arith) in
-          let makes : step_decides (or_at (place (64 * w) h at.0)) q ≡ Some true =
-          elim (or_at-decides (place (64 * w) h at.0) q) [
+          let below = at.below in
+          let t = some_member s at.index (omega arith) in
+          let makes : step_decides (or_at (place (64 * w) h at.index)) q ≡ Some true =
+          elim (or_at-decides (place (64 * w) h at.index) q) [
             | inl here ↦ here.1
-            | inr other ↦ absurd (other.0 (sym at.2))
+            | inr other ↦ absurd (other.0 (sym at.here))
           ] in
-          steps-some p s A q (Some true) (insert-all h q is) at.0 t.0 t.1
-          (ap (λ x. step_decides x q) (is.steps at.0 t.0 t.1) ∙ makes)
+          steps-some p s A q (Some true) (insert-all h q is) at.index t.0 t.1
+          (ap (λ x. step_decides x q) (is.steps at.index t.0 t.1) ∙ makes)
       go false e = steps-none p s A q (λ i t g. elim (or_at-decides (place (64 * w) h i) q) [
         | inl here ↦
             let inside = slice_get_within s i t g in
             let count = is.count in
             absurd
             (both_ways (positions (64 * w) k h q) e
-            (position-to (64 * w) k h q (i, omega arith, sym here.0)))
+            (position-to (64 * w) k h q
+            (record { index = i; below = omega arith; here = sym here.0 })))
         | inr other ↦ inl (ap (λ x. step_decides x q) (is.steps i t g) ∙ other.1)
       ])
 

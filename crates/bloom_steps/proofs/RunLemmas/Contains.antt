@@ -1,5 +1,5 @@
 -- A finished look-up is right at the moment of its last load.
-use Rattle.std.proofs.Common.{◌+◌, ◌-◌, ◌∙◌, ◌≡◌, ◌≤◌, Bool, ap, arith, false, inl, inr, length, refl, slice_get, sym, true, ℕ}
+use Rattle.std.proofs.Common.{◌+◌, ◌-◌, ◌∙◌, ◌≡◌, ◌≤◌, Bool, ap, arith, false, inl, inr, length, slice_get, sym, true, ℕ}
 use Rattle.std.proofs.lemmas.Bool.{both_ways, cases_lt}
 use Rattle.std.proofs.lemmas.Bool.Decides.{eqb_tells}
 use Rattle.std.proofs.lemmas.Option.{same_Some, slice_get_within}
@@ -11,7 +11,7 @@ use Rattle.bloom_steps.specs.Interleavings.{ContainsTell}
 use Rattle.bloom_steps.specs.Moments.{IsFinished, IsUndisturbed, bits_of, moment}
 use Rattle.bloom_steps.specs.Scripts.{Taken}
 use Rattle.bloom_steps.specs.Courses.{Course, IsLawful}
-use Rattle.bloom_parts.proofs.PublishedLemmas.{are_in-off}
+use Rattle.bloom_parts.proofs.PublishedLemmas.{are_in-off, place-position}
 use Rattle.bloom_steps.proofs.RunLemmas.Changes.{found-load, not_turned_off, persists}
 use Rattle.bloom_steps.proofs.RunLemmas.OwnScripts.{OwnScript, own_script}
 use Rattle.bloom_steps.proofs.RunLemmas.Positions.{are_in-all, both_alike}
@@ -84,9 +84,10 @@ module _ (k : ℕ) (run : Course) (lawful : IsLawful k run) (some_words : 1 ≤ 
       let later = at.later in
       persists run q at.m (last - at.m) last (omega arith) (sym was ∙ found)
       (λ j l u turns.
-      not_turned_off run j q (calm j q (omega arith) (omega arith) (i, below, refl)) turns)) in
+      let here = place-position n k hash i below in
+      not_turned_off run j q (calm j q (omega arith) (omega arith) here) turns)) in
       record {
-        within = (omega arith, omega arith);
+        within = record { after = omega arith; upto = omega arith };
         undisturbed = λ calm. both_alike answer (are_in n k hash (moment run last)) (on calm) off;
         off = off;
       }

@@ -38,18 +38,19 @@ module _ (k : ℕ) (world : World) (is : IsWorldOf k world) (p : ℕ)
   -- where it runs a call it begins none
   pub gives-busy : (call : Call) → slot_runs slot ≡ true
       → Gives (length world.machines.items) world.records.items (Begin p call) []
-  gives-busy call running = inr ((λ _. runs-so ∙ running), refl)
+  gives-busy call running = inr (record { busy = λ _. runs-so ∙ running; same = refl })
 
   -- and else it begins one
   pub gives-begun : (call : Call) → slot_runs slot ≡ false
       → Gives (length world.machines.items) world.records.items (Begin p call)
       (Began p call ∷ [])
-  gives-begun call idle = inl (within, runs-so ∙ idle, refl)
+  gives-begun call idle =
+      inl (record { within = within; idle = runs-so ∙ idle; same = refl })
 
   -- where it runs none it makes no step
   pub gives-idle : (given : ℕ) → slot_runs slot ≡ false
       → Gives (length world.machines.items) world.records.items (Go p given) []
-  gives-idle given idle = inr (runs-so ∙ idle, refl)
+  gives-idle given idle = inr (record { idle = runs-so ∙ idle; same = refl })
 
   -- and else it makes one, which finds the word given where it reads the other filter
   pub gives-step : (given : ℕ) (step : Step) (found : ℕ) (e : End) → slot_runs slot ≡ true
@@ -57,7 +58,12 @@ module _ (k : ℕ) (world : World) (is : IsWorldOf k world) (p : ℕ)
       → Gives (length world.machines.items) world.records.items (Go p given)
       (Did p step found e ∷ [])
   gives-step given step found e running told =
-      inl (
-        runs-so ∙ running,
-        (step, found, e, refl, (λ i same. told ∙ ap (found_in world.words.items given) same)),
-      )
+      inl
+      (record {
+        running = runs-so ∙ running;
+        step = step;
+        found = found;
+        ended = e;
+        same = refl;
+        reads = λ i same. told ∙ ap (found_in world.words.items given) same;
+      })

@@ -1,7 +1,8 @@
 -- A finished insert is found.
-use Rattle.std.proofs.Common.{◌+◌, ◌-◌, ◌∙◌, ◌≤◌, arith, length, refl, ℕ}
+use Rattle.std.proofs.Common.{◌+◌, ◌-◌, ◌∙◌, ◌≤◌, arith, length, ℕ}
 use Rattle.std.proofs.lemmas.Option.{slice_get_within}
 use Rattle.bloom_parts.specs.Places.{place}
+use Rattle.bloom_parts.proofs.PublishedLemmas.{place-position}
 use Rattle.bloom_steps.specs.declared.steps.vocabulary.Call.TheVariants.{Insert}
 use Rattle.bloom_steps.specs.Interleavings.{FindsInserted}
 use Rattle.bloom_steps.specs.Moments.{bits_of}
@@ -35,4 +36,5 @@ module _ (k : ℕ) (run : Course) (lawful : IsLawful k run) (some_words : 1 ≤ 
       let on = on-or k run lawful at.m inserter q t at.is (its.is.steps own.index t there.1) in
       look.2 ∙ persists run q (at.m + 1) (last - (at.m + 1)) last (omega arith) on
       (λ j l u turns. not_turned_off run j q
-      (calm j q (omega arith) (omega arith) (own.index, omega arith, refl)) turns)
+      (calm j q (omega arith) (omega arith)
+      (place-position (bits_of run) k hash own.index (omega arith))) turns)

@@ -75,24 +75,26 @@ module _ (k : ℕ) (run : Course) (lawful : IsLawful k run)
     -- what was inserted is on
     inserted : (q : ℕ) → IsInserted k run q → content run.words q ≡ true
     inserted q x =
-        let h = held k run lawful x.0 (Began x.1 (Insert x.2)) x.3 in
-        let is = is_whole x.1 h.call h.s h.kind in
+        let h = held k run lawful x.m (Began x.party (Insert x.hash)) x.begins in
+        let is = is_whole x.party h.call h.s h.kind in
+        let at = x.position in
         elim h.which [
           | inl e ↦
-              let same : h.call ≡ Insert x.2 = cc in
+              let same : h.call ≡ Insert x.hash = cc in
               let its = subst (λ c. IsScript (length run.start) k c h.s) same is in
               let count = its.count in
-              let below = x.4.1 in
-              let t = some_member h.s x.4.0 (omega arith) in
-              let n = h.members x.4.0 t.0 t.1 in
-              let decides : step_decides (or_at (place (bits_of run) x.2 x.4.0)) q ≡ Some true =
-              elim (or_at-decides (place (bits_of run) x.2 x.4.0) q) [
+              let below = at.below in
+              let t = some_member h.s at.index (omega arith) in
+              let n = h.members at.index t.0 t.1 in
+              let decides : step_decides (or_at (place (bits_of run) x.hash at.index)) q
+              ≡ Some true =
+              elim (or_at-decides (place (bits_of run) x.hash at.index) q) [
                 | inl here ↦ here.1
-                | inr other ↦ absurd (other.0 (sym x.4.2))
+                | inr other ↦ absurd (other.0 (sym at.here))
               ] in
-              stays q n.0 x.1 t.0.step t.0.found t.0.ended n.1
-              (ap (λ y. step_decides y q) (its.steps x.4.0 t.0 t.1) ∙ decides)
-          | inr at ↦ absurd (let e = at.3 in cc)
+              stays q n.0 x.party t.0.step t.0.found t.0.ended n.1
+              (ap (λ y. step_decides y q) (its.steps at.index t.0 t.1) ∙ decides)
+          | inr of ↦ absurd (let e = of.3 in cc)
         ]
 
     -- and what a call found in the other filter
@@ -114,12 +116,13 @@ module _ (k : ℕ) (run : Course) (lawful : IsLawful k run)
     -- so what was found on there is on
     found_there : (q : ℕ) → IsFoundInOther run q → content run.words q ≡ true
     found_there q x =
-        let h = step_held k run lawful x.0 x.1 (Other (q / 64)) x.2 x.3 x.4 in
+        let h = step_held k run lawful x.m x.party (Other (q / 64)) x.found x.ended x.reads in
         let call = h.of.call in
         let began = h.of.began in
-        made_on q x.1 (plan_of call) h.of.s h.j h.t (plan_decides call)
-        (none_off began.0 x.1 call began.1) h.of.members (is_whole x.1 call h.of.s h.of.kind) h.at
-        h.here h.same_step (ap (λ f. bit_is_on f q) h.same_found ∙ x.5)
+        made_on q x.party (plan_of call) h.of.s h.j h.t (plan_decides call)
+        (none_off began.0 x.party call began.1) h.of.members
+        (is_whole x.party call h.of.s h.of.kind) h.at h.here h.same_step
+        (ap (λ f. bit_is_on f q) h.same_found ∙ x.on)
 
     -- what is on at the end was on at the start, inserted, or found there; and the other way round
     pub on_at_end : (q : ℕ) → (content run.words q ≡ true)

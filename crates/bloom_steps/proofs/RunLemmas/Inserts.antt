@@ -21,31 +21,31 @@ module _ (k : ℕ) (run : Course) (lawful : IsLawful k run) (some_words : 1 ≤ 
       let own =
       own_script k run lawful some_words some_hashes party (Insert hash) began last
       (Answer answer) fin in
-      let says = own.is.last own.index own.final own.is_final own.closes in
-      let same : answer ≡ says.0 = same-answer answer says.0 (sym own.final_ended ∙ says.1) in (
+      let (says, is_end, tells) = own.is.last own.index own.final own.is_final own.closes in
+      let same : answer ≡ says = same-answer answer says (sym own.final_ended ∙ is_end) in (
         (λ off.
-            let any = says.2.0 (sym same ∙ off) in
-            let at = own.to_record any.0 any.1 any.2 in
-            let step = own.is.steps any.0 any.1 any.2 in
-            let q = place (bits_of run) hash any.0 in
-            let was = sym (found-or k run lawful at.m party q any.1 at.is step) ∙ any.3 in
+            let (i, t, here, found_off) = tells.0 (sym same ∙ off) in
+            let at = own.to_record i t here in
+            let step = own.is.steps i t here in
+            let q = place (bits_of run) hash i in
+            let was = sym (found-or k run lawful at.m party q t at.is step) ∙ found_off in
             record {
               m = at.m;
               p = q;
-              ended = any.1.ended;
+              ended = t.ended;
               later = at.later;
               upto = at.upto;
-              own = (any.1.step, any.1.found, at.is);
-              on = turning_on run at.m q was (on-or k run lawful at.m party q any.1 at.is step);
+              own = record { step = t.step; found = t.found; here = at.is };
+              on = turning_on run at.m q was (on-or k run lawful at.m party q t at.is step);
             }),
         (λ turns.
-            let own_step = turns.own in
-            let t : Taken = record { step = own_step.0; found = own_step.1; ended = turns.ended } in
-            let at = own.from_record turns.m t turns.later turns.upto turns.own.2 in
+            let made = turns.own in
+            let t : Taken = record { step = made.step; found = made.found; ended = turns.ended } in
+            let at = own.from_record turns.m t turns.later turns.upto made.here in
             let step = own.is.steps at.0 t at.1 in
             let q = place (bits_of run) hash at.0 in
             let turned = turned_on run turns.m turns.p turns.on in
-            let change = moment-or k run lawful turns.m party q t turns.own.2 turns.p step in
+            let change = moment-or k run lawful turns.m party q t made.here turns.p step in
             let was : moment run turns.m q ≡ false = elim (or_at-decides q turns.p) [
               | inl same ↦ ap (moment run turns.m) (sym same.0) ∙ turned.0
               | inr other ↦
@@ -53,6 +53,6 @@ module _ (k : ℕ) (run : Course) (lawful : IsLawful k run) (some_words : 1 ≤ 
                   absurd (both_ways (moment run turns.m turns.p) turned.0 (sym stays ∙ turned.1))
             ] in
             same
-            ∙ says.2.1
-            (at.0, t, at.1, found-or k run lawful turns.m party q t turns.own.2 step ∙ was)),
+            ∙ tells.1
+            (at.0, t, at.1, found-or k run lawful turns.m party q t made.here step ∙ was)),
       )

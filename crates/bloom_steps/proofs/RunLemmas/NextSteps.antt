@@ -73,12 +73,12 @@ goes_after w k p _ (x ∷ xs) ys t (begun_call call s b) e =
         earlier = [];
         call = call;
         s = i.before;
-        rest = i.after ++ b.0 ∷ b.1;
+        rest = i.after ++ b.next ∷ b.rest;
         same = ap (λ l. x ∷ l) i.same ∙ ap (λ y. y ∷ did p i.before) (sym head);
         is =
             subst (IsScript w k call)
-            (ap (λ l. l ++ b.0 ∷ b.1) i.parts
-            ∙ append_assoc i.before (t ∷ i.after) (b.0 ∷ b.1)) b.2;
+            (ap (λ l. l ++ b.next ∷ b.rest) i.parts
+            ∙ append_assoc i.before (t ∷ i.after) (b.next ∷ b.rest)) b.script;
       }
       | inr m ↦ absurd (no_member m.0 ys _ m.2)
     ]

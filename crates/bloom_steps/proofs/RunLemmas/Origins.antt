@@ -89,14 +89,15 @@ module _ (k : ℕ) (run : Course) (lawful : IsLawful k run)
         let makes = ap (λ x. step_decides x q) (sym u.3) ∙ e in
         let its = on-tells op on does is at.i u.0.found q makes in
         let n = steps (2 * at.i) u.0 u.1 in
-        let load = u.2 ∙ ap Other (sym its.0) in (
-          n.0,
-          p,
-          u.0.found,
-          u.0.ended,
-          n.1 ∙ ap (λ x. Some (Did p x u.0.found u.0.ended)) load,
-          its.1,
-        )
+        let load = u.2 ∙ ap Other (sym its.0) in
+        record {
+          m = n.0;
+          party = p;
+          found = u.0.found;
+          ended = u.0.ended;
+          reads = n.1 ∙ ap (λ x. Some (Did p x u.0.found u.0.ended)) load;
+          on = its.1;
+        }
   ]
 
   -- what a step made on was inserted, or found in the other filter
@@ -105,7 +106,14 @@ module _ (k : ℕ) (run : Course) (lawful : IsLawful k run)
       → IsPlacedAt (length run.start) k (plan_of call) s j t → step_decides t.step q ≡ Some true
       → IsInserted k run q ⊎ IsFoundInOther run q
   origin q p (Insert h) s j t began steps at e = elim (or_at-decides (place (bits_of run) h j) q) [
-    | inl here ↦ inl (began.0, p, h, began.1, (j, at.0, sym here.0))
+    | inl here ↦ inl
+        (record {
+          m = began.0;
+          party = p;
+          hash = h;
+          begins = began.1;
+          position = record { index = j; below = at.0; here = sym here.0 };
+        })
     | inr other ↦ absurd (none-some true (sym other.1 ∙ ap (λ x. step_decides x q) (sym at.1) ∙ e))
   ]
   origin q p (Contains h) s j t began steps at e =

@@ -86,11 +86,11 @@ module _ (k : ℕ) (run : Course) (lawful : IsLawful k run) (some_words : 1 ≤ 
       let seg =
       segment w k p (records_of p records) (records_of p (take began records))
       (records_of p mid) call (lawful.calls p) own in
-      let final : Taken = record { step = fin.ends.0; found = fin.ends.1; ended = ended } in
+      let final : Taken = record { step = fin.ends.step; found = fin.ends.found; ended = ended } in
       let at : (m q : ℕ) → q ≡ suc began + m → slice_get mid m ≡ slice_get records q =
       member-drop records (suc began) in
       let there : slice_get mid n ≡ Some (Did p final.step final.found final.ended) =
-      at n last (omega arith) ∙ fin.ends.2 in
+      at n last (omega arith) ∙ fin.ends.here in
       let ends : EndsAt mid p n final = record {
         here = there;
         over = fin.over;
@@ -100,7 +100,7 @@ module _ (k : ℕ) (run : Course) (lawful : IsLawful k run) (some_words : 1 ≤ 
             (sym (at m (suc began + m) refl) ∙ g);
         still = λ m step found e l g.
             fin.still (suc began + m) e (omega arith) (omega arith)
-            (step, found, sym (at m (suc began + m) refl) ∙ g);
+            (record { step = step; found = found; here = sym (at m (suc began + m) refl) ∙ g });
       } in
       elim seg.kind [
         | inl is ↦
@@ -118,7 +118,7 @@ module _ (k : ℕ) (run : Course) (lawful : IsLawful k run) (some_words : 1 ≤ 
             own_of_record p (take (suc n) mid) (m - suc began) r
             (member-take mid (suc n) (m - suc began) r (omega arith) here) refl in
             (its.0, did-got p seg.s its.0 p t (sym (ap (λ l. slice_get l its.0) front) ∙ its.1)) in
-            let end = from last final order (omega arith) fin.ends.2 in
+            let end = from last final order (omega arith) fin.ends.here in
             record {
               s = seg.s;
               is = is;
@@ -137,7 +137,7 @@ module _ (k : ℕ) (run : Course) (lawful : IsLawful k run) (some_words : 1 ≤ 
                   };
               from_record = from;
               final = final;
-              at_last = fin.ends.2;
+              at_last = fin.ends.here;
               index = end.0;
               is_final = end.1;
               closes = is_last seg.s one end.0 final end.1 fin.over;

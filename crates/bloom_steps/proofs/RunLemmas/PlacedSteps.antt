@@ -56,9 +56,9 @@ pub front_of :
 front_of w k p rs going r h = elim h.kind [
   | inl is ↦ record { full = h.s; is = is; front = λ i t g. g }
   | inr b ↦ record {
-    full = h.s ++ b.0.0 ∷ b.0.1;
-    is = b.0.2;
-    front = λ i t g. member-front h.s (b.0.0 ∷ b.0.1) t i g;
+    full = h.s ++ b.0.next ∷ b.0.rest;
+    is = b.0.script;
+    front = λ i t g. member-front h.s (b.0.next ∷ b.0.rest) t i g;
   }
 ]
 

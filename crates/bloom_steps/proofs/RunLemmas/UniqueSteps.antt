@@ -54,15 +54,15 @@ found-same A given (Take i) a b f g x y = word_there-same A i a b f g
 any_off-same : (w h : ℕ) (s : List Taken) (t u : Taken) → t.found ≡ u.found
     → Any (s ++ t ∷ []) (λ i t. bit_is_on t.found (place (64 * w) h i) ≡ false)
     → Any (s ++ u ∷ []) (λ i t. bit_is_on t.found (place (64 * w) h i) ≡ false)
-any_off-same w h s t u e any = elim (member_of_more s t any.1 any.0 any.2) [
-  | inl p ↦ (any.0, any.1, member-front s (u ∷ []) any.1 any.0 p.1, any.3)
+any_off-same w h s t u e (i, v, here, off) = elim (member_of_more s t v i here) [
+  | inl p ↦ (i, v, member-front s (u ∷ []) v i p.1, off)
   | inr q ↦
-      let here = place (64 * w) h (length s) in (
+      let last = place (64 * w) h (length s) in (
         length s,
         u,
         member-seam s [] u,
-        ap (λ f. bit_is_on f here) (sym e) ∙ ap (λ (v : Taken). bit_is_on v.found here) (sym q.1)
-            ∙ ap (λ j. bit_is_on any.1.found (place (64 * w) h j)) (sym q.0) ∙ any.3,
+        ap (λ f. bit_is_on f last) (sym e) ∙ ap (λ (x : Taken). bit_is_on x.found last) (sym q.1)
+            ∙ ap (λ j. bit_is_on v.found (place (64 * w) h j)) (sym q.0) ∙ off,
       )
 ]
 
@@ -86,12 +86,12 @@ last-same w k call s t u e a b =
 
     by_plan : (plan : Plan) → IsLastEnd w plan (s ++ t ∷ []) t.ended
         → IsLastEnd w plan (s ++ u ∷ []) u.ended → t.ended ≡ u.ended
-    by_plan (TurnsOn h) a b =
-        a.1
+    by_plan (TurnsOn h) (first, is_first, from_first) (second, is_second, from_second) =
+        is_first
         ∙ ap Answer
-        (alike a.0 b.0 (λ x. b.2.1 (any_off-same w h s t u e (a.2.0 x)))
-        (λ x. a.2.1 (any_off-same w h s u t (sym e) (b.2.0 x))))
-        ∙ sym b.1
+        (alike first second (λ x. from_second.1 (any_off-same w h s t u e (from_first.0 x)))
+        (λ x. from_first.1 (any_off-same w h s u t (sym e) (from_second.0 x))))
+        ∙ sym is_second
     by_plan (LooksAt h) a b =
         a (length s) t (member-seam s [] t) (closes t)
         ∙ ap (λ f. Answer (bit_is_on f (place (64 * w) h (length s)))) e

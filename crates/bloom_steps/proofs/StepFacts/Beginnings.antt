@@ -11,24 +11,24 @@ use Rattle.bloom_steps.proofs.StepFacts.Pairs.{union-script}
 
 -- no step is a beginning
 pub begun-none : IsBeginning 1 2 (Insert 1) []
-begun-none = (_, _, insert-script)
+begun-none = record { next = _; rest = _; script = insert-script }
 
 -- so is each front
 pub begun-one : IsBeginning 1 2 (Insert 1) (took (Or 0 1) 1 Running ∷ [])
-begun-one = (_, _, insert-script)
+begun-one = record { next = _; rest = _; script = insert-script }
 
 -- a whole script is none
 begun-whole : IsBeginning 1 2 (Insert 1) insert → ⊥
-begun-whole begun = let longer = begun.2.count in omega (arith, longer)
+begun-whole begun = let longer = begun.script.count in omega (arith, longer)
 
 -- nor are steps that begin no script
 begun-another : IsBeginning 1 2 (Insert 1) (took (Load 0) 1 Running ∷ []) → ⊥
 unfolding chain
-begun-another begun = let step = begun.2.steps 0 _ refl in cc
+begun-another begun = let step = begun.script.steps 0 _ refl in cc
 
 -- nor one of which the call has ended
 begun-ended : IsBeginning 1 2 (Insert 1) (took (Or 0 1) 1 Done ∷ []) → ⊥
-begun-ended begun = let runs = begun.2.running 0 _ refl (omega arith) in cc
+begun-ended begun = let runs = begun.script.running 0 _ refl (omega arith) in cc
 
 -- an insert begins with the bit of its first place
 pub next-first : IsNext 1 2 (Insert 1) [] (Or 0 1)

@@ -104,7 +104,8 @@ replied w k call s step asked st = stands-more begun further w k 1 call s step a
       same_words = refl;
       same_hashes = refl;
       turned = refl;
-      advances = (refl, refl);
+      learns = refl;
+      ends = refl;
       moves_on = λ w i words at. record {
         here =
             ap (λ x. x * 64 / 2 ^ 64) at.chained.newest
@@ -171,7 +172,7 @@ asks-over asks = let none = asks.over insert-script in cc
 
 -- and answers what its script does
 answers-false : AnswersAfter 1 2 (Insert 1) insert (Some false)
-answers-false = record { says = refl; begun = λ b. absurd (omega (arith, b.2.count)) }
+answers-false = record { says = refl; begun = λ b. absurd (omega (arith, b.script.count)) }
 
 -- nothing else
 answers-true : AnswersAfter 1 2 (Insert 1) insert (Some true) → ⊥

@@ -7,6 +7,7 @@ use Rattle.bloom_steps.specs.declared.steps.vocabulary.Call.TheVariants.{Insert,
 use Rattle.bloom_steps.specs.declared.steps.vocabulary.End.TheVariants.{Running, Done, Answer}
 use Rattle.bloom_steps.specs.Scripts.{Taken, IsScript}
 use Rattle.bloom_steps.proofs.StepFacts.Members.{each-member, took}
+use Rattle.bloom_steps.proofs.StepLemmas.Finding.{ends-off}
 
 -- an insert of a hash whose first bit was on and whose second was off
 abbrev pub insert : List Taken
@@ -15,19 +16,15 @@ insert = took (Or 0 1) 1 Running ∷ took (Or 0 1048576) 1 (Answer false) ∷ []
 -- it is a whole insert
 pub insert-script : IsScript 1 2 (Insert 1) insert
 unfolding chain
-insert-script =
-    let second = took (Or 0 1048576) 1 (Answer false) in
-    record {
-      count = refl;
-      steps = each-member _ insert (refl, (refl, tt));
-      stops = tt;
-      running = each-member _ insert ((λ l. refl), ((λ l. absurd (omega (arith, l))), tt));
-      last =
-          each-member _ insert (
-            (λ l. absurd (omega (arith, l))),
-            ((λ l. (false, refl, ((λ e. (1, second, refl, refl)), (λ e. refl)))), tt),
-          );
-    }
+insert-script = record {
+  count = refl;
+  steps = each-member _ insert (refl, (refl, tt));
+  stops = tt;
+  running = each-member _ insert ((λ l. refl), ((λ l. absurd (omega (arith, l))), tt));
+  last =
+      each-member _ insert
+      ((λ l. absurd (omega (arith, l))), ((λ l. ends-off 1 1 insert 1 _ refl refl), tt));
+}
 
 -- it doesn't answer true
 insert_true : IsScript 1 2 (Insert 1)

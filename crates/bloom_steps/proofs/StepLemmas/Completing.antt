@@ -11,19 +11,25 @@ use Rattle.bloom_steps.specs.declared.steps.vocabulary.Step.{Step}
 use Rattle.bloom_steps.specs.Standing.{GoesOn}
 use Rattle.bloom_steps.specs.Plans.{most_steps}
 use Rattle.bloom_steps.specs.Scripts.{IsBeginning, Taken, Fulfils}
+use Rattle.bloom_steps.proofs.StepLemmas.Finding.{ends-off}
 use Rattle.bloom_steps.proofs.StepLemmas.Going.{some_step}
 use Rattle.bloom_steps.proofs.StepLemmas.Growing.{EndsNext, FitsNext, KeepsOnAt, goes_on-more, length-more, script-more}
 use Rattle.bloom_steps.proofs.StepLemmas.Members.{member-seam}
 
 -- steps that can be brought to an end
-abbrev CanEnd : ℕ → ℕ → Plan → List Taken → Type 0
-CanEnd w k plan s = (t : Taken) × (rest : List Taken) × Fulfils w k plan (s ++ t ∷ rest)
+record CanEnd (w k : ℕ) (plan : Plan) (s : List Taken) : Type 0 where
+  next : Taken
+  rest : List Taken
+  whole : Fulfils w k plan (s ++ next ∷ rest)
 
 -- so can those before them
 after : (w k : ℕ) (plan : Plan) (s : List Taken) (t : Taken) → CanEnd w k plan (s ++ t ∷ [])
     → CanEnd w k plan s
-after w k plan s t b =
-    (t, b.0 ∷ b.1, subst (Fulfils w k plan) (append_assoc s (t ∷ []) (b.0 ∷ b.1)) b.2)
+after w k plan s t b = record {
+  next = t;
+  rest = b.next ∷ b.rest;
+  whole = subst (Fulfils w k plan) (append_assoc s (t ∷ []) (b.next ∷ b.rest)) b.whole;
+}
 
 -- where one step is left, one that finds 0 ends the plan
 last_end : (w k : ℕ) (plan : Plan) (s : List Taken) (step : Step)
@@ -33,7 +39,7 @@ last_end w k (TurnsOn h) s step e =
     let t : Taken = record { step = step; found = 0; ended = Answer false } in
     let off : bit_is_on t.found (place (64 * w) h (length s)) ≡ false =
     bit_is_on-zero (place (64 * w) h (length s)) in
-    (Answer false, (e, (false, refl, ((λ _. (length s, t, member-seam s [] t, off)), (λ _. refl)))))
+    (Answer false, (e, ends-off w h (s ++ t ∷ []) (length s) t (member-seam s [] t) off))
 last_end w k (LooksAt h) s step e = (_, (inr e, refl))
 last_end w k (EachWord op) s step e = (Done, (e, refl))
 last_end w k (EachPair op on) s step e = (Done, (e, refl))
@@ -52,7 +58,11 @@ ends_now : (w k : ℕ) (plan : Plan) (s : List Taken) → GoesOn w k plan s → 
     → FitsNext w plan s step → (e : End)
     → EndsNext w k plan s (record { step = step; found = 0; ended = e }) → CanEnd w k plan s
 ends_now w k plan s g step fits e ends =
-    (_, [], script-more w k plan s (record { step = step; found = 0; ended = e }) g fits ends)
+    record {
+      next = _;
+      rest = [];
+      whole = script-more w k plan s (record { step = step; found = 0; ended = e }) g fits ends;
+    }
 
 -- a plan that goes on can be brought to its end in so many steps
 finish_in : (w k : ℕ) (plan : Plan) (n : ℕ) (s : List Taken)
@@ -78,4 +88,7 @@ pub finish : (w k : ℕ) (call : Call) (s : List Taken) → GoesOn w k (plan_of 
     → IsBeginning w k call s
 finish w k call s g =
     let room = g.room in
-    finish_in w k (plan_of call) (most_steps w k (plan_of call) - suc (length s)) s (omega arith) g
+    let end =
+    finish_in w k (plan_of call) (most_steps w k (plan_of call) - suc (length s)) s (omega arith)
+    g in
+    record { next = end.next; rest = end.rest; script = end.whole }

@@ -1,26 +1,36 @@
 -- What some steps found, and one step more.
-use Rattle.std.proofs.Common.{[], ◌&&◌, ◌++◌, ◌↔◌, ◌∙◌, ◌∷◌, ◌≡◌, ◌⊎◌, Bool, List, ap, false, inl, inr, length, refl, subst, true, ℕ}
+use Rattle.std.proofs.Common.{[], ◌&&◌, ◌*◌, ◌++◌, ◌↔◌, ◌∙◌, ◌∷◌, ◌≡◌, ◌⊎◌, Bool, List, Some, ap, false, inl, inr, length, refl, slice_get, subst, true, ℕ}
 use Rattle.std.proofs.lemmas.Bool.{both_ways}
-use Rattle.bloom_steps.specs.Scripts.{Any, Taken}
+use Rattle.bloom_parts.specs.Content.{bit_is_on}
+use Rattle.bloom_parts.specs.Places.{place}
+use Rattle.bloom_steps.specs.declared.steps.vocabulary.End.TheVariants.{Answer}
+use Rattle.bloom_steps.specs.Plans.{TurnsOn}
+use Rattle.bloom_steps.specs.Scripts.{Any, IsLastEnd, Taken}
 use Rattle.bloom_steps.proofs.StepLemmas.Members.{member-front, member-seam, member_of_more}
 
 -- what some step has, some of more have
 any_front : (s : List Taken) (t : Taken) (P : ℕ → Taken → Type 0) → Any s P → Any (s ++ t ∷ []) P
-any_front s t P a = (a.0, a.1, member-front s (t ∷ []) a.1 a.0 a.2, a.3)
+any_front s t P (i, u, here, has) = (i, u, member-front s (t ∷ []) u i here, has)
 
 -- what the last step has, some have
 any_last : (s : List Taken) (t : Taken) (P : ℕ → Taken → Type 0) → P (length s) t
     → Any (s ++ t ∷ []) P
-any_last s t P here = (length s, t, member-seam s [] t, here)
+any_last s t P has = (length s, t, member-seam s [] t, has)
 
 -- what some of one step more have, some earlier one or the last has
 any_split : (s : List Taken) (t : Taken) (P : ℕ → Taken → Type 0) → Any (s ++ t ∷ []) P
     → Any s P ⊎ P (length s) t
-any_split s t P a =
-    elim (member_of_more s t a.1 a.0 a.2) [
-      | inl p ↦ inl (a.0, a.1, p.1, a.3)
-      | inr q ↦ inr (subst (λ j. P j t) q.0 (subst (λ u. P a.0 u) q.1 a.3))
+any_split s t P (i, u, here, has) =
+    elim (member_of_more s t u i here) [
+      | inl p ↦ inl (i, u, p.1, has)
+      | inr q ↦ inr (subst (λ j. P j t) q.0 (subst (λ v. P i v) q.1 has))
     ]
+
+-- where a step found its bit off, turning on a hash ends with false
+pub ends-off : (w hash : ℕ) (s : List Taken) (i : ℕ) (t : Taken) → slice_get s i ≡ Some t
+    → bit_is_on t.found (place (64 * w) hash i) ≡ false
+    → IsLastEnd w (TurnsOn hash) s (Answer false)
+ends-off w hash s i t here off = (false, refl, ((λ _. (i, t, here, off)), (λ _. refl)))
 
 -- whether all bits were on, after one more
 pub all_on-more : (s : List Taken) (t : Taken) (f : ℕ → Taken → Bool) (before after : Bool)

@@ -12,7 +12,7 @@ use Rattle.bloom_steps.specs.declared.steps.machine.Machine.{Machine}
 use Rattle.bloom_steps.specs.Standing.{HoldsOther, IsAtPlace, IsPlaced, Keeps, StandsAt, answer_by, asks, end_by, end_of}
 use Rattle.bloom_steps.specs.Plans.{most_steps}
 use Rattle.bloom_steps.specs.Scripts.{Taken, answer_of, answer_of_end}
-use Rattle.bloom_steps.specs.Standing.{Advances, MovesOn, Replied}
+use Rattle.bloom_steps.specs.Standing.{Learns, MovesOn, Replied, ends_with}
 use Rattle.bloom_steps.proofs.StepLemmas.Asking.{fits_asked}
 use Rattle.bloom_steps.proofs.StepLemmas.Growing.{EndsNext, KeepsOnAt, goes_on-more, length-more, script-more}
 use Rattle.bloom_steps.proofs.StepLemmas.Members.{member-seam, member_of_more}
@@ -72,25 +72,25 @@ module _ (m n : Machine) (w k : ℕ) where
 
   -- it keeps what was found
   keeps-more : (plan : Plan) (s : List Taken) (t : Taken) → Stood m w k plan s
-      → Advances plan m t.found n
+      → Learns plan m t.found n
       → Keeps w plan n (s ++ t ∷ [])
   keeps-more (TurnsOn h) s t st a =
       all_on-more s t (λ i t. bit_is_on t.found (place (64 * w) h i)) m.all_on n.all_on st.keeps
-      (a.0 ∙ ap (λ p. m.all_on && bit_is_on t.found p) st.placed.here)
+      (a ∙ ap (λ p. m.all_on && bit_is_on t.found p) st.placed.here)
   keeps-more (LooksAt h) s t st a = tt
   keeps-more (EachWord op) s t st a = tt
-  keeps-more (EachPair op way) s t st a = holds_other-more n s t a.0
+  keeps-more (EachPair op way) s t st a = holds_other-more n s t a
 
   -- where the call goes on there is room for a further step, and no reason to stop
   goes_on : (plan : Plan) (s : List Taken) (t : Taken) → Stood m w k plan s
-      → Advances plan m t.found n
+      → n.ended ≡ ends_with plan m t.found
       → n.ended ≡ false → length s < most_steps w k plan
       → (length s + 1 < most_steps w k plan) × KeepsOnAt w plan s t
-  goes_on (TurnsOn h) s t st a going room =
-      let not_last = not_yet _ _ (sym a.1 ∙ going) in
+  goes_on (TurnsOn h) s t st e going room =
+      let not_last = not_yet _ _ (sym e ∙ going) in
       let turns = st.turns in let hashes = st.hashes in (omega arith, tt)
-  goes_on (LooksAt h) s t st a going room =
-      go (bit_is_on t.found m.place) (nat_eq (m.turn + 1) m.num_hashes) refl refl (sym a.1 ∙ going)
+  goes_on (LooksAt h) s t st e going room =
+      go (bit_is_on t.found m.place) (nat_eq (m.turn + 1) m.num_hashes) refl refl (sym e ∙ going)
     where
       go : (on last : Bool) → bit_is_on t.found m.place ≡ on
           → nat_eq (m.turn + 1) m.num_hashes ≡ last
@@ -102,24 +102,24 @@ module _ (m n : Machine) (w k : ℕ) where
           let not_last = not_yet _ _ at in
           let turns = st.turns in let hashes = st.hashes in
           (omega arith, ap (λ p. bit_is_on t.found p) (sym st.placed.here) ∙ is)
-  goes_on (EachWord op) s t st a going room =
-      let not_last = not_yet _ _ (sym a ∙ going) in
+  goes_on (EachWord op) s t st e going room =
+      let not_last = not_yet _ _ (sym e ∙ going) in
       let turns = st.turns in let words = st.words in (omega arith, tt)
-  goes_on (EachPair op way) s t st a going room =
-      let not_last = not_yet _ _ (sym a.1 ∙ going) in
+  goes_on (EachPair op way) s t st e going room =
+      let not_last = not_yet _ _ (sym e ∙ going) in
       let turns = st.turns in let words = st.words in (omega arith, tt)
 
   -- where it ends, it ends as its script does
   ends : (plan : Plan) (s : List Taken) (t : Taken) → Stood m w k plan s
-      → Advances plan m t.found n
+      → Learns plan m t.found n → n.ended ≡ ends_with plan m t.found
       → n.ended ≡ true → t.ended ≡ end_by (answer_by plan n.all_on) → EndsNext w k plan s t
-  ends (TurnsOn h) s t st a over last =
-      let at_last = eqb-true _ _ (sym a.1 ∙ over) in
+  ends (TurnsOn h) s t st a e over last =
+      let at_last = eqb-true _ _ (sym e ∙ over) in
       let turns = st.turns in let hashes = st.hashes in
       (omega arith, (n.all_on, last, keeps-more (TurnsOn h) s t st a))
-  ends (LooksAt h) s t st a over last = (
-    go (bit_is_on t.found m.place) refl (sym a.1 ∙ over),
-    last ∙ ap Answer a.0 ∙ ap (λ p. Answer (bit_is_on t.found p)) st.placed.here,
+  ends (LooksAt h) s t st a e over last = (
+    go (bit_is_on t.found m.place) refl (sym e ∙ over),
+    last ∙ ap Answer a ∙ ap (λ p. Answer (bit_is_on t.found p)) st.placed.here,
   )
     where
       go : (on : Bool) → bit_is_on t.found m.place ≡ on
@@ -129,11 +129,11 @@ module _ (m n : Machine) (w k : ℕ) where
           let at_last = eqb-true _ _ e in
           let turns = st.turns in let hashes = st.hashes in inr (omega arith)
       go false is e = inl (ap (λ p. bit_is_on t.found p) (sym st.placed.here) ∙ is)
-  ends (EachWord op) s t st a over last =
-      let at_last = eqb-true _ _ (sym a ∙ over) in
+  ends (EachWord op) s t st a e over last =
+      let at_last = eqb-true _ _ (sym e ∙ over) in
       let turns = st.turns in let words = st.words in (omega arith, last)
-  ends (EachPair op way) s t st a over last =
-      let at_last = eqb-true _ _ (sym a.1 ∙ over) in
+  ends (EachPair op way) s t st a e over last =
+      let at_last = eqb-true _ _ (sym e ∙ over) in
       let turns = st.turns in let words = st.words in (omega arith, last)
 
   -- a machine that was replied stands one step further on
@@ -145,7 +145,8 @@ module _ (m n : Machine) (w k : ℕ) where
       let plan = plan_of call in
       let so_far = st.goes_on fits.0 in
       let t : Taken = record { step = step; found = found; ended = end_of n } in
-      let advances = subst (λ c. Advances (plan_of c) m found n) st.is_call r.advances in
+      let learns = subst (λ c. Learns (plan_of c) m found n) st.is_call r.learns in
+      let ends_now = r.ends ∙ ap (λ c. ends_with (plan_of c) m found) st.is_call in
       let moves = subst (λ c. MovesOn (plan_of c) m n) st.is_call r.moves_on in
       let same : n.call ≡ call = r.same_call ∙ st.is_call in
       let stood : Stood m w k plan s = record {
@@ -163,13 +164,13 @@ module _ (m n : Machine) (w k : ℕ) where
         hashes = r.same_hashes ∙ st.hashes;
         turns = r.turned ∙ ap (λ x. x + 1) st.turns ∙ sym (length-more s t);
         placed = placed-more plan s t stood moves;
-        keeps = keeps-more plan s t stood advances;
+        keeps = keeps-more plan s t stood learns;
         goes_on = λ going.
-            let on = goes_on plan s t stood advances going so_far.room in
+            let on = goes_on plan s t stood ends_now going so_far.room in
             goes_on-more w k plan s t so_far fits.1 (ap end going) on.0 on.1;
         whole = λ over.
             let answer = ap (λ c. end_by (answer_by (plan_of c) n.all_on)) same in
             script-more w k plan s t so_far fits.1
-            (ends plan s t stood advances over (ap end over ∙ answer));
+            (ends plan s t stood learns ends_now over (ap end over ∙ answer));
         said = answer_of-more s t ∙ answer-end_of (plan_of n.call) n.ended n.all_on;
       }

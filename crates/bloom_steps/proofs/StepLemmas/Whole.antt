@@ -10,7 +10,7 @@ use Rattle.bloom_steps.proofs.StepLemmas.Members.{member-front, some_member}
 -- a plan has a step
 count_some : (w k count : ℕ) (plan : Plan) → 1 ≤ w → 1 ≤ k → HasCount w k plan count → 1 ≤ count
 count_some w k count (TurnsOn h) some_words some_hashes is = omega (arith, is)
-count_some w k count (LooksAt h) some_words some_hashes is = is.0
+count_some w k count (LooksAt h) some_words some_hashes (some, most) = some
 count_some w k count (EachWord op) some_words some_hashes is = omega (arith, is)
 count_some w k count (EachPair op on) some_words some_hashes is = omega (arith, is)
 
@@ -23,7 +23,7 @@ script_some w k call s some_words some_hashes is =
 -- the last step of a script leaves nothing running
 pub last-not_running : (w : ℕ) (plan : Plan) (s : List Taken) (i : ℕ) (t : Taken)
     → slice_get s i ≡ Some t → i + 1 ≡ length s → IsLastEnd w plan s t.ended → t.ended ≢ Running
-last-not_running w (TurnsOn h) s i t g l e f = let is = e.1 in cc
+last-not_running w (TurnsOn h) s i t g l (reply, is, off) f = cc
 last-not_running w (LooksAt h) s i t g l e f = let is = e i t g l in cc
 last-not_running w (EachWord op) s i t g l e f = cc
 last-not_running w (EachPair op on) s i t g l e f = cc
@@ -33,8 +33,8 @@ pub beginning_runs : (w k : ℕ) (call : Call) (s : List Taken) (i : ℕ) (t : T
     → IsBeginning w k call s → slice_get s i ≡ Some t → t.ended ≡ Running
 beginning_runs w k call s i t b g =
     let inside = slice_get_within s i t g in
-    let longer = length-append s (b.0 ∷ b.1) in
-    b.2.running i t (member-front s (b.0 ∷ b.1) t i g) (omega (arith, longer, inside))
+    let longer = length-append s (b.next ∷ b.rest) in
+    b.script.running i t (member-front s (b.next ∷ b.rest) t i g) (omega (arith, longer, inside))
 
 -- a whole script is no beginning
 pub not_both : (w k : ℕ) (call : Call) (s : List Taken) → 1 ≤ w → 1 ≤ k

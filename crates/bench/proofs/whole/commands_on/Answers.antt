@@ -4,6 +4,9 @@ use Rattle.bench.specs.Lists.{FitsEach}
 use Rattle.bench.proofs.whole.commands_on.Goals as goal
 
 pub keys-preserved : goal.keys-preserved
-keys-preserved c =
-    let more = All-push FitsEach c.keys.commands.items c.command_on.result c.keys.invariant.fits c.command_on.ensures in
-    record { fits = subst (λ commands. All FitsEach commands) (sym c.in_ok-push.ensures.items) more }
+keys-preserved c = record {
+  fits =
+      subst (All FitsEach) (sym c.in_ok-push.ensures.items)
+      (All-push FitsEach c.keys.commands.items c.command_on.result c.keys.invariant.fits
+      c.command_on.ensures);
+}

@@ -7,7 +7,7 @@ pub invariant_of-self-else-held-eq8 : goal.invariant_of-self-else-held-eq8
 invariant_of-self-else-held-eq8 c =
     let few = stored-few _ _ c.self.view_is (length-held_in _ _ c.self.told) _ c.requires _
     c.number_with-word.ensures c.if-held-eq8.false _ c.to_le_bytes-self-inside.ensures in
-    (few.padding, omega arith)
+    record { padding = few.padding; small = omega arith }
 
 pub returns-else-held-eq8 : goal.returns-else-held-eq8
 returns-else-held-eq8 c =
