@@ -46,11 +46,26 @@ unfolding records_of
 one-follows = record {
   begins = refl;
   events =
-      next_event [] (Begin 0 Take) _ (Began 0 Take ∷ []) _ (inl (omega arith, refl, refl))
+      next_event [] (Begin 0 Take) _ (Began 0 Take ∷ []) _
+      (inl (record { within = omega arith; idle = refl; same = refl }))
       (next_event _ (Go 0 0) _ (Did 0 (step.Take 0) 5 Running ∷ []) _
-      (inl (refl, (step.Take 0, 5, Running, refl, λ i e. absurd (cc))))
+      (inl (record {
+        running = refl;
+        step = step.Take 0;
+        found = 5;
+        ended = Running;
+        same = refl;
+        reads = λ i e. absurd (cc);
+      }))
       (next_event _ (Go 0 0) _ (Did 0 (step.Take 1) 2 Done ∷ []) _
-      (inl (refl, (step.Take 1, 2, Done, refl, λ i e. absurd (cc)))) (no_event _)));
+      (inl (record {
+        running = refl;
+        step = step.Take 1;
+        found = 2;
+        ended = Done;
+        same = refl;
+        reads = λ i e. absurd (cc);
+      })) (no_event _)));
 }
 
 -- 3 + 0 = (2 + 1) + 0
