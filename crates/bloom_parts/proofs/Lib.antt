@@ -1,6 +1,7 @@
 mod BracketFacts
 mod BracketLemmas
 mod BufferLemmas
+mod ClearLemmas
 mod ContentLemmas
 mod DeciderFacts
 mod DeciderLemmas
@@ -23,6 +24,7 @@ mod RateFacts
 mod ReadingFacts
 mod RootLemmas
 mod RoundingLemmas
+mod SameLemmas
 mod SetLemmas
 mod ShareLemmas
 mod SipFacts

@@ -6,6 +6,7 @@ pub mod Content
 pub mod Deciders
 pub mod Hashed
 pub mod Keys
+pub mod Lanes
 pub mod Laws
 pub mod Made
 pub mod Operations

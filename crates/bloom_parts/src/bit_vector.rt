@@ -13,7 +13,7 @@ mod words;
 
 use crate::error::FilterError;
 pub use atomic::{AtomicBitVec, AtomicWords};
-use kernels::{and_words, clear_words, or_words};
+use kernels::{and_words, clear_words, or_words, same_words};
 use std::alloc::Global;
 use std::marker::Model;
 pub use words::Words;
@@ -146,7 +146,8 @@ impl BitVec {
         ensures content { (p : ℕ) → content self.new p ≡ false }
         ensures shape { length self.new ≡ length self.old }
     {
-        clear_words(&mut self.words);
+        let mut turns = 0;
+        clear_words(self.words.as_mut_slice(), &mut turns);
     }
 
     /// Turns on what is on in the other.
@@ -156,7 +157,12 @@ impl BitVec {
             ≡ (content self.old p || content other.now p) }
         ensures shape { length self.new ≡ length self.old }
     {
-        or_words(&mut self.words, other.words.as_slice());
+        let mut turns = 0;
+        or_words(
+            self.words.as_mut_slice(),
+            other.words.as_slice(),
+            &mut turns,
+        );
     }
 
     /// Turns off what is off in the other.
@@ -166,7 +172,12 @@ impl BitVec {
             ≡ (content self.old p && content other.now p) }
         ensures shape { length self.new ≡ length self.old }
     {
-        and_words(&mut self.words, other.words.as_slice());
+        let mut turns = 0;
+        and_words(
+            self.words.as_mut_slice(),
+            other.words.as_slice(),
+            &mut turns,
+        );
     }
 }
 
@@ -176,7 +187,8 @@ impl PartialEq for BitVec {
     ghost laws = { partial_equiv_from_equiv nat_list_eq_equiv };
 
     fn eq(&self, other: &Self) -> bool {
-        self.words == other.words
+        let mut turns = 0;
+        same_words(self.words.as_slice(), other.words.as_slice(), &mut turns)
     }
 }
 

@@ -1,14 +1,16 @@
-use Rattle.std.proofs.Common.{◌≡◌, ap, ◌∙◌}
+use Rattle.std.proofs.Common.{◌≡◌, ◌∙◌, ◌++◌, ap, arith, drop, length, take}
+use Rattle.std.proofs.lemmas.Grind.{common_steps}
 use Rattle.std.specs.Int.Bits.{bit_or}
-use Rattle.std.specs.Simd.Lanes.{zip2}
 use Rattle.bloom_parts.specs.Content.{content}
 use Rattle.bloom_parts.proofs.SetLemmas.{content-or}
 use Rattle.bloom_parts.proofs.bit_vector.BitVec.union.Goals as goal
+use lib.Lanes.{zip2}
 
 pub returns-clause-content : goal.returns-clause-content
 returns-clause-content c =
-    let is : c.or_words.new.words.items ≡ zip2 bit_or c.args.self.now c.args.other.now =
-    c.or_words.ensures.words ∙ ap (λ xs. zip2 bit_or xs c.as_slice.result.now) c.self.view_is
-    ∙ ap (zip2 bit_or c.args.self.now) (c.as_slice.ensures.value ∙ c.other.view_is) in
+    let before = c.self.inside.words in
+    let after = c.or_words.new.words in
+    let is : take before.len (after ++ drop (length after) before.items)
+    ≡ zip2 bit_or c.args.self.now c.args.other.now = grind (arith, common_steps) in
     λ p. ap (λ words. content words p) is
     ∙ content-or c.args.self.now c.args.other.now c.requires p

@@ -1,18 +1,31 @@
-use Rattle.std.proofs.Common.{◌∙◌, arith}
+use Rattle.std.proofs.Common.{◌≡◌, ◌+◌, ◌*◌, ◌∙◌, arith}
 use Rattle.std.specs.Int.Bits.{bit_and}
-use Rattle.bloom_parts.proofs.MergeLemmas.{merged-next, merged-all}
+use Rattle.bloom_parts.proofs.MergeLemmas.{merged-all, merged-group, merged-set}
 use Rattle.bloom_parts.proofs.bit_vector.kernels.and_words.Goals as goal
 
-pub words-preserved : goal.words-preserved
-words-preserved c = record {
+pub groups-preserved : goal.groups-preserved
+groups-preserved c =
+    let at = 8 * c.groups.group in
+    let next : at + 8 ≡ 8 * (c.groups.group + 1) = omega arith in
+    record {
+      words =
+          rw c.groups.invariant.words
+          (rw (← next) (merged-group bit_and 8 at c.args.words.now c.args.other.now
+          c.requires.lengths));
+      turns = omega arith;
+    }
+
+pub rest-preserved : goal.rest-preserved
+rest-preserved c = record {
   words =
-      merged-next bit_and _ _ _ _ _ c.words.invariant.words
-      (omega (arith, c.requires)) (omega arith) c.index_mut.ensures.value;
-  shape = c.words.invariant.shape;
+      rw c.rest.invariant.words
+      (merged-set bit_and c.rest.place c.args.words.now c.args.other.now c.requires.lengths
+      (omega arith));
+  turns = omega arith;
 }
 
 pub returns-clause-words : goal.returns-clause-words
 returns-clause-words c =
-    c.words.invariant.words
-    ∙ merged-all bit_and c.words.place c.args.words.now.items c.args.other.now
-    (omega arith) (omega arith)
+    c.rest.invariant.words
+    ∙ merged-all bit_and c.rest.place c.args.words.now c.args.other.now c.requires.lengths
+    (omega arith)

@@ -1,10 +1,24 @@
-use Rattle.std.proofs.Common.{◌≡◌, ◌<◌, ℕ, get_or, length, replicate, vec_len, arith, ap, ◌∙◌}
-use Rattle.bloom_parts.proofs.MergeLemmas.{zeros-all}
+use Rattle.std.proofs.Common.{◌+◌, ◌*◌, ◌∙◌, refl, arith}
+use Rattle.bloom_parts.proofs.ClearLemmas.{cleared-all, cleared-group, cleared-next}
 use Rattle.bloom_parts.proofs.bit_vector.kernels.clear_words.Goals as goal
+
+pub groups-preserved : goal.groups-preserved
+groups-preserved c = record {
+  words =
+      rw c.groups.invariant.words
+      (cleared-group 8 (8 * c.groups.group) (8 * (c.groups.group + 1)) c.args.words.now
+      (omega arith));
+  turns = omega arith;
+}
+
+pub rest-preserved : goal.rest-preserved
+rest-preserved c = record {
+  words =
+      rw c.rest.invariant.words
+      (cleared-next c.rest.place (c.rest.place + 1) c.args.words.now refl);
+  turns = omega arith;
+}
 
 pub returns-clause-words : goal.returns-clause-words
 returns-clause-words c =
-    let long : length c.words.words.items ≡ vec_len c.args.words.now = omega arith in
-    let each : (k : ℕ) → k < length c.words.words.items → get_or c.words.words.items k 0 ≡ 0 =
-    λ k within. c.words.invariant.words k (omega arith) in
-    zeros-all c.words.words.items each ∙ ap (λ w. replicate w 0) long
+    c.rest.invariant.words ∙ cleared-all c.rest.place c.args.words.now (omega arith)

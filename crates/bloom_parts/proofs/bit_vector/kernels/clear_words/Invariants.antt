@@ -1,9 +1,17 @@
-use Rattle.std.proofs.Common.{◌≡◌, ℕ, ◌<◌, get_or, vec_len}
+use Rattle.std.proofs.Common.{◌≡◌, ◌+◌, ◌*◌}
+use Rattle.bloom_parts.proofs.ClearLemmas.{cleared}
 use Rattle.bloom_parts.proofs.bit_vector.kernels.clear_words.Given as goal
 
--- the words so far are 0
-abbrev pub invariant-words : goal.invariant-words
-invariant-words l = record {
-  words : (k : ℕ) → k < l.place → get_or l.words.items k 0 ≡ 0;
-  shape : vec_len l.words ≡ vec_len l.fn.words;
+-- the groups so far are 0, the other words as they were
+abbrev pub invariant-groups : goal.invariant-groups
+invariant-groups l = record {
+  words : l.words ≡ cleared (8 * l.group) l.fn.words;
+  turns : l.turns ≡ l.group;
+}
+
+-- and so are the words of the rest
+abbrev pub invariant-rest : goal.invariant-rest
+invariant-rest l = record {
+  words : l.words ≡ cleared l.place l.fn.words;
+  turns : l.turns + 8 * l.groups ≡ l.groups + l.place;
 }
