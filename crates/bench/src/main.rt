@@ -7,6 +7,7 @@
 mod filters;
 mod hashes;
 mod items;
+mod passes;
 mod shared;
 mod steps;
 mod table;
@@ -50,6 +51,7 @@ fn main(rt: HostRuntime) -> anyhow::Result<()> {
         hashes::measure(&rt, keys, rounds, num_hashes)?;
     }
     whole::measure(&rt, keys, rounds)?;
+    passes::measure(&rt, keys, rounds)?;
     steps::measure(&rt, keys, rounds)?;
     shared::measure(&rt, keys, rounds)?;
     threads::measure(&rt, keys, rounds)

@@ -11,6 +11,7 @@ mod HalvingFacts
 mod HalvingLemmas
 mod HashedLemmas
 mod HasherFacts
+mod LaneFacts
 mod MergeLemmas
 mod NumberLemmas
 mod OperationFacts

@@ -1,0 +1,223 @@
+//! The passes over all words of a filter, at a few sizes, beside plain loops over as many words.
+ghost use Rattle.std.specs.Prelude.{◌≡◌, length, vec_len};
+
+use crate::table::Row;
+use fastbloom::BloomFilter;
+use std::alloc::Global;
+use std::rt::Clock;
+use std::time::Instant;
+
+// Each word becomes the `|` of itself and the other's.
+#[inline(never)]
+fn plain_union(words: &mut Vec<u64>, other: &[u64])
+    requires { vec_len words.old ≡ length other.now }
+{
+    'words: for place in 0..words.len() {
+        words[place] |= other[place];
+    }
+}
+
+// Each word becomes the `&` of itself and the other's.
+#[inline(never)]
+fn plain_intersect(words: &mut Vec<u64>, other: &[u64])
+    requires { vec_len words.old ≡ length other.now }
+{
+    'words: for place in 0..words.len() {
+        words[place] &= other[place];
+    }
+}
+
+// Each word becomes 0.
+#[inline(never)]
+fn plain_clear(words: &mut Vec<u64>) {
+    'words: for place in 0..words.len() {
+        words[place] = 0;
+    }
+}
+
+// Whether the words are equal.
+#[inline(never)]
+fn plain_equality(words: &Vec<u64>, other: &Vec<u64>) -> bool {
+    *words == *other
+}
+
+// Two filters of so many words, and their words by themselves.
+#[derive(Drop)]
+struct Pair {
+    filter: BloomFilter,
+    other: BloomFilter,
+    words: Vec<u64>,
+    others: Vec<u64>,
+}
+
+// A filter of so many words.
+fn filter_of(alloc: Global, words: usize) -> anyhow::Result<BloomFilter> {
+    let words = vec![in alloc; 0u64; words]?;
+    Ok(BloomFilter::from_vec(words)?.hashes(1))
+}
+
+fn pair_of(alloc: Global, words: usize) -> anyhow::Result<Pair> {
+    Ok(Pair {
+        filter: filter_of(alloc, words)?,
+        other: filter_of(alloc, words)?,
+        words: vec![in alloc; 0u64; words]?,
+        others: vec![in alloc; 0u64; words]?,
+    })
+}
+
+// A pass over all words, by the filter's call or by the plain loop.
+#[derive(Clone, Copy)]
+enum Pass {
+    Union,
+    PlainUnion,
+    Intersect,
+    PlainIntersect,
+    Equality,
+    PlainEquality,
+    Clear,
+    PlainClear,
+}
+
+// Unites the filters so often.
+fn unite(pair: &mut Pair, times: u64) {
+    for _ in 0..times {
+        if !pair.filter.same_shape(&pair.other) {
+            break;
+        }
+        pair.filter.union(&pair.other);
+    }
+}
+
+fn unite_plainly(pair: &mut Pair, times: u64) {
+    for _ in 0..times {
+        if pair.words.len() != pair.others.len() {
+            break;
+        }
+        plain_union(&mut pair.words, pair.others.as_slice());
+    }
+}
+
+fn intersect(pair: &mut Pair, times: u64) {
+    for _ in 0..times {
+        if !pair.filter.same_shape(&pair.other) {
+            break;
+        }
+        pair.filter.intersect(&pair.other);
+    }
+}
+
+fn intersect_plainly(pair: &mut Pair, times: u64) {
+    for _ in 0..times {
+        if pair.words.len() != pair.others.len() {
+            break;
+        }
+        plain_intersect(&mut pair.words, pair.others.as_slice());
+    }
+}
+
+// How often the filters were equal.
+fn compare(pair: &Pair, times: u64) -> u64 {
+    let mut equal = 0u64;
+    for _ in 0..times {
+        equal = equal.wrapping_add(u64::from(pair.filter == pair.other));
+    }
+    equal
+}
+
+// Both get the same new word before each comparison, so that it is made anew.
+fn compare_plainly(pair: &mut Pair, times: u64) -> u64 {
+    let mut equal = 0u64;
+    for i in 0..times {
+        if let (Some(word), Some(other)) = (pair.words.last_mut(), pair.others.last_mut()) {
+            *word = i;
+            *other = i;
+        }
+        equal = equal.wrapping_add(u64::from(plain_equality(&pair.words, &pair.others)));
+    }
+    equal
+}
+
+fn clear(pair: &mut Pair, times: u64) {
+    for _ in 0..times {
+        pair.filter.clear();
+    }
+}
+
+fn clear_plainly(pair: &mut Pair, times: u64) {
+    for _ in 0..times {
+        plain_clear(&mut pair.words);
+    }
+}
+
+// Makes a pass so often, and counts what it answers.
+#[inline(never)]
+fn make(pair: &mut Pair, pass: Pass, times: u64) -> u64 {
+    match pass {
+        Pass::Union => unite(pair, times),
+        Pass::PlainUnion => unite_plainly(pair, times),
+        Pass::Intersect => intersect(pair, times),
+        Pass::PlainIntersect => intersect_plainly(pair, times),
+        Pass::Equality => return compare(pair, times),
+        Pass::PlainEquality => return compare_plainly(pair, times),
+        Pass::Clear => clear(pair, times),
+        Pass::PlainClear => clear_plainly(pair, times),
+    }
+    0
+}
+
+// The row of one pass, a word.
+fn measure_pass<R: Print + Clock>(
+    rt: &R,
+    pair: &mut Pair,
+    pass: Pass,
+    call: &'static str,
+    times: u64,
+    rounds: u32,
+) -> anyhow::Result<()> {
+    let words = pair.words.len() as u64;
+    let mut row = Row::new(call, 1, words.wrapping_mul(times));
+    'rounds: for _round in 0..rounds {
+        let start = Instant::now(rt)?;
+        let answers = make(pair, pass, times);
+        row.add(answers, start.elapsed(rt)?);
+    }
+    Ok(row.print(rt)?)
+}
+
+// All passes over so many words, so often that a round goes over 2^20 words.
+fn measure_size<R: Print + AllocGlobal + Clock>(
+    rt: &R,
+    words: usize,
+    rounds: u32,
+) -> anyhow::Result<()> {
+    let mut pair = pair_of(rt.alloc(), words)?;
+    let times = (1u64 << 20) / (words as u64).max(1);
+    'passes: for (pass, call) in [
+        (Pass::Union, "union, a word"),
+        (Pass::PlainUnion, "  a plain loop"),
+        (Pass::Intersect, "intersect, a word"),
+        (Pass::PlainIntersect, "  a plain loop"),
+        (Pass::Equality, "==, a word"),
+        (Pass::PlainEquality, "  a plain loop"),
+        (Pass::Clear, "clear, a word"),
+        (Pass::PlainClear, "  a plain loop"),
+    ] {
+        measure_pass(rt, &mut pair, pass, call, times, rounds)?;
+    }
+    Ok(())
+}
+
+/// The rows of whole passes over 15, 1,023 and 2^20 words, or nothing but their names where there
+/// are no keys.
+pub fn measure<R: Print + AllocGlobal + Clock>(
+    rt: &R,
+    keys: u32,
+    rounds: u32,
+) -> anyhow::Result<()> {
+    let rounds = if keys == 0 { 0 } else { rounds };
+    'sizes: for words in [15, 1023, 1 << 20] {
+        println!(rt; "on {words} words:")?;
+        measure_size(rt, words, rounds)?;
+    }
+    Ok(())
+}
