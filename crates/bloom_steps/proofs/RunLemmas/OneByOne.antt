@@ -10,7 +10,7 @@ use Rattle.bloom_steps.specs.declared.steps.vocabulary.Record.TheVariants.{Began
 use Rattle.bloom_steps.specs.Moments.{EveryCallEnded, OneAtATime}
 use Rattle.bloom_steps.specs.Scripts.{IsScript, Taken}
 use Rattle.bloom_steps.specs.Sequences.{Cut, MadeCall, cut}
-use Rattle.bloom_steps.specs.Courses.{CallAfterCall, begun_call, did, last_leaves_running, leaves_running, party_of, records_of, runs, whole_call}
+use Rattle.bloom_steps.specs.Courses.{CallAfterCall, begun_call, call_records, did, last_leaves_running, leaves_running, party_of, records_of, runs, whole_call}
 use Rattle.bloom_steps.proofs.RunLemmas.RunningCalls.{OneEnd, newest-call, one_end-later, one_end-script, runs_after, still_runs-beginning}
 use Rattle.bloom_steps.proofs.RunLemmas.PartyRecords.{mine_or_not, records_of-mine, records_of-none, records_of-other}
 use Rattle.bloom_steps.proofs.StepLemmas.Whole.{script_some}
@@ -128,7 +128,7 @@ pub data OneByOne (w k : ℕ) : List Record → List MadeCall → Type 0 where
   next_call : (p : ℕ) (call : Call) (s : List Taken) (later : List Record) (made : List MadeCall)
       → IsScript w k call s
       → OneByOne w k later made
-      → OneByOne w k (Began p call ∷ (did p s ++ later)) (record { call = call; taken = s } ∷ made)
+      → OneByOne w k (call_records p call s ++ later) (record { call = call; taken = s } ∷ made)
 
 -- w words and k hashes, some of each
 module _ (w k : ℕ) (some_words : 1 ≤ w) (some_hashes : 1 ≤ k) where
@@ -152,7 +152,7 @@ module _ (w k : ℕ) (some_words : 1 ≤ w) (some_hashes : 1 ≤ k) where
       let fr =
       front w k p r its.s its.later rest one_end refl
       (ap leaves_running its.begins) one others its.same in
-      let whole : r ∷ rest ≡ (Began p its.call ∷ did p its.s) ++ fr.after =
+      let whole : r ∷ rest ≡ call_records p its.call its.s ++ fr.after =
       ap (λ v. v ∷ rest) its.begins ∙ ap (λ l. Began p its.call ∷ l) fr.same in
       let long = ap length fr.same ∙ length-append (did p its.s) fr.after in
       let later : (q : ℕ) → CallAfterCall w k q (records_of q fr.after) =
@@ -163,8 +163,8 @@ module _ (w k : ℕ) (some_words : 1 ≤ w) (some_hashes : 1 ≤ k) where
         | inr n ↦ subst (CallAfterCall w k q) (sym (fr.others q n.1)) (others q n.1)
       ] in
       let more = one_by_one_in size fr.after (omega arith) later
-      (one_later (Began p its.call ∷ did p its.s) fr.after (subst OneAtATime whole one))
-      (ended_later (Began p its.call ∷ did p its.s) fr.after (subst EveryCallEnded whole ended)) in
+      (one_later (call_records p its.call its.s) fr.after (subst OneAtATime whole one))
+      (ended_later (call_records p its.call its.s) fr.after (subst EveryCallEnded whole ended)) in
       let made : MadeCall = record { call = its.call; taken = its.s } in (
         made ∷ more.0,
         subst (λ l. OneByOne w k l (made ∷ more.0)) (sym whole)
