@@ -1,7 +1,7 @@
 -- Lists of commands that are measured (the project's own).
 use Rattle.fastbloom.specs.CommandOf.{Fits}
 use Rattle.fastbloom.specs.Filter.{Filter}
-use Rattle.fastbloom.specs.declared.bloom.command.Command.{Command}
+use Rattle.fastbloom.specs.Command.{Command}
 
 -- a command fits each filter, since it names none
 abbrev pub FitsEach : {S : Type 0} → Command S → Type 0

@@ -28,6 +28,10 @@ FoundByAnd vector i mask found = IsOnWord vector i found
 pub MadeZero : (vector : SharedWords) (i : ℕ) → Type 0
 MadeZero vector i = i < vector.count
 
+-- word i of the vector was made 0, and this was there
+pub FoundBySwap : (vector : SharedWords) (i found : ℕ) → Type 0
+FoundBySwap vector i found = IsOnWord vector i found
+
 -- the fact of a load
 pub made_by_load : (vector : SharedWords) (i found : ℕ) → IsOnWord vector i found
     → FoundByLoad vector i found
@@ -50,3 +54,9 @@ made_by_and vector i mask found on = on
 pub made_by_zero : (vector : SharedWords) (i : ℕ) → i < vector.count → MadeZero vector i
 unfolding MadeZero
 made_by_zero vector i within = within
+
+-- the fact of a swap with zero
+pub made_by_swap : (vector : SharedWords) (i found : ℕ) → IsOnWord vector i found
+    → FoundBySwap vector i found
+unfolding FoundBySwap
+made_by_swap vector i found on = on

@@ -39,6 +39,15 @@ impl CloneBuildHasher<RandomDefaultHasher> {
         }
     }
 
+    /// The hashers that it builds have the key of these two little-endian words.
+    pub fn keyed(k0: u64, k1: u64) -> Self
+        ensures { HasKey result k0 k1 }
+    {
+        CloneBuildHasher {
+            hasher: RandomDefaultHasher::keyed(k0, k1),
+        }
+    }
+
     /// The two little-endian words of the key.
     pub fn key(&self) -> (u64, u64)
         ensures value { result ≡ key_of self.now }

@@ -13,6 +13,8 @@ pub mod Moments
 pub mod Parties
 pub mod Premises
 pub mod Schedules
+pub mod TakeCourses
+pub mod Takes
 pub mod Unique
 pub mod Unlawful
 pub mod Undisturbed

@@ -1,4 +1,5 @@
 pub mod AtMostOne
+pub mod Balances
 pub mod Bounds
 pub mod CallRecords
 pub mod CallReplies
@@ -30,6 +31,7 @@ pub mod Positions
 pub mod RecordedCalls
 pub mod RunningCalls
 pub mod Slots
+pub mod Taken
 pub mod Told
 pub mod UniqueSteps
 pub mod Worlds

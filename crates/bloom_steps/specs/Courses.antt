@@ -3,7 +3,7 @@
 use Rattle.std.specs.Prelude.{ℕ, ◌/◌, ◌^◌, ◌<◌, ◌≡◌, ◌⊎◌, ◌==◌, Bool, true, false, List, [], ◌∷◌, ◌++◌, length, Some, slice_get, take, if◌then◌else◌}
 use Rattle.bloom_parts.specs.Content.{AreWords, bit_is_on, content}
 use Rattle.bloom_steps.specs.declared.steps.vocabulary.Step.{Step}
-use Rattle.bloom_steps.specs.declared.steps.vocabulary.Step.TheVariants.{Load, Or, And, Zero, Other}
+use Rattle.bloom_steps.specs.declared.steps.vocabulary.Step.TheVariants.{Load, Or, And, Zero, Other, Take}
 use Rattle.bloom_steps.specs.declared.steps.vocabulary.Call.{Call}
 use Rattle.bloom_steps.specs.declared.steps.vocabulary.End.{End}
 use Rattle.bloom_steps.specs.declared.steps.vocabulary.End.TheVariants.{Running, Done, Answer}
@@ -32,6 +32,7 @@ MayFind A (Or i mask) found = IsWordOf A i found
 MayFind A (And i mask) found = IsWordOf A i found
 MayFind A (Zero i) found = found ≡ 0
 MayFind A (Other i) found = found < 2 ^ 64
+MayFind A (Take i) found = IsWordOf A i found
 
 -- each word found has the bits that the last deciders of the records before left
 abbrev pub FindsWhatIsThere : (ℕ → Bool) → List Record → Type 0

@@ -1,10 +1,12 @@
 -- What every interleaving of word steps gives, said of the finished course of a run. The theorems
 -- are this project's own.
-use Rattle.std.specs.Prelude.{ℕ, zero, suc, ◌+◌, ◌/◌, ◌≤◌, ◌<◌, ◌≡◌, ◌↔◌, ◌⊎◌, ◌&&◌, ◌==◌, Bool, true, false, not, Some, slice_get, bit_and, count_by, if◌then◌else◌}
+use Rattle.std.specs.Prelude.{ℕ, zero, suc, ◌+◌, ◌/◌, ◌≤◌, ◌<◌, ◌≡◌, ◌↔◌, ◌⊎◌, ◌&&◌, ◌==◌, Bool, true, false, not, Some, slice_get, bit_and, count_by, sum_by, take, length, if◌then◌else◌}
 use Rattle.bloom_parts.specs.Content.{bit_is_on, content}
 use Rattle.bloom_parts.specs.Places.{are_in, IsPosition}
 use Rattle.bloom_steps.specs.declared.steps.vocabulary.Step.TheVariants.{Load, Or, And, Zero, Other}
-use Rattle.bloom_steps.specs.declared.steps.vocabulary.Call.TheVariants.{Insert, Contains}
+use Rattle.bloom_steps.specs.declared.steps.vocabulary.Step.TheVariants as step
+use Rattle.bloom_steps.specs.declared.steps.vocabulary.Call.{Call}
+use Rattle.bloom_steps.specs.declared.steps.vocabulary.Call.TheVariants.{Insert, Contains, Clear, Union, Intersect, Take}
 use Rattle.bloom_steps.specs.declared.steps.vocabulary.End.{End}
 use Rattle.bloom_steps.specs.declared.steps.vocabulary.End.TheVariants.{Answer}
 use Rattle.bloom_steps.specs.declared.steps.vocabulary.Record.{Record}
@@ -90,6 +92,7 @@ found_off (Did party (Or i mask) found ended) = bit_and found mask == 0
 found_off (Did party (And i mask) found ended) = false
 found_off (Did party (Zero i) found ended) = false
 found_off (Did party (Other i) found ended) = false
+found_off (Did party (step.Take i) found ended) = false
 
 -- each position is turned on once: where each call goes by a hash, as many steps found their bit
 -- off as positions were gained
@@ -97,3 +100,46 @@ abbrev pub CountsGains : Course → Type 0
 CountsGains run =
     EveryCall goes_by_hash run.records → count_by found_off run.records ≡ count_below (bits_of run)
     (λ p. content run.words p && not (content run.start p))
+
+-- how many bits of a word are on
+unfoldable pub bits_on : ℕ → ℕ
+bits_on word = count_below 64 (bit_is_on word)
+
+-- how many bits were on in the word that a take found
+abbrev pub bits_taken : Record → ℕ
+bits_taken (Began party call) = 0
+bits_taken (Did party (Load i) found ended) = 0
+bits_taken (Did party (Or i mask) found ended) = 0
+bits_taken (Did party (And i mask) found ended) = 0
+bits_taken (Did party (Zero i) found ended) = 0
+bits_taken (Did party (Other i) found ended) = 0
+bits_taken (Did party (step.Take i) found ended) = bits_on found
+
+-- whether a call is an insert, a look-up or a take
+abbrev pub adds_or_takes : Call → Bool
+adds_or_takes (Insert hash) = true
+adds_or_takes (Contains hash) = true
+adds_or_takes Clear = false
+adds_or_takes Union = false
+adds_or_takes Intersect = false
+adds_or_takes Take = true
+
+-- up to a moment, the positions of the start and those turned on since are as many as those that
+-- takes found and those on at that moment
+abbrev pub IsBalanced : Course → ℕ → Type 0
+IsBalanced run m =
+    count_below (bits_of run) (content run.start) + count_by found_off (take m run.records)
+    ≡ sum_by bits_taken (take m run.records) + count_below (bits_of run) (moment run m)
+
+-- taking loses nothing, at any moment and in the end
+pub record LosesNothing (run : Course) : Type 0 where
+  pub always : (m : ℕ) → m ≤ length run.records → IsBalanced run m
+  pub whole : count_below (bits_of run) (content run.start) + count_by found_off run.records
+      ≡ sum_by bits_taken run.records + count_below (bits_of run) (content run.words)
+
+-- it does where each call is an insert, a look-up or a take
+abbrev pub TakesLoseNothing : Course → Type 0
+TakesLoseNothing run =
+    ((m party : ℕ) (call : Call) → slice_get run.records m ≡ Some (Began party call)
+    → adds_or_takes call ≡ true)
+    → LosesNothing run

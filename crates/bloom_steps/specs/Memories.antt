@@ -3,7 +3,7 @@ use Rattle.std.specs.Prelude.{◌≡◌, ◌<◌, ℕ, Bool, List, length, map, 
 use Rattle.bloom_parts.specs.Content.{content}
 use Rattle.bloom_parts.specs.Deciders.{state}
 use Rattle.bloom_steps.specs.declared.steps.vocabulary.Step.{Step}
-use Rattle.bloom_steps.specs.declared.steps.vocabulary.Step.TheVariants.{Load, Or, And, Zero, Other}
+use Rattle.bloom_steps.specs.declared.steps.vocabulary.Step.TheVariants.{Load, Or, And, Zero, Other, Take}
 use Rattle.bloom_steps.specs.Steps.{word_index, step_decides}
 use Rattle.bloom_steps.specs.Scripts.{Taken, Linked}
 
@@ -19,6 +19,7 @@ found_in words given (Or i mask) = slice_index words i
 found_in words given (And i mask) = slice_index words i
 found_in words given (Zero i) = 0
 found_in words given (Other i) = given
+found_in words given (Take i) = slice_index words i
 
 -- the words after a step
 abbrev pub words_after : List ℕ → Step → List ℕ
@@ -27,6 +28,7 @@ words_after words (Or i mask) = slice_set words i (bit_or (slice_index words i) 
 words_after words (And i mask) = slice_set words i (bit_and (slice_index words i) mask)
 words_after words (Zero i) = slice_set words i 0
 words_after words (Other i) = words
+words_after words (Take i) = slice_set words i 0
 
 -- from a memory to a memory by one step, as the table says
 pub record Moves (before : Memory) (step : Step) (found : ℕ) (after : Memory) : Type 0 where

@@ -4,8 +4,9 @@
 use Rattle.std.specs.Prelude.{ℕ, ◌*◌, Bool, true, false}
 use Rattle.bloom_steps.specs.declared.steps.vocabulary.Step.{Step}
 use Rattle.bloom_steps.specs.declared.steps.vocabulary.Step.TheVariants.{Or, And, Zero}
+use Rattle.bloom_steps.specs.declared.steps.vocabulary.Step.TheVariants as step
 use Rattle.bloom_steps.specs.declared.steps.vocabulary.Call.{Call}
-use Rattle.bloom_steps.specs.declared.steps.vocabulary.Call.TheVariants.{Insert, Contains, Clear, Union, Intersect}
+use Rattle.bloom_steps.specs.declared.steps.vocabulary.Call.TheVariants.{Insert, Contains, Clear, Union, Intersect, Take}
 
 -- the plan of a call: it turns on the places of a hash; or looks at them up to the first that is
 -- off; or turns off each word by one step; or reads each word of the other filter, and turns bits
@@ -23,6 +24,7 @@ plan_of (Contains hash) = LooksAt hash
 plan_of Clear = EachWord Zero
 plan_of Union = EachPair Or true
 plan_of Intersect = EachPair And false
+plan_of Take = EachWord step.Take
 
 -- the hash of a plan, or 0 where it has none
 abbrev pub hash_of : Plan → ℕ

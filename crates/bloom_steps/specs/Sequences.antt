@@ -4,8 +4,9 @@ use Rattle.std.specs.Prelude.{◌≡◌, ℕ, Bool, List, [], ◌∷◌, ◌++�
 use Rattle.bloom_parts.specs.Content.{content}
 use Rattle.bloom_steps.specs.declared.steps.vocabulary.Step.{Step}
 use Rattle.bloom_steps.specs.declared.steps.vocabulary.Step.TheVariants.{Load, Or, And, Zero, Other}
+use Rattle.bloom_steps.specs.declared.steps.vocabulary.Step.TheVariants as step
 use Rattle.bloom_steps.specs.declared.steps.vocabulary.Call.{Call}
-use Rattle.bloom_steps.specs.declared.steps.vocabulary.Call.TheVariants.{Insert, Contains, Clear, Union, Intersect}
+use Rattle.bloom_steps.specs.declared.steps.vocabulary.Call.TheVariants.{Insert, Contains, Clear, Union, Intersect, Take}
 use Rattle.bloom_steps.specs.declared.steps.vocabulary.Record.{Record}
 use Rattle.bloom_steps.specs.declared.steps.vocabulary.Record.TheVariants.{Began, Did}
 use Rattle.bloom_parts.specs.Operations.{Operation, state_after}
@@ -41,6 +42,7 @@ found_in_other (Or i mask) found = []
 found_in_other (And i mask) found = []
 found_in_other (Zero i) found = []
 found_in_other (Other i) found = found ∷ []
+found_in_other (step.Take i) found = []
 
 -- the other filter's words, as steps found them
 abbrev pub other_words : List Taken → List ℕ
@@ -54,6 +56,7 @@ command_of (Contains hash) other = operation.Contains hash
 command_of Clear other = operation.Clear
 command_of Union other = operation.Union other
 command_of Intersect other = operation.Intersect other
+command_of Take other = operation.Clear
 
 -- the calls of a run taken as commands, in the order of their beginnings
 abbrev pub commands_of : List MadeCall → List Operation

@@ -4,7 +4,7 @@ use Rattle.std.specs.Prelude.{ℕ, ◌/◌, ◌%◌, ◌^◌, Bool, true, false,
 use Rattle.bloom_parts.specs.Content.{bit_is_on}
 use Rattle.bloom_parts.specs.Deciders.{Decider, decides_nothing, state}
 use Rattle.bloom_steps.specs.declared.steps.vocabulary.Step.{Step}
-use Rattle.bloom_steps.specs.declared.steps.vocabulary.Step.TheVariants.{Load, Or, And, Zero, Other}
+use Rattle.bloom_steps.specs.declared.steps.vocabulary.Step.TheVariants.{Load, Or, And, Zero, Other, Take}
 use Rattle.bloom_steps.specs.declared.steps.vocabulary.Record.{Record}
 use Rattle.bloom_steps.specs.declared.steps.vocabulary.Record.TheVariants.{Began, Did}
 
@@ -15,6 +15,7 @@ word_index (Or i mask) = i
 word_index (And i mask) = i
 word_index (Zero i) = i
 word_index (Other i) = i
+word_index (Take i) = i
 
 -- the step that turns a position on
 abbrev pub or_at : ℕ → Step
@@ -31,6 +32,7 @@ step_decides (Or i mask) p = if p / 64 == i && bit_is_on mask p then Some true e
 step_decides (And i mask) p = if p / 64 == i && not (bit_is_on mask p) then Some false else None
 step_decides (Zero i) p = if p / 64 == i then Some false else None
 step_decides (Other i) p = None
+step_decides (Take i) p = if p / 64 == i then Some false else None
 
 -- what a record decides: what its step does, and the beginning of a call nothing
 abbrev pub record_decides : Record → Decider

@@ -29,7 +29,8 @@ module _ {S T : Type 0} (hash_of : S → T → ℕ) (f : SharedFilter S) where
   -- when the iterator has ended, those were all its items
   pub made_inserts-whole : {I : Type 0} (steps : I → Option T → I → Type 0) (start last end : I)
       (items : List T) → Yields steps start items last → steps last None end
-      → MakesInserts hash_of f items → WholeRun steps start (λ run. MakesInserts hash_of f run.items)
+      → MakesInserts hash_of f items
+      → WholeRun steps start (λ run. MakesInserts hash_of f run.items)
   made_inserts-whole steps start last end items came ended did =
       let made = run_of_exit steps start items last came end ended in
       (made.0, made.1, made.2, subst (MakesInserts hash_of f) (sym made.3.0) did)

@@ -1,10 +1,11 @@
--- How many words a reading of a vector gives.
-use Rattle.std.proofs.Common.{◌≡◌, ◌∙◌, ℕ, ◌+◌, ◌≤◌, List, [], ◌∷◌, length, true, ◌<◌, ap, refl, sym, subst, inl, inr, arith}
+-- How many words a reading of a vector gives, and how each was found.
+use Rattle.std.proofs.Common.{◌≡◌, ◌∙◌, ℕ, zero, suc, ◌+◌, ◌≤◌, List, [], ◌∷◌, Some, length, true, ◌<◌, ap, refl, slice_get, sym, subst, inl, inr, arith}
 use Rattle.std.proofs.lemmas.Bool.{cases_eq}
 use Rattle.std.specs.Iterator.{Yields}
 use Rattle.std.specs.Iterator.Runs.{Run, YieldsRun}
-use Rattle.bloom_parts.specs.Made.{SharedWords}
+use Rattle.bloom_parts.specs.Made.{FoundByLoad, SharedWords}
 use Rattle.bloom_parts.specs.Reading.{Reading, ReadsNext}
+use Rattle.fastbloom.specs.Shared.{WereLoaded}
 
 -- a reading after some words: on the same vector, as many words on, and not past the last
 record CameTo (n : ℕ) (s t : Reading) (count : ℕ) : Type 0 where
@@ -16,7 +17,8 @@ record CameTo (n : ℕ) (s t : Reading) (count : ℕ) : Type 0 where
 counted : (n : ℕ) (s t : Reading) (words : List ℕ) → Yields ReadsNext s words t
     → s.vector.count ≡ n → s.next ≤ n → CameTo n s t (length words)
 counted n s t [] came size most =
-    subst (λ (r : Reading). CameTo n s r 0) came record { size = size; next = omega arith; most = most }
+    subst (λ (r : Reading). CameTo n s r 0) came
+    record { size = size; next = omega arith; most = most }
 counted n s t (word ∷ words) came size most =
     let first = came.1 in
     let later = counted n came.0 t words came.2 (ap (λ (v : SharedWords). v.count) first.0 ∙ size)
@@ -35,6 +37,46 @@ read-whole run reading vector from of start whole =
     let last = counted _ run.from came.0 run.items came.1 refl (omega (arith, first)) in
     let ended = (came.2 whole).1 in
     omega (arith, last.size, last.next, last.most, ended.1.0, first, size)
+
+-- each word of a reading was found by a load of the word of its index
+each-loaded : (s t : Reading) (words : List ℕ) → Yields ReadsNext s words t
+    → (i : ℕ) → i < length words
+    → (found : ℕ) × FoundByLoad s.vector (s.next + i) found × (slice_get words i ≡ Some found)
+each-loaded s t [] came i within = absurd (omega (arith, within))
+each-loaded s t (word ∷ words) came zero within =
+    (word, subst (λ n. FoundByLoad s.vector n word) (omega arith) came.1.1.0, refl)
+each-loaded s t (word ∷ words) came (suc i) within =
+    let mid = came.0 in
+    let later = each-loaded mid t words came.2 i (omega (arith, within)) in
+    let on : mid.next + i ≡ s.next + suc i = omega (arith, came.1.1.2) in (
+      later.0,
+      subst (λ n. FoundByLoad s.vector n later.0) on
+          (subst (λ v. FoundByLoad v (mid.next + i) later.0) came.1.0 later.1),
+      later.2,
+    )
+
+-- a whole reading from word 0 on loads each word of the vector
+pub read-loaded : (run : Run ReadsNext) (reading : Reading) (vector : SharedWords)
+    → run.from ≡ reading → reading.vector ≡ vector → reading.next ≡ 0 → run.whole ≡ true
+    → WereLoaded vector run.items
+unfolding YieldsRun
+read-loaded run reading vector from of start whole =
+    let same = ap (λ (r : Reading). r.vector) from ∙ of in
+    let first = ap (λ (r : Reading). r.next) from ∙ start in
+    let count = read-whole run reading vector from of start whole in
+    record {
+      count = count;
+      each = λ i within.
+          let loaded =
+          each-loaded run.from run.gave.0.0 run.items run.gave.0.1 i
+          (omega (arith, within, count)) in
+          let on : run.from.next + i ≡ i = omega (arith, first) in (
+            loaded.0,
+            subst (λ n. FoundByLoad vector n loaded.0) on
+                (subst (λ v. FoundByLoad v (run.from.next + i) loaded.0) same loaded.1),
+            loaded.2,
+          );
+    }
 
 -- what holds below a number and at it holds below the next
 pub below-next : (P : ℕ → Type 0) (n : ℕ) → ((i : ℕ) → i < n → P i) → P n

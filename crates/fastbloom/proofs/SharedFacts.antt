@@ -1,19 +1,19 @@
 -- What the definitions of calls on shared filters say: cases that hold, and cases that nearly do.
-use Rattle.std.proofs.Common.{◌≡◌, ◌≢◌, ◌∙◌, ℕ, zero, suc, ◌+◌, ◌*◌, ◌/◌, ◌%◌, ◌^◌, ◌<◌, Bool, true, false, List, [], ◌∷◌, length, Option, Some, None, ap, refl, sym, subst, arith, slice_get}
+use Rattle.std.proofs.Common.{◌≡◌, ◌∙◌, ℕ, zero, suc, ◌+◌, ◌*◌, ◌/◌, ◌%◌, ◌^◌, ◌<◌, Bool, false, List, [], ◌∷◌, length, Some, None, refl, sym, subst, arith, slice_get}
 use Rattle.std.proofs.lemmas.Option.{none-some, same_Some}
 use Rattle.bloom_parts.specs.Chain.{chain}
 use Rattle.bloom_parts.specs.Places.{place}
-use Rattle.bloom_parts.specs.Made.{SharedWords, FoundByLoad, FoundByOr, MadeZero}
-use Rattle.bloom_steps.specs.declared.steps.vocabulary.Step.TheVariants.{Or, Zero, Other}
+use Rattle.bloom_parts.specs.Made.{FoundByLoad, FoundByOr, MadeZero}
+use Rattle.bloom_steps.specs.declared.steps.vocabulary.Step.TheVariants.{Or}
 use Rattle.bloom_steps.specs.declared.steps.vocabulary.Call.TheVariants.{Insert, Clear, Union}
-use Rattle.bloom_steps.specs.declared.steps.vocabulary.End.TheVariants.{Running, Done, Answer}
-use Rattle.bloom_steps.specs.Scripts.{Taken, Each, IsScript, answer_of}
-use Rattle.fastbloom.specs.Filter.{Filter}
+use Rattle.bloom_steps.specs.declared.steps.vocabulary.End.TheVariants.{Answer}
+use Rattle.bloom_steps.specs.Scripts.{Taken, Each}
+use Rattle.bloom_plain.specs.Filter.{Filter}
 use Rattle.fastbloom.specs.Shared.{SharedFilter, HaveSameShape, HasFormOf, IsMade, MakesCall, MakesInsert, WereFoundAlike, WereFoundToDiffer}
 use Rattle.fastbloom.proofs.SharedLemmas.{insert-answers, silent}
 
 -- a filter of so many words and hashes, under any name, whose hasher is a number
-abbrev filter : ℕ → ℕ → ℕ → SharedFilter ℕ
+abbrev pub filter : ℕ → ℕ → ℕ → SharedFilter ℕ
 filter name words hashes = record {
   words = record { name = name; count = words };
   hashes = hashes;
@@ -49,7 +49,7 @@ word-short : HasFormOf (filter 1 1 3) (plain 7) → ⊥
 word-short form = omega (arith, form.words)
 
 -- what holds of the one member of a list holds of each
-only : (P : ℕ → Taken → Type 0) (t : Taken) → P 0 t → Each (t ∷ []) P
+pub only : (P : ℕ → Taken → Type 0) (t : Taken) → P 0 t → Each (t ∷ []) P
 only P t holds zero u got = subst (P 0) (same_Some t u got) holds
 only P t holds (suc i) u got = absurd (none-some u got)
 
@@ -75,7 +75,8 @@ insert-of-new name made = record {
 }
 
 -- an insert has a reply
-insert-replies : (name hash : ℕ) → MakesCall (filter name 1 1) (filter name 1 1) (Insert hash) None → ⊥
+insert-replies : (name hash : ℕ)
+    → MakesCall (filter name 1 1) (filter name 1 1) (Insert hash) None → ⊥
 insert-replies name hash calls =
     let some = insert-answers 1 1 hash calls.taken (omega arith) calls.script in
     none-some some.0 (calls.answers ∙ some.1)
@@ -87,7 +88,7 @@ clear-is-silent name reply calls =
     none-some reply (sym (calls.answers ∙ silent calls.taken calls.script.last))
 
 -- a list has a member at each index below its length
-member : (s : List Taken) (i : ℕ) → i < length s → (t : Taken) × (slice_get s i ≡ Some t)
+pub member : (s : List Taken) (i : ℕ) → i < length s → (t : Taken) × (slice_get s i ≡ Some t)
 member [] i within = absurd (omega (arith, within))
 member (t ∷ rest) zero within = (t, refl)
 member (t ∷ rest) (suc i) within = member rest i (omega (arith, within))
@@ -136,7 +137,8 @@ found-alike : FoundByLoad (filter 1 1 3).words 0 5 → FoundByLoad (filter 2 1 3
 found-alike here there = record {
   shape = record { words = refl; hashes = refl };
   words = λ i within. subst
-      (λ j. (found : ℕ) × FoundByLoad (filter 1 1 3).words j found × FoundByLoad (filter 2 1 3).words j found)
+      (λ j. (found : ℕ) × FoundByLoad (filter 1 1 3).words j found
+      × FoundByLoad (filter 2 1 3).words j found)
       (omega (arith, within)) (5, here, there);
 }
 
@@ -148,8 +150,16 @@ hashes-differ alike = omega (arith, alike.shape.hashes)
 found-to-differ : FoundByLoad (filter 1 1 3).words 0 5 → FoundByLoad (filter 2 1 3).words 0 6
     → WereFoundToDiffer (filter 1 1 3) (filter 2 1 3)
 found-to-differ here there =
-    record { index = 0; found = 5; other = 6; here = here; there = there; differ = λ e. omega (arith, e) }
+    record {
+      index = 0;
+      found = 5;
+      other = 6;
+      here = here;
+      there = there;
+      differ = λ e. omega (arith, e);
+    }
 
 -- words that are equal don't differ
-equal-words : (differ : WereFoundToDiffer (filter 1 1 3) (filter 2 1 3)) → differ.found ≡ differ.other → ⊥
+equal-words : (differ : WereFoundToDiffer (filter 1 1 3) (filter 2 1 3))
+    → differ.found ≡ differ.other → ⊥
 equal-words differ same = differ.differ same

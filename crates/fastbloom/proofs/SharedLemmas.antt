@@ -21,6 +21,22 @@ linked-made lent (u ∷ us) before after same linked zero t got =
 linked-made lent (u ∷ us) before after same linked (suc i) t got =
     linked-made lent us linked.0 after (linked.1.1 ∙ same) linked.2 i t got
 
+-- the linked steps of a store were made on the filters whose words it lends
+pub steps-made : {S : Type 0} (f other : SharedFilter S) (store after : Lent) (taken : List Taken)
+    → store.words ≡ f.words → store.other ≡ other.words → Linked MakesStep store taken after
+    → Each taken (λ i t. IsMade f.words other.words t.step t.found)
+steps-made f other store after taken words others linked =
+    subst (λ o. Each taken (λ i t. IsMade f.words o t.step t.found)) others
+    (subst (λ w. Each taken (λ i t. IsMade w store.other t.step t.found)) words
+    (linked-made store taken store after refl linked))
+
+-- a script in as many words as a store has is one in the words of the filter that it lends
+pub script-in : {S : Type 0} (f : SharedFilter S) (call : Call) (store : Lent) (taken : List Taken)
+    → store.words ≡ f.words → IsScript store.words.count f.hashes call taken
+    → IsScript f.words.count f.hashes call taken
+script-in f call store taken words script =
+    subst (λ (v : SharedWords). IsScript v.count f.hashes call taken) words script
+
 -- a whole script that a store was driven through is a call on the filters whose words it lends
 pub drives-make : {S : Type 0} (f other : SharedFilter S) (call : Call) (reply : Option Bool)
     (store after : Lent) → store.words ≡ f.words → store.other ≡ other.words
@@ -28,11 +44,8 @@ pub drives-make : {S : Type 0} (f other : SharedFilter S) (call : Call) (reply :
     → MakesCall f other call reply
 drives-make f other call reply store after words others drives = record {
   taken = drives.taken;
-  script = subst (λ (v : SharedWords). IsScript v.count f.hashes call drives.taken) words drives.script;
-  made =
-      subst (λ o. Each drives.taken (λ i t. IsMade f.words o t.step t.found)) others
-      (subst (λ w. Each drives.taken (λ i t. IsMade w store.other t.step t.found)) words
-      (linked-made store drives.taken store after refl drives.linked));
+  script = script-in f call store drives.taken words drives.script;
+  made = steps-made f other store after drives.taken words others drives.linked;
   answers = drives.answers;
 }
 
@@ -47,7 +60,8 @@ pub record LastOf (s : List Taken) : Type 0 where
 -- some steps have a last one, which gives their answer
 pub last-of : (s : List Taken) → 1 ≤ length s → LastOf s
 last-of [] some = absurd (omega (arith, some))
-last-of (t ∷ []) some = record { index = 0; step = t; is_last = refl; stands = refl; answers = refl }
+last-of (t ∷ []) some =
+    record { index = 0; step = t; is_last = refl; stands = refl; answers = refl }
 last-of (t ∷ (u ∷ rest)) some =
     let last = last-of (u ∷ rest) (omega arith) in
     record {
@@ -59,7 +73,8 @@ last-of (t ∷ (u ∷ rest)) some =
     }
 
 -- steps that end with `Done` have no answer
-pub silent : (s : List Taken) → Each s (λ i t. i + 1 ≡ length s → t.ended ≡ Done) → answer_of s ≡ None
+pub silent : (s : List Taken) → Each s (λ i t. i + 1 ≡ length s → t.ended ≡ Done)
+    → answer_of s ≡ None
 silent [] ends = refl
 silent (t ∷ rest) ends =
     let last = last-of (t ∷ rest) (omega arith) in
@@ -82,7 +97,8 @@ contains-answers w k hash s script =
     (_, last.answers ∙ ap answer_of_end (ends last.index last.step last.stands last.is_last))
 
 -- a call whose script has an answer replies it, whatever stands in for none
-pub replies : {S : Type 0} (f : SharedFilter S) (call : Call) (reply : Option Bool) (result other : Bool)
+pub replies : {S : Type 0} (f : SharedFilter S) (call : Call) (reply : Option Bool)
+    (result other : Bool)
     → (calls : MakesCall f f call reply)
     → (b : Bool) × (answer_of calls.taken ≡ Some b)
     → result ≡ unwrap_or reply other → MakesCall f f call (Some result)

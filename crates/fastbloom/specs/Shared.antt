@@ -1,13 +1,14 @@
--- What contracts see of a filter that threads share, and of which steps its calls are made. Its words
--- aren't seen, since any thread may change them. This project's own.
-use Rattle.std.specs.Prelude.{◌≡◌, ◌≢◌, ℕ, ◌<◌, Bool, List, length, map, All, Option, Some}
-use Rattle.bloom_parts.specs.Made.{SharedWords, FoundByLoad, FoundByOr, FoundByAnd, MadeZero}
-use Rattle.fastbloom.specs.Builders.{RateStart, IsSizeOf, sized_filter, empty_start}
-use Rattle.fastbloom.specs.Filter.{Filter}
+-- What contracts see of a filter that threads share, and of which steps its calls are made. Its
+-- words aren't seen, since any thread may change them. This project's own.
+use Rattle.std.specs.Prelude.{◌≡◌, ◌≢◌, ℕ, ◌<◌, Bool, List, length, map, slice_get, All, Option, Some, None}
+use Rattle.bloom_parts.specs.Made.{SharedWords, FoundByLoad, FoundByOr, FoundByAnd, MadeZero, FoundBySwap}
+use Rattle.bloom_plain.specs.Builders.{RateStart, IsSizeOf, sized_filter, empty_start}
+use Rattle.bloom_plain.specs.Filter.{Filter}
 use Rattle.bloom_steps.specs.declared.steps.vocabulary.Step.{Step}
-use Rattle.bloom_steps.specs.declared.steps.vocabulary.Step.TheVariants.{Load, Or, And, Zero, Other}
+use Rattle.bloom_steps.specs.declared.steps.vocabulary.Step.TheVariants.{Load, Or, And, Zero, Other, Take}
 use Rattle.bloom_steps.specs.declared.steps.vocabulary.Call.{Call}
 use Rattle.bloom_steps.specs.declared.steps.vocabulary.Call.TheVariants.{Insert}
+use Rattle.bloom_steps.specs.declared.steps.vocabulary.Call.TheVariants as call
 use Rattle.bloom_steps.specs.Scripts.{Taken, Each, IsScript, answer_of}
 
 -- the vector of the words, the number of hashes, and the hasher
@@ -40,10 +41,12 @@ IsMade words other (Or i mask) found = FoundByOr words i mask found
 IsMade words other (And i mask) found = FoundByAnd words i mask found
 IsMade words other (Zero i) found = MadeZero words i × (found ≡ 0)
 IsMade words other (Other i) found = FoundByLoad other i found
+IsMade words other (Take i) found = FoundBySwap words i found
 
 -- a call was made: the steps of a whole script of it on the words of a filter, and the script's
 -- answer given
-pub record MakesCall {S : Type 0} (f other : SharedFilter S) (call : Call) (reply : Option Bool) : Type 0 where
+pub record MakesCall {S : Type 0} (f other : SharedFilter S) (call : Call) (reply : Option Bool)
+    : Type 0 where
   pub taken : List Taken
   pub script : IsScript f.words.count f.hashes call taken
   pub made : Each taken (λ i t. IsMade f.words other.words t.step t.found)
@@ -57,6 +60,17 @@ MakesInsert f hash reply = MakesCall f f (Insert hash) (Some reply)
 abbrev pub MakesInserts : {S T : Type 0} → (S → T → ℕ) → SharedFilter S → List T → Type 0
 MakesInserts hash_of f items =
     All (λ hash. (reply : Bool) × MakesInsert f hash reply) (map (hash_of f.hasher) items)
+
+-- the words of a filter were taken out: those that the steps of a take found, in order
+pub record TakesWords {S : Type 0} (f : SharedFilter S) (words : List ℕ) : Type 0 where
+  pub made : MakesCall f f call.Take None
+  pub found : words ≡ map (λ t. t.found) made.taken
+
+-- these are the words of a vector, each found by a load of the word of its index
+pub record WereLoaded (vector : SharedWords) (words : List ℕ) : Type 0 where
+  pub count : length words ≡ vector.count
+  pub each : (i : ℕ) → i < vector.count
+      → (found : ℕ) × FoundByLoad vector i found × (slice_get words i ≡ Some found)
 
 -- filters of one shape, of which each word that was loaded of the one equals that of the other
 pub record WereFoundAlike {S : Type 0} (f g : SharedFilter S) : Type 0 where

@@ -3,7 +3,9 @@ ghost use Rattle.std.specs.Prelude.{◌≡◌, ◌*◌, ◌≤◌, max, Some};
 ghost use Rattle.bloom_steps.specs.declared.steps.vocabulary.Call.TheVariants.{Contains};
 ghost use Rattle.fastbloom.specs.Shared.{MakesCall, MakesInsert};
 
+mod data;
 mod items;
+mod keeping_store;
 mod live_store;
 mod sets;
 mod words;

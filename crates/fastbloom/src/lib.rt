@@ -2,22 +2,19 @@
 #![tactic(auto)]
 
 mod atomic;
-mod bloom;
 mod builder;
 pub mod laws;
 
 pub use atomic::AtomicBloomFilter;
-pub use bloom::{BloomFilter, Command};
 pub use bloom_parts::bit_vector::{AtomicWords, Words};
 pub use bloom_parts::error::FilterError;
 pub use bloom_parts::hasher::{CloneBuildHasher, DefaultHasher, RandomDefaultHasher};
 pub use bloom_parts::math::{
     Bracket, Rate, expected_density, expected_false_pos, optimal_hashes, optimal_size,
 };
+pub use bloom_plain::builder::{BuilderWithBits, BuilderWithFalsePositiveRate};
+pub use bloom_plain::{BitsData, BloomFilter, Command, FilterData};
 pub use bloom_steps::{
     Call, End, Event, Machine, MemoryStore, Record, Step, Trace, WordStore, drive, run,
 };
-pub use builder::{
-    AtomicBuilderWithBits, AtomicBuilderWithFalsePositiveRate, BuilderWithBits,
-    BuilderWithFalsePositiveRate,
-};
+pub use builder::{AtomicBuilderWithBits, AtomicBuilderWithFalsePositiveRate};

@@ -3,6 +3,7 @@
 mod counting;
 mod courses;
 mod tables;
+mod takes;
 
 use counting::Tally;
 use fastbloom::{Call, Machine, MemoryStore, Step, drive};
@@ -42,6 +43,7 @@ fn a_call_is_driven_over_memory(rt: HostRuntime) {
         (5, 6, Call::Union, 1, None, 7),
         (5, 6, Call::Intersect, 1, None, 4),
         (5, 6, Call::Clear, 1, None, 0),
+        (5, 6, Call::Take, 1, None, 0),
         (0, 6, Call::Insert(1), 2, Some(false), 1048577),
     ] {
         let mut store = one_word(rt.alloc(), word, other).expect(&rt, "memory");
@@ -59,6 +61,7 @@ fn a_call_is_driven_over_a_store_that_counts(rt: HostRuntime) {
         (0, 0, Call::Contains(1), 3, 1, Some(false), 0),
         (1048577, 0, Call::Insert(1), 3, 3, Some(false), 4296015873),
         (7, 0, Call::Clear, 3, 1, None, 0),
+        (7, 0, Call::Take, 3, 1, None, 0),
         (5, 6, Call::Union, 3, 2, None, 7),
         (5, 6, Call::Intersect, 3, 2, None, 4),
     ] {

@@ -2,7 +2,7 @@
 ghost use Rattle.std.specs.Prelude.{◌≡◌, ◌*◌, ◌-◌, ◌^◌, ◌<◌, ◌≤◌, IsTrue, length, IfOk, IsOkUnless};
 ghost use Rattle.std.specs.Iterator.{IsFinite, at_most};
 ghost use Rattle.std.specs.Iterator.Runs.{EachRunFrom, WholeRun};
-ghost use Rattle.bloom_parts.specs.Made.{FoundByLoad, FoundByOr, FoundByAnd, MadeZero};
+ghost use Rattle.bloom_parts.specs.Made.{FoundByLoad, FoundByOr, FoundByAnd, MadeZero, FoundBySwap};
 ghost use Rattle.bloom_parts.specs.Reading.{ReadsNext};
 
 use crate::error::FilterError;
@@ -117,6 +117,15 @@ impl AtomicBitVec {
         ensures { MadeZero self.now word }
     {
         self.words[word].store(0, Ordering::SeqCst);
+    }
+
+    /// Turns off all of a word, and answers the word as it was.
+    #[tactic(auto, using(crate::specs::Made::made_by_swap))]
+    pub fn swap_zero(&self, word: usize) -> u64
+        requires { word < self.now.count }
+        ensures { FoundBySwap self.now word result }
+    {
+        self.words[word].swap(0, Ordering::SeqCst)
     }
 }
 

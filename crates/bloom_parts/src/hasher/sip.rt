@@ -71,7 +71,7 @@ impl RandomDefaultHasher {
 
     // A hasher with this key, which has taken in nothing.
     #[inline]
-    fn keyed(k0: u64, k1: u64) -> Self
+    pub(super) fn keyed(k0: u64, k1: u64) -> Self
         ensures { Hashed result k0 k1 [] }
     {
         RandomDefaultHasher {

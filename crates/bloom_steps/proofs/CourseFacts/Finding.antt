@@ -8,7 +8,7 @@ use Rattle.bloom_steps.specs.Courses.{MayFind}
 use Rattle.bloom_steps.proofs.RunLemmas.Worlds.{may_find-read}
 
 -- the content of two words
-abbrev set : ℕ → Bool
+abbrev pub set : ℕ → Bool
 set p = content (5 ∷ 9 ∷ []) p
 
 -- a word below the bound
@@ -16,7 +16,7 @@ pub past : (word : ℕ) → 2 ^ 64 ≤ word → word < 2 ^ 64 → ⊥
 past word above below = omega (arith, above, below)
 
 -- what a step finds in the words
-finds : (step : Step) (found : ℕ) → found ≡ found_in (5 ∷ 9 ∷ []) found step → found < 2 ^ 64
+pub finds : (step : Step) (found : ℕ) → found ≡ found_in (5 ∷ 9 ∷ []) found step → found < 2 ^ 64
     → MayFind set step found
 finds step found is fits = may_find-read set (5 ∷ 9 ∷ []) found found step (λ p. refl) is fits
 

@@ -3,7 +3,7 @@ use Rattle.std.proofs.Common.{◌≡◌, ◌≢◌, ◌%◌, ◌==◌, ◌∷◌
 use Rattle.bloom_parts.specs.Content.{content}
 use Rattle.bloom_steps.specs.declared.steps.vocabulary.Step.TheVariants.{Load, Or, And, Zero, Other}
 use Rattle.bloom_steps.specs.declared.steps.vocabulary.Call.{Call}
-use Rattle.bloom_steps.specs.declared.steps.vocabulary.Call.TheVariants.{Insert, Clear, Union, Intersect}
+use Rattle.bloom_steps.specs.declared.steps.vocabulary.Call.TheVariants.{Insert, Clear, Union, Intersect, Take}
 use Rattle.bloom_steps.specs.declared.steps.vocabulary.End.TheVariants.{Running}
 use Rattle.bloom_steps.specs.declared.steps.vocabulary.Record.TheVariants.{Began, Did}
 use Rattle.bloom_steps.specs.Interleavings.{CountsGains, count_below, found_off}
@@ -80,13 +80,18 @@ only-insert call other m party g =
 -- so they go by hashes
 twins-by_hash : EveryCall goes_by_hash twins.records
 twins-by_hash =
-    (by_hash twins.records).1
-    (only-insert Clear (λ e. cc), only-insert Union (λ e. cc), only-insert Intersect (λ e. cc))
+    (by_hash twins.records).1 (
+      only-insert Clear (λ e. cc),
+      only-insert Union (λ e. cc),
+      only-insert Intersect (λ e. cc),
+      only-insert Take (λ e. cc),
+    )
 
 -- and turn nothing off
 pub twins-grow : EveryCall turns_none_off twins.records
 twins-grow =
-    (growing twins.records).1 (only-insert Clear (λ e. cc), only-insert Intersect (λ e. cc))
+    (growing twins.records).1
+    (only-insert Clear (λ e. cc), only-insert Intersect (λ e. cc), only-insert Take (λ e. cc))
 
 -- one position gained is too few
 abbrev one_gained : Course

@@ -8,7 +8,7 @@ use Rattle.bloom_parts.specs.Content.{bit_is_on}
 use Rattle.bloom_parts.specs.Places.{are_in, place}
 use Rattle.bloom_steps.specs.declared.steps.vocabulary.End.{End}
 use Rattle.bloom_steps.specs.declared.steps.vocabulary.Call.{Call}
-use Rattle.bloom_steps.specs.declared.steps.vocabulary.Call.TheVariants.{Clear, Contains, Insert, Intersect, Union}
+use Rattle.bloom_steps.specs.declared.steps.vocabulary.Call.TheVariants.{Clear, Contains, Insert, Intersect, Take, Union}
 use Rattle.bloom_steps.specs.declared.steps.vocabulary.End.TheVariants.{Done}
 use Rattle.bloom_steps.specs.declared.steps.vocabulary.Record.TheVariants.{Did}
 use Rattle.bloom_parts.specs.Operations.{reply}
@@ -192,3 +192,5 @@ module _ (w k p : ℕ) (s : List Taken) (A : ℕ → Bool) (fits : Fits w A (did
       done-answer s (script_some w k Union s some_words some_hashes is) is.last
   call-answer Intersect other some_words some_hashes is =
       done-answer s (script_some w k Intersect s some_words some_hashes is) is.last
+  call-answer Take other some_words some_hashes is =
+      done-answer s (script_some w k Take s some_words some_hashes is) is.last

@@ -7,8 +7,9 @@ use Rattle.std.proofs.lemmas.Option.{slice_get_within}
 use Rattle.bloom_parts.specs.Content.{content}
 use Rattle.bloom_parts.specs.Places.{place, positions}
 use Rattle.bloom_steps.specs.declared.steps.vocabulary.Call.{Call}
-use Rattle.bloom_steps.specs.declared.steps.vocabulary.Call.TheVariants.{Clear, Contains, Insert, Intersect, Union}
+use Rattle.bloom_steps.specs.declared.steps.vocabulary.Call.TheVariants.{Clear, Contains, Insert, Intersect, Take, Union}
 use Rattle.bloom_steps.specs.declared.steps.vocabulary.Step.TheVariants.{And, Or, Zero}
+use Rattle.bloom_steps.specs.declared.steps.vocabulary.Step.TheVariants as step
 use Rattle.bloom_parts.specs.Operations.{decides}
 use Rattle.bloom_parts.proofs.PublishedLemmas.{position-from, position-to}
 use Rattle.bloom_steps.specs.Scripts.{IsScript, Taken, Each, ArePairs}
@@ -124,3 +125,4 @@ module _ (w k p : ℕ) (s : List Taken) (A : ℕ → Bool) where
   call-steps Clear q is f = words-steps Zero (plan_decides Clear) is.steps is.count q f
   call-steps Union q is f = pairs-make Or true (plan_decides Union) is.steps is.count q f
   call-steps Intersect q is f = pairs-make And false (plan_decides Intersect) is.steps is.count q f
+  call-steps Take q is f = words-steps step.Take (plan_decides Take) is.steps is.count q f

@@ -7,7 +7,7 @@ use Rattle.std.specs.Option.{option_or}
 use Rattle.bloom_parts.specs.Deciders.{last_decision}
 use Rattle.bloom_steps.specs.declared.steps.vocabulary.Record.{Record}
 use Rattle.bloom_steps.specs.declared.steps.vocabulary.Step.{Step}
-use Rattle.bloom_steps.specs.declared.steps.vocabulary.Step.TheVariants.{And, Load, Or, Other, Zero}
+use Rattle.bloom_steps.specs.declared.steps.vocabulary.Step.TheVariants.{And, Load, Or, Other, Take, Zero}
 use Rattle.bloom_steps.specs.Scripts.{Each, Taken}
 use Rattle.bloom_steps.specs.Steps.{after_records, record_decides, step_decides}
 use Rattle.bloom_steps.specs.Courses.{FindsWhatIsThere, IsWordOf, MayFind, did}
@@ -28,6 +28,7 @@ may_find-same A B (Or i m) found same f = is_word-same A B i found same f
 may_find-same A B (And i m) found same f = is_word-same A B i found same f
 may_find-same A B (Zero i) found same f = f
 may_find-same A B (Other i) found same f = f
+may_find-same A B (Take i) found same f = is_word-same A B i found same f
 
 -- records fit a set of w words: they find what is there, and past the words nothing is on
 pub record Fits (w : ℕ) (A : ℕ → Bool) (rs : List Record) : Type 0 where

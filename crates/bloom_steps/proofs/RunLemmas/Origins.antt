@@ -7,7 +7,7 @@ use Rattle.std.proofs.lemmas.Bool.{both_ways}
 use Rattle.std.proofs.lemmas.Option.{none-some}
 use Rattle.bloom_parts.specs.Places.{place}
 use Rattle.bloom_steps.specs.declared.steps.vocabulary.Call.{Call}
-use Rattle.bloom_steps.specs.declared.steps.vocabulary.Call.TheVariants.{Clear, Contains, Insert, Intersect, Union}
+use Rattle.bloom_steps.specs.declared.steps.vocabulary.Call.TheVariants.{Clear, Contains, Insert, Intersect, Take, Union}
 use Rattle.bloom_steps.specs.declared.steps.vocabulary.Record.{Record}
 use Rattle.bloom_steps.specs.declared.steps.vocabulary.Record.TheVariants.{Began, Did}
 use Rattle.bloom_steps.specs.declared.steps.vocabulary.Step.TheVariants.{Or, Other}
@@ -124,6 +124,8 @@ module _ (k : ℕ) (run : Course) (lawful : IsLawful k run)
       inr (found_by Or true q p s t (plan_decides Union).0 refl steps at e)
   origin q p Intersect s j t began steps at e =
       absurd (both_ways false refl (none_off began.0 p Intersect began.1))
+  origin q p Take s j t began steps at e =
+      absurd (both_ways false refl (none_off began.0 p Take began.1))
 
   -- what a record made on was so too
   pub origin_of : (q m : ℕ) (r : Record) → slice_get run.records m ≡ Some r

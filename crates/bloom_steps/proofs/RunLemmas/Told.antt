@@ -6,7 +6,7 @@ use Rattle.bloom_parts.specs.declared.error.FilterError.TheVariants.{Memory}
 use Rattle.bloom_steps.specs.declared.steps.runner.World.{World}
 use Rattle.bloom_steps.specs.declared.steps.vocabulary.Event.{Event}
 use Rattle.bloom_steps.specs.Courses.{Course, Follows, FollowsFrom, IsLawful}
-use Rattle.bloom_steps.specs.Interleavings.{ContainsTell, CountsGains, EndsWithAll, FindsInserted, InsertsTell}
+use Rattle.bloom_steps.specs.Interleavings.{ContainsTell, CountsGains, EndsWithAll, FindsInserted, InsertsTell, TakesLoseNothing}
 use Rattle.bloom_steps.specs.Sequences.{ActsAsCommands}
 use Rattle.bloom_steps.proofs.RunLemmas.Commands.{acts_as_commands}
 use Rattle.bloom_steps.proofs.RunLemmas.Contains.{contains_tell}
@@ -16,6 +16,7 @@ use Rattle.bloom_steps.proofs.RunLemmas.Gained.{counts_gains}
 use Rattle.bloom_steps.proofs.RunLemmas.Grows.{ends_with_all}
 use Rattle.bloom_steps.proofs.RunLemmas.Inserts.{inserts_tell}
 use Rattle.bloom_steps.proofs.RunLemmas.Lawful.{lawful_world}
+use Rattle.bloom_steps.proofs.RunLemmas.Taken.{takes_lose_nothing}
 
 -- the clauses of a run that wasn't refused
 abbrev pub TellsAll : ℕ → ℕ → List ℕ → List Event → Course → Type 0
@@ -28,6 +29,7 @@ TellsAll k parties words schedule run = record {
   found : FindsInserted k run;
   grows : EndsWithAll k run;
   gained : CountsGains run;
+  taken : TakesLoseNothing run;
   refused : IsOkUnless (Ok run) Memory;
 }
 
@@ -64,5 +66,6 @@ module _ (k parties : ℕ) (words : List ℕ) (schedule : List Event) (i : ℕ) 
         found = finds_inserted k course lawful some some_hashes;
         grows = ends_with_all k course lawful;
         gained = counts_gains k course lawful;
+        taken = takes_lose_nothing k course lawful;
         refused = tt;
       })

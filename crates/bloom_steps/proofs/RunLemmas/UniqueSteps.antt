@@ -9,7 +9,7 @@ use Rattle.bloom_steps.specs.declared.steps.vocabulary.Call.{Call}
 use Rattle.bloom_steps.specs.Plans.{EachPair, EachWord, LooksAt, Plan, TurnsOn, plan_of}
 use Rattle.bloom_steps.specs.declared.steps.vocabulary.End.TheVariants.{Answer}
 use Rattle.bloom_steps.specs.declared.steps.vocabulary.Step.{Step}
-use Rattle.bloom_steps.specs.declared.steps.vocabulary.Step.TheVariants.{And, Load, Or, Other, Zero}
+use Rattle.bloom_steps.specs.declared.steps.vocabulary.Step.TheVariants.{And, Load, Or, Other, Take, Zero}
 use Rattle.bloom_steps.specs.Scripts.{Any, IsLastEnd, IsScript, Taken, Fulfils}
 use Rattle.bloom_steps.specs.Courses.{IsWordOf, MayFind}
 use Rattle.bloom_steps.proofs.StepLemmas.Growing.{length-more}
@@ -48,6 +48,7 @@ found-same A given (Or i m) a b f g x y = word_there-same A i a b f g
 found-same A given (And i m) a b f g x y = word_there-same A i a b f g
 found-same A given (Zero i) a b f g x y = f ∙ sym g
 found-same A given (Other i) a b f g x y = x i refl ∙ sym (y i refl)
+found-same A given (Take i) a b f g x y = word_there-same A i a b f g
 
 -- steps that differ in the end of the last alone have found the same
 any_off-same : (w h : ℕ) (s : List Taken) (t u : Taken) → t.found ≡ u.found

@@ -9,7 +9,7 @@ use Rattle.bloom_steps.specs.declared.steps.vocabulary.End.{End}
 use Rattle.bloom_steps.specs.declared.steps.vocabulary.Record.{Record}
 use Rattle.bloom_steps.specs.declared.steps.vocabulary.Record.TheVariants.{Began, Did}
 use Rattle.bloom_steps.specs.declared.steps.vocabulary.Step.{Step}
-use Rattle.bloom_steps.specs.declared.steps.vocabulary.Step.TheVariants.{And, Load, Or, Other, Zero}
+use Rattle.bloom_steps.specs.declared.steps.vocabulary.Step.TheVariants.{And, Load, Or, Other, Take, Zero}
 use Rattle.bloom_steps.specs.declared.steps.machine.Machine.{Machine}
 use Rattle.bloom_steps.specs.Standing.{StandsAt, asks, end_of}
 use Rattle.bloom_steps.specs.Memories.{found_in, words_after}
@@ -57,6 +57,7 @@ may_find-read A words given found (Or i m) all e fits = is_word-read A words i f
 may_find-read A words given found (And i m) all e fits = is_word-read A words i found all e fits
 may_find-read A words given found (Zero i) all e fits = e
 may_find-read A words given found (Other i) all e fits = fits
+may_find-read A words given found (Take i) all e fits = is_word-read A words i found all e fits
 
 -- a world, and a party of it
 module _ (k : ℕ) (start words : List ℕ) (machines : List (Option Machine)) (rs : List Record)

@@ -12,7 +12,7 @@ use Rattle.bloom_steps.proofs.StepLemmas.Members.{some_member}
 use Rattle.bloom_steps.proofs.StepLemmas.Whole.{answer_of-last}
 
 -- one word, and one of the other filter
-abbrev memory : ℕ → Memory
+abbrev pub memory : ℕ → Memory
 memory word = record { words = word ∷ []; other = 5 ∷ [] }
 
 -- a load finds the word, and leaves it

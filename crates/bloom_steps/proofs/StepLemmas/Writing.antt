@@ -5,7 +5,7 @@ use Rattle.std.proofs.lemmas.List.{length-set}
 use Rattle.bloom_parts.specs.Content.{bit_is_on, content}
 use Rattle.bloom_parts.proofs.PublishedLemmas.{bit_is_on-and, bit_is_on-or, bit_is_on-zero}
 use Rattle.bloom_steps.specs.declared.steps.vocabulary.Step.{Step}
-use Rattle.bloom_steps.specs.declared.steps.vocabulary.Step.TheVariants.{And, Load, Or, Other, Zero}
+use Rattle.bloom_steps.specs.declared.steps.vocabulary.Step.TheVariants.{And, Load, Or, Other, Take, Zero}
 use Rattle.bloom_steps.specs.Memories.{Memory, MemoryLaw, words_after}
 use Rattle.bloom_steps.specs.Scripts.{Taken}
 use Rattle.bloom_steps.specs.Steps.{step_decides, word_index}
@@ -74,6 +74,8 @@ content-step words (And i mask) p within =
 content-step words (Zero i) p within =
     content-set words i 0 p (nat_eq (p / 64) i) (Some false) within refl (bit_is_on-zero p)
 content-step words (Other i) p within = refl
+content-step words (Take i) p within =
+    content-set words i 0 p (nat_eq (p / 64) i) (Some false) within refl (bit_is_on-zero p)
 
 -- a step keeps the number of words
 pub length-step : (words : List ℕ) (step : Step) → length (words_after words step) ≡ length words
@@ -82,6 +84,7 @@ length-step words (Or i mask) = length-set words i _
 length-step words (And i mask) = length-set words i _
 length-step words (Zero i) = length-set words i 0
 length-step words (Other i) = refl
+length-step words (Take i) = length-set words i 0
 
 -- steps in memory, one after the other
 pub memory_law : MemoryLaw

@@ -48,6 +48,7 @@ fn own_hash(call: Call) -> u64
         Call::Clear => 0,
         Call::Union => 0,
         Call::Intersect => 0,
+        Call::Take => 0,
     }
 }
 
@@ -105,6 +106,7 @@ impl Machine {
             Call::Clear => Step::Zero(self.turn),
             Call::Union => self.read_or(Step::Or(self.turn / 2, self.other)),
             Call::Intersect => self.read_or(Step::And(self.turn / 2, self.other)),
+            Call::Take => Step::Take(self.turn),
         })
     }
 
@@ -157,6 +159,9 @@ impl Machine {
                 self.other = found;
                 self.ended = turn == 2 * self.num_words;
             }
+            Call::Take => {
+                self.ended = turn == self.num_words;
+            }
         }
         self.turn = turn;
     }
@@ -182,6 +187,7 @@ impl Machine {
             Call::Clear => None,
             Call::Union => None,
             Call::Intersect => None,
+            Call::Take => None,
         }
     }
 

@@ -7,6 +7,7 @@ ghost use Rattle.bloom_steps.specs.Steps.{word_index};
 use super::store::WordStore;
 use super::vocabulary::Step;
 use std::marker::Model;
+use std::mem;
 
 /// The words of a filter and of the other, for one owner. Contracts see both lists.
 #[derive(Debug, Drop)]
@@ -97,5 +98,6 @@ pub(super) fn make_step(words: &mut Vec<u64>, given: u64, step: Step) -> u64
             0
         }
         Step::Other(_) => given,
+        Step::Take(i) => mem::take(&mut words[i]),
     }
 }

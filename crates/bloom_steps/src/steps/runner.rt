@@ -1,7 +1,7 @@
 //! The steps of many calls, in any order.
 ghost use Rattle.std.specs.Prelude.{◌≡◌, ◌+◌, ◌≤◌, ◌<◌, ◌^◌, [], length, vec_len, vec_capacity, IfOk, IsOkUnless};
 ghost use Rattle.bloom_steps.specs.declared.steps.vocabulary.Event.TheVariants.{Begin, Go};
-ghost use Rattle.bloom_steps.specs.Interleavings.{InsertsTell, ContainsTell, FindsInserted, EndsWithAll, CountsGains};
+ghost use Rattle.bloom_steps.specs.Interleavings.{InsertsTell, ContainsTell, FindsInserted, EndsWithAll, CountsGains, TakesLoseNothing};
 ghost use Rattle.bloom_steps.specs.Sequences.{ActsAsCommands};
 ghost use Rattle.bloom_steps.specs.Courses.{IsLawful, Follows};
 ghost use Rattle.bloom_steps.specs.Worlds.{IsWorldOf, Happens, slot_runs};
@@ -51,6 +51,8 @@ pub fn run(
     // A growing run ends alike in any order, and each position is turned on once.
     ensures grows { IfOk result (λ course. EndsWithAll num_hashes course) }
     ensures gained { IfOk result (λ course. CountsGains course) }
+    // Taking the words out loses no position.
+    ensures taken { IfOk result (λ course. TakesLoseNothing course) }
     ensures refused { IsOkUnless result FilterError.Memory }
 {
     let mut world = prepare(alloc, words, num_hashes, parties, schedule.len())?;

@@ -13,6 +13,8 @@ pub enum Step {
     Zero(usize),
     /// Reads a word of the other filter.
     Other(usize),
+    /// Turns off a whole word, and finds it as it was.
+    Take(usize),
 }
 
 /// A call on a filter.
@@ -28,6 +30,8 @@ pub enum Call {
     Union,
     /// Turns off what is off in the other filter.
     Intersect,
+    /// Turns off every position, and finds what was on.
+    Take,
 }
 
 /// What a schedule asks of a run.

@@ -5,7 +5,7 @@ ghost use Rattle.std.specs.Iterator.{IsFiniteIterable};
 ghost use Rattle.std.specs.Iterator.Runs.{WholeRun};
 ghost use Rattle.bloom_steps.specs.declared.steps.vocabulary.Call.TheVariants.{Contains};
 ghost use Rattle.fastbloom.specs.Shared.{MakesCall, MakesInsert, MakesInserts};
-ghost use Rattle.fastbloom.specs.SourceHash.{source_hash_of, lent_hash_of, IsFunctionOfBytes};
+ghost use Rattle.bloom_plain.specs.SourceHash.{source_hash_of, lent_hash_of, IsFunctionOfBytes};
 
 use super::AtomicBloomFilter;
 use std::hash::{BuildHasher, Hash, Hasher};

@@ -58,6 +58,7 @@ impl<'a> WordStore for LiveStore<'a> {
                 0
             }
             Step::Other(word) => self.other.load(word),
+            Step::Take(word) => self.words.swap_zero(word),
         }
     }
 }

@@ -1,14 +1,16 @@
 //! The words of a shared filter, each as it is read.
-ghost use Rattle.std.specs.Prelude.{◌≡◌, ◌⊎◌, ◌+◌, ◌*◌, ◌≤◌, IfOk, IsOkUnless};
+ghost use Rattle.std.specs.Prelude.{◌≡◌, ◌⊎◌, ◌+◌, ◌*◌, ◌≤◌, length, IfOk, IsOkUnless};
 ghost use Rattle.std.specs.Bool.{MatchBool};
 ghost use Rattle.bloom_parts.specs.Brackets.{low_of, high_of, width_of, HoldsRate, rate_low, rate_high};
-ghost use Rattle.fastbloom.specs.Shared.{HaveSameShape, WereFoundAlike, WereFoundToDiffer};
+ghost use Rattle.fastbloom.specs.Shared.{HaveSameShape, TakesWords, WereFoundAlike, WereFoundToDiffer};
 
 use super::AtomicBloomFilter;
-use crate::bloom::expected_rate;
+use super::keeping_store::KeepingStore;
 use bloom_parts::bit_vector::{AtomicBitVec, AtomicWords};
 use bloom_parts::error::FilterError;
 use bloom_parts::math::Bracket;
+use bloom_plain::expected_rate;
+use bloom_steps::{Call, drive};
 use std::alloc::Global;
 
 impl<S> AtomicBloomFilter<S> {
@@ -35,6 +37,22 @@ impl<S> AtomicBloomFilter<S> {
             }
         }
         true
+    }
+
+    /// Takes the words out, word 0 first: each is read and turned off by one operation, so no bit
+    /// that another thread turns on meanwhile is lost. It is either taken or still there.
+    ///
+    /// # Errors
+    /// `Memory` where there is no room for the words, before any is touched.
+    pub fn take_words(&self, alloc: Global) -> Result<Vec<u64>, FilterError>
+        ensures taken { IfOk result (λ words. TakesWords self.now words.items) }
+        ensures count { IfOk result (λ words. length words.items ≡ self.now.words.count) }
+        ensures refused { IsOkUnless result FilterError.Memory }
+    {
+        let kept = vec![in alloc; 0u64; self.words.len()]?;
+        let mut store = KeepingStore::new(&self.words, kept);
+        drive(&mut store, Call::Take, self.num_hashes);
+        Ok(store.into_kept())
     }
 
     /// The rate of false positives to expect once `num_items` items are in the filter.

@@ -1,5 +1,5 @@
 //! Builders of filters that threads share, from words.
-ghost use Rattle.std.specs.Prelude.{◌≡◌, ◌<◌, length, replicate, vec_len, IfOk, IsOkUnless, max, nat_eq};
+ghost use Rattle.std.specs.Prelude.{◌≡◌, ◌<◌, ◌≤◌, ◌^◌, length, replicate, vec_len, IfOk, IsOkUnless, max, nat_eq};
 ghost use Rattle.std.specs.Result.{result_err};
 ghost use Rattle.std.specs.Int.{w128, to_be_bytes};
 ghost use Rattle.std.specs.Iterator.{IsFiniteIterable, items_left};
@@ -7,16 +7,16 @@ ghost use Rattle.std.specs.Iterator.Runs.{WholeRun};
 ghost use Rattle.std.specs.Cmp.Lexicographic.{nat_list_eq_equiv};
 ghost use Rattle.std.specs.Cmp.{on_equiv, partial_equiv_from_equiv};
 ghost use Rattle.bloom_parts.specs.Keys.{HasKey, key_low, key_high};
-ghost use Rattle.fastbloom.specs.Builders.{words_for, words_refusal, bits_refusal, RefusesAs, sized_filter, same_start};
+ghost use Rattle.bloom_plain.specs.Builders.{words_for, words_refusal, bits_refusal, RefusesAs, sized_filter, same_start};
 ghost use Rattle.fastbloom.specs.Shared.{HasFormOf, MakesInserts};
-ghost use Rattle.fastbloom.specs.SourceHash.{lent_hash_of};
+ghost use Rattle.bloom_plain.specs.SourceHash.{lent_hash_of};
 
-use super::{BuilderWithBits, num_hashes_for};
 use crate::atomic::AtomicBloomFilter;
-use crate::bloom::BloomFilter;
-use bloom_parts::bit_vector::AtomicBitVec;
+use bloom_parts::bit_vector::{AtomicBitVec, BitVec};
 use bloom_parts::error::FilterError;
 use bloom_parts::hasher::DefaultHasher;
+use bloom_plain::BloomFilter;
+use bloom_plain::builder::{BuilderWithBits, bits_and_hasher, num_hashes_for};
 use std::alloc::Global;
 use std::hash::{BuildHasher, Hash};
 use std::marker::Model;
@@ -29,13 +29,31 @@ pub struct AtomicBuilderWithBits<S = DefaultHasher> {
 }
 
 impl<S> Model for AtomicBuilderWithBits<S> {
-    ghost use Rattle.fastbloom.specs.Builders.{Start, start_code};
+    ghost use Rattle.bloom_plain.specs.Builders.{Start, start_code};
 
     ghost Value = { Start S };
 
     ghost coded = { start_code S.code };
 
     ghost view = { λ b. b.plain };
+}
+
+// The filter whose words begin as these bits. No hashes count as one.
+fn filter_of<S: Drop>(
+    alloc: Global,
+    bits: &BitVec,
+    num_hashes: u32,
+    hasher: S,
+) -> Result<AtomicBloomFilter<S>, FilterError>
+    requires some { 1 ≤ length bits.now }
+    requires few { length bits.now < 2 ^ 58 }
+    ensures words { IfOk result (λ filter. filter.words.count ≡ length bits.now) }
+    ensures hashes { IfOk result (λ filter. filter.hashes ≡ max 1 num_hashes) }
+    ensures hasher { IfOk result (λ filter. filter.hasher ≡ hasher) }
+    ensures refused { IsOkUnless result FilterError.Memory }
+{
+    let words = AtomicBitVec::from_words(alloc, bits.as_slice().iter().copied())?;
+    Ok(AtomicBloomFilter::from_parts(words, num_hashes, hasher))
 }
 
 impl AtomicBloomFilter {
@@ -107,9 +125,8 @@ impl<S: Drop> AtomicBuilderWithBits<S> {
         ensures hasher { IfOk result (λ filter. filter.hasher ≡ self.hasher) }
         ensures refused { IsOkUnless result FilterError.Memory }
     {
-        let BuilderWithBits { bits, hasher } = self.plain;
-        let words = AtomicBitVec::from_words(alloc, bits.as_slice().iter().copied())?;
-        Ok(AtomicBloomFilter::from_parts(words, num_hashes, hasher))
+        let (bits, hasher) = bits_and_hasher(self.plain);
+        filter_of(alloc, &bits, num_hashes, hasher)
     }
 
     /// The filter with as many hashes as suit its bits and this many items, where 0 counts as 1.
@@ -125,8 +142,9 @@ impl<S: Drop> AtomicBuilderWithBits<S> {
             HasFormOf filter (sized_filter self expected_items)) }
         ensures refused { IsOkUnless result FilterError.Memory }
     {
-        let num_hashes = num_hashes_for(self.plain.bits.num_bits(), expected_items);
-        self.hashes(alloc, num_hashes)
+        let (bits, hasher) = bits_and_hasher(self.plain);
+        let num_hashes = num_hashes_for(bits.num_bits(), expected_items);
+        filter_of(alloc, &bits, num_hashes, hasher)
     }
 }
 

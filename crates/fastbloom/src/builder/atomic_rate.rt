@@ -7,17 +7,19 @@ ghost use Rattle.std.specs.Iterator.Runs.{WholeRun};
 ghost use Rattle.std.specs.Cmp.{on_equiv, partial_equiv_from_equiv};
 ghost use Rattle.bloom_parts.specs.Keys.{HasKey, key_low, key_high};
 ghost use Rattle.bloom_parts.specs.RateLaws.{same_rate-laws};
-ghost use Rattle.fastbloom.specs.Builders.{words_for, size_refusal, RefusesAs, IsSizeOf, same_rate_start};
+ghost use Rattle.bloom_plain.specs.Builders.{words_for, size_refusal, RefusesAs, IsSizeOf, same_rate_start};
 ghost use Rattle.fastbloom.specs.Shared.{HasFormFor, MakesInserts};
-ghost use Rattle.fastbloom.specs.SourceHash.{lent_hash_of};
+ghost use Rattle.bloom_plain.specs.SourceHash.{lent_hash_of};
 
-use super::{BuilderWithFalsePositiveRate, num_hashes_for, num_words_for};
 use crate::atomic::AtomicBloomFilter;
-use crate::bloom::BloomFilter;
 use bloom_parts::bit_vector::AtomicBitVec;
 use bloom_parts::error::FilterError;
 use bloom_parts::hasher::DefaultHasher;
 use bloom_parts::math::{Rate, optimal_size};
+use bloom_plain::BloomFilter;
+use bloom_plain::builder::{
+    BuilderWithFalsePositiveRate, num_hashes_for, num_words_for, rate_and_hasher,
+};
 use std::alloc::Global;
 use std::hash::{BuildHasher, Hash};
 use std::iter::repeat_n;
@@ -30,7 +32,7 @@ pub struct AtomicBuilderWithFalsePositiveRate<S = DefaultHasher> {
 }
 
 impl<S> Model for AtomicBuilderWithFalsePositiveRate<S> {
-    ghost use Rattle.fastbloom.specs.Builders.{RateStart};
+    ghost use Rattle.bloom_plain.specs.Builders.{RateStart};
 
     ghost Value = { RateStart S };
 
@@ -98,7 +100,7 @@ impl<S: Drop> AtomicBuilderWithFalsePositiveRate<S> {
         ensures refused { (bits : ℕ) × IsSizeOf self expected_items bits
             × RefusesAs (size_refusal bits) (result_err result) }
     {
-        let (rate, hasher) = self.plain.into_parts();
+        let (rate, hasher) = rate_and_hasher(self.plain);
         let size = optimal_size(expected_items.max(1), rate)?;
         let words = zero_words(alloc, size)?;
         let num_hashes = num_hashes_for(words.num_bits(), expected_items);

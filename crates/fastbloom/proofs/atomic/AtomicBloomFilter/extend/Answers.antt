@@ -1,4 +1,4 @@
-use Rattle.fastbloom.specs.SourceHash.{source_hash_of}
+use Rattle.bloom_plain.specs.SourceHash.{source_hash_of}
 use Rattle.fastbloom.proofs.InsertedLemmas.{made_inserts-next, made_inserts-whole}
 use Rattle.fastbloom.proofs.atomic.AtomicBloomFilter.extend.Goals as goal
 

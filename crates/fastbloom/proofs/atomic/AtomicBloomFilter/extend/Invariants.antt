@@ -1,5 +1,5 @@
 use Rattle.fastbloom.specs.Shared.{MakesInserts}
-use Rattle.fastbloom.specs.SourceHash.{source_hash_of}
+use Rattle.bloom_plain.specs.SourceHash.{source_hash_of}
 use Rattle.fastbloom.proofs.atomic.AtomicBloomFilter.extend.Given as goal
 
 -- the items so far were inserted

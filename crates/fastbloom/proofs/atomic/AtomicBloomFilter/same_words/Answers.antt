@@ -7,8 +7,10 @@ pub words-preserved : goal.words-preserved
 words-preserved g c =
     let at = c.words.word in
     let here = subst (λ f. FoundByLoad f.words at c.load.result) c.self.view_is c.load.ensures in
-    let there = subst (λ f. FoundByLoad f.words at c.load-in-words.result) c.other.view_is c.load-in-words.ensures in
-    below-next _ at c.words.invariant (c.load.result, here, subst (FoundByLoad _ at) (search rules) there)
+    let found = c.load-in-words.result in
+    let there = subst (λ f. FoundByLoad f.words at found) c.other.view_is c.load-in-words.ensures in
+    below-next _ at c.words.invariant
+    (c.load.result, here, subst (FoundByLoad _ at) (search rules) there)
 
 pub returns : goal.returns
 returns g c =

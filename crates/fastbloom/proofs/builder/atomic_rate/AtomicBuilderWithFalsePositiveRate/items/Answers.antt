@@ -1,6 +1,6 @@
 use Rattle.std.proofs.Common.{subst}
 use Rattle.fastbloom.specs.Shared.{HasFormFor}
-use Rattle.fastbloom.specs.SourceHash.{lent_hash_of}
+use Rattle.bloom_plain.specs.SourceHash.{lent_hash_of}
 use Rattle.fastbloom.proofs.InsertedLemmas.{made_inserts-same}
 use Rattle.fastbloom.proofs.builder.atomic_rate.AtomicBuilderWithFalsePositiveRate.items.Goals as goal
 

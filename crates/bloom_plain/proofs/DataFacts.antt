@@ -1,0 +1,79 @@
+-- Data of filters: cases that hold, and cases that nearly do. A form is given by what is seen of
+-- it.
+use Rattle.std.proofs.Common.{◌≡◌, ℕ, Some, None, [], ◌∷◌, refl, arith, ap}
+use Rattle.std.specs.Prelude.{vec_len}
+use Rattle.bloom_parts.specs.declared.error.FilterError.TheVariants.{EmptyWords, TooManyWords, HashCount}
+use Rattle.bloom_parts.specs.Keys.{key_of}
+use Rattle.bloom_plain.specs.Data.{DefaultFilter, IsDataOf, data_refusal}
+use Rattle.bloom_plain.specs.declared.bloom.data.FilterData.{FilterData}
+
+-- how many words a form has, and its number of hashes less one
+record Shows (form : FilterData) (w n : ℕ) : Type 0 where
+  pub words : vec_len form.bits.bits ≡ w
+  pub hashes : form.num_hashes_minus_one ≡ n
+
+-- no words come first, even where there are too many hashes too
+no-words : (form : FilterData) → Shows form 0 4294967295 → data_refusal form ≡ Some EmptyWords
+no-words form shows = rw shows.words refl
+
+-- then too many words
+too-many-words : (form : FilterData) → Shows form 288230376151711744 4294967295
+    → data_refusal form ≡ Some TooManyWords
+too-many-words form shows = rw shows.words refl
+
+-- then too many hashes
+too-many-hashes : (form : FilterData) → Shows form 1 4294967295
+    → data_refusal form ≡ Some HashCount
+too-many-hashes form shows = rw (shows.words, shows.hashes) refl
+
+-- the most words and hashes are good
+most : (form : FilterData) → Shows form 288230376151711743 4294967294 → data_refusal form ≡ None
+most form shows = rw (shows.words, shows.hashes) refl
+
+-- and so are the fewest
+fewest : (form : FilterData) → Shows form 1 0 → data_refusal form ≡ None
+fewest form shows = rw (shows.words, shows.hashes) refl
+
+-- word 5, two hashes, and the key of seed 42
+record IsFive (form : FilterData) : Type 0 where
+  pub words : form.bits.bits.items ≡ 5 ∷ []
+  pub hashes : form.num_hashes_minus_one ≡ 1
+  pub low : form.k0 ≡ 0
+  pub high : form.k1 ≡ 3026418949592973312
+
+-- a filter of these words and hashes, under some key
+record IsFilter (f : DefaultFilter) (word k low high : ℕ) : Type 0 where
+  pub words : f.words ≡ word ∷ []
+  pub hashes : f.hashes ≡ k
+  pub key : key_of f.hasher ≡ (low, high)
+
+-- is of the form that has one hash less
+five : (form : FilterData) (f : DefaultFilter) → IsFive form
+    → IsFilter f 5 2 0 3026418949592973312 → IsDataOf form f
+five form f is of = record {
+  words = rw is.words of.words;
+  hashes = rw is.hashes of.hashes;
+  key = rw (is.low, is.high) of.key;
+}
+
+-- not where it has as many
+five-hashes : (form : FilterData) (f : DefaultFilter) → IsFive form
+    → IsFilter f 5 1 0 3026418949592973312 → IsDataOf form f → ⊥
+five-hashes form f is of same = omega (arith, is.hashes, of.hashes, same.hashes)
+
+-- not with another word
+five-word : (form : FilterData) (f : DefaultFilter) → IsFive form
+    → IsFilter f 6 2 0 3026418949592973312 → IsDataOf form f → ⊥
+five-word form f is of same =
+    let a = is.words in
+    let b = of.words in
+    let c = same.words in
+    cc
+
+-- not with the words of the key swapped
+five-key : (form : FilterData) (f : DefaultFilter) → IsFive form
+    → IsFilter f 5 2 3026418949592973312 0 → IsDataOf form f → ⊥
+five-key form f is of same =
+    let low = ap (λ (k : ℕ × ℕ). k.0) of.key in
+    let key = ap (λ (k : ℕ × ℕ). k.0) same.key in
+    omega (arith, is.low, low, key)

@@ -1,0 +1,35 @@
+-- Filters of the same data.
+use Rattle.std.proofs.Common.{◌≡◌, ◌∙◌, ◌*◌, ℕ, length, ap, arith, sym}
+use Rattle.bloom_parts.specs.Content.{content}
+use Rattle.bloom_parts.specs.Keys.{HasKey}
+use Rattle.bloom_parts.specs.Places.{are_in}
+use Rattle.bloom_parts.specs.declared.hasher.CloneBuildHasher.{CloneBuildHasher}
+use Rattle.bloom_parts.specs.declared.hasher.sip.RandomDefaultHasher.{RandomDefaultHasher}
+use Rattle.bloom_plain.specs.Data.{DataLaw, SameItemsLaw}
+
+-- filters of the same data answer alike
+pub data_law : DataLaw
+data_law f g form of made =
+    let words = made.words ∙ sym of.words in
+    let hashes : g.hashes ≡ f.hashes = omega (arith, made.hashes, of.hashes) in
+    record {
+      words = words;
+      hashes = hashes;
+      key = made.key ∙ sym of.key;
+      found = λ hash.
+          ap (λ w. are_in (64 * length w) g.hashes hash (content w)) words
+          ∙ ap (λ k. are_in (64 * length f.words) k hash (content f.words)) hashes;
+    }
+
+-- hashers of one key, under which an item has one hash, are alike to items
+pub same_items_law : {T : Type 0} (hash_of : CloneBuildHasher RandomDefaultHasher → T → ℕ)
+    (by_key : ℕ → ℕ → T → ℕ)
+    → ((b : CloneBuildHasher RandomDefaultHasher) (k0 k1 : ℕ) (item : T) → HasKey b k0 k1
+    → hash_of b item ≡ by_key k0 k1 item)
+    → SameItemsLaw hash_of
+same_items_law hash_of by_key keyed f g form k0 k1 has of made item =
+    let low : form.k0 ≡ k0 = sym (ap (λ (k : ℕ × ℕ). k.0) of.key) ∙ has.low in
+    let high : form.k1 ≡ k1 = sym (ap (λ (k : ℕ × ℕ). k.1) of.key) ∙ has.high in
+    keyed g.hasher form.k0 form.k1 item made
+    ∙ ap (λ k. by_key k form.k1 item) low ∙ ap (λ k. by_key k0 k item) high
+    ∙ sym (keyed f.hasher k0 k1 item has)

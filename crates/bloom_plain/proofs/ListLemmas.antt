@@ -1,0 +1,171 @@
+-- Lists of commands, one after the other.
+use Rattle.std.proofs.Common.{◌≡◌, ℕ, ◌+◌, ◌*◌, ◌<◌, Bool, List, [], ◌∷◌, ◌++◌, length, take, get_or, map, Option, Some, None, unwrap_or, refl, sym, ◌∙◌, ap, subst, append-nil, append_assoc}
+use Rattle.std.specs.Option.{option_or}
+use Rattle.std.specs.Prelude.{option_to_list}
+use Rattle.std.proofs.lemmas.List.{map-append, take_more}
+use Rattle.std.specs.Iterator.{Yields}
+use Rattle.std.specs.Iterator.Runs.{WholeRun}
+use Rattle.std.proofs.iter.runs.Made.{run_of_exit}
+use Rattle.bloom_parts.specs.Content.{content}
+use Rattle.bloom_parts.specs.Deciders.{Decider, last_decision, state}
+use Rattle.bloom_parts.specs.Operations.{Operation, Insert, decides, state_after, reply}
+use Rattle.bloom_plain.specs.Filter.{Filter, SameShape, num_bits_of}
+use Rattle.bloom_plain.specs.Replies.{CarriesOut, InsertsItems, replies, replies_after}
+
+-- of three decisions, whichever two come first
+option_or-assoc : {T : Type 0} (a b c : Option T)
+    → option_or (option_or a b) c ≡ option_or a (option_or b c)
+option_or-assoc None b c = refl
+option_or-assoc (Some x) b c = refl
+
+-- no decision changes nothing
+option_or-none : {T : Type 0} (a : Option T) → option_or a None ≡ a
+option_or-none None = refl
+option_or-none (Some x) = refl
+
+-- a decision is carried out on what an earlier one made
+unwrap_or-or : {T : Type 0} (a b : Option T) (x : T)
+    → unwrap_or (option_or a b) x ≡ unwrap_or a (unwrap_or b x)
+unwrap_or-or None b x = refl
+unwrap_or-or (Some y) b x = refl
+
+-- the later of two lists of deciders decides first
+last_decision-append : (ds es : List Decider) (p : ℕ)
+    → last_decision (ds ++ es) p ≡ option_or (last_decision es p) (last_decision ds p)
+last_decision-append [] es p = sym (option_or-none (last_decision es p))
+last_decision-append (d ∷ ds) es p =
+    ap (λ o. option_or o (d p)) (last_decision-append ds es p)
+    ∙ option_or-assoc (last_decision es p) (last_decision ds p) (d p)
+
+module _ (n k : ℕ) where
+  -- the set after two lists of commands
+  pub state_after-append : (A : ℕ → Bool) (xs ys : List Operation)
+      → state_after n k A (xs ++ ys) ≡ state_after n k (state_after n k A xs) ys
+  state_after-append A xs ys = λ i p.
+      let first = map (decides n k) xs in
+      let second = map (decides n k) ys in
+      (ap (λ ds. state A ds p) (map-append (decides n k) xs ys)
+      ∙ ap (λ o. unwrap_or o (A p)) (last_decision-append first second p)
+      ∙ unwrap_or-or (last_decision second p) (last_decision first p) (A p)) i
+
+  -- commands that were carried out before may count as a set
+  replies_after-start : (A : ℕ → Bool) (xs earlier ys : List Operation)
+      → replies_after n k A (xs ++ earlier) ys
+      ≡ replies_after n k (state_after n k A xs) earlier ys
+  replies_after-start A xs earlier [] = refl
+  replies_after-start A xs earlier (y ∷ ys) =
+      ap (λ B. option_to_list (reply n k B y) ++ replies_after n k A ((xs ++ earlier) ++ y ∷ []) ys)
+      (state_after-append A xs earlier)
+      ∙ ap (λ l. option_to_list (reply n k (state_after n k (state_after n k A xs) earlier) y) ++ l)
+      (ap (λ l. replies_after n k A l ys) (append_assoc xs earlier (y ∷ []))
+      ∙ replies_after-start A xs (earlier ++ y ∷ []) ys)
+
+  -- the replies of two lists of commands that come after earlier ones
+  replies_after-append : (A : ℕ → Bool) (earlier xs ys : List Operation)
+      → replies_after n k A earlier (xs ++ ys)
+      ≡ replies_after n k A earlier xs ++ replies_after n k A (earlier ++ xs) ys
+  replies_after-append A earlier [] ys =
+      ap (λ l. replies_after n k A l ys) (sym (append-nil earlier))
+  replies_after-append A earlier (x ∷ xs) ys =
+      let first = option_to_list (reply n k (state_after n k A earlier) x) in
+      let middle = replies_after n k A (earlier ++ x ∷ []) xs in
+      ap (λ l. first ++ l)
+      (replies_after-append A (earlier ++ x ∷ []) xs ys
+      ∙ ap (λ l. middle ++ replies_after n k A l ys) (append_assoc earlier (x ∷ []) xs))
+      ∙ sym (append_assoc first middle (replies_after n k A (earlier ++ x ∷ xs) ys))
+
+  -- the replies of two lists of commands
+  pub replies-append : (A : ℕ → Bool) (xs ys : List Operation)
+      → replies n k A (xs ++ ys) ≡ replies n k A xs ++ replies n k (state_after n k A xs) ys
+  replies-append A xs ys =
+      replies_after-append A [] xs ys
+      ∙ ap (λ l. replies n k A xs ++ l)
+      (ap (λ l. replies_after n k A l ys) (sym (append-nil xs)) ∙ replies_after-start A xs [] ys)
+
+-- what two lists do one after the other, their join does
+pub carries_out-append : {S : Type 0} (old mid new : Filter S) (xs ys : List Operation)
+    (r s : List Bool) → CarriesOut old xs mid r → CarriesOut mid ys new s
+    → CarriesOut old (xs ++ ys) new (r ++ s)
+carries_out-append old mid new xs ys r s first second =
+    let n = num_bits_of old in
+    let k = old.hashes in
+    let A = content old.words in
+    let start : content mid.words ≡ state_after n k A xs = λ i p. first.bits p i in
+    let same_shape : SameShape mid old =
+    record { words = sym first.shape.words; hashes = sym first.shape.hashes } in
+    record {
+      bits = λ p.
+          second.bits p
+          ∙ ap (λ w. state_after (64 * w) mid.hashes (content mid.words) ys p) same_shape.words
+          ∙ ap (λ h. state_after n h (content mid.words) ys p) same_shape.hashes
+          ∙ ap (λ B. state_after n k B ys p) start
+          ∙ sym (ap (λ B. B p) (state_after-append n k A xs ys));
+      answers =
+          ap (λ l. l ++ s) first.answers
+          ∙ ap (λ l. replies n k A xs ++ l)
+          (second.answers
+          ∙ ap (λ w. replies (64 * w) mid.hashes (content mid.words) ys) same_shape.words
+          ∙ ap (λ h. replies n h (content mid.words) ys) same_shape.hashes
+          ∙ ap (λ B. replies n k B ys) start)
+          ∙ sym (replies-append n k A xs ys);
+      shape = record {
+        words = first.shape.words ∙ second.shape.words;
+        hashes = first.shape.hashes ∙ second.shape.hashes;
+      };
+      hasher = second.hasher ∙ first.hasher;
+    }
+
+-- one more command, which the item at place i of a list says
+pub carries_out-next : {S C : Type 0} (says : C → Operation) (old mid new : Filter S)
+    (list : List C) (i : ℕ) (c : C) (r s given : List Bool) → i < length list → c ≡ get_or list i c
+    → CarriesOut old (map says (take i list)) mid r → CarriesOut mid (says c ∷ []) new s
+    → given ≡ r ++ s → CarriesOut old (map says (take (i + 1) list)) new given
+carries_out-next says old mid new list i c r s given within is first second all_given =
+    let taken : take (i + 1) list ≡ take i list ++ c ∷ [] =
+    take_more list i c within ∙ ap (λ x. take i list ++ x ∷ []) (sym is) in
+    let joined : map says (take (i + 1) list) ≡ map says (take i list) ++ says c ∷ [] =
+    ap (map says) taken ∙ map-append says (take i list) (c ∷ []) in
+    subst (λ l. CarriesOut old l new given) (sym joined)
+    (subst (CarriesOut old (map says (take i list) ++ says c ∷ []) new) (sym all_given)
+    (carries_out-append old mid new (map says (take i list)) (says c ∷ []) r s first second))
+
+module _ {S T : Type 0} (hash_of : S → T → ℕ) (old : Filter S) where
+  -- no item
+  pub inserts_items-none : InsertsItems hash_of old [] old
+  inserts_items-none = (
+    [],
+    record {
+      bits = λ p. refl;
+      answers = refl;
+      shape = record { words = refl; hashes = refl };
+      hasher = refl;
+    },
+  )
+
+  -- one more item: inserts keep the hasher, by which it is hashed
+  pub inserts_items-next : (mid new : Filter S) (items : List T) (item : T) (reply : Bool)
+      → InsertsItems hash_of old items mid
+      → CarriesOut mid (Insert (hash_of mid.hasher item) ∷ []) new (reply ∷ [])
+      → InsertsItems hash_of old (items ++ item ∷ []) new
+  inserts_items-next mid new items item reply did next =
+      let hash = hash_of old.hasher in
+      let inserts = map Insert (map hash items) in
+      let joined : map Insert (map hash (items ++ item ∷ []))
+      ≡ inserts ++ Insert (hash_of mid.hasher item) ∷ [] =
+      ap (map Insert) (map-append hash items (item ∷ []))
+      ∙ map-append Insert (map hash items) (hash item ∷ [])
+      ∙ ap (λ h. inserts ++ Insert (hash_of h item) ∷ []) (sym did.1.hasher) in (
+        did.0 ++ reply ∷ [],
+        subst (λ l. CarriesOut old l new (did.0 ++ reply ∷ [])) (sym joined)
+            (carries_out-append old mid new inserts (Insert (hash_of mid.hasher item) ∷ [])
+            did.0 (reply ∷ []) did.1 next),
+      )
+
+  -- when the iterator has ended, those were all its items
+  pub inserts_items-whole : {I : Type 0} (steps : I → Option T → I → Type 0) (start last end : I)
+      (items : List T) (new : Filter S) → Yields steps start items last → steps last None end
+      → InsertsItems hash_of old items new
+      → WholeRun steps start (λ run. InsertsItems hash_of old run.items new)
+  inserts_items-whole steps start last end items new came ended did =
+      let made = run_of_exit steps start items last came end ended in
+      (made.0, made.1, made.2, subst (λ l. InsertsItems hash_of old l new) (sym made.3.0) did)

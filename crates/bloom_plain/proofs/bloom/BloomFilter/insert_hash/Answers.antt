@@ -1,0 +1,20 @@
+use Rattle.std.proofs.Common.{refl, sym, subst}
+use Rattle.bloom_plain.specs.Filter.{Filter, Inserts}
+use Rattle.bloom_plain.proofs.ReplyLemmas.{carries_out-insert}
+use Rattle.bloom_plain.proofs.bloom.BloomFilter.insert_hash.Goals as goal
+
+pub returns-clause-inserts : goal.returns-clause-inserts
+returns-clause-inserts g c =
+    let did = c.insert_positions in
+    let inside = c.self.inside in
+    let new : Filter g.row.S.Denot =
+    record { words = did.new.bits; hashes = inside.num_hashes; hasher = inside.hasher } in
+    subst (λ old. Inserts old c.args.hash new did.result) c.self.view_is (record {
+      answers = did.ensures.reply;
+      bits = did.ensures.content;
+      shape = record { words = sym did.ensures.shape; hashes = refl };
+      hasher = refl;
+    })
+
+pub returns-clause-same : goal.returns-clause-same
+returns-clause-same g c = carries_out-insert _ _ _ _ (returns-clause-inserts g c)

@@ -1,0 +1,47 @@
+-- A filter with the default hasher as plain data (the fields are those of fastbloom 0.17.0 with
+-- serde; that the key stands as two words, and what is refused, is this project's choice).
+use Rattle.std.specs.Prelude.{◌≡◌, ℕ, ◌+◌, ◌-◌, ◌^◌, Option, Some, None, vec_len, nat_eq, nat_le, if◌then◌else◌}
+use Rattle.bloom_parts.specs.Keys.{HasKey, key_of}
+use Rattle.bloom_parts.specs.declared.error.FilterError.{FilterError}
+use Rattle.bloom_parts.specs.declared.error.FilterError.TheVariants.{EmptyWords, TooManyWords, HashCount}
+use Rattle.bloom_parts.specs.declared.hasher.CloneBuildHasher.{CloneBuildHasher}
+use Rattle.bloom_parts.specs.declared.hasher.sip.RandomDefaultHasher.{RandomDefaultHasher}
+use Rattle.bloom_plain.specs.declared.bloom.data.FilterData.{FilterData}
+use Rattle.bloom_plain.specs.Filter.{Filter, contains}
+
+-- a filter with the default hasher
+abbrev pub DefaultFilter : Type 0
+DefaultFilter = Filter (CloneBuildHasher RandomDefaultHasher)
+
+-- why data are refused, if they are, the first reason first
+abbrev pub data_refusal : FilterData → Option FilterError
+data_refusal form =
+    if nat_eq (vec_len form.bits.bits) 0 then Some EmptyWords
+    else if nat_le (2 ^ 58) (vec_len form.bits.bits) then Some TooManyWords
+    else if nat_eq form.num_hashes_minus_one (2 ^ 32 - 1) then Some HashCount
+    else None
+
+-- data and a filter have the same words, number of hashes and key
+pub record IsDataOf (form : FilterData) (f : DefaultFilter) : Type 0 where
+  pub words : f.words ≡ form.bits.bits.items
+  pub hashes : f.hashes ≡ form.num_hashes_minus_one + 1
+  pub key : key_of f.hasher ≡ (form.k0, form.k1)
+
+-- filters of the same data have equal words, numbers of hashes and keys, and answer hashes alike
+pub record AnswerAlike (f g : DefaultFilter) : Type 0 where
+  pub words : g.words ≡ f.words
+  pub hashes : g.hashes ≡ f.hashes
+  pub key : key_of g.hasher ≡ key_of f.hasher
+  pub found : (hash : ℕ) → contains g hash ≡ contains f hash
+
+-- what is made of a filter's data is such a filter
+abbrev pub DataLaw : Type 0
+DataLaw =
+    (f g : DefaultFilter) (form : FilterData) → IsDataOf form f → IsDataOf form g → AnswerAlike f g
+
+-- hashers with the keys of the same data are alike to items: each item has one source hash
+abbrev pub SameItemsLaw :
+    {T : Type 0} → (CloneBuildHasher RandomDefaultHasher → T → ℕ) → Type 0
+SameItemsLaw {T} hash_of =
+    (f g : DefaultFilter) (form : FilterData) (k0 k1 : ℕ) → HasKey f.hasher k0 k1 → IsDataOf form f
+    → HasKey g.hasher form.k0 form.k1 → (item : T) → hash_of g.hasher item ≡ hash_of f.hasher item

@@ -1,0 +1,142 @@
+-- Laws of filters, over what the contracts of the calls state. A hash may be any number.
+use Rattle.std.specs.Prelude.{◌≡◌, ◌↔◌, ℕ, ◌*◌, Bool, true, false, ◌||◌, ◌&&◌, max, IsTrue, List, ◌∷◌, ◌++◌, map, All, ⊤}
+use Rattle.bloom_parts.specs.Content.{content, AreWords}
+use Rattle.bloom_parts.specs.Places.{IsPart}
+use Rattle.bloom_parts.specs.Rates.{num_of, den_of}
+use Rattle.bloom_plain.specs.Builders.{Start, RateStart, same_start, same_rate_start}
+use Rattle.bloom_plain.specs.CommandOf.{operation_of}
+use Rattle.bloom_parts.specs.Operations.{Operation, Insert, Contains, Clear, Union, Intersect}
+use Rattle.bloom_plain.specs.Filter.{Filter, HasShape, SameShape, positions_of, contains, Inserts, Clears, Unites, Intersects, same_filter}
+use Rattle.bloom_plain.specs.Replies.{CarriesOut, InsertsAll}
+use Rattle.bloom_plain.specs.declared.bloom.command.Command.{Command}
+use Rattle.bloom_plain.specs.declared.bloom.command.Command.TheVariants as command
+
+-- an insert answers what a look-up would have, and afterwards the hash is contained
+abbrev pub InsertLaw : (S : Type 0) → Type 0
+InsertLaw S = (old new : Filter S) (hash : ℕ) (reply : Bool) → Inserts old hash new reply
+    → (reply ≡ contains old hash) × (contains new hash ≡ true)
+
+-- what is contained stays so under an insert
+abbrev pub KeptByInsertLaw : (S : Type 0) → Type 0
+KeptByInsertLaw S = (old new : Filter S) (inserted hash : ℕ) (reply : Bool)
+    → Inserts old inserted new reply → contains old hash ≡ true → contains new hash ≡ true
+
+-- what is contained stays so under a union
+abbrev pub KeptByUnionLaw : (S : Type 0) → Type 0
+KeptByUnionLaw S = (old other new : Filter S) (hash : ℕ) → Unites old other new
+    → contains old hash ≡ true → contains new hash ≡ true
+
+-- a command turns off no position of a set: it is no clear, and no intersection with what lacks one
+-- of them
+abbrev pub Spares : (ℕ → Bool) → Operation → Type 0
+Spares A (Insert hash) = ⊤
+Spares A (Contains hash) = ⊤
+Spares A Clear = ⊥
+Spares A (Union other) = ⊤
+Spares A (Intersect other) = IsPart A other
+
+-- what is contained stays so under a list of commands that spare its positions
+abbrev pub KeptByListLaw : (S : Type 0) → Type 0
+KeptByListLaw S = (old new : Filter S) (operations : List Operation) (hash : ℕ)
+    (replies : List Bool) → CarriesOut old operations new replies
+    → All (Spares (positions_of old hash)) operations
+    → contains old hash ≡ true → contains new hash ≡ true
+
+-- what is contained stays so under a list of inserts, as `insert_all` and `extend` make
+abbrev pub KeptByInsertsLaw : (S : Type 0) → Type 0
+KeptByInsertsLaw S = (old new : Filter S) (hashes : List ℕ) (hash : ℕ) → InsertsAll old hashes new
+    → contains old hash ≡ true → contains new hash ≡ true
+
+-- after an intersection a hash is contained exactly if both filters contained it
+abbrev pub IntersectionLaw : (S : Type 0) → Type 0
+IntersectionLaw S = (old other new : Filter S) (hash : ℕ)
+    → SameShape old other → Intersects old other new
+    → contains new hash ≡ (contains old hash && contains other hash)
+
+-- after a union a hash is contained if either filter contained it
+abbrev pub UnionLaw : (S : Type 0) → Type 0
+UnionLaw S = (old other new : Filter S) (hash : ℕ)
+    → SameShape old other → Unites old other new
+    → (contains old hash || contains other hash) ≡ true → contains new hash ≡ true
+
+-- after a clear no hash is contained, since a filter has at least one hash
+abbrev pub ClearLaw : (S : Type 0) → Type 0
+ClearLaw S = (old new : Filter S) (hash : ℕ) → HasShape old → Clears old new
+    → contains new hash ≡ false
+
+-- two filters have the same positions on
+abbrev pub SameContent : {S : Type 0} → Filter S → Filter S → Type 0
+SameContent f g = (p : ℕ) → content f.words p ≡ content g.words p
+
+-- a call that makes one filter of two, as the relation of both to what is made
+abbrev pub Combination : Type 0 → Type 1
+Combination S = Filter S → Filter S → Filter S → Type 0
+
+-- it makes the same content either way round
+abbrev pub IsCommutative : (S : Type 0) → Combination S → Type 0
+IsCommutative S M = (f g fg gf : Filter S) → M f g fg → M g f gf → SameContent fg gf
+
+-- of three it makes the same content, whichever two come first
+abbrev pub IsAssociative : (S : Type 0) → Combination S → Type 0
+IsAssociative S M = (f g h fg fg_h gh f_gh : Filter S)
+    → M f g fg → M fg h fg_h → M g h gh → M f gh f_gh → SameContent fg_h f_gh
+
+-- of a filter and itself it makes that filter's content
+abbrev pub IsIdempotent : (S : Type 0) → Combination S → Type 0
+IsIdempotent S M = (f made : Filter S) → M f f made → SameContent made f
+
+-- a filter was made of the words, the number of hashes and the hasher of another
+pub record Rebuilds {S : Type 0} (f made : Filter S) : Type 0 where
+  pub words : made.words ≡ f.words
+  pub hashes : made.hashes ≡ max 1 f.hashes
+  pub hasher : made.hasher ≡ f.hasher
+
+-- the filter made equals the other, which has at least one hash, and so answers every hash alike
+abbrev pub RebuiltLaw : (S : Type 0) → Type 0
+RebuiltLaw S = (f made : Filter S) → HasShape f → Rebuilds f made
+    → (made ≡ f) × ((hash : ℕ) → contains made hash ≡ contains f hash)
+
+-- filters are equal exactly if their words and numbers of hashes are, whatever their hashers
+abbrev pub EqualityLaw : (S : Type 0) → Type 0
+EqualityLaw S = (f g : Filter S)
+    → IsTrue (same_filter f g) ↔ ((f.words ≡ g.words) × (f.hashes ≡ g.hashes))
+
+-- filters of one shape, of words of 64 bits, are equal exactly if they have the same positions on
+abbrev pub EqualContentLaw : (S : Type 0) → Type 0
+EqualContentLaw S = (f g : Filter S) → AreWords f.words → AreWords g.words → SameShape f g
+    → IsTrue (same_filter f g) ↔ SameContent f g
+
+-- builders are equal exactly if their words are, whatever their hashers
+abbrev pub EqualStartsLaw : (S : Type 0) → Type 0
+EqualStartsLaw S = (a b : Start S) → IsTrue (same_start a b) ↔ (a.words ≡ b.words)
+
+-- builders of a rate are equal exactly if the cross products of their rates are
+abbrev pub EqualRateStartsLaw : (S : Type 0) → Type 0
+EqualRateStartsLaw S = (a b : RateStart S) → IsTrue (same_rate_start a b)
+    ↔ (num_of a.rate * den_of b.rate ≡ num_of b.rate * den_of a.rate)
+
+-- what two lists of commands do one after the other, one list of both does
+abbrev pub JoinedListsLaw : (S : Type 0) → Type 0
+JoinedListsLaw S = (old mid new : Filter S) (first second : List Operation)
+    (replies more : List Bool) → CarriesOut old first mid replies → CarriesOut mid second new more
+    → CarriesOut old (first ++ second) new (replies ++ more)
+
+-- a hash is found after commands that insert it and later spare its positions
+abbrev pub FoundLaw : (S : Type 0) → Type 0
+FoundLaw S = (old new : Filter S) (earlier later : List Operation) (hash : ℕ)
+    (replies : List Bool) → CarriesOut old (earlier ++ Insert hash ∷ later) new replies
+    → All (Spares (positions_of old hash)) later
+    → contains new hash ≡ true
+
+-- each hash of a list of inserts is contained after them
+abbrev pub FoundAfterInsertsLaw : (S : Type 0) → Type 0
+FoundAfterInsertsLaw S = (old new : Filter S) (earlier later : List ℕ) (hash : ℕ)
+    → InsertsAll old (earlier ++ hash ∷ later) new → contains new hash ≡ true
+
+-- a hash is found after a list that `replay` was given, where it was inserted and later spared
+abbrev pub FoundAfterReplayLaw : (S : Type 0) → Type 0
+FoundAfterReplayLaw S = (old new : Filter S) (earlier later : List (Command S))
+    (hash : ℕ) (replies : List Bool)
+    → CarriesOut old (map operation_of (earlier ++ command.Insert hash ∷ later)) new replies
+    → All (λ c. Spares (positions_of old hash) (operation_of c)) later
+    → contains new hash ≡ true

@@ -1,0 +1,97 @@
+//! The calls that take items: those of their source hashes.
+ghost use Rattle.std.specs.Prelude.{◌≡◌, ℕ, List, [], ◌∷◌, IsTrue};
+ghost use Rattle.std.specs.Iterator.{IsFiniteIterable};
+ghost use Rattle.std.specs.Iterator.Runs.{WholeRun};
+ghost use Rattle.std.specs.List.{concat};
+ghost use Rattle.bloom_parts.specs.Operations as operation;
+ghost use Rattle.bloom_plain.specs.Filter.{contains, Inserts};
+ghost use Rattle.bloom_plain.specs.Replies.{CarriesOut, InsertsItems};
+ghost use Rattle.bloom_plain.specs.SourceHash.{source_hash_of, lent_hash_of, IsFunctionOfBytes};
+
+use crate::bloom::BloomFilter;
+use std::hash::{BuildHasher, Hash, Hasher};
+
+impl<S: BuildHasher> BloomFilter<S> {
+    /// The source hash of an item: the answer of a fresh hasher to which the item was hashed.
+    #[inline]
+    pub fn source_hash<T: Hash>(&self, val: &T) -> u64
+        ensures hash { result
+            ≡ source_hash_of S.BuildHasher S.Hasher.Hasher T.hash_input self.now.hasher val.now }
+        // Where the hasher answers by a function of the bytes written, it is that of the item's.
+        ensures bytes { (f : List ℕ → ℕ)
+            → IsFunctionOfBytes S.Hasher.Hasher (S.build_hasher self.now.hasher) f
+            → result ≡ f (concat (T.hash_input val.now)) }
+        // An equal item has the same.
+        ensures alike { (other : T) → IsTrue (T.eq val.now other) → result
+            ≡ source_hash_of S.BuildHasher S.Hasher.Hasher T.hash_input self.now.hasher other }
+    {
+        let mut state = self.hasher.build_hasher();
+        val.hash(&mut state);
+        state.finish()
+    }
+
+    /// Turns on all positions of an item's source hash, and answers whether all were on before.
+    #[inline]
+    pub fn insert<T: Hash>(&mut self, val: &T) -> bool
+        ensures inserts { let hash = source_hash_of S.BuildHasher S.Hasher.Hasher T.hash_input in
+            Inserts self.old (hash self.old.hasher val.now) self.new result }
+        // The same, as a list of this one command.
+        ensures same { let hash = source_hash_of S.BuildHasher S.Hasher.Hasher T.hash_input in
+            CarriesOut self.old (operation.Insert (hash self.old.hasher val.now) ∷ [])
+            self.new (result ∷ []) }
+        // An equal item would have been inserted alike.
+        ensures alike { let hash = source_hash_of S.BuildHasher S.Hasher.Hasher T.hash_input in
+            (other : T) → IsTrue (T.eq val.now other)
+            → Inserts self.old (hash self.old.hasher other) self.new result }
+    {
+        let hash = self.source_hash(val);
+        self.insert_hash(hash)
+    }
+
+    /// Whether all positions of an item's source hash are on: false means it was never inserted.
+    #[inline]
+    pub fn contains<T: Hash>(&self, val: &T) -> bool
+        ensures found { let hash = source_hash_of S.BuildHasher S.Hasher.Hasher T.hash_input in
+            result ≡ contains self.now (hash self.now.hasher val.now) }
+        // The same, as a list of this one command.
+        ensures same { let hash = source_hash_of S.BuildHasher S.Hasher.Hasher T.hash_input in
+            CarriesOut self.now (operation.Contains (hash self.now.hasher val.now) ∷ [])
+            self.now (result ∷ []) }
+        // An equal item is found alike.
+        ensures alike { let hash = source_hash_of S.BuildHasher S.Hasher.Hasher T.hash_input in
+            (other : T) → IsTrue (T.eq val.now other)
+            → result ≡ contains self.now (hash self.now.hasher other) }
+    {
+        self.contains_hash(self.source_hash(val))
+    }
+
+    /// Inserts every item that an iterator lends, in order.
+    pub fn insert_all<'a, T: Hash + 'a, I: IntoIterator<Item = &'a T>>(&mut self, iter: I)
+        // The iterator ends.
+        requires { IsFiniteIterable
+            I.into_iter_gives I.IntoIter.can_next I.IntoIter.remaining iter }
+        ensures { (it : I.IntoIter) × I.into_iter_gives iter it
+            × WholeRun I.IntoIter.next_gives it (λ run.
+            InsertsItems (lent_hash_of S.BuildHasher S.Hasher.Hasher T.hash_input)
+            self.old run.items self.new) }
+    {
+        'lent: for item in iter {
+            self.insert(item);
+        }
+    }
+
+    /// Inserts every item that an iterator gives, in order.
+    pub fn extend<T: Hash + Drop, I: IntoIterator<Item = T>>(&mut self, iter: I)
+        // The iterator ends.
+        requires { IsFiniteIterable
+            I.into_iter_gives I.IntoIter.can_next I.IntoIter.remaining iter }
+        ensures { (it : I.IntoIter) × I.into_iter_gives iter it
+            × WholeRun I.IntoIter.next_gives it (λ run.
+            InsertsItems (source_hash_of S.BuildHasher S.Hasher.Hasher T.hash_input)
+            self.old run.items self.new) }
+    {
+        'given: for item in iter {
+            self.insert(&item);
+        }
+    }
+}

@@ -1,5 +1,0 @@
-use Rattle.fastbloom.proofs.LawLemmas.{insert_law}
-use Rattle.fastbloom.proofs.laws.insert_answers_contains.Goals as goal
-
-pub returns : goal.returns
-returns g c = insert_law _

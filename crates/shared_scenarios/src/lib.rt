@@ -1,0 +1,15 @@
+//! Tests of the filters that threads share: what no contract says, at values from outside.
+#![tactic(auto)]
+
+#[cfg(test)]
+mod builders;
+#[cfg(test)]
+mod by_hash;
+#[cfg(test)]
+mod filters;
+#[cfg(test)]
+mod items;
+#[cfg(test)]
+mod original;
+#[cfg(test)]
+mod threads;
