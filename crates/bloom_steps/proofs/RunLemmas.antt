@@ -12,6 +12,7 @@ pub mod Counting
 pub mod Events
 pub mod Follows
 pub mod Found
+pub mod Fronts
 pub mod Gained
 pub mod Grows
 pub mod Happens

@@ -57,14 +57,18 @@ abbrev pub did : ℕ → List Taken → List Record
 did party [] = []
 did party (t ∷ ts) = Did party t.step t.found t.ended ∷ did party ts
 
+-- the records of a call of a party: its beginning, and its steps
+abbrev pub call_records : ℕ → Call → List Taken → List Record
+call_records party call s = Began party call ∷ did party s
+
 -- call after call, each a whole script, the last perhaps a beginning
 pub data CallAfterCall (w k party : ℕ) : List Record → Type 0 where
   no_call : CallAfterCall w k party []
   begun_call : (call : Call) (s : List Taken) → IsBeginning w k call s
-      → CallAfterCall w k party (Began party call ∷ did party s)
+      → CallAfterCall w k party (call_records party call s)
   whole_call : (call : Call) (s : List Taken) (later : List Record) → IsScript w k call s
       → CallAfterCall w k party later
-      → CallAfterCall w k party (Began party call ∷ (did party s ++ later))
+      → CallAfterCall w k party (call_records party call s ++ later)
 
 -- a lawful course, of k hashes
 pub record IsLawful (k : ℕ) (run : Course) : Type 0 where

@@ -1,31 +1,29 @@
 -- What a run keeps while it goes on: a machine for each party, and words and records that agree.
-use Rattle.std.specs.Prelude.{ℕ, ◌^◌, ◌≤◌, ◌<◌, ◌≡◌, Bool, false, not, List, [], ◌∷◌, ◌++◌, length, Option, Some, None, slice_index_or}
+use Rattle.std.specs.Prelude.{ℕ, ◌^◌, ◌≤◌, ◌<◌, ◌≡◌, Bool, false, not, List, [], ◌++◌, length, Option, Some, None, slice_index_or}
 use Rattle.bloom_parts.specs.Content.{content}
 use Rattle.bloom_steps.specs.declared.steps.vocabulary.Call.{Call}
 use Rattle.bloom_steps.specs.declared.steps.vocabulary.Event.{Event}
 use Rattle.bloom_steps.specs.declared.steps.vocabulary.Record.{Record}
-use Rattle.bloom_steps.specs.declared.steps.vocabulary.Record.TheVariants.{Began}
 use Rattle.bloom_steps.specs.declared.steps.machine.Machine.{Machine}
 use Rattle.bloom_steps.specs.declared.steps.runner.World.{World}
 use Rattle.bloom_steps.specs.Steps.{after_records}
-use Rattle.bloom_steps.specs.Scripts.{Taken, IsScript}
+use Rattle.bloom_steps.specs.Scripts.{Taken}
 use Rattle.bloom_steps.specs.Standing.{StandsAt}
-use Rattle.bloom_steps.specs.Courses.{FindsWhatIsThere, records_of, did, Gives}
+use Rattle.bloom_steps.specs.Courses.{CallAfterCall, FindsWhatIsThere, Gives, call_records, records_of}
 
--- whole calls of a party, one after the other
-pub data WholeCalls (w k party : ℕ) : List Record → Type 0 where
-  no_calls : WholeCalls w k party []
-  one_more : (earlier : List Record) (call : Call) (s : List Taken) → WholeCalls w k party earlier
-      → IsScript w k call s → WholeCalls w k party (earlier ++ Began party call ∷ did party s)
+-- whole calls of a party, one after the other: call after call may come behind them
+abbrev pub AreWhole : ℕ → ℕ → ℕ → List Record → Type 0
+AreWhole w k party earlier = (later : List Record)
+    → CallAfterCall w k party later → CallAfterCall w k party (earlier ++ later)
 
 -- a machine stands where the steps of its party's newest call leave it
 pub record HasCalled (w k party : ℕ) (m : Machine) (records : List Record) : Type 0 where
   pub earlier : List Record
   pub call : Call
   pub taken : List Taken
-  pub before : WholeCalls w k party earlier
+  pub before : AreWhole w k party earlier
   pub stands : StandsAt m w k call taken
-  pub same : records ≡ earlier ++ Began party call ∷ did party taken
+  pub same : records ≡ earlier ++ call_records party call taken
 
 -- a party has made no call, or has a machine for its newest
 abbrev pub PartyAt : ℕ → ℕ → ℕ → Option Machine → List Record → Type 0

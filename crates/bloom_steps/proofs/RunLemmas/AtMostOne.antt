@@ -11,7 +11,7 @@ use Rattle.bloom_steps.specs.declared.steps.vocabulary.Record.TheVariants.{Did}
 use Rattle.bloom_steps.specs.declared.steps.vocabulary.Step.TheVariants.{Other}
 use Rattle.bloom_steps.specs.Scripts.{IsScript, Taken}
 use Rattle.bloom_steps.specs.Steps.{after_records}
-use Rattle.bloom_steps.specs.Courses.{AtMostOne, CallAfterCall, FindsWhatIsThere, FollowsFrom, Gives, TakesStep, MayFind, next_event, no_event, records_of, runs}
+use Rattle.bloom_steps.specs.Courses.{AtMostOne, CallAfterCall, Course, FindsWhatIsThere, Follows, FollowsFrom, IsLawful, Gives, TakesStep, MayFind, next_event, no_event, records_of, runs}
 use Rattle.bloom_steps.proofs.RunLemmas.NextSteps.{GoesAfter, goes_after, newest-same}
 use Rattle.bloom_steps.proofs.RunLemmas.PartyRecords.{records_of-append, records_of-mine}
 use Rattle.bloom_steps.proofs.RunLemmas.UniqueSteps.{end-same, found-same}
@@ -124,29 +124,47 @@ module _ (w k : ℕ) (A : ℕ → Bool) where
       ap (λ c. c ++ xs) same
       ∙ ap (λ c. b ++ c) (follows-same n (before ++ a) es xs ys f follows first second)
 
--- at most one course is lawful and follows a schedule, since words are fixed by their content
+-- two lawful courses that follow one schedule
+module _ (parties k : ℕ) (words : List ℕ) (schedule : List Event) (one other : Course)
+    (lawful : IsLawful k one) (lawful2 : IsLawful k other)
+    (follows : Follows parties words schedule one)
+    (follows2 : Follows parties words schedule other) where
+  -- begin alike
+  begins-same : one.start ≡ other.start
+  begins-same = follows.begins ∙ sym follows2.begins
+
+  -- record alike
+  records-same : one.records ≡ other.records
+  records-same =
+      let finds =
+      subst (λ l. FindsWhatIsThere (content l) other.records) (sym begins-same) lawful2.finds in
+      let calls =
+      subst (λ l. (p : ℕ) → CallAfterCall (length l) k p (records_of p other.records))
+      (sym begins-same) lawful2.calls in
+      follows-same (length one.start) k (content one.start) parties [] schedule one.records
+      other.records follows.events follows2.events
+      (record { finds = lawful.finds; calls = lawful.calls })
+      (record { finds = finds; calls = calls })
+
+  -- leave the same bits
+  bits-same : (p : ℕ) → content one.words p ≡ content other.words p
+  bits-same p =
+      lawful.bits p ∙ ap (λ l. after_records (content l) one.records p) begins-same
+      ∙ ap (λ rs. after_records (content other.start) rs p) records-same ∙ sym (lawful2.bits p)
+
+  -- and the same words, since words are fixed by their content
+  words-same : EqualWordsLaw → one.words ≡ other.words
+  words-same equal_words =
+      let count = lawful.count ∙ ap length begins-same ∙ sym lawful2.count in
+      (equal_words one.words other.words lawful.fit lawful2.fit count).1 bits-same
+
+-- at most one course is lawful and follows a schedule
 pub at_most_one : EqualWordsLaw → AtMostOne
 at_most_one equal_words parties k words schedule one other lawful follows lawful2 follows2 =
-    let begins : one.start ≡ other.start = follows.begins ∙ sym follows2.begins in
-    let w = length one.start in
-    let A = content one.start in
-    let finds =
-    subst (λ l. FindsWhatIsThere (content l) other.records) (sym begins) lawful2.finds in
-    let calls =
-    subst (λ l. (p : ℕ) → CallAfterCall (length l) k p (records_of p other.records))
-    (sym begins) lawful2.calls in
-    let records : one.records ≡ other.records =
-    follows-same w k A parties [] schedule one.records other.records follows.events follows2.events
-    (record { finds = lawful.finds; calls = lawful.calls })
-    (record { finds = finds; calls = calls }) in
-    let count : length one.words ≡ length other.words =
-    lawful.count ∙ ap length begins ∙ sym lawful2.count in
-    let bits : (p : ℕ) → content one.words p ≡ content other.words p =
-    λ p.
-    lawful.bits p ∙ ap (λ l. after_records (content l) one.records p) begins
-    ∙ ap (λ rs. after_records (content other.start) rs p) records ∙ sym (lawful2.bits p) in
-    let last : one.words ≡ other.words =
-    (equal_words one.words other.words lawful.fit lawful2.fit count).1 bits in
+    let begins = begins-same parties k words schedule one other lawful lawful2 follows follows2 in
+    let records = records-same parties k words schedule one other lawful lawful2 follows follows2 in
+    let last =
+    words-same parties k words schedule one other lawful lawful2 follows follows2 equal_words in
     ap (λ l. record { start = l; records = one.records; words = one.words }) begins
     ∙ ap (λ l. record { start = other.start; records = l; words = one.words }) records
     ∙ ap (λ l. record { start = other.start; records = other.records; words = l }) last

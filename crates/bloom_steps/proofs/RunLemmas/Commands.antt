@@ -12,7 +12,7 @@ use Rattle.bloom_parts.specs.Operations.{reply}
 use Rattle.bloom_steps.specs.Scripts.{answer_of}
 use Rattle.bloom_steps.specs.Sequences.{ActsAs, ActsAsCommands, Cut, MadeCall, command_of, commands_of, cut, other_words}
 use Rattle.bloom_steps.specs.Steps.{after_records}
-use Rattle.bloom_steps.specs.Courses.{Course, IsLawful, did}
+use Rattle.bloom_steps.specs.Courses.{Course, IsLawful, call_records, did}
 use Rattle.bloom_steps.proofs.RunLemmas.CallSets.{call-steps}
 use Rattle.bloom_steps.proofs.RunLemmas.CallReplies.{call-answer}
 use Rattle.bloom_steps.proofs.RunLemmas.Bounds.{moment-past}
@@ -46,7 +46,7 @@ acts w k A _ _ some_words some_hashes no_more f =
     record { set = λ q. refl; answers = λ i m g. absurd (none-some m g) }
 acts w k A _ _ some_words some_hashes (next_call p call s later made is more) f =
     let n = 64 * w in
-    let whole = Began p call ∷ did p s in
+    let whole = call_records p call s in
     let B = after_records A whole in
     let C = after_records A (Began p call ∷ []) in
     let its = fits-back w A (Began p call ∷ []) (did p s) (fits-front w A whole later f) in

@@ -9,11 +9,11 @@ use Rattle.bloom_steps.specs.declared.steps.vocabulary.End.TheVariants.{Running}
 use Rattle.bloom_steps.specs.declared.steps.vocabulary.Record.{Record}
 use Rattle.bloom_steps.specs.declared.steps.vocabulary.Record.TheVariants.{Began, Did}
 use Rattle.bloom_steps.specs.Moments.{IsFinished}
-use Rattle.bloom_steps.specs.Scripts.{IsScript, Taken}
+use Rattle.bloom_steps.specs.Scripts.{IsBeginning, IsScript, Taken}
 use Rattle.bloom_steps.specs.Courses.{Course, IsLawful, did, records_of}
 use Rattle.bloom_steps.proofs.RunLemmas.RunningCalls.{OneEnd, one_end-script}
 use Rattle.bloom_steps.proofs.RunLemmas.PartyRecords.{did-get, did-got, own_of_record, record_of_own, records_of-append, records_of-mine}
-use Rattle.bloom_steps.proofs.RunLemmas.CallRecords.{EndsAt, front_is, segment}
+use Rattle.bloom_steps.proofs.RunLemmas.CallRecords.{EndsAt, Segment, front_is, segment}
 use Rattle.bloom_steps.proofs.StepLemmas.Members.{member-take, member_of_take}
 use Rattle.bloom_steps.proofs.StepLemmas.Whole.{beginning_runs, script_some}
 
@@ -64,90 +64,126 @@ is_last s one i t g over =
       | inr n ↦ let apart = n.1 in absurd (over (one.running i t g (omega arith)))
     ]
 
--- a lawful run of some words and hashes
+-- a finished call of a lawful run of some words and hashes
 module _ (k : ℕ) (run : Course) (lawful : IsLawful k run) (some_words : 1 ≤ length run.start)
-    (some_hashes : 1 ≤ k) where
-  -- a finished call has its script
-  pub own_script : (p : ℕ) (call : Call) (began last : ℕ) (ended : End)
-      → IsFinished run p call began last ended
-      → OwnScript k run p call began last ended
-  own_script p call began last ended fin =
-      let w = length run.start in
-      let records = run.records in
-      let mid = drop (suc began) records in
-      let order = fin.order in
-      let n = last - suc began in
-      let split = split-at records began (Began p call) fin.begins in
-      let own : records_of p records ≡ records_of p
-      (take began records) ++ Began p call ∷ records_of p mid =
-      ap (records_of p) split ∙ records_of-append p (take began records) (Began p call ∷ mid)
-      ∙ ap (λ l. records_of p (take began records) ++ l)
-      (records_of-mine p (Began p call) mid refl) in
-      let seg =
-      segment w k p (records_of p records) (records_of p (take began records))
-      (records_of p mid) call (lawful.calls p) own in
-      let final : Taken = record { step = fin.ends.step; found = fin.ends.found; ended = ended } in
-      let at : (m q : ℕ) → q ≡ suc began + m → slice_get mid m ≡ slice_get records q =
-      member-drop records (suc began) in
-      let there : slice_get mid n ≡ Some (Did p final.step final.found final.ended) =
-      at n last (omega arith) ∙ fin.ends.here in
-      let ends : EndsAt mid p n final = record {
-        here = there;
-        over = fin.over;
-        no_other =
-            λ m c l g.
-            fin.no_other (suc began + m) c (omega arith) (omega arith)
-            (sym (at m (suc began + m) refl) ∙ g);
-        still = λ m step found e l g.
-            fin.still (suc began + m) e (omega arith) (omega arith)
-            (record { step = step; found = found; here = sym (at m (suc began + m) refl) ∙ g });
-      } in
-      elim seg.kind [
-        | inl is ↦
-            let one =
-            one_end-script w k call seg.s
-            (script_some w k call seg.s some_words some_hashes is) is in
-            let front = front_is p mid n final seg.s seg.later seg.same one ends in
-            let from : (m : ℕ) (t : Taken) → began < m → m ≤ last → slice_get records m ≡ Some
-            (Did p t.step t.found t.ended)
-            → (i : ℕ) × (slice_get seg.s i ≡ Some t) =
-            λ m t later upto g.
-            let r = Did p t.step t.found t.ended in
-            let here = at (m - suc began) m (omega arith) ∙ g in
-            let its =
-            own_of_record p (take (suc n) mid) (m - suc began) r
-            (member-take mid (suc n) (m - suc began) r (omega arith) here) refl in
-            (its.0, did-got p seg.s its.0 p t (sym (ap (λ l. slice_get l its.0) front) ∙ its.1)) in
-            let end = from last final order (omega arith) fin.ends.here in
-            record {
-              s = seg.s;
-              is = is;
-              to_record = λ i t g.
-                  let r = Did p t.step t.found t.ended in
-                  let its =
-                  record_of_own p (take (suc n) mid) i r
-                  (ap (λ l. slice_get l i) front ∙ did-get p seg.s i t g) in
-                  let here = member_of_take mid (suc n) its.0 r its.1 in
-                  let below = here.0 in
-                  record {
-                    m = suc began + its.0;
-                    later = omega arith;
-                    upto = omega arith;
-                    is = sym (at its.0 (suc began + its.0) refl) ∙ here.1;
-                  };
-              from_record = from;
-              final = final;
-              at_last = fin.ends.here;
-              index = end.0;
-              is_final = end.1;
-              closes = is_last seg.s one end.0 final end.1 fin.over;
-              final_ended = refl;
-            }
-        | inr b ↦
-            let its = own_of_record p mid n (Did p final.step final.found final.ended) there refl in
-            let same : records_of p mid ≡ did p seg.s =
-            seg.same ∙ ap (λ l. did p seg.s ++ l) b.1 ∙ append-nil (did p seg.s) in
-            let member =
-            did-got p seg.s its.0 p final (sym (ap (λ l. slice_get l its.0) same) ∙ its.1) in
-            absurd (fin.over (beginning_runs w k call seg.s its.0 final b.0 member))
-      ]
+    (some_hashes : 1 ≤ k) (p : ℕ) (call : Call) (began last : ℕ) (ended : End)
+    (fin : IsFinished run p call began last ended) where
+  -- the records after its beginning
+  abbrev mid : List Record
+  mid = drop (suc began) run.records
+
+  -- the number of those before its last one
+  abbrev n : ℕ
+  n = last - suc began
+
+  -- its last step
+  abbrev final : Taken
+  final = record { step = fin.ends.step; found = fin.ends.found; ended = ended }
+
+  -- its party's records
+  own : records_of p run.records ≡ records_of p
+      (take began run.records) ++ Began p call ∷ records_of p mid
+  own =
+      ap (records_of p) (split-at run.records began (Began p call) fin.begins)
+      ∙ records_of-append p (take began run.records) (Began p call ∷ mid)
+      ∙ ap (λ l. records_of p (take began run.records) ++ l)
+      (records_of-mine p (Began p call) mid refl)
+
+  -- what its party's later records begin with
+  seg : Segment (length run.start) k p call (records_of p mid)
+  seg =
+      segment (length run.start) k p (records_of p run.records)
+      (records_of p (take began run.records)) (records_of p mid) call (lawful.calls p) own
+
+  -- a record after its beginning
+  at : (m q : ℕ) → q ≡ suc began + m → slice_get mid m ≡ slice_get run.records q
+  at = member-drop run.records (suc began)
+
+  -- its last record
+  there : slice_get mid n ≡ Some (Did p final.step final.found final.ended)
+  there = let order = fin.order in at n last (omega arith) ∙ fin.ends.here
+
+  -- its last record ends it
+  ends : EndsAt mid p n final
+  ends = record {
+    here = there;
+    over = fin.over;
+    no_other =
+        λ m c l g.
+        fin.no_other (suc began + m) c (omega arith) (omega arith)
+        (sym (at m (suc began + m) refl) ∙ g);
+    still = λ m step found e l g.
+        fin.still (suc began + m) e (omega arith) (omega arith)
+        (record { step = step; found = found; here = sym (at m (suc began + m) refl) ∙ g });
+  }
+
+  -- a beginning of a script does not end
+  unfinished : (s : List Taken) → IsBeginning (length run.start) k call s
+      → records_of p mid ≡ did p s → ⊥
+  unfinished s begins same =
+      let its = own_of_record p mid n (Did p final.step final.found final.ended) there refl in
+      let member =
+      did-got p s its.0 p final (sym (ap (λ l. slice_get l its.0) same) ∙ its.1) in
+      fin.over (beginning_runs (length run.start) k call s its.0 final begins member)
+
+  -- its records are those of a script
+  module _ (s : List Taken) (is : IsScript (length run.start) k call s)
+      (front : records_of p (take (suc n) mid) ≡ did p s) where
+    -- a step of the script has a record
+    to_its_record : (i : ℕ) (t : Taken) → slice_get s i ≡ Some t → HasRecord run p began last t
+    to_its_record i t g =
+        let r = Did p t.step t.found t.ended in
+        let (m, own_at) =
+        record_of_own p (take (suc n) mid) i r
+        (ap (λ l. slice_get l i) front ∙ did-get p s i t g) in
+        let (below, here) = member_of_take mid (suc n) m r own_at in
+        let order = fin.order in
+        record {
+          m = suc began + m;
+          later = omega arith;
+          upto = omega arith;
+          is = sym (at m (suc began + m) refl) ∙ here;
+        }
+
+    -- a record is of a step of the script
+    from_its_record : (m : ℕ) (t : Taken) → began < m → m ≤ last
+        → slice_get run.records m ≡ Some (Did p t.step t.found t.ended)
+        → (i : ℕ) × (slice_get s i ≡ Some t)
+    from_its_record m t later upto g =
+        let r = Did p t.step t.found t.ended in
+        let here = at (m - suc began) m (omega arith) ∙ g in
+        let (i, own_at) =
+        own_of_record p (take (suc n) mid) (m - suc began) r
+        (member-take mid (suc n) (m - suc began) r (omega arith) here) refl in
+        (i, did-got p s i p t (sym (ap (λ l. slice_get l i) front) ∙ own_at))
+
+    -- the script has them, and its last step ends the call
+    with_records : OneEnd s → OwnScript k run p call began last ended
+    with_records one =
+        let order = fin.order in
+        let (index, is_final) = from_its_record last final order (omega arith) fin.ends.here in
+        record {
+          s = s;
+          is = is;
+          to_record = to_its_record;
+          from_record = from_its_record;
+          final = final;
+          at_last = fin.ends.here;
+          index = index;
+          is_final = is_final;
+          closes = is_last s one index final is_final fin.over;
+          final_ended = refl;
+        }
+
+  -- the call has its script
+  pub own_script : OwnScript k run p call began last ended
+  own_script = elim seg.kind [
+    | inl is ↦
+        let some = script_some (length run.start) k call seg.s some_words some_hashes is in
+        let one = one_end-script (length run.start) k call seg.s some is in
+        with_records seg.s is (front_is p mid n final seg.s seg.later seg.same one ends) one
+    | inr b ↦
+        let same : records_of p mid ≡ did p seg.s =
+        seg.same ∙ ap (λ l. did p seg.s ++ l) b.1 ∙ append-nil (did p seg.s) in
+        absurd (unfinished seg.s b.0 same)
+  ]

@@ -11,9 +11,9 @@ use Rattle.bloom_steps.specs.declared.steps.machine.Machine.{Machine}
 use Rattle.bloom_steps.specs.Standing.{asks, end_of}
 use Rattle.bloom_steps.specs.Scripts.{Taken}
 use Rattle.bloom_steps.specs.Steps.{word_index}
-use Rattle.bloom_steps.specs.Courses.{CallAfterCall, begun_call, did, last_leaves_running, no_call, party_of, records_of, whole_call}
+use Rattle.bloom_steps.specs.Courses.{CallAfterCall, begun_call, call_records, did, last_leaves_running, no_call, party_of, records_of, whole_call}
 use Rattle.bloom_steps.specs.Machines.{AsksRight, StandsFurther}
-use Rattle.bloom_steps.specs.Worlds.{HasCalled, PartyAt, WholeCalls, no_calls, one_more, slot_runs}
+use Rattle.bloom_steps.specs.Worlds.{AreWhole, HasCalled, PartyAt, slot_runs}
 use Rattle.bloom_steps.proofs.RunLemmas.RunningCalls.{newest-append, newest-call, still_runs-machine}
 use Rattle.bloom_steps.proofs.RunLemmas.PartyRecords.{did-more, records_of-more, records_of-same}
 use Rattle.bloom_steps.proofs.StepLemmas.Completing.{finish}
@@ -29,36 +29,32 @@ module _ (w k p : ℕ) where
       ap last_leaves_running at.same ∙ newest-append at.earlier (did p at.taken) (Began p at.call)
       ∙ newest-call p at.call at.taken ∙ still_runs-machine m w k at.call at.taken at.stands
 
-  -- whole calls, and call after call behind them, are call after call
-  calls-append : (earlier rest : List Record) → WholeCalls w k p earlier → CallAfterCall w k p rest
-      → CallAfterCall w k p (earlier ++ rest)
-  calls-append _ rest no_calls c = c
-  calls-append _ rest (one_more earlier call s before is) c =
-      subst (CallAfterCall w k p) (sym (append_assoc earlier (Began p call ∷ did p s) rest))
-      (calls-append earlier (Began p call ∷ (did p s ++ rest)) before (whole_call call s rest is c))
-
   -- its records are call after call
   pub calls-party : (slot : Option Machine) (rs : List Record) → PartyAt w k p slot rs
       → CallAfterCall w k p rs
   calls-party None rs at = subst (CallAfterCall w k p) (sym at) no_call
   calls-party (Some m) rs at =
       subst (CallAfterCall w k p) (sym at.same)
-      (calls-append at.earlier (Began p at.call ∷ did p at.taken) at.before (go m.ended refl))
+      (at.before (call_records p at.call at.taken) (go m.ended refl))
     where
-      go : (b : Bool) → m.ended ≡ b → CallAfterCall w k p (Began p at.call ∷ did p at.taken)
+      go : (b : Bool) → m.ended ≡ b → CallAfterCall w k p (call_records p at.call at.taken)
       go true is =
-          subst (λ l. CallAfterCall w k p (Began p at.call ∷ l)) (append-nil (did p at.taken))
+          subst (CallAfterCall w k p) (append-nil (call_records p at.call at.taken))
           (whole_call at.call at.taken [] (at.stands.whole is) no_call)
       go false is = begun_call at.call at.taken (finish w k at.call at.taken (at.stands.goes_on is))
 
   -- a party that runs no call has whole calls behind it
   pub whole-party : (slot : Option Machine) (rs : List Record) → PartyAt w k p slot rs
       → slot_runs slot ≡ false
-      → WholeCalls w k p rs
-  whole-party None rs at off = subst (WholeCalls w k p) (sym at) no_calls
-  whole-party (Some m) rs at off =
-      subst (WholeCalls w k p) (sym at.same)
-      (one_more at.earlier at.call at.taken at.before (at.stands.whole (over m.ended off)))
+      → AreWhole w k p rs
+  whole-party None rs at off later calls =
+      subst (λ l. CallAfterCall w k p (l ++ later)) (sym at) calls
+  whole-party (Some m) rs at off later calls =
+      subst (λ l. CallAfterCall w k p (l ++ later)) (sym at.same)
+      (subst (CallAfterCall w k p)
+      (sym (append_assoc at.earlier (call_records p at.call at.taken) later))
+      (at.before (call_records p at.call at.taken ++ later)
+      (whole_call at.call at.taken later (at.stands.whole (over m.ended off)) calls)))
     where
       over : (b : Bool) → not b ≡ false → b ≡ true
       over true e = refl
@@ -87,7 +83,7 @@ module _ (w k p : ℕ) where
         stands = further w k at.call at.taken step asked at.stands;
         same =
             ap (λ l. l ++ r ∷ []) at.same
-            ∙ append_assoc at.earlier (Began p at.call ∷ did p at.taken) (r ∷ [])
+            ∙ append_assoc at.earlier (call_records p at.call at.taken) (r ∷ [])
             ∙ ap (λ l. at.earlier ++ Began p at.call ∷ l) (sym (did-more p at.taken t));
       }
 
