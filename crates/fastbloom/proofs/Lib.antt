@@ -1,4 +1,5 @@
 mod DataLemmas
+mod FillLemmas
 mod FormLemmas
 mod InsertedLemmas
 mod ReadingLemmas
