@@ -1,4 +1,6 @@
 mod DataLemmas
+mod FillFacts
+mod FillLawLemmas
 mod FillLemmas
 mod FormLemmas
 mod InsertedLemmas

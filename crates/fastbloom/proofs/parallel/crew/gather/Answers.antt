@@ -7,8 +7,8 @@ use Rattle.fastbloom.proofs.parallel.crew.gather.Goals as goal
 pub union-requires : goal.union-requires
 union-requires g c =
     filled-same c.args.shape _ _ _ _ c.workers.invariant.filled
-        (filled-first c.in-Some.ensures.steps.0 c.args.shape (λ worker. worker.promise.shape) _ _
-        c.workers.invariant.left c.join-part.ensures)
+    (filled-first c.in-Some.ensures.steps.0 c.args.shape (λ worker. worker.promise.shape) _ _
+    c.workers.invariant.left c.join-part.ensures)
 
 -- a worker's hashes more
 pub workers-preserved : goal.workers-preserved

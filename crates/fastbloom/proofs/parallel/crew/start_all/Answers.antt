@@ -1,4 +1,4 @@
-use Rattle.std.proofs.Common.{◌≡◌, ◌+◌, ◌∷◌, [], ◌++◌, map, length, vec_len, rules, arith, refl, ◌∙◌}
+use Rattle.std.proofs.Common.{◌≡◌, ◌+◌, ◌∷◌, [], length, vec_len, rules, arith, refl, ◌∙◌}
 use Rattle.std.proofs.lemmas.List.{map-append}
 use Rattle.std.proofs.lemmas.List.Elements.{All-push, All-rest}
 use Rattle.fastbloom.proofs.FillLemmas.{All-first}
@@ -13,10 +13,13 @@ jobs-preserved g c =
     let its_shape : c.in-Some.job.shape ≡ c.args.shape =
     All-first came (λ job. job.shape ≡ c.args.shape) c.jobs.invariant.left in
     record {
-      hashes = rw (c.in-Ok.ensures.items,
-          map-append (λ w. w.promise.hashes.value.items) c.jobs.workers.items (worker ∷ []),
-          map-append (λ job. job.hashes.items) c.jobs.yielded (c.in-Some.job ∷ []),
-          c.jobs.invariant.hashes, c.in-Some-start.ensures.hashes) refl;
+      hashes = rw (
+        c.in-Ok.ensures.items,
+        map-append (λ w. w.promise.hashes.value.items) c.jobs.workers.items (worker ∷ []),
+        map-append (λ job. job.hashes.items) c.jobs.yielded (c.in-Some.job ∷ []),
+        c.jobs.invariant.hashes,
+        c.in-Some-start.ensures.hashes,
+      ) refl;
       shaped = rw c.in-Ok.ensures.items
           (All-push (λ w. w.promise.shape ≡ c.args.shape) c.jobs.workers.items worker
           c.jobs.invariant.shaped (c.in-Some-start.ensures.shape ∙ its_shape));
