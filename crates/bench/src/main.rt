@@ -4,6 +4,7 @@
 //! best round tells what one operation costs.
 #![tactic(auto)]
 
+mod fills;
 mod filters;
 mod hashes;
 mod items;
@@ -54,5 +55,6 @@ fn main(rt: HostRuntime) -> anyhow::Result<()> {
     passes::measure(&rt, keys, rounds)?;
     steps::measure(&rt, keys, rounds)?;
     shared::measure(&rt, keys, rounds)?;
-    threads::measure(&rt, keys, rounds)
+    threads::measure(&rt, keys, rounds)?;
+    fills::measure(&rt, keys, rounds)
 }

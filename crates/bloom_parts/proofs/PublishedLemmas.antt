@@ -14,6 +14,8 @@ pub use Rattle.bloom_parts.proofs.PowerBounds.{pow-pow}
 pub use Rattle.bloom_parts.proofs.ContentLemmas.{bit_is_on-or, bit_is_on-and, bit_is_on-zero}
 -- the content at a bit of a word, and past the words, where no position is on
 pub use Rattle.bloom_parts.proofs.WordLemmas.{content-at, content-past}
+-- no position is on in zero words
+pub use Rattle.bloom_parts.proofs.SetLemmas.{content-zeros}
 -- two lists of deciders, one after the other, and the decisions that they come to
 pub use Rattle.bloom_parts.proofs.DeciderLemmas.{last_decision-append, state-append}
 pub use Rattle.bloom_parts.proofs.DeciderLemmas.{option_or-assoc, unwrap_or-option_or}

@@ -1,7 +1,7 @@
 mod AlgebraLemmas
 mod BuilderFacts
 mod BuilderLemmas
-mod CaseLemmas
+pub mod CaseLemmas
 mod DataFacts
 mod DataLemmas
 mod FilterFacts

@@ -1,4 +1,7 @@
 mod DataLemmas
+mod FillFacts
+mod FillLawLemmas
+mod FillLemmas
 mod FormLemmas
 mod InsertedLemmas
 mod ReadingLemmas

@@ -1,5 +1,6 @@
 -- The definitions of plain filters are those of `bloom_plain`, and those of word steps those of
 -- `bloom_steps`, which are below this library.
+pub mod Fill
 pub mod LiveStore
 pub mod Shared
 pub use Rattle.bloom_plain.specs.Builders

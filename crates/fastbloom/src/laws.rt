@@ -1,4 +1,7 @@
-//! The laws of all that this library holds: of plain filters and of word steps.
+//! The laws of all that this library holds: of plain filters, of word steps, and of filters that
+//! workers fill. These functions do nothing: their contracts are the laws.
+ghost use Rattle.fastbloom.specs.Fill.{UnionOfPositionsLaw, AnyCuttingLaw, FilledByInsertsLaw, FilledContainsLaw};
+
 pub use bloom_plain::laws::{
     clear_contains_nothing, contained_stays, data_answer_alike, equality_of_builders,
     equality_of_filters, insert_answers_contains, inserted_stays_found, intersection_contains,
@@ -6,3 +9,23 @@ pub use bloom_plain::laws::{
     union_contains, union_of_contents,
 };
 pub use bloom_steps::laws::{at_most_one_course, steps_in_memory};
+
+/// Filters of one shape that `fill` answers for the same hashes are equal, however the hashes are
+/// cut into parts, and in whatever order and number they come.
+pub fn fill_of_any_cutting<S>()
+    ensures { AnyCuttingLaw S }
+{
+    equality_of_filters::<S>();
+}
+
+/// What `fill` answers is what inserts of all hashes, one after the other, make of an empty filter.
+pub fn fill_equals_one_filter<S>()
+    ensures inserts { FilledByInsertsLaw S }
+    // What the clause on the bits says is the union of the positions.
+    ensures positions { UnionOfPositionsLaw }
+{}
+
+/// Every hash of every part is contained in what `fill` answers.
+pub fn filled_contains<S>()
+    ensures { FilledContainsLaw S }
+{}

@@ -4,6 +4,7 @@
 mod atomic;
 mod builder;
 pub mod laws;
+mod parallel;
 
 pub use atomic::AtomicBloomFilter;
 pub use bloom_parts::bit_vector::{AtomicWords, Words};
@@ -18,3 +19,4 @@ pub use bloom_steps::{
     Call, End, Event, Machine, MemoryStore, Record, Step, Trace, WordStore, drive, run,
 };
 pub use builder::{AtomicBuilderWithBits, AtomicBuilderWithFalsePositiveRate};
+pub use parallel::{Gate, Shape, fill};

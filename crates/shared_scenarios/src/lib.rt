@@ -1,10 +1,12 @@
-//! Tests of the filters that threads share: what no contract says, at values from outside.
+//! Tests of the filters that threads share or fill: what no contract says, at values from outside.
 #![tactic(auto)]
 
 #[cfg(test)]
 mod builders;
 #[cfg(test)]
 mod by_hash;
+#[cfg(test)]
+mod fills;
 #[cfg(test)]
 mod filters;
 #[cfg(test)]

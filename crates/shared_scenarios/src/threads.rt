@@ -1,7 +1,7 @@
 //! Threads that share a filter. Each is started with an `Arc` of it, and joined.
 ghost use Rattle.std.specs.Prelude.{⊤};
 
-mod inserts;
+pub(crate) mod inserts;
 mod takes;
 mod turns;
 

@@ -8,7 +8,7 @@ use std::test::Fail;
 use std::thread::Threads;
 
 // The hashes 0, 1, .. spread over all numbers of 64 bits.
-pub(super) fn spread(i: u64) -> u64 {
+pub(crate) fn spread(i: u64) -> u64 {
     i.wrapping_mul(0x9e37_79b9_7f4a_7c15)
 }
 

@@ -1,0 +1,96 @@
+-- What fills a filter: no hash, one hash more, and the hashes of another filter.
+use Rattle.std.proofs.Common.{◌≡◌, ℕ, ◌*◌, Bool, false, ◌||◌, List, [], ◌∷◌, ◌++◌, length, map, replicate, refl, sym, subst, ◌∙◌, ap, append-nil}
+use Rattle.std.proofs.Math.Bool.{or_assoc, or_comm}
+use Rattle.std.proofs.lemmas.List.{map-append, length-replicate}
+use Rattle.std.proofs.lemmas.List.Folds.{concat-append}
+use Rattle.std.proofs.lemmas.List.Elements.{All-head, All-same}
+use Rattle.std.specs.List.{concat}
+use Rattle.std.specs.Prelude.{All}
+use Rattle.bloom_parts.specs.Content.{content}
+use Rattle.bloom_parts.specs.Places.{positions}
+use Rattle.bloom_parts.proofs.PublishedLemmas.{content-zeros}
+use Rattle.bloom_plain.specs.Filter.{Filter, SameShape, Inserts, Unites}
+use Rattle.fastbloom.specs.declared.parallel.shape.Shape.{Shape}
+use Rattle.fastbloom.specs.Fill.{words_of, hashes_of, positions_of_all, IsFilledWith}
+
+-- the positions of two lists of hashes, one after the other
+pub positions_of_all-append : (n k : ℕ) (xs ys : List ℕ) (p : ℕ) → positions_of_all n k (xs ++ ys) p
+    ≡ (positions_of_all n k xs p || positions_of_all n k ys p)
+positions_of_all-append n k [] ys p = refl
+positions_of_all-append n k (x ∷ xs) ys p =
+    ap (λ b. positions n k x p || b) (positions_of_all-append n k xs ys p)
+    ∙ sym (or_assoc (positions n k x p) (positions_of_all n k xs p) (positions_of_all n k ys p))
+
+-- the positions of one hash
+positions_of_one : (n k hash p : ℕ) → positions_of_all n k (hash ∷ []) p ≡ positions n k hash p
+positions_of_one n k hash p = or_comm (positions n k hash p) false
+
+module _ {S : Type 0} (shape : Shape) where
+  -- zero words hold no hash
+  pub filled-none : (f : Filter S) → f.words ≡ replicate (words_of shape) 0
+      → f.hashes ≡ hashes_of shape → IsFilledWith shape [] f
+  filled-none f zeros hashes = record {
+    words = ap length zeros ∙ length-replicate (words_of shape) 0;
+    num_hashes = hashes;
+    bits = λ p. ap (λ words. content words p) zeros ∙ content-zeros (words_of shape) p;
+  }
+
+  -- an insert adds its hash
+  pub filled-insert : (old new : Filter S) (hashes : List ℕ) (hash : ℕ) {reply : Bool}
+      → IsFilledWith shape hashes old → Inserts old hash new reply
+      → IsFilledWith shape (hashes ++ hash ∷ []) new
+  filled-insert old new hashes hash filled inserted =
+      let n = 64 * words_of shape in
+      let k = hashes_of shape in record {
+        words = sym inserted.shape.words ∙ filled.words;
+        num_hashes = sym inserted.shape.hashes ∙ filled.num_hashes;
+        bits = λ p. inserted.bits p
+            ∙ ap (λ b. b || positions (64 * length old.words) old.hashes hash p) (filled.bits p)
+            ∙ ap (λ w. positions_of_all n k hashes p || positions (64 * w) old.hashes hash p)
+            filled.words
+            ∙ ap (λ h. positions_of_all n k hashes p || positions n h hash p) filled.num_hashes
+            ∙ ap (λ b. positions_of_all n k hashes p || b) (sym (positions_of_one n k hash p))
+            ∙ sym (positions_of_all-append n k hashes (hash ∷ []) p);
+      }
+
+  -- filters that were filled have one shape
+  pub filled-same : (f g : Filter S) (hashes others : List ℕ)
+      → IsFilledWith shape hashes f → IsFilledWith shape others g → SameShape f g
+  filled-same f g hashes others one other = record {
+    words = one.words ∙ sym other.words;
+    hashes = one.num_hashes ∙ sym other.num_hashes;
+  }
+
+  -- a union adds the hashes of the other
+  pub filled-union : (old other new : Filter S) (hashes others : List ℕ)
+      → IsFilledWith shape hashes old → IsFilledWith shape others other → Unites old other new
+      → IsFilledWith shape (hashes ++ others) new
+  filled-union old other new hashes others filled added united =
+      let n = 64 * words_of shape in
+      let k = hashes_of shape in record {
+        words = sym united.shape.words ∙ filled.words;
+        num_hashes = sym united.shape.hashes ∙ filled.num_hashes;
+        bits = λ p. united.bits p
+            ∙ ap (λ b. b || content other.words p) (filled.bits p)
+            ∙ ap (λ b. positions_of_all n k hashes p || b) (added.bits p)
+            ∙ sym (positions_of_all-append n k hashes others p);
+      }
+
+-- one list more, at the end of lists that are joined
+pub concat-map-push : {X : Type 0} (f : X → List ℕ) (xs : List X) (x : X)
+    → concat (map f (xs ++ x ∷ [])) ≡ concat (map f xs) ++ f x
+concat-map-push f xs x =
+    ap concat (map-append f xs (x ∷ [])) ∙ concat-append (map f xs) (f x ∷ [])
+    ∙ ap (λ l. concat (map f xs) ++ l) (append-nil (f x))
+
+module _ {X : Type 0} {xs rest : List X} {x : X} (starts : xs ≡ x ∷ rest) where
+  -- what holds of all of a list holds of its first
+  pub All-first : (P : X → Type 0) → All P xs → P x
+  All-first P all = All-head P x rest (All-same P _ _ (sym starts) all)
+
+  -- a filter that was filled in the shape of the first has the shape of all
+  pub filled-first : {S : Type 0} (shape : Shape) (shape_of : X → Shape) (hashes : List ℕ)
+      (f : Filter S) → All (λ y. shape_of y ≡ shape) xs
+      → IsFilledWith (shape_of x) hashes f → IsFilledWith shape hashes f
+  filled-first shape shape_of hashes f all filled =
+      subst (λ s. IsFilledWith s hashes f) (All-first (λ y. shape_of y ≡ shape) all) filled

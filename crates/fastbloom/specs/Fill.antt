@@ -1,0 +1,63 @@
+-- What contracts see of a filter that workers fill from parts of its hashes. To fill a filter by
+-- parts is this project's own.
+use Rattle.std.specs.Prelude.{◌≡◌, ◌↔◌, ℕ, ◌*◌, Bool, true, false, ◌||◌, List, [], ◌∷◌, ◌++◌, length, IsTrue}
+use Rattle.std.specs.List.{Contains}
+use Rattle.bloom_parts.specs.Content.{content, AreWords}
+use Rattle.bloom_parts.specs.Places.{positions}
+use Rattle.bloom_plain.specs.Filter.{Filter, contains, same_filter}
+use Rattle.bloom_plain.specs.Replies.{InsertsAll}
+use Rattle.fastbloom.specs.declared.parallel.shape.Shape.{Shape}
+
+-- the number of words of a shape
+abbrev pub words_of : Shape → ℕ
+words_of shape = shape.num_words
+
+-- the number of hashes of a shape
+abbrev pub hashes_of : Shape → ℕ
+hashes_of shape = shape.num_hashes
+
+-- the union of the positions of hashes
+abbrev pub positions_of_all : ℕ → ℕ → List ℕ → ℕ → Bool
+positions_of_all n k [] p = false
+positions_of_all n k (hash ∷ hashes) p = positions n k hash p || positions_of_all n k hashes p
+
+-- a filter has this shape, and on are exactly the positions of these hashes
+pub record IsFilledWith {S : Type 0} (shape : Shape) (hashes : List ℕ) (f : Filter S) : Type 0 where
+  pub words : length f.words ≡ words_of shape
+  pub num_hashes : f.hashes ≡ hashes_of shape
+  pub bits : (p : ℕ) → content f.words p
+      ≡ positions_of_all (64 * words_of shape) (hashes_of shape) hashes p
+
+-- two lists have the same hashes, in whatever order and number
+abbrev pub HaveSameHashes : List ℕ → List ℕ → Type 0
+HaveSameHashes hashes others = (hash : ℕ) → Contains hashes hash ↔ Contains others hash
+
+-- p is a position of one of the hashes
+pub record IsPositionOfOne (n k : ℕ) (hashes : List ℕ) (p : ℕ) : Type 0 where
+  pub hash : ℕ
+  pub given : Contains hashes hash
+  pub here : positions n k hash p ≡ true
+
+-- `positions_of_all` is the union
+abbrev pub UnionOfPositionsLaw : Type 0
+UnionOfPositionsLaw = (n k : ℕ) (hashes : List ℕ) (p : ℕ)
+    → (positions_of_all n k hashes p ≡ true) ↔ IsPositionOfOne n k hashes p
+
+-- filters of one shape that were filled with the same hashes, however these were cut into parts,
+-- are equal
+abbrev pub AnyCuttingLaw : (S : Type 0) → Type 0
+AnyCuttingLaw S = (shape : Shape) (f g : Filter S) (hashes others : List ℕ)
+    → AreWords f.words → AreWords g.words
+    → IsFilledWith shape hashes f → IsFilledWith shape others g → HaveSameHashes hashes others
+    → IsTrue (same_filter f g)
+
+-- inserts, one after the other, fill a filter with their hashes besides those that it had
+abbrev pub FilledByInsertsLaw : (S : Type 0) → Type 0
+FilledByInsertsLaw S = (shape : Shape) (old new : Filter S) (earlier hashes : List ℕ)
+    → IsFilledWith shape earlier old → InsertsAll old hashes new
+    → IsFilledWith shape (earlier ++ hashes) new
+
+-- a filter that was filled with hashes contains each
+abbrev pub FilledContainsLaw : (S : Type 0) → Type 0
+FilledContainsLaw S = (shape : Shape) (f : Filter S) (hashes : List ℕ) (hash : ℕ)
+    → IsFilledWith shape hashes f → Contains hashes hash → contains f hash ≡ true

@@ -1,0 +1,75 @@
+//! What one worker does.
+ghost use Rattle.std.specs.Prelude.{◌≡◌, [], IfSome};
+ghost use Rattle.fastbloom.specs.Fill.{IsFilledWith};
+
+use super::gate::Gate;
+use super::shape::Shape;
+use bloom_plain::BloomFilter;
+use std::alloc::Global;
+use std::snapshot::Snapshot;
+use std::sync::Arc;
+use std::thread;
+use std::thread::{Promise, PromisedHandle, Threads};
+
+// What a worker promises: its filter has the shape, and on are the positions of its hashes.
+#[derive(Drop)]
+pub(super) struct FilledPart {
+    pub(super) shape: Shape,
+    pub(super) hashes: Snapshot<Vec<u64>>,
+}
+
+impl Promise<BloomFilter> for FilledPart {
+    ghost kept_by = { λ promise filter.
+        IsFilledWith promise.shape promise.hashes.value.items filter };
+}
+
+// A thread that works, and what it promises of its filter.
+pub(super) type Worker = PromisedHandle<BloomFilter, FilledPart>;
+
+// All that a worker needs: its number, its part of the hashes, and a filter of its own.
+#[derive(Drop)]
+pub(super) struct Job<G> {
+    pub(super) gate: Arc<G, Global>,
+    pub(super) worker: usize,
+    pub(super) hashes: Vec<u64>,
+    pub(super) filter: BloomFilter,
+    pub(super) shape: Shape,
+    pub(super) ghost empty: { IsFilledWith shape [] filter },
+}
+
+// Passes the gate, and then inserts the hashes.
+fn work<G: Gate + Drop>(job: Job<G>) -> BloomFilter
+    ensures { IsFilledWith job.shape job.hashes.items result }
+{
+    let Job {
+        gate,
+        worker,
+        hashes,
+        mut filter,
+        shape: _,
+    } = job;
+    gate.pass(worker);
+    'hashes: for hash in &hashes {
+        filter.insert_hash(*hash);
+    }
+    filter
+}
+
+// Starts a thread that does the job, if one can be started.
+pub(super) fn start<R: Threads, G: Gate + Send + Sync + Drop + 'static>(
+    rt: &R,
+    job: Job<G>,
+) -> Option<Worker>
+    ensures hashes { IfSome result (λ worker.
+        worker.promise.hashes.value.items ≡ job.hashes.items) }
+    ensures shape { IfSome result (λ worker. worker.promise.shape ≡ job.shape) }
+{
+    let promise = FilledPart {
+        shape: job.shape,
+        hashes: Snapshot::of(&job.hashes),
+    };
+    match thread::spawn_with(rt, promise, move || work(job)) {
+        Ok(worker) => Some(worker),
+        Err(_refused) => None,
+    }
+}
