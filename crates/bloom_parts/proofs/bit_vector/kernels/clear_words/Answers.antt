@@ -1,5 +1,5 @@
-use Rattle.std.proofs.Common.{◌+◌, ◌*◌, ◌∙◌, refl, arith}
-use Rattle.bloom_parts.proofs.ClearLemmas.{cleared-all, cleared-group, cleared-next}
+use Rattle.std.proofs.Common.{◌≡◌, ◌+◌, ◌*◌, ◌/◌, ◌∙◌, ap, length, arith}
+use Rattle.bloom_parts.proofs.ClearLemmas.{cleared, cleared-group, cleared-rest}
 use Rattle.bloom_parts.proofs.bit_vector.kernels.clear_words.Goals as goal
 
 pub groups-preserved : goal.groups-preserved
@@ -11,14 +11,11 @@ groups-preserved c = record {
   turns = omega arith;
 }
 
-pub rest-preserved : goal.rest-preserved
-rest-preserved c = record {
-  words =
-      rw c.rest.invariant.words
-      (cleared-next c.rest.place (c.rest.place + 1) c.args.words.now refl);
-  turns = omega arith;
-}
-
 pub returns-clause-words : goal.returns-clause-words
 returns-clause-words c =
-    c.rest.invariant.words ∙ cleared-all c.rest.place c.args.words.now (omega arith)
+    let groups = length c.args.words.now / 8 in
+    let all_groups : c.groups.group ≡ groups = omega arith in
+    let front : c.groups.words ≡ cleared (8 * groups) c.args.words.now =
+    c.groups.invariant.words ∙ ap (λ n. cleared (8 * n) c.args.words.now) all_groups in
+    cleared-rest (8 * groups) _ c.args.words.now c.groups.words _ front
+    c.clear_rest.ensures.words (omega arith)
