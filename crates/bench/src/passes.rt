@@ -1,6 +1,6 @@
 //! The passes over all words of a filter, at a few sizes, beside plain loops over as many words.
 //!
-//! The loops go over slices, since the compiler takes several words at once there and not in a `Vec`.
+//! The loops go over slices, where the compiler takes several words at once.
 ghost use Rattle.std.specs.Prelude.{◌≡◌, length};
 
 use crate::table::Row;
@@ -29,7 +29,7 @@ fn plain_intersect(words: &mut [u64], other: &[u64])
     }
 }
 
-// Each word becomes 0. It takes the vector, since the compiler makes many calls on one slice into one.
+// Each word becomes 0. It takes the vector, since many calls on one slice are compiled to one.
 #[inline(never)]
 fn plain_clear(vector: &mut Vec<u64>) {
     let words = vector.as_mut_slice();
