@@ -1,5 +1,7 @@
 //! The passes over all words of a filter, at a few sizes, beside plain loops over as many words.
-ghost use Rattle.std.specs.Prelude.{◌≡◌, length, vec_len};
+//!
+//! The loops go over slices, where the compiler takes several words at once.
+ghost use Rattle.std.specs.Prelude.{◌≡◌, length};
 
 use crate::table::Row;
 use fastbloom::BloomFilter;
@@ -9,8 +11,8 @@ use std::time::Instant;
 
 // Each word becomes the `|` of itself and the other's.
 #[inline(never)]
-fn plain_union(words: &mut Vec<u64>, other: &[u64])
-    requires { vec_len words.old ≡ length other.now }
+fn plain_union(words: &mut [u64], other: &[u64])
+    requires { length words.old ≡ length other.now }
 {
     'words: for place in 0..words.len() {
         words[place] |= other[place];
@@ -19,17 +21,18 @@ fn plain_union(words: &mut Vec<u64>, other: &[u64])
 
 // Each word becomes the `&` of itself and the other's.
 #[inline(never)]
-fn plain_intersect(words: &mut Vec<u64>, other: &[u64])
-    requires { vec_len words.old ≡ length other.now }
+fn plain_intersect(words: &mut [u64], other: &[u64])
+    requires { length words.old ≡ length other.now }
 {
     'words: for place in 0..words.len() {
         words[place] &= other[place];
     }
 }
 
-// Each word becomes 0.
+// Each word becomes 0. It takes the vector, since many calls on one slice are compiled to one.
 #[inline(never)]
-fn plain_clear(words: &mut Vec<u64>) {
+fn plain_clear(vector: &mut Vec<u64>) {
+    let words = vector.as_mut_slice();
     'words: for place in 0..words.len() {
         words[place] = 0;
     }
@@ -93,7 +96,7 @@ fn unite_plainly(pair: &mut Pair, times: u64) {
         if pair.words.len() != pair.others.len() {
             break;
         }
-        plain_union(&mut pair.words, pair.others.as_slice());
+        plain_union(pair.words.as_mut_slice(), pair.others.as_slice());
     }
 }
 
@@ -111,7 +114,7 @@ fn intersect_plainly(pair: &mut Pair, times: u64) {
         if pair.words.len() != pair.others.len() {
             break;
         }
-        plain_intersect(&mut pair.words, pair.others.as_slice());
+        plain_intersect(pair.words.as_mut_slice(), pair.others.as_slice());
     }
 }
 

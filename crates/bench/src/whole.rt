@@ -40,75 +40,44 @@ fn measured_words(filter: &BloomFilter, keys: u32) -> u64 {
     filter.as_slice().len() as u64
 }
 
-// The row of unions, each answered by a look-up right after it. They leave both filters equal.
-fn measure_unions<R: Print + Clock>(
+// A call on whole filters.
+#[derive(Clone, Copy)]
+enum Call {
+    Union,
+    Intersect,
+    Equality,
+    Clear,
+}
+
+// Makes a call, and answers whether the filters are equal, or, of a call that changes the filter,
+// what a look-up finds right after it.
+fn make(filter: &mut BloomFilter, other: &BloomFilter, call: Call) -> bool {
+    if !filter.same_shape(other) {
+        return false;
+    }
+    match call {
+        Call::Union => filter.union(other),
+        Call::Intersect => filter.intersect(other),
+        Call::Equality => return *filter == *other,
+        Call::Clear => filter.clear(),
+    }
+    filter.contains_hash(0)
+}
+
+// The row of a call. Unions leave both filters equal.
+fn measure_call<R: Print + Clock>(
     rt: &R,
     filter: &mut BloomFilter,
     other: &BloomFilter,
+    (call, name): (Call, &'static str),
     words: u64,
     rounds: u32,
 ) -> anyhow::Result<()> {
-    let mut row = Row::new("union, a word", 7, words);
-    'rounds: for _round in 0..rounds {
-        if !filter.same_shape(other) {
-            break;
-        }
-        let start = Instant::now(rt)?;
-        filter.union(other);
-        row.add(u64::from(filter.contains_hash(0)), start.elapsed(rt)?);
-    }
-    Ok(row.print(rt)?)
-}
-
-// The row of intersections, each answered by a look-up right after it.
-fn measure_intersections<R: Print + Clock>(
-    rt: &R,
-    filter: &mut BloomFilter,
-    other: &BloomFilter,
-    words: u64,
-    rounds: u32,
-) -> anyhow::Result<()> {
-    let mut row = Row::new("intersect, a word", 7, words);
-    'rounds: for _round in 0..rounds {
-        if !filter.same_shape(other) {
-            break;
-        }
-        let start = Instant::now(rt)?;
-        filter.intersect(other);
-        row.add(u64::from(filter.contains_hash(0)), start.elapsed(rt)?);
-    }
-    Ok(row.print(rt)?)
-}
-
-// The row of equality.
-fn measure_equality<R: Print + Clock>(
-    rt: &R,
-    filter: &BloomFilter,
-    other: &BloomFilter,
-    words: u64,
-    rounds: u32,
-) -> anyhow::Result<()> {
-    let mut row = Row::new("==, a word", 7, words);
+    let mut row = Row::new(name, 7, words);
     'rounds: for _round in 0..rounds {
         let start = Instant::now(rt)?;
-        let answer = *filter == *other;
+        let answer = make(filter, other, call);
         row.add(u64::from(answer), start.elapsed(rt)?);
-    }
-    Ok(row.print(rt)?)
-}
-
-// The row of clears, each answered by a look-up right after it.
-fn measure_clears<R: Print + Clock>(
-    rt: &R,
-    filter: &mut BloomFilter,
-    words: u64,
-    rounds: u32,
-) -> anyhow::Result<()> {
-    let mut row = Row::new("clear, a word", 7, words);
-    'rounds: for _round in 0..rounds {
-        let start = Instant::now(rt)?;
-        filter.clear();
-        row.add(u64::from(filter.contains_hash(0)), start.elapsed(rt)?);
     }
     Ok(row.print(rt)?)
 }
@@ -158,10 +127,14 @@ pub fn measure<R: Print + AllocGlobal + Clock>(
     let mut other = filter_for(rt.alloc(), keys, 7)?;
     other.insert_hash(0);
     let words = measured_words(&filter, keys);
-    measure_unions(rt, &mut filter, &other, words, rounds)?;
-    measure_intersections(rt, &mut filter, &other, words, rounds)?;
-    measure_equality(rt, &filter, &other, words, rounds)?;
-    measure_clears(rt, &mut filter, words, rounds)?;
+    'calls: for call in [
+        (Call::Union, "union, a word"),
+        (Call::Intersect, "intersect, a word"),
+        (Call::Equality, "==, a word"),
+        (Call::Clear, "clear, a word"),
+    ] {
+        measure_call(rt, &mut filter, &other, call, words, rounds)?;
+    }
     measure_clones(rt, &other, words, rounds)?;
     measure_lists(rt, keys, rounds)
 }

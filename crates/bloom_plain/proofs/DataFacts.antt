@@ -1,10 +1,15 @@
 -- Data of filters: cases that hold, and cases that nearly do. A form is given by what is seen of
 -- it.
-use Rattle.std.proofs.Common.{◌≡◌, ℕ, Some, None, [], ◌∷◌, refl, arith, ap}
+use Rattle.std.proofs.Common.{◌≡◌, ℕ, List, Some, None, [], ◌∷◌, true, false, refl, arith, ap}
 use Rattle.std.specs.Prelude.{vec_len}
 use Rattle.bloom_parts.specs.declared.error.FilterError.TheVariants.{EmptyWords, TooManyWords, HashCount}
+use Rattle.bloom_parts.specs.declared.hasher.CloneBuildHasher.{CloneBuildHasher}
+use Rattle.bloom_parts.specs.declared.hasher.sip.RandomDefaultHasher.{RandomDefaultHasher}
+use Rattle.bloom_parts.specs.Chain.{chain}
+use Rattle.bloom_parts.specs.Content.{content}
 use Rattle.bloom_parts.specs.Keys.{key_of}
-use Rattle.bloom_plain.specs.Data.{DefaultFilter, IsDataOf, data_refusal}
+use Rattle.bloom_parts.specs.Places.{are_in}
+use Rattle.bloom_plain.specs.Data.{AnswerAlike, DefaultFilter, IsDataOf, data_refusal}
 use Rattle.bloom_plain.specs.declared.bloom.data.FilterData.{FilterData}
 
 -- how many words a form has, and its number of hashes less one
@@ -77,3 +82,29 @@ five-key form f is of same =
     let low = ap (λ (k : ℕ × ℕ). k.0) of.key in
     let key = ap (λ (k : ℕ × ℕ). k.0) same.key in
     omega (arith, is.low, low, key)
+
+-- a filter of these words and as many hashes, under a hasher
+abbrev filter : List ℕ → ℕ → CloneBuildHasher RandomDefaultHasher → DefaultFilter
+filter words hashes hasher = record { words = words; hashes = hashes; hasher = hasher }
+
+-- filters of one word under hashers of one key answer alike
+alike : (one other : CloneBuildHasher RandomDefaultHasher) → key_of other ≡ key_of one
+    → AnswerAlike (filter (1 ∷ []) 2 one) (filter (1 ∷ []) 2 other)
+alike one other same = record {
+  words = refl;
+  hashes = refl;
+  key = same;
+  found = λ hash. refl;
+}
+
+-- not where one has a hash more, which finds that hash 1 is not in the word
+alike-hashes : (hasher : CloneBuildHasher RandomDefaultHasher)
+    → AnswerAlike (filter (1 ∷ []) 1 hasher) (filter (1 ∷ []) 2 hasher) → ⊥
+unfolding content chain are_in
+alike-hashes hasher same = let found : false ≡ true = same.found 1 in cc
+
+-- nor where a position of hash 1 is on in one word and off in the other
+alike-word : (hasher : CloneBuildHasher RandomDefaultHasher)
+    → AnswerAlike (filter (1048577 ∷ []) 2 hasher) (filter (1 ∷ []) 2 hasher) → ⊥
+unfolding content chain are_in
+alike-word hasher same = let found : false ≡ true = same.found 1 in cc

@@ -1,5 +1,4 @@
--- The course of a run: what was recorded, and when it is lawful and follows its schedule. Each rule
--- speaks of the finished list of records. They are this project's own.
+-- Finished records of a run: lawful, and following a schedule. The rules are this project's own.
 use Rattle.std.specs.Prelude.{ℕ, ◌/◌, ◌^◌, ◌<◌, ◌≡◌, ◌⊎◌, ◌==◌, Bool, true, false, List, [], ◌∷◌, ◌++◌, length, Some, slice_get, take, if◌then◌else◌}
 use Rattle.bloom_parts.specs.Content.{AreWords, bit_is_on, content}
 use Rattle.bloom_steps.specs.declared.steps.vocabulary.Step.{Step}
@@ -108,8 +107,7 @@ pub record BeginsNoCall (parties : ℕ) (before : List Record) (party : ℕ)
   pub busy : party < parties → runs party before ≡ true
   pub same : added ≡ []
 
--- a party that runs a call makes one step, which finds the word given where it reads the other
--- filter
+-- a party that runs a call makes one step: one that reads the other filter finds the word given
 pub record TakesStep (before : List Record) (party given : ℕ) (added : List Record) : Type 0 where
   pub running : runs party before ≡ true
   pub step : Step

@@ -25,8 +25,9 @@ fn the_same_text_is_written(rt: HostRuntime) -> Result<(), Fail> {
 // Numbers above 2^53 are no whole numbers to some readers of JSON. Here they keep every bit.
 #[test]
 fn large_numbers_keep_every_bit(rt: HostRuntime) -> Result<(), Fail> {
-    let large =
-        r#"{"bits":{"bits":[18446744073709551615,9007199254740993,9223372036854775809,0]},"num_hashes_minus_one":4294967295,"k0":18446744073709551615,"k1":18446744073709551557}"#;
+    let large = "{\"bits\":{\"bits\":[18446744073709551615,9007199254740993,\
+        9223372036854775809,0]},\"num_hashes_minus_one\":4294967295,\
+        \"k0\":18446744073709551615,\"k1\":18446744073709551557}";
     let form = FilterData {
         bits: BitsData {
             bits: [u64::MAX, 9007199254740993, 9223372036854775809, 0].to_vec(rt.alloc())?,

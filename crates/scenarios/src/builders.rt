@@ -1,58 +1,8 @@
-//! Builders: sizes, counts, refusals and items at values worked out by hand from their definitions.
-ghost use Rattle.std.specs.Prelude.{◌≤◌, length};
-ghost use Rattle.std.specs.Iterator.{at_most};
-ghost use Rattle.fastbloom.specs.Builders.{sized_filter};
-ghost use Rattle.fastbloom.specs.Replies.{InsertsItems};
-ghost use Rattle.fastbloom.specs.SourceHash.{source_hash_of};
+//! Builders: sizes, counts and refusals at values worked out by hand from their definitions.
 
 use fastbloom::{BloomFilter, BuilderWithBits, DefaultHasher, FilterError, Rate};
 use std::alloc::Global;
-use std::cell::Cell;
-use std::hash::{BuildHasher, Hash, Hasher};
 use std::test::Fail;
-
-// The items of a slice, in order: what `items` says of any iterator tells its callers this.
-fn fill_by_slice<S: BuildHasher, T: Hash>(
-    builder: BuilderWithBits<S>,
-    items: &[T],
-) -> BloomFilter<S>
-    ensures { InsertsItems (source_hash_of S.BuildHasher S.Hasher.Hasher T.hash_input)
-        (sized_filter builder (length items.now)) items.now result }
-{
-    builder.items(items)
-}
-
-// Says that it has more items than come, and counts those that are taken.
-#[derive(Drop)]
-struct Overstated<'a> {
-    rest: &'a [u64],
-    said: usize,
-    taken: &'a Cell<usize>,
-    ghost enough: { length rest.now ≤ said },
-}
-
-impl<'a> Iterator for Overstated<'a> {
-    type Item = &'a u64;
-
-    ghost remaining = { λ s. at_most s.said };
-
-    fn next(&mut self) -> Option<&'a u64> {
-        let (first, others) = self.rest.split_first()?;
-        *self = Overstated {
-            rest: others,
-            said: self.said - 1,
-            taken: self.taken,
-        };
-        self.taken.set(self.taken.get().saturating_add(1));
-        Some(first)
-    }
-}
-
-impl<'a> ExactSizeIterator for Overstated<'a> {
-    fn len(&self) -> usize {
-        self.said
-    }
-}
 
 // Whether all bits of a filter are off.
 fn is_empty(filter: &BloomFilter) -> bool {
@@ -104,14 +54,6 @@ fn bits_and_items_fix_the_number_of_hashes(rt: HostRuntime) -> Result<(), Fail> 
     Ok(())
 }
 
-#[test]
-fn the_first_item_of_a_built_filter_is_new(rt: HostRuntime) -> Result<(), Fail> {
-    let mut filter = BloomFilter::with_num_bits(rt.alloc(), 1202)?.expected_items(4);
-    assert_eq!(rt; filter.num_bits(), 1216);
-    assert!(rt; !filter.insert(&5));
-    Ok(())
-}
-
 // The filter for so many items at the rate of a fraction.
 fn filter_at(alloc: Global, num: u64, den: u64, items: usize) -> Result<BloomFilter, FilterError> {
     BloomFilter::with_false_pos(Rate::new(num, den)?).expected_items(alloc, items)
@@ -148,50 +90,6 @@ fn sizes_for_a_rate_are_refused_in_order(rt: HostRuntime) {
     }
 }
 
-// Two texts, the second of which has four bytes in one character.
-const TEXTS: [&str; 2] = ["42", "🦀"];
-
-#[test]
-fn items_size_a_filter_by_rate_and_go_in(rt: HostRuntime) -> Result<(), Fail> {
-    let filter = BloomFilter::with_false_pos(Rate::new(1, 1000)?).items(rt.alloc(), &TEXTS)?;
-    assert_eq!(rt; (filter.num_bits(), filter.num_hashes()), (64, 22));
-    assert!(rt; filter.contains(&"42") && filter.contains(&"🦀"));
-    Ok(())
-}
-
-#[test]
-fn items_size_a_filter_of_bits_and_go_in(rt: HostRuntime) -> Result<(), Fail> {
-    let filter = fill_by_slice(BloomFilter::with_num_bits(rt.alloc(), 64)?, &TEXTS);
-    assert_eq!(rt; (filter.num_bits(), filter.num_hashes()), (64, 22));
-    assert!(rt; filter.contains(&"42") && filter.contains(&"🦀"));
-    Ok(())
-}
-
-// A filter made of another's words and number of hashes, under this seed.
-fn built_again(
-    alloc: Global,
-    filter: &BloomFilter,
-    seed: &u128,
-) -> Result<BloomFilter, FilterError> {
-    let words = filter.as_slice().to_vec(alloc)?;
-    Ok(
-        BloomFilter::from_vec(words)?
-            .seed(seed)
-            .hashes(filter.num_hashes()),
-    )
-}
-
-#[test]
-fn a_filter_of_items_is_built_again_from_its_words(rt: HostRuntime) -> Result<(), Fail> {
-    let builder = BloomFilter::with_false_pos(Rate::new(1, 1000)?).seed(&42);
-    let filter = builder.items(rt.alloc(), &[1, 2])?;
-    let again = built_again(rt.alloc(), &filter, &42)?;
-    assert!(rt; again == filter);
-    assert!(rt; filter.contains(&1) && filter.contains(&2));
-    assert!(rt; again.contains(&1) && again.contains(&2));
-    Ok(())
-}
-
 #[test]
 fn a_clone_of_a_built_filter_goes_its_own_way(rt: HostRuntime) -> Result<(), Fail> {
     let filter = BloomFilter::with_num_bits(rt.alloc(), 4)?.hashes(4);
@@ -199,40 +97,6 @@ fn a_clone_of_a_built_filter_goes_its_own_way(rt: HostRuntime) -> Result<(), Fai
     assert!(rt; copy == filter);
     copy.insert(&42);
     assert!(rt; copy != filter);
-    Ok(())
-}
-
-// The number of items that an iterator says sizes the filter, and those that come go in.
-#[test]
-fn what_an_iterator_says_sizes_alone(rt: HostRuntime) -> Result<(), Fail> {
-    let taken = Cell::new(0);
-    let items = Overstated {
-        rest: &[1, 2, 3],
-        said: 500,
-        taken: &taken,
-    };
-    let filter = BloomFilter::with_num_bits(rt.alloc(), 64)?.items(items);
-    assert_eq!(rt; filter.num_hashes(), 1);
-    let mut by_one = BloomFilter::with_num_bits(rt.alloc(), 64)?.hashes(1);
-    for item in [1u64, 2, 3] {
-        by_one.insert(&item);
-    }
-    assert!(rt; filter == by_one);
-    assert_eq!(rt; taken.get(), 3);
-    Ok(())
-}
-
-#[test]
-fn a_refused_size_takes_no_item(rt: HostRuntime) -> Result<(), Fail> {
-    let taken = Cell::new(0);
-    let items = Overstated {
-        rest: &[1, 2, 3],
-        said: 18446744073709551615,
-        taken: &taken,
-    };
-    let filter = BloomFilter::with_false_pos(Rate::new(1, 2)?).items(rt.alloc(), items);
-    assert!(rt; filter == Err(FilterError::SizeOverflow));
-    assert_eq!(rt; taken.get(), 0);
     Ok(())
 }
 

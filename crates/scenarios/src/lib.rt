@@ -8,6 +8,8 @@ mod by_hash;
 #[cfg(test)]
 mod hashing;
 #[cfg(test)]
+mod items;
+#[cfg(test)]
 mod lanes;
 #[cfg(test)]
 mod lists;

@@ -16,8 +16,8 @@ fn rates_keep_their_parts_and_refuse_zero(rt: HostRuntime) -> Result<(), Fail> {
     Ok(())
 }
 
-// The quotient of bits and items times the logarithm of 2, rounded half up: 1024 / 2 gives 354.9. The
-// last line is two and a half, since its items are the logarithm times 2^53.
+// The quotient of bits and items times the logarithm of 2, rounded half up: 1024 / 2 gives 354.9.
+// The last line is two and a half, since its items are the logarithm times 2^53.
 #[test]
 fn hashes_are_rounded_half_up_within_their_range(rt: HostRuntime) {
     for (bits, items, hashes) in [

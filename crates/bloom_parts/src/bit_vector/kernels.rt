@@ -1,11 +1,15 @@
-//! The passes over all words of a vector: eight words at a time, and then one by one what is left.
+//! The passes over all words of a vector: eight words at a time, and then what is left.
 //!
-//! Each counts its turns, a group of eight or one word. The compiler drops a count that isn't read.
-ghost use Rattle.std.specs.Prelude.{◌≡◌, ◌+◌, ◌≤◌, ◌↔◌, IsTrue, length, replicate};
+//! Each counts its turns, a group of eight or one word of the rest. The compiler drops a count that
+//! isn't read.
+ghost use Rattle.std.specs.Prelude.{◌≡◌, ◌+◌, ◌<◌, ◌≤◌, ◌↔◌, IsTrue, length, replicate};
 ghost use Rattle.std.specs.Int.Bits.{bit_and, bit_or};
 ghost use Rattle.std.specs.Simd.Lanes.{zip2, chunk};
 ghost use Rattle.bloom_parts.specs.Lanes.{turns_of};
 
+mod rest;
+
+use rest::{and_rest, clear_rest, or_rest};
 use std::simd::prelude::*;
 
 // Each word becomes the `|` of itself and the other's word.
@@ -22,10 +26,7 @@ pub(super) fn or_words(words: &mut [u64], other: &[u64], turns: &mut u64)
         lanes.copy_to_slice(&mut words[at..]);
         *turns += 1;
     }
-    'rest: for place in 8 * groups..words.len() {
-        words[place] |= other[place];
-        *turns += 1;
-    }
+    or_rest(&mut words[8 * groups..], &other[8 * groups..], turns);
 }
 
 // Each word becomes the `&` of itself and the other's word.
@@ -42,14 +43,29 @@ pub(super) fn and_words(words: &mut [u64], other: &[u64], turns: &mut u64)
         lanes.copy_to_slice(&mut words[at..]);
         *turns += 1;
     }
-    'rest: for place in 8 * groups..words.len() {
-        words[place] &= other[place];
+    and_rest(&mut words[8 * groups..], &other[8 * groups..], turns);
+}
+
+// At most one group and the rest become 0, with no loop that the compiler could make a call of.
+#[inline(always)]
+fn clear_few(words: &mut [u64], turns: &mut u64)
+    requires few { length words.old < 16 }
+    requires start { turns.old ≡ 0 }
+    ensures words { words.new ≡ replicate (length words.old) 0 }
+    ensures turns { turns.new ≡ turns_of (length words.old) }
+{
+    if words.len() >= 8 {
+        u64x8::splat(0).copy_to_slice(words);
         *turns += 1;
+        clear_rest(&mut words[8..], turns);
+    } else {
+        clear_rest(words, turns);
     }
 }
 
-// Each word becomes 0.
-pub(super) fn clear_words(words: &mut [u64], turns: &mut u64)
+// Each word becomes 0. It stays a call, so that fewer words are cleared with no stack frame.
+#[inline(never)]
+fn clear_many(words: &mut [u64], turns: &mut u64)
     requires start { turns.old ≡ 0 }
     ensures words { words.new ≡ replicate (length words.old) 0 }
     ensures turns { turns.new ≡ turns_of (length words.old) }
@@ -59,9 +75,19 @@ pub(super) fn clear_words(words: &mut [u64], turns: &mut u64)
         u64x8::splat(0).copy_to_slice(&mut words[8 * group..]);
         *turns += 1;
     }
-    'rest: for place in 8 * groups..words.len() {
-        words[place] = 0;
-        *turns += 1;
+    clear_rest(&mut words[8 * groups..], turns);
+}
+
+// Each word becomes 0.
+pub(super) fn clear_words(words: &mut [u64], turns: &mut u64)
+    requires start { turns.old ≡ 0 }
+    ensures words { words.new ≡ replicate (length words.old) 0 }
+    ensures turns { turns.new ≡ turns_of (length words.old) }
+{
+    if words.len() < 16 {
+        clear_few(words, turns);
+    } else {
+        clear_many(words, turns);
     }
 }
 

@@ -150,7 +150,8 @@ pub first_whole : (w k : ℕ) (some_words : 1 ≤ w) (some_hashes : 1 ≤ k) (r 
     (rest : List Record)
     → ((q : ℕ) → CallAfterCall w k q (records_of q (r ∷ rest))) → OneAtATime (r ∷ rest)
     → EveryCallEnded (r ∷ rest) → FirstWhole w k (r ∷ rest)
-first_whole w k some_words some_hashes r rest calls one ended = go (first_call w k p r (records_of p rest) its over)
+first_whole w k some_words some_hashes r rest calls one ended =
+    go (first_call w k p r (records_of p rest) its over)
   where
     p : ℕ
     p = party_of r

@@ -24,8 +24,8 @@ const COUNTING_KEY: [(usize, u64); 15] = [
     (257, 0x4d9d_05e0_926e_27d8),
 ];
 
-// The answers of the same crate under keys that were drawn. A key is given by its big-endian number,
-// and a message by two hexadecimal digits a byte.
+// The answers of the same crate under keys that were drawn. A key is given by its big-endian
+// number, and a message by two hexadecimal digits a byte.
 const DRAWN_KEYS: [(u128, &str, u64); 25] = [
     (
         0x6c82a562cb808d10d632be89c8513ebf,

@@ -1,6 +1,6 @@
-use Rattle.std.proofs.Common.{◌≡◌, ◌+◌, ◌*◌, ◌∙◌, arith}
+use Rattle.std.proofs.Common.{◌≡◌, ◌+◌, ◌*◌, ◌/◌, ◌∙◌, ap, length, arith}
 use Rattle.std.specs.Int.Bits.{bit_and}
-use Rattle.bloom_parts.proofs.MergeLemmas.{merged-all, merged-group, merged-set}
+use Rattle.bloom_parts.proofs.MergeLemmas.{merged, merged-group, merged-rest}
 use Rattle.bloom_parts.proofs.bit_vector.kernels.and_words.Goals as goal
 
 pub groups-preserved : goal.groups-preserved
@@ -15,17 +15,12 @@ groups-preserved c =
       turns = omega arith;
     }
 
-pub rest-preserved : goal.rest-preserved
-rest-preserved c = record {
-  words =
-      rw c.rest.invariant.words
-      (merged-set bit_and c.rest.place c.args.words.now c.args.other.now c.requires.lengths
-      (omega arith));
-  turns = omega arith;
-}
-
 pub returns-clause-words : goal.returns-clause-words
 returns-clause-words c =
-    c.rest.invariant.words
-    ∙ merged-all bit_and c.rest.place c.args.words.now c.args.other.now c.requires.lengths
-    (omega arith)
+    let groups = length c.args.words.now / 8 in
+    let all_groups : c.groups.group ≡ groups = omega arith in
+    let front : c.groups.words ≡ merged bit_and (8 * groups) c.args.words.now c.args.other.now =
+    c.groups.invariant.words
+    ∙ ap (λ n. merged bit_and (8 * n) c.args.words.now c.args.other.now) all_groups in
+    merged-rest bit_and (8 * groups) _ _ c.args.words.now c.args.other.now c.groups.words _
+    c.requires.lengths front c.and_rest.ensures.words (omega arith) (omega arith)

@@ -1,4 +1,4 @@
-use Rattle.std.proofs.Common.{◌≡◌, ◌+◌, ◌*◌}
+use Rattle.std.proofs.Common.{◌≡◌, ◌*◌}
 use Rattle.std.specs.Int.Bits.{bit_and}
 use Rattle.bloom_parts.proofs.MergeLemmas.{merged}
 use Rattle.bloom_parts.proofs.bit_vector.kernels.and_words.Given as goal
@@ -8,11 +8,4 @@ abbrev pub invariant-groups : goal.invariant-groups
 invariant-groups l = record {
   words : l.words ≡ merged bit_and (8 * l.group) l.fn.words l.other;
   turns : l.turns ≡ l.group;
-}
-
--- and so are the words of the rest
-abbrev pub invariant-rest : goal.invariant-rest
-invariant-rest l = record {
-  words : l.words ≡ merged bit_and l.place l.fn.words l.other;
-  turns : l.turns + 8 * l.groups ≡ l.groups + l.place;
 }
