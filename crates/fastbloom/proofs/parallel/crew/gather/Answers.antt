@@ -16,10 +16,10 @@ workers-preserved g c =
     let came = c.in-Some.ensures.steps.0 in
     let left = c.workers.invariant.left in
     record {
-      left = All-rest (λ worker. worker.promise.shape ≡ c.args.shape) c.in-Some.worker _ _ came left;
-      filled = rw (concat-map-push (λ worker. worker.promise.hashes.value.items) c.workers.yielded _)
+      left = All-rest (λ w. w.promise.shape ≡ c.args.shape) c.in-Some.worker _ _ came left;
+      filled = rw (concat-map-push (λ w. w.promise.hashes.value.items) c.workers.yielded _)
           (filled-union c.args.shape _ _ _ _ _ c.workers.invariant.filled
-          (filled-first came c.args.shape (λ worker. worker.promise.shape) _ _ left c.join-part.ensures)
+          (filled-first came c.args.shape (λ w. w.promise.shape) _ _ left c.join-part.ensures)
           c.union.ensures.unites);
       hasher = c.union.ensures.unites.hasher ∙ c.workers.invariant.hasher;
     }

@@ -13,5 +13,6 @@ parts-preserved g c = record {
     c.parts.invariant.hashes,
   ) refl;
   shaped = rw c.in_ok-push.ensures.items
-      (All-push (λ job. job.shape ≡ c.args.shape) c.parts.jobs.items _ c.parts.invariant.shaped refl);
+      (All-push (λ job. job.shape ≡ c.args.shape) c.parts.jobs.items _
+      c.parts.invariant.shaped refl);
 }
