@@ -1,0 +1,4 @@
+mod RuleLemmas
+mod SetLemmas
+mod StepLemmas
+mod WordLemmas

@@ -1,0 +1,4 @@
+pub mod Passes
+pub mod Plays
+pub mod Rule
+pub mod Sets

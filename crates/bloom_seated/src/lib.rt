@@ -1,0 +1,7 @@
+//! A Bloom filter that threads share under a rule: what a thread knows stays on.
+#![tactic(auto)]
+
+mod rule;
+mod steps;
+
+pub use rule::{Role, SeatedRule, Sets, Size};
