@@ -1,3 +1,8 @@
+mod CallLemmas
+mod FillLemmas
+mod OpeningLemmas
+mod PassLemmas
+mod PlaceLemmas
 mod RuleLemmas
 mod SetLemmas
 mod StepLemmas

@@ -2,3 +2,4 @@ pub mod Passes
 pub mod Plays
 pub mod Rule
 pub mod Sets
+pub mod Standing

@@ -54,6 +54,14 @@ positions_of f hash = positions (num_bits_of f) f.hashes hash
 abbrev pub Knows : SeatedFilter → Sight → ℕ → Type 0
 Knows f pass hash = IsPart (positions_of f hash) (known_of pass)
 
+-- a pass can be sure of all positions of a hash
+abbrev pub IsSure : SeatedFilter → Sight → ℕ → Type 0
+IsSure f pass hash = IsPart (positions_of f hash) (sure_of pass)
+
+-- whether a pass knows all positions of a hash
+abbrev pub contains_known : SeatedFilter → Sight → ℕ → Bool
+contains_known f pass hash = are_in (num_bits_of f) f.hashes hash (known_of pass)
+
 -- the pass is of the same filter, which began with the same words
 pub record IsSamePass (old new : Sight) : Type 0 where
   pub filter : new.filter ≡ old.filter
@@ -84,6 +92,16 @@ pub record Inserts (P : ℕ → Bool) (old new : Sight) (answer : Bool) : Type 0
   -- the answer is false exactly if it gained
   pub grew : answer ≡ false → HasGained old new
   pub stayed : answer ≡ true → IsPart (gained_of new) (gained_of old)
+
+-- from old to new a pass loaded the word of a position, and answers whether this is on
+pub record LooksAt (position : ℕ) (old new : Sight) (answer : Bool) : Type 0 where
+  pub same : IsSamePass old new
+  pub gained : new.gained ≡ old.gained
+  pub kept : IsPart (known_of old) (known_of new)
+  pub on : answer ≡ true → known_of new position ≡ true
+  pub off : answer ≡ false → sure_of new position ≡ false
+  pub grown : (p : ℕ) → known_of new p ≡ true
+      → (known_of old p ≡ true) ⊎ (p / 64 ≡ position / 64)
 
 -- a position lies in the word of one of the first places of a hash
 pub record IsBeside (n hash places p : ℕ) : Type 0 where

@@ -1,6 +1,6 @@
 -- What each step of a seated filter tells its seat. There are two kinds, a load and an `|`; a split
 -- and a join of seats are loads of word 0.
-use Rattle.std.specs.Prelude.{◌≡◌, ◌+◌, ◌-◌, ◌/◌, ◌||◌, ℕ, true, Bool, List, [], ◌∷◌, ◌++◌, slice_index, slice_set, bit_or}
+use Rattle.std.specs.Prelude.{◌≡◌, ◌+◌, ◌-◌, ◌/◌, ◌||◌, ◌≤◌, ℕ, true, Bool, List, [], ◌∷◌, ◌++◌, slice_index, slice_set, bit_or}
 use Rattle.atomic_table.specs.Seated.{TableId}
 use Rattle.atomic_table.specs.Table.{Me, Step}
 use Rattle.atomic_table.specs.declared.shared.Seat.{Seat}
@@ -20,7 +20,7 @@ abbrev pub FilterSeat : Type 0
 FilterSeat = Seat (Unit {0}) Sets
 
 -- the seat is at this table, whose rule is of so many words
-pub record IsAt (seat : FilterSeat) (table : TableId) (size : Size) : Type 0 where
+pub record SitsAt (seat : FilterSeat) (table : TableId) (size : Size) : Type 0 where
   pub here : seat.table_id ≡ table
   pub words : table.words ≡ size.words
 
@@ -72,6 +72,14 @@ pub record IsFirst (v : Sets) : Type 0 where
   pub role : v.role ≡ First
   pub known : v.known ≡ []
   pub gained : v.gained ≡ []
+  pub some : 1 ≤ v.passes
+
+-- from old to new the first seat made the start these words
+pub record Fills (old new : FilterSeat) (words : List ℕ) : Type 0 where
+  pub table : new.table_id ≡ old.table_id
+  pub first : IsFirst new.me.0
+  pub passes : new.me.0.passes ≡ old.me.0.passes
+  pub start_is : new.me.0.start ≡ words
 
 -- a pass that knows and gained nothing
 pub record IsFresh (v : Sets) : Type 0 where

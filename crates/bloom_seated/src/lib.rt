@@ -1,7 +1,13 @@
 //! A Bloom filter that threads share under a rule: what a thread knows stays on.
 #![tactic(auto)]
 
+mod filter;
+mod looks;
+mod opening;
+mod passes;
 mod rule;
 mod steps;
 
+pub use filter::SeatedBloomFilter;
+pub use passes::Pass;
 pub use rule::{Role, SeatedRule, Sets, Size};

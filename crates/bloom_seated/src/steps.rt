@@ -2,7 +2,7 @@
 ghost use Rattle.std.specs.Prelude.{◌≡◌, ◌<◌};
 ghost use Rattle.atomic_table.specs.Table.{step};
 ghost use mathlib.Core.Option.{none};
-ghost use Rattle.bloom_seated.specs.Plays.{IsAt, loaded, turned_on};
+ghost use Rattle.bloom_seated.specs.Plays.{SitsAt, loaded, turned_on};
 ghost use Rattle.bloom_seated.specs.declared.rule.Role.TheVariants.{Pass};
 
 use crate::rule::{SeatedRule, Sets, Size};
@@ -30,7 +30,7 @@ impl Play<(), Sets> for TurnsOn {
 
 /// A load of a word by a pass.
 pub(crate) fn load(shared: &SharedWords, seat: &mut FilterSeat, word: usize) -> u64
-    requires at { IsAt seat.old shared.now.table_id shared.now.key }
+    requires at { SitsAt seat.old shared.now.table_id shared.now.key }
     requires within { word < shared.now.table_id.words }
     requires pass { seat.old.me.0.role ≡ Pass }
     ensures table { seat.new.table_id ≡ seat.old.table_id }
@@ -47,7 +47,7 @@ pub(crate) fn turn_on(
     word: usize,
     mask: u64,
 ) -> u64
-    requires at { IsAt seat.old shared.now.table_id shared.now.key }
+    requires at { SitsAt seat.old shared.now.table_id shared.now.key }
     requires within { word < shared.now.table_id.words }
     requires pass { seat.old.me.0.role ≡ Pass }
     ensures table { seat.new.table_id ≡ seat.old.table_id }
