@@ -4,7 +4,7 @@ use Rattle.std.proofs.lemmas.Bool.{both_ways, cases_Bool, or_cases, or_left, or_
 use Rattle.bloom_parts.specs.Content.{content}
 use Rattle.bloom_parts.specs.Places.{IsPart, place, positions, are_in}
 use Rattle.bloom_parts.proofs.PublishedLemmas.{position-from, position-to, place-position, part-to, are_in-off}
-use Rattle.bloom_seated.specs.Passes.{Sight, known_of, gained_of, sure_of, IsSamePass, HasGained, Inserts, Looks, Finds}
+use Rattle.bloom_seated.specs.Passes.{Sight, SeatedFilter, known_of, gained_of, sure_of, num_bits_of, positions_of, contains_known, IsSure, IsSamePass, HasGained, Inserts, Looks, Finds}
 
 -- what a pass can be sure of stays so as it comes to know more
 pub sure-kept : (old new : Sight) → IsSamePass old new → IsPart (known_of old) (known_of new)
@@ -60,3 +60,26 @@ finds-known n k hash old new answer did = elim (cases_Bool answer) [
     unknown : (a b : Bool) → (a || b) ≡ false → b ≡ false
     unknown true b is = absurd (both_ways true is refl)
     unknown false b is = is
+
+-- the same of a filter and a pass as contracts see them
+module _ (f g : SeatedFilter) (a b new : Sight) (hash : ℕ) (answer : Bool) (same_filter : f ≡ g)
+    (same_pass : a ≡ b) where
+  pub insert-true : Inserts (positions_of f hash) a new answer → IsSure g b hash → answer ≡ true
+  insert-true did sure =
+      inserts-sure (positions_of g hash) b new answer
+      (subst (λ (z : SeatedFilter × Sight). Inserts (positions_of z.0 hash) z.1 new answer)
+      (λ i. (same_filter i, same_pass i)) did) sure
+
+  pub find-true : Finds (num_bits_of f) f.hashes hash a new answer → IsSure g b hash
+      → answer ≡ true
+  find-true did sure =
+      finds-sure (num_bits_of g) g.hashes hash b new answer
+      (subst (λ (z : SeatedFilter × Sight). Finds (num_bits_of z.0) z.0.hashes hash z.1 new answer)
+      (λ i. (same_filter i, same_pass i)) did) sure
+
+  pub find-known : Finds (num_bits_of f) f.hashes hash a new answer
+      → answer ≡ contains_known g new hash
+  find-known did =
+      finds-known (num_bits_of g) g.hashes hash b new answer
+      (subst (λ (z : SeatedFilter × Sight). Finds (num_bits_of z.0) z.0.hashes hash z.1 new answer)
+      (λ i. (same_filter i, same_pass i)) did)

@@ -1,5 +1,6 @@
 mod CallLemmas
 mod FillLemmas
+mod MeetLemmas
 mod OpeningLemmas
 mod PassLemmas
 mod PlaceLemmas

@@ -1,13 +1,13 @@
 -- What one step does to what a pass knows and gained, and what steps do one after the other.
 use Rattle.std.proofs.Common.{◌≡◌, ◌≢◌, ℕ, zero, suc, ◌+◌, ◌*◌, ◌/◌, ◌%◌, ◌^◌, ◌<◌, ◌≤◌, ◌⊎◌, Bool, true, false, ◌||◌, ◌&&◌, eqb, ltb, bit_and, List, [], ◌∷◌, ◌++◌, inl, inr, refl, sym, ap, ◌∙◌, subst, arith}
-use Rattle.std.proofs.lemmas.Bool.{both_ways, cases_Bool, cases_eq, or_cases, or_left, or_right, eqb-true, eq-eqb, false_from_ne_true, and_parts}
+use Rattle.std.proofs.lemmas.Bool.{both_ways, cases_Bool, cases_eq, cases_lt, or_cases, or_left, or_right, eqb-true, eq-eqb, false_from_ne_true, and_parts}
 use Rattle.atomic_table.specs.Seated.{TableId}
 use Rattle.bloom_parts.specs.Content.{bit_is_on, content}
 use Rattle.bloom_parts.specs.Places.{IsPart}
 use Rattle.bloom_parts.proofs.PublishedLemmas.{test-bit, bit_is_on-mask}
 use Rattle.bloom_seated.specs.Sets.{set_of, on_in, fresh_in}
 use Rattle.bloom_seated.specs.Plays.{FilterSeat, sure_in, Shows, after_load, after_or}
-use Rattle.bloom_seated.specs.Passes.{Sight, sight_of, known_of, gained_of, sure_of, IsSamePass, HasGained, Inserts, LooksAt}
+use Rattle.bloom_seated.specs.Passes.{Sight, sight_of, known_of, gained_of, sure_of, IsSamePass, HasGained, Inserts, LooksAt, Views}
 use Rattle.bloom_seated.specs.declared.rule.Sets.{Sets}
 use Rattle.bloom_seated.proofs.SetLemmas.{in-left, in-right, in-either, set_of-append, same-tests, on-from, on-to, fresh-from, fresh-to}
 
@@ -235,3 +235,33 @@ by-load old new q word mask found is_word is_mask table told =
     (ltb 0 (bit_and found (mask_of q found)))) (λ i. (sym table i, sym t.0 i))
     (looks-one old.table_id old.me.0 q found t.1 (ltb 0 (bit_and found (mask_of q found)))
     (tested q found))) told
+
+-- a seat looked at one word more, as its load tells
+pub views-next : (old mid new : FilterSeat) (word found : ℕ) → new.table_id ≡ mid.table_id
+    → (new.me.0 ≡ after_load mid.me.0 word found) × Shows mid.me.0 word found
+    → Views word (sight_of old) (sight_of mid) → Views (word + 1) (sight_of old) (sight_of new)
+views-next old mid new word found table told before =
+    subst (λ (z : TableId × Sets). Views (word + 1) (sight_of old) (seen z.0 z.1))
+    (λ i. (sym table i, sym told.0 i)) record {
+      same = record { filter = before.same.filter; start = before.same.start };
+      gained = before.gained;
+      kept = λ p is. in-left mid.me.0.known (on_in word found) p (before.kept p is);
+      shown = λ p below begun. elim (cases_lt (p / 64) word) [
+        | inl earlier ↦
+            in-left mid.me.0.known (on_in word found) p (before.shown p earlier begun)
+        | inr late ↦
+            let here : p / 64 ≡ word = omega arith in
+            in-right mid.me.0.known (on_in word found) p (on-to word found p here
+            (told.1 p here (or_left (content mid.me.0.start p) (set_of mid.me.0.known p)
+            (ap (λ l. content l p) before.same.start ∙ begun))))
+      ];
+    }
+
+-- no word was looked at yet
+pub views-begin : (old : Sight) → Views 0 old old
+views-begin old = record {
+  same = record { filter = refl; start = refl };
+  gained = refl;
+  kept = λ p is. is;
+  shown = λ p below begun. absurd (omega arith);
+}

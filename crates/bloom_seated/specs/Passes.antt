@@ -131,14 +131,27 @@ pub record Finds (n k hash : ℕ) (old new : Sight) (answer : Bool) : Type 0 whe
   pub off : answer ≡ false → (on < k) × (sure_of new (place n hash on) ≡ false)
       × GrowsBeside n hash (on + 1) old new
 
--- from old to new two passes met: both know what either knew, and all that the filter began with
+-- from old to new a pass looked at the words before one: it knows all that these began with
+pub record Views (word : ℕ) (old new : Sight) : Type 0 where
+  pub same : IsSamePass old new
+  pub gained : new.gained ≡ old.gained
+  pub kept : IsPart (known_of old) (known_of new)
+  pub shown : (p : ℕ) → p / 64 < word → content old.start p ≡ true → known_of new p ≡ true
+
+-- what either of two passes knows
+abbrev pub either_of : Sight → Sight → ℕ → Bool
+either_of a b p = known_of a p || known_of b p
+
+-- from old to new two passes met: both know what either knew, and what the filter began with
 pub record Meets (a b a_new b_new : Sight) : Type 0 where
   pub same_a : IsSamePass a a_new
   pub same_b : IsSamePass b b_new
   pub gained_a : a_new.gained ≡ a.gained
   pub gained_b : b_new.gained ≡ b.gained
-  pub known_a : (p : ℕ) → (known_of a p || known_of b p) ≡ true → known_of a_new p ≡ true
-  pub known_b : (p : ℕ) → (known_of a p || known_of b p) ≡ true → known_of b_new p ≡ true
+  pub known_a : IsPart (either_of a b) (known_of a_new)
+  pub known_b : IsPart (either_of a b) (known_of b_new)
+  pub start_a : IsPart (content a.start) (known_of a_new)
+  pub start_b : IsPart (content b.start) (known_of b_new)
 
 -- the words in the end: all is on that the pass was sure of, and it gained nothing of the start
 pub record Closes (pass : Sight) (words : List ℕ) : Type 0 where

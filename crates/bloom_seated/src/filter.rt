@@ -1,9 +1,11 @@
 //! The filter that threads share under a rule.
 ghost use Rattle.std.specs.Prelude.{◌≡◌, ◌<◌, ◌≤◌, ◌^◌, All, IfOk, IsOkUnless, Some, max, true, vec_len};
 ghost use Rattle.std.specs.Result.{result_err};
-ghost use Rattle.bloom_seated.specs.Passes.{Finds, Inserts, IsNewPass, IsSamePass, IsSure, Knows, contains_known, num_bits_of, positions_of};
+ghost use Rattle.bloom_seated.specs.Passes.{Closes, Finds, Inserts, IsNewPass, IsSamePass, IsSure, Meets, contains_known, num_bits_of, positions_of};
 
+use crate::closing::close_table;
 use crate::looks::{FilterTable, find_positions, insert_positions};
+use crate::meetings::meet_seats;
 use crate::opening::open;
 use crate::passes::{Pass, split_passes};
 use crate::rule::Size;
@@ -94,8 +96,8 @@ impl SeatedBloomFilter {
         requires { pass.old.filter ≡ self.now.table }
         ensures same { IsSamePass pass.old pass.new }
         ensures inserts { Inserts (positions_of self.now hash) pass.old pass.new result }
-        // True where the pass knew all of them.
-        ensures known { Knows self.now pass.old hash → result ≡ true }
+        // True where the pass could be sure of all of them.
+        ensures sure { IsSure self.now pass.old hash → result ≡ true }
     {
         insert_positions(&self.table, &mut pass.seat, self.num_hashes, hash)
     }
@@ -113,5 +115,34 @@ impl SeatedBloomFilter {
         ensures gained { pass.new.gained ≡ pass.old.gained }
     {
         find_positions(&self.table, &mut pass.seat, self.num_hashes, hash)
+    }
+
+    /// Hands each of two passes what the other knows, and lets each see every word.
+    ///
+    /// Both then know all that either knew, and all that the filter began with.
+    pub fn meet(&self, a: &mut Pass, b: &mut Pass)
+        requires a { a.old.filter ≡ self.now.table }
+        requires b { b.old.filter ≡ self.now.table }
+        ensures { Meets a.old b.old a.new b.new }
+    {
+        meet_seats(&self.table, &mut a.seat, &mut b.seat)
+    }
+
+    /// The words, in which all is on that the filter began with or the pass knows.
+    ///
+    /// # Errors
+    /// `Memory` where there is no room for them; the filter is gone then too.
+    pub fn close(self, alloc: Global, pass: Pass) -> Result<Vec<u64>, FilterError>
+        requires { pass.filter ≡ self.table }
+        ensures count { IfOk result (λ words. vec_len words ≡ self.table.words) }
+        ensures closes { IfOk result (λ words. Closes pass words.items) }
+        ensures refused { IsOkUnless result FilterError.Memory }
+    {
+        let SeatedBloomFilter {
+            table,
+            num_hashes: _,
+        } = self;
+        let Pass { seat } = pass;
+        close_table(alloc, table, seat)
     }
 }

@@ -1,8 +1,10 @@
 //! A Bloom filter that threads share under a rule: what a thread knows stays on.
 #![tactic(auto)]
 
+mod closing;
 mod filter;
 mod looks;
+mod meetings;
 mod opening;
 mod passes;
 mod rule;

@@ -1,5 +1,5 @@
 //! Passes: what one user of a filter knows of it.
-ghost use Rattle.std.specs.Prelude.{◌≡◌, ◌<◌, ◌≤◌, All, IfOk, IsOkUnless, vec_len};
+ghost use Rattle.std.specs.Prelude.{◌≡◌, ◌<◌, ◌≤◌, All, IfOk, IsOkUnless, length, vec_len};
 ghost use Rattle.bloom_seated.specs.Plays.{SitsAt, IsFresh, less_one, one_of};
 ghost use Rattle.bloom_seated.specs.Passes.{IsNewPass, sight_of};
 
@@ -20,15 +20,14 @@ pub struct Pass {
 }
 
 impl Model for Pass {
-    ghost use Rattle.std.specs.Prelude.{◌≡◌};
     ghost use Rattle.bloom_seated.specs.Passes.{Sight, sight_of};
-    ghost use Rattle.bloom_seated.specs.declared.rule.Role.TheVariants as role;
+    ghost use Rattle.bloom_seated.specs.Standing.{IsPassSeat};
 
     ghost Value = { Sight };
 
     ghost view = { λ p. sight_of p.seat };
 
-    ghost invariant = { λ p. p.seat.me.0.role ≡ role.Pass };
+    ghost invariant = { λ p. IsPassSeat p.seat };
 }
 
 // A seat that stands for one pass less, and that pass.
@@ -46,6 +45,7 @@ fn split_pass(shared: &SharedWords, seat: &mut FilterSeat) -> Pass
     requires some { 0 < shared.now.table_id.words }
     requires fresh { IsFresh seat.old.me.0 }
     requires more { 1 < seat.old.me.0.passes }
+    requires whole { length seat.old.me.0.start ≡ shared.now.table_id.words }
     ensures table { seat.new.table_id ≡ seat.old.table_id }
     ensures left { seat.new.me.0 ≡ less_one seat.old.me.0 }
     ensures pass { IsNewPass seat.old.table_id seat.old.me.0.start result }
@@ -66,6 +66,7 @@ pub(crate) fn split_passes(
     requires some { 0 < shared.now.table_id.words }
     requires fresh { IsFresh seat.me.0 }
     requires passes { seat.me.0.passes ≡ passes }
+    requires whole { length seat.me.0.start ≡ shared.now.table_id.words }
     requires least { 1 ≤ passes }
     ensures count { IfOk result (λ all. vec_len all ≡ passes) }
     ensures new { IfOk result (λ all. All (IsNewPass seat.table_id seat.me.0.start) all.items) }
