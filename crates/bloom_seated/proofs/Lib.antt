@@ -1,5 +1,6 @@
 mod CallLemmas
 mod FillLemmas
+mod LawLemmas
 mod MeetLemmas
 mod OpeningLemmas
 mod PassLemmas

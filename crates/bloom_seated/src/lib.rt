@@ -3,6 +3,7 @@
 
 mod closing;
 mod filter;
+pub mod laws;
 mod looks;
 mod meetings;
 mod opening;
