@@ -3,8 +3,10 @@ mod FillLemmas
 mod LawLemmas
 mod MeetLemmas
 mod OpeningLemmas
+mod PassFacts
 mod PassLemmas
 mod PlaceLemmas
+mod RuleFacts
 mod RuleLemmas
 mod SetLemmas
 mod StepLemmas

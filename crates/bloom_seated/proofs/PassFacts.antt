@@ -1,17 +1,19 @@
 -- What contracts say of passes, each at a case that holds and at cases as near as can be that
 -- don't. Hash 1 has the positions 0 and 20 among 64 bits.
-use Rattle.std.proofs.Common.{◌≡◌, ℕ, zero, suc, ◌+◌, ◌/◌, ◌<◌, ◌≤◌, ◌⊎◌, Bool, true, false, ◌||◌, eqb, List, [], ◌∷◌, inl, inr, refl, sym, ap, ◌∙◌, subst, arith, lit<, lit≤}
+use Rattle.std.proofs.Common.{◌≡◌, ℕ, zero, suc, ◌+◌, ◌/◌, ◌%◌, ◌^◌, ◌<◌, ◌≤◌, ◌⊎◌, Bool, true, false, ◌||◌, eqb, List, [], ◌∷◌, inl, inr, refl, sym, ap, ◌∙◌, subst, arith, lit<, lit≤}
 use Rattle.std.proofs.Math.Bool.{or-false}
-use Rattle.std.proofs.lemmas.Bool.{both_ways, or_cases, eqb-true}
+use Rattle.std.proofs.lemmas.Bool.{both_ways, cases_lt, or_cases, eqb-true}
 use Rattle.atomic_table.specs.Seated.{TableId}
 use Rattle.bloom_parts.specs.Chain.{chain}
-use Rattle.bloom_parts.specs.Content.{content}
+use Rattle.bloom_parts.specs.Content.{bit_is_on, content}
 use Rattle.bloom_parts.specs.Places.{place, positions, are_in, IsPart}
+use Rattle.bloom_parts.proofs.PublishedLemmas.{bit_is_on-mask, content-past}
 use Rattle.bloom_seated.specs.Sets.{set_of}
 use Rattle.bloom_seated.specs.Passes.{SeatedFilter, Sight, known_of, gained_of, sure_of, Knows, IsSure, contains_known, num_bits_of, positions_of, IsSamePass, IsNewPass, Inserts, Finds, Meets, Closes}
+use Rattle.bloom_seated.proofs.WordLemmas.{content-word, content-with_bits}
 
 -- a table of so many words, told from others by its name
-table : ℕ → ℕ → TableId
+abbrev table : ℕ → ℕ → TableId
 table words name = record {
   words = words;
   slots = 0;
@@ -23,7 +25,7 @@ table words name = record {
 }
 
 -- a pass of the table 7 of one word
-pass : ℕ → List ℕ → List ℕ → Sight
+abbrev pass : ℕ → List ℕ → List ℕ → Sight
 pass start known gained = record {
   filter = table 1 7;
   start = start ∷ [];
@@ -41,7 +43,7 @@ unfolding set_of
 nothing p is = both_ways false refl is
 
 -- the set of one number
-one-from : (q p : ℕ) → set_of (q ∷ []) p ≡ true → p ≡ q
+pub one-from : (q p : ℕ) → set_of (q ∷ []) p ≡ true → p ≡ q
 unfolding set_of
 one-from q p is = eqb-true p q (sym (or-false (eqb p q)) ∙ is)
 
@@ -51,6 +53,18 @@ unfolding set_of
 two-from q r p is = elim (or_cases (eqb p q) (eqb p r || false) is) [
   | inl here ↦ inl (eqb-true p q here)
   | inr later ↦ inr (eqb-true p r (sym (or-false (eqb p r)) ∙ later))
+]
+
+-- the position of a word with one bit
+pub single-from : (q p : ℕ) → q < 64 → content (2 ^ q ∷ []) p ≡ true → p ≡ q
+single-from q p small on = elim (cases_lt (p / 64) 1) [
+  | inl within ↦
+      let here : p / 64 ≡ 0 = omega arith in
+      let word : p / 64 ≡ q / 64 = omega arith in
+      let bit : q % 64 ≡ q = omega arith in
+      eqb-true p q (sym (bit_is_on-mask p q word)
+      ∙ ap (λ j. bit_is_on (2 ^ j) p) bit ∙ sym (content-word (2 ^ q ∷ []) 0 p here) ∙ on)
+  | inr past ↦ absurd (both_ways (content (2 ^ q ∷ []) p) (content-past (2 ^ q ∷ []) p past) on)
 ]
 
 -- hash 1 with one hash is inserted into a word that is 0
@@ -228,4 +242,84 @@ meets-both = record {
     ]
 
     begun : (p : ℕ) → content (1 ∷ []) p ≡ true → set_of (5 ∷ 7 ∷ 0 ∷ []) p ≡ true
-    begun p is = ap (set_of (5 ∷ 7 ∷ 0 ∷ [])) (begun-at p is)
+    begun p is = ap (set_of (5 ∷ 7 ∷ 0 ∷ [])) (single-from 0 p (lit< tt) is)
+
+-- one that learned nothing
+meets-one_way : Meets (pass 0 (5 ∷ []) []) (pass 0 (7 ∷ []) []) (pass 0 (5 ∷ []) [])
+    (pass 0 (5 ∷ 7 ∷ []) []) → ⊥
+unfolding set_of
+meets-one_way met = both_ways (set_of (5 ∷ []) 7) refl (met.known_a 7 refl)
+
+meets-other_way : Meets (pass 0 (5 ∷ []) []) (pass 0 (7 ∷ []) []) (pass 0 (5 ∷ 7 ∷ []) [])
+    (pass 0 (7 ∷ []) []) → ⊥
+unfolding set_of
+meets-other_way met = both_ways (set_of (7 ∷ []) 5) refl (met.known_b 5 refl)
+
+-- one that looked at no word
+meets-blind : Meets (pass 1 [] []) (pass 1 [] []) (pass 1 [] []) (pass 1 (0 ∷ []) []) → ⊥
+unfolding content
+meets-blind met = nothing 0 (met.start_a 0 refl)
+
+-- one that took what the other gained
+meets-taking : Meets (pass 0 (5 ∷ []) []) (pass 0 (5 ∷ []) (5 ∷ [])) (pass 0 (5 ∷ []) (5 ∷ []))
+    (pass 0 (5 ∷ []) (5 ∷ [])) → ⊥
+meets-taking met = let wrong : ◌≡◌ {A = List ℕ} (5 ∷ []) [] = met.gained_a in cc
+
+-- the words 1048577 have the bits 0, of the start, and 20, which was gained
+closes-both : Closes (pass 1 (20 ∷ []) (20 ∷ [])) (1048577 ∷ [])
+unfolding content set_of
+closes-both = record {
+  start = λ p begun. ap (content (1048577 ∷ [])) (single-from 0 p (lit< tt) begun);
+  known = λ p known. ap (content (1048577 ∷ [])) (one-from 20 p known);
+  gained = λ p gained. ap (content (1 ∷ [])) (one-from 20 p gained);
+}
+
+-- words without what was known, and without the start
+closes-unknown : Closes (pass 1 (20 ∷ []) []) (1 ∷ []) → ⊥
+unfolding content set_of
+closes-unknown ends = both_ways (content (1 ∷ []) 20) refl (ends.known 20 refl)
+
+closes-without_start : Closes (pass 1 (20 ∷ []) []) (1048576 ∷ []) → ⊥
+unfolding content set_of
+closes-without_start ends = both_ways (content (1048576 ∷ []) 0) refl (ends.start 0 refl)
+
+-- a pass that gained what the filter began with
+closes-begun : Closes (pass 1 (0 ∷ []) (0 ∷ [])) (1 ∷ []) → ⊥
+unfolding content set_of
+closes-begun ends = both_ways (content (1 ∷ []) 0) (ends.gained 0 refl) refl
+
+-- a new pass, one of another filter, and one that knows something
+new_pass-fresh : IsNewPass (table 1 7) (5 ∷ []) (pass 5 [] [])
+new_pass-fresh = record { filter_is = refl; start_is = refl; known = refl; gained = refl }
+
+new_pass-other : IsNewPass (table 1 8) (5 ∷ []) (pass 5 [] []) → ⊥
+new_pass-other new =
+    let names : 7 ≡ 8 = ap (λ (t : TableId). t.views_name) new.filter_is in omega (arith, names)
+
+new_pass-knowing : IsNewPass (table 1 7) (5 ∷ []) (pass 5 (0 ∷ []) []) → ⊥
+new_pass-knowing new = let wrong : ◌≡◌ {A = List ℕ} (0 ∷ []) [] = new.known in cc
+
+-- a filter of one word and two hashes
+abbrev filter : SeatedFilter
+filter = record { table = table 1 7; hashes = 2; passes = 2 }
+
+-- what is known of hash 1, and what can be sure, at both positions and at one
+known-both : contains_known filter (pass 0 (20 ∷ 0 ∷ []) []) 1 ≡ true
+unfolding are_in set_of chain
+known-both = refl
+
+known-one : contains_known filter (pass 0 (0 ∷ 21 ∷ []) []) 1 ≡ false
+unfolding are_in set_of chain
+known-one = refl
+
+knows-one : Knows filter (pass 0 (0 ∷ 21 ∷ []) []) 1 → ⊥
+unfolding positions set_of chain
+knows-one known = both_ways (set_of (0 ∷ 21 ∷ []) 20) refl (known 20 refl)
+
+sure-both : are_in 64 2 1 (sure_of (pass 1 (20 ∷ []) [])) ≡ true
+unfolding are_in set_of chain content
+sure-both = refl
+
+sure-one : IsSure filter (pass 1 (21 ∷ []) []) 1 → ⊥
+unfolding positions set_of chain content
+sure-one sure = both_ways (sure_of (pass 1 (21 ∷ []) []) 20) refl (sure 20 refl)
