@@ -50,7 +50,7 @@ fn two_passes_meet(rt: HostRuntime) -> Result<(), Fail> {
     assert_eq!(rt; filter.insert_hash_as(&mut second, 1), true);
     filter.meet(&mut first, &mut second);
     let words = filter.close(rt.alloc(), second)?;
-    assert!(rt; words.as_slice() == &[1048577]);
+    assert!(rt; words.as_slice() == [1048577].as_slice());
     Ok(())
 }
 
@@ -70,7 +70,7 @@ fn words_that_were_given_are_there(rt: HostRuntime) -> Result<(), Fail> {
     assert_eq!(rt; filter.insert_hash_as(&mut pass, 1), false);
     assert_eq!(rt; filter.contains_hash_as(&mut pass, 1), true);
     let words = filter.close(rt.alloc(), pass)?;
-    assert!(rt; words.as_slice() == &[1048577]);
+    assert!(rt; words.as_slice() == [1048577].as_slice());
     Ok(())
 }
 
@@ -79,10 +79,10 @@ fn words_that_were_given_are_there(rt: HostRuntime) -> Result<(), Fail> {
 fn close_gives_exact_words(rt: HostRuntime) -> Result<(), Fail> {
     let given = [5, 0, u64::MAX];
     let (filter, pass) = with_one(rt.alloc(), &given, 3)?;
-    assert!(rt; filter.close(rt.alloc(), pass)?.as_slice() == &given);
+    assert!(rt; filter.close(rt.alloc(), pass)?.as_slice() == given.as_slice());
     let (filter, mut pass) = with_one(rt.alloc(), &[0; 3], 1)?;
     filter.insert_hash_as(&mut pass, 1 << 63);
-    assert!(rt; filter.close(rt.alloc(), pass)?.as_slice() == &[0, 1 << 32, 0]);
+    assert!(rt; filter.close(rt.alloc(), pass)?.as_slice() == [0, 1 << 32, 0].as_slice());
     Ok(())
 }
 
@@ -101,6 +101,6 @@ fn no_words_are_refused_and_no_passes_count_as_one(rt: HostRuntime) -> Result<()
         unreachable!()
     };
     filter.insert_hash_as(&mut pass, 1);
-    assert!(rt; filter.close(rt.alloc(), pass)?.as_slice() == &[1]);
+    assert!(rt; filter.close(rt.alloc(), pass)?.as_slice() == [1].as_slice());
     Ok(())
 }

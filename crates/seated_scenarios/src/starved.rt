@@ -17,7 +17,7 @@ fn insert_and_close(alloc: Global) -> Result<Vec<u64>, FilterError> {
 #[test]
 fn a_refused_growth_is_answered_by_memory(rt: HostRuntime) {
     match insert_and_close(rt.alloc()) {
-        Ok(words) => assert!(rt; words.as_slice() == &[1048577]),
+        Ok(words) => assert!(rt; words.as_slice() == [1048577].as_slice()),
         Err(error) => {
             assert_eq!(rt; error, FilterError::Memory);
             assert_eq!(rt; error.code(), 6);

@@ -1,5 +1,5 @@
 //! Threads that share a seated filter, each with a pass of its own.
-ghost use Rattle.std.specs.Prelude.{◌≡◌, IfOk};
+ghost use Rattle.std.specs.Prelude.{◌≡◌, ◌+◌, ◌≤◌, All, IfOk, vec_len};
 ghost use Rattle.std.specs.Arc.{arc_value};
 
 use crate::two::found_by_both;
@@ -42,15 +42,22 @@ fn insert_all(filter: &SeatedBloomFilter, mut pass: Pass) -> (u64, Pass)
     (new, pass)
 }
 
-// Starts a thread that inserts all hashes.
+// Starts a thread that inserts all hashes, with the last of the passes.
 fn start<R: Threads>(
     rt: &R,
     filter: &Arc<SeatedBloomFilter, Global>,
-    pass: Pass,
+    passes: &mut Vec<Pass>,
 ) -> Result<Child, Fail>
-    requires { pass.filter ≡ (arc_value filter.now).table }
-    ensures { IfOk result (λ child. child.promise.0.value ≡ arc_value filter.now) }
+    requires some { 1 ≤ vec_len passes.old }
+    requires of_filter { All (λ pass. pass.filter ≡ (arc_value filter.now).table) passes.old.items }
+    ensures child { IfOk result (λ child. child.promise.0.value ≡ arc_value filter.now) }
+    ensures left { vec_len passes.old ≡ vec_len passes.new + 1 }
+    ensures of_filter { All (λ pass. pass.filter ≡ (arc_value filter.now).table)
+        passes.new.items }
 {
+    let Some(pass) = passes.pop() else {
+        unreachable!()
+    };
     let shared = Arc::try_clone(filter)?;
     let promise = IsOfFilter(Snapshot::of(&*shared));
     Ok(thread::spawn_with(rt, promise, move || insert_all(&shared, pass))?)
@@ -90,14 +97,10 @@ fn four_threads_insert_the_same_hashes(rt: HostRuntime) -> Result<(), Fail> {
     let words = vec![in rt.alloc(); 0u64; 64]?;
     let (filter, mut passes) = SeatedBloomFilter::new(rt.alloc(), words, 1, 4)?;
     let shared = Arc::new(rt.alloc(), filter)?;
-    let Some(pass) = passes.pop() else { unreachable!() };
-    let one = start(&rt, &shared, pass)?;
-    let Some(pass) = passes.pop() else { unreachable!() };
-    let two = start(&rt, &shared, pass)?;
-    let Some(pass) = passes.pop() else { unreachable!() };
-    let three = start(&rt, &shared, pass)?;
-    let Some(pass) = passes.pop() else { unreachable!() };
-    let four = start(&rt, &shared, pass)?;
+    let one = start(&rt, &shared, &mut passes)?;
+    let two = start(&rt, &shared, &mut passes)?;
+    let three = start(&rt, &shared, &mut passes)?;
+    let four = start(&rt, &shared, &mut passes)?;
     let (new_of_one, mut first) = one.join(&rt);
     let (new_of_two, mut second) = two.join(&rt);
     let (new_of_three, mut third) = three.join(&rt);
