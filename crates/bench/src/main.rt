@@ -8,6 +8,7 @@ mod filters;
 mod hashes;
 mod items;
 mod passes;
+mod seated;
 mod shared;
 mod steps;
 mod table;
@@ -54,5 +55,6 @@ fn main(rt: HostRuntime) -> anyhow::Result<()> {
     passes::measure(&rt, keys, rounds)?;
     steps::measure(&rt, keys, rounds)?;
     shared::measure(&rt, keys, rounds)?;
+    seated::measure(&rt, keys, rounds)?;
     threads::measure(&rt, keys, rounds)
 }

@@ -2,6 +2,7 @@ mod DataLemmas
 mod FormLemmas
 mod InsertedLemmas
 mod ReadingLemmas
+mod SeatedStepFacts
 mod SharedFacts
 mod SharedFormFacts
 mod SharedLemmas
