@@ -1,10 +1,10 @@
 -- What calls answer of what a pass knows or can be sure of.
-use Rattle.std.proofs.Common.{◌≡◌, ℕ, ◌+◌, ◌<◌, ◌≤◌, ◌⊎◌, Bool, true, false, ◌||◌, inl, inr, refl, sym, ap, ◌∙◌, subst, arith}
+use Rattle.std.proofs.Common.{◌≡◌, ℕ, Bool, true, false, ◌||◌, inl, inr, refl, sym, ap, ◌∙◌, subst, arith}
 use Rattle.std.proofs.lemmas.Bool.{both_ways, cases_Bool, or_cases, or_left, or_right, true_from_ne_false}
 use Rattle.bloom_parts.specs.Content.{content}
 use Rattle.bloom_parts.specs.Places.{IsPart, place, positions, are_in}
 use Rattle.bloom_parts.proofs.PublishedLemmas.{position-from, position-to, place-position, part-to, are_in-off}
-use Rattle.bloom_seated.specs.Passes.{Sight, SeatedFilter, known_of, gained_of, sure_of, num_bits_of, positions_of, contains_known, IsSure, IsSamePass, HasGained, Inserts, Looks, Finds}
+use Rattle.bloom_seated.specs.Passes.{Sight, SeatedFilter, known_of, gained_of, sure_of, num_bits_of, positions_of, contains_known, IsSure, IsSamePass, Inserts, Finds}
 
 -- what a pass can be sure of stays so as it comes to know more
 pub sure-kept : (old new : Sight) → IsSamePass old new → IsPart (known_of old) (known_of new)

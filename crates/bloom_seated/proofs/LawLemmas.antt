@@ -1,15 +1,14 @@
 -- The laws of seated filters.
-use Rattle.std.proofs.Common.{◌≡◌, ◌≢◌, ℕ, zero, suc, ◌+◌, ◌<◌, ◌≤◌, ◌/◌, ◌⊎◌, Bool, true, false, ◌||◌, ◌&&◌, eqb, List, [], ◌∷◌, length, sum_by, count_by, if◌then◌else◌, cond, Some, None, unwrap_or, inl, inr, refl, sym, ap, ◌∙◌, subst, arith}
+use Rattle.std.proofs.Common.{◌≡◌, ℕ, suc, ◌≤◌, ◌/◌, Bool, true, false, ◌||◌, ◌&&◌, eqb, List, [], ◌∷◌, sum_by, count_by, if◌then◌else◌, cond, Some, None, unwrap_or, inl, inr, refl, ◌∙◌, arith}
 use mathlib.Core.Option.{some}
 use lib.ListN.{get_elem?}
 use Rattle.std.proofs.lemmas.Bool.{or_left, or_right}
 use Rattle.std.proofs.lemmas.List.Sums.{sum_by-cons}
 use Rattle.bloom_parts.specs.Content.{bit_is_on, content}
 use Rattle.bloom_parts.specs.Places.{IsPart}
-use Rattle.bloom_seated.specs.Passes.{SeatedFilter, Sight, Knows, known_of, num_bits_of, positions_of, Inserts}
-use Rattle.bloom_seated.specs.Plays.{with_bits}
-use Rattle.bloom_seated.specs.Rule.{Standing, IsSeated, passes_of}
-use Rattle.bloom_seated.specs.SeatedLaws.{FoundLaw, InsertedLaw, KnownLaw, StaysLaw, MetLaw, FewLaw, OrLaw, is_pass, is_pass_role, or_decides}
+use Rattle.bloom_seated.specs.Passes.{Sight, known_of, num_bits_of, positions_of, Inserts}
+use Rattle.bloom_seated.specs.Rule.{passes_of}
+use Rattle.bloom_seated.specs.SeatedLaws.{FoundLaw, InsertedLaw, KnownLaw, StaysLaw, MetLaw, FewLaw, OrLaw, is_pass, is_pass_role}
 use Rattle.bloom_seated.specs.declared.rule.Role.{Role}
 use Rattle.bloom_seated.specs.declared.rule.Role.TheVariants.{First, Pass, Note, Spent}
 use Rattle.bloom_seated.specs.declared.rule.Sets.{Sets}
@@ -94,8 +93,13 @@ count-passes (v ∷ vs) each =
     count-passes vs (λ seat w at. each (suc seat) w at) in
     let now : cond (is_pass v) 1 0 ≤ v.passes =
     count-one (is_pass v) v.passes (λ on. each 0 v refl (role-of v.role on)) in
-    omega (arith, now, later, sum_by-cons passes_of v vs,
-    sum_by-cons (λ (u : Sets). cond (is_pass u) 1 0) v vs)
+    omega (
+      arith,
+      now,
+      later,
+      sum_by-cons passes_of v vs,
+      sum_by-cons (λ (u : Sets). cond (is_pass u) 1 0) v vs,
+    )
 
 -- the law of few passes
 pub few_law : FewLaw

@@ -1,5 +1,5 @@
 -- Passes that meet, and the words in the end.
-use Rattle.std.proofs.Common.{◌≡◌, ℕ, ◌/◌, ◌+◌, ◌<◌, ◌≤◌, Bool, true, false, ◌||◌, List, [], ◌∷◌, ◌++◌, length, take, get_or, zero, suc, inl, inr, refl, sym, ap, ◌∙◌, subst, arith, le_refl}
+use Rattle.std.proofs.Common.{◌≡◌, ℕ, ◌/◌, ◌+◌, ◌<◌, true, false, List, [], ◌∷◌, ◌++◌, length, take, get_or, zero, suc, inl, inr, sym, ap, ◌∙◌, subst, arith, le_refl}
 use Rattle.std.proofs.lemmas.Bool.{both_ways, cases_lt, or_cases}
 use Rattle.std.proofs.lemmas.List.{take_more, take_all}
 use mathlib.Core.Option.{some, some-injective, some-ne-none}
@@ -11,10 +11,9 @@ use Rattle.bloom_parts.proofs.PublishedLemmas.{content-past}
 use Rattle.bloom_seated.specs.Sets.{set_of}
 use Rattle.bloom_seated.specs.Rule.{IsSeated}
 use Rattle.bloom_seated.specs.Plays.{FilterSeat, note_of, told}
-use Rattle.bloom_seated.specs.Passes.{Sight, sight_of, known_of, either_of, IsSamePass, Views, Meets, Closes}
+use Rattle.bloom_seated.specs.Passes.{Sight, sight_of, known_of, either_of, Views, Meets, Closes}
 use Rattle.bloom_seated.specs.Standing.{IsPassSeat}
 use Rattle.bloom_seated.specs.declared.rule.Sets.{Sets}
-use Rattle.bloom_seated.specs.declared.rule.Role.TheVariants.{Spent}
 use Rattle.bloom_seated.proofs.SetLemmas.{in-left, in-right}
 use Rattle.bloom_seated.proofs.StepLemmas.{pass-not_spent}
 

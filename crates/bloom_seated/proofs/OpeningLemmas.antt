@@ -1,8 +1,7 @@
 -- The first seat puts the words in alone, and then becomes a pass.
-use Rattle.std.proofs.Common.{◌≡◌, ℕ, zero, suc, ◌+◌, ◌<◌, ◌≤◌, true, false, List, [], ◌∷◌, length, set, get_or, bit_or, replicate, length-set, sum_by, inl, refl, sym, ap, ◌∙◌, subst, arith}
-use mathlib.Core.Option.{none, some, some-injective, some-ne-none}
+use Rattle.std.proofs.Common.{◌≡◌, ℕ, zero, suc, ◌≤◌, true, List, [], ◌∷◌, length, set, get_or, bit_or, replicate, length-set, sum_by, inl, refl, sym, ap, ◌∙◌, subst, arith}
+use mathlib.Core.Option.{none, some, some-ne-none}
 use lib.ListN.{get_elem?}
-use Rattle.std.proofs.lemmas.Bool.{false_from_ne_true}
 use Rattle.std.proofs.lemmas.List.{length-replicate, set-get_or}
 use Rattle.atomic_table.specs.Table.{step, keeps, Allows, opening as opened}
 use Rattle.bloom_parts.specs.Content.{content}
@@ -10,7 +9,7 @@ use Rattle.bloom_seated.specs.Sets.{set_of}
 use Rattle.bloom_seated.specs.Rule.{Standing, Has, IsSeated, passes_of, first_view}
 use Rattle.bloom_seated.specs.Plays.{Sat, with_bits, put_in, settled, IsFirst}
 use Rattle.bloom_seated.specs.declared.rule.Sets.{Sets}
-use Rattle.bloom_seated.specs.declared.rule.Role.TheVariants.{First, Pass}
+use Rattle.bloom_seated.specs.declared.rule.Role.TheVariants.{Pass}
 use Rattle.bloom_seated.proofs.SetLemmas.{in-none}
 use Rattle.bloom_seated.proofs.RuleLemmas.{only-view}
 
@@ -88,9 +87,9 @@ puts_in count passes slots seat me i mask first s rule sized at fits =
       keeps,
       tt,
       of-size (length-set s.words i (bit_or (get_or s.words i 0) mask) ∙ rule.count)
-      (only-passes s rule v before.0)
-      (alone s_after w (only-set s.views seat v w before.0 at)
-      (ap (λ l. with_bits l i mask) before.1) first.known first.gained first.some),
+          (only-passes s rule v before.0)
+          (alone s_after w (only-set s.views seat v w before.0 at)
+          (ap (λ l. with_bits l i mask) before.1) first.known first.gained first.some),
       refl,
     )
 
@@ -110,9 +109,9 @@ settles count passes slots seat me i first s rule sized at fits =
       keeps,
       tt,
       of-size (length-set s.words i (get_or s.words i 0) ∙ rule.count)
-      (only-passes s rule v before.0)
-      (alone s_after w (only-set s.views seat v w before.0 at)
-      (set-get_or s.words i 0 ∙ before.1) first.known first.gained first.some),
+          (only-passes s rule v before.0)
+          (alone s_after w (only-set s.views seat v w before.0 at)
+          (set-get_or s.words i 0 ∙ before.1) first.known first.gained first.some),
       refl,
     )
 

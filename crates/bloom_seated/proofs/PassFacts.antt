@@ -1,16 +1,16 @@
 -- What contracts say of passes, each at a case that holds and at cases as near as can be that
 -- don't. Hash 1 has the positions 0 and 20 among 64 bits.
-use Rattle.std.proofs.Common.{◌≡◌, ℕ, zero, suc, ◌+◌, ◌/◌, ◌%◌, ◌^◌, ◌<◌, ◌≤◌, ◌⊎◌, Bool, true, false, ◌||◌, eqb, List, [], ◌∷◌, inl, inr, refl, sym, ap, ◌∙◌, subst, arith, lit<, lit≤}
+use Rattle.std.proofs.Common.{◌≡◌, ℕ, ◌/◌, ◌%◌, ◌^◌, ◌<◌, ◌⊎◌, Bool, true, false, ◌||◌, eqb, List, [], ◌∷◌, inl, inr, refl, sym, ap, ◌∙◌, arith, lit<, lit≤}
 use Rattle.std.proofs.Math.Bool.{or-false}
 use Rattle.std.proofs.lemmas.Bool.{both_ways, cases_lt, or_cases, eqb-true}
 use Rattle.atomic_table.specs.Seated.{TableId}
 use Rattle.bloom_parts.specs.Chain.{chain}
 use Rattle.bloom_parts.specs.Content.{bit_is_on, content}
-use Rattle.bloom_parts.specs.Places.{place, positions, are_in, IsPart}
+use Rattle.bloom_parts.specs.Places.{place, positions, are_in}
 use Rattle.bloom_parts.proofs.PublishedLemmas.{bit_is_on-mask, content-past}
 use Rattle.bloom_seated.specs.Sets.{set_of}
-use Rattle.bloom_seated.specs.Passes.{SeatedFilter, Sight, known_of, gained_of, sure_of, Knows, IsSure, contains_known, num_bits_of, positions_of, IsSamePass, IsNewPass, Inserts, Finds, Meets, Closes}
-use Rattle.bloom_seated.proofs.WordLemmas.{content-word, content-with_bits}
+use Rattle.bloom_seated.specs.Passes.{SeatedFilter, Sight, known_of, sure_of, Knows, IsSure, contains_known, IsSamePass, IsNewPass, Inserts, Finds, Meets, Closes}
+use Rattle.bloom_seated.proofs.WordLemmas.{content-word}
 
 -- a table of so many words, told from others by its name
 abbrev table : ℕ → ℕ → TableId
@@ -158,11 +158,15 @@ finds-first = record {
     found = λ i below. ap (λ j. set_of (0 ∷ []) (place 64 1 j)) (first i below);
   };
   all = λ wrong. absurd (both_ways false refl wrong);
-  off = λ same. (lit< tt, refl, λ p is. inr (record {
-    index = 0;
-    below = lit< tt;
-    word = ap (λ q. q / 64) (one-from 0 p is);
-  }));
+  off = λ same. (
+    lit< tt,
+    refl,
+    λ p is. inr (record {
+      index = 0;
+      below = lit< tt;
+      word = ap (λ q. q / 64) (one-from 0 p is);
+    }),
+  );
 }
   where
     first : (i : ℕ) → i < 1 → i ≡ 0

@@ -1,13 +1,13 @@
 -- What one step does to what a pass knows and gained, and what steps do one after the other.
-use Rattle.std.proofs.Common.{◌≡◌, ◌≢◌, ℕ, zero, suc, ◌+◌, ◌*◌, ◌/◌, ◌%◌, ◌^◌, ◌<◌, ◌≤◌, ◌⊎◌, Bool, true, false, ◌||◌, ◌&&◌, eqb, ltb, bit_and, List, [], ◌∷◌, ◌++◌, inl, inr, refl, sym, ap, ◌∙◌, subst, arith}
-use Rattle.std.proofs.lemmas.Bool.{both_ways, cases_Bool, cases_eq, cases_lt, or_cases, or_left, or_right, eqb-true, eq-eqb, false_from_ne_true, and_parts}
+use Rattle.std.proofs.Common.{◌≡◌, ℕ, ◌+◌, ◌/◌, ◌%◌, ◌^◌, Bool, true, false, ◌||◌, ◌&&◌, eqb, ltb, bit_and, inl, inr, refl, sym, ap, ◌∙◌, subst, arith}
+use Rattle.std.proofs.lemmas.Bool.{both_ways, cases_lt, or_cases, or_left, or_right, eqb-true, eq-eqb, false_from_ne_true, and_parts}
 use Rattle.atomic_table.specs.Seated.{TableId}
 use Rattle.bloom_parts.specs.Content.{bit_is_on, content}
 use Rattle.bloom_parts.specs.Places.{IsPart}
 use Rattle.bloom_parts.proofs.PublishedLemmas.{test-bit, bit_is_on-mask}
 use Rattle.bloom_seated.specs.Sets.{set_of, on_in, fresh_in}
 use Rattle.bloom_seated.specs.Plays.{FilterSeat, sure_in, Shows, after_load, after_or}
-use Rattle.bloom_seated.specs.Passes.{Sight, sight_of, known_of, gained_of, sure_of, IsSamePass, HasGained, Inserts, LooksAt, Views}
+use Rattle.bloom_seated.specs.Passes.{Sight, sight_of, known_of, gained_of, sure_of, HasGained, Inserts, LooksAt, Views}
 use Rattle.bloom_seated.specs.declared.rule.Sets.{Sets}
 use Rattle.bloom_seated.proofs.SetLemmas.{in-left, in-right, in-either, set_of-append, same-tests, on-from, on-to, fresh-from, fresh-to}
 

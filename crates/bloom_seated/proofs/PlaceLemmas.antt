@@ -1,8 +1,8 @@
 -- The places of a hash, one after the other.
-use Rattle.std.proofs.Common.{◌≡◌, ℕ, zero, suc, ◌+◌, ◌/◌, ◌<◌, ◌≤◌, ◌⊎◌, Bool, true, false, ◌||◌, ◌&&◌, eqb, inl, inr, refl, sym, ap, ◌∙◌, subst, arith, le_refl}
+use Rattle.std.proofs.Common.{◌≡◌, ℕ, suc, ◌+◌, ◌/◌, ◌<◌, Bool, true, false, ◌||◌, ◌&&◌, eqb, inl, inr, refl, sym, ap, ◌∙◌, subst, arith, le_refl}
 use Rattle.std.proofs.lemmas.Bool.{both_ways, cases_lt}
 use Rattle.bloom_parts.specs.Places.{place, positions}
-use Rattle.bloom_seated.specs.Passes.{Sight, known_of, sure_of, IsSamePass, Inserts, LooksAt, Looks, IsBeside, GrowsBeside, Finds}
+use Rattle.bloom_seated.specs.Passes.{Sight, known_of, sure_of, Inserts, LooksAt, Looks, GrowsBeside, Finds}
 use Rattle.bloom_seated.proofs.PassLemmas.{inserts-none, inserts-then, inserts-as}
 
 -- the positions with one place more

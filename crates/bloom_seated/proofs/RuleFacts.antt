@@ -1,17 +1,17 @@
 -- The rule of words that threads share, at a case that holds and at cases as near as can be that
 -- don't: the word 1048577 has the bits 0, of the start, and 20, which a pass gained.
-use Rattle.std.proofs.Common.{◌≡◌, ◌≢◌, ℕ, zero, suc, ◌+◌, ◌/◌, ◌%◌, ◌^◌, ◌<◌, ◌≤◌, ◌⊎◌, Bool, true, false, ◌||◌, ◌&&◌, eqb, List, [], ◌∷◌, inl, inr, refl, sym, ap, ◌∙◌, subst, arith, lit<, lit≤, Some, None}
-use mathlib.Core.Option.{some, some-injective, some-ne-none}
+use Rattle.std.proofs.Common.{◌≡◌, ℕ, zero, suc, ◌/◌, ◌^◌, ◌≤◌, ◌⊎◌, true, false, ◌&&◌, eqb, List, [], ◌∷◌, inl, inr, refl, sym, ap, ◌∙◌, subst, arith, lit<, lit≤, Some, None}
+use mathlib.Core.Option.{some, some-ne-none}
 use lib.ListN.{get_elem?}
 use Rattle.std.proofs.lemmas.Bool.{both_ways, or_cases, and_parts, eqb-true}
 use Rattle.bloom_parts.specs.Content.{bit_is_on, content}
 use Rattle.bloom_parts.proofs.PublishedLemmas.{bit_is_on-mask}
-use Rattle.bloom_seated.specs.Sets.{set_of, on_in, fresh_in, picked}
+use Rattle.bloom_seated.specs.Sets.{set_of}
 use Rattle.bloom_seated.specs.Rule.{Standing, Has, IsGained, IsSeated}
 use Rattle.bloom_seated.specs.SeatedLaws.{is_pass, or_decides}
 use Rattle.bloom_seated.specs.declared.rule.Sets.{Sets}
 use Rattle.bloom_seated.specs.declared.rule.Role.{Role}
-use Rattle.bloom_seated.specs.declared.rule.Role.TheVariants.{First, Pass, Note, Spent}
+use Rattle.bloom_seated.specs.declared.rule.Role.TheVariants.{First, Pass, Note}
 use Rattle.bloom_seated.proofs.PassFacts.{one-from, single-from}
 use Rattle.bloom_seated.proofs.RuleLemmas.{only-view}
 use Rattle.bloom_seated.proofs.WordLemmas.{content-with_bits}
@@ -63,7 +63,7 @@ seated-alone = record {
       (λ p is. ap (content (1 ∷ [])) (one-from 20 p is)) 1048577;
   gained_once = λ seat other v w there here apart.
       absurd (apart (seat-one (view Pass (20 ∷ [])) v seat there
-          ∙ sym (seat-one (view Pass (20 ∷ [])) w other here)));
+      ∙ sym (seat-one (view Pass (20 ∷ [])) w other here)));
   gained_by = by-one (view Pass (20 ∷ []))
       (λ w. (p : ℕ) → set_of w.gained p ≡ true → w.role ≡ Pass) (λ p is. refl) 1048577;
   one_each = by-one (view Pass (20 ∷ [])) (λ w. w.role ≡ Pass → 1 ≤ w.passes)

@@ -1,9 +1,8 @@
 -- Each step of a pass keeps the rule, and so do the splits and joins of seats.
-use Rattle.std.proofs.Common.{◌≡◌, ◌≢◌, ℕ, ◌+◌, ◌-◌, ◌/◌, ◌<◌, ◌≤◌, ◌⊎◌, true, false, ◌||◌, ◌&&◌, eqb, List, [], ◌∷◌, ◌++◌, length, set, get_or, bit_or, length-set, sum_by, inl, inr, refl, sym, ap, ◌∙◌, subst, arith, le_refl}
-use mathlib.Core.Option.{none, some}
-use lib.ListN.{get_elem?}
-use Rattle.std.proofs.lemmas.Bool.{both_ways, cases_eq, cases_Bool, or_cases, or_left, or_right, and_parts, and_from, eqb-true, eq-eqb}
-use Rattle.atomic_table.specs.Table.{Me, step, keeps, Allows, Splits, Joins}
+use Rattle.std.proofs.Common.{◌≡◌, ◌≢◌, ℕ, ◌/◌, ◌<◌, ◌≤◌, ◌⊎◌, true, ◌||◌, ◌&&◌, eqb, [], ◌∷◌, ◌++◌, length, set, get_or, bit_or, length-set, sum_by, inl, inr, refl, sym, ◌∙◌, subst, arith, le_refl}
+use mathlib.Core.Option.{none}
+use Rattle.std.proofs.lemmas.Bool.{cases_Bool, or_cases, or_left, or_right, and_parts, and_from, eqb-true, eq-eqb}
+use Rattle.atomic_table.specs.Table.{step, keeps, Allows, Splits, Joins}
 use Rattle.atomic_table.proofs.Lists.{set_again, set_else, set_here}
 use Rattle.bloom_parts.specs.Content.{bit_is_on, content}
 use Rattle.bloom_parts.specs.Places.{IsPart}
@@ -54,24 +53,24 @@ loads count passes slots seat me i within pass s rule sized at fits =
       keeps,
       tt,
       as-many (same-passes s rule seat v w at refl)
-      (kept-by-step s rule seat v w (set s.words i found) at record {
-        count = length-set s.words i found;
-        live = λ is. (is, refl);
-        settled = (pass-not_first v pass, pass-not_first v pass);
-        grown = λ p on. content-same s.words i p room ∙ on;
-        known = λ p known. content-same s.words i p room ∙ elim (in-either v.known (on_in i found) p known) [
-          | inl old ↦ rule.known_on seat v at p old
-          | inr new ↦
-              let there = on-from i found p new in
-              content-word s.words i p there.0 ∙ there.1
-        ];
-        gained_known = λ p is. in-left v.known (on_in i found) p (rule.gained_known seat v at p is);
-        gained = λ p is. inl is;
-        kept = λ p is. is;
-        gained_by = λ p is. pass;
-        one_each = λ is. rule.one_each seat v at pass;
-        accounted = λ p on. inl (sym (content-same s.words i p room) ∙ on);
-      }),
+          (kept-by-step s rule seat v w (set s.words i found) at record {
+            count = length-set s.words i found;
+            live = λ is. (is, refl);
+            settled = (pass-not_first v pass, pass-not_first v pass);
+            grown = λ p on. content-same s.words i p room ∙ on;
+            known = λ p known. content-same s.words i p room ∙ elim (in-either v.known (on_in i found) p known) [
+              | inl old ↦ rule.known_on seat v at p old
+              | inr new ↦
+                  let there = on-from i found p new in
+                  content-word s.words i p there.0 ∙ there.1
+            ];
+            gained_known = λ p is. in-left v.known (on_in i found) p (rule.gained_known seat v at p is);
+            gained = λ p is. inl is;
+            kept = λ p is. is;
+            gained_by = λ p is. pass;
+            one_each = λ is. rule.one_each seat v at pass;
+            accounted = λ p on. inl (sym (content-same s.words i p room) ∙ on);
+          }),
       (refl, shows s rule seat v at (pass-not_spent v pass) i),
     )
 
@@ -154,8 +153,8 @@ turns_on count passes slots seat me i mask within pass s rule sized at fits =
       keeps,
       tt,
       as-many (same-passes s rule seat v w at refl)
-      (kept-by-step s rule seat v w (with_bits s.words i mask) at
-      (or-step s rule seat v at pass i mask room)),
+          (kept-by-step s rule seat v w (with_bits s.words i mask) at
+          (or-step s rule seat v at pass i mask room)),
       (refl, shows s rule seat v at (pass-not_spent v pass) i, rule.gained_known seat v at),
     )
 

@@ -1,6 +1,6 @@
 -- What each step of a seated filter tells its seat. There are two kinds, a load and an `|`; a split
 -- and a join of seats are loads of word 0.
-use Rattle.std.specs.Prelude.{◌≡◌, ◌+◌, ◌-◌, ◌/◌, ◌||◌, ◌≤◌, ℕ, true, Bool, List, [], ◌∷◌, ◌++◌, slice_index, slice_set, bit_or}
+use Rattle.std.specs.Prelude.{◌≡◌, ◌-◌, ◌/◌, ◌||◌, ◌≤◌, ℕ, true, Bool, List, [], ◌++◌, slice_index, slice_set, bit_or}
 use Rattle.atomic_table.specs.Seated.{TableId}
 use Rattle.atomic_table.specs.Table.{Me, Step}
 use Rattle.atomic_table.specs.declared.shared.Seat.{Seat}

@@ -3,8 +3,7 @@
 use Rattle.std.specs.Prelude.{◌≡◌, ◌<◌, ◌≤◌, ◌⊎◌, ◌/◌, ◌==◌, ◌&&◌, ℕ, Bool, true, false, List, [], ◌∷◌, length, count_by}
 use Rattle.bloom_parts.specs.Content.{bit_is_on, content}
 use Rattle.bloom_parts.specs.Deciders.{Decider, makes_on, state}
-use Rattle.bloom_parts.specs.Places.{IsPart}
-use Rattle.bloom_seated.specs.Passes.{SeatedFilter, Sight, Knows, IsSure, num_bits_of, positions_of, known_of, Inserts, Finds, Meets}
+use Rattle.bloom_seated.specs.Passes.{SeatedFilter, Sight, Knows, IsSure, num_bits_of, positions_of, Inserts, Finds, Meets}
 use Rattle.bloom_seated.specs.Plays.{with_bits}
 use Rattle.bloom_seated.specs.Rule.{Standing, IsSeated}
 use Rattle.bloom_seated.specs.declared.rule.Role.{Role}

@@ -1,6 +1,6 @@
 -- Sets of positions as lists, since a view at a table holds plain data. Which bit a position has is
 -- told by `Content`.
-use Rattle.std.specs.Prelude.{◌≡◌, ◌+◌, ◌*◌, ◌==◌, ◌||◌, ◌&&◌, not, ℕ, zero, suc, Bool, true, false, List, [], ◌∷◌, if◌then◌else◌}
+use Rattle.std.specs.Prelude.{◌+◌, ◌*◌, ◌==◌, ◌||◌, ◌&&◌, not, ℕ, zero, suc, Bool, false, List, [], ◌∷◌, if◌then◌else◌}
 use Rattle.bloom_parts.specs.Content.{bit_is_on}
 
 -- the set of the numbers of a list

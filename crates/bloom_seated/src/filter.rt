@@ -33,9 +33,9 @@ impl Model for SeatedBloomFilter {
     ghost Value = { SeatedFilter };
 
     ghost view = { λ f. record {
-        table = f.table.shared.table_id;
-        hashes = f.num_hashes;
-        passes = f.table.shared.key.passes;
+      table = f.table.shared.table_id;
+      hashes = f.num_hashes;
+      passes = f.table.shared.key.passes;
     } };
 
     ghost invariant = { λ f. IsStanding f.table.shared.table_id f.table.shared.key f.num_hashes };

@@ -41,12 +41,7 @@ pub(crate) fn load(shared: &SharedWords, seat: &mut FilterSeat, word: usize) -> 
 }
 
 /// An `|` of a mask into a word by a pass.
-pub(crate) fn turn_on(
-    shared: &SharedWords,
-    seat: &mut FilterSeat,
-    word: usize,
-    mask: u64,
-) -> u64
+pub(crate) fn turn_on(shared: &SharedWords, seat: &mut FilterSeat, word: usize, mask: u64) -> u64
     requires at { SitsAt seat.old shared.now.table_id shared.now.key }
     requires within { word < shared.now.table_id.words }
     requires pass { seat.old.me.0.role ≡ Pass }

@@ -55,15 +55,15 @@ pub both-sure : (f : SeatedFilter) (a b a_new b_new : Sight) (left right : List 
 both-sure f a b a_new b_new left right asked known_a known_b met there = elim there [
   | inl first ↦ (
     known-sure f a_new asked (λ p is. met.known_a p
-    (or_left (known_of a p) (known_of b p) (known_a asked first p is))),
+        (or_left (known_of a p) (known_of b p) (known_a asked first p is))),
     known-sure f b_new asked (λ p is. met.known_b p
-    (or_left (known_of a p) (known_of b p) (known_a asked first p is))),
+        (or_left (known_of a p) (known_of b p) (known_a asked first p is))),
   )
   | inr second ↦ (
     known-sure f a_new asked (λ p is. met.known_a p
-    (or_right (known_of a p) (known_of b p) (known_b asked second p is))),
+        (or_right (known_of a p) (known_of b p) (known_b asked second p is))),
     known-sure f b_new asked (λ p is. met.known_b p
-    (or_right (known_of a p) (known_of b p) (known_b asked second p is))),
+        (or_right (known_of a p) (known_of b p) (known_b asked second p is))),
   )
 ]
 

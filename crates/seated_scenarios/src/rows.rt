@@ -89,9 +89,7 @@ fn close_gives_exact_words(rt: HostRuntime) -> Result<(), Fail> {
 #[test]
 fn no_words_are_refused_and_no_passes_count_as_one(rt: HostRuntime) -> Result<(), Fail> {
     let none = SeatedBloomFilter::new(rt.alloc(), Vec::new(rt.alloc()), 2, 1);
-    let Err(refusal) = none else {
-        unreachable!()
-    };
+    let Err(refusal) = none else { unreachable!() };
     assert_eq!(rt; refusal, FilterError::EmptyWords);
     assert_eq!(rt; refusal.code(), 2);
     let words = vec![in rt.alloc(); 0u64]?;

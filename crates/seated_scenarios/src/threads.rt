@@ -132,10 +132,21 @@ fn what_either_of_two_inserted_is_found(rt: HostRuntime) -> Result<(), Fail> {
     for asked in [0, 99, 500, 599] {
         let words = vec![in rt.alloc(); 0u64; 64]?;
         let (filter, mut passes) = SeatedBloomFilter::new(rt.alloc(), words, 3, 2)?;
-        let Some(second) = passes.pop() else { unreachable!() };
-        let Some(first) = passes.pop() else { unreachable!() };
+        let Some(second) = passes.pop() else {
+            unreachable!()
+        };
+        let Some(first) = passes.pop() else {
+            unreachable!()
+        };
         let hashes = (numbers(rt.alloc(), 0)?, numbers(rt.alloc(), 500)?);
-        let found = found_by_both(&rt, rt.alloc(), filter, (first, second), hashes, spread(asked))?;
+        let found = found_by_both(
+            &rt,
+            rt.alloc(),
+            filter,
+            (first, second),
+            hashes,
+            spread(asked),
+        )?;
         assert_eq!(rt; found, (true, true));
     }
     Ok(())

@@ -1,6 +1,4 @@
-use Rattle.std.proofs.Common.{◌≡◌, ℕ, ◌*◌, ◌∙◌, ap, refl, arith, inl}
-use Rattle.bloom_parts.specs.Content.{index_of}
-use Rattle.bloom_parts.specs.Places.{place}
+use Rattle.std.proofs.Common.{◌*◌, inl}
 use Rattle.bloom_seated.specs.Passes.{sight_of}
 use Rattle.bloom_seated.proofs.PlaceLemmas.{looks-begin}
 use Rattle.bloom_seated.proofs.looks.find_positions.Goals as goal
@@ -11,6 +9,6 @@ places-init c = (
   c.new-chain.ensures,
   c.requires.pass,
   looks-begin (64 * c.args.table.now.shared.table_id.words) c.args.hash
-  (sight_of c.args.seat.now),
+      (sight_of c.args.seat.now),
   λ p known. inl known,
 )

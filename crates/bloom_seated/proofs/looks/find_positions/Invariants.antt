@@ -1,4 +1,4 @@
-use Rattle.std.proofs.Common.{◌≡◌, ℕ, ◌*◌}
+use Rattle.std.proofs.Common.{◌≡◌, ◌*◌}
 use Rattle.bloom_parts.specs.Chain.{IsAt}
 use Rattle.bloom_seated.specs.Passes.{Looks, GrowsBeside, sight_of}
 use Rattle.bloom_seated.specs.declared.rule.Role.TheVariants.{Pass}

@@ -11,7 +11,7 @@ places-init c = (
   c.new-chain.ensures,
   c.requires.pass,
   inserts-begin (64 * c.args.table.now.shared.table_id.words) c.args.hash
-  (sight_of c.args.seat.now),
+      (sight_of c.args.seat.now),
 )
 
 -- then one place after the other
@@ -28,7 +28,7 @@ places-preserved c =
       c.next.ensures.moved c.args.hash i at,
       c.turn_on_position-all_on.ensures.role,
       inserts-next (64 * words) c.args.hash i c.index-position.result (sight_of c.args.seat.now)
-      (sight_of c.places.seat) (sight_of c.turn_on_position-all_on.new.seat) c.places.all_on
-      c.turn_on_position-all_on.result _ is refl c.places.invariant.2
-      c.turn_on_position-all_on.ensures.inserts,
+          (sight_of c.places.seat) (sight_of c.turn_on_position-all_on.new.seat) c.places.all_on
+          c.turn_on_position-all_on.result _ is refl c.places.invariant.2
+          c.turn_on_position-all_on.ensures.inserts,
     )

@@ -1,4 +1,4 @@
-use Rattle.std.proofs.Common.{◌≡◌, ◌∙◌, ap, subst, sym}
+use Rattle.std.proofs.Common.{◌∙◌, ap}
 use Rattle.bloom_seated.specs.declared.rule.Sets.{Sets}
 use Rattle.bloom_seated.specs.Plays.{told}
 use Rattle.bloom_seated.proofs.StepLemmas.{tells, hears}
@@ -20,7 +20,7 @@ join_seat-requires c = let is = ap (λ m. m.0) c.split_seat-note.ensures.4 in (
   ap (λ m. m.1) c.split_seat-note.ensures.4,
   c.requires.some,
   hears _ _ _ _ _ _ c.requires.to_pass (ap (λ (v : Sets). v.role) is)
-  (ap (λ (v : Sets). v.gained) is) (ap (λ (v : Sets). v.passes) is),
+      (ap (λ (v : Sets). v.gained) is) (ap (λ (v : Sets). v.passes) is),
 )
 
 -- who joined the note knows what is in it

@@ -1,4 +1,4 @@
-use Rattle.std.proofs.Common.{◌≡◌, ◌≤◌, ap, ◌∙◌, subst, sym}
+use Rattle.std.proofs.Common.{◌≤◌, ap, ◌∙◌, subst, sym}
 use Rattle.bloom_seated.specs.declared.rule.Sets.{Sets}
 use Rattle.bloom_seated.proofs.OpeningLemmas.{puts_in}
 use Rattle.bloom_seated.proofs.opening.put_bits.Goals as goal

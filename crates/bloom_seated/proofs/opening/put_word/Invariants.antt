@@ -1,4 +1,4 @@
-use Rattle.std.proofs.Common.{ℕ, ◌%◌, ◌^◌, slice_set}
+use Rattle.std.proofs.Common.{◌%◌, ◌^◌, slice_set}
 use Rattle.bloom_seated.specs.Plays.{Fills}
 use Rattle.bloom_seated.proofs.opening.put_word.Given as goal
 

@@ -1,4 +1,4 @@
-use Rattle.std.proofs.Common.{◌≡◌, ◌+◌, ◌≤◌, All, length, vec_len, vec_capacity}
+use Rattle.std.proofs.Common.{◌≡◌, ◌+◌, ◌≤◌, All, vec_len, vec_capacity}
 use Rattle.bloom_seated.specs.Plays.{IsFresh}
 use Rattle.bloom_seated.specs.Passes.{IsNewPass}
 use Rattle.bloom_seated.proofs.passes.split_passes.Given as goal

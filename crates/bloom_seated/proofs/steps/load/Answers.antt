@@ -8,5 +8,5 @@ load-requires c = (
   c.requires.at.here,
   c.requires.within,
   loads _ _ _ _ _ _
-  (subst (λ n. c.args.word < n) c.requires.at.words c.requires.within) c.requires.pass,
+      (subst (λ n. c.args.word < n) c.requires.at.words c.requires.within) c.requires.pass,
 )

@@ -20,10 +20,10 @@ returns g c = record {
       (c.in-Some-start.ensures.filter ∙ kept) c.in-Some-start.ensures.hashes c.join-second.ensures.1)
       c.meet.ensures there in (
         c.contains_hash_as-found.ensures.sure
-        (subst (λ (s : SeatedFilter). IsSure s c.meet.new.a c.args.asked)
-        (sym (c.deref-2.ensures ∙ kept)) both.0),
+            (subst (λ (s : SeatedFilter). IsSure s c.meet.new.a c.args.asked)
+            (sym (c.deref-2.ensures ∙ kept)) both.0),
         c.insert_hash_as-inserted.ensures.sure
-        (subst (λ (s : SeatedFilter). IsSure s c.meet.new.b c.args.asked)
-        (sym (c.deref-3.ensures ∙ kept)) both.1),
+            (subst (λ (s : SeatedFilter). IsSure s c.meet.new.b c.args.asked)
+            (sym (c.deref-3.ensures ∙ kept)) both.1),
       );
 }

@@ -11,8 +11,8 @@ hashes-preserved c =
     grind (arith, common_steps, c.index.ensures) in (
       c.insert_hash_as.ensures.same.filter ∙ c.hashes.invariant.0,
       known-next c.args.filter.now c.hashes.pass c.insert_hash_as.new.pass c.args.hashes.items
-      c.hashes.i c.index.result.now c.insert_hash_as.result within is c.hashes.invariant.1
-      c.insert_hash_as.ensures.inserts,
+          c.hashes.i c.index.result.now c.insert_hash_as.result within is c.hashes.invariant.1
+          c.insert_hash_as.ensures.inserts,
     )
 
 -- and in the end all are
