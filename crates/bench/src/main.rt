@@ -9,6 +9,7 @@ mod filters;
 mod hashes;
 mod items;
 mod passes;
+mod seated;
 mod shared;
 mod steps;
 mod table;
@@ -55,6 +56,7 @@ fn main(rt: HostRuntime) -> anyhow::Result<()> {
     passes::measure(&rt, keys, rounds)?;
     steps::measure(&rt, keys, rounds)?;
     shared::measure(&rt, keys, rounds)?;
+    seated::measure(&rt, keys, rounds)?;
     threads::measure(&rt, keys, rounds)?;
     fills::measure(&rt, keys, rounds)
 }

@@ -18,7 +18,7 @@ digit-above (suc zero) n small some = grind (arith, nat_tests)
 digit-above (suc (suc d)) n small some = absurd (omega arith)
 
 -- the test that the code makes of a bit
-test-bit : (n k : ℕ) → ltb 0 (bit_and n (2 ^ k)) ≡ eqb (bit_at n k) 1
+pub test-bit : (n k : ℕ) → ltb 0 (bit_and n (2 ^ k)) ≡ eqb (bit_at n k) 1
 test-bit n k =
     ap (ltb 0) (and_pow n k)
     ∙ digit-above (bit_at n k) (2 ^ k) (bit_at-lt n k) (pow_pos k)
@@ -111,7 +111,7 @@ get_or-default : (a : List ℕ) (i d e : ℕ) → i < length a → get_or a i d 
 get_or-default a i d e within = grind (arith, common_steps)
 
 -- within one word, the mask of a position has that position alone
-bit_is_on-mask : (p q : ℕ) → p / 64 ≡ q / 64 → bit_is_on (2 ^ (q % 64)) p ≡ eqb p q
+pub bit_is_on-mask : (p q : ℕ) → p / 64 ≡ q / 64 → bit_is_on (2 ^ (q % 64)) p ≡ eqb p q
 bit_is_on-mask p q same = elim (cases_eq (p % 64) (q % 64)) [
   | inl here ↦
       ap (λ k. eqb (bit_at (2 ^ (q % 64)) k) 1) here ∙ ap (λ d. eqb d 1) (bit_at-pow_same (q % 64))

@@ -10,6 +10,8 @@ pub use Rattle.bloom_parts.proofs.PlaceLemmas.{part-from, part-to}
 pub use Rattle.bloom_parts.proofs.PlaceLemmas.{are_in-at, are_in-off}
 -- a power of a power
 pub use Rattle.bloom_parts.proofs.PowerBounds.{pow-pow}
+-- the test of a bit, and the one position of a mask
+pub use Rattle.bloom_parts.proofs.ContentLemmas.{test-bit, bit_is_on-mask}
 -- bits of words that are or-ed or and-ed, and of the word 0
 pub use Rattle.bloom_parts.proofs.ContentLemmas.{bit_is_on-or, bit_is_on-and, bit_is_on-zero}
 -- the content at a bit of a word, and past the words, where no position is on

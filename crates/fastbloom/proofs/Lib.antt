@@ -5,6 +5,7 @@ mod FillLemmas
 mod FormLemmas
 mod InsertedLemmas
 mod ReadingLemmas
+mod SeatedStepFacts
 mod SharedFacts
 mod SharedFormFacts
 mod SharedLemmas

@@ -1,5 +1,5 @@
 -- The definitions of plain filters are those of `bloom_plain`, and those of word steps those of
--- `bloom_steps`, which are below this library.
+-- `bloom_steps`; those of seated filters are of `bloom_seated`. All are below this library.
 pub mod Fill
 pub mod LiveStore
 pub mod Shared
@@ -12,6 +12,10 @@ pub use Rattle.bloom_plain.specs.Replies
 pub use Rattle.bloom_plain.specs.SourceHash
 pub use Rattle.bloom_plain.specs.declared.bloom.command.Command
 pub use Rattle.bloom_plain.specs.declared.bloom.data.FilterData
+pub use Rattle.bloom_seated.specs.Passes
+pub use Rattle.bloom_seated.specs.Rule
+pub use Rattle.bloom_seated.specs.SeatedLaws
+pub use Rattle.bloom_seated.specs.Sets
 pub use Rattle.bloom_steps.specs.Courses
 pub use Rattle.bloom_steps.specs.Interleavings
 pub use Rattle.bloom_steps.specs.Machines

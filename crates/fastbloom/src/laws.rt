@@ -1,5 +1,5 @@
-//! The laws of all that this library holds: of plain filters, of word steps, and of filters that
-//! workers fill. These functions do nothing: their contracts are the laws.
+//! The laws of all that this library holds: of plain filters, of word steps, of seated filters, and
+//! of filters that workers fill. These functions do nothing: their contracts are the laws.
 ghost use Rattle.fastbloom.specs.Fill.{UnionOfPositionsLaw, AnyCuttingLaw, FilledByInsertsLaw, FilledContainsLaw};
 
 pub use bloom_plain::laws::{
@@ -7,6 +7,9 @@ pub use bloom_plain::laws::{
     equality_of_filters, insert_answers_contains, inserted_stays_found, intersection_contains,
     intersection_of_contents, lists_join, rebuilt_answers_alike, source_hash_by_default,
     union_contains, union_of_contents,
+};
+pub use bloom_seated::laws::{
+    inserted_stays_known, met_is_found, passes_are_few, steps_of_words, sure_is_found,
 };
 pub use bloom_steps::laws::{at_most_one_course, steps_in_memory};
 

@@ -15,6 +15,7 @@ pub use bloom_parts::math::{
 };
 pub use bloom_plain::builder::{BuilderWithBits, BuilderWithFalsePositiveRate};
 pub use bloom_plain::{BitsData, BloomFilter, Command, FilterData};
+pub use bloom_seated::{Pass, SeatedBloomFilter, SeatedRule};
 pub use bloom_steps::{
     Call, End, Event, Machine, MemoryStore, Record, Step, Trace, WordStore, drive, run,
 };

@@ -1,0 +1,93 @@
+//! The calls of a filter that threads share under a rule, made by one thread.
+ghost use Rattle.std.specs.Prelude.{◌≡◌, IfOk};
+
+use crate::filters::{foreign_hash_of, hash_of};
+use crate::table::Row;
+use fastbloom::{FilterError, Pass, SeatedBloomFilter};
+use std::alloc::Global;
+use std::rt::Clock;
+use std::time::Instant;
+
+// An empty filter of ten bits a key and seven hashes, and its pass.
+fn seated_filter_for(alloc: Global, keys: u32) -> Result<(SeatedBloomFilter, Pass), FilterError>
+    ensures { IfOk result (λ made. made.1.filter ≡ made.0.table) }
+{
+    let bits = (keys as usize * 10).max(1);
+    let words = vec![in alloc; 0u64; bits.div_ceil(64)]?;
+    let (filter, mut passes) = SeatedBloomFilter::new(alloc, words, 7, 1)?;
+    let Some(pass) = passes.pop() else {
+        unreachable!()
+    };
+    Ok((filter, pass))
+}
+
+// Inserts the keys, and counts the answers that were true.
+#[inline(never)]
+fn insert_keys(filter: &SeatedBloomFilter, pass: &mut Pass, keys: u64) -> u64
+    requires { pass.old.filter ≡ filter.now.table }
+    ensures { pass.new.filter ≡ pass.old.filter }
+{
+    let mut answers: u64 = 0;
+    'keys: for key in 0..keys {
+        let answer = filter.insert_hash_as(pass, hash_of(key));
+        answers = answers.wrapping_add(u64::from(answer));
+    }
+    answers
+}
+
+// Looks the keys up, and counts the answers that were true.
+#[inline(never)]
+fn contains_keys(filter: &SeatedBloomFilter, pass: &mut Pass, keys: u64) -> u64
+    requires { pass.old.filter ≡ filter.now.table }
+    ensures { pass.new.filter ≡ pass.old.filter }
+{
+    let mut answers: u64 = 0;
+    'keys: for key in 0..keys {
+        let answer = filter.contains_hash_as(pass, hash_of(key));
+        answers = answers.wrapping_add(u64::from(answer));
+    }
+    answers
+}
+
+// Each round takes other keys, which no processor can know from the round before.
+#[inline(never)]
+fn contains_foreign_keys(filter: &SeatedBloomFilter, pass: &mut Pass, keys: u64, round: u32) -> u64
+    requires { pass.old.filter ≡ filter.now.table }
+    ensures { pass.new.filter ≡ pass.old.filter }
+{
+    let first = keys.wrapping_mul(u64::from(round));
+    let mut answers: u64 = 0;
+    'keys: for key in 0..keys {
+        let answer = filter.contains_hash_as(pass, foreign_hash_of(first.wrapping_add(key)));
+        answers = answers.wrapping_add(u64::from(answer));
+    }
+    answers
+}
+
+/// Prints the rows of inserts, and of look-ups of keys that are there and that aren't. Each round
+/// has a filter of its own, since bits never go off.
+pub fn measure<R: Print + AllocGlobal + Clock>(
+    rt: &R,
+    keys: u32,
+    rounds: u32,
+) -> anyhow::Result<()> {
+    let count = u64::from(keys);
+    let mut inserts = Row::new("seated insert_hash_as", 7, count);
+    let mut hits = Row::new("seated hit", 7, count);
+    let mut misses = Row::new("seated miss", 7, count);
+    'rounds: for round in 0..rounds {
+        let (filter, mut pass) = seated_filter_for(rt.alloc(), keys)?;
+        let start = Instant::now(rt)?;
+        let answers = insert_keys(&filter, &mut pass, count);
+        inserts.add(answers, start.elapsed(rt)?);
+        let start = Instant::now(rt)?;
+        let answers = contains_keys(&filter, &mut pass, count);
+        hits.add(answers, start.elapsed(rt)?);
+        let start = Instant::now(rt)?;
+        let answers = contains_foreign_keys(&filter, &mut pass, count, round);
+        misses.add(answers, start.elapsed(rt)?);
+    }
+    inserts.print(rt)?;
+    hits.print(rt)?;
+    Ok(misses.print(rt)?)
+}

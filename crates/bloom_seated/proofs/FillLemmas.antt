@@ -1,0 +1,61 @@
+-- Words that are put in bit by bit.
+use Rattle.std.proofs.Common.{◌≡◌, ◌≢◌, ℕ, ◌+◌, ◌*◌, ◌%◌, ◌^◌, ◌<◌, List, length, get_or, set, bit_or, sym, ap, ◌∙◌, subst, arith, get_or-set_same}
+use Rattle.std.proofs.lemmas.Nat.{mod-pow-add, or_shifted, or_comm, pow_pos}
+use Rattle.std.proofs.lemmas.Nat.Bits.{bit_at-lt}
+use Rattle.std.specs.Int.{bit_at}
+use lib.Seq.{set-set}
+use Rattle.bloom_seated.specs.Plays.{FilterSeat, Fills, with_bits}
+
+-- the low bits of a number, and one more
+low-more : (value bit : ℕ) → value % 2 ^ (bit + 1) ≡ bit_at value bit * 2 ^ bit + value % 2 ^ bit
+low-more value bit =
+    let next : bit + 1 ≡ 1 + bit = omega arith in
+    ap (λ j. value % 2 ^ j) next ∙ mod-pow-add value 1 bit
+
+-- where the next bit is on it is turned on
+low-on : (value bit : ℕ) → bit_at value bit ≡ 1
+    → bit_or (value % 2 ^ bit) (2 ^ bit) ≡ value % 2 ^ (bit + 1)
+low-on value bit on =
+    let small : value % 2 ^ bit < 2 ^ bit = omega (arith, pow_pos bit) in
+    let one : 1 * 2 ^ bit ≡ 2 ^ bit = omega arith in
+    or_comm (value % 2 ^ bit) (2 ^ bit)
+    ∙ ap (λ z. bit_or z (value % 2 ^ bit)) (sym one)
+    ∙ or_shifted 1 bit (value % 2 ^ bit) small
+    ∙ ap (λ z. z * 2 ^ bit + value % 2 ^ bit) (sym on)
+    ∙ sym (low-more value bit)
+
+-- and where it is off nothing is done
+pub low-off : (value bit : ℕ) → bit_at value bit ≢ 1 → value % 2 ^ bit ≡ value % 2 ^ (bit + 1)
+low-off value bit off =
+    let digit = bit_at-lt value bit in
+    let none : 0 ≡ bit_at value bit = omega arith in
+    let zero_times : value % 2 ^ bit ≡ 0 * 2 ^ bit + value % 2 ^ bit = omega arith in
+    zero_times ∙ ap (λ k. k * 2 ^ bit + value % 2 ^ bit) none ∙ sym (low-more value bit)
+
+-- a word with its low bits, and one more
+pub word-on : (start words : List ℕ) (i value bit mask : ℕ) → i < length start
+    → words ≡ set start i (value % 2 ^ bit) → mask ≡ 2 ^ bit → bit_at value bit ≡ 1
+    → with_bits words i mask ≡ set start i (value % 2 ^ (bit + 1))
+word-on start words i value bit mask within is is_mask on =
+    let low : ℕ = value % 2 ^ bit in
+    ap (λ l. with_bits l i mask) is
+    ∙ set-set start i low (bit_or (get_or (set start i low) i 0) mask)
+    ∙ ap (λ k. set start i (bit_or k mask)) (get_or-set_same start i low 0 within)
+    ∙ ap (λ k. set start i (bit_or low k)) is_mask
+    ∙ ap (set start i) (low-on value bit on)
+
+-- one filling after another
+pub fills-then : (a b c d : FilterSeat) (x y z : List ℕ) → Fills a b x → Fills b c y → d ≡ c
+    → y ≡ z → Fills a d z
+fills-then a b c d x y z first second is same =
+    subst (λ (seat : FilterSeat). Fills a seat z) (sym is) record {
+      table = second.table ∙ first.table;
+      first = second.first;
+      passes = second.passes ∙ first.passes;
+      start_is = second.start_is ∙ same;
+    }
+
+-- a filling of a seat that stays
+pub fills-as : (a b c : FilterSeat) (x z : List ℕ) → Fills a b x → c ≡ b → x ≡ z → Fills a c z
+fills-as a b c x z first is same =
+    subst (λ (seat : FilterSeat). Fills a seat z) (sym is) (subst (Fills a b) same first)

@@ -1,0 +1,13 @@
+mod CallLemmas
+mod FillLemmas
+mod LawLemmas
+mod MeetLemmas
+mod OpeningLemmas
+mod PassFacts
+mod PassLemmas
+mod PlaceLemmas
+mod RuleFacts
+mod RuleLemmas
+mod SetLemmas
+mod StepLemmas
+mod WordLemmas

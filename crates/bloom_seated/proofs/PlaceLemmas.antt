@@ -1,0 +1,106 @@
+-- The places of a hash, one after the other.
+use Rattle.std.proofs.Common.{◌≡◌, ℕ, suc, ◌+◌, ◌/◌, ◌<◌, Bool, true, false, ◌||◌, ◌&&◌, eqb, inl, inr, refl, sym, ap, ◌∙◌, subst, arith, le_refl}
+use Rattle.std.proofs.lemmas.Bool.{both_ways, cases_lt}
+use Rattle.bloom_parts.specs.Places.{place, positions}
+use Rattle.bloom_seated.specs.Passes.{Sight, known_of, sure_of, Inserts, LooksAt, Looks, GrowsBeside, Finds}
+use Rattle.bloom_seated.proofs.PassLemmas.{inserts-none, inserts-then, inserts-as}
+
+-- the positions with one place more
+positions-next : (n hash i q : ℕ) → q ≡ place n hash i
+    → (p : ℕ) → (positions n i hash p || eqb p q) ≡ positions n (i + 1) hash p
+unfolding positions
+positions-next n hash i q is p =
+    let next : suc i ≡ i + 1 = omega arith in
+    ap (λ r. positions n i hash p || eqb p r) is ∙ ap (λ j. positions n j hash p) next
+
+-- no place was turned on yet
+pub inserts-begin : (n hash : ℕ) (old : Sight) → Inserts (positions n 0 hash) old old true
+unfolding positions
+inserts-begin n hash old =
+    inserts-as (λ p. false) (positions n 0 hash) old old true (λ p. refl) (inserts-none old)
+
+-- the next place is turned on
+pub inserts-next : (n hash i q : ℕ) (old mid new : Sight) (a b both : Bool) → q ≡ place n hash i
+    → both ≡ (a && b) → Inserts (positions n i hash) old mid a
+    → Inserts (λ p. eqb p q) mid new b → Inserts (positions n (i + 1) hash) old new both
+inserts-next n hash i q old mid new a b both is both_is first second =
+    subst (Inserts (positions n (i + 1) hash) old new) (sym both_is)
+    (inserts-as (λ p. positions n i hash p || eqb p q) (positions n (i + 1) hash) old new (a && b)
+    (positions-next n hash i q is)
+    (inserts-then (positions n i hash) (λ p. eqb p q) old mid new a b first second))
+
+-- a look at the next place
+module _ (n hash i q : ℕ) (old mid new : Sight) (answer : Bool) (is : q ≡ place n hash i)
+    (first : Looks n hash i old mid) (beside : GrowsBeside n hash i old mid)
+    (second : LooksAt q mid new answer) where
+  -- what was found before stays known
+  looks-kept : Looks n hash i old new
+  looks-kept = record {
+    same = record {
+      filter = second.same.filter ∙ first.same.filter;
+      start = second.same.start ∙ first.same.start;
+    };
+    gained = second.gained ∙ first.gained;
+    kept = λ p known. second.kept p (first.kept p known);
+    found = λ j below. second.kept (place n hash j) (first.found j below);
+  }
+
+  -- and what is new lies in a word that was loaded
+  pub grows-next : GrowsBeside n hash (i + 1) old new
+  grows-next p known = elim (second.grown p known) [
+    | inl was ↦ elim (beside p was) [
+      | inl before ↦ inl before
+      | inr near ↦
+          let below = near.below in
+          inr (record { index = near.index; below = omega arith; word = near.word })
+    ]
+    | inr here ↦ inr (record {
+      index = i;
+      below = omega arith;
+      word = here ∙ ap (λ r. r / 64) is;
+    })
+  ]
+
+  -- it was on
+  pub looks-next : answer ≡ true → Looks n hash (i + 1) old new
+  looks-next on = record {
+    same = looks-kept.same;
+    gained = looks-kept.gained;
+    kept = looks-kept.kept;
+    found = λ j below. elim (cases_lt j i) [
+      | inl earlier ↦ looks-kept.found j earlier
+      | inr late ↦
+          let last : j ≡ i = omega arith in
+          ap (known_of new) (ap (place n hash) last ∙ sym is) ∙ second.on on
+    ];
+  }
+
+  -- it was off
+  pub finds-off : (k : ℕ) → i < k → answer ≡ false → Finds n k hash old new false
+  finds-off k below off = record {
+    on = i;
+    most = omega arith;
+    looks = looks-kept;
+    all = λ wrong. absurd (both_ways false refl wrong);
+    off = λ same. (below, ap (sure_of new) (sym is) ∙ second.off off, grows-next);
+  }
+
+-- all were on
+pub finds-all : (n k hash : ℕ) (old new : Sight) → Looks n hash k old new
+    → GrowsBeside n hash k old new → Finds n k hash old new true
+finds-all n k hash old new looks beside = record {
+  on = k;
+  most = le_refl k;
+  looks = looks;
+  all = λ same. (refl, beside);
+  off = λ wrong. absurd (both_ways true wrong refl);
+}
+
+-- no place was looked at yet
+pub looks-begin : (n hash : ℕ) (old : Sight) → Looks n hash 0 old old
+looks-begin n hash old = record {
+  same = record { filter = refl; start = refl };
+  gained = refl;
+  kept = λ p known. known;
+  found = λ j below. absurd (omega arith);
+}

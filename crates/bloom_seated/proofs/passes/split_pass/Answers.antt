@@ -1,0 +1,10 @@
+use Rattle.bloom_seated.proofs.StepLemmas.{begins}
+use Rattle.bloom_seated.proofs.passes.split_pass.Goals as goal
+
+-- the split keeps the rule
+pub split_seat-requires : goal.split_seat-requires
+split_seat-requires c = (
+  c.requires.at.here,
+  c.requires.some,
+  begins _ _ _ _ c.requires.fresh c.requires.more,
+)
