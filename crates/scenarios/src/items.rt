@@ -106,6 +106,15 @@ fn a_filter_of_items_is_built_again_from_its_words(rt: HostRuntime) -> Result<()
     Ok(())
 }
 
+// The filter of one word and one hash with the items 1, 2 and 3.
+fn filter_of_three(alloc: Global) -> Result<BloomFilter, FilterError> {
+    let mut filter = BloomFilter::with_num_bits(alloc, 64)?.hashes(1);
+    for item in [1u64, 2, 3] {
+        filter.insert(&item);
+    }
+    Ok(filter)
+}
+
 // The number of items that an iterator says sizes the filter, and those that come go in.
 #[test]
 fn what_an_iterator_says_sizes_alone(rt: HostRuntime) -> Result<(), Fail> {
@@ -117,11 +126,7 @@ fn what_an_iterator_says_sizes_alone(rt: HostRuntime) -> Result<(), Fail> {
     };
     let filter = BloomFilter::with_num_bits(rt.alloc(), 64)?.items(items);
     assert_eq!(rt; filter.num_hashes(), 1);
-    let mut by_one = BloomFilter::with_num_bits(rt.alloc(), 64)?.hashes(1);
-    for item in [1u64, 2, 3] {
-        by_one.insert(&item);
-    }
-    assert!(rt; filter == by_one);
+    assert!(rt; filter == filter_of_three(rt.alloc())?);
     assert_eq!(rt; taken.get(), 3);
     Ok(())
 }
