@@ -88,7 +88,10 @@ const SEED: [u8; 16] = [0, 0, 0, 0, 0, 0, 0, 0, 0, 0, 0, 0, 0, 0, 0, 42];
 
 #[test]
 fn a_seed_is_sixteen_big_endian_bytes(rt: HostRuntime) {
-    assert_eq!(rt; DefaultHasher::seeded(&SEED).key(), (0, 3026418949592973312));
+    assert_eq!(rt;
+        DefaultHasher::seeded(&SEED).key(),
+        (0, 3026418949592973312)
+    );
 }
 
 // A builder of the word 5.
