@@ -1,5 +1,6 @@
 //! What no contract says: text, statuses, faults of readers and writers, and answers from outside.
 mod ends;
+mod room;
 mod sessions;
 mod streams;
 
