@@ -1,8 +1,8 @@
 //! The calls that take no memory: whichever request is refused, after the set-up nothing changes.
 use crate::standing::{is_plain, is_shared, plain, shared};
 use fastbloom::{
-    AtomicBloomFilter, BitsData, BloomFilter, Call, DefaultHasher, FilterData, FilterError, Machine,
-    MemoryStore, Rate, Shape, drive, expected_density, expected_false_pos, optimal_hashes,
+    AtomicBloomFilter, BitsData, BloomFilter, Call, DefaultHasher, FilterData, FilterError,
+    Machine, MemoryStore, Rate, Shape, drive, expected_density, expected_false_pos, optimal_hashes,
     optimal_size,
 };
 use std::test::Fail;
@@ -99,9 +99,11 @@ fn sizes() -> Result<bool, FilterError> {
     let rate = Rate::new(1, 2)?;
     let density = expected_density(1, 64, 1);
     let _shape = Shape::new(64, 3)?;
-    Ok(optimal_size(1000, rate)? == 1448
-        && optimal_hashes(1024, 2) == 355
-        && expected_false_pos(2, density).low() == 2251799813685248)
+    Ok(
+        optimal_size(1000, rate)? == 1448
+            && optimal_hashes(1024, 2) == 355
+            && expected_false_pos(2, density).low() == 2251799813685248,
+    )
 }
 
 fn asks(call: Call) -> bool {

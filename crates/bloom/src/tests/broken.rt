@@ -87,7 +87,11 @@ fn a_write_may_fail_at_any_byte(rt: HostRuntime) -> Result<(), Fail> {
         };
         let mut input = SESSION;
         let ended = serve(rt.alloc(), &mut filter, &mut input, &mut output);
-        let wanted = if room < 28 { Err(Fault::Output) } else { Ok(()) };
+        let wanted = if room < 28 {
+            Err(Fault::Output)
+        } else {
+            Ok(())
+        };
         assert_eq!(rt; ended, wanted, "with room for {room} bytes");
         assert_eq!(rt; Some(output.written.as_slice()), ANSWERS.get(..room));
     }

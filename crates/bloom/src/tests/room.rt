@@ -39,7 +39,12 @@ fn a_run_is_whole_or_refused_before_its_first_line(rt: HostRuntime) -> Result<()
         rest: text,
         is_wrong: false,
     };
-    let ended = serve(rt.alloc(), &mut filter, &mut b"i 1\nw\n".as_slice(), &mut output);
+    let ended = serve(
+        rt.alloc(),
+        &mut filter,
+        &mut b"i 1\nw\n".as_slice(),
+        &mut output,
+    );
     assert!(rt; !output.is_wrong);
     assert_eq!(rt; filter.num_hashes(), 2);
     match ended {
