@@ -51,7 +51,14 @@ impl Work for AllCalls {
 fn start_storm<R: Threads>(rt: &R, alloc: Global, filter: &Shared) -> Result<Vec<Child>, Fail> {
     let mut children = Vec::new(alloc);
     for i in 0..8u64 {
-        children.push(start(rt, filter, AllCalls { alloc, first: i * 1000 })?)?;
+        children.push(start(
+            rt,
+            filter,
+            AllCalls {
+                alloc,
+                first: i * 1000,
+            },
+        )?)?;
     }
     Ok(children)
 }
@@ -91,7 +98,12 @@ fn a_clone_in_a_storm_has_the_shape(rt: HostRuntime) -> Result<(), Fail> {
 // The number of words, of hashes less one, and the key.
 fn data_shape(alloc: Global, filter: &AtomicBloomFilter) -> Result<(usize, u32, u64, u64), Fail> {
     let form = filter.to_data(alloc)?;
-    Ok((form.bits.bits.len(), form.num_hashes_minus_one, form.k0, form.k1))
+    Ok((
+        form.bits.bits.len(),
+        form.num_hashes_minus_one,
+        form.k0,
+        form.k1,
+    ))
 }
 
 #[test]
