@@ -1,5 +1,8 @@
 //! What no contract says: text, statuses, faults of readers and writers, and answers from outside.
+mod broken;
 mod ends;
+mod lines;
+mod room;
 mod sessions;
 mod streams;
 

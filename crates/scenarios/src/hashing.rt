@@ -154,6 +154,16 @@ fn items_of_derived_types_go_in(rt: HostRuntime) -> Result<(), FilterError> {
     Ok(())
 }
 
+// An item that writes nothing has the hash of no bytes, under the key bytes 0 to 15.
+#[test]
+fn an_item_of_nothing_has_the_hash_of_no_bytes(rt: HostRuntime) -> Result<(), FilterError> {
+    let key = [0, 1, 2, 3, 4, 5, 6, 7, 8, 9, 10, 11, 12, 13, 14, 15];
+    let builder = BloomFilter::from_vec(vec![in rt.alloc(); 0; 1]?)?;
+    let filter = builder.hasher(DefaultHasher::seeded(&key)).hashes(1);
+    assert_eq!(rt; filter.source_hash(&Empty), 0xabac_0158_050f_c4dc);
+    Ok(())
+}
+
 // A hasher that looks at nothing and always answers 0.
 #[derive(Clone, Copy)]
 struct Nothing;

@@ -39,7 +39,8 @@ fn hashes_are_rounded_half_up_within_their_range(rt: HostRuntime) {
     }
 }
 
-// A half has one halving, a thousandth 638 sixty-fourths, the least rate 64 halvings, 3/2 none.
+// A half has one halving, a thousandth 638 sixty-fourths, the least rate 64 halvings, 3/2 and more
+// none, and the greatest rate below one a single sixty-fourth.
 #[test]
 fn sizes_are_whole_bytes_and_at_least_a_word(rt: HostRuntime) -> Result<(), Fail> {
     for (items, num, den, size) in [
@@ -50,6 +51,8 @@ fn sizes_are_whole_bytes_and_at_least_a_word(rt: HostRuntime) -> Result<(), Fail
         (1000, 1, 1000, 14384),
         (1000, 3, 2, 64),
         (0, 1, 1000, 64),
+        (1000, 18446744073709551615, 1, 64),
+        (1000000, 18446744073709551614, 18446744073709551615, 22544),
         (12786308645202655226, 1, 2, 18446744073709551608),
     ] {
         assert_eq!(rt;

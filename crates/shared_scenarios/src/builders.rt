@@ -169,6 +169,7 @@ fn sizes_for_a_rate_are_refused_in_order(rt: HostRuntime) {
     for (items, refused) in [
         (12786308645202655226, FilterError::TooManyWords),
         (12786308645202655227, FilterError::SizeOverflow),
+        (18446744073709551615, FilterError::SizeOverflow),
     ] {
         let error = filter_at(rt.alloc(), (1, 2), items).err();
         assert!(rt; error == Some(refused), "{items} items");

@@ -127,22 +127,3 @@ fn a_hundred_workers_make_the_filter_of_one_thread(rt: HostRuntime) -> Result<()
     assert!(rt; filter == alone);
     Ok(())
 }
-
-// Run with an allocation that fails: the answer is the whole filter, or a refusal of memory or of
-// a worker, and never another filter.
-#[test]
-fn fill_is_whole_or_refused(rt: HostRuntime) -> Result<(), Fail> {
-    let alloc = rt.alloc();
-    let (Ok(gate), Ok(parts)) = (Arc::new(alloc, Open), three_parts(alloc)) else {
-        println!(rt; "no room for the test")?;
-        return Ok(());
-    };
-    match fill(&rt, alloc, gate, Shape::new(64, 3)?, parts) {
-        Ok(filter) => assert_eq!(rt; filter.as_slice(), [4296015873].as_slice()),
-        Err(refusal) => {
-            println!(rt; "{refusal:?}")?;
-            assert!(rt; refusal == FilterError::Memory || refusal == FilterError::Worker);
-        }
-    }
-    Ok(())
-}

@@ -2,6 +2,7 @@
 ghost use Rattle.std.specs.Prelude.{⊤};
 
 pub(crate) mod inserts;
+mod storms;
 mod takes;
 mod turns;
 

@@ -31,7 +31,7 @@ impl Work for Inserts {
 }
 
 // How many positions are on.
-fn count_on(filter: &AtomicBloomFilter) -> u64 {
+pub(super) fn count_on(filter: &AtomicBloomFilter) -> u64 {
     let mut on = 0u64;
     for word in filter.iter() {
         on = on.saturating_add(word.count_ones() as u64);
