@@ -63,21 +63,6 @@ fn clear_few(words: &mut [u64], turns: &mut u64)
     }
 }
 
-// Each word becomes 0. It stays a call, so that fewer words are cleared with no stack frame.
-#[inline(never)]
-fn clear_many(words: &mut [u64], turns: &mut u64)
-    requires start { turns.old ≡ 0 }
-    ensures words { words.new ≡ replicate (length words.old) 0 }
-    ensures turns { turns.new ≡ turns_of (length words.old) }
-{
-    let groups = words.len() / 8;
-    'groups: for group in 0..groups {
-        u64x8::splat(0).copy_to_slice(&mut words[8 * group..]);
-        *turns += 1;
-    }
-    clear_rest(&mut words[8 * groups..], turns);
-}
-
 // Each word becomes 0.
 pub(super) fn clear_words(words: &mut [u64], turns: &mut u64)
     requires start { turns.old ≡ 0 }
@@ -86,9 +71,14 @@ pub(super) fn clear_words(words: &mut [u64], turns: &mut u64)
 {
     if words.len() < 16 {
         clear_few(words, turns);
-    } else {
-        clear_many(words, turns);
+        return;
     }
+    let groups = words.len() / 8;
+    'groups: for group in 0..groups {
+        u64x8::splat(0).copy_to_slice(&mut words[8 * group..]);
+        *turns += 1;
+    }
+    clear_rest(&mut words[8 * groups..], turns);
 }
 
 // Whether the eight words from `at` on are equal.

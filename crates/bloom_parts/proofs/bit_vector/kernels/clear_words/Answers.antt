@@ -1,6 +1,6 @@
 use Rattle.std.proofs.Common.{◌≡◌, ◌+◌, ◌*◌, ◌/◌, ◌∙◌, ap, length, arith}
 use Rattle.bloom_parts.proofs.ClearLemmas.{cleared, cleared-group, cleared-rest}
-use Rattle.bloom_parts.proofs.bit_vector.kernels.clear_many.Goals as goal
+use Rattle.bloom_parts.proofs.bit_vector.kernels.clear_words.Goals as goal
 
 pub groups-preserved : goal.groups-preserved
 groups-preserved c = record {

@@ -1,6 +1,6 @@
 use Rattle.std.proofs.Common.{◌≡◌, ◌*◌}
 use Rattle.bloom_parts.proofs.ClearLemmas.{cleared}
-use Rattle.bloom_parts.proofs.bit_vector.kernels.clear_many.Given as goal
+use Rattle.bloom_parts.proofs.bit_vector.kernels.clear_words.Given as goal
 
 -- the groups so far are 0, the other words as they were
 abbrev pub invariant-groups : goal.invariant-groups
