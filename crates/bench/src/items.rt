@@ -99,6 +99,29 @@ fn measure_inserts<R: Print + AllocGlobal + Clock>(
     Ok(row.print(rt)?)
 }
 
+#[inline(never)]
+fn extend_by_numbers(filter: &mut BloomFilter, keys: u64) -> u64 {
+    filter.extend(0..keys);
+    u64::from(filter.contains(&0u64))
+}
+
+// The row of inserting as many numbers by one call, which is answered by a look-up.
+fn measure_extends<R: Print + AllocGlobal + Clock>(
+    rt: &R,
+    keys: u32,
+    rounds: u32,
+) -> anyhow::Result<()> {
+    let mut filter = filter_for(rt.alloc(), keys, 7)?;
+    let mut row = Row::new("extend, u64", 7, u64::from(keys));
+    'rounds: for _round in 0..rounds {
+        filter.clear();
+        let start = Instant::now(rt)?;
+        let answers = extend_by_numbers(&mut filter, u64::from(keys));
+        row.add(answers, start.elapsed(rt)?);
+    }
+    Ok(row.print(rt)?)
+}
+
 /// The rows of hashing and inserting items, on a filter of seven hashes.
 pub fn measure<R: Print + AllocGlobal + Clock>(
     rt: &R,
@@ -115,5 +138,6 @@ pub fn measure<R: Print + AllocGlobal + Clock>(
         operations / 10,
         rounds,
     )?;
-    measure_inserts(rt, keys, rounds)
+    measure_inserts(rt, keys, rounds)?;
+    measure_extends(rt, keys, rounds)
 }

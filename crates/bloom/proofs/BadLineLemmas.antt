@@ -4,11 +4,13 @@ use Rattle.std.specs.Io.KnownBytes.{prepend_known}
 use Rattle.std.proofs.lemmas.Bool.{and_left, and_right, cond-false, lt-leb}
 use Rattle.bloom.specs.declared.engine.line.Line.{Line}
 use Rattle.bloom.specs.declared.engine.line_reader.Next.TheVariants as next
-use Rattle.bloom.specs.Lines.{lines_of, line_of, longest_line, number_of, is_number, value_of, numbered}
-use Rattle.bloom.specs.Reading.{IsEnded, has_no_end, NextCommand}
+use Rattle.lines.specs.Lines.{lines_of, has_no_end, IsEnded}
+use Rattle.lines.proofs.LineLemmas.{lines_of-front}
+use Rattle.lines.proofs.TakenLemmas.{nil-front, ended-before}
+use Rattle.bloom.specs.Lines.{line_of, longest_line, number_of, is_number, value_of, numbered}
+use Rattle.bloom.specs.Reading.{NextCommand}
 use Rattle.bloom.specs.Served.{IsReadUpTo}
-use Rattle.bloom.proofs.LineLemmas.{lines_of-front}
-use Rattle.bloom.proofs.TakenLemmas.{TakesGood, nil-front, ended-before}
+use Rattle.bloom.proofs.TakenLemmas.{TakesGood}
 
 -- no line is good that is longer than the longest
 line_of-long : (line : List ℕ) → longest_line < length line → line_of line ≡ None

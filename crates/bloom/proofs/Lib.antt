@@ -3,7 +3,6 @@ mod CarriedFacts
 mod CarriedLemmas
 mod HexLemmas
 mod LineFacts
-mod LineLemmas
 mod NumberLemmas
 mod ReadingFacts
 mod ReadingLemmas

@@ -6,23 +6,8 @@ use Rattle.bloom.specs.declared.engine.line.Line.TheVariants.{Insert, Contains, 
 use Rattle.bloom.specs.declared.fault.Fault.TheVariants as fault
 use Rattle.bloom.specs.Arguments.{within_limits, asked_of}
 use Rattle.bloom.specs.Faults.{status_of, IsOfStream}
-use Rattle.bloom.specs.Lines.{lines_of, number_of, line_of, longest_line}
+use Rattle.bloom.specs.Lines.{number_of, line_of, longest_line}
 use Rattle.bloom.specs.Texts.{hex_text, words_text, reply_text, word_with_bits, words_with_content}
-
--- two lines
-two_lines : lines_of (codes "i 1\nx\n") ≡ codes "i 1" ∷ codes "x" ∷ []
-unfolding lines_of
-two_lines = refl
-
--- a last line that lacks its end
-last_line : lines_of (codes "i 1\nx") ≡ codes "i 1" ∷ codes "x" ∷ []
-unfolding lines_of
-last_line = refl
-
--- two ends are two empty lines, and no third follows
-empty_lines : lines_of (10 ∷ 10 ∷ []) ≡ [] ∷ [] ∷ []
-unfolding lines_of
-empty_lines = refl
 
 -- the greatest number, and one of twenty digits
 numbers : map number_of (codes "18446744073709551615" ∷ codes "00000000000000000001" ∷ [])

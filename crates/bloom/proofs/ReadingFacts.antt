@@ -4,9 +4,11 @@ use Rattle.std.specs.Prelude.{codes}
 use Rattle.std.proofs.lemmas.List.{append_cancel_right}
 use Rattle.bloom.specs.declared.engine.line.Line.TheVariants.{Words}
 use Rattle.bloom.specs.declared.engine.line_reader.Next.TheVariants.{Good, Bad}
-use Rattle.bloom.specs.Lines.{lines_of, line_of, number_of}
-use Rattle.bloom.specs.Reading.{Waiting, KnowsEnd, IsQuiet, Asks, TakesByte, IsFirstLine, TakesLine, TakesLong, Ends, NextCommand}
-use Rattle.bloom.proofs.ReadingLemmas.{taken-ended}
+use Rattle.lines.specs.Lines.{lines_of}
+use Rattle.lines.specs.Reading.{TakesLine, Ends}
+use Rattle.lines.proofs.ReadingLemmas.{taken-ended}
+use Rattle.bloom.specs.Lines.{line_of, number_of}
+use Rattle.bloom.specs.Reading.{Waiting, KnowsEnd, IsQuiet, Asks, TakesByte, IsFirstLine, TakesLong, NextCommand}
 
 -- a list with a number isn't empty
 not_nil : (x : ℕ) (xs : List ℕ) → x ∷ xs ≡ [] → ⊥

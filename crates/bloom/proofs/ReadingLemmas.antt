@@ -8,18 +8,11 @@ use Rattle.bloom.specs.declared.engine.line.Line.{Line}
 use Rattle.bloom.specs.declared.engine.line_reader.Next.{Next}
 use Rattle.bloom.specs.declared.engine.line_reader.Next.TheVariants as next
 use Rattle.bloom.specs.Lines.{line_of, longest_line}
-use Rattle.bloom.specs.Reading.{Asks, Waiting, IsQuiet, KnowsEnd, left_of, has_no_end, HasTakenLine, IsFirstLine, TakesByte, TakesLine, TakesLong, NextCommand}
-use Rattle.bloom.proofs.LineLemmas.{lines_of-nil, lines_of-ended, lines_of-last, has_no_end-more, IsEnded-line}
-
--- a line that was taken with its end
-pub taken-ended : {old new line : List ℕ} → old ≡ (line ++ 10 ∷ []) ++ new → has_no_end line ≡ true
-    → HasTakenLine old new line
-taken-ended {line = line} cut inside = record {
-  taken = line ++ 10 ∷ [];
-  cut = cut;
-  is_line = lines_of-ended line [] inside ∙ ap (λ l. line ∷ l) lines_of-nil;
-  last = inl (IsEnded-line line inside);
-}
+use Rattle.bloom.specs.Reading.{Asks, Waiting, IsQuiet, KnowsEnd, left_of, IsFirstLine, TakesByte, TakesLong, NextCommand}
+use Rattle.lines.specs.Lines.{has_no_end}
+use Rattle.lines.specs.Reading.{TakesLine}
+use Rattle.lines.proofs.LineLemmas.{lines_of-last, has_no_end-more}
+use Rattle.lines.proofs.ReadingLemmas.{taken-ended}
 
 -- what a line asks for that was taken
 pub NextCommand-from : (old new : Option (List ℕ)) (text : List ℕ) (came : Next) → Asks text came

@@ -3,7 +3,8 @@ use Rattle.std.proofs.Common.{◌≡◌, ℕ, ◌+◌, ◌-◌, ◌^◌, min, Li
 use Rattle.std.specs.Prelude.{codes}
 use Rattle.bloom.specs.declared.engine.line.Line.{Line}
 use Rattle.bloom.specs.declared.engine.line.Line.TheVariants.{Insert}
-use Rattle.bloom.specs.Lines.{lines_of, line_of, number_of}
+use Rattle.lines.specs.Lines.{lines_of}
+use Rattle.bloom.specs.Lines.{line_of, number_of}
 use Rattle.bloom.specs.Served.{IsReadWhole, Reaches, IsReadUpTo, ServedAll, ServedUpTo}
 use Rattle.bloom.proofs.CarriedFacts.{zeros, with_one, carried, carried-text, carried-bits}
 

@@ -9,8 +9,11 @@ use Rattle.bloom.specs.declared.engine.line_reader.Next.{Next}
 use Rattle.bloom.specs.declared.engine.line_reader.Next.TheVariants as next
 use Rattle.bloom.specs.declared.fault.Fault.{Fault}
 use Rattle.bloom.specs.declared.fault.Fault.TheVariants as fault
-use Rattle.bloom.specs.Lines.{lines_of, line_of}
-use Rattle.bloom.specs.Reading.{Ends, KnowsEnd, NextCommand, Waiting, left_of}
+use Rattle.lines.specs.Lines.{lines_of}
+use Rattle.lines.specs.Reading.{Ends}
+use Rattle.lines.proofs.TakenLemmas.{nil-back}
+use Rattle.bloom.specs.Lines.{line_of}
+use Rattle.bloom.specs.Reading.{KnowsEnd, NextCommand, Waiting, left_of}
 use Rattle.bloom.specs.Served.{Carried, IsReadWhole, ServedAll, ServedUpTo}
 use Rattle.bloom.proofs.BadLineLemmas.{upto}
 use Rattle.bloom.proofs.CarriedLemmas.{Carried-nil, Carried-more}
@@ -59,10 +62,6 @@ IsReadWhole-from (Some x) (Some z) (Some y) block lines p q =
       good = ap (λ l. map line_of (lines_of l)) all ∙ p.good;
       none_left = ap Some (nil-back block z none);
     }
-  where
-    nil-back : (xs ys : List ℕ) → xs ++ ys ≡ [] → ys ≡ []
-    nil-back [] ys none = none
-    nil-back (x ∷ xs) ys none = cc
 
 -- nothing was taken yet
 pub serving_nothing : {S : Type 0} (read from : Option (List ℕ)) (filter : Filter S)

@@ -3,9 +3,11 @@ use Rattle.std.proofs.Common.{◌≡◌, ℕ, List, [], ◌∷◌, ◌++◌, map
 use Rattle.std.specs.Io.KnownBytes.{prepend_known}
 use Rattle.std.proofs.lemmas.List.{map-append}
 use Rattle.bloom.specs.declared.engine.line.Line.{Line}
-use Rattle.bloom.specs.Lines.{lines_of, line_of}
-use Rattle.bloom.specs.Reading.{IsEnded, TakesLine}
-use Rattle.bloom.proofs.LineLemmas.{lines_of-nil, IsEnded-nil, IsEnded-append}
+use Rattle.bloom.specs.Lines.{line_of}
+use Rattle.lines.specs.Lines.{lines_of, IsEnded}
+use Rattle.lines.specs.Reading.{TakesLine}
+use Rattle.lines.proofs.LineLemmas.{lines_of-nil, IsEnded-nil, IsEnded-append}
+use Rattle.lines.proofs.TakenLemmas.{ended-before}
 
 -- these good lines were taken, and the last of them had its end or nothing is left
 pub record HasTakenGood (old new : List ℕ) (lines : List Line) : Type 0 where
@@ -19,26 +21,6 @@ abbrev pub TakesGood : Option (List ℕ) → Option (List ℕ) → List Line →
 TakesGood None new lines = Unit {0}
 TakesGood (Some old) None lines = ⊥
 TakesGood (Some old) (Some new) lines = HasTakenGood old new lines
-
--- what is joined to nothing is nothing
-pub nil-front : (xs ys : List ℕ) → xs ++ ys ≡ [] → xs ≡ []
-nil-front [] ys none = refl
-nil-front (x ∷ xs) ys none = cc
-
--- what was taken last is a line, so something was left before it
-not-at-end : (old taken new text : List ℕ) → old ≡ taken ++ new → lines_of taken ≡ text ∷ []
-    → old ≡ [] → ⊥
-not-at-end old taken new text cut is none =
-    let nothing : taken ≡ [] = nil-front taken new (sym cut ∙ none) in
-    let same : text ∷ [] ≡ [] = sym is ∙ ap lines_of nothing ∙ lines_of-nil in
-    cc
-
--- so the lines before it had their ends
-pub ended-before : (before old taken new text : List ℕ) → IsEnded before ⊎ (old ≡ [])
-    → old ≡ taken ++ new → lines_of taken ≡ text ∷ [] → IsEnded before
-ended-before before old taken new text (inl ended) cut is = ended
-ended-before before old taken new text (inr none) cut is =
-    absurd (not-at-end old taken new text cut is none)
 
 -- no line was taken yet
 pub TakesGood-nil : (block : List ℕ) (read : Option (List ℕ)) → block ≡ []

@@ -1,4 +1,4 @@
--- The lines of a list of bytes, and which of them are good. The commands are this project's own.
+-- Which lines are good, and what they ask for. The commands are this project's own.
 use Rattle.std.specs.Prelude.{ℕ, ◌+◌, ◌*◌, ◌-◌, ◌^◌, ◌==◌, ◌&&◌, Bool, nat_lt, nat_le, if◌then◌else◌, List, [], ◌∷◌, length, fold, filter_map, Option, Some, None}
 use Rattle.std.specs.List.{list_all}
 use Rattle.std.specs.Char.{is_ascii_digit}
@@ -6,16 +6,6 @@ use Rattle.bloom_parts.specs.Operations as command
 use Rattle.bloom_parts.specs.Operations.{Operation}
 use Rattle.bloom.specs.declared.engine.line.Line.{Line}
 use Rattle.bloom.specs.declared.engine.line.Line.TheVariants.{Insert, Contains, Clear, Words}
-
--- a byte at the front of the first line
-abbrev pub onto_first : ℕ → List (List ℕ) → List (List ℕ)
-onto_first b [] = (b ∷ []) ∷ []
-onto_first b (line ∷ lines) = (b ∷ line) ∷ lines
-
--- the parts that end with byte 10, without it, and a last part that isn't empty
-unfoldable pub lines_of : List ℕ → List (List ℕ)
-lines_of [] = []
-lines_of (b ∷ bytes) = if b == 10 then [] ∷ lines_of bytes else onto_first b (lines_of bytes)
 
 -- the number that decimal digits spell
 abbrev pub value_of : List ℕ → ℕ

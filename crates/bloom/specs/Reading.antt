@@ -1,10 +1,12 @@
 -- What reading one line takes, from what a block and a reader have left.
-use Rattle.std.specs.Prelude.{◌≡◌, ◌⊎◌, ℕ, ◌<◌, ◌≤◌, ◌==◌, List, [], ◌∷◌, ◌++◌, length, take, slice_index, Bool, true, not, ◌&&◌, Option, Some, None, MatchOption}
+use Rattle.std.specs.Prelude.{◌≡◌, ◌⊎◌, ℕ, ◌<◌, ◌≤◌, List, [], ◌∷◌, ◌++◌, length, take, slice_index, Bool, true, Option, Some, None, MatchOption}
 use Rattle.std.specs.Io.KnownBytes.{Consumes, IsAtEnd, prepend_known}
 use Rattle.bloom.specs.declared.engine.line.Line.{Line}
 use Rattle.bloom.specs.declared.engine.line_reader.Next.{Next}
 use Rattle.bloom.specs.declared.engine.line_reader.Next.TheVariants.{End, Good, Bad}
-use Rattle.bloom.specs.Lines.{lines_of, line_of, longest_line}
+use Rattle.lines.specs.Lines.{has_no_end}
+use Rattle.lines.specs.Reading.{Ends, TakesLine}
+use Rattle.bloom.specs.Lines.{line_of, longest_line}
 
 -- what a reader of lines keeps: the bytes that were read and wait, and whether the end was told
 pub record Waiting : Type 0 where
@@ -32,20 +34,10 @@ IsQuiet old new from to = old.ended ≡ true → StaysEnded new from to
 abbrev pub Asks : List ℕ → Next → Type 0
 Asks line came = MatchOption (line_of line) (came ≡ Bad) (λ good. came ≡ Good good)
 
--- nothing is left, and nothing was taken
-pub record Ends (old new : Option (List ℕ)) : Type 0 where
-  pub nothing : Consumes old new []
-  pub end : IsAtEnd new
-
 -- a byte is taken, or there is none
 abbrev pub TakesByte : Option (List ℕ) → Option (List ℕ) → Option ℕ → Type 0
 TakesByte old new None = Ends old new
 TakesByte old new (Some byte) = Consumes old new (byte ∷ [])
-
--- whether no byte ends a line
-abbrev pub has_no_end : List ℕ → Bool
-has_no_end [] = true
-has_no_end (b ∷ bytes) = not (b == 10) && has_no_end bytes
 
 -- the first line of these bytes has n bytes, no more than a good one may, and its end is there too
 pub record IsFirstLine (bytes : List ℕ) (n : ℕ) : Type 0 where
@@ -53,23 +45,6 @@ pub record IsFirstLine (bytes : List ℕ) (n : ℕ) : Type 0 where
   pub short : n ≤ longest_line
   pub ended : slice_index bytes n ≡ 10
   pub inside : has_no_end (take n bytes) ≡ true
-
--- what comes after these bytes is cut into lines of its own
-abbrev pub IsEnded : List ℕ → Type 0
-IsEnded bytes = (rest : List ℕ) → lines_of (bytes ++ rest) ≡ lines_of bytes ++ lines_of rest
-
--- from these bytes to those one line was taken, with its end or with all that was left
-pub record HasTakenLine (old new line : List ℕ) : Type 0 where
-  pub taken : List ℕ
-  pub cut : old ≡ taken ++ new
-  pub is_line : lines_of taken ≡ line ∷ []
-  pub last : IsEnded taken ⊎ (new ≡ [])
-
--- from old to new it was
-abbrev pub TakesLine : Option (List ℕ) → Option (List ℕ) → List ℕ → Type 0
-TakesLine None new line = Unit {0}
-TakesLine (Some old) None line = ⊥
-TakesLine (Some old) (Some new) line = HasTakenLine old new line
 
 -- from these bytes to those more bytes of one line were taken than a good one has
 pub record HasTakenLong (old new : List ℕ) : Type 0 where

@@ -6,7 +6,8 @@ use Rattle.bloom_parts.specs.Content.{content}
 use Rattle.fastbloom.specs.Filter.{Filter}
 use Rattle.fastbloom.specs.Replies.{CarriesOut}
 use Rattle.bloom.specs.declared.engine.line.Line.{Line}
-use Rattle.bloom.specs.Lines.{lines_of, line_of, longest_line, operations}
+use Rattle.lines.specs.Lines.{lines_of}
+use Rattle.bloom.specs.Lines.{line_of, longest_line, operations}
 use Rattle.bloom.specs.Texts.{text_of}
 
 -- these lines' commands were carried out with some replies, and the lines' text was written

@@ -8,11 +8,13 @@ ghost use Rattle.bloom_parts.specs.Content.{AreWords, content, index_of};
 
 mod atomic;
 mod by_hash;
+mod gathered;
 mod kernels;
 mod words;
 
 use crate::error::FilterError;
 pub use atomic::{AtomicBitVec, AtomicWords};
+pub use gathered::gather;
 use kernels::{and_words, clear_words, or_words, same_words};
 use std::alloc::Global;
 use std::marker::Model;
@@ -80,7 +82,7 @@ impl BitVec {
         ensures words { IfOk result (λ v. WholeRun I.next_gives words (λ p. v ≡ p.items)) }
         ensures refused { IsOkUnless result FilterError.Memory }
     {
-        let words: Vec<u64> = words.collect(alloc)?;
+        let words = gather(alloc, words)?;
         Ok(BitVec { words })
     }
 

@@ -1,4 +1,5 @@
-//! The parts that Bloom filters are made of: words of bits, the chain of a hash, and refusals.
+//! The parts that Bloom filters are made of: words of bits, the chain of a hash, bytes as an
+//! item, and refusals.
 #![tactic(auto)]
 
 pub mod bit_vector;
@@ -6,3 +7,4 @@ pub mod error;
 pub mod hasher;
 pub mod laws;
 pub mod math;
+pub mod text;

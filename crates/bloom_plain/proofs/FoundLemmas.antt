@@ -16,7 +16,7 @@ use Rattle.bloom_plain.proofs.LawLemmas.{contains-shape}
 use Rattle.bloom_parts.proofs.PublishedLemmas.{part-from, part-to}
 
 -- whether what was on before a decision is on after it
-leaves_on : Option Bool → Bool
+unfoldable pub leaves_on : Option Bool → Bool
 leaves_on None = true
 leaves_on (Some b) = b
 
@@ -57,7 +57,7 @@ module _ (n k : ℕ) (A : ℕ → Bool) (p : ℕ) (is : A p ≡ true) where
       ap (λ b. leaves_on (cond b None (Some false))) (spare p is)
 
   -- nor by a list of such commands
-  leaves_on-list : (os : List Operation) → All (Spares A) os
+  pub leaves_on-list : (os : List Operation) → All (Spares A) os
       → leaves_on (last_decision (map (decides n k) os) p) ≡ true
   unfolding leaves_on
   leaves_on-list [] all = refl
@@ -78,7 +78,7 @@ made-on n k hash p is (o ∷ earlier) later all =
     ap (λ d. option_or d (decides n k o p)) (made-on n k hash p is earlier later all)
 
 -- inserts spare every position
-all_spare : (A : ℕ → Bool) (hashes : List ℕ) → All (Spares A) (map Insert hashes)
+pub all_spare : (A : ℕ → Bool) (hashes : List ℕ) → All (Spares A) (map Insert hashes)
 all_spare A hashes = All-map (Spares A) Insert hashes (λ i d within. tt)
 
 -- the insert decides each position of its hash, and nothing later makes it off

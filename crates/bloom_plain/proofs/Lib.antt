@@ -18,4 +18,7 @@ mod RateLemmas
 mod ReplyLemmas
 mod SetFacts
 mod StretchLemmas
+mod TogetherLemmas
 mod TurnLemmas
+mod UnitedFacts
+mod UnitedLemmas

@@ -30,7 +30,7 @@ unwrap_or-or None b x = refl
 unwrap_or-or (Some y) b x = refl
 
 -- the later of two lists of deciders decides first
-last_decision-append : (ds es : List Decider) (p : ℕ)
+pub last_decision-append : (ds es : List Decider) (p : ℕ)
     → last_decision (ds ++ es) p ≡ option_or (last_decision es p) (last_decision ds p)
 last_decision-append [] es p = sym (option_or-none (last_decision es p))
 last_decision-append (d ∷ ds) es p =

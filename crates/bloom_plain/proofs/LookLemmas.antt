@@ -101,7 +101,7 @@ digit-most true = omega arith
 digit-most false = omega arith
 
 -- so many of one place more are on: all are, exactly if all before were and this is
-one-more : (on places : ℕ) (b : Bool) → on ≤ places
+pub one-more : (on places : ℕ) (b : Bool) → on ≤ places
     → eqb (on + bool_byte b) (places + 1) ≡ (eqb on places && b)
 one-more on places true most = elim (cases_eq on places) [
   | inl same ↦

@@ -140,3 +140,10 @@ FoundAfterReplayLaw S = (old new : Filter S) (earlier later : List (Command S))
     → CarriesOut old (map operation_of (earlier ++ command.Insert hash ∷ later)) new replies
     → All (λ c. Spares (positions_of old hash) (operation_of c)) later
     → contains new hash ≡ true
+
+-- of a filter two were made by inserts of a list each, and united: that is the filter with all
+-- hashes of both lists inserted
+abbrev pub UnitedInsertsLaw : (S : Type 0) → Type 0
+UnitedInsertsLaw S = (old one other new : Filter S) (hashes others : List ℕ)
+    → InsertsAll old hashes one → InsertsAll old others other → Unites one other new
+    → InsertsAll old (hashes ++ others) new

@@ -11,6 +11,7 @@ mod items;
 mod positions;
 mod rates;
 mod sets;
+mod together;
 
 use bloom_parts::bit_vector::{BitVec, Words};
 use bloom_parts::hasher::DefaultHasher;
@@ -18,6 +19,7 @@ pub use command::Command;
 pub use data::{BitsData, FilterData, shape_of_data};
 use positions::{contains_positions, insert_positions};
 pub use rates::expected_rate;
+pub use together::insert_hashes;
 use std::marker::Model;
 
 /// A Bloom filter: a set of hashes that never forgets one, and may take one for another.
@@ -75,6 +77,14 @@ impl<S> BloomFilter<S> {
         ensures shape { HasShape self.now }
     {
         self.bits.num_bits()
+    }
+
+    /// What builds the hashers of items. Two filters with the default hasher hash alike where the
+    /// keys of these are equal.
+    pub fn hasher(&self) -> &S
+        ensures value { result.now ≡ self.now.hasher }
+    {
+        &self.hasher
     }
 
     /// The words, word 0 first.

@@ -6,7 +6,7 @@ ghost use Rattle.bloom_parts.specs.Sip.{sip};
 ghost use Rattle.bloom_parts.specs.declared.hasher.CloneBuildHasher.{CloneBuildHasher as Builder};
 ghost use Rattle.bloom_plain.specs.Data.{DataLaw, SameItemsLaw};
 ghost use Rattle.bloom_plain.specs.Filter.{Unites, Intersects};
-ghost use Rattle.bloom_plain.specs.Laws.{InsertLaw, KeptByInsertLaw, KeptByUnionLaw, KeptByListLaw, KeptByInsertsLaw, IntersectionLaw, UnionLaw, ClearLaw, IsCommutative, IsAssociative, IsIdempotent, RebuiltLaw, EqualityLaw, EqualContentLaw, EqualStartsLaw, EqualRateStartsLaw, JoinedListsLaw, FoundLaw, FoundAfterInsertsLaw, FoundAfterReplayLaw};
+ghost use Rattle.bloom_plain.specs.Laws.{InsertLaw, KeptByInsertLaw, KeptByUnionLaw, KeptByListLaw, KeptByInsertsLaw, IntersectionLaw, UnionLaw, ClearLaw, IsCommutative, IsAssociative, IsIdempotent, RebuiltLaw, EqualityLaw, EqualContentLaw, EqualStartsLaw, EqualRateStartsLaw, JoinedListsLaw, UnitedInsertsLaw, FoundLaw, FoundAfterInsertsLaw, FoundAfterReplayLaw};
 ghost use Rattle.bloom_plain.specs.SourceHash.{source_hash_of, IsFunctionOfBytes};
 
 use bloom_parts::hasher::{DefaultHasher, RandomDefaultHasher};
@@ -78,6 +78,12 @@ pub fn equality_of_builders<S>()
 /// Calls one after the other do what one list of them does, since each is a list of one command.
 pub fn lists_join<S>()
     ensures { JoinedListsLaw S }
+{}
+
+/// The union of filters into which lists of hashes were inserted, from one start, is the filter with
+/// all of them inserted.
+pub fn union_of_inserts<S>()
+    ensures { UnitedInsertsLaw S }
 {}
 
 /// An inserted hash stays found, through lists that later neither clear nor intersect it away.

@@ -5,4 +5,6 @@ mod bloom;
 pub mod builder;
 pub mod laws;
 
-pub use bloom::{BitsData, BloomFilter, Command, FilterData, expected_rate, shape_of_data};
+pub use bloom::{
+    BitsData, BloomFilter, Command, FilterData, expected_rate, insert_hashes, shape_of_data,
+};

@@ -11,8 +11,8 @@ use Rattle.bloom_parts.specs.Places.{positions, are_in}
 use Rattle.bloom_parts.proofs.PublishedLemmas.{part-to, unwrap_or-option_or}
 use Rattle.bloom_plain.specs.Filter.{num_bits_of}
 use Rattle.bloom_plain.specs.Laws.{EqualContentLaw}
-use Rattle.fastbloom.specs.Fill.{words_of, hashes_of, positions_of_all, IsPositionOfOne, HaveSameHashes, UnionOfPositionsLaw, AnyCuttingLaw, FilledByInsertsLaw, FilledContainsLaw}
-use Rattle.fastbloom.proofs.FillLemmas.{positions_of_all-append, filled-same}
+use Rattle.fastbloom.specs.Fill.{words_of, hashes_of, positions_of_all, IsPositionOfOne, HaveSameHashes, UnionOfPositionsLaw, AnyCuttingLaw, FilledByInsertsLaw, FilledByUnionLaw, FilledContainsLaw}
+use Rattle.fastbloom.proofs.FillLemmas.{positions_of_all-append, filled-same, filled-union}
 
 -- two truth values that imply one another are the same
 same-truth : (a b : Bool) → (a ≡ true → b ≡ true) → (b ≡ true → a ≡ true) → a ≡ b
@@ -105,6 +105,11 @@ filled_by_inserts_law S shape old new earlier hashes filled inserted =
           ∙ ap (λ b. b || positions_of_all n k hashes p) (filled.bits p)
           ∙ sym (positions_of_all-append n k earlier hashes p);
     }
+
+-- the content is what either had
+pub filled_by_union_law : (S : Type 0) → FilledByUnionLaw S
+filled_by_union_law S shape old other new hashes others filled added united =
+    filled-union shape old other new hashes others filled added united
 
 -- each position of a hash that was inserted is on
 pub filled_contains_law : (S : Type 0) → FilledContainsLaw S

@@ -1,7 +1,7 @@
 mod DataLemmas
 mod FillFacts
 mod FillLawLemmas
-mod FillLemmas
+pub mod FillLemmas
 mod FormLemmas
 mod InsertedLemmas
 mod ReadingLemmas

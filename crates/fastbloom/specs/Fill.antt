@@ -4,7 +4,7 @@ use Rattle.std.specs.Prelude.{◌≡◌, ◌↔◌, ℕ, ◌*◌, Bool, true, fa
 use Rattle.std.specs.List.{Contains}
 use Rattle.bloom_parts.specs.Content.{content, AreWords}
 use Rattle.bloom_parts.specs.Places.{positions}
-use Rattle.bloom_plain.specs.Filter.{Filter, contains, same_filter}
+use Rattle.bloom_plain.specs.Filter.{Filter, Unites, contains, same_filter}
 use Rattle.bloom_plain.specs.Replies.{InsertsAll}
 use Rattle.fastbloom.specs.declared.parallel.shape.Shape.{Shape}
 
@@ -56,6 +56,12 @@ abbrev pub FilledByInsertsLaw : (S : Type 0) → Type 0
 FilledByInsertsLaw S = (shape : Shape) (old new : Filter S) (earlier hashes : List ℕ)
     → IsFilledWith shape earlier old → InsertsAll old hashes new
     → IsFilledWith shape (earlier ++ hashes) new
+
+-- a union of filters fills one with the hashes of both
+abbrev pub FilledByUnionLaw : (S : Type 0) → Type 0
+FilledByUnionLaw S = (shape : Shape) (old other new : Filter S) (hashes others : List ℕ)
+    → IsFilledWith shape hashes old → IsFilledWith shape others other → Unites old other new
+    → IsFilledWith shape (hashes ++ others) new
 
 -- a filter that was filled with hashes contains each
 abbrev pub FilledContainsLaw : (S : Type 0) → Type 0

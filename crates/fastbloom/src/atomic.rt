@@ -78,6 +78,13 @@ impl<S> AtomicBloomFilter<S> {
         self.words.num_bits()
     }
 
+    /// What builds the hashers of items, which no call changes.
+    pub fn hasher(&self) -> &S
+        ensures value { result.now ≡ self.now.hasher }
+    {
+        &self.hasher
+    }
+
     /// Turns on all positions of a hash, and answers whether its own steps found all of them on.
     pub fn insert_hash(&self, hash: u64) -> bool
         ensures { MakesInsert self.now hash result }

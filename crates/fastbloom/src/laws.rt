@@ -1,12 +1,12 @@
 //! The laws of all that this library holds: of plain filters, of word steps, of seated filters, and
 //! of filters that workers fill. These functions do nothing: their contracts are the laws.
-ghost use Rattle.fastbloom.specs.Fill.{UnionOfPositionsLaw, AnyCuttingLaw, FilledByInsertsLaw, FilledContainsLaw};
+ghost use Rattle.fastbloom.specs.Fill.{UnionOfPositionsLaw, AnyCuttingLaw, FilledByInsertsLaw, FilledByUnionLaw, FilledContainsLaw};
 
 pub use bloom_plain::laws::{
     clear_contains_nothing, contained_stays, data_answer_alike, equality_of_builders,
     equality_of_filters, insert_answers_contains, inserted_stays_found, intersection_contains,
     intersection_of_contents, lists_join, rebuilt_answers_alike, source_hash_by_default,
-    union_contains, union_of_contents,
+    union_contains, union_of_contents, union_of_inserts,
 };
 pub use bloom_seated::laws::{
     inserted_stays_known, met_is_found, passes_are_few, steps_of_words, sure_is_found,
@@ -24,6 +24,8 @@ pub fn fill_of_any_cutting<S>()
 /// What `fill` answers is what inserts of all hashes, one after the other, make of an empty filter.
 pub fn fill_equals_one_filter<S>()
     ensures inserts { FilledByInsertsLaw S }
+    // So a union of two such filters is filled with the hashes of both.
+    ensures union { FilledByUnionLaw S }
     // What the clause on the bits says is the union of the positions.
     ensures positions { UnionOfPositionsLaw }
 {}

@@ -13,6 +13,7 @@ pub use bloom_parts::hasher::{CloneBuildHasher, DefaultHasher, RandomDefaultHash
 pub use bloom_parts::math::{
     Bracket, Rate, expected_density, expected_false_pos, optimal_hashes, optimal_size,
 };
+pub use bloom_parts::text::Text;
 pub use bloom_plain::builder::{BuilderWithBits, BuilderWithFalsePositiveRate};
 pub use bloom_plain::{BitsData, BloomFilter, Command, FilterData};
 pub use bloom_seated::{Pass, SeatedBloomFilter, SeatedRule};

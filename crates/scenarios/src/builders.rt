@@ -27,6 +27,9 @@ fn hashes_are_as_many_as_asked(rt: HostRuntime) -> Result<(), Fail> {
         let filter = BloomFilter::with_num_bits(rt.alloc(), 1)?.hashes(hashes);
         assert_eq!(rt; filter.num_hashes(), hashes);
     }
+    let most = BloomFilter::with_num_bits(rt.alloc(), 1)?.hashes(4294967295);
+    assert_eq!(rt; (most.num_bits(), most.num_hashes()), (64, 4294967295));
+    assert!(rt; !most.contains_hash(1));
     Ok(())
 }
 

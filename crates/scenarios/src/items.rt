@@ -1,13 +1,11 @@
 //! Builders that take the items: what sizes the filter, and which items go in.
-ghost use Rattle.std.specs.Prelude.{◌≤◌, length};
-ghost use Rattle.std.specs.Iterator.{at_most};
+ghost use Rattle.std.specs.Prelude.{length};
 ghost use Rattle.fastbloom.specs.Builders.{sized_filter};
 ghost use Rattle.fastbloom.specs.Replies.{InsertsItems};
 ghost use Rattle.fastbloom.specs.SourceHash.{source_hash_of};
 
 use fastbloom::{BloomFilter, BuilderWithBits, FilterError, Rate};
 use std::alloc::Global;
-use std::cell::Cell;
 use std::hash::{BuildHasher, Hash, Hasher};
 use std::test::Fail;
 
@@ -20,38 +18,6 @@ fn fill_by_slice<S: BuildHasher, T: Hash>(
         (sized_filter builder (length items.now)) items.now result }
 {
     builder.items(items)
-}
-
-// Says that it has more items than come, and counts those that are taken.
-#[derive(Drop)]
-struct Overstated<'a> {
-    rest: &'a [u64],
-    said: usize,
-    taken: &'a Cell<usize>,
-    ghost enough: { length rest.now ≤ said },
-}
-
-impl<'a> Iterator for Overstated<'a> {
-    type Item = &'a u64;
-
-    ghost remaining = { λ s. at_most s.said };
-
-    fn next(&mut self) -> Option<&'a u64> {
-        let (first, others) = self.rest.split_first()?;
-        *self = Overstated {
-            rest: others,
-            said: self.said - 1,
-            taken: self.taken,
-        };
-        self.taken.set(self.taken.get().saturating_add(1));
-        Some(first)
-    }
-}
-
-impl<'a> ExactSizeIterator for Overstated<'a> {
-    fn len(&self) -> usize {
-        self.said
-    }
 }
 
 #[test]
@@ -103,44 +69,5 @@ fn a_filter_of_items_is_built_again_from_its_words(rt: HostRuntime) -> Result<()
     assert!(rt; again == filter);
     assert!(rt; filter.contains(&1) && filter.contains(&2));
     assert!(rt; again.contains(&1) && again.contains(&2));
-    Ok(())
-}
-
-// The filter of one word and one hash with the items 1, 2 and 3.
-fn filter_of_three(alloc: Global) -> Result<BloomFilter, FilterError> {
-    let mut filter = BloomFilter::with_num_bits(alloc, 64)?.hashes(1);
-    for item in [1u64, 2, 3] {
-        filter.insert(&item);
-    }
-    Ok(filter)
-}
-
-// The number of items that an iterator says sizes the filter, and those that come go in.
-#[test]
-fn what_an_iterator_says_sizes_alone(rt: HostRuntime) -> Result<(), Fail> {
-    let taken = Cell::new(0);
-    let items = Overstated {
-        rest: &[1, 2, 3],
-        said: 500,
-        taken: &taken,
-    };
-    let filter = BloomFilter::with_num_bits(rt.alloc(), 64)?.items(items);
-    assert_eq!(rt; filter.num_hashes(), 1);
-    assert!(rt; filter == filter_of_three(rt.alloc())?);
-    assert_eq!(rt; taken.get(), 3);
-    Ok(())
-}
-
-#[test]
-fn a_refused_size_takes_no_item(rt: HostRuntime) -> Result<(), Fail> {
-    let taken = Cell::new(0);
-    let items = Overstated {
-        rest: &[1, 2, 3],
-        said: 18446744073709551615,
-        taken: &taken,
-    };
-    let filter = BloomFilter::with_false_pos(Rate::new(1, 2)?).items(rt.alloc(), items);
-    assert!(rt; filter == Err(FilterError::SizeOverflow));
-    assert_eq!(rt; taken.get(), 0);
     Ok(())
 }

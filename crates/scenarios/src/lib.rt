@@ -14,6 +14,8 @@ mod lanes;
 #[cfg(test)]
 mod lists;
 #[cfg(test)]
+mod overstated;
+#[cfg(test)]
 mod sizing;
 #[cfg(test)]
 mod steps;

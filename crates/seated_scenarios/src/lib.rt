@@ -5,7 +5,5 @@
 #[cfg(test)]
 mod rows;
 #[cfg(test)]
-mod starved;
-#[cfg(test)]
 mod threads;
 pub mod two;

@@ -28,6 +28,7 @@ fn bits_are_rounded_up_to_words(rt: HostRuntime) -> Result<(), FilterError> {
 #[test]
 fn hashes_are_as_many_as_asked(rt: HostRuntime) -> Result<(), FilterError> {
     assert!(rt; is_sized(rt.alloc(), 1, 0, (64, 1))?);
+    assert!(rt; is_sized(rt.alloc(), 1, 4294967295, (64, 4294967295))?);
     for hashes in 1..1000 {
         assert!(rt;
             is_sized(rt.alloc(), 1, hashes, (64, hashes))?,

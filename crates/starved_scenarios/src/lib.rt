@@ -9,6 +9,8 @@ mod plain;
 #[cfg(test)]
 mod quiet;
 #[cfg(test)]
+mod seated;
+#[cfg(test)]
 mod shared;
 #[cfg(test)]
 mod standing;

@@ -5,6 +5,7 @@ ghost use Rattle.std.specs.Iterator.Runs.{EachRunFrom, WholeRun};
 ghost use Rattle.bloom_parts.specs.Made.{FoundByLoad, FoundByOr, FoundByAnd, MadeZero, FoundBySwap};
 ghost use Rattle.bloom_parts.specs.Reading.{ReadsNext};
 
+use super::gather;
 use crate::error::FilterError;
 use std::alloc::Global;
 use std::fmt;
@@ -45,7 +46,7 @@ impl AtomicBitVec {
             (λ p. v.count ≡ length p.items)) }
         ensures refused { IsOkUnless result FilterError.Memory }
     {
-        let words: Vec<AtomicU64> = words.map(AtomicU64::new).collect(alloc)?;
+        let words = gather(alloc, words.map(AtomicU64::new))?;
         Ok(AtomicBitVec {
             words,
             name: Snapshot::of(&0),

@@ -75,6 +75,10 @@ impl<S: BuildHasher> BloomFilter<S> {
             InsertsItems (lent_hash_of S.BuildHasher S.Hasher.Hasher T.hash_input)
             self.old run.items self.new) }
     {
+        if self.is_large() {
+            self.insert_lent_together(iter);
+            return;
+        }
         'lent: for item in iter {
             self.insert(item);
         }
@@ -90,6 +94,10 @@ impl<S: BuildHasher> BloomFilter<S> {
             InsertsItems (source_hash_of S.BuildHasher S.Hasher.Hasher T.hash_input)
             self.old run.items self.new) }
     {
+        if self.is_large() {
+            self.insert_given_together(iter);
+            return;
+        }
         'given: for item in iter {
             self.insert(&item);
         }

@@ -112,3 +112,12 @@ pub(super) fn contains_positions(bits: &BitVec, num_hashes: u32, hash: u64) -> b
     }
     all_are_on(bits, &mut chain, last)
 }
+
+// The same. It counts, so that no branch waits for a word, and all words are asked for at once.
+#[inline(always)]
+pub(super) fn contains_by_count(bits: &BitVec, num_hashes: u32, hash: u64) -> bool
+    ensures { result ≡ are_in (64 * length bits.now) num_hashes hash (content bits.now) }
+{
+    let mut chain = DoubleHasher::new(hash);
+    all_are_on(bits, &mut chain, num_hashes)
+}

@@ -81,7 +81,7 @@ impl<S: Clone> BloomFilter<S> {
             → IfOk result (λ copy. copy ≡ self.now) }
         ensures refused { IsOkUnless result FilterError.Memory }
     {
-        let words = self.bits.as_slice().to_vec(alloc)?;
+        let words = Vec::from_slice(alloc, self.bits.as_slice())?;
         let hasher = self.hasher.clone()?;
         Ok(BloomFilter {
             bits: BitVec::from_vec(words),

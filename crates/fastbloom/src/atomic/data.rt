@@ -7,7 +7,7 @@ ghost use Rattle.bloom_plain.specs.Data.{data_refusal};
 ghost use Rattle.fastbloom.specs.Shared.{WereLoaded};
 
 use super::AtomicBloomFilter;
-use bloom_parts::bit_vector::AtomicBitVec;
+use bloom_parts::bit_vector::{AtomicBitVec, gather};
 use bloom_parts::error::FilterError;
 use bloom_parts::hasher::DefaultHasher;
 use bloom_plain::{BitsData, FilterData, shape_of_data};
@@ -26,7 +26,7 @@ impl AtomicBloomFilter {
         ensures good { IfOk result (λ form. data_refusal form ≡ None) }
         ensures refused { IsOkUnless result FilterError.Memory }
     {
-        let bits: Vec<u64> = self.words.iter().collect(alloc)?;
+        let bits = gather(alloc, self.words.iter())?;
         let (k0, k1) = self.hasher.key();
         Ok(FilterData {
             bits: BitsData { bits },

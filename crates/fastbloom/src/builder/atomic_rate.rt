@@ -39,7 +39,7 @@ impl<S> Model for AtomicBuilderWithFalsePositiveRate<S> {
     ghost view = { λ b. b.plain };
 }
 
-// Zero words that threads share for this many bits, in one allocation.
+// Zero words that threads share for this many bits, in room that is asked for at once.
 fn zero_words(alloc: Global, num_bits: usize) -> Result<AtomicBitVec, FilterError>
     requires { 0 < num_bits }
     ensures count { IfOk result (λ words. words.count ≡ words_for num_bits) }

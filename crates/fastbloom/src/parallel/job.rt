@@ -4,7 +4,7 @@ ghost use Rattle.fastbloom.specs.Fill.{IsFilledWith};
 
 use super::gate::Gate;
 use super::shape::Shape;
-use bloom_plain::BloomFilter;
+use bloom_plain::{BloomFilter, insert_hashes};
 use std::alloc::Global;
 use std::snapshot::Snapshot;
 use std::sync::Arc;
@@ -49,9 +49,7 @@ fn work<G: Gate + Drop>(job: Job<G>) -> BloomFilter
         shape: _,
     } = job;
     gate.pass(worker);
-    'hashes: for hash in &hashes {
-        filter.insert_hash(*hash);
-    }
+    insert_hashes(&mut filter, &hashes);
     filter
 }
 

@@ -4,14 +4,31 @@ use super::{Child, Shared, Work, join_all, share, start};
 use crate::filters::{is_empty, shape_of};
 use fastbloom::{AtomicBloomFilter, BloomFilter};
 use std::alloc::Global;
+use std::sync::Arc;
+use std::sync::atomic::{AtomicU64, Ordering};
 use std::test::Fail;
-use std::thread::Threads;
+use std::thread::{Threads, yield_now};
+
+// Where threads wait for each other, so that their calls overlap.
+type Line = Arc<AtomicU64, Global>;
+
+// Waits until so many threads stand at the line, for at most 10,000,000 turns.
+fn wait_for(line: &AtomicU64, threads: u64) {
+    line.fetch_add(1, Ordering::SeqCst);
+    'turns: for _ in 0..10_000_000 {
+        if line.load(Ordering::SeqCst) >= threads {
+            return;
+        }
+        yield_now();
+    }
+}
 
 // Draws 1,000 calls by the numbers from the first on.
 #[derive(Drop)]
 struct AllCalls {
     alloc: Global,
     first: u64,
+    line: Line,
 }
 
 // Unites or intersects a filter with itself.
@@ -40,6 +57,7 @@ fn call_by(alloc: Global, filter: &AtomicBloomFilter, drawn: u64) {
 
 impl Work for AllCalls {
     fn work(&self, filter: &AtomicBloomFilter) -> u64 {
+        wait_for(&self.line, 8);
         for i in 0..1000u64 {
             call_by(self.alloc, filter, spread(self.first.wrapping_add(i)));
         }
@@ -49,16 +67,15 @@ impl Work for AllCalls {
 
 // Starts eight threads that make 1,000 calls each.
 fn start_storm<R: Threads>(rt: &R, alloc: Global, filter: &Shared) -> Result<Vec<Child>, Fail> {
+    let line = Arc::new(alloc, AtomicU64::new(0))?;
     let mut children = Vec::new(alloc);
     for i in 0..8u64 {
-        children.push(start(
-            rt,
-            filter,
-            AllCalls {
-                alloc,
-                first: i * 1000,
-            },
-        )?)?;
+        let calls = AllCalls {
+            alloc,
+            first: i * 1000,
+            line: Arc::try_clone(&line)?,
+        };
+        children.push(start(rt, filter, calls)?)?;
     }
     Ok(children)
 }
@@ -121,10 +138,12 @@ fn data_in_a_storm_have_the_shape(rt: HostRuntime) -> Result<(), Fail> {
 #[derive(Drop)]
 struct InsertsAndLooks {
     first: u64,
+    line: Line,
 }
 
 impl Work for InsertsAndLooks {
     fn work(&self, filter: &AtomicBloomFilter) -> u64 {
+        wait_for(&self.line, 8);
         let mut new = 0u64;
         for i in 0..1000u64 {
             let drawn = spread(self.first.wrapping_add(i));
@@ -141,6 +160,7 @@ impl Work for InsertsAndLooks {
 #[derive(Drop)]
 struct Takes {
     alloc: Global,
+    line: Line,
 }
 
 fn count_bits(words: &[u64]) -> u64 {
@@ -153,6 +173,7 @@ fn count_bits(words: &[u64]) -> u64 {
 
 impl Work for Takes {
     fn work(&self, filter: &AtomicBloomFilter) -> u64 {
+        wait_for(&self.line, 8);
         let mut taken = 0u64;
         for _ in 0..100 {
             if let Ok(words) = filter.take_words(self.alloc) {
@@ -163,16 +184,47 @@ impl Work for Takes {
     }
 }
 
+// Starts five threads that insert. Each has half of its hashes in common with the next.
+fn start_inserting<R: Threads>(
+    rt: &R,
+    alloc: Global,
+    filter: &Shared,
+    line: &Line,
+) -> Result<Vec<Child>, Fail> {
+    let mut children = Vec::new(alloc);
+    for i in 0..5u64 {
+        let inserts = InsertsAndLooks {
+            first: i * 500,
+            line: Arc::try_clone(line)?,
+        };
+        children.push(start(rt, filter, inserts)?)?;
+    }
+    Ok(children)
+}
+
+// Starts three threads that take.
+fn start_taking<R: Threads>(
+    rt: &R,
+    alloc: Global,
+    filter: &Shared,
+    line: &Line,
+) -> Result<Vec<Child>, Fail> {
+    let mut children = Vec::new(alloc);
+    for _ in 0..3 {
+        let line = Arc::try_clone(line)?;
+        children.push(start(rt, filter, Takes { alloc, line })?)?;
+    }
+    Ok(children)
+}
+
 // With one hash an insert that answers false turned on one bit. So these are as many as the bits
 // that were taken and those that are left.
 #[test]
 fn a_storm_of_inserts_and_takes_loses_no_bit(rt: HostRuntime) -> Result<(), Fail> {
     let filter = share(rt.alloc(), &[0; 16], 1)?;
-    let (mut inserting, mut taking) = (Vec::new(rt.alloc()), Vec::new(rt.alloc()));
-    for i in 0..5u64 {
-        inserting.push(start(&rt, &filter, InsertsAndLooks { first: i * 500 })?)?;
-        taking.push(start(&rt, &filter, Takes { alloc: rt.alloc() })?)?;
-    }
+    let line = Arc::new(rt.alloc(), AtomicU64::new(0))?;
+    let inserting = start_inserting(&rt, rt.alloc(), &filter, &line)?;
+    let taking = start_taking(&rt, rt.alloc(), &filter, &line)?;
     let new = join_all(&rt, inserting);
     let taken = join_all(&rt, taking);
     assert_eq!(rt; new, taken.saturating_add(count_on(&filter)));

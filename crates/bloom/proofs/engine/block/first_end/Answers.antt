@@ -1,7 +1,7 @@
 use Rattle.std.proofs.Common.{◌∙◌, ap, arith, take}
 use Rattle.std.proofs.lemmas.List.{take_more}
-use Rattle.bloom.specs.Reading.{has_no_end}
-use Rattle.bloom.proofs.LineLemmas.{has_no_end-more}
+use Rattle.lines.specs.Lines.{has_no_end}
+use Rattle.lines.proofs.LineLemmas.{has_no_end-more}
 use Rattle.bloom.proofs.engine.block.first_end.Goals as goal
 
 pub bytes-preserved : goal.bytes-preserved

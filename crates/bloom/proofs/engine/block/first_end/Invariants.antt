@@ -1,6 +1,6 @@
 use Rattle.std.proofs.Common.{◌≡◌, ◌+◌, ◌≤◌, true, take}
 use Rattle.bloom.specs.Lines.{longest_line}
-use Rattle.bloom.specs.Reading.{has_no_end}
+use Rattle.lines.specs.Lines.{has_no_end}
 use Rattle.bloom.proofs.engine.block.first_end.Given as goal
 
 -- no byte so far ends the line, and all of them fit a good one

@@ -1,9 +1,11 @@
-use Rattle.std.proofs.lemmas.List.{take_more}
-use Rattle.fastbloom.proofs.FillLemmas.{filled-insert}
+use Rattle.std.proofs.Common.{[], subst}
+use Rattle.bloom_plain.specs.Replies.{InsertsAll}
+use Rattle.fastbloom.proofs.FillLawLemmas.{filled_by_inserts_law}
 use Rattle.fastbloom.proofs.parallel.job.work.Goals as goal
 
--- one hash more
-pub hashes-preserved : goal.hashes-preserved
-hashes-preserved g c =
-    rw (take_more _ _ 0 c.hashes-test.true)
-    (filled-insert c.args.job.shape _ _ _ _ c.hashes.invariant c.insert_hash.ensures.inserts)
+-- the hashes are inserted into a filter that is filled with none
+pub returns : goal.returns
+returns g c =
+    filled_by_inserts_law _ c.args.job.shape _ _ [] _ c.args.job.empty
+    (subst (λ l. InsertsAll c.args.job.filter l c.insert_hashes.new.filter) c.deref-2.ensures.value
+    c.insert_hashes.ensures)

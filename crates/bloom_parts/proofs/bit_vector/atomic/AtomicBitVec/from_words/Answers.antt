@@ -3,7 +3,7 @@ use Rattle.bloom_parts.proofs.bit_vector.atomic.AtomicBitVec.from_words.Goals as
 
 pub returns-clause-count : goal.returns-clause-count
 returns-clause-count g c =
-    let made = c.in_ok-words.ensures.runs tt in
+    let made = c.in_ok-words.ensures in
     let source = c.map.ensures.runs made.0 made.0.seen made.1 in
     let same = source.2 in
     (source.0, source.1, same.0 ∙ made.2, made.3.1 ∙ sym made.0.long ∙ same.1 ∙ source.0.long)

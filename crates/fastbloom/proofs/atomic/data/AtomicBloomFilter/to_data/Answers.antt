@@ -8,7 +8,7 @@ use Rattle.fastbloom.proofs.atomic.data.AtomicBloomFilter.to_data.Goals as goal
 pub returns-clause-words : goal.returns-clause-words
 returns-clause-words c =
     let iter = c.iter.ensures in
-    let made = c.in_ok-bits.ensures.runs tt in
+    let made = c.in_ok-bits.ensures in
     let vector = iter.vector ∙ ap (λ f. f.words) c.self.view_is in
     subst (WereLoaded c.args.self.now.words) (sym made.3.0)
     (read-loaded made.0 _ _ made.1 vector iter.next made.2)

@@ -1,8 +1,7 @@
 -- Cutting bytes into lines.
 use Rattle.std.proofs.Common.{◌≡◌, ◌≢◌, ℕ, ◌<◌, true, not, eqb, List, [], ◌∷◌, ◌++◌, length, refl, sym, ◌∙◌, ap, append_assoc, arith}
 use Rattle.std.proofs.lemmas.Bool.{and_parts, and_from, ne_eqb, not-true, cond-false}
-use Rattle.bloom.specs.Lines.{lines_of, onto_first}
-use Rattle.bloom.specs.Reading.{has_no_end, IsEnded}
+use Rattle.lines.specs.Lines.{lines_of, onto_first, has_no_end, IsEnded}
 
 -- no bytes are no lines
 pub lines_of-nil : lines_of [] ≡ []
@@ -68,6 +67,15 @@ has_no_end-more (d ∷ line) b inside other =
     let parts = and_parts (not (eqb d 10)) (has_no_end line) inside in
     and_from (not (eqb d 10)) (has_no_end (line ++ b ∷ []))
     parts.0 (has_no_end-more line b parts.1 other)
+
+-- bytes one after the other that end no line
+pub has_no_end-append : (xs ys : List ℕ) → has_no_end xs ≡ true → has_no_end ys ≡ true
+    → has_no_end (xs ++ ys) ≡ true
+has_no_end-append [] ys first second = second
+has_no_end-append (b ∷ xs) ys first second =
+    let parts = and_parts (not (eqb b 10)) (has_no_end xs) first in
+    and_from (not (eqb b 10)) (has_no_end (xs ++ ys))
+    parts.0 (has_no_end-append xs ys parts.1 second)
 
 -- after no bytes lines begin anew
 pub IsEnded-nil : IsEnded []

@@ -1,0 +1,14 @@
+use Rattle.std.proofs.Common.{◌<◌, map}
+use Rattle.arrayvec.specs.ArrayVec.{array_vec_len}
+use Rattle.bloom_plain.specs.SourceHash.{lent_hash_of}
+use Rattle.bloom_plain.proofs.TogetherLemmas.{IsBehind}
+use Rattle.bloom_plain.proofs.bloom.BloomFilter.insert_lent_together.Given as goal
+
+-- the hashes of the items so far were inserted, but for those that wait, fewer than sixteen
+abbrev pub invariant-lent : goal.invariant-lent
+invariant-lent g l =
+    let hash = lent_hash_of g.S.BuildHasher g.S.Hasher.Hasher g.T.Hash.hash_input l.fn.self.hasher in
+    record {
+      behind : IsBehind l.fn.self (map hash l.yielded) l.waiting.items l.self;
+      room : array_vec_len l.waiting < 16;
+    }

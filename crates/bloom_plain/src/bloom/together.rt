@@ -1,0 +1,137 @@
+//! Many inserts into a filter that is larger than a cache. The words of sixteen hashes are read
+//! first, so that the memory brings them side by side and not one after the other.
+ghost use Rattle.std.specs.Prelude.{◌≡◌, ◌<◌};
+ghost use Rattle.arrayvec.specs.ArrayVec.{array_vec_len};
+ghost use Rattle.std.specs.List.{list_all};
+ghost use Rattle.std.specs.Iterator.{IsFiniteIterable};
+ghost use Rattle.std.specs.Iterator.Runs.{WholeRun};
+ghost use Rattle.bloom_plain.specs.Filter.{contains};
+ghost use Rattle.bloom_plain.specs.Replies.{InsertsAll, InsertsItems, Queues};
+ghost use Rattle.bloom_plain.specs.SourceHash.{source_hash_of, lent_hash_of};
+
+use super::positions::contains_by_count;
+use crate::bloom::BloomFilter;
+use arrayvec::ArrayVec;
+use std::hash::{BuildHasher, Hash};
+
+// From this many words on, which are four mebibytes, a filter is taken to be larger than a cache.
+const MANY_WORDS: usize = 1 << 19;
+
+impl<S> BloomFilter<S> {
+    // Whether the filter is larger than a cache.
+    pub(super) fn is_large(&self) -> bool {
+        self.bits.len() >= MANY_WORDS
+    }
+
+    // Whether all positions of a hash are on. It branches on no word.
+    #[inline(always)]
+    fn counts_hash(&self, hash: u64) -> bool
+        ensures { result ≡ contains self.now hash }
+    {
+        contains_by_count(&self.bits, self.num_hashes, hash)
+    }
+
+    // Whether all of these hashes are contained. It branches on no word.
+    fn counts_hashes(&self, hashes: &[u64]) -> bool
+        ensures { result ≡ list_all (contains self.now) hashes.now }
+    {
+        let mut found: usize = 0;
+        'looks: for hash in hashes {
+            found += usize::from(self.counts_hash(*hash));
+        }
+        found == hashes.len()
+    }
+
+    // Inserts hashes, in order. All are looked up first, and where all are contained nothing is
+    // written.
+    fn insert_few(&mut self, hashes: &[u64])
+        ensures { InsertsAll self.old hashes.now self.new }
+    {
+        if self.counts_hashes(hashes) {
+            return;
+        }
+        'inserts: for hash in hashes {
+            self.insert_hash(*hash);
+        }
+    }
+
+    // Lets a hash wait, and inserts all that wait where they are sixteen.
+    #[inline(always)]
+    fn insert_later(&mut self, waiting: &mut ArrayVec<u64, 16>, hash: u64)
+        requires { array_vec_len waiting.old < 16 }
+        ensures queues { Queues self.old waiting.old.items hash self.new waiting.new.items }
+        ensures room { array_vec_len waiting.new < 16 }
+    {
+        waiting.push(hash);
+        if waiting.is_full() {
+            self.insert_few(waiting);
+            waiting.clear();
+        }
+    }
+}
+
+impl<S: BuildHasher> BloomFilter<S> {
+    // Inserts every item that an iterator lends, in order, sixteen at a time.
+    pub(super) fn insert_lent_together<'a, T: Hash + 'a, I: IntoIterator<Item = &'a T>>(
+        &mut self,
+        iter: I,
+    )
+        requires { IsFiniteIterable
+            I.into_iter_gives I.IntoIter.can_next I.IntoIter.remaining iter }
+        ensures { (it : I.IntoIter) × I.into_iter_gives iter it
+            × WholeRun I.IntoIter.next_gives it (λ run.
+            InsertsItems (lent_hash_of S.BuildHasher S.Hasher.Hasher T.hash_input)
+            self.old run.items self.new) }
+    {
+        let mut waiting = ArrayVec::<u64, 16>::new();
+        'lent: for item in iter {
+            let hash = self.source_hash(item);
+            self.insert_later(&mut waiting, hash);
+        }
+        self.insert_few(&waiting);
+    }
+
+    // Inserts every item that an iterator gives, in order, sixteen at a time.
+    pub(super) fn insert_given_together<T: Hash + Drop, I: IntoIterator<Item = T>>(
+        &mut self,
+        iter: I,
+    )
+        requires { IsFiniteIterable
+            I.into_iter_gives I.IntoIter.can_next I.IntoIter.remaining iter }
+        ensures { (it : I.IntoIter) × I.into_iter_gives iter it
+            × WholeRun I.IntoIter.next_gives it (λ run.
+            InsertsItems (source_hash_of S.BuildHasher S.Hasher.Hasher T.hash_input)
+            self.old run.items self.new) }
+    {
+        let mut waiting = ArrayVec::<u64, 16>::new();
+        'given: for item in iter {
+            let hash = self.source_hash(&item);
+            self.insert_later(&mut waiting, hash);
+        }
+        self.insert_few(&waiting);
+    }
+}
+
+// Inserts hashes, in order, sixteen at a time.
+fn insert_hashes_together<S>(filter: &mut BloomFilter<S>, hashes: &[u64])
+    ensures { InsertsAll filter.old hashes.now filter.new }
+{
+    let mut waiting = ArrayVec::<u64, 16>::new();
+    'hashes: for hash in hashes {
+        filter.insert_later(&mut waiting, *hash);
+    }
+    filter.insert_few(&waiting);
+}
+
+/// Inserts hashes, in order.
+pub fn insert_hashes<S>(filter: &mut BloomFilter<S>, hashes: &[u64])
+    ensures { InsertsAll filter.old hashes.now filter.new }
+{
+    if filter.is_large() {
+        insert_hashes_together(filter, hashes);
+        return;
+    }
+    'hashes: for hash in hashes {
+        filter.insert_hash(*hash);
+    }
+}

@@ -1,0 +1,5 @@
+mod FlushLemmas
+mod KeptFacts
+mod RunLemmas
+mod SiftLemmas
+mod WriteLemmas

@@ -1,0 +1,28 @@
+-- Keys that are inserted one after the other.
+use Rattle.std.proofs.Common.{◌≡◌, ℕ, ◌<◌, ◌≤◌, ◌⊎◌, inl, inr, true, List, [], ◌∷◌, ◌++◌, length, get_or, sym, ◌∙◌, ap, arith, length-append, Contains}
+use Rattle.std.proofs.lemmas.Bool.{cases_lt}
+use Rattle.std.proofs.lemmas.List.{get_or_append_left}
+use Rattle.std.proofs.Math.Seq.{get_or-append_seam}
+use Rattle.bloom_plain.specs.Filter.{Filter, contains}
+use Rattle.guard_engine.specs.Guarded.{HoldsKeys}
+
+-- of no keys
+pub HoldsKeys-nil : {B : Type 0} (hash_of : B → List ℕ → ℕ) (filter : Filter B) → HoldsKeys hash_of filter []
+HoldsKeys-nil hash_of filter key in_none = absurd (omega (arith, in_none.1))
+
+-- and of one more
+pub HoldsKeys-more : {B : Type 0} (hash_of : B → List ℕ → ℕ) (old new : Filter B) (keys : List (List ℕ)) (last : List ℕ)
+    → HoldsKeys hash_of old keys → new.hasher ≡ old.hasher
+    → ((hash : ℕ) → contains old hash ≡ true → contains new hash ≡ true)
+    → contains new (hash_of old.hasher last) ≡ true → HoldsKeys hash_of new (keys ++ last ∷ [])
+HoldsKeys-more hash_of old new keys last so_far hasher stays here key (k, within, is) =
+    ap (λ h. contains new (hash_of h key)) hasher ∙ cases (cases_lt k (length keys))
+  where
+    cases : (k < length keys) ⊎ (length keys ≤ k) → contains new (hash_of old.hasher key) ≡ true
+    cases (inl early) = stays (hash_of old.hasher key)
+        (so_far key (k, early, sym (get_or_append_left keys (last ∷ []) key k early) ∙ is))
+    cases (inr late) =
+        let at : k ≡ length keys = omega (arith, late, within, length-append keys (last ∷ [])) in
+        let same : key ≡ last = sym is ∙ ap (λ i. get_or (keys ++ last ∷ []) i key) at
+        ∙ get_or-append_seam keys last [] key in
+        ap (λ x. contains new (hash_of old.hasher x)) same ∙ here

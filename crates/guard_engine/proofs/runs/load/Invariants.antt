@@ -1,0 +1,14 @@
+use Rattle.guard_engine.specs.Guarded.{Guards, IsSingle, key_hash}
+use Rattle.guard_engine.proofs.runs.load.Given as goal
+
+-- it is a guard as before, and no key has two values that had one
+abbrev pub invariant-lines : goal.invariant-lines
+invariant-lines g l = record {
+  guards : Guards (key_hash g.B.BuildHasher g.B.Hasher.Hasher) l.fn.guard.filter (g.T.Store.is_ready l.fn.guard.store) (g.T.Store.has l.fn.guard.store)
+      → g.T.Store.is_known l.guard.store
+      → Guards (key_hash g.B.BuildHasher g.B.Hasher.Hasher) l.guard.filter (g.T.Store.is_ready l.guard.store) (g.T.Store.has l.guard.store);
+  once : Guards (key_hash g.B.BuildHasher g.B.Hasher.Hasher) l.fn.guard.filter (g.T.Store.is_ready l.fn.guard.store) (g.T.Store.has l.fn.guard.store)
+      → g.T.Store.is_known l.guard.store
+      → IsSingle (g.T.Store.has l.fn.guard.store) → IsSingle (g.T.Store.has l.guard.store);
+  known : g.T.Store.is_known l.guard.store → g.T.Store.is_known l.fn.guard.store;
+}

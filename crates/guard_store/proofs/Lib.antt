@@ -1,0 +1,7 @@
+mod CompareLemmas
+mod InsertLemmas
+mod ListLemmas
+mod QueryLemmas
+mod SelectLemmas
+mod StateLemmas
+mod TextLemmas

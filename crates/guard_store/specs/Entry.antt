@@ -1,0 +1,97 @@
+-- The table of a guard's store, as SQLite understands it (lang_createtable.html), and what it has.
+use Rattle.std.specs.Prelude.{◌≡◌, ℕ, ℤ, true, false, List, [], ◌∷◌, Some, codes, Contains, IsTrue}
+use Rattle.sqlite.specs.Collation.TheVariants.{Binary}
+use Rattle.sqlite.specs.declared.types.Value.TheVariants.{Null, Int, Text as Words}
+use Rattle.sqlite.specs.Kind.TheVariants.{Integer, Text}
+use Rattle.sqlite.specs.Order.{Row, column}
+use Rattle.sqlite.specs.Schema.{Schema}
+use Rattle.sqlite.specs.State.{State, HasCleanDisk}
+use Rattle.sqlite.specs.Table.{Table}
+use Rattle.sqlite_schema.specs.declared.schema.Column.{Column}
+use Rattle.sqlite_schema.specs.declared.schema.Index.{Index}
+use Rattle.sqlite_value.specs.Keys.{plain}
+
+-- the column of numbers
+abbrev pub id_column : Column
+id_column = record {
+  name = codes "id";
+  kind = Integer;
+  is_strict = true;
+  not_null = false;
+  default = Null;
+  collation = Binary;
+}
+
+-- a column of texts
+abbrev pub text_column : List ℕ → Column
+text_column name = record {
+  name = name;
+  kind = Text;
+  is_strict = true;
+  not_null = true;
+  default = Null;
+  collation = Binary;
+}
+
+-- the columns of the table
+abbrev pub entry_columns : List Column
+entry_columns = id_column ∷ text_column (codes "name") ∷ text_column (codes "value") ∷ []
+
+-- the table of entries: a number, a name that no other entry has, and a value
+abbrev pub entry : Table
+entry = record {
+  name = codes "entry";
+  tree = 0;
+  columns = entry_columns;
+  key = Some 0;
+  primary = 0 ∷ [];
+  uniques = (2 ∷ []) ∷ [];
+  orders = plain ∷ [];
+  checks = [];
+  references = [];
+  computed = [];
+  stamps = record { places = []; terms = []; formats = [] };
+  is_counted = false;
+}
+
+-- the index by which SQLite keeps the names apart
+abbrev pub name_index : Index
+name_index = record {
+  name = codes "sqlite_autoindex_entry_1";
+  tree = 1;
+  table = 0;
+  columns = 2 ∷ [];
+  order = plain;
+  is_unique = true;
+}
+
+-- that table and its index alone
+abbrev pub entry_schema : Schema
+entry_schema = record { tables = entry ∷ []; indexes = name_index ∷ []; views = [] }
+
+-- no table at all
+abbrev pub no_schema : Schema
+no_schema = record { tables = []; indexes = []; views = [] }
+
+-- an entry as it is stored under a number
+abbrev pub stored : ℤ → List ℕ → List ℕ → Row
+stored id name value = Int id ∷ Null ∷ Words name ∷ Words value ∷ []
+
+-- a row of these has this name and this value
+abbrev pub HasEntry : List Row → List ℕ → List ℕ → Type 0
+HasEntry rows name value =
+    (a_row : Row) × Contains rows a_row × (column a_row 2 ≡ Words name) × (column a_row 3 ≡ Words value)
+
+-- what a connection shows has the table alone, is committed, and stands in no transaction
+pub record IsReady (s : State) : Type 0 where
+  pub schema : s.now.schema ≡ entry_schema
+  pub autocommit : s.in_transaction ≡ false
+  pub settled : s.committed ≡ s.now
+
+-- the disk has told no lie, and the connection is open
+abbrev pub IsKnown : State → Type 0
+IsKnown s = HasCleanDisk s × IsTrue s.is_open
+
+-- from old to new nothing changed, and the connection is ready as before
+abbrev pub Keeps : State → State → Type 0
+Keeps old new = (new.now ≡ old.now) × IsReady new

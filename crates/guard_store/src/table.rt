@@ -1,0 +1,48 @@
+//! The statements of the store, one a function.
+ghost use Rattle.std.specs.Prelude.{◌≡◌, IfOk, OnOk, OnErr};
+ghost use Rattle.sqlite.specs.Held.{state};
+ghost use Rattle.guard_engine.specs.Guarded.{Gains};
+ghost use Rattle.guard_store.specs.Answers.{AreNames, AreValues};
+ghost use Rattle.guard_store.specs.Entry.{HasEntry, IsKnown, IsReady, Keeps};
+
+use sqlite::{Alter, Connection, Error, Row, params};
+
+/// The names of all entries.
+pub fn name_rows<S: Alter>(conn: &mut Connection<S>) -> Result<Vec<Row>, Error>
+    ensures names { IsReady (state S.Store conn.old) → IsKnown (state S.Store conn.new)
+        → IfOk result (λ rows. AreNames ((state S.Store conn.old).now.trees 0) rows.items) }
+    ensures keeps { IsReady (state S.Store conn.old) → IsKnown (state S.Store conn.new)
+        → Keeps (state S.Store conn.old) (state S.Store conn.new) }
+    ensures known { IsKnown (state S.Store conn.new) → IsKnown (state S.Store conn.old) }
+{
+    conn.query_all("SELECT name FROM entry", &[])
+}
+
+/// The values of a name.
+pub fn value_rows<S: Alter>(conn: &mut Connection<S>, name: &str) -> Result<Vec<Row>, Error>
+    ensures values { IsReady (state S.Store conn.old) → IsKnown (state S.Store conn.new)
+        → IfOk result (λ rows.
+        AreValues ((state S.Store conn.old).now.trees 0) name.now rows.items) }
+    ensures keeps { IsReady (state S.Store conn.old) → IsKnown (state S.Store conn.new)
+        → Keeps (state S.Store conn.old) (state S.Store conn.new) }
+    ensures known { IsKnown (state S.Store conn.new) → IsKnown (state S.Store conn.old) }
+{
+    conn.query_all("SELECT value FROM entry WHERE name = ?1", params![name])
+}
+
+/// Adds an entry. After an error nothing changed, as where the name has a value already.
+pub fn add_row<S: Alter>(conn: &mut Connection<S>, name: &str, value: &str) -> Result<usize, Error>
+    ensures ok { IsReady (state S.Store conn.old) → IsKnown (state S.Store conn.new)
+        → OnOk result (Gains (HasEntry ((state S.Store conn.old).now.trees 0)) name.now value.now
+        (HasEntry ((state S.Store conn.new).now.trees 0))) }
+    ensures err { IsReady (state S.Store conn.old) → IsKnown (state S.Store conn.new)
+        → OnErr result ((state S.Store conn.new).now ≡ (state S.Store conn.old).now) }
+    ensures ready { IsReady (state S.Store conn.old) → IsKnown (state S.Store conn.new)
+        → IsReady (state S.Store conn.new) }
+    ensures known { IsKnown (state S.Store conn.new) → IsKnown (state S.Store conn.old) }
+{
+    conn.execute(
+        "INSERT INTO entry (name, value) VALUES (?1, ?2)",
+        params![name, value],
+    )
+}

@@ -1,0 +1,5 @@
+mod LineFacts
+pub mod LineLemmas
+mod ReadingFacts
+pub mod ReadingLemmas
+pub mod TakenLemmas

@@ -1,0 +1,145 @@
+-- What reading one line took.
+use Rattle.std.proofs.Common.{◌≡◌, ℕ, ◌+◌, ◌<◌, ◌≤◌, true, List, [], ◌∷◌, ◌++◌, length, length-append, Option, Some, None, IfSome, refl, sym, ◌∙◌, ap, subst, append_assoc, append-nil, arith, inl, inr}
+use Rattle.std.specs.Io.KnownBytes.{Consumes, IsAtEnd, prepend_known}
+use Rattle.lines.specs.Lines.{has_no_end}
+use Rattle.lines.specs.Reading.{KnowsEnd, HasTakenLine, TakesLine, TakesShort, BeginsLong, Ends, GrowsToEnd, GrowsByAll, GrowsTooLong}
+use Rattle.lines.proofs.LineLemmas.{lines_of-nil, lines_of-ended, lines_of-last, has_no_end-append, IsEnded-line}
+
+-- a line that was taken with its end
+pub taken-ended : {old new line : List ℕ} → old ≡ (line ++ 10 ∷ []) ++ new → has_no_end line ≡ true
+    → HasTakenLine old new line
+taken-ended {line = line} cut inside = record {
+  taken = line ++ 10 ∷ [];
+  cut = cut;
+  is_line = lines_of-ended line [] inside ∙ ap (λ l. line ∷ l) lines_of-nil;
+  last = inl (IsEnded-line line inside);
+}
+
+-- a last line that has no end
+taken-last : {old new line : List ℕ} → old ≡ line ++ new → has_no_end line ≡ true
+    → 0 < length line → new ≡ [] → HasTakenLine old new line
+taken-last {line = line} cut inside some none = record {
+  taken = line;
+  cut = cut;
+  is_line = lines_of-last line inside some;
+  last = inr none;
+}
+
+-- half-way through a line: its bytes so far were taken, none ends it, and they aren't too many
+pub record IsHalfway (longest : ℕ) (old now : Option (List ℕ)) (line : List ℕ) : Type 0 where
+  pub taken : Consumes old now line
+  pub inside : has_no_end line ≡ true
+  pub short : length line ≤ longest
+
+-- nothing was taken yet
+pub halfway-nil : (longest : ℕ) (old : Option (List ℕ)) (line : List ℕ) → line ≡ []
+    → IsHalfway longest old old line
+halfway-nil longest old line none = record {
+  taken = at old;
+  inside = ap has_no_end none;
+  short = omega (arith, ap length none);
+}
+  where
+    at : (old : Option (List ℕ)) → Consumes old old line
+    at None = tt
+    at (Some x) = sym (ap (λ l. l ++ x) none)
+
+-- nothing is left of a block, and a new one was read
+refilled : (old rest left : Option (List ℕ)) (block more line : List ℕ)
+    → Consumes old (prepend_known block rest) line → more ≡ line ++ block
+    → (fresh : List ℕ) → Consumes rest left fresh → Consumes old (prepend_known fresh left) more
+refilled None rest left block more line p q fresh r = tt
+refilled (Some x) None left block more line p q fresh r = absurd p
+refilled (Some x) (Some y) None block more line p q fresh r = absurd r
+refilled (Some x) (Some y) (Some z) block more line p q fresh r =
+    p ∙ sym (append_assoc line block y) ∙ ap (λ l. l ++ y) (sym q) ∙ ap (λ l. more ++ l) r
+
+module _ {longest : ℕ} (old rest : Option (List ℕ)) {block line : List ℕ}
+    (so_far : IsHalfway longest old (prepend_known block rest) line) where
+  -- the line grew by the whole block, and a new one was read
+  pub halfway-more : {new more : List ℕ} → GrowsByAll longest block new line more
+      → (left : Option (List ℕ)) (fresh : List ℕ) → Consumes rest left fresh
+      → IsHalfway longest old (prepend_known fresh left) more
+  halfway-more {more = more} all left fresh read = record {
+    taken = refilled old rest left block more line so_far.taken all.grows.joined fresh read;
+    inside =
+        ap has_no_end all.grows.joined
+        ∙ has_no_end-append line block so_far.inside all.grows.inside;
+    short = all.grows.short;
+  }
+
+  -- the line has its end
+  pub takes-ended : {new more : List ℕ} → GrowsToEnd longest block new line more
+      → TakesShort longest old (prepend_known new rest) more
+  takes-ended {new = new} {more = more} end = record {
+    takes = at old rest so_far.taken;
+    short = end.grows.short;
+  }
+    where
+      at : (old rest : Option (List ℕ)) → Consumes old (prepend_known block rest) line
+          → TakesLine old (prepend_known new rest) more
+      at None rest p = tt
+      at (Some x) None p = absurd p
+      at (Some x) (Some y) p =
+          let part = end.part in
+          let joined : line ++ part ≡ more = sym end.grows.joined in
+          let all : line ++ (block ++ y) ≡ line ++ (part ++ 10 ∷ (new ++ y)) =
+          ap (λ l. line ++ l) (ap (λ l. l ++ y) end.cut ∙ append_assoc part (10 ∷ new) y) in
+          let cut : x ≡ (more ++ 10 ∷ []) ++ (new ++ y) =
+          p ∙ all ∙ sym (append_assoc line part (10 ∷ (new ++ y)))
+          ∙ ap (λ l. l ++ 10 ∷ (new ++ y)) joined
+          ∙ sym (append_assoc more (10 ∷ []) (new ++ y)) in
+          taken-ended cut
+          (ap has_no_end end.grows.joined
+          ∙ has_no_end-append line part so_far.inside end.grows.inside)
+
+  -- the line is too long
+  pub begins-long : GrowsTooLong longest block line → IfSome old (BeginsLong longest)
+  begins-long grows = at old rest so_far.taken
+    where
+      at : (old rest : Option (List ℕ)) → Consumes old (prepend_known block rest) line
+          → IfSome old (BeginsLong longest)
+      at None rest p = tt
+      at (Some x) None p = absurd p
+      at (Some x) (Some y) p =
+          let part = grows.part in
+          record {
+            front = line ++ part;
+            rest = grows.rest ++ y;
+            cut =
+                p ∙ ap (λ l. line ++ l) (ap (λ l. l ++ y) grows.cut
+                ∙ append_assoc part grows.rest y)
+                ∙ sym (append_assoc line part (grows.rest ++ y));
+            inside = has_no_end-append line part so_far.inside grows.inside;
+            long = simp length-append (omega (arith, grows.long));
+          }
+
+-- nothing follows the bytes of the line
+module _ {longest : ℕ} (old left : Option (List ℕ)) {line fresh : List ℕ}
+    (so_far : IsHalfway longest old (prepend_known fresh left) line) (none : fresh ≡ [])
+    (end : IsAtEnd left) where
+  -- what is left of both is nothing
+  at-end : (left : Option (List ℕ)) → IsAtEnd left → IsAtEnd (prepend_known fresh left)
+  at-end None end = tt
+  at-end (Some y) end = ap (λ l. l ++ y) none ∙ end
+
+  -- there is no line
+  pub ends-here : line ≡ [] → Ends old (prepend_known fresh left)
+  ends-here empty = record {
+    nothing = subst (Consumes old (prepend_known fresh left)) empty so_far.taken;
+    end = at-end left end;
+  }
+
+  -- there is a last line
+  pub takes-last : 0 < length line → TakesShort longest old (prepend_known fresh left) line
+  takes-last some = record {
+    takes = at old left so_far.taken end;
+    short = so_far.short;
+  }
+    where
+      at : (old left : Option (List ℕ)) → Consumes old (prepend_known fresh left) line
+          → IsAtEnd left → TakesLine old (prepend_known fresh left) line
+      at None left p end = tt
+      at (Some x) None p end = absurd p
+      at (Some x) (Some y) p end =
+          taken-last p so_far.inside some (ap (λ l. l ++ y) none ∙ end)

@@ -1,0 +1,19 @@
+use Rattle.std.proofs.Common.{◌≡◌, ◌+◌, ◌<◌, length, sym, subst, take, drop, take-append-drop}
+use Rattle.lines.specs.Reading.{HasEndAt}
+use Rattle.lines.proofs.piece.move_piece.Goals as goal
+
+pub returns-then-not-branch : goal.returns-then-not-branch
+returns-then-not-branch c =
+    let block = c.args.block.now in
+    let count = c.in-Some.count in
+    let end = subst (λ bytes. HasEndAt bytes count) c.as_slice.ensures c.in-Some.ensures in
+    record {
+      part = take count block;
+      rest = drop count block;
+      cut = sym (take-append-drop count block);
+      inside = end.inside;
+      long =
+          subst (λ bytes. c.args.longest < length c.args.line.now.items + length (take count bytes))
+          c.as_slice-in-Some.ensures
+          (c.in_ok-append-in-Some.ensures.long c.if-not-branch.true);
+    }

@@ -1,0 +1,104 @@
+//! Bytes that were read and wait to be taken.
+ghost use Rattle.std.specs.Prelude.{◌≡◌, ◌<◌, ◌≤◌, [], take, drop, length, IfOk, OnOk};
+ghost use Rattle.std.specs.Io.KnownBytes.{Consumes, IsAtEnd};
+
+use std::alloc::{AllocError, Global};
+use std::io;
+use std::io::{ErrorKind, Read};
+use std::marker::Model;
+
+// How many bytes a block has room for.
+const ROOM: usize = 65536;
+
+/// Bytes that were read and wait to be taken. Contracts see the list of them.
+#[derive(Drop)]
+pub struct Block {
+    bytes: Vec<u8>,
+    at: usize,
+    end: usize,
+}
+
+impl Model for Block {
+    ghost use Rattle.std.specs.Prelude.{ℕ, List, ◌-◌, ◌<◌, ◌≤◌, take, drop, length};
+
+    ghost Value = { List ℕ };
+
+    ghost view = { λ b. take (b.end - b.at) (drop b.at b.bytes.items) };
+
+    ghost invariant = { λ b. (b.at ≤ b.end) × (b.end ≤ length b.bytes.items)
+        × (0 < length b.bytes.items) };
+}
+
+impl Block {
+    /// An empty block. It takes its memory here and never again.
+    pub fn new(alloc: Global) -> Result<Self, AllocError>
+        ensures { IfOk result (λ block. block ≡ []) }
+    {
+        let bytes = vec![in alloc; 0u8; ROOM]?;
+        Ok(Block {
+            bytes,
+            at: 0,
+            end: 0,
+        })
+    }
+
+    /// The bytes that wait.
+    pub fn as_slice(&self) -> &[u8]
+        ensures { result.now ≡ self.now }
+    {
+        &self.bytes.as_slice()[self.at..self.end]
+    }
+
+    /// Takes the first bytes.
+    pub fn skip(&mut self, count: usize)
+        requires { count ≤ length self.old }
+        ensures { self.new ≡ drop count self.old }
+    {
+        self.at += count;
+    }
+
+    /// Takes all bytes.
+    pub fn clear(&mut self)
+        ensures { self.new ≡ [] }
+    {
+        self.at = self.end;
+    }
+
+    /// Reads a new block, in place of one that is empty. It is empty only at the end of the input.
+    pub fn fill<R: Read>(&mut self, input: &mut R) -> io::Result<()>
+        requires { self.old ≡ [] }
+        ensures taken { OnOk result
+            (Consumes (R.remaining input.old) (R.remaining input.new) self.new) }
+        ensures end { OnOk result (self.new ≡ [] → IsAtEnd (R.remaining input.new)) }
+    {
+        let count = read_some(input, &mut self.bytes)?;
+        self.at = 0;
+        self.end = count;
+        Ok(())
+    }
+}
+
+// Reads once, and again where the read was interrupted: two counts, so that none ends before the
+// input does.
+fn read_some<R: Read>(input: &mut R, bytes: &mut Vec<u8>) -> io::Result<usize>
+    ensures taken { IfOk result
+        (λ n. Consumes (R.remaining input.old) (R.remaining input.new) (take n bytes.new.items)) }
+    ensures end { IfOk result
+        (λ n. n ≡ 0 → 0 < length bytes.new.items → IsAtEnd (R.remaining input.new)) }
+    ensures count { IfOk result (λ n. n ≤ length bytes.new.items) }
+    ensures room { length bytes.new.items ≡ length bytes.old.items }
+{
+    'rounds: for _round in 0..u64::MAX {
+        'tries: for _try in 0..u64::MAX {
+            match input.read(bytes.as_mut_slice()) {
+                Ok(count) => return Ok(count),
+                Err(error) => {
+                    if error.kind() != ErrorKind::Interrupted {
+                        return Err(error);
+                    }
+                }
+            }
+        }
+    }
+    Err(ErrorKind::TimedOut.into())
+}

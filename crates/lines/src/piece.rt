@@ -1,0 +1,70 @@
+//! Moves waiting bytes to a line.
+ghost use Rattle.std.specs.Prelude.{◌≡◌, ◌+◌, ◌<◌, ◌≤◌, true, false, ◌++◌, length, IfOk, MatchOption};
+ghost use Rattle.lines.specs.Lines.{has_no_end};
+ghost use Rattle.lines.specs.Reading.{HasEndAt, MovesPiece};
+
+use crate::block::Block;
+use std::io;
+
+/// What came of moving waiting bytes to a line.
+#[derive(Clone, Copy, Debug, PartialEq, Eq)]
+pub enum Piece {
+    /// The line has its end.
+    Ended,
+    /// All bytes were moved, and none ends the line.
+    All,
+    /// The line would be too long. Nothing was moved.
+    TooLong,
+}
+
+/// Moves the bytes up to the line's end, and takes that end.
+pub fn move_piece(block: &mut Block, line: &mut Vec<u8>, longest: usize) -> io::Result<Piece>
+    requires { length line.old.items ≤ longest }
+    ensures { IfOk result
+        (MovesPiece longest block.old block.new line.old.items line.new.items) }
+{
+    match first_end(block.as_slice()) {
+        Some(count) => {
+            if !append(line, &block.as_slice()[..count], longest)? {
+                return Ok(Piece::TooLong);
+            }
+            block.skip(count + 1);
+            Ok(Piece::Ended)
+        }
+        None => {
+            if !append(line, block.as_slice(), longest)? {
+                return Ok(Piece::TooLong);
+            }
+            block.clear();
+            Ok(Piece::All)
+        }
+    }
+}
+
+// Where the first line ends.
+fn first_end(bytes: &[u8]) -> Option<usize>
+    ensures { MatchOption result (has_no_end bytes.now ≡ true) (HasEndAt bytes.now) }
+{
+    'bytes: for (at, byte) in bytes.iter().enumerate() {
+        if *byte == b'\n' {
+            return Some(at);
+        }
+    }
+    None
+}
+
+// Appends bytes to a line, unless they make it too long, and answers whether they did not.
+fn append(line: &mut Vec<u8>, bytes: &[u8], longest: usize) -> io::Result<bool>
+    requires { length line.old.items ≤ longest }
+    ensures joined { IfOk result
+        (λ fits. fits ≡ true → line.new.items ≡ line.old.items ++ bytes.now) }
+    ensures short { IfOk result (λ fits. fits ≡ true → length line.new.items ≤ longest) }
+    ensures long { IfOk result
+        (λ fits. fits ≡ false → longest < length line.old.items + length bytes.now) }
+{
+    if bytes.len() > longest - line.len() {
+        return Ok(false);
+    }
+    line.extend_from_slice(bytes)?;
+    Ok(true)
+}

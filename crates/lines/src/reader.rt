@@ -1,0 +1,134 @@
+//! Reading one line after the other.
+ghost use Rattle.std.specs.Prelude.{◌≡◌, ◌≤◌, false, true, [], length, IfOk, OnOk};
+ghost use Rattle.std.specs.Io.KnownBytes.{Consumes, prepend_known};
+ghost use Rattle.lines.specs.Reading.{KnowsEnd, NextLine, left_of};
+
+use crate::block::Block;
+use crate::piece::{Piece, move_piece};
+use std::alloc::{AllocError, Global};
+use std::io;
+use std::io::{ErrorKind, Read};
+use std::marker::Model;
+
+/// What the next line came to.
+#[derive(Clone, Copy, Debug, PartialEq, Eq)]
+pub enum Next {
+    /// The input has ended.
+    End,
+    /// There is one.
+    Line,
+    /// It is longer than a line may be. Its beginning was taken.
+    TooLong,
+}
+
+/// Gives the lines of a reader one after the other, and never reads on once a read told the end.
+///
+/// It keeps one block of bytes and one line, which takes memory as it needs it.
+#[derive(Drop)]
+pub struct LineReader {
+    block: Block,
+    line: Vec<u8>,
+    ended: bool,
+    longest: usize,
+}
+
+impl Model for LineReader {
+    ghost use Rattle.lines.specs.Reading.{Waiting};
+
+    ghost Value = { Waiting };
+
+    ghost view = { λ r. record { line = r.line.items; bytes = r.block; ended = r.ended;
+        longest = r.longest } };
+}
+
+impl LineReader {
+    /// Nothing was read yet. A line may have at most so many bytes, without its end.
+    pub fn new(alloc: Global, longest: usize) -> Result<Self, AllocError>
+        ensures empty { IfOk result (λ reader. reader.bytes ≡ []) }
+        ensures open { IfOk result (λ reader. reader.ended ≡ false) }
+        ensures longest { IfOk result (λ reader. reader.longest ≡ longest) }
+    {
+        Ok(LineReader {
+            block: Block::new(alloc)?,
+            line: Vec::new(alloc),
+            ended: false,
+            longest,
+        })
+    }
+
+    /// The line that was read last, without its end.
+    pub fn line(&self) -> &[u8]
+        ensures { result.now ≡ self.now.line }
+    {
+        self.line.as_slice()
+    }
+
+    /// Reads the next line. After the end it reads nothing.
+    ///
+    /// An interrupted read is tried again. After an error or a line that is too long what was read
+    /// of the line is lost.
+    pub fn next_line<R: Read>(&mut self, input: &mut R) -> io::Result<Next>
+        requires { KnowsEnd self.old.ended (R.remaining input.old) }
+        ensures next { IfOk result (NextLine self.old.longest
+            (left_of self.old (R.remaining input.old))
+            (left_of self.new (R.remaining input.new)) self.new.line) }
+        ensures knows { KnowsEnd self.new.ended (R.remaining input.new) }
+        ensures longest { self.new.longest ≡ self.old.longest }
+        // The end stays told, and then the reader isn't asked again.
+        ensures told { self.old.ended ≡ true → self.new.ended ≡ true }
+        ensures quiet { self.old.ended ≡ true → input.new ≡ input.old }
+    {
+        self.line.clear();
+        fill_line(&mut self.block, &mut self.line, &mut self.ended, self.longest, input)
+    }
+}
+
+// Reads into an empty line up to its end.
+fn fill_line<R: Read>(
+    block: &mut Block,
+    line: &mut Vec<u8>,
+    ended: &mut bool,
+    longest: usize,
+    input: &mut R,
+) -> io::Result<Next>
+    requires empty { line.old.items ≡ [] }
+    requires knows { KnowsEnd ended.old (R.remaining input.old) }
+    ensures next { IfOk result (NextLine longest
+        (prepend_known block.old (R.remaining input.old))
+        (prepend_known block.new (R.remaining input.new)) line.new.items) }
+    ensures knows { KnowsEnd ended.new (R.remaining input.new) }
+    ensures told { ended.old ≡ true → ended.new ≡ true }
+    ensures quiet { ended.old ≡ true → input.new ≡ input.old }
+{
+    // A count that no input outlasts: each turn but the last takes a byte or more.
+    'pieces: for _piece in 0..u64::MAX {
+        match move_piece(block, line, longest)? {
+            Piece::Ended => return Ok(Next::Line),
+            Piece::TooLong => return Ok(Next::TooLong),
+            Piece::All => {}
+        }
+        refill(block, ended, input)?;
+        if *ended {
+            return Ok(if line.is_empty() { Next::End } else { Next::Line });
+        }
+    }
+    Err(ErrorKind::TimedOut.into())
+}
+
+// Reads a new block in place of one that is empty, unless the end was told.
+fn refill<R: Read>(block: &mut Block, ended: &mut bool, input: &mut R) -> io::Result<()>
+    requires empty { block.old ≡ [] }
+    requires knows { KnowsEnd ended.old (R.remaining input.old) }
+    ensures taken { OnOk result
+        (Consumes (R.remaining input.old) (R.remaining input.new) block.new) }
+    ensures end { OnOk result (ended.new ≡ true → block.new ≡ []) }
+    ensures knows { KnowsEnd ended.new (R.remaining input.new) }
+    ensures told { ended.old ≡ true → ended.new ≡ true }
+    ensures quiet { ended.old ≡ true → input.new ≡ input.old }
+{
+    if !*ended {
+        block.fill(input)?;
+        *ended = block.as_slice().is_empty();
+    }
+    Ok(())
+}

@@ -1,0 +1,103 @@
+//! Builders that take items from an iterator that says more than come.
+ghost use Rattle.std.specs.Prelude.{◌≤◌, length};
+ghost use Rattle.std.specs.Iterator.{at_most};
+
+use fastbloom::{AtomicBloomFilter, BloomFilter, FilterError, Rate};
+use std::alloc::Global;
+use std::cell::Cell;
+use std::test::Fail;
+
+// Says that it has more items than come, and counts those that are taken.
+#[derive(Drop)]
+struct Overstated<'a> {
+    rest: &'a [u64],
+    said: usize,
+    taken: &'a Cell<usize>,
+    ghost enough: { length rest.now ≤ said },
+}
+
+impl<'a> Iterator for Overstated<'a> {
+    type Item = &'a u64;
+
+    ghost remaining = { λ s. at_most s.said };
+
+    fn next(&mut self) -> Option<&'a u64> {
+        let (first, others) = self.rest.split_first()?;
+        *self = Overstated {
+            rest: others,
+            said: self.said - 1,
+            taken: self.taken,
+        };
+        self.taken.set(self.taken.get().saturating_add(1));
+        Some(first)
+    }
+}
+
+impl<'a> ExactSizeIterator for Overstated<'a> {
+    fn len(&self) -> usize {
+        self.said
+    }
+}
+
+// The items 1, 2 and 3 of an iterator that says so many, and counts them.
+fn three_of(said: usize, taken: &Cell<usize>) -> Overstated<'_>
+    requires { 3 ≤ said }
+{
+    Overstated {
+        rest: &[1, 2, 3],
+        said,
+        taken,
+    }
+}
+
+// The filter of one word and one hash with the items 1, 2 and 3.
+fn filter_of_three(alloc: Global) -> Result<BloomFilter, FilterError> {
+    let mut filter = BloomFilter::with_num_bits(alloc, 64)?.hashes(1);
+    for item in [1u64, 2, 3] {
+        filter.insert(&item);
+    }
+    Ok(filter)
+}
+
+// The number of items that an iterator says sizes the filter, and those that come go in.
+#[test]
+fn what_an_iterator_says_sizes_alone(rt: HostRuntime) -> Result<(), Fail> {
+    let taken = Cell::new(0);
+    let builder = BloomFilter::with_num_bits(rt.alloc(), 64)?;
+    let filter = builder.items(three_of(500, &taken));
+    assert_eq!(rt; filter.num_hashes(), 1);
+    assert!(rt; filter == filter_of_three(rt.alloc())?);
+    assert_eq!(rt; taken.get(), 3);
+    Ok(())
+}
+
+#[test]
+fn what_an_iterator_says_sizes_a_shared_filter_alone(rt: HostRuntime) -> Result<(), Fail> {
+    let taken = Cell::new(0);
+    let builder = AtomicBloomFilter::with_num_bits(rt.alloc(), 64)?;
+    let filter = builder.items(rt.alloc(), three_of(500, &taken))?;
+    assert_eq!(rt; filter.num_hashes(), 1);
+    assert!(rt; filter.iter().eq(filter_of_three(rt.alloc())?.iter()));
+    assert_eq!(rt; taken.get(), 3);
+    Ok(())
+}
+
+#[test]
+fn a_refused_size_takes_no_item(rt: HostRuntime) -> Result<(), Fail> {
+    let taken = Cell::new(0);
+    let items = three_of(18446744073709551615, &taken);
+    let filter = BloomFilter::with_false_pos(Rate::new(1, 2)?).items(rt.alloc(), items);
+    assert!(rt; filter == Err(FilterError::SizeOverflow));
+    assert_eq!(rt; taken.get(), 0);
+    Ok(())
+}
+
+#[test]
+fn a_refused_size_of_a_shared_filter_takes_no_item(rt: HostRuntime) -> Result<(), Fail> {
+    let taken = Cell::new(0);
+    let items = three_of(18446744073709551615, &taken);
+    let filter = AtomicBloomFilter::with_false_pos(Rate::new(1, 2)?).items(rt.alloc(), items);
+    assert!(rt; filter.err() == Some(FilterError::SizeOverflow));
+    assert_eq!(rt; taken.get(), 0);
+    Ok(())
+}
