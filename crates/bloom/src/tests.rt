@@ -1,7 +1,7 @@
 //! What no contract says: text, statuses, faults of readers and writers, and answers from outside.
+mod bad_lines;
 mod broken;
 mod ends;
-mod lines;
 mod room;
 mod sessions;
 mod streams;

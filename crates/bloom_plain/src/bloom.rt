@@ -19,8 +19,8 @@ pub use command::Command;
 pub use data::{BitsData, FilterData, shape_of_data};
 use positions::{contains_positions, insert_positions};
 pub use rates::expected_rate;
-pub use together::insert_hashes;
 use std::marker::Model;
+pub use together::insert_hashes;
 
 /// A Bloom filter: a set of hashes that never forgets one, and may take one for another.
 ///

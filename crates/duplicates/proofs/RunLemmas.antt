@@ -60,9 +60,11 @@ keeps-part hash_of line old new from to reply one answers is_new fault put = rec
   answers = answers;
   written = put.written;
   text = put.text;
-  told =
-      (put.told.0, subst (λ r. IsWrittenAt fault (piece line r) put.written) (sym is_new)
-      put.told.1);
+  told = (
+    put.told.0,
+    subst (λ r. IsWrittenAt fault (piece line r) put.written) (sym is_new)
+        put.told.1,
+  );
 }
 
 -- the same line, under the same hash

@@ -93,9 +93,11 @@ module _ (text rest : List ℕ) (from to : Option (List ℕ)) (so_far : IsWritin
     writes-part fault is = record {
       written = so_far.written;
       text = so_far.appended;
-      told =
-          (is, from-begins fault text so_far.written is
-          (record { rest = rest; cut = so_far.cut }));
+      told = (
+        is,
+        from-begins fault text so_far.written is
+            (record { rest = rest; cut = so_far.cut }),
+      );
     }
 
     -- the writer failed within the rest
@@ -107,12 +109,14 @@ module _ (text rest : List ℕ) (from to : Option (List ℕ)) (so_far : IsWritin
           written = so_far.written ++ part.written;
           text =
               Appends-trans from to end so_far.written part.written so_far.appended part.text;
-          told =
-              (told.0, subst (λ t. IsWrittenAt fault t (so_far.written ++ part.written))
-              (sym so_far.cut)
-              (from-begins fault (so_far.written ++ rest) (so_far.written ++ part.written) told.0
-              (Begins-after so_far.written rest part.written
-              (to-begins fault rest part.written told.1))));
+          told = (
+            told.0,
+            subst (λ t. IsWrittenAt fault t (so_far.written ++ part.written))
+                (sym so_far.cut)
+                (from-begins fault (so_far.written ++ rest) (so_far.written ++ part.written) told.0
+                (Begins-after so_far.written rest part.written
+                (to-begins fault rest part.written told.1))),
+          );
         }
 
 -- where nothing was appended the writer is as it was
@@ -135,10 +139,12 @@ writes-first first second from to fault part =
     record {
       written = part.written;
       text = part.text;
-      told =
-          (told.0, from-begins fault (first ++ second) part.written told.0
-          (Begins-more first second part.written
-          (to-begins fault first part.written told.1)));
+      told = (
+        told.0,
+        from-begins fault (first ++ second) part.written told.0
+            (Begins-more first second part.written
+            (to-begins fault first part.written told.1)),
+      );
     }
 
 -- the first of two texts was written, and then the second or a part of it
@@ -155,9 +161,11 @@ writes-both first second from mid to (Err fault) one two =
     record {
       written = one.written ++ two.written;
       text = Appends-trans from mid to one.written two.written one.text two.text;
-      told =
-          (told.0, from-begins fault (first ++ second) (one.written ++ two.written) told.0
-          (subst (λ l. Begins (first ++ second) (l ++ two.written)) (sym one.told)
-          (Begins-after first second two.written
-          (to-begins fault second two.written told.1))));
+      told = (
+        told.0,
+        from-begins fault (first ++ second) (one.written ++ two.written) told.0
+            (subst (λ l. Begins (first ++ second) (l ++ two.written)) (sym one.told)
+            (Begins-after first second two.written
+            (to-begins fault second two.written told.1))),
+      );
     }

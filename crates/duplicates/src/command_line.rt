@@ -48,7 +48,11 @@ fn rate_of(text: &str) -> Option<Rate> {
     let (num, den) = text.split_once('/')?;
     let num = num.parse::<u64>().ok()?;
     let den = den.parse::<u64>().ok()?;
-    if num < den { Rate::new(num, den).ok() } else { None }
+    if num < den {
+        Rate::new(num, den).ok()
+    } else {
+        None
+    }
 }
 
 /// What the words ask for, of which the first is the program's name.

@@ -63,7 +63,12 @@ const RUNS: [(&[u8], &[u8], u64, u64); 8] = [
     (b"a\nb\na", b"a\nb\n", 3, 1),
     (b"a\nb", b"a\nb\n", 2, 0),
     (b"a\r\na\na \n", b"a\r\na\na \n", 3, 0),
-    (b"\xff\x00\n\x00\xff\n\xff\x00\n", b"\xff\x00\n\x00\xff\n", 3, 1),
+    (
+        b"\xff\x00\n\x00\xff\n\xff\x00\n",
+        b"\xff\x00\n\x00\xff\n",
+        3,
+        1,
+    ),
 ];
 
 #[test]

@@ -37,8 +37,12 @@ impl Model for LineReader {
 
     ghost Value = { Waiting };
 
-    ghost view = { λ r. record { line = r.line.items; bytes = r.block; ended = r.ended;
-        longest = r.longest } };
+    ghost view = { λ r. record {
+      line = r.line.items;
+      bytes = r.block;
+      ended = r.ended;
+      longest = r.longest;
+    } };
 }
 
 impl LineReader {
@@ -79,7 +83,13 @@ impl LineReader {
         ensures quiet { self.old.ended ≡ true → input.new ≡ input.old }
     {
         self.line.clear();
-        fill_line(&mut self.block, &mut self.line, &mut self.ended, self.longest, input)
+        fill_line(
+            &mut self.block,
+            &mut self.line,
+            &mut self.ended,
+            self.longest,
+            input,
+        )
     }
 }
 
@@ -109,7 +119,11 @@ fn fill_line<R: Read>(
         }
         refill(block, ended, input)?;
         if *ended {
-            return Ok(if line.is_empty() { Next::End } else { Next::Line });
+            return Ok(if line.is_empty() {
+                Next::End
+            } else {
+                Next::Line
+            });
         }
     }
     Err(ErrorKind::TimedOut.into())

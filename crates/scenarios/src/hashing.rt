@@ -158,7 +158,13 @@ fn items_of_derived_types_go_in(rt: HostRuntime) -> Result<(), FilterError> {
 // What Rust's own hasher answers after one write of these bytes.
 #[test]
 fn a_text_is_hashed_as_its_bytes_alone(rt: HostRuntime) -> Result<(), FilterError> {
-    assert!(rt; goes_in(&rt, &Text([1, 2, 3, 4, 5].as_slice()), 0xde68_2ee7_0fbe_bc3f)?);
+    assert!(rt;
+        goes_in(
+            &rt,
+            &Text([1, 2, 3, 4, 5].as_slice()),
+            0xde68_2ee7_0fbe_bc3f
+        )?
+    );
     assert!(rt; goes_in(&rt, &Text([7].as_slice()), 0xfff3_eb0c_7071_97bf)?);
     assert!(rt; goes_in(&rt, &Text([].as_slice()), 0xd1fb_a762_150c_532c)?);
     Ok(())

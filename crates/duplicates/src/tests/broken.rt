@@ -88,8 +88,16 @@ fn a_read_may_fail_after_any_byte(rt: HostRuntime) -> Result<(), Fail> {
             &mut output,
             &mut untold(),
         );
-        assert_eq!(rt; ended, Err(Fault::Input(ErrorKind::BrokenPipe)), "after {count} bytes");
-        assert_eq!(rt; Some(output.as_slice()), NEW.get(..*written), "after {count} bytes");
+        assert_eq!(rt;
+            ended,
+            Err(Fault::Input(ErrorKind::BrokenPipe)),
+            "after {count} bytes"
+        );
+        assert_eq!(rt;
+            Some(output.as_slice()),
+            NEW.get(..*written),
+            "after {count} bytes"
+        );
     }
     Ok(())
 }

@@ -21,7 +21,7 @@ hashes-preserved g c = record {
 pub returns : goal.returns
 returns g c =
     let all = take_all c.hashes.hash-index c.args.hashes.now
-        (omega (arith, c.hashes-test.false, c.hashes.auto.hash-index-end)) in
+    (omega (arith, c.hashes-test.false, c.hashes.auto.hash-index-end)) in
     subst (λ l. InsertsAll c.args.filter.now l c.insert_few.new.self) all
     (is_behind-all _ _ _ _ _ c.hashes.invariant.behind
     (subst (λ l. InsertsAll c.hashes.filter l c.insert_few.new.self) c.deref.ensures.0
