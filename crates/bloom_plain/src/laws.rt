@@ -80,8 +80,8 @@ pub fn lists_join<S>()
     ensures { JoinedListsLaw S }
 {}
 
-/// The union of filters into which lists of hashes were inserted, from one start, is the filter with
-/// all of them inserted.
+/// The union of filters into which lists of hashes were inserted, from one start, is the filter
+/// with all of them inserted.
 pub fn union_of_inserts<S>()
     ensures { UnitedInsertsLaw S }
 {}

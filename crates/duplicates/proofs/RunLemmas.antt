@@ -19,7 +19,8 @@ use Rattle.duplicates.proofs.WriteLemmas.{Begins-after, from-begins, to-begins}
 
 -- a line that was held back isn't written
 pub keeps-held : {S : Type 0} (hash_of : List ℕ → ℕ) (line : List ℕ) (old new : Filter S)
-    (from : Option (List ℕ)) (reply : Bool) → CarriesOut old (Insert (hash_of line) ∷ []) new (reply ∷ [])
+    (from : Option (List ℕ)) (reply : Bool)
+    → CarriesOut old (Insert (hash_of line) ∷ []) new (reply ∷ [])
     → reply ≡ contains old (hash_of line) → reply ≡ true
     → KeepsLine hash_of line old new from from (Ok reply)
 keeps-held hash_of line old new from reply one answers held = record {

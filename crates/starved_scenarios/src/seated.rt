@@ -11,8 +11,8 @@ fn opened(alloc: Global) -> Result<bool, FilterError> {
     Ok(passes.len() == 3)
 }
 
-// How `close` ended after two of the passes called, if there was room for the filter. Hash 1 has the
-// positions 0 and 20.
+// How `close` ended after two of the passes called, if there was room for the filter. Hash 1 has
+// the positions 0 and 20.
 fn closed(alloc: Global) -> Result<Result<bool, FilterError>, FilterError> {
     let words = [0].to_vec(alloc)?;
     let (filter, mut passes) = SeatedBloomFilter::new(alloc, words, 2, 3)?;

@@ -7,7 +7,8 @@ use Rattle.bloom_plain.proofs.bloom.BloomFilter.insert_given_together.Given as g
 -- the hashes of the items so far were inserted, but for those that wait, fewer than sixteen
 abbrev pub invariant-given : goal.invariant-given
 invariant-given g l =
-    let hash = source_hash_of g.S.BuildHasher g.S.Hasher.Hasher g.T.Hash.hash_input l.fn.self.hasher in
+    let hash = source_hash_of g.S.BuildHasher g.S.Hasher.Hasher g.T.Hash.hash_input
+    l.fn.self.hasher in
     record {
       behind : IsBehind l.fn.self (map hash l.yielded) l.waiting.items l.self;
       room : array_vec_len l.waiting < 16;
