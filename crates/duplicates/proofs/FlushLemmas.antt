@@ -2,6 +2,7 @@
 use Rattle.std.proofs.Common.{ℕ, List, Option, Result, Ok, Err, refl}
 use Rattle.std.specs.Prelude.{IfOk, IfErr}
 use Rattle.std.specs.Io.KnownBytes.{Keeps}
+use Rattle.std.proofs.KnownBytes.{Appends-kept}
 use Rattle.fastbloom.specs.Filter.{Filter}
 use Rattle.lines.specs.Reading.{IsReadFrom}
 use Rattle.lines.proofs.TakenLemmas.{IsReadFrom-whole, IsReadFrom-long}
@@ -10,7 +11,7 @@ use Rattle.duplicates.specs.declared.fault.Fault.TheVariants.{TooLong, Memory, I
 use Rattle.duplicates.specs.declared.engine.tally.Tally.{Tally}
 use Rattle.duplicates.specs.Faults.{IsOfWriter, IsReadAt}
 use Rattle.duplicates.specs.Kept.{text_of_fresh, KeepsNew, KeepsUntil}
-use Rattle.duplicates.proofs.WriteLemmas.{Appends-kept, Begins-whole, from-begins, to-begins}
+use Rattle.duplicates.proofs.WriteLemmas.{Begins-whole, from-begins, to-begins}
 
 -- at any fault the lines are the first of the input
 first-lines : (longest : ℕ) (fault : Fault) (read : Option (List ℕ)) (lines : List (List ℕ))

@@ -1,5 +1,5 @@
 -- From lines read and kept to what a run promises.
-use Rattle.std.proofs.Common.{◌≡◌, ℕ, ◌+◌, ◌-◌, ◌^◌, min, Bool, true, false, cond, List, [], ◌∷◌, ◌++◌, Option, Some, None, IfSome, Result, Ok, Err, inl, inr, ◌⊎◌, refl, sym, ◌∙◌, ap, subst, arith}
+use Rattle.std.proofs.Common.{◌≡◌, ℕ, ◌+◌, ◌-◌, ◌^◌, min, Bool, false, cond, List, [], ◌∷◌, ◌++◌, Option, IfSome, Result, Ok, Err, inl, inr, ◌⊎◌, refl, sym, ◌∙◌, ap, subst, arith}
 use Rattle.std.proofs.lemmas.Bool.{both_ways}
 use Rattle.std.specs.Io.KnownBytes.{Appends}
 use Rattle.std.proofs.KnownBytes.{Appends-nil, Appends-trans}
@@ -13,60 +13,9 @@ use Rattle.duplicates.specs.declared.fault.Fault.{Fault}
 use Rattle.duplicates.specs.declared.fault.Fault.TheVariants.{TooLong, Memory, Input, Output}
 use Rattle.duplicates.specs.declared.engine.tally.Tally.{Tally}
 use Rattle.duplicates.specs.Faults.{IsOfReader, IsOfWriter, IsWrittenAt, IsReadAt}
-use Rattle.duplicates.specs.Kept.{text_of_fresh, piece, Sifts, Counts, KeepsLine, KeepsNew, KeepsUntil, Writes}
+use Rattle.duplicates.specs.Kept.{text_of_fresh, piece, Sifts, Counts, KeepsLine, KeepsNew, KeepsUntil}
 use Rattle.duplicates.proofs.SiftLemmas.{fresh-more, Counts-nil, Counts-more, Sifts-nil, Sifts-more}
 use Rattle.duplicates.proofs.WriteLemmas.{Begins-after, from-begins, to-begins}
-
--- a line that was held back isn't written
-pub keeps-held : {S : Type 0} (hash_of : List ℕ → ℕ) (line : List ℕ) (old new : Filter S)
-    (from : Option (List ℕ)) (reply : Bool)
-    → CarriesOut old (Insert (hash_of line) ∷ []) new (reply ∷ [])
-    → reply ≡ contains old (hash_of line) → reply ≡ true
-    → KeepsLine hash_of line old new from from (Ok reply)
-keeps-held hash_of line old new from reply one answers held = record {
-  reply = reply;
-  carried = one;
-  answers = answers;
-  written = [];
-  text = Appends-nil from;
-  told = (refl, ap (λ r. cond {A = List ℕ} r [] (line ++ 10 ∷ [])) (sym held));
-}
-
--- a line that is new was written
-pub keeps-written : {S : Type 0} (hash_of : List ℕ → ℕ) (line : List ℕ) (old new : Filter S)
-    (from to : Option (List ℕ)) (reply : Bool)
-    → CarriesOut old (Insert (hash_of line) ∷ []) new (reply ∷ [])
-    → reply ≡ contains old (hash_of line) → reply ≡ false
-    → Writes (line ++ 10 ∷ []) from to (Ok tt)
-    → KeepsLine hash_of line old new from to (Ok reply)
-keeps-written hash_of line old new from to reply one answers is_new put = record {
-  reply = reply;
-  carried = one;
-  answers = answers;
-  written = put.written;
-  text = put.text;
-  told = (refl, put.told ∙ ap (piece line) (sym is_new));
-}
-
--- a part of it was written
-pub keeps-part : {S : Type 0} (hash_of : List ℕ → ℕ) (line : List ℕ) (old new : Filter S)
-    (from to : Option (List ℕ)) (reply : Bool)
-    → CarriesOut old (Insert (hash_of line) ∷ []) new (reply ∷ [])
-    → reply ≡ contains old (hash_of line) → reply ≡ false
-    → (fault : Fault) → Writes (line ++ 10 ∷ []) from to (Err fault)
-    → KeepsLine hash_of line old new from to (Err fault)
-keeps-part hash_of line old new from to reply one answers is_new fault put = record {
-  reply = reply;
-  carried = one;
-  answers = answers;
-  written = put.written;
-  text = put.text;
-  told = (
-    put.told.0,
-    subst (λ r. IsWrittenAt fault (piece line r) put.written) (sym is_new)
-        put.told.1,
-  );
-}
 
 -- the same line, under the same hash
 pub line-kept : {S : Type 0} {hash_of same_hash : List ℕ → ℕ} {line same_line : List ℕ}
@@ -106,23 +55,6 @@ sifting-nil hash_of read from filter waiting tally empty untold none_read none_h
   counts = Counts-nil tally none_read none_held;
 }
 
--- no room, before anything was read
-pub until-nil : {S : Type 0} (longest : ℕ) (hash_of : List ℕ → ℕ) (read from : Option (List ℕ))
-    (filter : Filter S) → KeepsUntil longest hash_of read filter filter from from Memory
-until-nil longest hash_of read from filter = record {
-  lines = [];
-  replies = [];
-  sifts = Sifts-nil hash_of filter;
-  written = [];
-  text = Appends-nil from;
-  told = refl;
-  reached = at read;
-}
-  where
-    at : (read : Option (List ℕ)) → IsReadFrom read []
-    at None = tt
-    at (Some x) = record { later = _; cut = refl }
-
 -- what was reached at a fault of the reader or of the writer
 reached-at : (longest : ℕ) (fault : Fault) (read : Option (List ℕ)) (lines : List (List ℕ))
     → IsOfReader fault ⊎ IsOfWriter fault → IsReadFrom read lines
@@ -132,13 +64,6 @@ reached-at longest (TooLong number) read lines (inr is) first = absurd is
 reached-at longest Memory read lines is first = first
 reached-at longest (Input kind) read lines is first = first
 reached-at longest (Output kind) read lines is first = first
-
--- what was written at a fault of the reader
-written-at : (fault : Fault) (text : List ℕ) → IsOfReader fault → IsWrittenAt fault text text
-written-at (TooLong number) text is = absurd is
-written-at Memory text is = refl
-written-at (Input kind) text is = refl
-written-at (Output kind) text is = absurd is
 
 -- half-way, and the next line
 module _ {S : Type 0} {hash_of : List ℕ → ℕ} {read : Option (List ℕ)} {old : Filter S}
@@ -176,21 +101,6 @@ module _ {S : Type 0} {hash_of : List ℕ → ℕ} {read : Option (List ℕ)} {o
       is_long =
           IsReadToLong-from longest read (left_of waiting rest) so_far.lines so_far.taken long;
     };
-  }
-
-  -- a fault of the reader came
-  pub until-reader : (fault : Fault) → IsOfReader fault
-      → KeepsUntil longest hash_of read old now from to fault
-  until-reader fault is = record {
-    lines = so_far.lines;
-    replies = so_far.replies;
-    sifts = so_far.sifts;
-    written = text_of_fresh so_far.lines so_far.replies;
-    text = so_far.text;
-    told = written-at fault (text_of_fresh so_far.lines so_far.replies) is;
-    reached =
-        reached-at longest fault read so_far.lines (inl is)
-        (IsReadFrom-taken read (left_of waiting rest) so_far.lines so_far.taken);
   }
 
   module _ (joined : JoinedListsLaw S) (found : FoundAfterInsertsLaw S) (after : Waiting)

@@ -1,32 +1,16 @@
 -- Writing a text, as far as the writer takes it.
-use Rattle.std.proofs.Common.{◌≡◌, ℕ, ◌-◌, ◌≤◌, arith, length, length-drop, take_all, List, [], ◌++◌, take, drop, take-append-drop, Option, Some, None, Result, Ok, Err, refl, sym, ◌∙◌, ap, subst, append_assoc, append-nil}
-use Rattle.std.specs.Io.KnownBytes.{Keeps, Appends}
-use Rattle.std.proofs.KnownBytes.{Appends-nil, Appends-trans}
+use Rattle.std.proofs.Common.{◌≡◌, ℕ, ◌-◌, ◌≤◌, arith, length, length-drop, take_all, List, [], ◌++◌, take, drop, take-append-drop, Option, Result, Ok, Err, sym, ◌∙◌, ap, subst, append_assoc, append-nil}
+use Rattle.std.specs.Io.KnownBytes.{Appends}
+use Rattle.std.proofs.KnownBytes.{Appends-trans}
 use Rattle.duplicates.specs.declared.fault.Fault.{Fault}
 use Rattle.duplicates.specs.declared.fault.Fault.TheVariants.{TooLong, Memory, Input, Output}
 use Rattle.duplicates.specs.Faults.{IsOfWriter, IsWrittenAt, Begins}
 use Rattle.duplicates.specs.Kept.{Writes}
 
--- bytes that were appended stay
-pub Appends-kept : (a b c : Option (List ℕ)) (bytes : List ℕ) → Appends a b bytes → Keeps b c
-    → Appends a c bytes
-Appends-kept None b c bytes p q = tt
-Appends-kept (Some x) None c bytes p q = absurd p
-Appends-kept (Some x) (Some y) None bytes p q = absurd q
-Appends-kept (Some x) (Some y) (Some z) bytes p q = q ∙ p
-
 -- a text begins with itself
 pub Begins-whole : (text written : List ℕ) → written ≡ text → Begins text written
 Begins-whole text written is =
     record { rest = []; cut = sym is ∙ sym (append-nil written) }
-
--- a longer text begins alike
-pub Begins-more : (text more written : List ℕ) → Begins text written
-    → Begins (text ++ more) written
-Begins-more text more written is = record {
-  rest = is.rest ++ more;
-  cut = ap (λ l. l ++ more) is.cut ∙ append_assoc written is.rest more;
-}
 
 -- and with a text in front
 pub Begins-after : (front text written : List ℕ) → Begins text written
@@ -58,10 +42,6 @@ pub record IsWriting (text rest : List ℕ) (from to : Option (List ℕ)) : Type
   pub appended : Appends from to written
   pub cut : text ≡ written ++ rest
 
--- nothing was written yet
-pub writing-nil : (text : List ℕ) (from : Option (List ℕ)) → IsWriting text text from from
-writing-nil text from = record { written = []; appended = Appends-nil from; cut = refl }
-
 module _ (text rest : List ℕ) (from to : Option (List ℕ)) (so_far : IsWriting text rest from to)
   where
     -- some bytes more were written
@@ -79,26 +59,6 @@ module _ (text rest : List ℕ) (from to : Option (List ℕ)) (so_far : IsWritin
       where
         few : length (drop n rest) ≤ length rest - n
         few = omega (arith, length-drop n rest)
-
-    -- all was written
-    pub writes-all : rest ≡ [] → Writes text from to (Ok tt)
-    writes-all none = record {
-      written = so_far.written;
-      text = so_far.appended;
-      told = sym (so_far.cut ∙ ap (λ l. so_far.written ++ l) none ∙ append-nil so_far.written);
-    }
-
-    -- the writer failed without taking more
-    pub writes-part : (fault : Fault) → IsOfWriter fault → Writes text from to (Err fault)
-    writes-part fault is = record {
-      written = so_far.written;
-      text = so_far.appended;
-      told = (
-        is,
-        from-begins fault text so_far.written is
-            (record { rest = rest; cut = so_far.cut }),
-      );
-    }
 
     -- the writer failed within the rest
     pub writes-rest : (end : Option (List ℕ)) (fault : Fault) → Writes rest to end (Err fault)
@@ -118,34 +78,6 @@ module _ (text rest : List ℕ) (from to : Option (List ℕ)) (so_far : IsWritin
                 (to-begins fault rest part.written told.1))),
           );
         }
-
--- where nothing was appended the writer is as it was
-pub Appends-none : (a b : Option (List ℕ)) → Keeps a b → Appends a b []
-Appends-none None b p = tt
-Appends-none (Some x) None p = absurd p
-Appends-none (Some x) (Some y) p = p ∙ sym (append-nil x)
-
--- a fault of the writer came before it took anything
-pub writes-none : (text : List ℕ) (from to : Option (List ℕ)) → Appends from to []
-    → (fault : Fault) → IsOfWriter fault → Writes text from to (Err fault)
-writes-none text from to none fault is =
-    writes-part text text from to (record { written = []; appended = none; cut = refl }) fault is
-
--- a fault came in the first of two texts
-pub writes-first : (first second : List ℕ) (from to : Option (List ℕ)) (fault : Fault)
-    → Writes first from to (Err fault) → Writes (first ++ second) from to (Err fault)
-writes-first first second from to fault part =
-    let told = part.told in
-    record {
-      written = part.written;
-      text = part.text;
-      told = (
-        told.0,
-        from-begins fault (first ++ second) part.written told.0
-            (Begins-more first second part.written
-            (to-begins fault first part.written told.1)),
-      );
-    }
 
 -- the first of two texts was written, and then the second or a part of it
 pub writes-both : (first second : List ℕ) (from mid to : Option (List ℕ))

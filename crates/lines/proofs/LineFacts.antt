@@ -1,5 +1,5 @@
 -- Lines at values from outside: a wrong definition fails here.
-use Rattle.std.proofs.Common.{◌≡◌, true, false, [], ◌∷◌, ◌++◌, refl}
+use Rattle.std.proofs.Common.{◌≡◌, true, false, [], ◌∷◌, refl}
 use Rattle.std.specs.Prelude.{codes}
 use Rattle.lines.specs.Lines.{lines_of, has_no_end, IsEnded}
 use Rattle.lines.proofs.LineLemmas.{IsEnded-line}

@@ -1,8 +1,8 @@
 -- What reading one line took.
-use Rattle.std.proofs.Common.{◌≡◌, ℕ, ◌+◌, ◌<◌, ◌≤◌, true, List, [], ◌∷◌, ◌++◌, length, length-append, Option, Some, None, IfSome, refl, sym, ◌∙◌, ap, subst, append_assoc, append-nil, arith, inl, inr}
+use Rattle.std.proofs.Common.{◌≡◌, ℕ, ◌<◌, ◌≤◌, true, List, [], ◌∷◌, ◌++◌, length, length-append, Option, Some, None, IfSome, sym, ◌∙◌, ap, subst, append_assoc, arith, inl, inr}
 use Rattle.std.specs.Io.KnownBytes.{Consumes, IsAtEnd, prepend_known}
 use Rattle.lines.specs.Lines.{has_no_end}
-use Rattle.lines.specs.Reading.{KnowsEnd, HasTakenLine, TakesLine, TakesShort, BeginsLong, Ends, GrowsToEnd, GrowsByAll, GrowsTooLong}
+use Rattle.lines.specs.Reading.{HasTakenLine, TakesLine, TakesShort, BeginsLong, Ends, GrowsToEnd, GrowsByAll, GrowsTooLong}
 use Rattle.lines.proofs.LineLemmas.{lines_of-nil, lines_of-ended, lines_of-last, has_no_end-append, IsEnded-line}
 
 -- a line that was taken with its end

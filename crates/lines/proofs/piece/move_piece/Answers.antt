@@ -1,4 +1,4 @@
-use Rattle.std.proofs.Common.{◌≡◌, ◌+◌, ◌<◌, length, sym, subst, take, drop, take-append-drop}
+use Rattle.std.proofs.Common.{◌+◌, ◌<◌, length, sym, subst, take, drop, take-append-drop}
 use Rattle.lines.specs.Reading.{HasEndAt}
 use Rattle.lines.proofs.piece.move_piece.Goals as goal
 
