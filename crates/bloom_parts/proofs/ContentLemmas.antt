@@ -107,7 +107,7 @@ no-change true k = refl
 no-change false k = ne_eqb (2 ^ k) 0 (λ none. absurd (omega (arith, none, pow_pos k)))
 
 -- within a list the default doesn't count
-get_or-default : (a : List ℕ) (i d e : ℕ) → i < length a → get_or a i d ≡ get_or a i e
+pub get_or-default : (a : List ℕ) (i d e : ℕ) → i < length a → get_or a i d ≡ get_or a i e
 get_or-default a i d e within = grind (arith, common_steps)
 
 -- within one word, the mask of a position has that position alone

@@ -12,6 +12,7 @@ mod HalvingLemmas
 mod HashedLemmas
 mod HasherFacts
 mod LaneFacts
+mod LookLemmas
 mod MergeLemmas
 mod NumberLemmas
 mod OperationFacts
@@ -32,5 +33,7 @@ mod SipFacts
 mod SipLemmas
 mod SizingFacts
 mod StandardFacts
+mod StretchLemmas
+mod TurnLemmas
 mod WordLemmas
 mod WriteLemmas

@@ -20,3 +20,4 @@ pub mod Shares
 pub mod Sip
 pub mod Sizing
 pub mod States
+pub mod Stretches

@@ -9,13 +9,12 @@ ghost use Rattle.bloom_parts.specs.Content.{AreWords, content, index_of};
 mod atomic;
 mod by_hash;
 mod gathered;
-mod kernels;
 mod words;
 
 use crate::error::FilterError;
+use crate::slices;
 pub use atomic::{AtomicBitVec, AtomicWords};
 pub use gathered::gather;
-use kernels::{and_words, clear_words, or_words, same_words};
 use std::alloc::Global;
 use std::marker::Model;
 pub use words::Words;
@@ -148,8 +147,7 @@ impl BitVec {
         ensures content { (p : ℕ) → content self.new p ≡ false }
         ensures shape { length self.new ≡ length self.old }
     {
-        let mut turns = 0;
-        clear_words(self.words.as_mut_slice(), &mut turns);
+        slices::clear(self.words.as_mut_slice());
     }
 
     /// Turns on what is on in the other.
@@ -159,12 +157,7 @@ impl BitVec {
             ≡ (content self.old p || content other.now p) }
         ensures shape { length self.new ≡ length self.old }
     {
-        let mut turns = 0;
-        or_words(
-            self.words.as_mut_slice(),
-            other.words.as_slice(),
-            &mut turns,
-        );
+        slices::union(self.words.as_mut_slice(), other.words.as_slice());
     }
 
     /// Turns off what is off in the other.
@@ -174,12 +167,7 @@ impl BitVec {
             ≡ (content self.old p && content other.now p) }
         ensures shape { length self.new ≡ length self.old }
     {
-        let mut turns = 0;
-        and_words(
-            self.words.as_mut_slice(),
-            other.words.as_slice(),
-            &mut turns,
-        );
+        slices::intersect(self.words.as_mut_slice(), other.words.as_slice());
     }
 }
 
@@ -189,8 +177,7 @@ impl PartialEq for BitVec {
     ghost laws = { partial_equiv_from_equiv nat_list_eq_equiv };
 
     fn eq(&self, other: &Self) -> bool {
-        let mut turns = 0;
-        same_words(self.words.as_slice(), other.words.as_slice(), &mut turns)
+        slices::are_equal(self.words.as_slice(), other.words.as_slice())
     }
 }
 

@@ -7,4 +7,5 @@ pub mod error;
 pub mod hasher;
 pub mod laws;
 pub mod math;
+pub mod slices;
 pub mod text;

@@ -12,13 +12,10 @@ mod LawFacts
 mod LawLemmas
 mod ListFacts
 mod ListLemmas
-mod LookLemmas
 mod RateFacts
 mod RateLemmas
 mod ReplyLemmas
 mod SetFacts
-mod StretchLemmas
 mod TogetherLemmas
-mod TurnLemmas
 mod UnitedFacts
 mod UnitedLemmas

@@ -5,4 +5,3 @@ pub mod Filter
 pub mod Laws
 pub mod Replies
 pub mod SourceHash
-pub mod Stretches

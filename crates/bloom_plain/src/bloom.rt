@@ -8,7 +8,6 @@ ghost use Rattle.bloom_plain.specs.Replies.{CarriesOut};
 mod command;
 mod data;
 mod items;
-mod positions;
 mod rates;
 mod sets;
 mod together;
@@ -17,7 +16,6 @@ use bloom_parts::bit_vector::{BitVec, Words};
 use bloom_parts::hasher::DefaultHasher;
 pub use command::Command;
 pub use data::{BitsData, FilterData, shape_of_data};
-use positions::{contains_positions, insert_positions};
 pub use rates::expected_rate;
 use std::marker::Model;
 pub use together::insert_hashes;
@@ -112,7 +110,7 @@ impl<S> BloomFilter<S> {
         // The same, as a list of this one command.
         ensures same { CarriesOut self.old (operation.Insert hash ∷ []) self.new (result ∷ []) }
     {
-        insert_positions(&mut self.bits, self.num_hashes, hash)
+        self.bits.insert_positions(self.num_hashes, hash)
     }
 
     /// Whether all positions of a hash are on: false means that it was never inserted.
@@ -122,6 +120,6 @@ impl<S> BloomFilter<S> {
         // The same, as a list of this one command.
         ensures same { CarriesOut self.now (operation.Contains hash ∷ []) self.now (result ∷ []) }
     {
-        contains_positions(&self.bits, self.num_hashes, hash)
+        self.bits.contains_positions(self.num_hashes, hash)
     }
 }

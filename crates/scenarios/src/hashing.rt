@@ -1,5 +1,6 @@
 //! SipHash-1-3, its keys, and items, at values from outside.
 
+mod languages;
 mod nothing;
 mod vectors;
 

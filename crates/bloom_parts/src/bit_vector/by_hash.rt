@@ -1,29 +1,19 @@
-//! Calls that take a hash, and find its position by one multiplication.
-ghost use Rattle.std.specs.Prelude.{◌≡◌, ℕ, ◌*◌, ◌/◌, ◌%◌, ◌^◌, ◌<◌, ◌||◌, ◌==◌, if◌then◌else◌, length};
+//! Calls that take a hash: of its first position, which one multiplication finds, and of all of its
+//! positions.
+ghost use Rattle.std.specs.Prelude.{◌≡◌, ℕ, ◌*◌, ◌%◌, ◌^◌, ◌||◌, ◌==◌, if◌then◌else◌, length};
 ghost use Rattle.bloom_parts.specs.Content.{content, index_of};
+ghost use Rattle.bloom_parts.specs.Places.{positions, are_in};
 
 use super::BitVec;
-
-// The word in which a hash lies among so many words, and the number that has its bit alone. The
-// product's high half is the word, and the six bits below it are the bit.
-fn word_and_mask_of_hash(words: usize, hash: u64) -> (usize, u64)
-    ensures word { result.0 ≡ index_of (64 * words) hash / 64 }
-    ensures mask { result.1 ≡ 2 ^ (index_of (64 * words) hash % 64) }
-    ensures range { 0 < words → result.0 < words }
-{
-    let product = hash as u128 * words as u128;
-    let word = (product >> 64) as usize;
-    let bit = (product >> 58) % 64;
-    (word, 1 << bit)
-}
+use crate::slices;
+use crate::slices::by_hash;
 
 impl BitVec {
     /// Whether the position is on where a hash lies.
     pub fn check_hash(&self, hash: u64) -> bool
         ensures { result ≡ content self.now (index_of (64 * length self.now) hash) }
     {
-        let (word, mask) = word_and_mask_of_hash(self.len(), hash);
-        self.words[word] & mask > 0
+        by_hash::check_hash(self.words.as_slice(), hash)
     }
 
     /// Turns the position on where a hash lies, and answers the bit that this changed in its word.
@@ -38,10 +28,35 @@ impl BitVec {
             ≡ (content self.old p || p == index_of (64 * length self.old) hash) }
         ensures shape { length self.new ≡ length self.old }
     {
-        let (word, mask) = word_and_mask_of_hash(self.len(), hash);
-        let before = self.words[word];
-        let after = before | mask;
-        self.words[word] = after;
-        before ^ after
+        by_hash::turn_on_hash(self.words.as_mut_slice(), hash)
+    }
+
+    /// Turns on so many positions of a hash, and answers whether all were on just before.
+    #[inline(always)]
+    pub fn insert_positions(&mut self, num_hashes: u32, hash: u64) -> bool
+        ensures reply { result
+            ≡ are_in (64 * length self.old) num_hashes hash (content self.old) }
+        ensures content { (p : ℕ) → content self.new p
+            ≡ (content self.old p || positions (64 * length self.old) num_hashes hash p) }
+        ensures shape { length self.new ≡ length self.old }
+    {
+        slices::insert_positions(self.words.as_mut_slice(), num_hashes, hash)
+    }
+
+    /// Whether so many positions of a hash are all on.
+    #[inline(always)]
+    pub fn contains_positions(&self, num_hashes: u32, hash: u64) -> bool
+        ensures { result ≡ are_in (64 * length self.now) num_hashes hash (content self.now) }
+    {
+        slices::contains_positions(self.words.as_slice(), num_hashes, hash)
+    }
+
+    /// Whether so many positions of a hash are all on. It counts, so that no branch waits for a
+    /// word, and all words are asked for at once.
+    #[inline(always)]
+    pub fn contains_by_count(&self, num_hashes: u32, hash: u64) -> bool
+        ensures { result ≡ are_in (64 * length self.now) num_hashes hash (content self.now) }
+    {
+        slices::contains_by_count(self.words.as_slice(), num_hashes, hash)
     }
 }

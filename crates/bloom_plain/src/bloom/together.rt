@@ -9,7 +9,6 @@ ghost use Rattle.bloom_plain.specs.Filter.{contains};
 ghost use Rattle.bloom_plain.specs.Replies.{InsertsAll, InsertsItems, Queues};
 ghost use Rattle.bloom_plain.specs.SourceHash.{source_hash_of, lent_hash_of};
 
-use super::positions::contains_by_count;
 use crate::bloom::BloomFilter;
 use arrayvec::ArrayVec;
 use std::hash::{BuildHasher, Hash};
@@ -28,7 +27,7 @@ impl<S> BloomFilter<S> {
     fn counts_hash(&self, hash: u64) -> bool
         ensures { result ≡ contains self.now hash }
     {
-        contains_by_count(&self.bits, self.num_hashes, hash)
+        self.bits.contains_by_count(self.num_hashes, hash)
     }
 
     // Whether all of these hashes are contained. It branches on no word.

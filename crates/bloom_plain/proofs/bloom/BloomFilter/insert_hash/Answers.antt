@@ -8,7 +8,7 @@ returns-clause-inserts g c =
     let did = c.insert_positions in
     let inside = c.self.inside in
     let new : Filter g.row.S.Denot =
-    record { words = did.new.bits; hashes = inside.num_hashes; hasher = inside.hasher } in
+    record { words = did.new.self; hashes = inside.num_hashes; hasher = inside.hasher } in
     subst (λ old. Inserts old c.args.hash new did.result) c.self.view_is (record {
       answers = did.ensures.reply;
       bits = did.ensures.content;

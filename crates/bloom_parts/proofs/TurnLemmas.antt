@@ -1,0 +1,114 @@
+-- Stretches of the places of a hash that are turned on one after the other.
+use Rattle.std.proofs.Common.{◌≡◌, ℕ, zero, suc, ◌+◌, ◌*◌, Bool, true, false, ◌||◌, ◌&&◌, eqb, bit_or, List, length, refl, sym, subst, ◌∙◌, ap, arith}
+use Rattle.std.proofs.Math.Bool.{or-false, or_assoc}
+use Rattle.std.proofs.lemmas.Bool.{ne_eqb}
+use Rattle.std.proofs.lemmas.Nat.{le_or_l}
+use Rattle.std.specs.Int.Bits.{or_zero_l}
+use Rattle.bloom_parts.specs.Chain.{IsAt}
+use Rattle.bloom_parts.specs.Content.{content}
+use Rattle.bloom_parts.specs.Places.{positions, are_in}
+use Rattle.bloom_parts.specs.declared.hasher.chain.DoubleHasher.{DoubleHasher}
+use Rattle.bloom_parts.specs.Stretches.{positions_from, are_in_from, TurnsOn, GoesOn, TurnsOnNext, HasTurnedOn}
+use Rattle.bloom_parts.proofs.StretchLemmas.{positions_from-zero, are_in_from-zero, positions_from-start, are_in_from-start, positions_from-append, test-after}
+
+-- the `|` of two words is 0 exactly if both are
+none-of-both : (a b : ℕ) → eqb (bit_or a b) 0 ≡ (eqb a 0 && eqb b 0)
+none-of-both zero b = ap (λ n. eqb n 0) (or_zero_l b)
+none-of-both (suc a) b =
+    let some = le_or_l (suc a) b in
+    let both : eqb (bit_or (suc a) b) 0 ≡ false =
+    ne_eqb (bit_or (suc a) b) 0 (λ none. absurd (omega (arith, some, none))) in
+    let first : eqb (suc a) 0 ≡ false = ne_eqb (suc a) 0 (λ none. absurd (omega (arith, none))) in
+    both ∙ ap (λ c. c && eqb b 0) (sym first)
+
+-- two stretches are turned on one after the other
+turns_on-append : (i a b h : ℕ) (old mid new : List ℕ) (r s : Bool)
+    → TurnsOn i a h old mid r → TurnsOn (i + a) b h mid new s → TurnsOn i (a + b) h old new (r && s)
+turns_on-append i a b h old mid new r s one two =
+    let n = 64 * length old in
+    let size : 64 * length mid ≡ n = ap (λ k. 64 * k) one.shape in
+    record {
+      answers =
+          ap (λ c. c && s) one.answers
+          ∙ ap (λ c. are_in_from n i a h (content old) && c) two.answers
+          ∙ ap (λ m. are_in_from n i a h (content old) && are_in_from m (i + a) b h (content mid))
+          size
+          ∙ test-after n i a b h (content old) (content mid) one.bits;
+      bits = λ p.
+          two.bits p
+          ∙ ap (λ m. content mid p || positions_from m (i + a) b h p) size
+          ∙ ap (λ c. c || positions_from n (i + a) b h p) (one.bits p)
+          ∙ or_assoc (content old p) (positions_from n i a h p) (positions_from n (i + a) b h p)
+          ∙ ap (λ c. content old p || c) (sym (positions_from-append n i a b h p));
+      shape = two.shape ∙ one.shape;
+    }
+
+-- the same where one word gathers what was off
+turns_on-both : (i a b h : ℕ) (old mid new : List ℕ) (v w : ℕ) → TurnsOn i a h old mid (eqb v 0)
+    → TurnsOn (i + a) b h mid new (eqb w 0) → TurnsOn i (a + b) h old new (eqb (bit_or v w) 0)
+turns_on-both i a b h old mid new v w one two =
+    subst (TurnsOn i (a + b) h old new) (sym (none-of-both v w))
+    (turns_on-append i a b h old mid new (eqb v 0) (eqb w 0) one two)
+
+-- no place is turned on
+turns_on-none : (i h : ℕ) (words : List ℕ) → TurnsOn i 0 h words words true
+turns_on-none i h words = record {
+  answers = sym (are_in_from-zero (64 * length words) i h (content words));
+  bits = λ p.
+      sym (or-false (content words p))
+      ∙ ap (λ b. content words p || b) (sym (positions_from-zero (64 * length words) i h p));
+  shape = refl;
+}
+
+-- a chain goes on twice
+pub goes_on-then : (a b : ℕ) (x y z : DoubleHasher) → GoesOn a x y → GoesOn b y z
+    → GoesOn (a + b) x z
+goes_on-then a b x y z one two hash i at =
+    let same : i + a + b ≡ i + (a + b) = omega arith in
+    subst (λ m. IsAt hash m z) same (two hash (i + a) (one hash i at))
+
+-- a chain stays where it is
+pub goes_on-none : (x : DoubleHasher) → GoesOn 0 x x
+goes_on-none x hash i at = let same : i ≡ i + 0 = omega arith in subst (λ m. IsAt hash m x) same at
+
+-- the next places of a chain are turned on, and then those after them
+pub turns_on_next-then : (a b : ℕ) (x y : DoubleHasher) (old mid new : List ℕ) (v w : ℕ)
+    → GoesOn a x y → TurnsOnNext a x old mid v → TurnsOnNext b y mid new w
+    → TurnsOnNext (a + b) x old new (bit_or v w)
+turns_on_next-then a b x y old mid new v w moved one two hash i at =
+    turns_on-both i a b hash old mid new v w (one hash i at) (two hash (i + a) (moved hash i at))
+
+-- at the start of a chain no place has been turned on
+pub has_turned_on-none : (hash : ℕ) (words : List ℕ) (chain : DoubleHasher) → IsAt hash 0 chain
+    → HasTurnedOn hash 0 words words chain 0
+has_turned_on-none hash words chain at = record { stands = at; turned = turns_on-none 0 hash words }
+
+-- some more are turned on
+pub has_turned_on-then : (hash a b count : ℕ) (old mid new : List ℕ) (x y : DoubleHasher) (v w : ℕ)
+    → a + b ≡ count → HasTurnedOn hash a old mid x v → GoesOn b x y → TurnsOnNext b x mid new w
+    → HasTurnedOn hash count old new y (bit_or v w)
+has_turned_on-then hash a b count old mid new x y v w all done moved next =
+    let start : a ≡ 0 + a = omega arith in
+    let before =
+    subst (λ m. TurnsOn m b hash mid new (eqb w 0)) start (next hash a done.stands) in
+    record {
+      stands = subst (λ m. IsAt hash m y) all (moved hash a done.stands);
+      turned = subst (λ m. TurnsOn 0 m hash old new (eqb (bit_or v w) 0)) all
+          (turns_on-both 0 a b hash old mid new v w done.turned before);
+    }
+
+module _ (hash count k : ℕ) (old new : List ℕ) (chain : DoubleHasher) (was_off : ℕ)
+    (all : count ≡ k) (done : HasTurnedOn hash count old new chain was_off) where
+  -- once all places of a hash were turned on, the word tells whether all were on before
+  pub has_turned_on-reply : eqb was_off 0 ≡ are_in (64 * length old) k hash (content old)
+  has_turned_on-reply =
+      done.turned.answers ∙ are_in_from-start (64 * length old) count hash (content old)
+      ∙ ap (λ m. are_in (64 * length old) m hash (content old)) all
+
+  -- once all places of a hash were turned on, its positions are on besides what was
+  pub has_turned_on-content : (p : ℕ) → content new p
+      ≡ (content old p || positions (64 * length old) k hash p)
+  has_turned_on-content p =
+      done.turned.bits p
+      ∙ ap (λ b. content old p || b) (positions_from-start (64 * length old) count hash p)
+      ∙ ap (λ m. content old p || positions (64 * length old) m hash p) all

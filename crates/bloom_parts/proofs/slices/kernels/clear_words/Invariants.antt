@@ -1,0 +1,10 @@
+use Rattle.std.proofs.Common.{◌≡◌, ◌*◌}
+use Rattle.bloom_parts.proofs.ClearLemmas.{cleared}
+use Rattle.bloom_parts.proofs.slices.kernels.clear_words.Given as goal
+
+-- the groups so far are 0, the other words as they were
+abbrev pub invariant-groups : goal.invariant-groups
+invariant-groups l = record {
+  words : l.words ≡ cleared (8 * l.group) l.fn.words;
+  turns : l.turns ≡ l.group;
+}

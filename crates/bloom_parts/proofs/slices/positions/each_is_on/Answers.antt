@@ -1,0 +1,21 @@
+use Rattle.std.proofs.Common.{arith}
+use Rattle.bloom_parts.proofs.TurnLemmas.{goes_on-none, goes_on-then}
+use Rattle.bloom_parts.proofs.LookLemmas.{tells_next-none, tells_next-on, tells_next-stops}
+use Rattle.bloom_parts.proofs.slices.positions.each_is_on.Goals as goal
+
+pub places-init : goal.places-init
+places-init c = record { chain = goes_on-none _; on = tells_next-none _ _ }
+
+pub places-preserved : goal.places-preserved
+places-preserved c =
+    let next = c.next_is_on.ensures in record {
+      chain = goes_on-then c.places._place 1 _ _ _ c.places.invariant.chain next.moved;
+      on = tells_next-on _ _ _ _ _ c.places.invariant.chain c.places.invariant.on
+          c.if-not-next_is_on.false next.found;
+    }
+
+pub returns-then-not-next_is_on-clause-found : goal.returns-then-not-next_is_on-clause-found
+returns-then-not-next_is_on-clause-found c =
+    let before = c.places.invariant in
+    tells_next-stops c.places._place _ _ _ _ _ (omega (arith, c.places-test.true)) before.chain
+    before.on c.if-not-next_is_on.true c.next_is_on.ensures.found

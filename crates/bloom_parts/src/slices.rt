@@ -1,0 +1,52 @@
+//! The calls of a filter over words that lie anywhere: in a vector, or in memory that a caller from
+//! another language owns.
+//!
+//! `BitVec` and the library for C stand on these. Each word is of 64 bits, word 0 first.
+ghost use Rattle.std.specs.Prelude.{◌≡◌, ℕ, ◌||◌, ◌&&◌, ◌↔◌, false, IsTrue, length};
+ghost use Rattle.bloom_parts.specs.Content.{content};
+
+pub(crate) mod by_hash;
+mod kernels;
+mod positions;
+
+use kernels::{and_words, clear_words, or_words, same_words};
+pub use positions::{contains_by_count, contains_positions, insert_positions};
+
+/// Turns every position off.
+pub fn clear(words: &mut [u64])
+    ensures content { (p : ℕ) → content words.new p ≡ false }
+    ensures shape { length words.new ≡ length words.old }
+{
+    let mut turns = 0;
+    clear_words(words, &mut turns);
+}
+
+/// Turns on what is on in the other words.
+pub fn union(words: &mut [u64], other: &[u64])
+    requires { length words.old ≡ length other.now }
+    ensures content { (p : ℕ) → content words.new p
+        ≡ (content words.old p || content other.now p) }
+    ensures shape { length words.new ≡ length words.old }
+{
+    let mut turns = 0;
+    or_words(words, other, &mut turns);
+}
+
+/// Turns off what is off in the other words.
+pub fn intersect(words: &mut [u64], other: &[u64])
+    requires { length words.old ≡ length other.now }
+    ensures content { (p : ℕ) → content words.new p
+        ≡ (content words.old p && content other.now p) }
+    ensures shape { length words.new ≡ length words.old }
+{
+    let mut turns = 0;
+    and_words(words, other, &mut turns);
+}
+
+/// Whether there are as many words, and each is equal.
+pub fn are_equal(words: &[u64], other: &[u64]) -> bool
+    ensures { IsTrue result ↔ (words.now ≡ other.now) }
+{
+    let mut turns = 0;
+    same_words(words, other, &mut turns)
+}

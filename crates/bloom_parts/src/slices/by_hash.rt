@@ -1,0 +1,42 @@
+//! Where a hash lies among the bits of words, by one multiplication.
+ghost use Rattle.std.specs.Prelude.{◌≡◌, ℕ, ◌*◌, ◌/◌, ◌%◌, ◌^◌, ◌<◌, ◌≤◌, ◌||◌, ◌==◌, if◌then◌else◌, length};
+ghost use Rattle.bloom_parts.specs.Content.{content, index_of};
+
+// The word in which a hash lies among so many words, and the number that has its bit alone. The
+// product's high half is the word, and the six bits below it are the bit.
+fn word_and_mask_of_hash(words: usize, hash: u64) -> (usize, u64)
+    ensures word { result.0 ≡ index_of (64 * words) hash / 64 }
+    ensures mask { result.1 ≡ 2 ^ (index_of (64 * words) hash % 64) }
+    ensures range { 0 < words → result.0 < words }
+{
+    let product = hash as u128 * words as u128;
+    let word = (product >> 64) as usize;
+    let bit = (product >> 58) % 64;
+    (word, 1 << bit)
+}
+
+// Whether the position is on where a hash lies.
+pub(crate) fn check_hash(words: &[u64], hash: u64) -> bool
+    requires { 1 ≤ length words.now }
+    ensures { result ≡ content words.now (index_of (64 * length words.now) hash) }
+{
+    let (word, mask) = word_and_mask_of_hash(words.len(), hash);
+    words[word] & mask > 0
+}
+
+// Turns the position on where a hash lies, and answers the bit that this changed in its word.
+pub(crate) fn turn_on_hash(words: &mut [u64], hash: u64) -> u64
+    requires { 1 ≤ length words.old }
+    ensures changed { let position = index_of (64 * length words.old) hash in
+        result ≡ (if content words.old position then 0 else 2 ^ (position % 64)) }
+    ensures reply { (result == 0) ≡ content words.old (index_of (64 * length words.old) hash) }
+    ensures content { (p : ℕ) → content words.new p
+        ≡ (content words.old p || p == index_of (64 * length words.old) hash) }
+    ensures shape { length words.new ≡ length words.old }
+{
+    let (word, mask) = word_and_mask_of_hash(words.len(), hash);
+    let before = words[word];
+    let after = before | mask;
+    words[word] = after;
+    before ^ after
+}

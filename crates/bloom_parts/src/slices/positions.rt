@@ -1,0 +1,133 @@
+//! The loops over the positions of a hash. They branch as seldom as they can, since no processor
+//! foresees whether one position is on.
+ghost use Rattle.std.specs.Prelude.{◌≡◌, ℕ, ◌*◌, ◌≤◌, ◌||◌, length, IsTrue};
+ghost use Rattle.bloom_parts.specs.Content.{content};
+ghost use Rattle.bloom_parts.specs.Places.{positions, are_in};
+ghost use Rattle.bloom_parts.specs.Stretches.{GoesOn, TurnsOnNext, TellsNext};
+
+use super::by_hash::{check_hash, turn_on_hash};
+use crate::hasher::DoubleHasher;
+
+// Turns on the next place of a hash. The answer is 0 exactly if it was on just before.
+fn turn_on_next(words: &mut [u64], chain: &mut DoubleHasher) -> u64
+    requires { 1 ≤ length words.old }
+    ensures turns_on { TurnsOnNext 1 chain.old words.old words.new result }
+    ensures moved { GoesOn 1 chain.old chain.new }
+{
+    turn_on_hash(words, chain.next())
+}
+
+// Turns on the next four places of a hash. The answer is 0 exactly if all were on just before.
+fn turn_on_four(words: &mut [u64], chain: &mut DoubleHasher) -> u64
+    requires { 1 ≤ length words.old }
+    ensures turns_on { TurnsOnNext 4 chain.old words.old words.new result }
+    ensures moved { GoesOn 4 chain.old chain.new }
+{
+    let first = turn_on_next(words, chain);
+    let second = turn_on_next(words, chain);
+    let third = turn_on_next(words, chain);
+    let fourth = turn_on_next(words, chain);
+    first | second | third | fourth
+}
+
+/// Turns on all positions of a hash, and answers whether all were on just before. It takes four in a
+/// turn and then the rest, and gathers in one word what was off.
+#[inline(always)]
+pub fn insert_positions(words: &mut [u64], num_hashes: u32, hash: u64) -> bool
+    requires { 1 ≤ length words.old }
+    ensures reply { result ≡ are_in (64 * length words.old) num_hashes hash (content words.old) }
+    ensures content { (p : ℕ) → content words.new p
+        ≡ (content words.old p || positions (64 * length words.old) num_hashes hash p) }
+    ensures shape { length words.new ≡ length words.old }
+{
+    let mut chain = DoubleHasher::new(hash);
+    let mut was_off: u64 = 0;
+    'turns: for _turn in 0..num_hashes / 4 {
+        was_off |= turn_on_four(words, &mut chain);
+    }
+    'rest: for _place in 0..num_hashes % 4 {
+        was_off |= turn_on_next(words, &mut chain);
+    }
+    was_off == 0
+}
+
+// Whether the next place of a hash is on.
+fn next_is_on(words: &[u64], chain: &mut DoubleHasher) -> bool
+    requires { 1 ≤ length words.now }
+    ensures found { TellsNext 1 chain.old words.now result }
+    ensures moved { GoesOn 1 chain.old chain.new }
+{
+    check_hash(words, chain.next())
+}
+
+// Whether the next three places of a hash are on. It counts, which needs no branch.
+fn three_are_on(words: &[u64], chain: &mut DoubleHasher) -> bool
+    requires { 1 ≤ length words.now }
+    ensures found { TellsNext 3 chain.old words.now result }
+    ensures moved { GoesOn 3 chain.old chain.new }
+{
+    let first = next_is_on(words, chain);
+    let second = next_is_on(words, chain);
+    let third = next_is_on(words, chain);
+    u32::from(first) + u32::from(second) + u32::from(third) == 3
+}
+
+// Whether the next `count` places of a hash are on. It counts, which needs no branch.
+fn all_are_on(words: &[u64], chain: &mut DoubleHasher, count: u32) -> bool
+    requires { 1 ≤ length words.now }
+    ensures { TellsNext count chain.old words.now result }
+{
+    let mut on: u32 = 0;
+    'places: for _place in 0..count {
+        on += u32::from(next_is_on(words, chain));
+    }
+    on == count
+}
+
+// Whether the next `count` places of a hash are on. It stops at the first that is off.
+fn each_is_on(words: &[u64], chain: &mut DoubleHasher, count: u32) -> bool
+    requires { 1 ≤ length words.now }
+    ensures found { TellsNext count chain.old words.now result }
+    ensures moved { IsTrue result → GoesOn count chain.old chain.new }
+{
+    'places: for _place in 0..count {
+        if !next_is_on(words, chain) {
+            return false;
+        }
+    }
+    true
+}
+
+/// Whether all positions of a hash are on. Up to three are taken together. Of more, the first three
+/// are, which tell most hashes apart that were never inserted; then it stops at the first that is
+/// off, and takes the last four, or as many as are left, together.
+#[inline(always)]
+pub fn contains_positions(words: &[u64], num_hashes: u32, hash: u64) -> bool
+    requires { 1 ≤ length words.now }
+    ensures { result ≡ are_in (64 * length words.now) num_hashes hash (content words.now) }
+{
+    let mut chain = DoubleHasher::new(hash);
+    if num_hashes < 4 {
+        return all_are_on(words, &mut chain, num_hashes);
+    }
+    if !three_are_on(words, &mut chain) {
+        return false;
+    }
+    let rest = num_hashes - 3;
+    let last = rest.min(4);
+    if !each_is_on(words, &mut chain, rest - last) {
+        return false;
+    }
+    all_are_on(words, &mut chain, last)
+}
+
+/// Whether all positions of a hash are on. It counts, so that no branch waits for a word, and all
+/// words are asked for at once.
+#[inline(always)]
+pub fn contains_by_count(words: &[u64], num_hashes: u32, hash: u64) -> bool
+    requires { 1 ≤ length words.now }
+    ensures { result ≡ are_in (64 * length words.now) num_hashes hash (content words.now) }
+{
+    let mut chain = DoubleHasher::new(hash);
+    all_are_on(words, &mut chain, num_hashes)
+}

@@ -1,5 +1,0 @@
-use Rattle.bloom_plain.proofs.LookLemmas.{tells-all}
-use Rattle.bloom_plain.proofs.bloom.positions.contains_by_count.Goals as goal
-
-pub returns : goal.returns
-returns c = tells-all _ _ _ _ c.new-chain.ensures _ c.all_are_on.ensures

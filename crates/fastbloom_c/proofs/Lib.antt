@@ -1,0 +1,2 @@
+mod NoWordLemmas
+mod PlanFacts

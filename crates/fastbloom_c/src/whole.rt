@@ -1,0 +1,65 @@
+//! Calls on all of a filter, or on two of them.
+ghost use Rattle.std.specs.Prelude.{◌≡◌, ◌↔◌, ℕ, ◌≤◌, ◌||◌, ◌&&◌, false, IsTrue, length};
+ghost use Rattle.bloom_parts.specs.Content.{content};
+
+use bloom_parts::slices;
+
+/// Turns every position off, and answers whether there are words.
+#[unsafe(no_mangle)]
+pub extern "C" fn fastbloom_clear(words: &mut [u64]) -> bool
+    ensures done { IsTrue result ↔ (1 ≤ length words.old) }
+    ensures content { (p : ℕ) → content words.new p ≡ false }
+    ensures shape { length words.new ≡ length words.old }
+{
+    slices::clear(words);
+    !words.is_empty()
+}
+
+/// Turns on what is on in the other filter, and answers whether it did.
+///
+/// No words, or other than as many, answer false, and nothing changes.
+#[unsafe(no_mangle)]
+pub extern "C" fn fastbloom_union(words: &mut [u64], other: &[u64]) -> bool
+    ensures done { IsTrue result
+        ↔ ((1 ≤ length words.old) × (length words.old ≡ length other.now)) }
+    ensures content { IsTrue result → (p : ℕ) → content words.new p
+        ≡ (content words.old p || content other.now p) }
+    ensures stays { result ≡ false → words.new ≡ words.old }
+    ensures shape { length words.new ≡ length words.old }
+{
+    if words.len() != other.len() || words.is_empty() {
+        return false;
+    }
+    slices::union(words, other);
+    true
+}
+
+/// Turns off what is off in the other filter, and answers whether it did.
+///
+/// No words, or other than as many, answer false, and nothing changes.
+#[unsafe(no_mangle)]
+pub extern "C" fn fastbloom_intersect(words: &mut [u64], other: &[u64]) -> bool
+    ensures done { IsTrue result
+        ↔ ((1 ≤ length words.old) × (length words.old ≡ length other.now)) }
+    ensures content { IsTrue result → (p : ℕ) → content words.new p
+        ≡ (content words.old p && content other.now p) }
+    ensures stays { result ≡ false → words.new ≡ words.old }
+    ensures shape { length words.new ≡ length words.old }
+{
+    if words.is_empty() || words.len() != other.len() {
+        return false;
+    }
+    slices::intersect(words, other);
+    true
+}
+
+/// Whether the words of two filters are equal. No words answer false.
+#[unsafe(no_mangle)]
+pub extern "C" fn fastbloom_equal(words: &[u64], other: &[u64]) -> bool
+    ensures { IsTrue result ↔ ((1 ≤ length words.now) × (words.now ≡ other.now)) }
+{
+    if words.is_empty() {
+        return false;
+    }
+    slices::are_equal(words, other)
+}

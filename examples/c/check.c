@@ -1,0 +1,212 @@
+/* Calls each function, and compares with values from outside: `check SESSIONS`.
+ *
+ * The lines that it prints are those of the other languages' checks. Its answers by hash are those of
+ * the original crate, fastbloom 0.17.0, in the sessions; its hashes those of the crate siphasher
+ * 0.3.10. */
+#include "fastbloom.h"
+
+#include <inttypes.h>
+#include <stdio.h>
+#include <stdlib.h>
+#include <string.h>
+
+static unsigned checks;
+
+static void check(bool holds, int line, const char *text) {
+    checks++;
+    if (!holds) {
+        fprintf(stderr, "check: line %d: %s\n", line, text);
+        exit(1);
+    }
+}
+
+#define CHECK(x) check((x), __LINE__, #x)
+
+static const uint8_t zero_key[16];
+static const uint8_t counting_key[16] = {0, 1, 2, 3, 4, 5, 6, 7, 8, 9, 10, 11, 12, 13, 14, 15};
+
+static uint64_t *zero_words(size_t num_words) {
+    uint64_t *words = calloc(num_words ? num_words : 1, sizeof *words);
+    CHECK(words != NULL);
+    return words;
+}
+
+/* Sizes and refusals. A refusal writes neither number. */
+static void plans(void) {
+    size_t words = 7;
+    uint32_t hashes = 9;
+    CHECK(fastbloom_plan(0, 1, 10, &words, &hashes) == FASTBLOOM_ZERO_RATE);
+    CHECK(fastbloom_plan(1, 0, 10, &words, &hashes) == FASTBLOOM_ZERO_RATE);
+    CHECK(fastbloom_plan(1, 2, 12786308645202655227u, &words, &hashes) == FASTBLOOM_SIZE_OVERFLOW);
+    CHECK(fastbloom_plan(1, 2, 12786308645202655226u, &words, &hashes) == FASTBLOOM_TOO_MANY_WORDS);
+    CHECK(words == 7 && hashes == 9);
+    CHECK(fastbloom_plan(1, 2, 1000, &words, &hashes) == 0 && words == 23);
+    CHECK(fastbloom_plan(3, 2, 1000, &words, &hashes) == 0 && words == 1 && hashes == 1);
+    CHECK(fastbloom_plan(3, 2, 0, &words, &hashes) == 0 && words == 1 && hashes == 44);
+    CHECK(fastbloom_num_bits(0) == 0 && fastbloom_num_bits(225) == 14400);
+    CHECK(fastbloom_num_bits(((size_t)1 << 58) - 1) == SIZE_MAX - 63);
+    CHECK(fastbloom_num_bits((size_t)1 << 58) == 0 && fastbloom_num_bits(SIZE_MAX) == 0);
+}
+
+/* SipHash-1-3 under the key bytes 0 to 15, of bytes that go up by seven from three. */
+static void hashes(void) {
+    static const struct {
+        size_t len;
+        uint64_t hash;
+    } rows[] = {
+        {0, 12370263754033579228u}, {1, 3398045899470988360u},  {2, 16731370823898788679u},
+        {3, 17733595345121169605u}, {7, 14029210848122290102u}, {8, 6796821499482615526u},
+        {9, 2778229878666693074u},  {15, 6323795259543584655u}, {16, 5333367587329558403u},
+        {17, 12612916429403578116u}};
+    uint8_t bytes[17];
+    for (size_t i = 0; i < sizeof bytes; i++) bytes[i] = (uint8_t)(3 + 7 * i);
+    for (size_t i = 0; i < sizeof rows / sizeof *rows; i++)
+        CHECK(fastbloom_hash(counting_key, bytes, rows[i].len) == rows[i].hash);
+}
+
+static size_t size_of(const char *text) {
+    return (size_t)strtoull(text, NULL, 10);
+}
+
+/* One session: the lines of its input, and then of its output. */
+static void session(char **line, char **end) {
+    char *hashes_text;
+    size_t num_words = (size_t)strtoull(*line + strlen("bloom "), &hashes_text, 10);
+    uint32_t num_hashes = (uint32_t)size_of(hashes_text);
+    uint64_t *words = zero_words(num_words);
+    char **input = line + 1, **output = input;
+    while (output < end && (*output)[0] == '>') output++;
+    for (; input < end && (*input)[0] == '>'; input++) {
+        const char *command = *input + 2;
+        uint64_t hash = command[1] ? strtoull(command + 2, NULL, 10) : 0;
+        if (command[0] == 'z') {
+            CHECK(fastbloom_clear(words, num_words));
+        } else if (command[0] == 'w') {
+            for (size_t i = 0; i < num_words; i++, output++)
+                CHECK(output < end && strtoull(*output, NULL, 16) == words[i]);
+        } else {
+            bool answer = command[0] == 'i'
+                              ? fastbloom_insert_hash(words, num_words, num_hashes, hash)
+                              : fastbloom_contains_hash(words, num_words, num_hashes, hash);
+            CHECK(output < end && answer == (strcmp(*output, "true") == 0));
+            output++;
+        }
+    }
+    CHECK(output == end);
+    free(words);
+}
+
+/* The sessions of a file, an empty line after each. */
+static void sessions(const char *path) {
+    static char text[1 << 16];
+    static char *lines[1 << 12];
+    FILE *file = fopen(path, "rb");
+    CHECK(file != NULL);
+    size_t length = fread(text, 1, sizeof text - 1, file);
+    CHECK(length > 0 && length < sizeof text - 1);
+    fclose(file);
+    size_t count = 0, first = 0, played = 0;
+    for (char *at = text; at != NULL && count < sizeof lines / sizeof *lines;) {
+        char *next = strchr(at, '\n');
+        if (next != NULL) *next++ = '\0';
+        if (at[0] != '#') lines[count++] = at;
+        at = next;
+    }
+    for (size_t i = 0; i < count; i++) {
+        if (lines[i][0] != '\0') continue;
+        if (i > first) {
+            session(lines + first, lines + i);
+            played++;
+        }
+        first = i + 1;
+    }
+    CHECK(played == 40);
+    printf("sessions %zu\n", played);
+}
+
+/* A word that was drawn. */
+static uint64_t drawn(uint64_t *state) {
+    *state = *state * 6364136223846793005u + 1442695040888963407u;
+    return *state ^ (*state >> 29);
+}
+
+/* Calls on all words, at each number of words up to forty; the words before and after stay. */
+static void whole(void) {
+    uint64_t state = 1, a[42], b[42], was[42];
+    for (size_t n = 1; n <= 40; n++) {
+        for (size_t i = 0; i < 42; i++) was[i] = a[i] = drawn(&state), b[i] = drawn(&state);
+        CHECK(!fastbloom_equal(a + 1, n, b + 1, n));
+        CHECK(fastbloom_union(a + 1, n, b + 1, n));
+        for (size_t i = 0; i < 42; i++) CHECK(a[i] == (i >= 1 && i <= n ? was[i] | b[i] : was[i]));
+        CHECK(fastbloom_intersect(a + 1, n, b + 1, n));
+        for (size_t i = 0; i < 42; i++) CHECK(a[i] == (i >= 1 && i <= n ? b[i] : was[i]));
+        CHECK(fastbloom_equal(a + 1, n, b + 1, n));
+        a[n] ^= 1;
+        CHECK(!fastbloom_equal(a + 1, n, b + 1, n));
+        CHECK(fastbloom_clear(a + 1, n));
+        for (size_t i = 0; i < 42; i++) CHECK(a[i] == (i >= 1 && i <= n ? 0 : was[i]));
+    }
+}
+
+/* No words, and other than as many, answer false and change nothing. */
+static void refused(void) {
+    uint64_t state = 5, a[9], b[9], was[9];
+    for (size_t i = 0; i < 9; i++) was[i] = a[i] = drawn(&state), b[i] = drawn(&state);
+    CHECK(!fastbloom_insert_hash(a, 0, 3, 1) && !fastbloom_contains_hash(a, 0, 3, 1));
+    CHECK(!fastbloom_insert(a, 0, 3, zero_key, zero_key, 1));
+    CHECK(!fastbloom_contains(a, 0, 3, zero_key, zero_key, 1));
+    CHECK(!fastbloom_clear(a, 0) && !fastbloom_equal(a, 0, b, 0));
+    CHECK(!fastbloom_union(a, 0, b, 0) && !fastbloom_intersect(a, 0, b, 0));
+    CHECK(!fastbloom_union(a, 8, b, 9) && !fastbloom_union(a, 9, b, 8));
+    CHECK(!fastbloom_intersect(a, 8, b, 9) && !fastbloom_intersect(a, 9, b, 8));
+    CHECK(!fastbloom_equal(a, 8, a, 9) && !fastbloom_equal(a, 9, a, 8));
+    CHECK(memcmp(a, was, sizeof a) == 0);
+    /* no hashes count as one */
+    uint64_t one[3] = {0}, none[3] = {0};
+    CHECK(!fastbloom_insert_hash(one, 3, 1, 42) && !fastbloom_insert_hash(none, 3, 0, 42));
+    CHECK(fastbloom_equal(one, 3, none, 3) && fastbloom_contains_hash(none, 3, 0, 42));
+}
+
+/* The filter that each language builds: item0, item1 and so on under the zero key. */
+static void items(void) {
+    size_t num_words;
+    uint32_t num_hashes;
+    CHECK(fastbloom_plan(1, 1000, 1000, &num_words, &num_hashes) == 0);
+    uint64_t *words = zero_words(num_words);
+    unsigned wrong = 0;
+    for (int i = 0; i < 101000; i++) {
+        char text[16];
+        size_t length = (size_t)snprintf(text, sizeof text, "item%d", i);
+        const uint8_t *bytes = (const uint8_t *)text;
+        if (i < 1000) {
+            fastbloom_insert(words, num_words, num_hashes, zero_key, bytes, length);
+            CHECK(fastbloom_contains(words, num_words, num_hashes, zero_key, bytes, length));
+            uint64_t hash = fastbloom_hash(zero_key, bytes, length);
+            CHECK(fastbloom_insert_hash(words, num_words, num_hashes, hash));
+        } else {
+            wrong += fastbloom_contains(words, num_words, num_hashes, zero_key, bytes, length);
+        }
+    }
+    uint64_t digest = 1469598103934665603u;
+    for (size_t i = 0; i < num_words; i++) digest = (digest ^ words[i]) * 1099511628211u;
+    printf("words %zu hashes %" PRIu32 "\n", num_words, num_hashes);
+    printf("hash %016" PRIx64 "\n", fastbloom_hash(counting_key, counting_key, 15));
+    printf("digest %016" PRIx64 "\n", digest);
+    printf("false %u of 100000\n", wrong);
+    free(words);
+}
+
+int main(int argc, char **argv) {
+    if (argc != 2) {
+        fprintf(stderr, "usage: check SESSIONS\n");
+        return 2;
+    }
+    plans();
+    hashes();
+    sessions(argv[1]);
+    whole();
+    refused();
+    items();
+    printf("checks %u\n", checks);
+    return 0;
+}
