@@ -1,6 +1,7 @@
 /* What an insert by hash costs: `bench [KEYS [HASHES]]`, into ten bits a key.
  *
  * It prints how many answered true and the nanoseconds of one call. */
+#define _POSIX_C_SOURCE 199309L
 #include "fastbloom.h"
 
 #include <inttypes.h>
