@@ -30,8 +30,9 @@ fn turn_on_four(words: &mut [u64], chain: &mut DoubleHasher) -> u64
     first | second | third | fourth
 }
 
-/// Turns on all positions of a hash, and answers whether all were on just before. It takes four in a
-/// turn and then the rest, and gathers in one word what was off.
+/// Turns on all positions of a hash, and answers whether all were on just before.
+///
+/// It takes four in a turn and then the rest, and gathers in one word what was off.
 #[inline(always)]
 pub fn insert_positions(words: &mut [u64], num_hashes: u32, hash: u64) -> bool
     requires { 1 ≤ length words.old }
@@ -98,9 +99,11 @@ fn each_is_on(words: &[u64], chain: &mut DoubleHasher, count: u32) -> bool
     true
 }
 
-/// Whether all positions of a hash are on. Up to three are taken together. Of more, the first three
-/// are, which tell most hashes apart that were never inserted; then it stops at the first that is
-/// off, and takes the last four, or as many as are left, together.
+/// Whether all positions of a hash are on.
+///
+/// Up to three are taken together. Of more, the first three are, which tell most hashes apart that
+/// were never inserted; then it stops at the first that is off, and takes the last four, or as many
+/// as are left, together.
 #[inline(always)]
 pub fn contains_positions(words: &[u64], num_hashes: u32, hash: u64) -> bool
     requires { 1 ≤ length words.now }
@@ -121,8 +124,9 @@ pub fn contains_positions(words: &[u64], num_hashes: u32, hash: u64) -> bool
     all_are_on(words, &mut chain, last)
 }
 
-/// Whether all positions of a hash are on. It counts, so that no branch waits for a word, and all
-/// words are asked for at once.
+/// Whether all positions of a hash are on.
+///
+/// It counts, so that no branch waits for a word, and all words are asked for at once.
 #[inline(always)]
 pub fn contains_by_count(words: &[u64], num_hashes: u32, hash: u64) -> bool
     requires { 1 ≤ length words.now }

@@ -2,9 +2,9 @@
 
 use fastbloom::{BloomFilter, FilterError, Rate, Text};
 
-// item0 to item999 under the zero key, at one in a thousand: what the checks in examples/ build from
-// C, Python and Rust. The numbers and the digest of the words are those of the model in bin/compare,
-// over SipHash-1-3 of the bytes of each text.
+// item0 to item999 under the zero key, at one in a thousand: what the checks in examples/ build
+// from C, Python and Rust. The numbers and the digest of the words are those of the model in
+// bin/compare, over SipHash-1-3 of the bytes of each text.
 #[test]
 fn texts_make_the_filter_of_other_languages(rt: HostRuntime) -> Result<(), FilterError> {
     let builder = BloomFilter::with_false_pos(Rate::new(1, 1000)?);
