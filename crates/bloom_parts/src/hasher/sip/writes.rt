@@ -25,7 +25,8 @@ impl Hasher for RandomDefaultHasher {
         state.answer()
     }
 
-    #[inline]
+    // Inlined, so that what the hasher keeps stays in registers from the text to its end.
+    #[inline(always)]
     fn write(&mut self, bytes: &[u8])
         ensures state { self.new ≡ hashed.write self.old bytes.now }
         ensures taken { Takes self.old self.new bytes.now }
@@ -47,7 +48,9 @@ impl Hasher for RandomDefaultHasher {
         ensures state { self.new ≡ fold hashed.write self.old (fed.u8 i) }
         ensures taken { Takes self.old self.new (to_le_bytes w8 i) }
     {
-        self.write(&u8::to_le_bytes(i));
+        // So a byte never goes past the end of a word.
+        prove!(self.length % 8 < 8);
+        self.fill(&u8::to_le_bytes(i));
     }
 
     #[inline]
