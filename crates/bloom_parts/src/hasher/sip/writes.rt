@@ -8,6 +8,18 @@ ghost use Rattle.bloom_parts.specs.Hashed.{Takes, Answers};
 use super::RandomDefaultHasher;
 use std::hash::Hasher;
 
+impl RandomDefaultHasher {
+    // Takes in bytes as `write` does. It isn't copied into its callers, where it would slow down what
+    // they mostly do.
+    #[inline(never)]
+    fn write_apart(&mut self, bytes: &[u8])
+        ensures state { self.new ≡ hashed.write self.old bytes.now }
+        ensures taken { Takes self.old self.new bytes.now }
+    {
+        self.write(bytes);
+    }
+}
+
 impl Hasher for RandomDefaultHasher {
     ghost write = { hashed.write };
 
@@ -81,7 +93,7 @@ impl Hasher for RandomDefaultHasher {
         if self.length % 8 == 0 {
             self.push_words(&[u64::to_le_bytes(i)]);
         } else {
-            self.write(&u64::to_le_bytes(i));
+            self.write_apart(&u64::to_le_bytes(i));
         }
     }
 
