@@ -2,6 +2,7 @@
 //! start to the whole filter, so threads, memory and unions count.
 
 use crate::filters::{filter_for, hash_of};
+use crate::plan::Plan;
 use crate::table::Row;
 use anyhow::bail;
 use fastbloom::{BloomFilter, Gate, Shape, fill};
@@ -57,19 +58,21 @@ fn insert_all(filter: &mut BloomFilter, hashes: &Vec<u64>) {
 }
 
 // The row of one thread, which makes the filter and inserts every hash.
-fn measure_alone<R: Print + AllocGlobal + Clock>(
-    rt: &R,
-    keys: u32,
-    rounds: u32,
-) -> anyhow::Result<()> {
-    let hashes = hashes_of(rt.alloc(), 0, u64::from(keys))?;
-    let mut row = Row::new("inserts by one thread", 1, u64::from(keys));
-    'rounds: for _round in 0..rounds {
+fn measure_alone<R: Print + AllocGlobal + Clock>(rt: &R, plan: &Plan) -> anyhow::Result<()> {
+    let mut row = Row::new(
+        plan,
+        "inserts by one thread",
+        1,
+        plan.count(),
+        "found after it",
+    );
+    let hashes = hashes_of(rt.alloc(), 0, row.wanted_operations())?;
+    'rounds: for _round in 0..row.rounds() {
         let start = Instant::now(rt)?;
-        let mut filter = filter_for(rt.alloc(), keys, 7)?;
+        let mut filter = filter_for(rt.alloc(), plan.keys, 7)?;
         insert_all(&mut filter, &hashes);
         let time = start.elapsed(rt)?;
-        row.add(found(&filter, u64::from(keys)), time);
+        row.add(found(&filter, plan.count()), time);
     }
     Ok(row.print(rt)?)
 }
@@ -77,22 +80,27 @@ fn measure_alone<R: Print + AllocGlobal + Clock>(
 // The row of so many workers.
 fn measure_workers<R: Print + AllocGlobal + Clock + Threads>(
     rt: &R,
-    keys: u32,
-    rounds: u32,
+    plan: &Plan,
     workers: u32,
 ) -> anyhow::Result<()> {
-    let Ok(shape) = Shape::new((keys as usize * 10).max(1), 7) else {
+    let Ok(shape) = Shape::new((plan.keys as usize * 10).max(1), 7) else {
         bail!("no such shape");
     };
     let gate = Arc::new(rt.alloc(), Open)?;
-    let mut row = Row::new("fill by workers:", workers, u64::from(keys));
-    'rounds: for _round in 0..rounds {
-        let parts = parts_of(rt.alloc(), u64::from(keys), u64::from(workers))?;
+    let mut row = Row::new(
+        plan,
+        "fill by workers:",
+        workers,
+        plan.count(),
+        "found after it",
+    );
+    'rounds: for _round in 0..row.rounds() {
+        let parts = parts_of(rt.alloc(), plan.count(), u64::from(workers))?;
         let gate = Arc::try_clone(&gate)?;
         let start = Instant::now(rt)?;
         let filter = fill(rt, rt.alloc(), gate, shape, parts)?;
         let time = start.elapsed(rt)?;
-        row.add(found(&filter, u64::from(keys)), time);
+        row.add(found(&filter, plan.count()), time);
     }
     Ok(row.print(rt)?)
 }
@@ -100,12 +108,11 @@ fn measure_workers<R: Print + AllocGlobal + Clock + Threads>(
 /// The rows of one thread, and of one, two and four workers.
 pub fn measure<R: Print + AllocGlobal + Clock + Threads>(
     rt: &R,
-    keys: u32,
-    rounds: u32,
+    plan: &Plan,
 ) -> anyhow::Result<()> {
-    measure_alone(rt, keys, rounds)?;
+    measure_alone(rt, plan)?;
     'counts: for workers in [1, 2, 4] {
-        measure_workers(rt, keys, rounds, workers)?;
+        measure_workers(rt, plan, workers)?;
     }
     Ok(())
 }

@@ -3,7 +3,7 @@ ghost use Rattle.std.specs.Prelude.{◌≡◌, ◌*◌, IfOk, max, replicate};
 ghost use Rattle.fastbloom.specs.Builders.{words_for};
 
 use fastbloom::{AtomicBloomFilter, BloomFilter, FilterError};
-use std::alloc::Global;
+use std::alloc::{AllocError, Global};
 
 /// An empty filter with ten bits for each key, and one bit at least.
 pub fn filter_for(alloc: Global, keys: u32, num_hashes: u32) -> Result<BloomFilter, FilterError>
@@ -42,4 +42,22 @@ pub fn hash_of(key: u64) -> u64 {
 #[inline]
 pub fn foreign_hash_of(key: u64) -> u64 {
     hash_of(key.wrapping_add(1 << 40))
+}
+
+/// The numbers of keys below this one.
+pub fn numbers_to(alloc: Global, end: u64) -> Result<Vec<u64>, AllocError> {
+    let mut numbers = Vec::new(alloc);
+    'keys: for key in 0..end {
+        numbers.push(key)?;
+    }
+    Ok(numbers)
+}
+
+/// The number of words of a filter of so many bits, or 0 where there are no keys and nothing is
+/// measured.
+pub fn measured_words(bits: usize, keys: u32) -> u64 {
+    if keys == 0 {
+        return 0;
+    }
+    bits as u64 / 64
 }

@@ -1,10 +1,15 @@
 //! The calls that take a hash.
 
 use crate::filters::{filter_for, foreign_hash_of, hash_of};
+use crate::plan::Plan;
 use crate::table::Row;
 use fastbloom::BloomFilter;
 use std::rt::Clock;
 use std::time::Instant;
+
+const HIT: &'static str = "contains_hash, hit";
+
+const MISS: &'static str = "contains_hash, miss";
 
 #[inline(never)]
 fn insert_keys(filter: &mut BloomFilter, keys: u64) -> u64 {
@@ -38,34 +43,29 @@ fn contains_foreign_keys(filter: &BloomFilter, keys: u64, round: u32) -> u64 {
     answers
 }
 
-// The row of inserts. It leaves the keys in the filter.
+// The row of inserts.
 fn measure_inserts<R: Print + Clock>(
     rt: &R,
+    plan: &Plan,
     filter: &mut BloomFilter,
-    keys: u64,
-    rounds: u32,
 ) -> anyhow::Result<()> {
-    let mut row = Row::new("insert_hash", filter.num_hashes(), keys);
-    'rounds: for _round in 0..rounds {
+    let hashes = filter.num_hashes();
+    let mut row = Row::new(plan, "insert_hash", hashes, plan.count(), "true");
+    'rounds: for _round in 0..row.rounds() {
         filter.clear();
         let start = Instant::now(rt)?;
-        let answers = insert_keys(filter, keys);
+        let answers = insert_keys(filter, plan.count());
         row.add(answers, start.elapsed(rt)?);
     }
     Ok(row.print(rt)?)
 }
 
 // The row of look-ups of keys that the filter has.
-fn measure_hits<R: Print + Clock>(
-    rt: &R,
-    filter: &BloomFilter,
-    keys: u64,
-    rounds: u32,
-) -> anyhow::Result<()> {
-    let mut row = Row::new("contains_hash, hit", filter.num_hashes(), keys);
-    'rounds: for _round in 0..rounds {
+fn measure_hits<R: Print + Clock>(rt: &R, plan: &Plan, filter: &BloomFilter) -> anyhow::Result<()> {
+    let mut row = Row::new(plan, HIT, filter.num_hashes(), plan.count(), "true");
+    'rounds: for _round in 0..row.rounds() {
         let start = Instant::now(rt)?;
-        let answers = contains_keys(filter, keys);
+        let answers = contains_keys(filter, plan.count());
         row.add(answers, start.elapsed(rt)?);
     }
     Ok(row.print(rt)?)
@@ -74,14 +74,13 @@ fn measure_hits<R: Print + Clock>(
 // The row of look-ups of keys that were never inserted.
 fn measure_misses<R: Print + Clock>(
     rt: &R,
+    plan: &Plan,
     filter: &BloomFilter,
-    keys: u64,
-    rounds: u32,
 ) -> anyhow::Result<()> {
-    let mut row = Row::new("contains_hash, miss", filter.num_hashes(), keys);
-    'rounds: for round in 0..rounds {
+    let mut row = Row::new(plan, MISS, filter.num_hashes(), plan.count(), "true");
+    'rounds: for round in 0..row.rounds() {
         let start = Instant::now(rt)?;
-        let answers = contains_foreign_keys(filter, keys, round);
+        let answers = contains_foreign_keys(filter, plan.count(), round);
         row.add(answers, start.elapsed(rt)?);
     }
     Ok(row.print(rt)?)
@@ -90,12 +89,14 @@ fn measure_misses<R: Print + Clock>(
 /// The rows of inserts, of look-ups that hit, and of look-ups that miss, with this many hashes.
 pub fn measure<R: Print + AllocGlobal + Clock>(
     rt: &R,
-    keys: u32,
-    rounds: u32,
+    plan: &Plan,
     num_hashes: u32,
 ) -> anyhow::Result<()> {
-    let mut filter = filter_for(rt.alloc(), keys, num_hashes)?;
-    measure_inserts(rt, &mut filter, u64::from(keys), rounds)?;
-    measure_hits(rt, &filter, u64::from(keys), rounds)?;
-    measure_misses(rt, &filter, u64::from(keys), rounds)
+    let mut filter = filter_for(rt.alloc(), plan.keys, num_hashes)?;
+    measure_inserts(rt, plan, &mut filter)?;
+    if plan.wants(HIT) || plan.wants(MISS) {
+        insert_keys(&mut filter, plan.count());
+    }
+    measure_hits(rt, plan, &filter)?;
+    measure_misses(rt, plan, &filter)
 }

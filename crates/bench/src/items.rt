@@ -2,6 +2,7 @@
 ghost use Rattle.std.specs.Prelude.{◌≤◌};
 
 use crate::filters::filter_for;
+use crate::plan::Plan;
 use crate::table::Row;
 use fastbloom::BloomFilter;
 use std::rt::Clock;
@@ -45,17 +46,26 @@ fn insert_numbers(filter: &mut BloomFilter, keys: u64) -> u64 {
     answers
 }
 
+#[inline(never)]
+fn contains_numbers(filter: &BloomFilter, keys: u64) -> u64 {
+    let mut answers: u64 = 0;
+    'keys: for key in 0..keys {
+        let answer = filter.contains(&key);
+        answers = answers.wrapping_add(u64::from(answer));
+    }
+    answers
+}
+
 // The row of hashing numbers.
-fn measure_numbers<R: Print + AllocGlobal + Clock>(
+fn measure_numbers<R: Print + Clock>(
     rt: &R,
-    keys: u32,
-    rounds: u32,
+    plan: &Plan,
+    filter: &BloomFilter,
 ) -> anyhow::Result<()> {
-    let filter = filter_for(rt.alloc(), keys, 7)?;
-    let mut row = Row::new("source_hash, u64", 7, u64::from(keys));
-    'rounds: for _round in 0..rounds {
+    let mut row = Row::new(plan, "source_hash, u64", 7, plan.count(), "odd hashes");
+    'rounds: for _round in 0..row.rounds() {
         let start = Instant::now(rt)?;
-        let answers = hash_numbers(&filter, u64::from(keys));
+        let answers = hash_numbers(filter, plan.count());
         row.add(answers, start.elapsed(rt)?);
     }
     Ok(row.print(rt)?)
@@ -64,17 +74,17 @@ fn measure_numbers<R: Print + AllocGlobal + Clock>(
 // The row of hashing texts of so many bytes.
 fn measure_texts<R: Print + AllocGlobal + Clock>(
     rt: &R,
+    plan: &Plan,
     call: &'static str,
     size: usize,
     operations: u64,
-    rounds: u32,
 ) -> anyhow::Result<()>
     requires { size ≤ MOST_BYTES }
 {
     let filter = filter_for(rt.alloc(), 1, 7)?;
     let text = "0123456789abcdefghijklmnopqrstuv".repeat(rt.alloc(), 33)?;
-    let mut row = Row::new(call, 7, operations);
-    'rounds: for _round in 0..rounds {
+    let mut row = Row::new(plan, call, 7, operations, "odd hashes");
+    'rounds: for _round in 0..row.rounds() {
         let start = Instant::now(rt)?;
         let answers = hash_texts(&filter, &text, size, operations);
         row.add(answers, start.elapsed(rt)?);
@@ -83,61 +93,46 @@ fn measure_texts<R: Print + AllocGlobal + Clock>(
 }
 
 // The row of inserting numbers.
-fn measure_inserts<R: Print + AllocGlobal + Clock>(
+fn measure_inserts<R: Print + Clock>(
     rt: &R,
-    keys: u32,
-    rounds: u32,
+    plan: &Plan,
+    filter: &mut BloomFilter,
 ) -> anyhow::Result<()> {
-    let mut filter = filter_for(rt.alloc(), keys, 7)?;
-    let mut row = Row::new("insert, u64", 7, u64::from(keys));
-    'rounds: for _round in 0..rounds {
+    let mut row = Row::new(plan, "insert, u64", 7, plan.count(), "true");
+    'rounds: for _round in 0..row.rounds() {
         filter.clear();
         let start = Instant::now(rt)?;
-        let answers = insert_numbers(&mut filter, u64::from(keys));
+        let answers = insert_numbers(filter, plan.count());
         row.add(answers, start.elapsed(rt)?);
     }
     Ok(row.print(rt)?)
 }
 
-#[inline(never)]
-fn extend_by_numbers(filter: &mut BloomFilter, keys: u64) -> u64 {
-    filter.extend(0..keys);
-    u64::from(filter.contains(&0u64))
-}
-
-// The row of inserting as many numbers by one call, which is answered by a look-up.
-fn measure_extends<R: Print + AllocGlobal + Clock>(
+// The row of looking up numbers that the filter has.
+fn measure_hits<R: Print + Clock>(
     rt: &R,
-    keys: u32,
-    rounds: u32,
+    plan: &Plan,
+    filter: &mut BloomFilter,
 ) -> anyhow::Result<()> {
-    let mut filter = filter_for(rt.alloc(), keys, 7)?;
-    let mut row = Row::new("extend, u64", 7, u64::from(keys));
-    'rounds: for _round in 0..rounds {
-        filter.clear();
+    let mut row = Row::new(plan, "contains, u64", 7, plan.count(), "true");
+    if row.is_wanted() {
+        insert_numbers(filter, plan.count());
+    }
+    'rounds: for _round in 0..row.rounds() {
         let start = Instant::now(rt)?;
-        let answers = extend_by_numbers(&mut filter, u64::from(keys));
+        let answers = contains_numbers(filter, plan.count());
         row.add(answers, start.elapsed(rt)?);
     }
     Ok(row.print(rt)?)
 }
 
-/// The rows of hashing and inserting items, on a filter of seven hashes.
-pub fn measure<R: Print + AllocGlobal + Clock>(
-    rt: &R,
-    keys: u32,
-    rounds: u32,
-) -> anyhow::Result<()> {
-    let operations = u64::from(keys);
-    measure_numbers(rt, keys, rounds)?;
-    measure_texts(rt, "source_hash, 64 B", 64, operations, rounds)?;
-    measure_texts(
-        rt,
-        "source_hash, 1,000 B",
-        MOST_BYTES,
-        operations / 10,
-        rounds,
-    )?;
-    measure_inserts(rt, keys, rounds)?;
-    measure_extends(rt, keys, rounds)
+/// The rows of hashing, inserting and looking up items, on a filter of seven hashes.
+pub fn measure<R: Print + AllocGlobal + Clock>(rt: &R, plan: &Plan) -> anyhow::Result<()> {
+    let mut filter = filter_for(rt.alloc(), plan.keys, 7)?;
+    let count = plan.count();
+    measure_numbers(rt, plan, &filter)?;
+    measure_texts(rt, plan, "source_hash, 64 B", 64, count)?;
+    measure_texts(rt, plan, "source_hash, 1,000 B", MOST_BYTES, count / 10)?;
+    measure_inserts(rt, plan, &mut filter)?;
+    measure_hits(rt, plan, &mut filter)
 }

@@ -3,6 +3,7 @@
 //! The loops go over slices, where the compiler takes several words at once.
 ghost use Rattle.std.specs.Prelude.{◌≡◌, length};
 
+use crate::plan::Plan;
 use crate::table::Row;
 use fastbloom::BloomFilter;
 use std::alloc::Global;
@@ -171,14 +172,16 @@ fn make(pair: &mut Pair, pass: Pass, times: u64) -> u64 {
 // The row of one pass, a word.
 fn measure_pass<R: Print + Clock>(
     rt: &R,
+    plan: &Plan,
     pair: &mut Pair,
-    pass: Pass,
-    call: &'static str,
-    times: u64,
-    rounds: u32,
+    (pass, call): (Pass, &'static str),
+    words: u32,
 ) -> anyhow::Result<()> {
-    let words = pair.words.len() as u64;
-    let mut row = Row::new(call, 1, words.wrapping_mul(times));
+    // So often that a round goes over 2^20 words.
+    let times = (1u64 << 20) / u64::from(words.max(1));
+    let operations = times.wrapping_mul(u64::from(words));
+    let mut row = Row::new(plan, call, words, operations, "equal");
+    let rounds = if plan.keys == 0 { 0 } else { row.rounds() };
     'rounds: for _round in 0..rounds {
         let start = Instant::now(rt)?;
         let answers = make(pair, pass, times);
@@ -187,40 +190,33 @@ fn measure_pass<R: Print + Clock>(
     Ok(row.print(rt)?)
 }
 
-// All passes over so many words, so often that a round goes over 2^20 words.
+// All passes over so many words.
 fn measure_size<R: Print + AllocGlobal + Clock>(
     rt: &R,
-    words: usize,
-    rounds: u32,
+    plan: &Plan,
+    words: u32,
 ) -> anyhow::Result<()> {
-    let mut pair = pair_of(rt.alloc(), words)?;
-    let times = (1u64 << 20) / (words as u64).max(1);
-    'passes: for (pass, call) in [
-        (Pass::Union, "union, a word"),
-        (Pass::PlainUnion, "  a plain loop"),
-        (Pass::Intersect, "intersect, a word"),
-        (Pass::PlainIntersect, "  a plain loop"),
-        (Pass::Equality, "==, a word"),
-        (Pass::PlainEquality, "  a plain loop"),
-        (Pass::Clear, "clear, a word"),
-        (Pass::PlainClear, "  a plain loop"),
+    let mut pair = pair_of(rt.alloc(), words as usize)?;
+    'passes: for pass in [
+        (Pass::Union, "union, words:"),
+        (Pass::PlainUnion, "  plain union, words:"),
+        (Pass::Intersect, "intersect, words:"),
+        (Pass::PlainIntersect, "  plain intersect, words:"),
+        (Pass::Equality, "==, words:"),
+        (Pass::PlainEquality, "  plain ==, words:"),
+        (Pass::Clear, "clear, words:"),
+        (Pass::PlainClear, "  plain clear, words:"),
     ] {
-        measure_pass(rt, &mut pair, pass, call, times, rounds)?;
+        measure_pass(rt, plan, &mut pair, pass, words)?;
     }
     Ok(())
 }
 
-/// The rows of whole passes over 15, 1,023 and 2^20 words, or nothing but their names where there
-/// are no keys.
-pub fn measure<R: Print + AllocGlobal + Clock>(
-    rt: &R,
-    keys: u32,
-    rounds: u32,
-) -> anyhow::Result<()> {
-    let rounds = if keys == 0 { 0 } else { rounds };
+/// The rows of whole passes over 15, 1,023 and 2^20 words, a word each. Where there are no keys
+/// nothing is measured.
+pub fn measure<R: Print + AllocGlobal + Clock>(rt: &R, plan: &Plan) -> anyhow::Result<()> {
     'sizes: for words in [15, 1023, 1 << 20] {
-        println!(rt; "on {words} words:")?;
-        measure_size(rt, words, rounds)?;
+        measure_size(rt, plan, words)?;
     }
     Ok(())
 }

@@ -2,6 +2,7 @@
 ghost use Rattle.std.specs.Prelude.{◌≡◌, IfOk};
 
 use crate::filters::{foreign_hash_of, hash_of};
+use crate::plan::Plan;
 use crate::table::Row;
 use fastbloom::{FilterError, Pass, SeatedBloomFilter};
 use std::alloc::Global;
@@ -66,17 +67,14 @@ fn contains_foreign_keys(filter: &SeatedBloomFilter, pass: &mut Pass, keys: u64,
 
 /// Prints the rows of inserts, and of look-ups of keys that are there and that aren't. Each round
 /// has a filter of its own, since bits never go off.
-pub fn measure<R: Print + AllocGlobal + Clock>(
-    rt: &R,
-    keys: u32,
-    rounds: u32,
-) -> anyhow::Result<()> {
-    let count = u64::from(keys);
-    let mut inserts = Row::new("seated insert_hash_as", 7, count);
-    let mut hits = Row::new("seated hit", 7, count);
-    let mut misses = Row::new("seated miss", 7, count);
+pub fn measure<R: Print + AllocGlobal + Clock>(rt: &R, plan: &Plan) -> anyhow::Result<()> {
+    let count = plan.count();
+    let mut inserts = Row::new(plan, "seated insert_hash_as", 7, count, "true");
+    let mut hits = Row::new(plan, "seated hit", 7, count, "true");
+    let mut misses = Row::new(plan, "seated miss", 7, count, "true");
+    let rounds = inserts.rounds().max(hits.rounds()).max(misses.rounds());
     'rounds: for round in 0..rounds {
-        let (filter, mut pass) = seated_filter_for(rt.alloc(), keys)?;
+        let (filter, mut pass) = seated_filter_for(rt.alloc(), plan.keys)?;
         let start = Instant::now(rt)?;
         let answers = insert_keys(&filter, &mut pass, count);
         inserts.add(answers, start.elapsed(rt)?);

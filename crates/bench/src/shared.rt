@@ -2,12 +2,17 @@
 ghost use Rattle.std.specs.Prelude.{◌≤◌, ◌<◌, ◌^◌, vec_len};
 
 use crate::filters::{foreign_hash_of, hash_of, shared_filter_for};
+use crate::plan::Plan;
 use crate::table::Row;
 use fastbloom::AtomicBloomFilter;
 use std::alloc::{AllocError, Global};
 use std::rt::Clock;
 use std::sync::atomic::{AtomicU64, Ordering};
 use std::time::Instant;
+
+const HIT: &'static str = "shared hit";
+
+const MISS: &'static str = "shared miss";
 
 /// Inserts the keys between two, and counts the answers that were true.
 #[inline(never)]
@@ -77,36 +82,31 @@ fn bare_words(alloc: Global, keys: u32) -> Result<Vec<AtomicU64>, AllocError> {
 }
 
 // The row of bare operations, seven of them for each key.
-fn measure_bare<R: Print + AllocGlobal + Clock>(
-    rt: &R,
-    keys: u32,
-    rounds: u32,
-) -> anyhow::Result<()> {
-    let mut row = Row::new("fetch_or, seven", 7, u64::from(keys));
-    'rounds: for _round in 0..rounds {
-        let words = bare_words(rt.alloc(), keys)?;
+fn measure_bare<R: Print + AllocGlobal + Clock>(rt: &R, plan: &Plan) -> anyhow::Result<()> {
+    let mut row = Row::new(plan, "fetch_or, seven", 7, plan.count(), "true");
+    'rounds: for _round in 0..row.rounds() {
+        let words = bare_words(rt.alloc(), plan.keys)?;
         if words.is_empty() || words.len() >= 1 << 58 {
             break;
         }
         let start = Instant::now(rt)?;
-        let answers = bare_operations(&words, u64::from(keys));
+        let answers = bare_operations(&words, plan.count());
         row.add(answers, start.elapsed(rt)?);
     }
     Ok(row.print(rt)?)
 }
 
-// The row of inserts. It leaves the keys in the filter.
+// The row of inserts.
 fn measure_inserts<R: Print + Clock>(
     rt: &R,
+    plan: &Plan,
     filter: &AtomicBloomFilter,
-    keys: u64,
-    rounds: u32,
 ) -> anyhow::Result<()> {
-    let mut row = Row::new("shared insert_hash", 7, keys);
-    'rounds: for _round in 0..rounds {
+    let mut row = Row::new(plan, "shared insert_hash", 7, plan.count(), "true");
+    'rounds: for _round in 0..row.rounds() {
         filter.clear();
         let start = Instant::now(rt)?;
-        let answers = insert_keys(filter, 0, keys);
+        let answers = insert_keys(filter, 0, plan.count());
         row.add(answers, start.elapsed(rt)?);
     }
     Ok(row.print(rt)?)
@@ -115,14 +115,13 @@ fn measure_inserts<R: Print + Clock>(
 // The row of look-ups of keys that the filter has.
 fn measure_hits<R: Print + Clock>(
     rt: &R,
+    plan: &Plan,
     filter: &AtomicBloomFilter,
-    keys: u64,
-    rounds: u32,
 ) -> anyhow::Result<()> {
-    let mut row = Row::new("shared hit", 7, keys);
-    'rounds: for _round in 0..rounds {
+    let mut row = Row::new(plan, HIT, 7, plan.count(), "true");
+    'rounds: for _round in 0..row.rounds() {
         let start = Instant::now(rt)?;
-        let answers = contains_keys(filter, 0, keys);
+        let answers = contains_keys(filter, 0, plan.count());
         row.add(answers, start.elapsed(rt)?);
     }
     Ok(row.print(rt)?)
@@ -131,73 +130,26 @@ fn measure_hits<R: Print + Clock>(
 // The row of look-ups of keys that were never inserted.
 fn measure_misses<R: Print + Clock>(
     rt: &R,
+    plan: &Plan,
     filter: &AtomicBloomFilter,
-    keys: u64,
-    rounds: u32,
 ) -> anyhow::Result<()> {
-    let mut row = Row::new("shared miss", 7, keys);
-    'rounds: for round in 0..rounds {
+    let mut row = Row::new(plan, MISS, 7, plan.count(), "true");
+    'rounds: for round in 0..row.rounds() {
         let start = Instant::now(rt)?;
-        let answers = contains_foreign_keys(filter, keys, round);
+        let answers = contains_foreign_keys(filter, plan.count(), round);
         row.add(answers, start.elapsed(rt)?);
     }
     Ok(row.print(rt)?)
 }
 
-// The row of unions, each answered by a look-up right after it.
-fn measure_unions<R: Print + Clock>(
-    rt: &R,
-    filter: &AtomicBloomFilter,
-    other: &AtomicBloomFilter,
-    words: u64,
-    rounds: u32,
-) -> anyhow::Result<()> {
-    let mut row = Row::new("shared union, a word", 7, words);
-    'rounds: for _round in 0..rounds {
-        if !filter.same_shape(other) {
-            break;
-        }
-        let start = Instant::now(rt)?;
-        filter.union(other);
-        row.add(u64::from(filter.contains_hash(0)), start.elapsed(rt)?);
-    }
-    Ok(row.print(rt)?)
-}
-
-// The row of clears, each answered by a look-up right after it.
-fn measure_clears<R: Print + Clock>(
-    rt: &R,
-    filter: &AtomicBloomFilter,
-    words: u64,
-    rounds: u32,
-) -> anyhow::Result<()> {
-    let mut row = Row::new("shared clear, a word", 7, words);
-    'rounds: for _round in 0..rounds {
-        let start = Instant::now(rt)?;
-        filter.clear();
-        row.add(u64::from(filter.contains_hash(0)), start.elapsed(rt)?);
-    }
-    Ok(row.print(rt)?)
-}
-
 /// The rows of a shared filter with seven hashes, by one thread.
-pub fn measure<R: Print + AllocGlobal + Clock>(
-    rt: &R,
-    keys: u32,
-    rounds: u32,
-) -> anyhow::Result<()> {
-    let filter = shared_filter_for(rt.alloc(), keys, 7)?;
-    let other = shared_filter_for(rt.alloc(), keys, 7)?;
-    other.insert_hash(0);
-    measure_bare(rt, keys, rounds)?;
-    measure_inserts(rt, &filter, u64::from(keys), rounds)?;
-    measure_hits(rt, &filter, u64::from(keys), rounds)?;
-    measure_misses(rt, &filter, u64::from(keys), rounds)?;
-    let words = if keys == 0 {
-        0
-    } else {
-        filter.num_bits() as u64 / 64
-    };
-    measure_unions(rt, &filter, &other, words, rounds)?;
-    measure_clears(rt, &filter, words, rounds)
+pub fn measure<R: Print + AllocGlobal + Clock>(rt: &R, plan: &Plan) -> anyhow::Result<()> {
+    let filter = shared_filter_for(rt.alloc(), plan.keys, 7)?;
+    measure_bare(rt, plan)?;
+    measure_inserts(rt, plan, &filter)?;
+    if plan.wants(HIT) || plan.wants(MISS) {
+        insert_keys(&filter, 0, plan.count());
+    }
+    measure_hits(rt, plan, &filter)?;
+    measure_misses(rt, plan, &filter)
 }

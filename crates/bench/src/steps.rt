@@ -1,11 +1,14 @@
 //! Calls by word steps, on words in memory.
 
 use crate::filters::{filter_for, hash_of};
+use crate::plan::Plan;
 use crate::table::Row;
 use fastbloom::{Call, Event, MemoryStore, drive, run};
 use std::alloc::{AllocError, Global};
 use std::rt::Clock;
 use std::time::Instant;
+
+const RUN: &'static str = "run, an event";
 
 // The words of an empty filter, and as many of the other.
 fn store_for(alloc: Global, keys: u32) -> anyhow::Result<MemoryStore> {
@@ -41,31 +44,23 @@ fn inserts_on(alloc: Global, events: u32) -> Result<Vec<Event>, AllocError> {
 }
 
 // The row of `drive` over memory.
-fn measure_drive<R: Print + AllocGlobal + Clock>(
-    rt: &R,
-    keys: u32,
-    rounds: u32,
-) -> anyhow::Result<()> {
-    let mut row = Row::new("drive, an insert", 7, u64::from(keys));
-    'rounds: for _round in 0..rounds {
-        let mut store = store_for(rt.alloc(), keys)?;
+fn measure_drive<R: Print + AllocGlobal + Clock>(rt: &R, plan: &Plan) -> anyhow::Result<()> {
+    let mut row = Row::new(plan, "drive, an insert", 7, plan.count(), "true");
+    'rounds: for _round in 0..row.rounds() {
+        let mut store = store_for(rt.alloc(), plan.keys)?;
         let start = Instant::now(rt)?;
-        let answers = drive_inserts(&mut store, u64::from(keys));
+        let answers = drive_inserts(&mut store, plan.count());
         row.add(answers, start.elapsed(rt)?);
     }
     Ok(row.print(rt)?)
 }
 
-// The row of `run`, whose answer is the number of records.
-fn measure_run<R: Print + AllocGlobal + Clock>(
-    rt: &R,
-    keys: u32,
-    rounds: u32,
-) -> anyhow::Result<()> {
-    let schedule = inserts_on(rt.alloc(), keys)?;
-    let filter = filter_for(rt.alloc(), keys, 7)?;
-    let mut row = Row::new("run, an event", 7, u64::from(keys));
-    'rounds: for _round in 0..rounds {
+// The row of `run`.
+fn measure_run<R: Print + AllocGlobal + Clock>(rt: &R, plan: &Plan) -> anyhow::Result<()> {
+    let schedule = inserts_on(rt.alloc(), plan.keys)?;
+    let filter = filter_for(rt.alloc(), plan.keys, 7)?;
+    let mut row = Row::new(plan, RUN, 7, plan.count(), "records");
+    'rounds: for _round in 0..row.rounds() {
         let start = Instant::now(rt)?;
         let trace = run(rt.alloc(), filter.as_slice(), 7, 1, &schedule)?;
         row.add(trace.records().len() as u64, start.elapsed(rt)?);
@@ -74,11 +69,10 @@ fn measure_run<R: Print + AllocGlobal + Clock>(
 }
 
 /// The rows of `drive` over memory and of `run`.
-pub fn measure<R: Print + AllocGlobal + Clock>(
-    rt: &R,
-    keys: u32,
-    rounds: u32,
-) -> anyhow::Result<()> {
-    measure_drive(rt, keys, rounds)?;
-    measure_run(rt, keys, rounds)
+pub fn measure<R: Print + AllocGlobal + Clock>(rt: &R, plan: &Plan) -> anyhow::Result<()> {
+    measure_drive(rt, plan)?;
+    if plan.wants(RUN) {
+        measure_run(rt, plan)?;
+    }
+    Ok(())
 }

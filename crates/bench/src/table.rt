@@ -1,5 +1,6 @@
 //! The table of what was measured.
 
+use crate::plan::Plan;
 use std::io;
 use std::time::Duration;
 
@@ -7,23 +8,52 @@ use std::time::Duration;
 #[derive(Clone, Copy)]
 pub struct Row {
     call: &'static str,
-    num_hashes: u32,
+    number: u32,
     operations: u64,
+    counted: &'static str,
+    is_wanted: bool,
+    rounds: u32,
     answers: u64,
     // In nanoseconds.
     best: Option<u128>,
 }
 
 impl Row {
-    /// The row of a call that no round has made yet.
-    pub fn new(call: &'static str, num_hashes: u32, operations: u64) -> Self {
+    /// The row of a call that no round has made yet, with its number of hashes, or of what its name
+    /// tells before a colon, and with what its answers count.
+    pub fn new(
+        plan: &Plan,
+        call: &'static str,
+        number: u32,
+        operations: u64,
+        counted: &'static str,
+    ) -> Self {
+        let is_wanted = plan.wants(call);
         Row {
             call,
-            num_hashes,
+            number,
             operations,
+            counted,
+            is_wanted,
+            rounds: if is_wanted { plan.rounds } else { 0 },
             answers: 0,
             best: None,
         }
+    }
+
+    /// Whether the row is measured.
+    pub fn is_wanted(&self) -> bool {
+        self.is_wanted
+    }
+
+    /// How often a round makes the call, 0 where the row isn't measured.
+    pub fn wanted_operations(&self) -> u64 {
+        if self.is_wanted { self.operations } else { 0 }
+    }
+
+    /// The number of rounds, 0 where the row isn't measured.
+    pub fn rounds(&self) -> u32 {
+        self.rounds
     }
 
     /// Takes in a round: what its answers came to, and how long it took.
@@ -40,17 +70,29 @@ impl Row {
             .checked_div(u128::from(self.operations))
     }
 
-    /// Prints the row. The time is left out where nothing was measured.
-    pub fn print<R: Print>(&self, rt: &R) -> io::Result<()> {
-        let (call, num_hashes, answers) = (self.call, self.num_hashes, self.answers);
+    // Prints the row, with the time where there is one.
+    fn print_wanted<R: Print>(&self, rt: &R) -> io::Result<()> {
+        let (call, number, answers, counted) = (self.call, self.number, self.answers, self.counted);
         match self.picoseconds() {
-            Some(time) => println!(rt; "{call:<22}{num_hashes:>7}{answers:>12}{time:>12}"),
-            None => println!(rt; "{call:<22}{num_hashes:>7}{answers:>12}"),
+            Some(time) => println!(rt; "{call:<28}{number:>8}{answers:>12}{time:>12}  {counted}"),
+            None => println!(rt; "{call:<28}{number:>8}{answers:>12}           -  {counted}"),
+        }
+    }
+
+    /// Prints the row where it is measured. The time is left out where nothing was.
+    pub fn print<R: Print>(&self, rt: &R) -> io::Result<()> {
+        if self.is_wanted {
+            self.print_wanted(rt)
+        } else {
+            Ok(())
         }
     }
 }
 
-/// Prints the head of the table.
-pub fn head<R: Print>(rt: &R) -> io::Result<()> {
-    println!(rt; "call                   hashes     answers          ps")
+/// Prints what is measured, and the head of the table.
+pub fn head<R: Print>(rt: &R, plan: &Plan, bits: usize) -> io::Result<()> {
+    let (keys, rounds, bytes) = (plan.keys, plan.rounds, bits / 8);
+    println!(rt; "{keys} keys, best of {rounds} rounds, filters of {bits} bits ({bytes} bytes)")?;
+    println!(rt; "The number is that of hashes, or of what the name tells before a colon.")?;
+    println!(rt; "call                          number     answers          ps  answers count")
 }

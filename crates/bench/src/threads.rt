@@ -2,6 +2,7 @@
 ghost use Rattle.std.specs.Prelude.{⊤};
 
 use crate::filters::shared_filter_for;
+use crate::plan::Plan;
 use crate::shared::{contains_keys, insert_keys};
 use crate::table::Row;
 use anyhow::bail;
@@ -73,15 +74,15 @@ fn round_of<R: AllocGlobal + Threads>(
 // The rows of inserts and of hits by so many threads, on one filter with seven hashes.
 fn measure_threads<R: Print + AllocGlobal + Clock + Threads>(
     rt: &R,
-    keys: u64,
-    rounds: u32,
+    plan: &Plan,
     filter: &Shared,
     threads: u32,
 ) -> anyhow::Result<()> {
-    let mut inserts = Row::new("insert by threads:", threads, keys);
-    let mut hits = Row::new("hit by threads:", threads, keys);
+    let keys = plan.count();
+    let mut inserts = Row::new(plan, "insert by threads:", threads, keys, "true");
+    let mut hits = Row::new(plan, "hit by threads:", threads, keys, "true");
     let threads = u64::from(threads);
-    'rounds: for _round in 0..rounds {
+    'rounds: for _round in 0..inserts.rounds().max(hits.rounds()) {
         filter.clear();
         let begin = Instant::now(rt)?;
         let answers = round_of(rt, filter, Job::Insert, threads, keys)?;
@@ -97,13 +98,12 @@ fn measure_threads<R: Print + AllocGlobal + Clock + Threads>(
 /// The rows of inserts and of hits by one, two and four threads.
 pub fn measure<R: Print + AllocGlobal + Clock + Threads>(
     rt: &R,
-    keys: u32,
-    rounds: u32,
+    plan: &Plan,
 ) -> anyhow::Result<()> {
-    let filter = shared_filter_for(rt.alloc(), keys, 7)?;
+    let filter = shared_filter_for(rt.alloc(), plan.keys, 7)?;
     let filter = Arc::new(rt.alloc(), filter)?;
     'counts: for threads in [1, 2, 4] {
-        measure_threads(rt, u64::from(keys), rounds, &filter, threads)?;
+        measure_threads(rt, plan, &filter, threads)?;
     }
     Ok(())
 }

@@ -2,12 +2,15 @@
 ghost use Rattle.std.specs.Prelude.{All, IfOk};
 ghost use Rattle.bench.specs.Lists.{FitsEach};
 
-use crate::filters::{filter_for, hash_of};
+use crate::filters::{filter_for, hash_of, measured_words};
+use crate::plan::Plan;
 use crate::table::Row;
 use fastbloom::{BloomFilter, Command, DefaultHasher};
 use std::alloc::{AllocError, Global};
 use std::rt::Clock;
 use std::time::Instant;
+
+const REPLAY: &'static str = "replay, a command";
 
 // By turns an insert of a key, and a look-up of it.
 fn command_on(key: u64) -> Command<'static, DefaultHasher>
@@ -30,14 +33,6 @@ fn commands_on(alloc: Global, keys: u32) -> Result<Vec<Command<'static, DefaultH
         commands.push(command_on(key))?;
     }
     Ok(commands)
-}
-
-// The number of words, or 0 where there are no keys and nothing is measured.
-fn measured_words(filter: &BloomFilter, keys: u32) -> u64 {
-    if keys == 0 {
-        return 0;
-    }
-    filter.as_slice().len() as u64
 }
 
 // A call on whole filters.
@@ -67,14 +62,14 @@ fn make(filter: &mut BloomFilter, other: &BloomFilter, call: Call) -> bool {
 // The row of a call. Unions leave both filters equal.
 fn measure_call<R: Print + Clock>(
     rt: &R,
+    plan: &Plan,
     filter: &mut BloomFilter,
     other: &BloomFilter,
     (call, name): (Call, &'static str),
-    words: u64,
-    rounds: u32,
 ) -> anyhow::Result<()> {
-    let mut row = Row::new(name, 7, words);
-    'rounds: for _round in 0..rounds {
+    let words = measured_words(other.num_bits(), plan.keys);
+    let mut row = Row::new(plan, name, 7, words, "equal, or found after it");
+    'rounds: for _round in 0..row.rounds() {
         let start = Instant::now(rt)?;
         let answer = make(filter, other, call);
         row.add(u64::from(answer), start.elapsed(rt)?);
@@ -85,12 +80,12 @@ fn measure_call<R: Print + Clock>(
 // The row of clones, each answered by a look-up in the copy.
 fn measure_clones<R: Print + AllocGlobal + Clock>(
     rt: &R,
+    plan: &Plan,
     filter: &BloomFilter,
-    words: u64,
-    rounds: u32,
 ) -> anyhow::Result<()> {
-    let mut row = Row::new("try_clone, a word", 7, words);
-    'rounds: for _round in 0..rounds {
+    let words = measured_words(filter.num_bits(), plan.keys);
+    let mut row = Row::new(plan, "try_clone, a word", 7, words, "found after it");
+    'rounds: for _round in 0..row.rounds() {
         let start = Instant::now(rt)?;
         let copy = filter.try_clone(rt.alloc())?;
         row.add(u64::from(copy.contains_hash(0)), start.elapsed(rt)?);
@@ -99,15 +94,11 @@ fn measure_clones<R: Print + AllocGlobal + Clock>(
 }
 
 // The row of `replay`.
-fn measure_lists<R: Print + AllocGlobal + Clock>(
-    rt: &R,
-    keys: u32,
-    rounds: u32,
-) -> anyhow::Result<()> {
-    let mut filter = filter_for(rt.alloc(), keys, 7)?;
-    let commands = commands_on(rt.alloc(), keys)?;
-    let mut replay = Row::new("replay, a command", 7, u64::from(keys));
-    'rounds: for _round in 0..rounds {
+fn measure_lists<R: Print + AllocGlobal + Clock>(rt: &R, plan: &Plan) -> anyhow::Result<()> {
+    let mut filter = filter_for(rt.alloc(), plan.keys, 7)?;
+    let commands = commands_on(rt.alloc(), plan.keys)?;
+    let mut replay = Row::new(plan, REPLAY, 7, plan.count(), "true");
+    'rounds: for _round in 0..replay.rounds() {
         filter.clear();
         let start = Instant::now(rt)?;
         let replies = filter.replay(rt.alloc(), &commands)?;
@@ -118,23 +109,21 @@ fn measure_lists<R: Print + AllocGlobal + Clock>(
 }
 
 /// The rows of the calls on whole filters, and of `replay`.
-pub fn measure<R: Print + AllocGlobal + Clock>(
-    rt: &R,
-    keys: u32,
-    rounds: u32,
-) -> anyhow::Result<()> {
-    let mut filter = filter_for(rt.alloc(), keys, 7)?;
-    let mut other = filter_for(rt.alloc(), keys, 7)?;
+pub fn measure<R: Print + AllocGlobal + Clock>(rt: &R, plan: &Plan) -> anyhow::Result<()> {
+    let mut filter = filter_for(rt.alloc(), plan.keys, 7)?;
+    let mut other = filter_for(rt.alloc(), plan.keys, 7)?;
     other.insert_hash(0);
-    let words = measured_words(&filter, keys);
     'calls: for call in [
         (Call::Union, "union, a word"),
         (Call::Intersect, "intersect, a word"),
         (Call::Equality, "==, a word"),
         (Call::Clear, "clear, a word"),
     ] {
-        measure_call(rt, &mut filter, &other, call, words, rounds)?;
+        measure_call(rt, plan, &mut filter, &other, call)?;
     }
-    measure_clones(rt, &other, words, rounds)?;
-    measure_lists(rt, keys, rounds)
+    measure_clones(rt, plan, &other)?;
+    if plan.wants(REPLAY) {
+        measure_lists(rt, plan)?;
+    }
+    Ok(())
 }

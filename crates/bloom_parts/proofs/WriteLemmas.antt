@@ -51,13 +51,18 @@ module _ (h : SipState) (none : h.held ≡ []) (buffer : List ℕ)
       })
       ∙ sym (write-words h (concat words) words each (ap (λ held. held ++ concat words) none))
 
+-- how many bytes are held, where h is the hasher as it is opened
+pub size-held : (old h : SipState) (buffer : List ℕ) → h ≡ old → length buffer ≡ 8
+    → h.held ≡ held_in buffer h.count → length old.held ≡ h.count % 8
+size-held old h buffer view eight held =
+    ap (λ x. length x.held) (sym view) ∙ ap length held ∙ length-held_in buffer h.count eight
+
 -- bytes that fill the word begun leave none held, where h is the hasher as it is opened
 pub held-filled : (old h new : SipState) (buffer bytes : List ℕ) → h ≡ old → length buffer ≡ 8
     → h.held ≡ held_in buffer h.count → new ≡ write old bytes → length bytes ≡ 8 - h.count % 8
     → new.held ≡ []
 held-filled old h new buffer bytes view eight held is filling =
-    let size : length old.held ≡ h.count % 8 =
-    ap (λ x. length x.held) (sym view) ∙ ap length held ∙ length-held_in buffer h.count eight in
+    let size = size-held old h buffer view eight held in
     let joined = length-append old.held bytes in
     ap (λ x. x.held) is ∙ empty _ (omega (arith, length-held old bytes, joined, size, filling))
 

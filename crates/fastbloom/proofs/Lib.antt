@@ -10,3 +10,4 @@ mod SharedFacts
 mod SharedFormFacts
 mod SharedLemmas
 mod TakenLemmas
+mod TogetherLemmas

@@ -1,6 +1,6 @@
 -- What contracts see of a filter that threads share, and of which steps its calls are made. Its
 -- words aren't seen, since any thread may change them. This project's own.
-use Rattle.std.specs.Prelude.{◌≡◌, ◌≢◌, ℕ, ◌<◌, Bool, List, length, map, slice_get, All, Option, Some, None}
+use Rattle.std.specs.Prelude.{◌≡◌, ◌≢◌, ℕ, ◌<◌, Bool, List, [], ◌∷◌, ◌++◌, length, map, slice_get, All, Option, Some, None}
 use Rattle.bloom_parts.specs.Made.{SharedWords, FoundByLoad, FoundByOr, FoundByAnd, MadeZero, FoundBySwap}
 use Rattle.bloom_plain.specs.Builders.{RateStart, IsSizeOf, sized_filter, empty_start}
 use Rattle.bloom_plain.specs.Filter.{Filter}
@@ -55,6 +55,18 @@ pub record MakesCall {S : Type 0} (f other : SharedFilter S) (call : Call) (repl
 -- a hash was inserted, and this was the reply
 abbrev pub MakesInsert : {S : Type 0} → SharedFilter S → ℕ → Bool → Type 0
 MakesInsert f hash reply = MakesCall f f (Insert hash) (Some reply)
+
+-- a hash was inserted, whatever the reply
+abbrev pub WasInserted : {S : Type 0} → SharedFilter S → ℕ → Type 0
+WasInserted f hash = (reply : Bool) × MakesInsert f hash reply
+
+-- a hash joined those that wait to be inserted: of all these the first were inserted, and the others
+-- wait
+pub record QueuesInsert {S : Type 0} (f : SharedFilter S) (waiting : List ℕ) (hash : ℕ)
+    (more : List ℕ) : Type 0 where
+  pub gone : List ℕ
+  pub cut : waiting ++ hash ∷ [] ≡ gone ++ more
+  pub did : All (WasInserted f) gone
 
 -- each item of a list was inserted by its hash under the hasher
 abbrev pub MakesInserts : {S T : Type 0} → (S → T → ℕ) → SharedFilter S → List T → Type 0

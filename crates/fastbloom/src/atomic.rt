@@ -8,6 +8,7 @@ mod items;
 mod keeping_store;
 mod live_store;
 mod sets;
+mod together;
 mod words;
 
 use bloom_parts::bit_vector::AtomicBitVec;

@@ -93,7 +93,7 @@ impl RandomDefaultHasher {
     }
 
     // Takes in bytes that don't go past the end of a word.
-    #[inline]
+    #[inline(always)]
     fn fill(&mut self, bytes: &[u8])
         requires { length self.old.held + length bytes.now ≤ 8 }
         ensures { self.new ≡ hashed.write self.old bytes.now }

@@ -65,6 +65,10 @@ impl<S: BuildHasher> AtomicBloomFilter<S> {
             × WholeRun I.IntoIter.next_gives it (λ run. MakesInserts
             (lent_hash_of S.BuildHasher S.Hasher.Hasher T.hash_input) self.now run.items) }
     {
+        if self.is_large() {
+            self.insert_lent_together(iter);
+            return;
+        }
         'lent: for item in iter {
             self.insert(item);
         }
@@ -79,6 +83,10 @@ impl<S: BuildHasher> AtomicBloomFilter<S> {
             × WholeRun I.IntoIter.next_gives it (λ run. MakesInserts
             (source_hash_of S.BuildHasher S.Hasher.Hasher T.hash_input) self.now run.items) }
     {
+        if self.is_large() {
+            self.insert_given_together(iter);
+            return;
+        }
         'given: for item in iter {
             self.insert(&item);
         }

@@ -8,6 +8,18 @@ ghost use Rattle.bloom_parts.specs.Hashed.{Takes, Answers};
 use super::RandomDefaultHasher;
 use std::hash::Hasher;
 
+impl RandomDefaultHasher {
+    // Takes in bytes as `write` does. It isn't copied into its callers, where it would slow down what
+    // they mostly do.
+    #[inline(never)]
+    fn write_apart(&mut self, bytes: &[u8])
+        ensures state { self.new ≡ hashed.write self.old bytes.now }
+        ensures taken { Takes self.old self.new bytes.now }
+    {
+        self.write(bytes);
+    }
+}
+
 impl Hasher for RandomDefaultHasher {
     ghost write = { hashed.write };
 
@@ -25,7 +37,8 @@ impl Hasher for RandomDefaultHasher {
         state.answer()
     }
 
-    #[inline]
+    // Inlined, so that what the hasher keeps stays in registers from the text to its end.
+    #[inline(always)]
     fn write(&mut self, bytes: &[u8])
         ensures state { self.new ≡ hashed.write self.old bytes.now }
         ensures taken { Takes self.old self.new bytes.now }
@@ -47,7 +60,9 @@ impl Hasher for RandomDefaultHasher {
         ensures state { self.new ≡ fold hashed.write self.old (fed.u8 i) }
         ensures taken { Takes self.old self.new (to_le_bytes w8 i) }
     {
-        self.write(&u8::to_le_bytes(i));
+        // So a byte never goes past the end of a word.
+        prove!(self.length % 8 < 8);
+        self.fill(&u8::to_le_bytes(i));
     }
 
     #[inline]
@@ -78,7 +93,7 @@ impl Hasher for RandomDefaultHasher {
         if self.length % 8 == 0 {
             self.push_words(&[u64::to_le_bytes(i)]);
         } else {
-            self.write(&u64::to_le_bytes(i));
+            self.write_apart(&u64::to_le_bytes(i));
         }
     }
 

@@ -1,0 +1,59 @@
+//! What is measured.
+
+use anyhow::{Context, bail};
+use std::alloc::Global;
+use std::env;
+use std::rt::Env;
+
+// What is measured where no number is given.
+const KEYS: u32 = 1_000_000;
+
+const ROUNDS: u32 = 10;
+
+const USAGE: &'static str = "usage: bench [KEYS [ROUNDS [WORD]]]";
+
+/// The rows whose name has a word, on filters for so many keys, in so many rounds.
+#[derive(Drop)]
+pub struct Plan {
+    pub keys: u32,
+    pub rounds: u32,
+    word: Option<String>,
+}
+
+impl Plan {
+    /// Whether the rows of this name are measured.
+    pub fn wants(&self, call: &str) -> bool {
+        match &self.word {
+            Some(word) => call.contains(word.as_str()),
+            None => true,
+        }
+    }
+
+    /// The number of keys, as a count of operations.
+    pub fn count(&self) -> u64 {
+        u64::from(self.keys)
+    }
+}
+
+// The number that the next argument is, or `missing` where there is none.
+fn number(argument: Option<String>, missing: u32) -> anyhow::Result<u32> {
+    match argument {
+        Some(text) => text.parse::<u32>().context(USAGE),
+        None => Ok(missing),
+    }
+}
+
+/// The plan that the arguments tell.
+///
+/// # Errors
+/// Where they aren't two numbers and a word, or fewer.
+pub fn given<R: Env + AllocGlobal>(rt: &R) -> anyhow::Result<Plan> {
+    let mut words = env::args(rt)?.skip(1);
+    let keys = number(words.next(), KEYS)?;
+    let rounds = number(words.next(), ROUNDS)?;
+    let word = words.next();
+    if words.next().is_some() {
+        bail!("usage: bench [KEYS [ROUNDS [WORD]]]");
+    }
+    Ok(Plan { keys, rounds, word })
+}

@@ -1,0 +1,97 @@
+//! Many inserts into a filter that is larger than a cache. The words of sixteen hashes are loaded
+//! first, so that the memory brings them side by side: a step that changes a word waits for it.
+ghost use Rattle.std.specs.Prelude.{◌≡◌, ◌<◌, All};
+ghost use Rattle.arrayvec.specs.ArrayVec.{array_vec_len};
+ghost use Rattle.std.specs.Iterator.{IsFiniteIterable};
+ghost use Rattle.std.specs.Iterator.Runs.{WholeRun};
+ghost use Rattle.bloom_plain.specs.SourceHash.{source_hash_of, lent_hash_of};
+ghost use Rattle.fastbloom.specs.Shared.{MakesInserts, WasInserted, QueuesInsert};
+
+use super::AtomicBloomFilter;
+use arrayvec::ArrayVec;
+use bloom_parts::bit_vector::index;
+use bloom_parts::hasher::DoubleHasher;
+use std::hash::{BuildHasher, Hash};
+
+// From this many words on, which are four mebibytes, a filter is taken to be larger than a cache.
+const MANY_WORDS: usize = 1 << 19;
+
+impl<S> AtomicBloomFilter<S> {
+    // Whether the filter is larger than a cache.
+    pub(super) fn is_large(&self) -> bool {
+        self.words.len() >= MANY_WORDS
+    }
+
+    // Loads the words of a hash. Nothing depends on what they hold, so no load waits for another.
+    #[inline(always)]
+    fn touch(&self, hash: u64) {
+        let num_bits = self.words.num_bits();
+        let mut chain = DoubleHasher::new(hash);
+        'places: for _place in 0..self.num_hashes {
+            self.words.load(index(num_bits, chain.next()) / 64);
+        }
+    }
+
+    // Inserts hashes, in order, whose words are all loaded first.
+    fn insert_few(&self, hashes: &[u64])
+        ensures { All (WasInserted self.now) hashes.now }
+    {
+        'touches: for hash in hashes {
+            self.touch(*hash);
+        }
+        'inserts: for hash in hashes {
+            self.insert_hash(*hash);
+        }
+    }
+
+    // Lets a hash wait, and inserts all that wait where they are sixteen.
+    #[inline(always)]
+    fn insert_later(&self, waiting: &mut ArrayVec<u64, 16>, hash: u64)
+        requires { array_vec_len waiting.old < 16 }
+        ensures queues { QueuesInsert self.now waiting.old.items hash waiting.new.items }
+        ensures room { array_vec_len waiting.new < 16 }
+    {
+        waiting.push(hash);
+        if waiting.is_full() {
+            self.insert_few(waiting);
+            waiting.clear();
+        }
+    }
+}
+
+impl<S: BuildHasher> AtomicBloomFilter<S> {
+    // Inserts every item that an iterator lends, in order, sixteen at a time.
+    pub(super) fn insert_lent_together<'a, T: Hash + 'a, I: IntoIterator<Item = &'a T>>(
+        &self,
+        iter: I,
+    )
+        requires { IsFiniteIterable
+            I.into_iter_gives I.IntoIter.can_next I.IntoIter.remaining iter }
+        ensures { (it : I.IntoIter) × I.into_iter_gives iter it
+            × WholeRun I.IntoIter.next_gives it (λ run. MakesInserts
+            (lent_hash_of S.BuildHasher S.Hasher.Hasher T.hash_input) self.now run.items) }
+    {
+        let mut waiting = ArrayVec::<u64, 16>::new();
+        'lent: for item in iter {
+            let hash = self.source_hash(item);
+            self.insert_later(&mut waiting, hash);
+        }
+        self.insert_few(&waiting);
+    }
+
+    // Inserts every item that an iterator gives, in order, sixteen at a time.
+    pub(super) fn insert_given_together<T: Hash + Drop, I: IntoIterator<Item = T>>(&self, iter: I)
+        requires { IsFiniteIterable
+            I.into_iter_gives I.IntoIter.can_next I.IntoIter.remaining iter }
+        ensures { (it : I.IntoIter) × I.into_iter_gives iter it
+            × WholeRun I.IntoIter.next_gives it (λ run. MakesInserts
+            (source_hash_of S.BuildHasher S.Hasher.Hasher T.hash_input) self.now run.items) }
+    {
+        let mut waiting = ArrayVec::<u64, 16>::new();
+        'given: for item in iter {
+            let hash = self.source_hash(&item);
+            self.insert_later(&mut waiting, hash);
+        }
+        self.insert_few(&waiting);
+    }
+}
