@@ -46,6 +46,10 @@ def main():
     for number, name in enumerate(names[:1000]):
         (odd if number % 2 else even).add(name)
     assert odd | even == seen and (odd | even) & odd == odd and odd != even
+    both = odd | even
+    both |= both
+    both &= both
+    assert both == seen
     assert refused(lambda: odd | Filter(10, "1/1000")) and refused(lambda: odd & keyed)
     assert refused(lambda: odd | Filter(1000, "1/1000", key=bytes(range(16))))
 

@@ -113,12 +113,14 @@ class Filter:
 
     def __ior__(self, other):
         self._fits(other)
-        _union(self._at, self.num_words, other._at, other.num_words)
+        if other is not self:  # the library asks for words that lie apart
+            _union(self._at, self.num_words, other._at, other.num_words)
         return self
 
     def __iand__(self, other):
         self._fits(other)
-        _intersect(self._at, self.num_words, other._at, other.num_words)
+        if other is not self:
+            _intersect(self._at, self.num_words, other._at, other.num_words)
         return self
 
     def __or__(self, other):
