@@ -1,4 +1,5 @@
-//! Measures the calls of a filter: `bench [KEYS [ROUNDS [WORD]]]`, the rows whose name has the word.
+//! Measures the calls of a filter: `bench [KEYS [ROUNDS [WORD]]]`, those whose row has the word in
+//! its name.
 //!
 //! Each row of the table is one call. A round makes it many times, its answers are counted, and the
 //! best round tells what one operation costs.

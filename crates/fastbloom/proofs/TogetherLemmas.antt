@@ -15,7 +15,11 @@ module _ {S : Type 0} (f : SharedFilter S) where
   -- a hash joins those that wait
   pub queues-wait : (waiting more : List ℕ) (hash : ℕ) → more ≡ waiting ++ hash ∷ []
       → QueuesInsert f waiting hash more
-  queues-wait waiting more hash is = record { gone = []; cut = sym is; did = All-nil (WasInserted f) }
+  queues-wait waiting more hash is = record {
+    gone = [];
+    cut = sym is;
+    did = All-nil (WasInserted f);
+  }
 
   -- and all of them are inserted
   pub queues-insert : (waiting more none : List ℕ) (hash : ℕ) → more ≡ waiting ++ hash ∷ []
@@ -28,7 +32,11 @@ module _ {S : Type 0} (f : SharedFilter S) where
 
   -- no hash
   pub is_behind-none : (waiting : List ℕ) → waiting ≡ [] → IsBehind f [] waiting
-  is_behind-none waiting none = record { before = []; cut = sym none; did = All-nil (WasInserted f) }
+  is_behind-none waiting none = record {
+    before = [];
+    cut = sym none;
+    did = All-nil (WasInserted f);
+  }
 
   -- one more item: its hash joins those that wait
   pub is_behind-item : {T : Type 0} (hash_of : S → T → ℕ) (items : List T) (item : T)

@@ -9,8 +9,8 @@ use super::RandomDefaultHasher;
 use std::hash::Hasher;
 
 impl RandomDefaultHasher {
-    // Takes in bytes as `write` does. It isn't copied into its callers, where it would slow down what
-    // they mostly do.
+    // Takes in bytes as `write` does. It isn't copied into its callers, where it would slow down
+    // what they mostly do.
     #[inline(never)]
     fn write_apart(&mut self, bytes: &[u8])
         ensures state { self.new ≡ hashed.write self.old bytes.now }
