@@ -10,7 +10,8 @@ use command_line::{Options, Task, arguments};
 use commands::{Answer, carry_out, guarded};
 use disk::{closed, opened};
 use guard_engine::Store;
-use sqlite::{Error, Start, Wary};
+use guard_store::EntryTable;
+use sqlite::{Alter, Connection, Error, Start, Wary};
 use std::alloc::Global;
 use std::process::ExitCode;
 use std::rt::Files;
@@ -62,6 +63,18 @@ fn serve<T: Store<Error = Error> + Drop>(
     Ok((guard.into_store(), answer))
 }
 
+// Carries the task out over a connection, and gives it back.
+fn serve_over<D: Alter + Drop>(
+    alloc: Global,
+    conn: Connection<D>,
+    options: Options,
+    text: &str,
+) -> anyhow::Result<(Connection<D>, anyhow::Result<Answer>)> {
+    let table = EntryTable::over(alloc, conn).context("it is no store of a guard")?;
+    let (table, answer) = serve(alloc, table, options, text)?;
+    Ok((table.into_connection(), answer))
+}
+
 // Carries the task out on a file.
 fn run<S: Start>(
     rt: &HostRuntime,
@@ -69,10 +82,10 @@ fn run<S: Start>(
     text: &str,
     start: S,
 ) -> anyhow::Result<Answer> {
-    let store = opened(rt, options.store, start)?;
-    let (store, answer) = serve(rt.alloc(), store, options, text)?;
+    let conn = opened(rt, options.store, start)?;
+    let (conn, answer) = serve_over(rt.alloc(), conn, options, text)?;
     let answer = answer?;
-    closed(store)?;
+    closed(conn)?;
     Ok(answer)
 }
 
