@@ -84,8 +84,9 @@ fn run<S: Start>(
 ) -> anyhow::Result<Answer> {
     let conn = opened(rt, options.store, start)?;
     let (conn, answer) = serve_over(rt.alloc(), conn, options, text)?;
+    let ended = closed(conn);
     let answer = answer?;
-    closed(conn)?;
+    ended?;
     Ok(answer)
 }
 
