@@ -51,17 +51,17 @@ names a_row there = elim (to_in both a_row there) [
 names-less : AreNames both ((Text (5 ∷ []) ∷ []) ∷ []) → ⊥
 names-less are = elim (to_in ((Text (5 ∷ []) ∷ []) ∷ []) (Text (7 ∷ []) ∷ [])
     (are second (1, omega arith, refl))) [
-  | inl e ↦ let same = ap (λ x. column x 0) e in cc
-  | inr none ↦ none
-]
+      | inl e ↦ let same = ap (λ x. column x 0) e in cc
+      | inr none ↦ none
+    ]
 
 -- nor where values are shown
 names-values : AreNames (first ∷ []) ((Text (6 ∷ []) ∷ []) ∷ []) → ⊥
 names-values are = elim (to_in ((Text (6 ∷ []) ∷ []) ∷ []) (Text (5 ∷ []) ∷ [])
     (are first (0, omega arith, refl))) [
-  | inl e ↦ let same = ap (λ x. column x 0) e in cc
-  | inr none ↦ none
-]
+      | inl e ↦ let same = ap (λ x. column x 0) e in cc
+      | inr none ↦ none
+    ]
 
 -- the value of the name is shown
 values : AreValues both (7 ∷ []) ((Text (8 ∷ []) ∷ []) ∷ [])
