@@ -4,6 +4,8 @@
 mod command_line;
 mod commands;
 mod disk;
+#[cfg(test)]
+mod tests;
 
 use anyhow::{Context, bail};
 use command_line::{Options, Task, arguments};
