@@ -9,15 +9,15 @@ use Rattle.guard_engine.specs.Counted.{one_more}
 use Rattle.guard_engine.specs.Guarded.{Entries, Lacks, Stays, Gains, IsSingle, Lists, Covers, HoldsKeys, Guards}
 
 -- no entry
-abbrev none : Entries
+abbrev pub none : Entries
 none key value = ⊥
 
 -- the key 1 with the value 2
-abbrev one : Entries
+abbrev pub one : Entries
 one key value = (key ≡ 1 ∷ []) × (value ≡ 2 ∷ [])
 
 -- the key 1 with each value
-abbrev each : Entries
+abbrev pub each : Entries
 each key value = key ≡ 1 ∷ []
 
 -- a store of one entry lacks another key

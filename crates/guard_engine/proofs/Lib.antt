@@ -1,2 +1,4 @@
 mod FoundLemmas
 mod GuardedFacts
+mod LoadLemmas
+mod LoadedFacts

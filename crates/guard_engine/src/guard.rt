@@ -144,7 +144,8 @@ impl<T: Store + Drop, B: BuildHasher + Drop> Guard<T, B> {
     pub fn into_store(self) -> T
         ensures { result ≡ self.store }
     {
-        self.store
+        let Guard { store, .. } = self;
+        store
     }
 
     // Adds an entry, to the filter first.

@@ -1,8 +1,14 @@
 //! Many keys at once.
+ghost use Rattle.std.specs.Prelude.{◌≡◌, ◌+◌, ◌^◌, ◌<◌, length, Ok, IfOk};
+ghost use Rattle.std.specs.Str.Lines.{lines};
 ghost use Rattle.guard_engine.specs.Guarded.{Guards, IsSingle, key_hash};
+ghost use Rattle.guard_engine.specs.Loaded.{Loads};
+
+mod line;
 
 use crate::guard::{Guard, Put};
 use crate::store::Store;
+use line::put_line;
 use std::hash::BuildHasher;
 
 /// How many entries a load put, and how many it left out since their keys had values.
@@ -10,6 +16,25 @@ use std::hash::BuildHasher;
 pub struct Loaded {
     pub added: u64,
     pub taken: u64,
+}
+
+impl Loaded {
+    // One more entry.
+    fn after(self, put: Put) -> Self
+        ensures { self.added + self.taken + 1 < 2 ^ 64
+            → result.added + result.taken ≡ self.added + self.taken + 1 }
+    {
+        match put {
+            Put::Added => Loaded {
+                added: self.added.saturating_add(1),
+                taken: self.taken,
+            },
+            Put::Taken => Loaded {
+                added: self.added,
+                taken: self.taken.saturating_add(1),
+            },
+        }
+    }
 }
 
 /// Why a load stopped.
@@ -28,6 +53,13 @@ pub fn load<T: Store + Drop, B: BuildHasher + Drop>(
     guard: &mut Guard<T, B>,
     text: &str,
 ) -> Result<Loaded, Stop<T::Error>>
+    // Each line was put, and nothing else.
+    ensures loads { let hash = key_hash B.BuildHasher B.Hasher.Hasher in
+        Guards hash guard.old.filter (T.is_ready guard.old.store) (T.has guard.old.store)
+        → T.is_known guard.new.store → IfOk result (λ _.
+        Loads (lines text.now) (T.has guard.old.store) (T.has guard.new.store)) }
+    ensures counts { length (lines text.now) < 2 ^ 64 → IfOk result (λ loaded.
+        loaded.added + loaded.taken ≡ length (lines text.now)) }
     ensures guards { let hash = key_hash B.BuildHasher B.Hasher.Hasher in
         Guards hash guard.old.filter (T.is_ready guard.old.store) (T.has guard.old.store)
         → T.is_known guard.new.store
@@ -43,14 +75,8 @@ pub fn load<T: Store + Drop, B: BuildHasher + Drop>(
     let mut number = 0u64;
     'lines: for line in text.lines() {
         number = number.saturating_add(1);
-        let Some((key, value)) = line.split_once('\t') else {
-            return Err(Stop::Line(number));
-        };
-        match guard.put(key, value) {
-            Ok(Put::Added) => loaded.added = loaded.added.saturating_add(1),
-            Ok(Put::Taken) => loaded.taken = loaded.taken.saturating_add(1),
-            Err(error) => return Err(Stop::Store(error)),
-        }
+        let put = put_line(guard, line, number)?;
+        loaded = loaded.after(put);
     }
     Ok(loaded)
 }

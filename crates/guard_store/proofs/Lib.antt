@@ -1,4 +1,5 @@
 mod CompareLemmas
+mod EntryFacts
 mod InsertLemmas
 mod ListLemmas
 mod QueryLemmas

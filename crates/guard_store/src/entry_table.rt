@@ -68,7 +68,8 @@ impl<S: Alter + Drop> EntryTable<S> {
     pub fn into_connection(self) -> Connection<S>
         ensures { result ≡ self.conn }
     {
-        self.conn
+        let EntryTable { conn, .. } = self;
+        conn
     }
 }
 

@@ -1,0 +1,133 @@
+//! The command line.
+
+use clap::error::ErrorKind;
+use clap::{Arg, ArgMatches, Command, Error};
+use fastbloom::Rate;
+use std::alloc::Global;
+
+/// What is to be done with a store.
+#[derive(Clone, Copy, Debug, PartialEq, Eq)]
+pub enum Task<'a> {
+    /// Put this value at this key.
+    Put(&'a str, &'a str),
+    /// Find the value of this key.
+    Get(&'a str),
+    /// Put the entries of the file with this name.
+    Load(&'a str),
+    /// Look up the keys of the standard input.
+    Stats,
+}
+
+/// What the words after the program's name ask for.
+#[derive(Clone, Copy, Debug, PartialEq, Eq)]
+pub struct Options<'a> {
+    /// The name of the store's file.
+    pub store: &'a str,
+    /// The share of absent keys that may be looked up in the store for nothing.
+    pub rate: Rate,
+    pub task: Task<'a>,
+}
+
+fn word<'a>(alloc: Global, id: &'a str, help: &'a str) -> Arg<'a> {
+    Arg::new(alloc, id).required(true).help(help)
+}
+
+fn put_command<'a>(alloc: Global) -> Result<Command<'a>, Error> {
+    Ok(
+        Command::new(alloc, "put")
+            .about("Puts a value at a key that has none yet, and prints added or taken")
+            .arg(word(alloc, "KEY", "A key, any text"))?
+            .arg(word(alloc, "VALUE", "Its value, any text"))?,
+    )
+}
+
+fn get_command<'a>(alloc: Global) -> Result<Command<'a>, Error> {
+    Ok(
+        Command::new(alloc, "get")
+            .about("Prints the value of a key")
+            .arg(word(alloc, "KEY", "A key"))?,
+    )
+}
+
+fn load_command<'a>(alloc: Global) -> Result<Command<'a>, Error> {
+    Ok(
+        Command::new(alloc, "load")
+            .about("Puts the entries of a file, and prints what that came to")
+            .arg(word(alloc, "FILE", "Each line has a key, a tab, and a value"))?,
+    )
+}
+
+fn stats_command<'a>(alloc: Global) -> Result<Command<'a>, Error> {
+    Ok(Command::new(alloc, "stats").about(
+        "Looks up the keys of its input, one a line, and prints what that came to",
+    ))
+}
+
+// The words that the program understands.
+fn command<'a>(alloc: Global) -> Result<Command<'a>, Error> {
+    let rate = Arg::new(alloc, "rate")
+        .long("rate")
+        .value_name("A/B")
+        .default_value("1/1000")
+        .help("The share of absent keys that may be looked up in the store for nothing");
+    let store = word(
+        alloc,
+        "STORE",
+        "A SQLite file, which put and load make where there is none",
+    );
+    Ok(
+        Command::new(alloc, "guard")
+            .about("A store of values by keys, behind a filter of its keys")
+            .subcommand_required(true)
+            .arg_required_else_help(true)
+            .arg(rate)?
+            .arg(store)?
+            .subcommand(put_command(alloc)?)?
+            .subcommand(get_command(alloc)?)?
+            .subcommand(load_command(alloc)?)?
+            .subcommand(stats_command(alloc)?)?,
+    )
+}
+
+// The rate that a text like 1/1000 is, if it lies between 0 and 1.
+fn rate_of(text: &str) -> Option<Rate> {
+    let (num, den) = text.split_once('/')?;
+    let num = num.parse::<u64>().ok()?;
+    let den = den.parse::<u64>().ok()?;
+    if num < den {
+        Rate::new(num, den).ok()
+    } else {
+        None
+    }
+}
+
+// The task of a command's words.
+fn task_of<'a>(matches: &ArgMatches<'a>) -> Option<Task<'a>> {
+    let (name, words) = matches.subcommand()?;
+    match name {
+        "put" => Some(Task::Put(words.get_str("KEY")?, words.get_str("VALUE")?)),
+        "get" => Some(Task::Get(words.get_str("KEY")?)),
+        "load" => Some(Task::Load(words.get_str("FILE")?)),
+        "stats" => Some(Task::Stats),
+        _ => None,
+    }
+}
+
+/// What the words ask for, of which the first is the program's name.
+///
+/// # Errors
+/// The text for the user: what is wrong with the words, or the help.
+pub fn arguments<'a>(alloc: Global, words: &'a [String]) -> Result<Options<'a>, Error> {
+    let matches = command(alloc)?.try_get_matches_from(words)?;
+    let rate = match matches.get_str("rate") {
+        Some(text) => rate_of(text),
+        None => None,
+    };
+    match (matches.get_str("STORE"), rate, task_of(&matches)) {
+        (Some(store), Some(rate), Some(task)) => Ok(Options { store, rate, task }),
+        _ => {
+            let told = "the rate is a fraction between 0 and 1, as 1/1000";
+            Err(command(alloc)?.error(ErrorKind::ValueValidation, told)?)
+        }
+    }
+}

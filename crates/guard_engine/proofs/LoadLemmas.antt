@@ -1,0 +1,110 @@
+-- Lines that are put one after the other.
+use Rattle.std.proofs.Common.{◌≡◌, ℕ, ◌⊎◌, inl, inr, List, [], ◌∷◌, ◌++◌, map, Option, Some, None, Bor, Ok, Err, Result, IfOk, IfSome, refl, sym, ap, subst, ◌∙◌, arith, Contains}
+use Rattle.std.proofs.lemmas.Iterator.{items_from_drains}
+use Rattle.std.proofs.lemmas.Iterator.Splits.{YieldsList-from_lines}
+use Rattle.std.proofs.lemmas.List.Elements.{Contains-append_left, Contains-append_right, Contains-append_cases}
+use Rattle.std.proofs.lemmas.Str.Pattern.{IsSplitOnceResult, split_once_first}
+use Rattle.std.specs.Iterator.{Yields}
+use Rattle.std.specs.Str.Iter.{lines_rest, lines_steps}
+use Rattle.std.specs.Str.Lines.{lines}
+use Rattle.guard_engine.specs.declared.guard.Put.{Put}
+use Rattle.guard_engine.specs.declared.guard.Put.TheVariants.{Added, Taken}
+use Rattle.guard_engine.specs.Guarded.{Entries, Gains, Lacks, Stays}
+use Rattle.guard_engine.specs.Loaded.{HasTab, IsEntryIn, Loads, key_in, value_in}
+
+-- an entry is that of one of these lines
+abbrev Of : List (List ℕ) → List ℕ → List ℕ → Type 0
+Of lines key value = (line : List ℕ) × Contains lines line × IsEntryIn line key value
+
+-- the only element of a list
+only : {X : Type 0} (x y : X) → Contains (x ∷ []) y → y ≡ x
+only x y (k, within, is) = let at : k ≡ 0 = omega (arith, within) in sym (rw at at is)
+
+-- of no lines
+pub Loads-nil : (entries : Entries) → Loads [] entries entries
+Loads-nil entries = record {
+  kept = λ key value had. had;
+  others = λ key value has. inl has;
+  found = λ line in_none. absurd (omega (arith, in_none.1));
+}
+
+-- of a line whose entry came
+pub Loads-added : (line : List ℕ) (old new : Entries) → HasTab line
+    → Gains old (key_in line) (value_in line) new → Loads (line ∷ []) old new
+Loads-added line old new tab gains = record {
+  kept = gains.kept;
+  others = λ key value has. came key value (gains.others key value has);
+  found = λ other there. subst (λ l. HasTab l × ((v : List ℕ) × new (key_in l) v))
+      (sym (only line other there)) (tab, (value_in line, gains.here));
+}
+  where
+    came : (key value : List ℕ) → old key value ⊎ ((key ≡ key_in line) × (value ≡ value_in line))
+        → old key value ⊎ Of (line ∷ []) key value
+    came key value (inl had) = inl had
+    came key value (inr same) =
+        inr (line, (0, omega arith, refl), record { tab = tab; key_is = same.0; value_is = same.1 })
+
+-- of a line whose key had a value
+pub Loads-taken : (line : List ℕ) (old new : Entries) → HasTab line
+    → ((other : List ℕ) × old (key_in line) other) → Stays old new → Loads (line ∷ []) old new
+Loads-taken line old new tab had stays = record {
+  kept = λ key value was. (stays key value).1 was;
+  others = λ key value has. inl ((stays key value).0 has);
+  found = λ other there. subst (λ l. HasTab l × ((v : List ℕ) × new (key_in l) v))
+      (sym (only line other there)) (tab, (had.0, (stays (key_in line) had.0).1 had.1));
+}
+
+-- of some lines and of more
+pub Loads-more : (lines more : List (List ℕ)) (old mid new : Entries)
+    → Loads lines old mid → Loads more mid new → Loads (lines ++ more) old new
+Loads-more lines more old mid new first after = record {
+  kept = λ key value had. after.kept key value (first.kept key value had);
+  others = λ key value has. late key value (after.others key value has);
+  found = λ line there. each line (Contains-append_cases lines more line there);
+}
+  where
+    early : (key value : List ℕ) → old key value ⊎ Of lines key value
+        → old key value ⊎ Of (lines ++ more) key value
+    early key value (inl had) = inl had
+    early key value (inr (line, there, is)) = inr (line, Contains-append_left lines more line there, is)
+
+    late : (key value : List ℕ) → mid key value ⊎ Of more key value
+        → old key value ⊎ Of (lines ++ more) key value
+    late key value (inl had) = early key value (first.others key value had)
+    late key value (inr (line, there, is)) = inr (line, Contains-append_right lines more line there, is)
+
+    each : (line : List ℕ) → Contains lines line ⊎ Contains more line
+        → HasTab line × ((value : List ℕ) × new (key_in line) value)
+    each line (inl there) = let was = first.found line there in
+        (was.0, (was.1.0, after.kept (key_in line) was.1.0 was.1.1))
+    each line (inr there) = after.found line there
+
+-- ---- the lines that a loop took
+
+-- they are the lines of the text
+pub lines_read : (start last end : _) (text : List ℕ) (taken : List (Bor (List ℕ)))
+    → lines_rest start ≡ text → Yields lines_steps start taken last → lines_steps last None end
+    → map (λ line. line.now) taken ≡ lines text
+lines_read start last end text taken rest came ended =
+    items_from_drains taken (last, came, λ _. (end, ended)) (YieldsList-from_lines text rest)
+
+-- ---- one line
+
+-- what a cut at the tab gives
+pub cut : (line : List ℕ) (r : Option (Bor (List ℕ) × Bor (List ℕ))) → IsSplitOnceResult 9 line r
+    → IfSome r (λ entry. IsEntryIn line entry.0.now entry.1.now)
+cut line None h = tt
+cut line (Some x) h = let at = split_once_first 9 line (Some x) h (omega arith) in
+    record { tab = at.0; key_is = at.1; value_is = at.2 }
+
+-- a put of its entry, whatever it answers
+pub put_loads : {E : Type 0} (line key value : List ℕ) (old new : Entries) (r : Result Put E)
+    → IsEntryIn line key value
+    → (r ≡ Ok Added → Lacks old key × Gains old key value new)
+    → (r ≡ Ok Taken → ((other : List ℕ) × old key other) × Stays old new)
+    → IfOk r (λ _. Loads (line ∷ []) old new)
+put_loads line key value old new (Ok Added) is added taken =
+    Loads-added line old new is.tab (rw (← is.key_is, ← is.value_is) (added refl).1)
+put_loads line key value old new (Ok Taken) is added taken =
+    Loads-taken line old new is.tab (rw (← is.key_is) (taken refl).0) (taken refl).1
+put_loads line key value old new (Err e) is added taken = tt

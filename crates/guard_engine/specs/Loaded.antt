@@ -1,0 +1,36 @@
+-- What a text of entries says, one a line, and what a store has once each was put. The lines are
+-- those of `str::lines`: one ends before byte 10, or before bytes 13 and 10.
+use Rattle.std.specs.Prelude.{◌≡◌, ◌⊎◌, ◌==◌, ◌<◌, ℕ, List, Bool, length, Contains}
+use Rattle.std.specs.List.{after_first, before_first, position_or_len}
+use Rattle.guard_engine.specs.Guarded.{Entries}
+
+-- a byte is the tab
+abbrev pub is_tab : ℕ → Bool
+is_tab byte = byte == 9
+
+-- a line has a tab
+abbrev pub HasTab : List ℕ → Type 0
+HasTab line = position_or_len is_tab line < length line
+
+-- the key of a line: what stands before its first tab
+abbrev pub key_in : List ℕ → List ℕ
+key_in line = before_first is_tab line
+
+-- the value of a line: what stands after its first tab
+abbrev pub value_in : List ℕ → List ℕ
+value_in line = after_first is_tab line
+
+-- the entry of a line
+pub record IsEntryIn (line key value : List ℕ) : Type 0 where
+  pub tab : HasTab line
+  pub key_is : key ≡ key_in line
+  pub value_is : value ≡ value_in line
+
+-- from old to new each of these lines was put: what was there stays, what came is the entry of a
+-- line, and the key of each line has a value
+pub record Loads (lines : List (List ℕ)) (old new : Entries) : Type 0 where
+  pub kept : (key value : List ℕ) → old key value → new key value
+  pub others : (key value : List ℕ) → new key value
+      → old key value ⊎ ((line : List ℕ) × Contains lines line × IsEntryIn line key value)
+  pub found : (line : List ℕ) → Contains lines line
+      → HasTab line × ((value : List ℕ) × new (key_in line) value)
