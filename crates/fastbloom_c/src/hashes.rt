@@ -8,6 +8,7 @@ use bloom_parts::slices::{contains_positions, insert_positions};
 /// Turns on all positions of a hash, and answers whether all were on just before.
 ///
 /// No hashes count as one.
+#[inline(always)]
 #[unsafe(no_mangle)]
 pub extern "C" fn fastbloom_insert_hash(words: &mut [u64], num_hashes: u32, hash: u64) -> bool
     ensures reply { result
@@ -26,6 +27,7 @@ pub extern "C" fn fastbloom_insert_hash(words: &mut [u64], num_hashes: u32, hash
 /// Whether all positions of a hash are on.
 ///
 /// No hashes count as one.
+#[inline(always)]
 #[unsafe(no_mangle)]
 pub extern "C" fn fastbloom_contains_hash(words: &[u64], num_hashes: u32, hash: u64) -> bool
     ensures found { result
