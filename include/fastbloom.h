@@ -7,8 +7,8 @@
  * No words are no filter: each call answers false for them, and changes nothing.
  *
  * What each call asks of its caller, since nothing checks it:
- *  - words, key, bytes and the out parameters are not NULL, even where a length is 0, and are
- *    aligned: words to 8, num_words to the alignment of size_t, num_hashes to 4;
+ *  - words, hashes, key, bytes and the out parameters are not NULL, even where a length is 0, and are
+ *    aligned: words and hashes to 8, num_words to the alignment of size_t, num_hashes to 4;
  *  - they lie in memory of the lengths that are given, each at most 2^63 - 1 bytes, which stays in
  *    its place while the call runs;
  *  - what a call may write (a parameter that isn't const) overlaps with nothing else that the call
@@ -50,6 +50,11 @@ uint64_t fastbloom_hash(const uint8_t key[16], const uint8_t *bytes, size_t len)
 
 /* Turns on all positions of a hash, and answers whether all were on just before. */
 bool fastbloom_insert_hash(uint64_t *words, size_t num_words, uint32_t num_hashes, uint64_t hash);
+
+/* Turns on all positions of each of so many hashes, and answers true. Many at once cost less than a
+ * call for each. */
+bool fastbloom_insert_hashes(uint64_t *words, size_t num_words, uint32_t num_hashes,
+                             const uint64_t *hashes, size_t count);
 
 /* Whether all positions of a hash are on: false means that it was never inserted. */
 bool fastbloom_contains_hash(const uint64_t *words, size_t num_words, uint32_t num_hashes,

@@ -1,6 +1,7 @@
 /* What an insert by hash costs: `bench [KEYS [HASHES]]`, into ten bits a key.
  *
- * It prints how many answered true and the nanoseconds of one call. */
+ * It prints how many answered true and the nanoseconds of one call, and then what a hash costs where
+ * 1,000 are inserted at once. */
 #define _POSIX_C_SOURCE 199309L
 #include "fastbloom.h"
 
@@ -35,6 +36,15 @@ int main(int argc, char **argv) {
     for (uint64_t key = 0; key < keys; key++)
         answers += fastbloom_insert_hash(words, num_words, num_hashes, hash_of(key));
     printf("%" PRIu64 " %.3f\n", answers, (now() - began) / (double)keys);
+    fastbloom_clear(words, num_words);
+    uint64_t hashes[1000];
+    began = now();
+    for (uint64_t key = 0; key < keys;) {
+        size_t count = 0;
+        for (; count < 1000 && key < keys; key++) hashes[count++] = hash_of(key);
+        fastbloom_insert_hashes(words, num_words, num_hashes, hashes, count);
+    }
+    printf("at once %.3f\n", (now() - began) / (double)keys);
     free(words);
     return 0;
 }

@@ -165,6 +165,12 @@ static void refused(void) {
     uint64_t one[3] = {0}, none[3] = {0};
     CHECK(!fastbloom_insert_hash(one, 3, 1, 42) && !fastbloom_insert_hash(none, 3, 0, 42));
     CHECK(fastbloom_equal(one, 3, none, 3) && fastbloom_contains_hash(none, 3, 0, 42));
+    uint64_t hashes[1] = {0x9e3779b97f4a7c15u};
+    CHECK(!fastbloom_insert_hashes(a, 0, 3, hashes, 1) && memcmp(a, was, sizeof a) == 0);
+    CHECK(fastbloom_insert_hashes(one, 3, 1, hashes, 0) && fastbloom_equal(one, 3, none, 3));
+    CHECK(fastbloom_insert_hashes(one, 3, 0, hashes, 1));
+    CHECK(!fastbloom_insert_hash(none, 3, 1, *hashes));
+    CHECK(fastbloom_equal(one, 3, none, 3));
 }
 
 /* The filter that each language builds: item0, item1 and so on under the zero key. */
@@ -172,7 +178,8 @@ static void items(void) {
     size_t num_words;
     uint32_t num_hashes;
     CHECK(fastbloom_plan(1, 1000, 1000, &num_words, &num_hashes) == 0);
-    uint64_t *words = zero_words(num_words);
+    uint64_t *words = zero_words(num_words), *at_once = zero_words(num_words);
+    static uint64_t hashes[1000];
     unsigned wrong = 0;
     for (int i = 0; i < 101000; i++) {
         char text[16];
@@ -181,12 +188,15 @@ static void items(void) {
         if (i < 1000) {
             fastbloom_insert(words, num_words, num_hashes, zero_key, bytes, length);
             CHECK(fastbloom_contains(words, num_words, num_hashes, zero_key, bytes, length));
-            uint64_t hash = fastbloom_hash(zero_key, bytes, length);
-            CHECK(fastbloom_insert_hash(words, num_words, num_hashes, hash));
+            hashes[i] = fastbloom_hash(zero_key, bytes, length);
+            CHECK(fastbloom_insert_hash(words, num_words, num_hashes, hashes[i]));
         } else {
             wrong += fastbloom_contains(words, num_words, num_hashes, zero_key, bytes, length);
         }
     }
+    CHECK(fastbloom_insert_hashes(at_once, num_words, num_hashes, hashes, 1000));
+    CHECK(fastbloom_equal(words, num_words, at_once, num_words));
+    free(at_once);
     uint64_t digest = 1469598103934665603u;
     for (size_t i = 0; i < num_words; i++) digest = (digest ^ words[i]) * 1099511628211u;
     printf("words %zu hashes %" PRIu32 "\n", num_words, num_hashes);
