@@ -66,6 +66,22 @@ fn measure_clones<R: Print + AllocGlobal + Clock>(
     Ok(row.print(rt)?)
 }
 
+// The row of `iter`, which loads the words one after the other.
+fn measure_words<R: Print + Clock>(
+    rt: &R,
+    plan: &Plan,
+    filter: &AtomicBloomFilter,
+) -> anyhow::Result<()> {
+    let words = measured_words(filter.num_bits(), plan.keys);
+    let mut row = Row::new(plan, "shared iter, a word", 7, words, "odd words");
+    'rounds: for _round in 0..row.rounds() {
+        let start = Instant::now(rt)?;
+        let odd = filter.iter().filter(|word| *word % 2 == 1).count();
+        row.add(odd as u64, start.elapsed(rt)?);
+    }
+    Ok(row.print(rt)?)
+}
+
 // The row of `to_data`.
 fn measure_data<R: Print + AllocGlobal + Clock>(
     rt: &R,
@@ -112,6 +128,7 @@ pub fn measure<R: Print + AllocGlobal + Clock>(rt: &R, plan: &Plan) -> anyhow::R
         measure_call(rt, plan, &filter, &other, call)?;
     }
     measure_clones(rt, plan, &other)?;
+    measure_words(rt, plan, &other)?;
     measure_data(rt, plan, &other)?;
     measure_takes(rt, plan, &other)
 }

@@ -93,6 +93,22 @@ fn measure_clones<R: Print + AllocGlobal + Clock>(
     Ok(row.print(rt)?)
 }
 
+// The row of `iter`, which gives the words one after the other.
+fn measure_words<R: Print + Clock>(
+    rt: &R,
+    plan: &Plan,
+    filter: &BloomFilter,
+) -> anyhow::Result<()> {
+    let words = measured_words(filter.num_bits(), plan.keys);
+    let mut row = Row::new(plan, "iter, a word", 7, words, "odd words");
+    'rounds: for _round in 0..row.rounds() {
+        let start = Instant::now(rt)?;
+        let odd = filter.iter().filter(|word| *word % 2 == 1).count();
+        row.add(odd as u64, start.elapsed(rt)?);
+    }
+    Ok(row.print(rt)?)
+}
+
 // The row of `replay`.
 fn measure_lists<R: Print + AllocGlobal + Clock>(rt: &R, plan: &Plan) -> anyhow::Result<()> {
     let mut filter = filter_for(rt.alloc(), plan.keys, 7)?;
@@ -122,6 +138,7 @@ pub fn measure<R: Print + AllocGlobal + Clock>(rt: &R, plan: &Plan) -> anyhow::R
         measure_call(rt, plan, &mut filter, &other, call)?;
     }
     measure_clones(rt, plan, &other)?;
+    measure_words(rt, plan, &other)?;
     if plan.wants(REPLAY) {
         measure_lists(rt, plan)?;
     }

@@ -68,9 +68,11 @@ module _ (a b a_told b_told a_new b_new : FilterSeat) (words : ℕ)
     known_a = λ p is. a_views.kept p (in-a p is);
     known_b = λ p is. b_views.kept p (in-b p is);
     start_a = subst (λ l. IsPart (content l) (known_of (sight_of a_new))) a_start
-        (start-known (sight_of a_told) (sight_of a_new) words a_views (ap length a_start ∙ a_whole));
+        (start-known (sight_of a_told) (sight_of a_new) words a_views
+        (ap length a_start ∙ a_whole));
     start_b = subst (λ l. IsPart (content l) (known_of (sight_of b_new))) b_start
-        (start-known (sight_of b_told) (sight_of b_new) words b_views (ap length b_start ∙ b_whole));
+        (start-known (sight_of b_told) (sight_of b_new) words b_views
+        (ap length b_start ∙ b_whole));
   }
 
 -- the last words of a table, as a pass knows them

@@ -86,7 +86,8 @@ module _ (table : TableId) (v : Sets) (q found : ℕ) (shown : Shows v (q / 64) 
               (λ old. both_ways (sure_in v q) (unsure off)
               (or_right (content v.start q) (set_of v.known q) (part q old)));
         };
-    stayed = λ yes p now. elim (in-either v.gained (fresh_in (q / 64) (mask_of q found) found) p now) [
+    stayed = λ yes p now.
+        elim (in-either v.gained (fresh_in (q / 64) (mask_of q found) found) p now) [
       | inl old ↦ old
       | inr fresh ↦ absurd (both_ways (bit_is_on found q) (gain-from p fresh).1 (sym is ∙ yes))
     ];
@@ -118,7 +119,8 @@ module _ (table : TableId) (v : Sets) (q found : ℕ) (shown : Shows v (q / 64) 
     same = record { filter = refl; start = refl };
     gained = refl;
     kept = λ p old. in-left v.known (on_in (q / 64) found) p old;
-    on = λ yes. in-right v.known (on_in (q / 64) found) q (on-to (q / 64) found q refl (sym is ∙ yes));
+    on = λ yes.
+        in-right v.known (on_in (q / 64) found) q (on-to (q / 64) found q refl (sym is ∙ yes));
     off = λ no. off-after (sym is ∙ no);
     grown = λ p now. elim (in-either v.known (on_in (q / 64) found) p now) [
       | inl old ↦ inl old
@@ -204,7 +206,8 @@ module _ (P Q : ℕ → Bool) (old mid new : Sight) (a b : Bool) (first : Insert
 -- the same positions, said otherwise
 pub inserts-as : (P Q : ℕ → Bool) (old new : Sight) (a : Bool) → ((p : ℕ) → P p ≡ Q p)
     → Inserts P old new a → Inserts Q old new a
-inserts-as P Q old new a same did = subst (λ (F : ℕ → Bool). Inserts F old new a) (λ i. λ p. same p i) did
+inserts-as P Q old new a same did =
+    subst (λ (F : ℕ → Bool). Inserts F old new a) (λ i. λ p. same p i) did
 
 -- from old to new a seat turned a position on, as its step tells
 pub by-turn : (old new : FilterSeat) (q word mask found : ℕ) → word ≡ q / 64 → mask ≡ 2 ^ (q % 64)

@@ -64,7 +64,8 @@ loads count passes slots seat me i within pass s rule sized at fits =
                   let there = on-from i found p new in
                   content-word s.words i p there.0 ∙ there.1
             ];
-            gained_known = λ p is. in-left v.known (on_in i found) p (rule.gained_known seat v at p is);
+            gained_known = λ p is.
+                in-left v.known (on_in i found) p (rule.gained_known seat v at p is);
             gained = λ p is. inl is;
             kept = λ p is. is;
             gained_by = λ p is. pass;
@@ -103,7 +104,8 @@ module _ {count passes : ℕ} (s : Standing) (rule : IsSeated count passes s) (s
   account-or p on = elim (cases_Bool (content s.words p)) [
     | inl was ↦ inl was
     | inr off ↦
-        elim (or_cases (content s.words p) (eqb (p / 64) i && bit_is_on mask p) (sym (on-after p) ∙ on)) [
+        elim (or_cases (content s.words p) (eqb (p / 64) i && bit_is_on mask p)
+            (sym (on-after p) ∙ on)) [
           | inl was ↦ inl was
           | inr turned ↦
               let parts = and_parts (eqb (p / 64) i) (bit_is_on mask p) turned in

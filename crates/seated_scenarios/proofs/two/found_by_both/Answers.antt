@@ -16,7 +16,8 @@ returns g c = record {
       c.args.hashes.0.items c.args.hashes.1.items c.args.asked
       (promised f one.filter.value c.join-first.result c.args.hashes.0.items one.hashes.value.items
       (c.in-Some.ensures.filter ∙ kept) c.in-Some.ensures.hashes c.join-first.ensures.1)
-      (promised f two.filter.value c.join-second.result c.args.hashes.1.items two.hashes.value.items
+      (promised f two.filter.value c.join-second.result c.args.hashes.1.items
+      two.hashes.value.items
       (c.in-Some-start.ensures.filter ∙ kept) c.in-Some-start.ensures.hashes c.join-second.ensures.1)
       c.meet.ensures there in (
         c.contains_hash_as-found.ensures.sure
