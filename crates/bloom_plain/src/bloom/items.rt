@@ -75,13 +75,7 @@ impl<S: BuildHasher> BloomFilter<S> {
             InsertsItems (lent_hash_of S.BuildHasher S.Hasher.Hasher T.hash_input)
             self.old run.items self.new) }
     {
-        if self.is_large() {
-            self.insert_lent_together(iter);
-            return;
-        }
-        'lent: for item in iter {
-            self.insert(item);
-        }
+        self.extend(iter);
     }
 
     /// Inserts every item that an iterator gives, in order.
@@ -95,7 +89,7 @@ impl<S: BuildHasher> BloomFilter<S> {
             self.old run.items self.new) }
     {
         if self.is_large() {
-            self.insert_given_together(iter);
+            self.insert_items_together(iter);
             return;
         }
         'given: for item in iter {

@@ -7,7 +7,7 @@ ghost use Rattle.std.specs.Iterator.{IsFiniteIterable};
 ghost use Rattle.std.specs.Iterator.Runs.{WholeRun};
 ghost use Rattle.bloom_plain.specs.Filter.{contains};
 ghost use Rattle.bloom_plain.specs.Replies.{InsertsAll, InsertsItems, Queues};
-ghost use Rattle.bloom_plain.specs.SourceHash.{source_hash_of, lent_hash_of};
+ghost use Rattle.bloom_plain.specs.SourceHash.{source_hash_of};
 
 use crate::bloom::BloomFilter;
 use arrayvec::ArrayVec;
@@ -70,28 +70,8 @@ impl<S> BloomFilter<S> {
 }
 
 impl<S: BuildHasher> BloomFilter<S> {
-    // Inserts every item that an iterator lends, in order, sixteen at a time.
-    pub(super) fn insert_lent_together<'a, T: Hash + 'a, I: IntoIterator<Item = &'a T>>(
-        &mut self,
-        iter: I,
-    )
-        requires { IsFiniteIterable
-            I.into_iter_gives I.IntoIter.can_next I.IntoIter.remaining iter }
-        ensures { (it : I.IntoIter) × I.into_iter_gives iter it
-            × WholeRun I.IntoIter.next_gives it (λ run.
-            InsertsItems (lent_hash_of S.BuildHasher S.Hasher.Hasher T.hash_input)
-            self.old run.items self.new) }
-    {
-        let mut waiting = ArrayVec::<u64, 16>::new();
-        'lent: for item in iter {
-            let hash = self.source_hash(item);
-            self.insert_later(&mut waiting, hash);
-        }
-        self.insert_few(&waiting);
-    }
-
     // Inserts every item that an iterator gives, in order, sixteen at a time.
-    pub(super) fn insert_given_together<T: Hash + Drop, I: IntoIterator<Item = T>>(
+    pub(super) fn insert_items_together<T: Hash + Drop, I: IntoIterator<Item = T>>(
         &mut self,
         iter: I,
     )

@@ -65,13 +65,7 @@ impl<S: BuildHasher> AtomicBloomFilter<S> {
             × WholeRun I.IntoIter.next_gives it (λ run. MakesInserts
             (lent_hash_of S.BuildHasher S.Hasher.Hasher T.hash_input) self.now run.items) }
     {
-        if self.is_large() {
-            self.insert_lent_together(iter);
-            return;
-        }
-        'lent: for item in iter {
-            self.insert(item);
-        }
+        self.extend(iter);
     }
 
     /// Inserts every item that an iterator gives, in order.
@@ -84,7 +78,7 @@ impl<S: BuildHasher> AtomicBloomFilter<S> {
             (source_hash_of S.BuildHasher S.Hasher.Hasher T.hash_input) self.now run.items) }
     {
         if self.is_large() {
-            self.insert_given_together(iter);
+            self.insert_items_together(iter);
             return;
         }
         'given: for item in iter {

@@ -4,7 +4,7 @@ ghost use Rattle.std.specs.Prelude.{◌≡◌, ◌<◌, All};
 ghost use Rattle.arrayvec.specs.ArrayVec.{array_vec_len};
 ghost use Rattle.std.specs.Iterator.{IsFiniteIterable};
 ghost use Rattle.std.specs.Iterator.Runs.{WholeRun};
-ghost use Rattle.bloom_plain.specs.SourceHash.{source_hash_of, lent_hash_of};
+ghost use Rattle.bloom_plain.specs.SourceHash.{source_hash_of};
 ghost use Rattle.fastbloom.specs.Shared.{MakesInserts, WasInserted, QueuesInsert};
 
 use super::AtomicBloomFilter;
@@ -60,27 +60,8 @@ impl<S> AtomicBloomFilter<S> {
 }
 
 impl<S: BuildHasher> AtomicBloomFilter<S> {
-    // Inserts every item that an iterator lends, in order, sixteen at a time.
-    pub(super) fn insert_lent_together<'a, T: Hash + 'a, I: IntoIterator<Item = &'a T>>(
-        &self,
-        iter: I,
-    )
-        requires { IsFiniteIterable
-            I.into_iter_gives I.IntoIter.can_next I.IntoIter.remaining iter }
-        ensures { (it : I.IntoIter) × I.into_iter_gives iter it
-            × WholeRun I.IntoIter.next_gives it (λ run. MakesInserts
-            (lent_hash_of S.BuildHasher S.Hasher.Hasher T.hash_input) self.now run.items) }
-    {
-        let mut waiting = ArrayVec::<u64, 16>::new();
-        'lent: for item in iter {
-            let hash = self.source_hash(item);
-            self.insert_later(&mut waiting, hash);
-        }
-        self.insert_few(&waiting);
-    }
-
     // Inserts every item that an iterator gives, in order, sixteen at a time.
-    pub(super) fn insert_given_together<T: Hash + Drop, I: IntoIterator<Item = T>>(&self, iter: I)
+    pub(super) fn insert_items_together<T: Hash + Drop, I: IntoIterator<Item = T>>(&self, iter: I)
         requires { IsFiniteIterable
             I.into_iter_gives I.IntoIter.can_next I.IntoIter.remaining iter }
         ensures { (it : I.IntoIter) × I.into_iter_gives iter it

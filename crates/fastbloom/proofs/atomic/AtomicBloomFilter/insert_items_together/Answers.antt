@@ -4,7 +4,7 @@ use Rattle.bloom_plain.specs.SourceHash.{source_hash_of}
 use Rattle.fastbloom.specs.Shared.{WasInserted, QueuesInsert}
 use Rattle.fastbloom.proofs.InsertedLemmas.{made_inserts-whole}
 use Rattle.fastbloom.proofs.TogetherLemmas.{is_behind-none, is_behind-item, is_behind-all}
-use Rattle.fastbloom.proofs.atomic.AtomicBloomFilter.insert_given_together.Goals as goal
+use Rattle.fastbloom.proofs.atomic.AtomicBloomFilter.insert_items_together.Goals as goal
 
 pub given-init : goal.given-init
 given-init g c = record {

@@ -3,7 +3,7 @@ use Rattle.bloom_plain.specs.Replies.{InsertsAll, Queues}
 use Rattle.bloom_plain.specs.SourceHash.{source_hash_of}
 use Rattle.bloom_plain.proofs.ListLemmas.{inserts_items-whole}
 use Rattle.bloom_plain.proofs.TogetherLemmas.{is_behind-none, is_behind-item, is_behind-all}
-use Rattle.bloom_plain.proofs.bloom.BloomFilter.insert_given_together.Goals as goal
+use Rattle.bloom_plain.proofs.bloom.BloomFilter.insert_items_together.Goals as goal
 
 pub given-init : goal.given-init
 given-init g c = record {
