@@ -22,7 +22,8 @@ AreAbsent-absent : (entries : Entries) (keys : List (List ℕ)) (key : List ℕ)
     → AreAbsent entries (keys ++ key ∷ []) (many + 1)
 AreAbsent-absent entries [] key many none lacks = inl (lacks, (many, refl, none))
 AreAbsent-absent entries (first ∷ rest) key many (inl (gone, (others, more, so_far))) lacks =
-    inl (gone, (others + 1, ap (λ n. n + 1) more, AreAbsent-absent entries rest key others so_far lacks))
+    let all = AreAbsent-absent entries rest key others so_far lacks in
+    inl (gone, (others + 1, ap (λ n. n + 1) more, all))
 AreAbsent-absent entries (first ∷ rest) key many (inr (had, so_far)) lacks =
     inr (had, AreAbsent-absent entries rest key many so_far lacks)
 
@@ -175,8 +176,8 @@ module _ {B : Type 0} (hash_of : B → List ℕ → ℕ) (f : Filter B) (entries
   Tallies-more (Ok Spared) asked alarm value spared_one alarm_one value_one =
       Tallies-spared (asked.0 refl) (spared_one refl)
   Tallies-more (Ok FalseAlarm) asked alarm value spared_one alarm_one value_one =
-      Tallies-alarm (not_false _ (λ lacks. let same = asked.1 lacks in cc)) (λ told. alarm told refl)
-      (alarm_one refl)
+      Tallies-alarm (not_false _ (λ lacks. let same = asked.1 lacks in cc))
+      (λ told. alarm told refl) (alarm_one refl)
   Tallies-more (Ok (Value text)) asked alarm value spared_one alarm_one value_one =
       Tallies-value (not_false _ (λ lacks. let same = asked.1 lacks in cc))
       (λ told. (string_bytes text, value told text refl)) (value_one text refl)

@@ -1,6 +1,6 @@
--- How look-ups are counted, of three keys: the first has a value, the second isn't in the filter, and
--- the third is, and has none. Cases that hold, and near ones that don't. A key is hashed to the sum of
--- its bytes; the filter is that of hash 1.
+-- How look-ups are counted, of three keys: the first has a value, the second isn't in the filter,
+-- and the third is, and has none. Cases that hold, and near ones that don't. A key is hashed to the
+-- sum of its bytes; the filter is that of hash 1.
 use Rattle.std.proofs.Common.{◌≡◌, inl, inr, ℕ, ◌-◌, ◌^◌, List, [], ◌∷◌, sum, refl, subst, arith}
 use Rattle.bloom_parts.specs.Chain.{chain}
 use Rattle.bloom_parts.specs.Content.{content}
@@ -78,17 +78,20 @@ tallies = record {
 }
 
 -- not where nothing was looked up
-tallies-nothing : Tallies by_sum (filter 1048577) (Unit {0}) one keys (counts 0 0 0) (counts 0 0 0) → ⊥
+tallies-nothing : Tallies by_sum (filter 1048577) (Unit {0}) one keys
+    (counts 0 0 0) (counts 0 0 0) → ⊥
 unfolding are_in chain content
 tallies-nothing is = let none = is.spared in cc
 
 -- nor where a key was looked up twice
-tallies-again : Tallies by_sum (filter 1048577) (Unit {0}) one keys (counts 0 0 0) (counts 1 3 1) → ⊥
+tallies-again : Tallies by_sum (filter 1048577) (Unit {0}) one keys
+    (counts 0 0 0) (counts 1 3 1) → ⊥
 unfolding are_in chain content
 tallies-again is = let more = is.asked in cc
 
 -- nor where a value counts as a false alarm
-tallies-alarm : Tallies by_sum (filter 1048577) (Unit {0}) one keys (counts 0 0 0) (counts 1 2 2) → ⊥
+tallies-alarm : Tallies by_sum (filter 1048577) (Unit {0}) one keys
+    (counts 0 0 0) (counts 1 2 2) → ⊥
 unfolding are_in chain content
 tallies-alarm is =
     let two : is.alarms ≡ 2 = omega (arith, is.false_alarms, is.at_most) in

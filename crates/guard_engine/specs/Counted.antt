@@ -12,12 +12,12 @@ more_by n many = min (n + many) (2 ^ 64 - 1)
 abbrev pub one_more : ℕ → ℕ
 one_more n = more_by n 1
 
--- the keys that a filter may have, by their hashes under its hasher: those that a store is asked for
+-- the keys that a filter may have, by their hashes under its hasher: a store is asked for these
 abbrev pub asked_keys :
     {B : Type 0} → (B → List ℕ → ℕ) → Filter B → List (List ℕ) → List (List ℕ)
 asked_keys hash_of f keys = filter (λ key. contains f (hash_of f.hasher key)) keys
 
--- the keys that a filter lacks: those that a store is spared
+-- the keys that a filter lacks: a store is spared these
 abbrev pub spared_keys :
     {B : Type 0} → (B → List ℕ → ℕ) → Filter B → List (List ℕ) → List (List ℕ)
 spared_keys hash_of f keys = filter (λ key. not (contains f (hash_of f.hasher key))) keys
@@ -29,9 +29,9 @@ AreAbsent entries (key ∷ rest) many =
     (Lacks entries key × ((others : ℕ) × (many ≡ others + 1) × AreAbsent entries rest others))
     ⊎ (((value : List ℕ) × entries key value) × AreAbsent entries rest many)
 
--- from old to new each of these keys was looked up once: those that the filter lacks count as spared,
--- the others as asked, and some of the others as false alarms; where the store told what it has, as
--- many as have no value
+-- from old to new each of these keys was looked up once: those that the filter lacks count as
+-- spared, the others as asked, and some of the others as false alarms; where the store told what it
+-- has, as many as have no value
 pub record Tallies {B : Type 0} (hash_of : B → List ℕ → ℕ) (f : Filter B) (is_told : Type 0)
     (entries : Entries) (keys : List (List ℕ)) (old new : Counts) : Type 0 where
   pub spared : new.spared ≡ more_by old.spared (length (spared_keys hash_of f keys))

@@ -43,8 +43,8 @@ keys-preserved g c =
           (Tallies-more hash_of start.filter entries (map (λ k. k.now) c.keys.yielded) key.now
           start.counts c.keys.guard.counts c.get.new.self.counts _ _
           was.counts (λ told. (told.0, now.known told.1)) (Ok found) asked
-          (λ told alarm value had. now.alarm (was.ready told.0 (now.known told.1)) told.1 alarm value
-          ((was.stays told.0 (now.known told.1) key.now value).1 had))
+          (λ told alarm value had.
+          now.alarm (was.ready told.0 (now.known told.1)) told.1 alarm value ((was.stays told.0 (now.known told.1) key.now value).1 had))
           (λ told value is. (was.stays told.0 (now.known told.1) key.now (string_bytes value)).0
           (now.value (was.ready told.0 (now.known told.1)) told.1 value is))
           now.count_spared now.count_alarm now.count_value);
@@ -69,7 +69,8 @@ pub returns-clause-counts : goal.returns-clause-counts
 returns-clause-counts g c =
     let start = c.args.guard.now in
     let all = lines_read c.into_iter-key-iterator.result _ _ c.args.text.now c.keys.yielded
-    (ap lines_rest c.into_iter-key-iterator.ensures.into_iter_gives ∙ c.lines-key-items.ensures.rest)
+    (ap lines_rest c.into_iter-key-iterator.ensures.into_iter_gives
+    ∙ c.lines-key-items.ensures.rest)
     c.keys.yielded_by c.in-None.ensures.steps in
     subst (λ keys. Tallies (key_hash g.B.BuildHasher g.B.Hasher.Hasher) start.filter
     (g.T.Store.is_ready start.store × g.T.Store.is_known c.keys.guard.store)
