@@ -44,7 +44,8 @@ keys-preserved g c =
           start.counts c.keys.guard.counts c.get.new.self.counts _ _
           was.counts (λ told. (told.0, now.known told.1)) (Ok found) asked
           (λ told alarm value had.
-          now.alarm (was.ready told.0 (now.known told.1)) told.1 alarm value ((was.stays told.0 (now.known told.1) key.now value).1 had))
+          now.alarm (was.ready told.0 (now.known told.1)) told.1 alarm value
+          ((was.stays told.0 (now.known told.1) key.now value).1 had))
           (λ told value is. (was.stays told.0 (now.known told.1) key.now (string_bytes value)).0
           (now.value (was.ready told.0 (now.known told.1)) told.1 value is))
           now.count_spared now.count_alarm now.count_value);
