@@ -1,12 +1,12 @@
 -- What a guard promises, of a store of one entry: cases that hold, and near ones that don't. Hash 1
 -- has the positions 0, 20 and 32 among 64 bits, so its first two make the word 1048577.
-use Rattle.std.proofs.Common.{◌≡◌, ◌⊎◌, inl, inr, ℕ, ◌-◌, ◌^◌, zero, true, false, List, [], ◌∷◌, refl, sym, ◌∙◌, arith, Contains}
+use Rattle.std.proofs.Common.{◌≡◌, inl, inr, ℕ, ◌-◌, ◌^◌, true, false, List, [], ◌∷◌, refl, sym, ◌∙◌, arith}
 use Rattle.bloom_parts.specs.Chain.{chain}
 use Rattle.bloom_parts.specs.Content.{content}
 use Rattle.bloom_parts.specs.Places.{are_in}
 use Rattle.bloom_plain.specs.Filter.{Filter, contains}
 use Rattle.guard_engine.specs.Counted.{one_more}
-use Rattle.guard_engine.specs.Guarded.{Entries, Lacks, Stays, Gains, IsSingle, Lists, Covers, HoldsKeys, Guards}
+use Rattle.guard_engine.specs.Guarded.{Entries, Lacks, Stays, Gains, IsSingle, Lists, HoldsKeys, Guards}
 
 -- no entry
 abbrev pub none : Entries
@@ -76,7 +76,7 @@ lists-none : Lists [] one → ⊥
 lists-none is = let at = is (1 ∷ []) (2 ∷ []) (refl, refl) in absurd (omega (arith, at.1))
 
 -- a filter of two hashes and this word, under a hasher that hashes each key to 1
-abbrev filter : ℕ → Filter ℕ
+abbrev pub filter : ℕ → Filter ℕ
 filter word = record { words = word ∷ []; hashes = 2; hasher = 7 }
 
 abbrev to_one : ℕ → List ℕ → ℕ

@@ -1,3 +1,5 @@
+mod CountLemmas
+mod CountedFacts
 mod FoundLemmas
 mod GuardedFacts
 mod LoadLemmas

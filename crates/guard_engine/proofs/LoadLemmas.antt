@@ -1,5 +1,5 @@
 -- Lines that are put one after the other.
-use Rattle.std.proofs.Common.{◌≡◌, ℕ, ◌⊎◌, inl, inr, List, [], ◌∷◌, ◌++◌, map, Option, Some, None, Bor, Ok, Err, Result, IfOk, IfSome, refl, sym, ap, subst, ◌∙◌, arith, Contains}
+use Rattle.std.proofs.Common.{◌≡◌, ℕ, ◌⊎◌, inl, inr, List, [], ◌∷◌, ◌++◌, map, Option, Some, None, Bor, Ok, Err, Result, IfOk, IfSome, length, length-append, refl, sym, ap, subst, arith, Contains}
 use Rattle.std.proofs.lemmas.Iterator.{items_from_drains}
 use Rattle.std.proofs.lemmas.Iterator.Splits.{YieldsList-from_lines}
 use Rattle.std.proofs.lemmas.List.Elements.{Contains-append_left, Contains-append_right, Contains-append_cases}
@@ -20,12 +20,38 @@ Of lines key value = (line : List ℕ) × Contains lines line × IsEntryIn line 
 only : {X : Type 0} (x y : X) → Contains (x ∷ []) y → y ≡ x
 only x y (k, within, is) = let at : k ≡ 0 = omega (arith, within) in sym (rw at at is)
 
+-- a list with an element isn't empty
+no_element : {X : Type 0} (before after : List X) (x : X) → [] ≡ before ++ x ∷ after → ⊥
+no_element before after x e =
+    let longer = length-append before (x ∷ after) in absurd (omega (arith, ap length e, longer))
+
+-- the only element of a list, wherever it is cut
+sole : {X : Type 0} (x y : X) (before after : List X) → x ∷ [] ≡ before ++ y ∷ after → x ≡ y
+sole x y [] after e = cc
+sole x y (b ∷ before) after e =
+    let tail : [] ≡ before ++ y ∷ after = cc in absurd (no_element before after y tail)
+
+-- an element of two lists is one of the first, or of the second
+cut_at : {X : Type 0} (xs ys before after : List X) (x : X) → xs ++ ys ≡ before ++ x ∷ after
+    → ((rest : List X) × (xs ≡ before ++ x ∷ rest))
+    ⊎ ((mid : List X) × (before ≡ xs ++ mid) × (ys ≡ mid ++ x ∷ after))
+cut_at [] ys before after x e = inr (before, refl, e)
+cut_at (y ∷ xs) ys [] after x e = inl (xs, (let same : y ≡ x = cc in ap (λ z. z ∷ xs) same))
+cut_at (y ∷ xs) ys (b ∷ before) after x e =
+    let same : y ≡ b = cc in
+    let tail : xs ++ ys ≡ before ++ x ∷ after = cc in
+    elim (cut_at xs ys before after x tail) [
+      | inl (rest, is) ↦ inl (rest, rw (same, is) refl)
+      | inr (mid, is, more) ↦ inr (mid, rw (same, is) refl, more)
+    ]
+
 -- of no lines
 pub Loads-nil : (entries : Entries) → Loads [] entries entries
 Loads-nil entries = record {
   kept = λ key value had. had;
   others = λ key value has. inl has;
   found = λ line in_none. absurd (omega (arith, in_none.1));
+  first = λ before after line is. absurd (no_element before after line is);
 }
 
 -- of a line whose entry came
@@ -36,6 +62,8 @@ Loads-added line old new tab gains = record {
   others = λ key value has. came key value (gains.others key value has);
   found = λ other there. subst (λ l. HasTab l × ((v : List ℕ) × new (key_in l) v))
       (sym (only line other there)) (tab, (value_in line, gains.here));
+  first = λ before after other is fresh lacks. subst (λ l. new (key_in l) (value_in l))
+      (sole line other before after is) gains.here;
 }
   where
     came : (key value : List ℕ) → old key value ⊎ ((key ≡ key_in line) × (value ≡ value_in line))
@@ -52,6 +80,9 @@ Loads-taken line old new tab had stays = record {
   others = λ key value has. inl ((stays key value).0 has);
   found = λ other there. subst (λ l. HasTab l × ((v : List ℕ) × new (key_in l) v))
       (sym (only line other there)) (tab, (had.0, (stays (key_in line) had.0).1 had.1));
+  first = λ before after other is fresh lacks.
+      let same = sole line other before after is in
+      absurd (lacks had.0 (subst (λ l. old (key_in l) had.0) same had.1));
 }
 
 -- of some lines and of more
@@ -61,8 +92,32 @@ Loads-more lines more old mid new first after = record {
   kept = λ key value had. after.kept key value (first.kept key value had);
   others = λ key value has. late key value (after.others key value has);
   found = λ line there. each line (Contains-append_cases lines more line there);
+  first = λ before after line is fresh lacks.
+      wins before after line fresh lacks (cut_at lines more before after line is);
 }
   where
+    -- the line stands in the first part, or in the second
+    wins : (before rest : List (List ℕ)) (line : List ℕ)
+        → ((other : List ℕ) → Contains before other → ¬ (key_in other ≡ key_in line))
+        → Lacks old (key_in line)
+        → ((left : List (List ℕ)) × (lines ≡ before ++ line ∷ left))
+        ⊎ ((between : List (List ℕ)) × (before ≡ lines ++ between)
+        × (more ≡ between ++ line ∷ rest))
+        → new (key_in line) (value_in line)
+    wins before rest line fresh lacks (inl (left, is)) =
+        after.kept (key_in line) (value_in line) (first.first before left line is fresh lacks)
+    wins before rest line fresh lacks (inr (between, is, are)) =
+        after.first between rest line are
+        (λ other there. fresh other
+        (subst (λ l. Contains l other) (sym is)
+        (Contains-append_right lines between other there)))
+        (λ value has. elim (first.others (key_in line) value has) [
+          | inl had ↦ lacks value had
+          | inr (other, there, entry) ↦ fresh other
+              (subst (λ l. Contains l other) (sym is)
+              (Contains-append_left lines between other there)) (sym entry.key_is)
+        ])
+
     early : (key value : List ℕ) → old key value ⊎ Of lines key value
         → old key value ⊎ Of (lines ++ more) key value
     early key value (inl had) = inl had

@@ -1,10 +1,9 @@
 -- What a line says, and what a load promises: cases that hold, and near ones that don't. Byte 9 is the
 -- tab.
-use Rattle.std.proofs.Common.{◌≡◌, ◌⊎◌, inl, inr, ℕ, List, [], ◌∷◌, refl, sym, ◌∙◌, ap, arith, Contains}
-use Rattle.guard_engine.specs.Guarded.{Entries}
+use Rattle.std.proofs.Common.{◌≡◌, inl, inr, ℕ, List, [], ◌∷◌, refl, sym, ◌∙◌, ap, arith}
 use Rattle.guard_engine.specs.Loaded.{HasTab, IsEntryIn, Loads, key_in, value_in}
 use Rattle.guard_engine.proofs.GuardedFacts.{each, none, one}
-use Rattle.guard_engine.proofs.LoadLemmas.{Loads-added, Loads-nil}
+use Rattle.guard_engine.proofs.LoadLemmas.{Loads-added, Loads-more, Loads-nil, Loads-taken}
 
 -- the key 1, a tab, the value 2
 abbrev line : List ℕ
@@ -65,3 +64,16 @@ loads-less is = is.kept (1 ∷ []) (2 ∷ []) (refl, refl)
 -- no line leaves all as it was
 loads-none : Loads [] one one
 loads-none = Loads-nil one
+
+-- of two lines with one key the first wins
+loads-first : Loads (line ∷ (1 ∷ 9 ∷ 3 ∷ []) ∷ []) none one
+loads-first = Loads-more (line ∷ []) ((1 ∷ 9 ∷ 3 ∷ []) ∷ []) none one one loads
+    (Loads-taken (1 ∷ 9 ∷ 3 ∷ []) one one (omega arith) (2 ∷ [], (refl, refl))
+    (λ key value. (λ had. had, λ had. had)))
+
+-- and not the last
+loads-last : Loads ((1 ∷ 9 ∷ 3 ∷ []) ∷ line ∷ []) none one → ⊥
+loads-last is =
+    let put = is.first [] (line ∷ []) (1 ∷ 9 ∷ 3 ∷ []) refl
+    (λ other in_none. absurd (omega (arith, in_none.1))) (λ value had. had) in
+    let same = put.1 in cc

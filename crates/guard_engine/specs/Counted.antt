@@ -1,6 +1,42 @@
--- How look-ups are counted.
-use Rattle.std.specs.Prelude.{ℕ, ◌+◌, ◌-◌, ◌^◌, min}
+-- How look-ups are counted: what many of them come to, in a store behind a filter.
+use Rattle.std.specs.Prelude.{◌≡◌, ◌≤◌, ◌⊎◌, ◌+◌, ◌-◌, ◌^◌, ℕ, not, min, List, [], ◌∷◌, length, filter}
+use Rattle.bloom_plain.specs.Filter.{Filter, contains}
+use Rattle.guard_engine.specs.declared.counts.Counts.{Counts}
+use Rattle.guard_engine.specs.Guarded.{Entries, Lacks}
+
+-- so many more, up to the greatest number of 64 bits
+abbrev pub more_by : ℕ → ℕ → ℕ
+more_by n many = min (n + many) (2 ^ 64 - 1)
 
 -- one more, up to the greatest number of 64 bits
 abbrev pub one_more : ℕ → ℕ
-one_more n = min (n + 1) (2 ^ 64 - 1)
+one_more n = more_by n 1
+
+-- the keys that a filter may have, by their hashes under its hasher: a store is asked for these
+abbrev pub asked_keys :
+    {B : Type 0} → (B → List ℕ → ℕ) → Filter B → List (List ℕ) → List (List ℕ)
+asked_keys hash_of f keys = filter (λ key. contains f (hash_of f.hasher key)) keys
+
+-- the keys that a filter lacks: a store is spared these
+abbrev pub spared_keys :
+    {B : Type 0} → (B → List ℕ → ℕ) → Filter B → List (List ℕ) → List (List ℕ)
+spared_keys hash_of f keys = filter (λ key. not (contains f (hash_of f.hasher key))) keys
+
+-- so many of the keys have no value, each counted as often as it stands there
+abbrev pub AreAbsent : Entries → List (List ℕ) → ℕ → Type 0
+AreAbsent entries [] many = many ≡ 0
+AreAbsent entries (key ∷ rest) many =
+    (Lacks entries key × ((others : ℕ) × (many ≡ others + 1) × AreAbsent entries rest others))
+    ⊎ (((value : List ℕ) × entries key value) × AreAbsent entries rest many)
+
+-- from old to new each of these keys was looked up once: those that the filter lacks count as
+-- spared, the others as asked, and some of the others as false alarms; where the store told what it
+-- has, as many as have no value
+pub record Tallies {B : Type 0} (hash_of : B → List ℕ → ℕ) (f : Filter B) (is_told : Type 0)
+    (entries : Entries) (keys : List (List ℕ)) (old new : Counts) : Type 0 where
+  pub spared : new.spared ≡ more_by old.spared (length (spared_keys hash_of f keys))
+  pub asked : new.asked ≡ more_by old.asked (length (asked_keys hash_of f keys))
+  pub alarms : ℕ
+  pub false_alarms : new.false_alarms ≡ more_by old.false_alarms alarms
+  pub at_most : alarms ≤ length (asked_keys hash_of f keys)
+  pub absent : is_told → AreAbsent entries (asked_keys hash_of f keys) alarms

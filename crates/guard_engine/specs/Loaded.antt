@@ -1,8 +1,8 @@
 -- What a text of entries says, one a line, and what a store has once each was put. The lines are
 -- those of `str::lines`: one ends before byte 10, or before bytes 13 and 10.
-use Rattle.std.specs.Prelude.{◌≡◌, ◌⊎◌, ◌==◌, ◌<◌, ℕ, List, Bool, length, Contains}
+use Rattle.std.specs.Prelude.{◌≡◌, ◌⊎◌, ◌==◌, ◌<◌, ℕ, List, ◌∷◌, ◌++◌, Bool, length, Contains}
 use Rattle.std.specs.List.{after_first, before_first, position_or_len}
-use Rattle.guard_engine.specs.Guarded.{Entries}
+use Rattle.guard_engine.specs.Guarded.{Entries, Lacks}
 
 -- a byte is the tab
 abbrev pub is_tab : ℕ → Bool
@@ -27,10 +27,13 @@ pub record IsEntryIn (line key value : List ℕ) : Type 0 where
   pub value_is : value ≡ value_in line
 
 -- from old to new each of these lines was put: what was there stays, what came is the entry of a
--- line, and the key of each line has a value
+-- line, the key of each line has a value, and where it had none it has that of its first line
 pub record Loads (lines : List (List ℕ)) (old new : Entries) : Type 0 where
   pub kept : (key value : List ℕ) → old key value → new key value
   pub others : (key value : List ℕ) → new key value
       → old key value ⊎ ((line : List ℕ) × Contains lines line × IsEntryIn line key value)
   pub found : (line : List ℕ) → Contains lines line
       → HasTab line × ((value : List ℕ) × new (key_in line) value)
+  pub first : (before after : List (List ℕ)) (line : List ℕ) → lines ≡ before ++ line ∷ after
+      → ((other : List ℕ) → Contains before other → ¬ (key_in other ≡ key_in line))
+      → Lacks old (key_in line) → new (key_in line) (value_in line)

@@ -1,5 +1,5 @@
 //! What the look-ups of a guard came to.
-ghost use Rattle.std.specs.Prelude.{◌≡◌};
+ghost use Rattle.std.specs.Prelude.{◌≡◌, ◌<◌, ◌^◌};
 ghost use Rattle.guard_engine.specs.Counted.{one_more};
 
 /// How many look-ups the filter spared the store, how many the store was asked, and how many of
@@ -22,6 +22,13 @@ impl Counts {
             false_alarms: 0,
         }
     }
+
+    // What a proof takes from the type: each count is a number of 64 bits.
+    pub(crate) fn fit(self)
+        ensures spared { self.spared < 2 ^ 64 }
+        ensures asked { self.asked < 2 ^ 64 }
+        ensures false_alarms { self.false_alarms < 2 ^ 64 }
+    {}
 
     // The store was spared.
     pub(crate) fn spare(&mut self)

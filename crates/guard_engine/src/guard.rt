@@ -114,6 +114,8 @@ impl<T: Store + Drop, B: BuildHasher + Drop> Guard<T, B> {
             → Guards hash self.new.filter (T.is_ready self.new.store) (T.has self.new.store) }
         ensures stays { T.is_ready self.old.store → T.is_known self.new.store
             → Stays (T.has self.old.store) (T.has self.new.store) }
+        ensures ready { T.is_ready self.old.store → T.is_known self.new.store
+            → T.is_ready self.new.store }
         ensures known { T.is_known self.new.store → T.is_known self.old.store }
         // What it counts.
         ensures count_spared { result ≡ Ok Found.Spared → self.new.counts

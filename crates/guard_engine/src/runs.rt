@@ -1,7 +1,8 @@
 //! Many keys at once.
 ghost use Rattle.std.specs.Prelude.{◌≡◌, ◌+◌, ◌^◌, ◌<◌, length, Ok, IfOk};
 ghost use Rattle.std.specs.Str.Lines.{lines};
-ghost use Rattle.guard_engine.specs.Guarded.{Guards, IsSingle, key_hash};
+ghost use Rattle.guard_engine.specs.Counted.{Tallies};
+ghost use Rattle.guard_engine.specs.Guarded.{Guards, IsSingle, Stays, key_hash};
 ghost use Rattle.guard_engine.specs.Loaded.{Loads};
 
 mod line;
@@ -86,14 +87,23 @@ pub fn ask<T: Store + Drop, B: BuildHasher + Drop>(
     guard: &mut Guard<T, B>,
     text: &str,
 ) -> Result<(), T::Error>
+    // Each line was looked up once, and counts as what that came to.
+    ensures counts { let hash = key_hash B.BuildHasher B.Hasher.Hasher in IfOk result (λ _.
+        Tallies hash guard.old.filter (T.is_ready guard.old.store × T.is_known guard.new.store)
+        (T.has guard.old.store) (lines text.now) guard.old.counts guard.new.counts) }
+    // Filter and entries stay as they were, and it is a guard as before, also after an error.
+    ensures filter { guard.new.filter ≡ guard.old.filter }
+    ensures stays { T.is_ready guard.old.store → T.is_known guard.new.store
+        → Stays (T.has guard.old.store) (T.has guard.new.store) }
     ensures guards { let hash = key_hash B.BuildHasher B.Hasher.Hasher in
         Guards hash guard.old.filter (T.is_ready guard.old.store) (T.has guard.old.store)
         → T.is_known guard.new.store
         → Guards hash guard.new.filter (T.is_ready guard.new.store) (T.has guard.new.store) }
     ensures known { T.is_known guard.new.store → T.is_known guard.old.store }
 {
+    guard.counts.fit();
     'keys: for key in text.lines() {
-        guard.get(key)?;
+        drop(guard.get(key)?);
     }
     Ok(())
 }
