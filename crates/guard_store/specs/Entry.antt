@@ -9,6 +9,7 @@ use Rattle.sqlite.specs.State.{State, HasCleanDisk}
 use Rattle.sqlite.specs.Table.{Table}
 use Rattle.sqlite_schema.specs.declared.schema.Column.{Column}
 use Rattle.sqlite_schema.specs.declared.schema.Index.{Index}
+use Rattle.sqlite_schema.specs.declared.schema.Stamps.{Stamps}
 use Rattle.sqlite_value.specs.Keys.{plain}
 
 -- the column of numbers
@@ -37,6 +38,10 @@ text_column name = record {
 abbrev pub entry_columns : List Column
 entry_columns = id_column ∷ text_column (codes "name") ∷ text_column (codes "value") ∷ []
 
+-- no default reads the time
+abbrev pub no_stamps : Stamps
+no_stamps = record { places = []; terms = []; formats = [] }
+
 -- the table of entries: a number, a name that no other entry has, and a value
 abbrev pub entry : Table
 entry = record {
@@ -50,7 +55,7 @@ entry = record {
   checks = [];
   references = [];
   computed = [];
-  stamps = record { places = []; terms = []; formats = [] };
+  stamps = no_stamps;
   is_counted = false;
 }
 
