@@ -1,7 +1,8 @@
 -- What a table of entries has, what its queries show, and when a connection is ready and known:
 -- cases that hold, and near ones that don't.
-use Rattle.std.proofs.Common.{◌≡◌, ◌⊎◌, inl, inr, ℕ, pos, Bool, true, false, List, [], ◌∷◌, None, Some, refl, ap, ◌∙◌, sym, arith, Contains}
-use Rattle.sqlite.specs.declared.types.Value.TheVariants.{Null, Int, Text}
+use Rattle.std.proofs.Common.{◌≡◌, inl, inr, pos, Bool, true, false, List, [], ◌∷◌, None, Some, refl, ap, ◌∙◌, sym, arith, Contains}
+use Rattle.sqlite.specs.declared.error.Error.TheVariants.{InvalidQuery}
+use Rattle.sqlite.specs.declared.types.Value.TheVariants.{Null, Text}
 use Rattle.sqlite.specs.Effect.{Database}
 use Rattle.sqlite.specs.Order.{Row, column}
 use Rattle.sqlite.specs.Schema.{Schema}
@@ -9,7 +10,9 @@ use Rattle.sqlite.specs.State.{State}
 use Rattle.sqlite_trees.specs.View.{doubt}
 use Rattle.guard_store.proofs.ListLemmas.{to_in}
 use Rattle.guard_store.specs.Answers.{AreNames, AreValues, IsFirstText, ShowTexts}
-use Rattle.guard_store.specs.Entry.{HasEntry, IsKnown, IsReady, Keeps, entry_schema, no_schema, stored}
+use Rattle.guard_store.specs.Entry.{HasEntry, IsKnown, IsReady, Keeps, MakesTable, entry_schema, no_schema, stored}
+use Rattle.guard_store.specs.Fit.{IsFit, IsUnfit}
+use Rattle.guard_store.specs.declared.entry_table.Unfit.TheVariants as why
 
 -- the name 5 with the value 6, and the name 7 with the value 8
 abbrev first : Row
@@ -98,16 +101,15 @@ values-other are = from (are.sound (Text (6 ∷ []) ∷ []) (1, omega arith, ref
       ]
     ]
 
--- the text of a row
-first-text : IsFirstText ((Text (8 ∷ []) ∷ []) ∷ []) (Some (8 ∷ []))
-first-text = ((Text (8 ∷ []) ∷ []), (0, omega arith, refl), refl)
+-- the text of the first row
+first-text : IsFirstText ((Text (8 ∷ []) ∷ []) ∷ (Text (9 ∷ []) ∷ []) ∷ []) (Some (8 ∷ []))
+first-text = ((Text (8 ∷ []) ∷ []), ((Text (9 ∷ []) ∷ []) ∷ []), refl, refl)
 
--- not another
-first-text-other : IsFirstText ((Text (8 ∷ []) ∷ []) ∷ []) (Some (9 ∷ [])) → ⊥
-first-text-other (a_row, there, is) = elim (to_in ((Text (8 ∷ []) ∷ []) ∷ []) a_row there) [
-  | inl e ↦ let same = ap (λ x. column x 0) e ∙ is in cc
-  | inr none ↦ none
-]
+-- not of another row
+first-text-other : IsFirstText ((Text (8 ∷ []) ∷ []) ∷ (Text (9 ∷ []) ∷ []) ∷ []) (Some (9 ∷ [])) → ⊥
+first-text-other (a_row, rest, begins, is) =
+    let same : (Text (8 ∷ []) ∷ []) ≡ a_row = cc in
+    let shown = ap (λ x. column x 0) same ∙ is in cc
 
 -- where there is no row there is no text
 first-text-none : IsFirstText [] None
@@ -197,3 +199,65 @@ keeps-less is = let same = ap (λ d. d.trees 0) is.0 in cc
 -- nor where a transaction was left open
 keeps-within : Keeps (at entries entries false true true) (at entries entries true true true) → ⊥
 keeps-within is = ready-within is.1
+
+-- ---- which connection is a store
+
+-- nothing at all, with no row
+abbrev nothing : Database
+nothing = database no_schema []
+
+-- the table with no row
+abbrev made : Database
+made = database entry_schema []
+
+-- the table and no transaction
+fit : IsFit (at entries entries false true true)
+fit = (refl, refl)
+
+-- not another schema
+fit-other : IsFit (at nothing nothing false true true) → ⊥
+fit-other is = let same = ap (λ s. s.tables) is.0 in cc
+
+-- nor in a transaction
+fit-within : IsFit (at entries entries true true true) → ⊥
+fit-within is = let same = is.1 in cc
+
+-- another schema is no store, also in a transaction
+unfit-schema : IsUnfit (at nothing nothing true true true) why.Schema
+unfit-schema same = let tables = ap (λ s. s.tables) same in cc
+
+-- not the table
+unfit-schema-same : IsUnfit (at entries entries true true true) why.Schema → ⊥
+unfit-schema-same is = is refl
+
+-- nor is the table in a transaction
+unfit-within : IsUnfit (at entries entries true true true) why.Transaction
+unfit-within = (refl, refl)
+
+-- not in none
+unfit-within-none : IsUnfit (at entries entries false true true) why.Transaction → ⊥
+unfit-within-none is = let same = is.1 in cc
+
+-- nor another schema in a transaction
+unfit-within-other : IsUnfit (at nothing nothing true true true) why.Transaction → ⊥
+unfit-within-other is = let same = ap (λ s. s.tables) is.0 in cc
+
+-- no statement is refused where there is a schema
+unfit-sql : IsUnfit (at entries entries false true true) (why.Sql InvalidQuery) → ⊥
+unfit-sql is = is
+
+-- the table was made, in a transaction too
+makes : MakesTable (at nothing nothing true true true) (at made nothing true true true)
+makes = record { schema = refl; empty = refl; mode = refl }
+
+-- not with an entry
+makes-full : MakesTable (at nothing nothing true true true) (at entries nothing true true true) → ⊥
+makes-full is = let rows = is.empty in cc
+
+-- nor nothing
+makes-nothing : MakesTable (at nothing nothing true true true) (at nothing nothing true true true) → ⊥
+makes-nothing is = let same = ap (λ s. s.tables) is.schema in cc
+
+-- nor where it ended the transaction
+makes-and-ends : MakesTable (at nothing nothing true true true) (at made made false true true) → ⊥
+makes-and-ends is = let same = is.mode in cc

@@ -1,4 +1,5 @@
 mod CompareLemmas
+mod CreateLemmas
 mod EntryFacts
 mod InsertLemmas
 mod ListLemmas

@@ -100,3 +100,9 @@ IsKnown s = HasCleanDisk s × IsTrue s.is_open
 -- from old to new nothing changed, and the connection is ready as before
 abbrev pub Keeps : State → State → Type 0
 Keeps old new = (new.now ≡ old.now) × IsReady new
+
+-- from old to new the table was made, with no entry, and the transaction stayed open or shut
+pub record MakesTable (old new : State) : Type 0 where
+  pub schema : new.now.schema ≡ entry_schema
+  pub empty : new.now.trees 0 ≡ []
+  pub mode : new.in_transaction ≡ old.in_transaction
