@@ -5,7 +5,7 @@ use Rattle.sqlite.proofs.Callers.{IsPlain, command_of, statement_of, runs_as}
 use Rattle.sqlite.specs.Change.{created, next_tree}
 use Rattle.sqlite.specs.Command.TheVariants.{CreateTable}
 use Rattle.sqlite.specs.Compile.{table_defined_by}
-use Rattle.sqlite.specs.Does.{Tally, lacks_sequence}
+use Rattle.sqlite.specs.Does.{MakesTable as Makes, Tally, lacks_sequence}
 use Rattle.sqlite.specs.Effect.{Database}
 use Rattle.sqlite.specs.Listing.{understood}
 use Rattle.sqlite.specs.State.{State, Executes, Writes}
@@ -32,6 +32,14 @@ created_is : created no_schema entry ≡ entry_schema
 unfolding digits
 created_is = refl
 
+-- what the statement makes of no schema
+pub schema_made : (db after : Database) → db.schema ≡ no_schema → Makes create_text db (Ok after)
+    → after.schema ≡ entry_schema
+schema_made db after none made =
+    let both : Ok made.table ≡ Ok entry = sym made.defined ∙ create_is.2 in
+    let same : made.table ≡ entry = cc in
+    made.is ∙ ap (λ s. created s made.table) none ∙ ap (created no_schema) same ∙ created_is
+
 -- a statement that ran made the table, with no entry
 makes : (old new : State) (count : ℕ) → old.now.schema ≡ no_schema
     → Executes create_text [] old new (Ok count) → MakesTable old new
@@ -41,10 +49,7 @@ makes old new count has h =
     let all = went w.changed in
     let first = went all.1 in
     let made = first.1 in
-    let both : Ok made.table ≡ Ok entry = sym made.defined ∙ create_is.2 in
-    let same : made.table ≡ entry = cc in
-    let schema : first.0.schema ≡ entry_schema =
-    made.is ∙ ap (λ s. created s made.table) has ∙ ap (created no_schema) same ∙ created_is in
+    let schema = schema_made old.now first.0 has made in
     let plain : lacks_sequence first.0.schema ≡ false = ap lacks_sequence schema in
     let now : new.now ≡ first.0 =
     ap (λ (p : Tally × Database). p.1) (same_value all.2) ∙ same_value (rw plain at first.2) in

@@ -1,7 +1,6 @@
 -- What a table of entries has, what its queries show, and when a connection is ready and known:
 -- cases that hold, and near ones that don't.
 use Rattle.std.proofs.Common.{◌≡◌, inl, inr, pos, Bool, true, false, List, [], ◌∷◌, None, Some, refl, ap, ◌∙◌, sym, arith, Contains}
-use Rattle.sqlite.specs.declared.error.Error.TheVariants.{InvalidQuery}
 use Rattle.sqlite.specs.declared.types.Value.TheVariants.{Null, Text}
 use Rattle.sqlite.specs.Effect.{Database}
 use Rattle.sqlite.specs.Order.{Row, column}
@@ -10,9 +9,7 @@ use Rattle.sqlite.specs.State.{State}
 use Rattle.sqlite_trees.specs.View.{doubt}
 use Rattle.guard_store.proofs.ListLemmas.{to_in}
 use Rattle.guard_store.specs.Answers.{AreNames, AreValues, IsFirstText, ShowTexts}
-use Rattle.guard_store.specs.Entry.{HasEntry, IsKnown, IsReady, Keeps, MakesTable, entry_schema, no_schema, stored}
-use Rattle.guard_store.specs.Fit.{IsFit, IsUnfit}
-use Rattle.guard_store.specs.declared.entry_table.Unfit.TheVariants as why
+use Rattle.guard_store.specs.Entry.{HasEntry, IsKnown, IsReady, Keeps, entry_schema, no_schema, stored}
 
 -- the name 5 with the value 6, and the name 7 with the value 8
 abbrev first : Row
@@ -133,11 +130,11 @@ texts-other is = cc
 
 -- ---- connections
 
-abbrev database : Schema → List Row → Database
+abbrev pub database : Schema → List Row → Database
 database schema rows = record { schema = schema; trees = λ t. rows }
 
 -- a connection that shows one database and committed another
-abbrev at : Database → Database → Bool → Bool → Bool → State
+abbrev pub at : Database → Database → Bool → Bool → Bool → State
 at now committed in_transaction is_open is_clean = record {
   now = now;
   committed = committed;
@@ -154,7 +151,7 @@ at now committed in_transaction is_open is_clean = record {
   IsShielded = Unit {0};
 }
 
-abbrev entries : Database
+abbrev pub entries : Database
 entries = database entry_schema both
 
 -- the table, committed, in no transaction
@@ -199,65 +196,3 @@ keeps-less is = let same = ap (λ d. d.trees 0) is.0 in cc
 -- nor where a transaction was left open
 keeps-within : Keeps (at entries entries false true true) (at entries entries true true true) → ⊥
 keeps-within is = ready-within is.1
-
--- ---- which connection is a store
-
--- nothing at all, with no row
-abbrev nothing : Database
-nothing = database no_schema []
-
--- the table with no row
-abbrev made : Database
-made = database entry_schema []
-
--- the table and no transaction
-fit : IsFit (at entries entries false true true)
-fit = (refl, refl)
-
--- not another schema
-fit-other : IsFit (at nothing nothing false true true) → ⊥
-fit-other is = let same = ap (λ s. s.tables) is.0 in cc
-
--- nor in a transaction
-fit-within : IsFit (at entries entries true true true) → ⊥
-fit-within is = let same = is.1 in cc
-
--- another schema is no store, also in a transaction
-unfit-schema : IsUnfit (at nothing nothing true true true) why.Schema
-unfit-schema same = let tables = ap (λ s. s.tables) same in cc
-
--- not the table
-unfit-schema-same : IsUnfit (at entries entries true true true) why.Schema → ⊥
-unfit-schema-same is = is refl
-
--- nor is the table in a transaction
-unfit-within : IsUnfit (at entries entries true true true) why.Transaction
-unfit-within = (refl, refl)
-
--- not in none
-unfit-within-none : IsUnfit (at entries entries false true true) why.Transaction → ⊥
-unfit-within-none is = let same = is.1 in cc
-
--- nor another schema in a transaction
-unfit-within-other : IsUnfit (at nothing nothing true true true) why.Transaction → ⊥
-unfit-within-other is = let same = ap (λ s. s.tables) is.0 in cc
-
--- no statement is refused where there is a schema
-unfit-sql : IsUnfit (at entries entries false true true) (why.Sql InvalidQuery) → ⊥
-unfit-sql is = is
-
--- the table was made, in a transaction too
-makes : MakesTable (at nothing nothing true true true) (at made nothing true true true)
-makes = record { schema = refl; empty = refl; mode = refl }
-
--- not with an entry
-makes-full : MakesTable (at nothing nothing true true true) (at entries nothing true true true) → ⊥
-makes-full is = let rows = is.empty in cc
-
--- nor nothing
-makes-nothing : MakesTable (at nothing nothing true true true) (at nothing nothing true true true) → ⊥
-makes-nothing is = let same = ap (λ s. s.tables) is.schema in cc
-
--- nor where it ended the transaction
-makes-and-ends : MakesTable (at nothing nothing true true true) (at made made false true true) → ⊥
-makes-and-ends is = let same = is.mode in cc

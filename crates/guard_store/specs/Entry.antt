@@ -5,8 +5,10 @@ use Rattle.sqlite.specs.declared.types.Value.TheVariants.{Null, Int, Text as Wor
 use Rattle.sqlite.specs.Kind.TheVariants.{Integer, Text}
 use Rattle.sqlite.specs.Order.{Row, column}
 use Rattle.sqlite.specs.Schema.{Schema}
-use Rattle.sqlite.specs.State.{State, HasCleanDisk}
+use Rattle.sqlite.specs.State.{State, HasCause, HasCleanDisk, store_error}
 use Rattle.sqlite.specs.Table.{Table}
+use Rattle.sqlite.specs.declared.error.Error.{Error}
+use Rattle.sqlite_trees.specs.declared.error.StoreError.{StoreError}
 use Rattle.sqlite_schema.specs.declared.schema.Column.{Column}
 use Rattle.sqlite_schema.specs.declared.schema.Index.{Index}
 use Rattle.sqlite_schema.specs.declared.schema.Stamps.{Stamps}
@@ -106,3 +108,7 @@ pub record MakesTable (old new : State) : Type 0 where
   pub schema : new.now.schema ≡ entry_schema
   pub empty : new.now.trees 0 ≡ []
   pub mode : new.in_transaction ≡ old.in_transaction
+
+-- an error between old and new: no memory, a fault of the disk, or a connection that was shut
+abbrev pub IsFault : State → State → Error → Type 0
+IsFault old new e = (cause : StoreError) × (e ≡ store_error cause) × HasCause old new ⊥ cause

@@ -29,10 +29,11 @@ pub enum Unfit {
 }
 
 impl<S: Alter + Drop> EntryTable<S> {
-    ghost use Rattle.std.specs.Prelude.{◌≡◌, ◌≢◌, ◌↔◌, [], Err, IfOk, IsOk};
-    ghost use Rattle.sqlite.specs.Held.{state};
+    ghost use Rattle.std.specs.Prelude.{◌≡◌, ◌≢◌, ◌↔◌, [], Err, IfErr, IfOk, IsOk};
+    ghost use Rattle.sqlite.specs.Held.{Held, state};
+    ghost use Rattle.sqlite.specs.State.{HasCleanDisk};
     ghost use Rattle.guard_store.specs.Entry.{IsKnown, IsReady, no_schema};
-    ghost use Rattle.guard_store.specs.Fit.{IsFit, IsUnfit};
+    ghost use Rattle.guard_store.specs.Fit.{IsFit, IsUnfit, IsUnmade};
 
     /// The store over a connection. Where it has no table at all, the table of entries is made.
     ///
@@ -52,6 +53,9 @@ impl<S: Alter + Drop> EntryTable<S> {
         ensures empty { (state S.Store conn).now.schema ≡ no_schema
             → IfOk result (λ table. IsKnown (state S.Store table.conn)
             → (state S.Store table.conn).now.trees 0 ≡ []) }
+        ensures unmade { (state S.Store conn).now.schema ≡ no_schema → (left : Held S)
+            × (HasCleanDisk (state S.Store left)
+            → IfErr result (IsUnmade (state S.Store conn) (state S.Store left))) }
     {
         let mut conn = conn;
         if is_empty(conn.schema()) {
