@@ -44,7 +44,8 @@ schema_made db after none made =
 makes : (old new : State) (count : ℕ) → old.now.schema ≡ no_schema
     → Executes create_text [] old new (Ok count) → MakesTable old new
 makes old new count has h =
-    let ran = runs_as create_text [] old new no_schema has CreateTable create_is.0 create_plain count h in
+    let is = create_is.0 in
+    let ran = runs_as create_text [] old new no_schema has CreateTable is create_plain count h in
     let w = subst (λ t. Writes old new None CreateTable t [] count) create_is.1 ran in
     let all = went w.changed in
     let first = went all.1 in

@@ -31,8 +31,8 @@ use Rattle.guard_store.specs.Entry.{IsFault, entry, no_schema}
 
 -- one statement that makes a table, with no parameter, and shows nothing
 abbrev IsCreate : Result Compiled CompileError → Type 0
-IsCreate (Ok c) = (c.command ≡ CreateTable) × (c.returning ≡ None) × (c.names ≡ []) × (c.formats ≡ [])
-    × (c.tail ≡ length create_text) × (text_of create_text c ≡ create_text)
+IsCreate (Ok c) = (c.command ≡ CreateTable) × (c.returning ≡ None) × (c.names ≡ [])
+    × (c.formats ≡ []) × (c.tail ≡ length create_text) × (text_of create_text c ≡ create_text)
 IsCreate (Err e) = ⊥
 
 is_create : IsCreate (understood no_schema create_text)
@@ -40,8 +40,8 @@ unfolding understood everything
 is_create = (refl, refl, refl, refl, refl, refl)
 
 -- so it is understood by a connection with no schema
-understands : {s : Schema} {r : Result Compiled CompileError} → s ≡ no_schema → understood s create_text ≡ r
-    → IsCreate r
+understands : {s : Schema} {r : Result Compiled CompileError} → s ≡ no_schema
+    → understood s create_text ≡ r → IsCreate r
 understands none is = subst IsCreate (ap (λ s. understood s create_text) (sym none) ∙ is) is_create
 
 -- ---- nothing in an empty schema stands against the table
@@ -85,7 +85,8 @@ refused NameTaken (table, is, inr (index, has, used)) = false_is used
 refused BadName (table, is, inl text) = (rw (only_entry table is) at text) name_text
 refused BadName (table, is, inr own) = false_is (rw (only_entry table is) at own.0)
 refused TooBig (table, is, inl many) = absurd (omega (arith, rw (only_entry table is) at many))
-refused TooBig (table, is, inr (inl many)) = absurd (omega (arith, rw (only_entry table is) at many))
+refused TooBig (table, is, inr (inl many)) =
+    absurd (omega (arith, rw (only_entry table is) at many))
 refused TooBig (table, is, inr (inr (key, has, many))) =
     low_key key (rw (only_entry table is) at has) (rw (only_entry table is) at many)
 refused BadKey (table, is, form) = true_is (rw (only_entry table is) at form)
@@ -93,7 +94,8 @@ refused BadText (table, is, fit) = true_is (rw (only_entry table is) at fit)
 refused (Violates rule) is = is
 
 -- so the statement isn't refused
-unmade : (db : Database) (stop : Option Error) → db.schema ≡ no_schema → Makes create_text db (Err stop) → ⊥
+unmade : (db : Database) (stop : Option Error) → db.schema ≡ no_schema
+    → Makes create_text db (Err stop) → ⊥
 unmade db None none (table, is, long) = absurd (omega (arith, rw (only_entry table is) at long))
 unmade db (Some e) none (inl (no_text, why)) = no_text whole_text
 unmade db (Some e) none (inr (reason, refuses, why)) =
@@ -105,13 +107,14 @@ unrefused : (limit : Option ℕ) (mode : Mode) (params : Row) (db : Database) (s
 unrefused limit mode params db stop none (inl (other, inl (another, refuses, e), f)) =
     unmade db another none refuses
 unrefused limit mode params db stop none (inl (other, inr (after, makes, counts), f)) =
-    let plain : lacks_sequence after.schema ≡ false = ap lacks_sequence (schema_made db after none makes) in
+    let schema = schema_made db after none makes in
+    let plain : lacks_sequence after.schema ≡ false = ap lacks_sequence schema in
     let e = rw plain at counts in absurd cc
 unrefused limit mode params db stop none (inr (after, made, e)) = absurd cc
 
 -- ---- the failures
 
--- the command stands at the place of none that a transaction forbids
+-- no transaction stands against making a table, nor the lack of one
 placed : (s : State) (e : Error) → IsMisplaced s CreateTable e → ⊥
 placed s e (inl (is, inl (begins, within))) = absurd cc
 placed s e (inl (is, inr (inl commits, within))) = absurd cc
@@ -125,11 +128,13 @@ failed : (old new : State) (e : Error) (params : Row) (c : Compiled) → old.now
 failed old new e params c none is (inl (inl misplaced, same)) =
     absurd (placed old e (rw is.0 at misplaced))
 failed old new e params c none is (inl (inr (may, does), same)) =
-    absurd (unrefused old.step_limit (mode_of old) params old.now (Some e) none (rw (is.5, is.1, is.0) at does))
+    absurd (unrefused old.step_limit (mode_of old) params old.now (Some e) none
+    (rw (is.5, is.1, is.0) at does))
 failed old new e params c none is (inr fails) = (fails.0, fails.1, by_cause fails.0 fails.2)
   where
     by_cause : (cause : StoreError) → HasCause old new
-        (Does old.step_limit (mode_of old) params old.now (text_of create_text c) c.returning c.command (Err None)) cause
+        (Does old.step_limit (mode_of old) params old.now (text_of create_text c) c.returning c.command
+        (Err None)) cause
         → HasCause old new ⊥ cause
     by_cause OutOfMemory h = h
     by_cause Io h = h

@@ -19,7 +19,8 @@ pub record AreValues (rows : List Row) (name : List ℕ) (shown : List Row) : Ty
 -- the first row shows this text in its first column, or there is no row
 abbrev pub IsFirstText : List Row → Option (List ℕ) → Type 0
 IsFirstText rows found = MatchOption found (rows ≡ [])
-    (λ text. (a_row : Row) × (rest : List Row) × (rows ≡ a_row ∷ rest) × (column a_row 0 ≡ Text text))
+    (λ text. (a_row : Row) × (rest : List Row) × (rows ≡ a_row ∷ rest)
+    × (column a_row 0 ≡ Text text))
 
 -- what a row shows in its first column
 abbrev pub first_column : Row → Value

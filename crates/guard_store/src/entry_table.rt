@@ -49,7 +49,7 @@ impl<S: Alter + Drop> EntryTable<S> {
             → (IsOk result ↔ IsFit (state S.Store conn)) }
         ensures refused { (state S.Store conn).now.schema ≢ no_schema
             → (why : Unfit) → ((result ≡ Err why) ↔ IsUnfit (state S.Store conn) why) }
-        // A table that is made has no entry.
+        // One with none gets the table, with no entry; a refusal tells why, unless the disk lied.
         ensures empty { (state S.Store conn).now.schema ≡ no_schema
             → IfOk result (λ table. IsKnown (state S.Store table.conn)
             → (state S.Store table.conn).now.trees 0 ≡ []) }

@@ -16,5 +16,5 @@ returns-clause-fault g c = λ none clean.
 
 pub returns-clause-known : goal.returns-clause-known
 returns-clause-known g c =
-    write_known _ _ (state g.S.Store c.args.conn.now) (state g.S.Store c.execute.new.self) c.execute.result
-    c.execute.ensures.runs c.execute.ensures.survives.clean
+    write_known _ _ (state g.S.Store c.args.conn.now) (state g.S.Store c.execute.new.self)
+    c.execute.result c.execute.ensures.runs c.execute.ensures.survives.clean

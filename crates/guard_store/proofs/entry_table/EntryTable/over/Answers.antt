@@ -3,6 +3,7 @@ use Rattle.guard_store.proofs.entry_table.EntryTable.over.Goals.{then-is_empty+i
 use Rattle.guard_store.proofs.entry_table.EntryTable.over.Goals as goal
 use Rattle.guard_store.specs.Entry.{entry_schema}
 
+-- a flag of which the opposite is off
 unshut : (b : Bool) → false ≡ not b → b ≡ true
 unshut true e = refl
 unshut false e = absurd cc
@@ -22,8 +23,10 @@ returns-then-not-is_entry_schema-clause-unmade g c = λ none. (
             let made = w.in-Ok.ensures.made none (rw w.conn-is at clean) in
             let schema : c.if-is_empty.conn.schema ≡ entry_schema =
             ap (λ h. h.schema) w.conn-is ∙ made.schema in
-            absurd (let all = c.if-not-is_entry_schema.ensures.1 (c.schema-2.ensures.value ∙ schema) in cc)
-        | else-is_empty w ↦ absurd (let some = w.if-is_empty.ensures.1 (c.schema.ensures.value ∙ none) in cc)
+            let all = c.if-not-is_entry_schema.ensures.1 (c.schema-2.ensures.value ∙ schema) in
+            absurd cc
+        | else-is_empty w ↦
+            absurd (let some = w.if-is_empty.ensures.1 (c.schema.ensures.value ∙ none) in cc)
       ],
 )
 
@@ -38,7 +41,8 @@ returns-then-not-is_autocommit-clause-unmade g c = λ none. (
             let made = w.in-Ok.ensures.made none (rw w.conn-is at clean) in
             sym made.mode ∙ ap (λ h. h.in_transaction) (sym w.conn-is)
             ∙ unshut _ c.if-not-is_autocommit.ensures.value
-        | else-is_empty w ↦ absurd (let some = w.if-is_empty.ensures.1 (c.schema.ensures.value ∙ none) in cc)
+        | else-is_empty w ↦
+            absurd (let some = w.if-is_empty.ensures.1 (c.schema.ensures.value ∙ none) in cc)
       ],
 )
 
