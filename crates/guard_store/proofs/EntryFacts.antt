@@ -1,7 +1,7 @@
 -- What a table of entries has, what its queries show, and when a connection is ready and known:
 -- cases that hold, and near ones that don't.
-use Rattle.std.proofs.Common.{◌≡◌, ◌⊎◌, inl, inr, ℕ, pos, Bool, true, false, List, [], ◌∷◌, None, Some, refl, ap, ◌∙◌, sym, arith, Contains}
-use Rattle.sqlite.specs.declared.types.Value.TheVariants.{Null, Int, Text}
+use Rattle.std.proofs.Common.{◌≡◌, inl, inr, pos, Bool, true, false, List, [], ◌∷◌, None, Some, refl, ap, ◌∙◌, sym, arith, Contains}
+use Rattle.sqlite.specs.declared.types.Value.TheVariants.{Null, Text}
 use Rattle.sqlite.specs.Effect.{Database}
 use Rattle.sqlite.specs.Order.{Row, column}
 use Rattle.sqlite.specs.Schema.{Schema}
@@ -98,16 +98,15 @@ values-other are = from (are.sound (Text (6 ∷ []) ∷ []) (1, omega arith, ref
       ]
     ]
 
--- the text of a row
-first-text : IsFirstText ((Text (8 ∷ []) ∷ []) ∷ []) (Some (8 ∷ []))
-first-text = ((Text (8 ∷ []) ∷ []), (0, omega arith, refl), refl)
+-- the text of the first row
+first-text : IsFirstText ((Text (8 ∷ []) ∷ []) ∷ (Text (9 ∷ []) ∷ []) ∷ []) (Some (8 ∷ []))
+first-text = ((Text (8 ∷ []) ∷ []), ((Text (9 ∷ []) ∷ []) ∷ []), refl, refl)
 
--- not another
-first-text-other : IsFirstText ((Text (8 ∷ []) ∷ []) ∷ []) (Some (9 ∷ [])) → ⊥
-first-text-other (a_row, there, is) = elim (to_in ((Text (8 ∷ []) ∷ []) ∷ []) a_row there) [
-  | inl e ↦ let same = ap (λ x. column x 0) e ∙ is in cc
-  | inr none ↦ none
-]
+-- not of another row
+first-text-other : IsFirstText ((Text (8 ∷ []) ∷ []) ∷ (Text (9 ∷ []) ∷ []) ∷ []) (Some (9 ∷ [])) → ⊥
+first-text-other (a_row, rest, begins, is) =
+    let same : (Text (8 ∷ []) ∷ []) ≡ a_row = cc in
+    let shown = ap (λ x. column x 0) same ∙ is in cc
 
 -- where there is no row there is no text
 first-text-none : IsFirstText [] None
@@ -131,11 +130,11 @@ texts-other is = cc
 
 -- ---- connections
 
-abbrev database : Schema → List Row → Database
+abbrev pub database : Schema → List Row → Database
 database schema rows = record { schema = schema; trees = λ t. rows }
 
 -- a connection that shows one database and committed another
-abbrev at : Database → Database → Bool → Bool → Bool → State
+abbrev pub at : Database → Database → Bool → Bool → Bool → State
 at now committed in_transaction is_open is_clean = record {
   now = now;
   committed = committed;
@@ -152,7 +151,7 @@ at now committed in_transaction is_open is_clean = record {
   IsShielded = Unit {0};
 }
 
-abbrev entries : Database
+abbrev pub entries : Database
 entries = database entry_schema both
 
 -- the table, committed, in no transaction

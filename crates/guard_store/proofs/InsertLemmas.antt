@@ -1,7 +1,5 @@
 -- What the INSERT of an entry does.
-use Rattle.std.proofs.Common.{◌≡◌, ◌⊎◌, inl, inr, ℕ, ℤ, pos, List, [], ◌∷◌, ◌++◌, map, codes, Bool, true, false, not, ◌&&◌, ◌||◌, cond, Some, None, Ok, Err, Result, OnOk, OnErr, refl, sym, ap, subst, ◌∙◌, Contains, if◌then◌else◌, ◌≤◌, arith}
-use Rattle.std.proofs.lemmas.Bool.{cases_Bool}
-use Rattle.std.specs.List.{list_any}
+use Rattle.std.proofs.Common.{◌≡◌, ◌⊎◌, inl, inr, ℕ, ℤ, List, [], ◌∷◌, codes, Bool, true, false, not, ◌&&◌, ◌||◌, cond, None, Ok, Err, Result, OnOk, OnErr, refl, sym, ap, subst, ◌∙◌, Contains, if◌then◌else◌, ◌≤◌, arith}
 use Rattle.std.specs.Ordering.{is_eq, match_ordering}
 use Rattle.std.specs.declared.cmp.Ordering.{Ordering}
 use Rattle.std.specs.declared.cmp.Ordering.TheVariants.{Less, Equal, Greater}
@@ -23,7 +21,7 @@ use Rattle.sqlite.specs.Term.{Term, lit, col}
 use Rattle.sqlite.specs.Tree.{Trees, put_row, rowid}
 use Rattle.sqlite.specs.declared.error.Error.{Error}
 use Rattle.sqlite.specs.declared.types.Value.{Value}
-use Rattle.sqlite.specs.declared.types.Value.TheVariants.{Null, Int, Text}
+use Rattle.sqlite.specs.declared.types.Value.TheVariants.{Null, Text}
 use Rattle.sqlite_rules.specs.Edit.{are_fresh, is_taken, left_by}
 use Rattle.sqlite_tied.specs.Compute.{everything}
 use Rattle.sqlite_trees.specs.View.{doubt}
@@ -55,11 +53,11 @@ unfolding unary
 cast_null = either _ Null
 
 -- a part that gave a value did not stop on the way
-went : {B E R : Type 0} {b : B} {Stops : E → Type 0} → ((stop : E) × Stops stop × (Ok b ≡ Err stop)) ⊎ R → R
+pub went : {B E R : Type 0} {b : B} {Stops : E → Type 0} → ((stop : E) × Stops stop × (Ok b ≡ Err stop)) ⊎ R → R
 went (inl stopped) = absurd (let e = stopped.2 in cc)
 went (inr on) = on
 
-same_value : {B E : Type 0} {a b : B} → ◌≡◌ {A = Result B E} (Ok a) (Ok b) → a ≡ b
+pub same_value : {B E : Type 0} {a b : B} → ◌≡◌ {A = Result B E} (Ok a) (Ok b) → a ≡ b
 same_value e = cc
 
 untaken : (b : Bool) → (not b && true) ≡ true → b ≡ false
@@ -186,7 +184,7 @@ insert_result old new name value (Err e) ready known h =
     (tt, it.0, it.1)
 
 -- where the connection is known, it was known before
-pub insert_known : (sql : List ℕ) (params : Row) (old new : State) (r : Result ℕ Error)
+pub write_known : (sql : List ℕ) (params : Row) (old new : State) (r : Result ℕ Error)
     → (HasCleanDisk new → Executes sql params old new r) → doubt old.is_clean ≤ doubt new.is_clean → IsKnown new → IsKnown old
-insert_known sql params old new (Ok count) ran clean known = (omega (arith, clean, known.0), executed_open sql params old new count (ran known.0) known.1)
-insert_known sql params old new (Err e) ran clean known = (omega (arith, clean, known.0), write_failed_open sql params old new e (ran known.0) known.1)
+write_known sql params old new (Ok count) ran clean known = (omega (arith, clean, known.0), executed_open sql params old new count (ran known.0) known.1)
+write_known sql params old new (Err e) ran clean known = (omega (arith, clean, known.0), write_failed_open sql params old new e (ran known.0) known.1)

@@ -1,5 +1,8 @@
 mod CompareLemmas
+mod CreateLemmas
 mod EntryFacts
+mod FailureLemmas
+mod FitFacts
 mod InsertLemmas
 mod ListLemmas
 mod QueryLemmas

@@ -1,5 +1,5 @@
 -- What the texts that rows show say of the entries.
-use Rattle.std.proofs.Common.{◌≡◌, inl, inr, ℕ, List, [], ◌∷◌, map, None, Some, Ok, Err, Result, IfOk, sym, ap, subst, ◌∙◌, arith, Contains}
+use Rattle.std.proofs.Common.{◌≡◌, inl, inr, ℕ, List, [], ◌∷◌, None, Some, Ok, Err, Result, IfOk, refl, sym, ap, subst, ◌∙◌, arith, Contains}
 use Rattle.std.specs.Prelude.{Option, MatchOption, option_map}
 use Rattle.sqlite.specs.Order.{Row, column}
 use Rattle.sqlite.specs.declared.error.Error.{Error}
@@ -39,7 +39,8 @@ first_value : {V : Type 0} (text : V → List ℕ) (table shown : List Row) (key
 first_value text table shown key None are none = λ value has.
     let there = subst (λ rows. Contains rows (column has.0 3 ∷ [])) none (are.whole has.0 has.1 has.2) in
     absurd (omega (arith, there.1))
-first_value text table shown key (Some v) are (row, there, is) =
+first_value text table shown key (Some v) are (row, rest, begins, is) =
+    let there = subst (λ rows. Contains rows row) (sym begins) (0, omega arith, refl) in
     let from = are.sound row there in
     (from.0, from.1, from.2, ap first_column (sym from.3) ∙ is)
 

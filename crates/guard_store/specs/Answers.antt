@@ -16,10 +16,11 @@ pub record AreValues (rows : List Row) (name : List ℕ) (shown : List Row) : Ty
   pub whole : (a_row : Row) → Contains rows a_row → column a_row 2 ≡ Text name
       → Contains shown (column a_row 3 ∷ [])
 
--- a row shows this text in its first column, or there is no row
+-- the first row shows this text in its first column, or there is no row
 abbrev pub IsFirstText : List Row → Option (List ℕ) → Type 0
 IsFirstText rows found = MatchOption found (rows ≡ [])
-    (λ text. (a_row : Row) × Contains rows a_row × (column a_row 0 ≡ Text text))
+    (λ text. (a_row : Row) × (rest : List Row) × (rows ≡ a_row ∷ rest)
+    × (column a_row 0 ≡ Text text))
 
 -- what a row shows in its first column
 abbrev pub first_column : Row → Value

@@ -5,10 +5,13 @@ use Rattle.sqlite.specs.declared.types.Value.TheVariants.{Null, Int, Text as Wor
 use Rattle.sqlite.specs.Kind.TheVariants.{Integer, Text}
 use Rattle.sqlite.specs.Order.{Row, column}
 use Rattle.sqlite.specs.Schema.{Schema}
-use Rattle.sqlite.specs.State.{State, HasCleanDisk}
+use Rattle.sqlite.specs.State.{State, HasCause, HasCleanDisk, store_error}
 use Rattle.sqlite.specs.Table.{Table}
+use Rattle.sqlite.specs.declared.error.Error.{Error}
+use Rattle.sqlite_trees.specs.declared.error.StoreError.{StoreError}
 use Rattle.sqlite_schema.specs.declared.schema.Column.{Column}
 use Rattle.sqlite_schema.specs.declared.schema.Index.{Index}
+use Rattle.sqlite_schema.specs.declared.schema.Stamps.{Stamps}
 use Rattle.sqlite_value.specs.Keys.{plain}
 
 -- the column of numbers
@@ -37,6 +40,10 @@ text_column name = record {
 abbrev pub entry_columns : List Column
 entry_columns = id_column ∷ text_column (codes "name") ∷ text_column (codes "value") ∷ []
 
+-- no default reads the time
+abbrev pub no_stamps : Stamps
+no_stamps = record { places = []; terms = []; formats = [] }
+
 -- the table of entries: a number, a name that no other entry has, and a value
 abbrev pub entry : Table
 entry = record {
@@ -50,7 +57,7 @@ entry = record {
   checks = [];
   references = [];
   computed = [];
-  stamps = record { places = []; terms = []; formats = [] };
+  stamps = no_stamps;
   is_counted = false;
 }
 
@@ -95,3 +102,13 @@ IsKnown s = HasCleanDisk s × IsTrue s.is_open
 -- from old to new nothing changed, and the connection is ready as before
 abbrev pub Keeps : State → State → Type 0
 Keeps old new = (new.now ≡ old.now) × IsReady new
+
+-- from old to new the table was made, with no entry, and the transaction stayed open or shut
+pub record MakesTable (old new : State) : Type 0 where
+  pub schema : new.now.schema ≡ entry_schema
+  pub empty : new.now.trees 0 ≡ []
+  pub mode : new.in_transaction ≡ old.in_transaction
+
+-- an error between old and new: no memory, a fault of the disk, or a connection that was shut
+abbrev pub IsFault : State → State → Error → Type 0
+IsFault old new e = (cause : StoreError) × (e ≡ store_error cause) × HasCause old new ⊥ cause

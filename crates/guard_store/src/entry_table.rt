@@ -1,11 +1,7 @@
 //! The store over a connection.
-ghost use Rattle.std.specs.Prelude.{◌≡◌, ◌≢◌, IfOk};
-ghost use Rattle.sqlite.specs.Held.{state};
-ghost use Rattle.guard_store.specs.Entry.{IsKnown, IsReady, no_schema};
-
 use crate::rows::{first_text, texts};
 use crate::schema::{is_empty, is_entry_schema};
-use crate::table::{add_row, name_rows, value_rows};
+use crate::table::{add_row, make_table, name_rows, value_rows};
 use guard_engine::Store;
 use sqlite::{Alter, Connection, Error};
 use std::alloc::Global;
@@ -33,6 +29,12 @@ pub enum Unfit {
 }
 
 impl<S: Alter + Drop> EntryTable<S> {
+    ghost use Rattle.std.specs.Prelude.{◌≡◌, ◌≢◌, ◌↔◌, [], Err, IfErr, IfOk, IsOk};
+    ghost use Rattle.sqlite.specs.Held.{Held, state};
+    ghost use Rattle.sqlite.specs.State.{HasCleanDisk};
+    ghost use Rattle.guard_store.specs.Entry.{IsKnown, IsReady, no_schema};
+    ghost use Rattle.guard_store.specs.Fit.{IsFit, IsUnfit, IsUnmade};
+
     /// The store over a connection. Where it has no table at all, the table of entries is made.
     ///
     /// # Errors
@@ -40,17 +42,24 @@ impl<S: Alter + Drop> EntryTable<S> {
     pub fn over(alloc: Global, conn: Connection<S>) -> Result<Self, Unfit>
         ensures ready { IfOk result (λ table. IsKnown (state S.Store table.conn)
             → IsReady (state S.Store table.conn)) }
-        // A connection that has a table isn't touched.
+        // A connection that has a schema isn't touched, and the answer tells which it has.
         ensures same { (state S.Store conn).now.schema ≢ no_schema
             → IfOk result (λ table. table.conn ≡ conn) }
+        ensures taken { (state S.Store conn).now.schema ≢ no_schema
+            → (IsOk result ↔ IsFit (state S.Store conn)) }
+        ensures refused { (state S.Store conn).now.schema ≢ no_schema
+            → (why : Unfit) → ((result ≡ Err why) ↔ IsUnfit (state S.Store conn) why) }
+        // One with none gets the table, with no entry; a refusal tells why, unless the disk lied.
+        ensures empty { (state S.Store conn).now.schema ≡ no_schema
+            → IfOk result (λ table. IsKnown (state S.Store table.conn)
+            → (state S.Store table.conn).now.trees 0 ≡ []) }
+        ensures unmade { (state S.Store conn).now.schema ≡ no_schema → (left : Held S)
+            × (HasCleanDisk (state S.Store left)
+            → IfErr result (IsUnmade (state S.Store conn) (state S.Store left))) }
     {
         let mut conn = conn;
         if is_empty(conn.schema()) {
-            let made = conn.execute(
-                "CREATE TABLE entry (id INTEGER PRIMARY KEY, name TEXT NOT NULL UNIQUE, value TEXT NOT NULL) STRICT",
-                &[],
-            );
-            match made {
+            match make_table(&mut conn) {
                 Ok(_count) => {}
                 Err(error) => return Err(Unfit::Sql(error)),
             }

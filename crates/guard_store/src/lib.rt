@@ -11,4 +11,4 @@ mod tests;
 pub use entry_table::{EntryTable, Unfit};
 pub use rows::{first_text, texts};
 pub use schema::{is_empty, is_entry_schema};
-pub use table::{add_row, name_rows, value_rows};
+pub use table::{add_row, make_table, name_rows, value_rows};

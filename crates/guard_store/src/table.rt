@@ -1,11 +1,28 @@
 //! The statements of the store, one a function.
-ghost use Rattle.std.specs.Prelude.{◌≡◌, IfOk, OnOk, OnErr};
+ghost use Rattle.std.specs.Prelude.{◌≡◌, IfErr, IfOk, OnOk, OnErr};
 ghost use Rattle.sqlite.specs.Held.{state};
+ghost use Rattle.sqlite.specs.State.{HasCleanDisk};
 ghost use Rattle.guard_engine.specs.Guarded.{Gains};
 ghost use Rattle.guard_store.specs.Answers.{AreNames, AreValues};
-ghost use Rattle.guard_store.specs.Entry.{HasEntry, IsKnown, IsReady, Keeps};
+ghost use Rattle.guard_store.specs.Entry.{HasEntry, IsFault, IsKnown, IsReady, Keeps, MakesTable, no_schema};
 
 use sqlite::{Alter, Connection, Error, Row, params};
+
+/// Makes the table, with no entry.
+pub fn make_table<S: Alter>(conn: &mut Connection<S>) -> Result<usize, Error>
+    ensures made { (state S.Store conn.old).now.schema ≡ no_schema
+        → HasCleanDisk (state S.Store conn.new)
+        → OnOk result (MakesTable (state S.Store conn.old) (state S.Store conn.new)) }
+    ensures fault { (state S.Store conn.old).now.schema ≡ no_schema
+        → HasCleanDisk (state S.Store conn.new)
+        → IfErr result (IsFault (state S.Store conn.old) (state S.Store conn.new)) }
+    ensures known { IsKnown (state S.Store conn.new) → IsKnown (state S.Store conn.old) }
+{
+    conn.execute(
+        "CREATE TABLE entry (id INTEGER PRIMARY KEY, name TEXT NOT NULL UNIQUE, value TEXT NOT NULL) STRICT",
+        &[],
+    )
+}
 
 /// The names of all entries.
 pub fn name_rows<S: Alter>(conn: &mut Connection<S>) -> Result<Vec<Row>, Error>

@@ -1,4 +1,4 @@
-//! What no clause says: that a table is made where there is none, and that each other is refused.
+//! What no clause says: that the table is made where memory allows, and which statements make another.
 
 use crate::{EntryTable, Unfit};
 use guard_engine::Store;

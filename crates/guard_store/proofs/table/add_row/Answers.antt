@@ -1,5 +1,5 @@
 use Rattle.sqlite.specs.Held.{state}
-use Rattle.guard_store.proofs.InsertLemmas.{insert_known, insert_result}
+use Rattle.guard_store.proofs.InsertLemmas.{write_known, insert_result}
 use Rattle.guard_store.proofs.table.add_row.Goals as goal
 
 pub returns-clause-ok : goal.returns-clause-ok
@@ -19,5 +19,5 @@ returns-clause-ready g c = λ ready known.
 
 pub returns-clause-known : goal.returns-clause-known
 returns-clause-known g c =
-    insert_known _ _ (state g.S.Store c.args.conn.now) (state g.S.Store c.execute.new.self) c.execute.result
+    write_known _ _ (state g.S.Store c.args.conn.now) (state g.S.Store c.execute.new.self) c.execute.result
     c.execute.ensures.runs c.execute.ensures.survives.clean
