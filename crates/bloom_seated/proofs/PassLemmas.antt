@@ -88,9 +88,9 @@ module _ (table : TableId) (v : Sets) (q found : ℕ) (shown : Shows v (q / 64) 
         };
     stayed = λ yes p now.
         elim (in-either v.gained (fresh_in (q / 64) (mask_of q found) found) p now) [
-      | inl old ↦ old
-      | inr fresh ↦ absurd (both_ways (bit_is_on found q) (gain-from p fresh).1 (sym is ∙ yes))
-    ];
+          | inl old ↦ old
+          | inr fresh ↦ absurd (both_ways (bit_is_on found q) (gain-from p fresh).1 (sym is ∙ yes))
+        ];
   }
 
 -- the step that loads the word of a position

@@ -105,7 +105,7 @@ module _ {count passes : ℕ} (s : Standing) (rule : IsSeated count passes s) (s
     | inl was ↦ inl was
     | inr off ↦
         elim (or_cases (content s.words p) (eqb (p / 64) i && bit_is_on mask p)
-            (sym (on-after p) ∙ on)) [
+        (sym (on-after p) ∙ on)) [
           | inl was ↦ inl was
           | inr turned ↦
               let parts = and_parts (eqb (p / 64) i) (bit_is_on mask p) turned in

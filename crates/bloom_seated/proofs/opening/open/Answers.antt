@@ -16,7 +16,7 @@ pub returns-clause-fresh : goal.returns-clause-fresh
 returns-clause-fresh c =
     let is = c.load.ensures.2 in
     let was = c.put_words.ensures.first in record {
-  role = ap (λ (v : Sets). v.role) is;
-  known = ap (λ (v : Sets). v.known) is ∙ was.known;
-  gained = ap (λ (v : Sets). v.gained) is ∙ was.gained;
-}
+      role = ap (λ (v : Sets). v.role) is;
+      known = ap (λ (v : Sets). v.known) is ∙ was.known;
+      gained = ap (λ (v : Sets). v.gained) is ∙ was.gained;
+    }
