@@ -15,7 +15,7 @@ use Rattle.bloom_seated.specs.Passes.{Sight, sight_of, known_of, either_of, View
 use Rattle.bloom_seated.specs.Standing.{IsPassSeat}
 use Rattle.bloom_seated.specs.declared.rule.Sets.{Sets}
 use Rattle.bloom_seated.proofs.SetLemmas.{in-left, in-right}
-use Rattle.bloom_seated.proofs.StepLemmas.{pass-not_spent}
+use Rattle.bloom_seated.proofs.StepLemmas.Passes.{pass-not_spent}
 
 -- who looked at every word knows all that the filter began with
 start-known : (old new : Sight) (words : ℕ) → Views words old new → length old.start ≡ words

@@ -11,7 +11,7 @@ use Rattle.bloom_seated.specs.Plays.{Sat, with_bits, put_in, settled, IsFirst}
 use Rattle.bloom_seated.specs.declared.rule.Sets.{Sets}
 use Rattle.bloom_seated.specs.declared.rule.Role.TheVariants.{Pass}
 use Rattle.bloom_seated.proofs.SetLemmas.{in-none}
-use Rattle.bloom_seated.proofs.RuleLemmas.{only-view}
+use Rattle.bloom_seated.proofs.RuleLemmas.Seats.{only-view}
 
 -- a table with one seat, which knows nothing, at the words that it carries
 module _ (s : Standing) (w : Sets) (one : s.views ≡ w ∷ []) (same : s.words ≡ w.start)

@@ -3,7 +3,7 @@ use Rattle.std.proofs.Common.{◌≡◌, ℕ, suc, ◌+◌, ◌/◌, ◌<◌, Bo
 use Rattle.std.proofs.lemmas.Bool.{both_ways, cases_lt}
 use Rattle.bloom_parts.specs.Places.{place, positions}
 use Rattle.bloom_seated.specs.Passes.{Sight, known_of, sure_of, Inserts, LooksAt, Looks, GrowsBeside, Finds}
-use Rattle.bloom_seated.proofs.PassLemmas.{inserts-none, inserts-then, inserts-as}
+use Rattle.bloom_seated.proofs.PassLemmas.Inserting.{inserts-none, inserts-then, inserts-as}
 
 -- the positions with one place more
 positions-next : (n hash i q : ℕ) → q ≡ place n hash i

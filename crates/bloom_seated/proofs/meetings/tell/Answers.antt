@@ -1,7 +1,7 @@
 use Rattle.std.proofs.Common.{◌∙◌, ap}
 use Rattle.bloom_seated.specs.declared.rule.Sets.{Sets}
 use Rattle.bloom_seated.specs.Plays.{told}
-use Rattle.bloom_seated.proofs.StepLemmas.{tells, hears}
+use Rattle.bloom_seated.proofs.StepLemmas.Splitting.{tells, hears}
 use Rattle.bloom_seated.proofs.meetings.tell.Goals as goal
 
 -- the split keeps the rule
