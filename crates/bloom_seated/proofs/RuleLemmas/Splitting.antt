@@ -17,8 +17,9 @@ use Rattle.bloom_seated.proofs.RuleLemmas.Seats.{only-view}
 -- a new seat may know what another does, if it has gained nothing
 module _ {count passes : ℕ} (s : Standing) (rule : IsSeated count passes s) (seat : ℕ) (v u : Sets)
     (at : Has s seat v) (settled : (v.role ≢ First) × (u.role ≢ First))
-    (live : (v.role ≢ Spent) × (u.start ≡ v.start)) (known : IsPart (set_of u.known) (set_of v.known))
-    (none_gained : u.gained ≡ []) (one_each : u.role ≡ Pass → 1 ≤ u.passes) where
+    (live : (v.role ≢ Spent) × (u.start ≡ v.start))
+    (known : IsPart (set_of u.known) (set_of v.known)) (none_gained : u.gained ≡ [])
+    (one_each : u.role ≡ Pass → 1 ≤ u.passes) where
   -- the table with the new seat
   abbrev longer : Standing
   longer = record { words = s.words; homes = s.homes; views = s.views ++ u ∷ [] }

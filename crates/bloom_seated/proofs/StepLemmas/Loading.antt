@@ -2,7 +2,9 @@
 use Rattle.std.proofs.Common.{◌≡◌, ℕ, ◌<◌, length, set, get_or, length-set, inl, inr, refl, sym, ◌∙◌, arith}
 use mathlib.Core.Option.{none}
 use Rattle.atomic_table.specs.Table.{step, keeps, Allows}
-use Rattle.bloom_seated.specs.Sets.{on_in}
+use Rattle.bloom_parts.specs.Content.{content}
+use Rattle.bloom_parts.specs.Places.{IsPart}
+use Rattle.bloom_seated.specs.Sets.{set_of, on_in}
 use Rattle.bloom_seated.specs.Rule.{IsSeated}
 use Rattle.bloom_seated.specs.Plays.{Sat, after_load, loaded}
 use Rattle.bloom_seated.specs.declared.rule.Sets.{Sets}
@@ -20,7 +22,13 @@ loads count passes slots seat me i within pass s rule sized at fits =
     let found : ℕ = get_or s.words i 0 in
     let v : Sets = me.0 in
     let room : i < length s.words = omega (arith, rule.count) in
-    let w : Sets = after_load v i found in (
+    let w : Sets = after_load v i found in
+    let on : IsPart (set_of w.known) (content s.words) = λ p known.
+    elim (in-either v.known (on_in i found) p known) [
+      | inl old ↦ rule.known_on seat v at p old
+      | inr new ↦
+          let there = on-from i found p new in content-word s.words i p there.0 ∙ there.1
+    ] in (
       w,
       keeps,
       tt,
@@ -30,12 +38,7 @@ loads count passes slots seat me i within pass s rule sized at fits =
             live = λ is. (is, refl);
             settled = (pass-not_first v pass, pass-not_first v pass);
             grown = λ p on. content-same s.words i p room ∙ on;
-            known = λ p known. content-same s.words i p room ∙ elim (in-either v.known (on_in i found) p known) [
-              | inl old ↦ rule.known_on seat v at p old
-              | inr new ↦
-                  let there = on-from i found p new in
-                  content-word s.words i p there.0 ∙ there.1
-            ];
+            known = λ p known. content-same s.words i p room ∙ on p known;
             gained_known = λ p is.
                 in-left v.known (on_in i found) p (rule.gained_known seat v at p is);
             gained = λ p is. inl is;

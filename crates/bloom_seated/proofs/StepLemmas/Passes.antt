@@ -19,8 +19,9 @@ pub pass-not_spent : (v : Sets) → v.role ≡ Pass → v.role ≢ Spent
 pass-not_spent v is spent = let bad : Pass ≡ Spent = sym is ∙ spent in cc
 
 -- a view of as many passes keeps their number
-pub same-passes : {count passes : ℕ} (s : Standing) → IsSeated count passes s → (seat : ℕ) (v w : Sets)
-    → Has s seat v → w.passes ≡ v.passes → sum_by passes_of (set s.views seat w) ≡ passes
+pub same-passes : {count passes : ℕ} (s : Standing) → IsSeated count passes s → (seat : ℕ)
+    (v w : Sets) → Has s seat v → w.passes ≡ v.passes
+    → sum_by passes_of (set s.views seat w) ≡ passes
 same-passes s rule seat v w at same =
     let more = passes-set s.views seat v w at in omega (arith, more, same, rule.few)
 

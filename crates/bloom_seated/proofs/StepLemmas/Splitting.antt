@@ -1,12 +1,12 @@
 -- The splits and joins of the seats of passes keep the rule.
-use Rattle.std.proofs.Common.{◌≡◌, ◌≢◌, ℕ, ◌<◌, ◌≤◌, true, [], ◌∷◌, ◌++◌, set, inl, inr, refl, sym, ◌∙◌, subst, arith, le_refl}
+use Rattle.std.proofs.Common.{◌≡◌, ◌≢◌, ℕ, ◌<◌, ◌≤◌, true, List, [], ◌∷◌, ◌++◌, set, inl, inr, refl, sym, ap, ◌∙◌, subst, arith, le_refl}
 use Rattle.atomic_table.specs.Table.{Splits, Joins}
 use Rattle.atomic_table.proofs.Lists.{set_again, set_else, set_here}
 use Rattle.bloom_parts.specs.Content.{content}
 use Rattle.bloom_parts.specs.Places.{IsPart}
 use Rattle.bloom_seated.specs.Sets.{set_of}
 use Rattle.bloom_seated.specs.Rule.{Standing, Has, IsSeated}
-use Rattle.bloom_seated.specs.Plays.{IsFresh, less_one, one_of, note_of, told, spent_view}
+use Rattle.bloom_seated.specs.Plays.{IsFresh, less_one, one_of, note_of, told, spent_view, Sat}
 use Rattle.bloom_seated.specs.declared.rule.Sets.{Sets}
 use Rattle.bloom_seated.specs.declared.rule.Role.TheVariants.{First, Pass, Note, Spent}
 use Rattle.bloom_seated.proofs.SetLemmas.{in-none, in-left, in-either}
@@ -66,11 +66,15 @@ begins count passes seat v fresh more s rule at =
     (pass-not_first v v_is, pass-not_first v v_is) (pass-not_spent v v_is, refl)
     (λ p is. is) fresh.gained (λ is. le_refl 1))
 
--- a note arrives
-pub hears : (count passes seat : ℕ) (v : Sets) (other : ℕ) (w : Sets) → v.role ≡ Pass
-    → w.role ≡ Note → w.gained ≡ [] → w.passes ≡ 0
-    → Joins (IsSeated count passes) seat v other w (told v w) spent_view
-hears count passes seat v other w pass note empty none_left s rule at else there =
+-- a note of what a pass knows arrives
+pub hears : (count passes seat : ℕ) (v : Sets) (other : ℕ) (u : Sets) (me : Sat) → v.role ≡ Pass
+    → me ≡ (note_of u, [])
+    → Joins (IsSeated count passes) seat v other me.0 (told v me.0) spent_view
+hears count passes seat v other u me pass is_note s rule at else there =
+    let w : Sets = me.0 in
+    let note = ap (λ (x : Sat). x.0.role) is_note in
+    let empty = ap (λ (x : Sat). x.0.gained) is_note in
+    let none_left = ap (λ (x : Sat). x.0.passes) is_note in
     let was : Has s other w = sym (set_else s.views seat other (told v w) else) ∙ there in
     let heard = as-many (same-passes s rule seat v (told v w) at refl)
     (kept-by-step s rule seat v (told v w) s.words at
@@ -90,3 +94,9 @@ hears count passes seat v other w pass note empty none_left s rule at else there
     ((λ is. let bad : Note ≡ First = sym note ∙ is in cc), λ is. let bad : Spent ≡ First = is in cc)
     (λ p is. absurd (in-none p is)) (λ p is. absurd (in-none p is)) (sym empty)
     (λ p is. absurd (in-none p is)) (λ is. let bad : Spent ≡ Pass = is in cc)))
+
+-- who joined a note knows what the note was made of
+pub told-note : (v u : Sets) (now note : Sat) (slots : List (ℕ × Unit {0}))
+    → now ≡ (told v note.0, slots) → note ≡ (note_of u, []) → now.0 ≡ told v (note_of u)
+told-note v u now note slots joined made =
+    ap (λ m. m.0) joined ∙ ap (λ m. told v m.0) made
