@@ -11,7 +11,8 @@ use Rattle.bloom_parts.proofs.PublishedLemmas.{content-past}
 use Rattle.bloom_seated.specs.Sets.{set_of}
 use Rattle.bloom_seated.specs.Rule.{IsSeated}
 use Rattle.bloom_seated.specs.Plays.{FilterSeat, note_of, told}
-use Rattle.bloom_seated.specs.Passes.{Sight, sight_of, known_of, either_of, Views, Meets, Closes}
+use Rattle.bloom_seated.specs.Loads.{Views}
+use Rattle.bloom_seated.specs.Passes.{Sight, sight_of, known_of, either_of, Meets, Closes}
 use Rattle.bloom_seated.specs.Standing.{IsPassSeat}
 use Rattle.bloom_seated.specs.declared.rule.Sets.{Sets}
 use Rattle.bloom_seated.proofs.SetLemmas.{in-left, in-right}

@@ -4,7 +4,8 @@ use Rattle.std.proofs.lemmas.Bool.{both_ways, cases_lt}
 use Rattle.bloom_parts.specs.Chain.{chain}
 use Rattle.bloom_parts.specs.Content.{index_of}
 use Rattle.bloom_parts.specs.Places.{place, positions}
-use Rattle.bloom_seated.specs.Passes.{Sight, known_of, sure_of, Inserts, LooksAt, Looks, GrowsBeside, Finds}
+use Rattle.bloom_seated.specs.Loads.{LooksAt}
+use Rattle.bloom_seated.specs.Passes.{Sight, known_of, sure_of, Inserts, Looks, GrowsBeside, Finds}
 use Rattle.bloom_seated.proofs.PassLemmas.Inserting.{inserts-none, inserts-then, inserts-as}
 
 -- where the next hash of the chain lies among these bits is the next place
