@@ -1,11 +1,11 @@
 -- What reading one line takes, from what a block and a reader have left.
-use Rattle.std.specs.Prelude.{◌≡◌, ◌⊎◌, ℕ, ◌<◌, ◌≤◌, List, [], ◌∷◌, ◌++◌, length, take, slice_index, Bool, true, Option, Some, None, MatchOption}
+use Rattle.std.specs.Prelude.{◌≡◌, ◌⊎◌, ℕ, ◌<◌, ◌≤◌, List, [], ◌∷◌, ◌++◌, length, Bool, true, Option, Some, None, MatchOption}
 use Rattle.std.specs.Io.KnownBytes.{Consumes, IsAtEnd, prepend_known}
 use Rattle.bloom.specs.declared.engine.line.Line.{Line}
 use Rattle.bloom.specs.declared.engine.line_reader.Next.{Next}
 use Rattle.bloom.specs.declared.engine.line_reader.Next.TheVariants.{End, Good, Bad}
 use Rattle.lines.specs.Lines.{has_no_end}
-use Rattle.lines.specs.Reading.{Ends, TakesLine}
+use Rattle.lines.specs.Reading.{HasEndAt, Ends, TakesLine}
 use Rattle.bloom.specs.Lines.{line_of, longest_line}
 
 -- what a reader of lines keeps: the bytes that were read and wait, and whether the end was told
@@ -41,10 +41,8 @@ TakesByte old new (Some byte) = Consumes old new (byte ∷ [])
 
 -- the first line of these bytes has n bytes, no more than a good one may, and its end is there too
 pub record IsFirstLine (bytes : List ℕ) (n : ℕ) : Type 0 where
-  pub within : n < length bytes
+  pub end : HasEndAt bytes n
   pub short : n ≤ longest_line
-  pub ended : slice_index bytes n ≡ 10
-  pub inside : has_no_end (take n bytes) ≡ true
 
 -- from these bytes to those more bytes of one line were taken than a good one has
 pub record HasTakenLong (old new : List ℕ) : Type 0 where
