@@ -7,7 +7,7 @@ use Rattle.bloom.specs.declared.engine.line_reader.Next.TheVariants.{Good, Bad}
 use Rattle.lines.specs.Lines.{lines_of}
 use Rattle.lines.proofs.ReadingLemmas.{taken-ended}
 use Rattle.bloom.specs.Lines.{line_of, number_of}
-use Rattle.bloom.specs.Reading.{Waiting, KnowsEnd, IsQuiet, Asks, TakesByte, IsFirstLine, TakesLong, NextCommand}
+use Rattle.bloom.specs.Reading.{Waiting, IsQuiet, Asks, TakesByte, IsFirstLine, TakesLong, NextCommand}
 
 -- nothing waits, and the end was told
 abbrev ended : Waiting
@@ -16,14 +16,6 @@ ended = record { bytes = []; ended = true }
 -- nothing waits, and the end wasn't told
 abbrev not_ended : Waiting
 not_ended = record { bytes = []; ended = false }
-
--- a reader that told its end has nothing left
-knows_end : KnowsEnd ended (Some [])
-knows_end _ = refl
-
--- a reader with a byte left has told no end
-knows_end-not : KnowsEnd ended (Some (1 ∷ [])) → ⊥
-knows_end-not knows = let none : ◌≡◌ {A = List ℕ} (1 ∷ []) [] = knows refl in cc
 
 -- the reader wasn't asked
 quiet : IsQuiet {R = ℕ} ended ended 7 7

@@ -8,9 +8,9 @@ use Rattle.bloom.specs.declared.engine.line.Line.{Line}
 use Rattle.bloom.specs.declared.engine.line_reader.Next.{Next}
 use Rattle.bloom.specs.declared.engine.line_reader.Next.TheVariants as next
 use Rattle.bloom.specs.Lines.{line_of, longest_line}
-use Rattle.bloom.specs.Reading.{Asks, Waiting, IsQuiet, KnowsEnd, left_of, IsFirstLine, TakesByte, TakesLong, NextCommand}
+use Rattle.bloom.specs.Reading.{Asks, Waiting, IsQuiet, left_of, IsFirstLine, TakesByte, TakesLong, NextCommand}
 use Rattle.lines.specs.Lines.{has_no_end}
-use Rattle.lines.specs.Reading.{HasEndAt, TakesLine}
+use Rattle.lines.specs.Reading.{HasEndAt, KnowsEnd, TakesLine}
 use Rattle.lines.proofs.LineLemmas.{has_no_end-more}
 use Rattle.lines.proofs.ReadingLemmas.{taken-ended, taken-last}
 
@@ -137,7 +137,7 @@ quiet-trans a b c from mid to first second ended =
 pub record IsHalfway {R : Type 0} (before now : Waiting) (from to : R)
     (read rest written held : Option (List ℕ)) (line : List ℕ) (at : ℕ) : Type 0 where
   pub in_line : IsInLine (left_of before read) (left_of now rest) line at
-  pub knows : KnowsEnd now rest
+  pub knows : KnowsEnd now.ended rest
   pub quiet : IsQuiet before now from to
   pub kept : Keeps written held
 
@@ -147,7 +147,7 @@ module _ {R : Type 0} {before now : Waiting} {from to : R}
     (so_far : IsHalfway before now from to read rest written held line at) where
   pub halfway-more : (byte : ℕ) → at < longest_line + 1 → byte ≢ 10 → (taken : Option ℕ)
       → taken ≡ Some byte → (after : Waiting) (end : R) (left kept : Option (List ℕ))
-      → TakesByte (left_of now rest) (left_of after left) taken → KnowsEnd after left
+      → TakesByte (left_of now rest) (left_of after left) taken → KnowsEnd after.ended left
       → IsQuiet now after to end → Keeps held kept
       → IsHalfway before after from end read left written kept (set line at byte) (at + 1)
   halfway-more byte below other taken is after end left kept takes knows quiet keeps = record {

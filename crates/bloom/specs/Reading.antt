@@ -1,6 +1,6 @@
 -- What reading one line takes, from what a block and a reader have left.
 use Rattle.std.specs.Prelude.{◌≡◌, ◌⊎◌, ℕ, ◌<◌, ◌≤◌, List, [], ◌∷◌, ◌++◌, length, Bool, true, Option, Some, None, MatchOption}
-use Rattle.std.specs.Io.KnownBytes.{Consumes, IsAtEnd, prepend_known}
+use Rattle.std.specs.Io.KnownBytes.{Consumes, prepend_known}
 use Rattle.bloom.specs.declared.engine.line.Line.{Line}
 use Rattle.bloom.specs.declared.engine.line_reader.Next.{Next}
 use Rattle.bloom.specs.declared.engine.line_reader.Next.TheVariants.{End, Good, Bad}
@@ -16,10 +16,6 @@ pub record Waiting : Type 0 where
 -- all that is left: the bytes that wait, and then what the reader has
 abbrev pub left_of : Waiting → Option (List ℕ) → Option (List ℕ)
 left_of waiting rest = prepend_known waiting.bytes rest
-
--- where the end was told, the reader has nothing more
-abbrev pub KnowsEnd : Waiting → Option (List ℕ) → Type 0
-KnowsEnd waiting rest = waiting.ended ≡ true → IsAtEnd rest
 
 -- the end stays told, and the reader isn't asked: it is as it was
 pub record StaysEnded {R : Type 0} (new : Waiting) (from to : R) : Type 0 where

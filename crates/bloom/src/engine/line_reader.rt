@@ -2,7 +2,8 @@
 ghost use Rattle.std.specs.Prelude.{◌≡◌, ◌+◌, false, true, [], ◌∷◌, None, take, drop, IfSome, IfOk, IfErr, IsOkUnless, MatchOption};
 ghost use Rattle.std.specs.Io.KnownBytes.{Keeps};
 ghost use Rattle.bloom.specs.Faults.{IsOfStream};
-ghost use Rattle.bloom.specs.Reading.{Asks, TakesByte, IsFirstLine, NextCommand, KnowsEnd, IsQuiet, left_of};
+ghost use Rattle.bloom.specs.Reading.{Asks, TakesByte, IsFirstLine, NextCommand, IsQuiet, left_of};
+ghost use Rattle.lines.specs.Reading.{KnowsEnd};
 
 use crate::engine::line::{LONGEST, Line, parse};
 use crate::fault::Fault;
@@ -58,11 +59,11 @@ impl LineReader {
         input: &mut R,
         output: &mut W,
     ) -> Result<Option<u8>, Fault>
-        requires { KnowsEnd self.old (R.remaining input.old) }
+        requires { KnowsEnd self.old.ended (R.remaining input.old) }
         ensures byte { IfOk result (TakesByte (left_of self.old (R.remaining input.old))
             (left_of self.new (R.remaining input.new))) }
         ensures told { IfOk result (λ byte. byte ≡ None → self.new.ended ≡ true) }
-        ensures knows { KnowsEnd self.new (R.remaining input.new) }
+        ensures knows { KnowsEnd self.new.ended (R.remaining input.new) }
         ensures quiet { IsQuiet self.old self.new input.old input.new }
         ensures kept { Keeps (W.contents output.old) (W.contents output.new) }
         ensures fault { IfErr result IsOfStream }
@@ -89,11 +90,11 @@ impl LineReader {
         input: &mut R,
         output: &mut W,
     ) -> Result<Next, Fault>
-        requires { KnowsEnd self.old (R.remaining input.old) }
+        requires { KnowsEnd self.old.ended (R.remaining input.old) }
         ensures next { IfOk result (NextCommand (left_of self.old (R.remaining input.old))
             (left_of self.new (R.remaining input.new))) }
         ensures told { IfOk result (λ next. next ≡ Next.End → self.new.ended ≡ true) }
-        ensures knows { KnowsEnd self.new (R.remaining input.new) }
+        ensures knows { KnowsEnd self.new.ended (R.remaining input.new) }
         ensures quiet { IsQuiet self.old self.new input.old input.new }
         ensures kept { Keeps (W.contents output.old) (W.contents output.new) }
         ensures fault { IfErr result IsOfStream }
@@ -116,12 +117,12 @@ impl LineReader {
         input: &mut R,
         output: &mut W,
     ) -> Result<Next, Fault>
-        requires { KnowsEnd self.old (R.remaining input.old) }
+        requires { KnowsEnd self.old.ended (R.remaining input.old) }
         ensures next { IfOk result (NextCommand (left_of self.old (R.remaining input.old))
             (left_of self.new (R.remaining input.new))) }
         // The end stays told, and then the reader isn't asked again.
         ensures told { IfOk result (λ next. next ≡ Next.End → self.new.ended ≡ true) }
-        ensures knows { KnowsEnd self.new (R.remaining input.new) }
+        ensures knows { KnowsEnd self.new.ended (R.remaining input.new) }
         ensures quiet { IsQuiet self.old self.new input.old input.new }
         ensures kept { Keeps (W.contents output.old) (W.contents output.new) }
         ensures fault { IfErr result IsOfStream }
