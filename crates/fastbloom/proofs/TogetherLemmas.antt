@@ -13,7 +13,8 @@ pub record IsBehind {S : Type 0} (f : SharedFilter S) (hashes waiting : List ℕ
 
 -- and fewer than sixteen wait
 abbrev pub AreQueued : {S : Type 0} → SharedFilter S → List ℕ → List ℕ → Type 0
-AreQueued f hashes waiting = record { behind : IsBehind f hashes waiting; room : length waiting < 16 }
+AreQueued f hashes waiting =
+    record { behind : IsBehind f hashes waiting; room : length waiting < 16 }
 
 module _ {S : Type 0} (f : SharedFilter S) where
   -- a hash joins those that wait
