@@ -70,7 +70,8 @@ module _ {hash : ℕ} {chain : DoubleHasher} (k : ℕ) (words : List ℕ) (at : 
   -- where one of the first places is off, not all places of the hash are on
   pub tells-off : (a : ℕ) → a + 1 ≤ k → TellsNext a chain words false
       → false ≡ are_in (64 * length words) k hash (content words)
-  tells-off a fewer off = tells-all false (tells_next-off a k chain words (omega (arith, fewer)) off)
+  tells-off a fewer off =
+      tells-all false (tells_next-off a k chain words (omega (arith, fewer)) off)
 
   -- the first places are on, and of the others the last ones, so many at most, are looked at last
   module _ (a : ℕ) (next : DoubleHasher)
