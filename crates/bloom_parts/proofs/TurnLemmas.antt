@@ -51,7 +51,7 @@ turns_on-both i a b h old mid new v w one two =
     (turns_on-append i a b h old mid new (eqb v 0) (eqb w 0) one two)
 
 -- no place is turned on
-turns_on-none : (i h : ℕ) (words : List ℕ) → TurnsOn i 0 h words words true
+pub turns_on-none : (i h : ℕ) (words : List ℕ) → TurnsOn i 0 h words words true
 turns_on-none i h words = record {
   answers = sym (are_in_from-zero (64 * length words) i h (content words));
   bits = λ p.
@@ -82,6 +82,17 @@ turns_on_next-then a b x y old mid new v w moved one two hash i at =
 pub turned_on-none : (hash : ℕ) (words : List ℕ) (chain : DoubleHasher) → IsAt hash 0 chain
     → HasTurnedOn hash 0 words words chain 0
 turned_on-none hash words chain at = record { stands = at; turned = turns_on-none 0 hash words }
+
+-- at the start of a chain one call turns them on
+pub turned_on-once : {hash count : ℕ} {old new : List ℕ} {x y : DoubleHasher} {w : ℕ}
+    → IsAt hash 0 x → record { turns_on : TurnsOnNext count x old new w; moved : GoesOn count x y }
+    → HasTurnedOn hash count old new y w
+turned_on-once {hash} {count} {old} {new} {x} {y} {w} at next =
+    let all : 0 + count ≡ count = omega arith in
+    record {
+      stands = subst (λ m. IsAt hash m y) all (next.moved hash 0 at);
+      turned = next.turns_on hash 0 at;
+    }
 
 -- some more are turned on by one call
 pub turned_on-add : {hash a count : ℕ} {old mid new : List ℕ} {x y : DoubleHasher} {v : ℕ}

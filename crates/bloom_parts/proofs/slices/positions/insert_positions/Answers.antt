@@ -1,6 +1,14 @@
-use Rattle.std.proofs.Common.{arith}
-use Rattle.bloom_parts.proofs.TurnLemmas.{turned_on-none, turned_on-add, turned_on-reply, turned_on-content}
+use Rattle.std.proofs.Common.{refl, arith}
+use Rattle.bloom_parts.proofs.TurnLemmas.{turned_on-none, turned_on-once, turned_on-add, turned_on-reply, turned_on-content}
 use Rattle.bloom_parts.proofs.slices.positions.insert_positions.Goals as goal
+
+pub returns-then-num_hashes-lt4-clause-reply : goal.returns-then-num_hashes-lt4-clause-reply
+returns-then-num_hashes-lt4-clause-reply c =
+    turned_on-reply refl (turned_on-once c.new-chain.ensures c.turn_on_few.ensures)
+
+pub returns-then-num_hashes-lt4-clause-content : goal.returns-then-num_hashes-lt4-clause-content
+returns-then-num_hashes-lt4-clause-content c =
+    turned_on-content refl (turned_on-once c.new-chain.ensures c.turn_on_few.ensures)
 
 pub turns-init : goal.turns-init
 turns-init c = turned_on-none _ _ _ c.new-chain.ensures
