@@ -1,4 +1,3 @@
-pub mod Loads
 pub mod Passes
 pub mod Plays
 pub mod Rule

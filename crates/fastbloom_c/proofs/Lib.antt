@@ -1,3 +1,2 @@
-mod ManyLemmas
 mod NoWordLemmas
 mod PlanFacts

@@ -4,4 +4,3 @@ mod FoundLemmas
 mod GuardedFacts
 mod LoadLemmas
 mod LoadedFacts
-mod RunLemmas

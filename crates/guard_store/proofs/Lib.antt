@@ -5,9 +5,7 @@ mod FailureLemmas
 mod FitFacts
 mod InsertLemmas
 mod ListLemmas
-mod PutLemmas
 mod QueryLemmas
-mod ReadLemmas
 mod SelectLemmas
 mod StateLemmas
 mod TextLemmas
