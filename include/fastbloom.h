@@ -52,7 +52,7 @@ uint64_t fastbloom_hash(const uint8_t key[16], const uint8_t *bytes, size_t len)
 bool fastbloom_insert_hash(uint64_t *words, size_t num_words, uint32_t num_hashes, uint64_t hash);
 
 /* Turns on all positions of each of so many hashes, and answers true. Many at once cost less than a
- * call for each. */
+ * call for each; where the words are larger than a cache sixteen are looked up together. */
 bool fastbloom_insert_hashes(uint64_t *words, size_t num_words, uint32_t num_hashes,
                              const uint64_t *hashes, size_t count);
 

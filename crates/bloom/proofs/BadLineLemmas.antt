@@ -108,22 +108,27 @@ pub upto : (read mid left : Option (List ℕ)) (block : List ℕ) (lines : List 
     → NextCommand mid (prepend_known block left) next.Bad
     → IfSome read (λ bytes. IsReadUpTo bytes read left lines)
 upto None mid left block lines p q = tt
-upto (Some x) None left block lines p q = absurd p
+upto (Some x) None left block lines p q = absurd p.taken
 upto (Some x) (Some y) None block lines p (inl q) = absurd q.takes
 upto (Some x) (Some y) None block lines p (inr q) = absurd q
 upto (Some x) (Some y) (Some z) block lines p (inl q) =
+    let before = p.taken in
     let took = q.takes in
+    let good = ap (map line_of) before.are_lines ∙ p.good in
     let ended =
-    ended-before p.taken y took.taken (block ++ z) q.text p.last took.cut took.is_line in
-    subst (λ bytes. IsReadUpTo bytes (Some bytes) (Some z) lines) (sym p.cut)
-    (upto-short p.taken y took.taken block z lines p.good ended took.cut q.text took.is_line
+    ended-before before.taken y took.taken (block ++ z) q.text before.last took.cut took.is_line in
+    subst (λ bytes. IsReadUpTo bytes (Some bytes) (Some z) lines) (sym before.cut)
+    (upto-short before.taken y took.taken block z lines good ended took.cut q.text took.is_line
     took.last q.asks)
 upto (Some x) (Some y) (Some z) block lines p (inr q) =
     let some : y ≡ [] → ⊥ = λ none.
     let nothing : q.taken ≡ [] = nil-front q.taken (block ++ z) (sym q.cut ∙ none) in
     omega (arith, q.long, ap length nothing) in
-    subst (λ bytes. IsReadUpTo bytes (Some bytes) (Some z) lines) (sym p.cut)
-    (upto-long p.taken y q.taken block z lines p.good (ended p.last some) q.cut q.inside q.long)
+    let before = p.taken in
+    let good = ap (map line_of) before.are_lines ∙ p.good in
+    subst (λ bytes. IsReadUpTo bytes (Some bytes) (Some z) lines) (sym before.cut)
+    (upto-long before.taken y q.taken block z lines good (ended before.last some) q.cut q.inside
+    q.long)
   where
     ended : {A B : Type 0} → A ⊎ B → (B → ⊥) → A
     ended (inl a) none = a

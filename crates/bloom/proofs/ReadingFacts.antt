@@ -5,14 +5,9 @@ use Rattle.std.proofs.lemmas.List.{append_cancel_right}
 use Rattle.bloom.specs.declared.engine.line.Line.TheVariants.{Words}
 use Rattle.bloom.specs.declared.engine.line_reader.Next.TheVariants.{Good, Bad}
 use Rattle.lines.specs.Lines.{lines_of}
-use Rattle.lines.specs.Reading.{TakesLine, Ends}
 use Rattle.lines.proofs.ReadingLemmas.{taken-ended}
 use Rattle.bloom.specs.Lines.{line_of, number_of}
-use Rattle.bloom.specs.Reading.{Waiting, KnowsEnd, IsQuiet, Asks, TakesByte, IsFirstLine, TakesLong, NextCommand}
-
--- a list with a number isn't empty
-not_nil : (x : ℕ) (xs : List ℕ) → x ∷ xs ≡ [] → ⊥
-not_nil x xs none = cc
+use Rattle.bloom.specs.Reading.{Waiting, IsQuiet, Asks, TakesByte, IsFirstLine, TakesLong, NextCommand}
 
 -- nothing waits, and the end was told
 abbrev ended : Waiting
@@ -21,14 +16,6 @@ ended = record { bytes = []; ended = true }
 -- nothing waits, and the end wasn't told
 abbrev not_ended : Waiting
 not_ended = record { bytes = []; ended = false }
-
--- a reader that told its end has nothing left
-knows_end : KnowsEnd ended (Some [])
-knows_end _ = refl
-
--- a reader with a byte left has told no end
-knows_end-not : KnowsEnd ended (Some (1 ∷ [])) → ⊥
-knows_end-not knows = not_nil _ _ (knows refl)
 
 -- the reader wasn't asked
 quiet : IsQuiet {R = ℕ} ended ended 7 7
@@ -66,11 +53,14 @@ takes_none = record { nothing = refl; end = refl }
 
 -- not if a byte is left
 takes_none-not : TakesByte (Some (6 ∷ [])) (Some (6 ∷ [])) None → ⊥
-takes_none-not takes = not_nil _ _ takes.end
+takes_none-not takes = let none : ◌≡◌ {A = List ℕ} (6 ∷ []) [] = takes.end in cc
 
 -- a line of 22 bytes
 longest : IsFirstLine (replicate 22 49 ++ 10 ∷ []) 22
-longest = record { within = omega arith; short = omega arith; ended = refl; inside = refl }
+longest = record {
+  end = record { within = omega arith; ended = refl; inside = refl };
+  short = omega arith;
+}
 
 -- a line of 23 bytes
 too_long : IsFirstLine (replicate 23 49 ++ 10 ∷ []) 23 → ⊥
@@ -78,28 +68,11 @@ too_long first = omega (arith, first.short)
 
 -- a line without its end
 no_end : IsFirstLine (codes "i 1") 3 → ⊥
-no_end first = let within : 3 < 3 = first.within in omega (arith, within)
+no_end first = let within : 3 < 3 = first.end.within in omega (arith, within)
 
 -- a line whose end comes earlier
 ended_before : IsFirstLine (codes "w\nw\n") 3 → ⊥
-ended_before first = let same : false ≡ true = first.inside in cc
-
--- a line is taken with its end
-takes_line : TakesLine (Some (codes "i 1\nx\n")) (Some (codes "x\n")) (codes "i 1")
-unfolding lines_of
-takes_line = taken-ended refl refl
-
--- not if its end is left
-takes_line-not : TakesLine (Some (codes "i 1\nx\n")) (Some (codes "\nx\n")) (codes "i 1") → ⊥
-unfolding lines_of
-takes_line-not takes =
-    let taken : codes "i 1" ≡ takes.taken =
-    append_cancel_right (codes "i 1") takes.taken (codes "\nx\n") takes.cut in
-    elim takes.last [
-      | inl is ↦ (let cut : lines_of (codes "i 1\nx\n") ≡ codes "i 1" ∷ [] ∷ codes "x" ∷ [] =
-          (rw (sym taken) at is) (codes "\nx\n") in cc)
-      | inr none ↦ (let left : codes "\nx\n" ≡ [] = none in cc)
-    ]
+ended_before first = let same : false ≡ true = first.end.inside in cc
 
 -- 23 bytes of a line are taken
 takes_long : TakesLong (Some (replicate 24 49)) (Some (49 ∷ []))
@@ -113,14 +86,6 @@ takes_long-not takes =
     append_cancel_right (replicate 22 49) takes.taken (49 ∷ 49 ∷ []) takes.cut in
     let count : 22 ≡ length takes.taken = ap length taken in
     omega (arith, count, takes.long)
-
--- nothing is left
-ends : Ends (Some []) (Some [])
-ends = record { nothing = refl; end = refl }
-
--- not if a byte was taken
-ends-not : Ends (Some (10 ∷ [])) (Some []) → ⊥
-ends-not is = not_nil _ _ is.nothing
 
 -- a good line comes next
 next_good : NextCommand (Some (codes "w\nx\n")) (Some (codes "x\n")) (Good Words)

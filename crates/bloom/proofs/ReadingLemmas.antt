@@ -1,18 +1,38 @@
 -- What reading one line took.
-use Rattle.std.proofs.Common.{◌≡◌, ◌≢◌, ℕ, ◌+◌, ◌<◌, true, List, [], ◌∷◌, ◌++◌, length, take, drop, set, Option, Some, None, refl, sym, ◌∙◌, ap, subst, append_assoc, append-nil, length-set, length-take, take-append-drop, arith, inl, inr}
+use Rattle.std.proofs.Common.{◌≡◌, ◌≢◌, ℕ, ◌+◌, ◌<◌, ◌≤◌, true, List, [], ◌∷◌, ◌++◌, length, take, drop, set, Option, Some, None, IfSome, refl, sym, ◌∙◌, ap, subst, append_assoc, append-nil, length-set, length-take, take-append-drop, arith, inl, inr}
 use Rattle.std.specs.Prelude.{MatchOption}
 use Rattle.std.specs.Io.KnownBytes.{Consumes, IsAtEnd, Keeps, prepend_known}
 use Rattle.std.proofs.KnownBytes.{Consumes-trans, Keeps-trans}
-use Rattle.std.proofs.lemmas.List.{take_more, take_more_set}
+use Rattle.std.proofs.lemmas.List.{get_or-take, take-take, take_more, take_more_set}
 use Rattle.bloom.specs.declared.engine.line.Line.{Line}
 use Rattle.bloom.specs.declared.engine.line_reader.Next.{Next}
 use Rattle.bloom.specs.declared.engine.line_reader.Next.TheVariants as next
 use Rattle.bloom.specs.Lines.{line_of, longest_line}
-use Rattle.bloom.specs.Reading.{Asks, Waiting, IsQuiet, KnowsEnd, left_of, IsFirstLine, TakesByte, TakesLong, NextCommand}
+use Rattle.bloom.specs.Reading.{Asks, Waiting, IsQuiet, left_of, IsFirstLine, TakesByte, TakesLong, NextCommand}
 use Rattle.lines.specs.Lines.{has_no_end}
-use Rattle.lines.specs.Reading.{TakesLine}
-use Rattle.lines.proofs.LineLemmas.{lines_of-last, has_no_end-more}
-use Rattle.lines.proofs.ReadingLemmas.{taken-ended}
+use Rattle.lines.specs.Reading.{HasEndAt, KnowsEnd, TakesLine}
+use Rattle.lines.proofs.LineLemmas.{has_no_end-more}
+use Rattle.lines.proofs.ReadingLemmas.{taken-ended, taken-last}
+
+-- the end of the first line of a front is that of the first line
+HasEndAt-front : (m : ℕ) (bytes : List ℕ) (n : ℕ) → HasEndAt (take m bytes) n → HasEndAt bytes n
+HasEndAt-front m bytes n front =
+    let below : n < m = omega (arith, front.within, length-take m bytes) in
+    record {
+      within = omega (arith, front.within, length-take m bytes);
+      ended = sym (get_or-take m bytes n 0 below) ∙ front.ended;
+      inside = ap has_no_end (sym (take-take n m bytes (omega (arith, below)))) ∙ front.inside;
+    }
+
+-- an end that is found among as many bytes as are too many is that of a first line
+pub IsFirstLine-front : (bytes : List ℕ) (m : ℕ) (found : Option ℕ) → m ≤ longest_line + 1
+    → MatchOption found (has_no_end (take m bytes) ≡ true) (HasEndAt (take m bytes))
+    → IfSome found (IsFirstLine bytes)
+IsFirstLine-front bytes m None few end = tt
+IsFirstLine-front bytes m (Some n) few end = record {
+  end = HasEndAt-front m bytes n end;
+  short = omega (arith, few, end.within, length-take m bytes);
+}
 
 -- what a line asks for that was taken
 pub NextCommand-from : (old new : Option (List ℕ)) (text : List ℕ) (came : Next) → Asks text came
@@ -72,12 +92,8 @@ module _ {old mid : Option (List ℕ)} {line : List ℕ} {at : ℕ} (so_far : Is
               → TakesLine a c (take at line)
           go None c p end = tt
           go (Some x) None p end = absurd p
-          go (Some x) (Some z) p end = record {
-            taken = take at line;
-            cut = p ∙ ap (λ l. l ++ z) (append-nil (take at line));
-            is_line = lines_of-last (take at line) so_far.inside some;
-            last = inr end;
-          }
+          go (Some x) (Some z) p end =
+              taken-last (p ∙ ap (λ l. l ++ z) (append-nil (take at line))) so_far.inside some end
 
       -- what a line asks for whose end is taken too
       pub next-ended : (taken : Option ℕ) (byte : ℕ) (came : Next) → Asks (take at line) came
@@ -121,7 +137,7 @@ quiet-trans a b c from mid to first second ended =
 pub record IsHalfway {R : Type 0} (before now : Waiting) (from to : R)
     (read rest written held : Option (List ℕ)) (line : List ℕ) (at : ℕ) : Type 0 where
   pub in_line : IsInLine (left_of before read) (left_of now rest) line at
-  pub knows : KnowsEnd now rest
+  pub knows : KnowsEnd now.ended rest
   pub quiet : IsQuiet before now from to
   pub kept : Keeps written held
 
@@ -131,7 +147,7 @@ module _ {R : Type 0} {before now : Waiting} {from to : R}
     (so_far : IsHalfway before now from to read rest written held line at) where
   pub halfway-more : (byte : ℕ) → at < longest_line + 1 → byte ≢ 10 → (taken : Option ℕ)
       → taken ≡ Some byte → (after : Waiting) (end : R) (left kept : Option (List ℕ))
-      → TakesByte (left_of now rest) (left_of after left) taken → KnowsEnd after left
+      → TakesByte (left_of now rest) (left_of after left) taken → KnowsEnd after.ended left
       → IsQuiet now after to end → Keeps held kept
       → IsHalfway before after from end read left written kept (set line at byte) (at + 1)
   halfway-more byte below other taken is after end left kept takes knows quiet keeps = record {
@@ -149,7 +165,8 @@ TakesLine-in_block block n first (Some bytes) =
     let line = take n block in
     let rest = drop (n + 1) block in
     let front : take (n + 1) block ≡ line ++ 10 ∷ [] =
-    take_more block n 0 first.within ∙ ap (λ b. line ++ b ∷ []) first.ended in
+    take_more block n 0 first.end.within ∙ ap (λ b. line ++ b ∷ []) first.end.ended in
     let cut : block ≡ (line ++ 10 ∷ []) ++ rest = sym (take-append-drop (n + 1) block)
     ∙ ap (λ l. l ++ rest) front in
-    taken-ended (ap (λ l. l ++ bytes) cut ∙ append_assoc (line ++ 10 ∷ []) rest bytes) first.inside
+    taken-ended (ap (λ l. l ++ bytes) cut ∙ append_assoc (line ++ 10 ∷ []) rest bytes)
+    first.end.inside

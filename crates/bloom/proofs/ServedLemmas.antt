@@ -1,5 +1,5 @@
 -- From lines taken and carried out to what serving promises.
-use Rattle.std.proofs.Common.{◌≡◌, ℕ, ◌+◌, ◌^◌, ◌-◌, min, List, [], ◌∷◌, ◌++◌, length, map, Option, Some, None, Result, Err, false, refl, sym, ◌∙◌, ap, append-nil, length-append, arith}
+use Rattle.std.proofs.Common.{◌≡◌, ℕ, ◌+◌, ◌^◌, ◌-◌, min, List, [], ◌∷◌, ◌++◌, length, map, Option, Some, None, Result, Err, false, refl, sym, ◌∙◌, ap, length-append, arith}
 use Rattle.std.specs.Io.KnownBytes.{Keeps, Appends, prepend_known}
 use Rattle.std.proofs.lemmas.Bool.{both_ways}
 use Rattle.fastbloom.specs.Filter.{Filter}
@@ -9,11 +9,11 @@ use Rattle.bloom.specs.declared.engine.line_reader.Next.{Next}
 use Rattle.bloom.specs.declared.engine.line_reader.Next.TheVariants as next
 use Rattle.bloom.specs.declared.fault.Fault.{Fault}
 use Rattle.bloom.specs.declared.fault.Fault.TheVariants as fault
-use Rattle.lines.specs.Lines.{lines_of}
-use Rattle.lines.specs.Reading.{Ends}
-use Rattle.lines.proofs.TakenLemmas.{nil-back}
+use Rattle.lines.specs.Reading as reading
+use Rattle.lines.specs.Reading.{Ends, KnowsEnd}
+use Rattle.lines.proofs.TakenLemmas as taken
 use Rattle.bloom.specs.Lines.{line_of}
-use Rattle.bloom.specs.Reading.{KnowsEnd, NextCommand, Waiting, left_of}
+use Rattle.bloom.specs.Reading.{NextCommand, Waiting, left_of}
 use Rattle.bloom.specs.Served.{Carried, IsReadWhole, ServedAll, ServedUpTo}
 use Rattle.bloom.proofs.BadLineLemmas.{upto}
 use Rattle.bloom.proofs.CarriedLemmas.{Carried-nil, Carried-more}
@@ -28,7 +28,7 @@ pub record IsServing {S : Type 0} (read : Option (List ℕ)) (old : Filter S)
   pub carried : Carried old now from to lines
   pub taken : TakesGood read (left_of waiting rest) lines
   pub counted : number ≡ min (length lines + 1) (2 ^ 64 - 1)
-  pub knows : KnowsEnd waiting rest
+  pub knows : KnowsEnd waiting.ended rest
 
 -- bytes that were appended stay
 Appends-kept : (a b c : Option (List ℕ)) (bytes : List ℕ) → Appends a b bytes → Keeps b c
@@ -48,19 +48,18 @@ Carried-kept f g o p q lines so_far kept = record {
 }
 
 -- nothing is left of the block and of the reader
-IsReadWhole-from : (read left : Option (List ℕ)) (mid : Option (List ℕ)) (block : List ℕ)
-    (lines : List Line) → TakesGood read mid lines → Ends mid
-    (prepend_known block left) → IsReadWhole read left lines
-IsReadWhole-from None left mid block lines p q = tt
-IsReadWhole-from (Some x) left None block lines p q = absurd p
-IsReadWhole-from (Some x) None (Some y) block lines p q = absurd q.nothing
-IsReadWhole-from (Some x) (Some z) (Some y) block lines p q =
-    let none : block ++ z ≡ [] = q.end in
-    let rest : y ≡ [] = q.nothing ∙ none in
-    let all : x ≡ p.taken = p.cut ∙ ap (λ l. p.taken ++ l) rest ∙ append-nil p.taken in
-    record {
-      good = ap (λ l. map line_of (lines_of l)) all ∙ p.good;
-      none_left = ap Some (nil-back block z none);
+IsReadWhole-from : (read left mid : Option (List ℕ)) (block : List ℕ) (lines : List Line)
+    → TakesGood read mid lines → Ends mid (prepend_known block left)
+    → IsReadWhole read left lines
+IsReadWhole-from read left mid block lines took ends =
+    at read (taken.IsReadWhole-from read mid left block took.texts took.taken ends)
+  where
+    at : (read : Option (List ℕ)) → reading.IsReadWhole read left took.texts
+        → IsReadWhole read left lines
+    at None whole = tt
+    at (Some bytes) whole = record {
+      good = ap (map line_of) whole.are_lines ∙ took.good;
+      none_left = whole.none_left;
     }
 
 -- nothing was taken yet
@@ -87,7 +86,7 @@ module _ {S : Type 0} {read : Option (List ℕ)} {old : Filter S} {from : Option
 
   -- one more good line was taken and carried out
   pub serving_more : (line : Line) (new : Filter S) (end : Option (List ℕ)) (more : ℕ)
-      → came ≡ next.Good line → KnowsEnd after left → JoinedListsLaw S
+      → came ≡ next.Good line → KnowsEnd after.ended left → JoinedListsLaw S
       → Carried now new kept end (line ∷ []) → more ≡ min (number + 1) (2 ^ 64 - 1)
       → IsServing read old from after left new end more
   serving_more line new end more good knows joins one count =

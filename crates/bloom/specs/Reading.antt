@@ -1,11 +1,11 @@
 -- What reading one line takes, from what a block and a reader have left.
-use Rattle.std.specs.Prelude.{◌≡◌, ◌⊎◌, ℕ, ◌<◌, ◌≤◌, List, [], ◌∷◌, ◌++◌, length, take, slice_index, Bool, true, Option, Some, None, MatchOption}
-use Rattle.std.specs.Io.KnownBytes.{Consumes, IsAtEnd, prepend_known}
+use Rattle.std.specs.Prelude.{◌≡◌, ◌⊎◌, ℕ, ◌<◌, ◌≤◌, List, [], ◌∷◌, ◌++◌, length, Bool, true, Option, Some, None, MatchOption}
+use Rattle.std.specs.Io.KnownBytes.{Consumes, prepend_known}
 use Rattle.bloom.specs.declared.engine.line.Line.{Line}
 use Rattle.bloom.specs.declared.engine.line_reader.Next.{Next}
 use Rattle.bloom.specs.declared.engine.line_reader.Next.TheVariants.{End, Good, Bad}
 use Rattle.lines.specs.Lines.{has_no_end}
-use Rattle.lines.specs.Reading.{Ends, TakesLine}
+use Rattle.lines.specs.Reading.{HasEndAt, Ends, TakesLine}
 use Rattle.bloom.specs.Lines.{line_of, longest_line}
 
 -- what a reader of lines keeps: the bytes that were read and wait, and whether the end was told
@@ -16,10 +16,6 @@ pub record Waiting : Type 0 where
 -- all that is left: the bytes that wait, and then what the reader has
 abbrev pub left_of : Waiting → Option (List ℕ) → Option (List ℕ)
 left_of waiting rest = prepend_known waiting.bytes rest
-
--- where the end was told, the reader has nothing more
-abbrev pub KnowsEnd : Waiting → Option (List ℕ) → Type 0
-KnowsEnd waiting rest = waiting.ended ≡ true → IsAtEnd rest
 
 -- the end stays told, and the reader isn't asked: it is as it was
 pub record StaysEnded {R : Type 0} (new : Waiting) (from to : R) : Type 0 where
@@ -41,10 +37,8 @@ TakesByte old new (Some byte) = Consumes old new (byte ∷ [])
 
 -- the first line of these bytes has n bytes, no more than a good one may, and its end is there too
 pub record IsFirstLine (bytes : List ℕ) (n : ℕ) : Type 0 where
-  pub within : n < length bytes
+  pub end : HasEndAt bytes n
   pub short : n ≤ longest_line
-  pub ended : slice_index bytes n ≡ 10
-  pub inside : has_no_end (take n bytes) ≡ true
 
 -- from these bytes to those more bytes of one line were taken than a good one has
 pub record HasTakenLong (old new : List ℕ) : Type 0 where

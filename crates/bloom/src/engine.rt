@@ -4,7 +4,6 @@ ghost use Rattle.std.specs.Io.KnownBytes.{Keeps};
 ghost use Rattle.bloom.specs.Faults.{IsOfStream};
 ghost use Rattle.bloom.specs.Served.{Carried, ServedAll, ServedUpTo};
 
-mod block;
 mod line;
 mod line_reader;
 mod text;

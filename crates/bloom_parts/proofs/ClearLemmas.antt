@@ -1,5 +1,5 @@
 -- Words that are made 0, from the front on.
-use Rattle.std.proofs.Common.{◌≡◌, ℕ, zero, suc, ◌+◌, ◌≤◌, List, [], ◌∷◌, ◌++◌, ◌∙◌, length, set, replicate, refl, ap, take, drop, arith}
+use Rattle.std.proofs.Common.{◌≡◌, ℕ, zero, suc, ◌+◌, ◌*◌, ◌≤◌, List, [], ◌∷◌, ◌++◌, ◌∙◌, length, set, replicate, refl, ap, take, drop, arith}
 use Rattle.std.proofs.lemmas.List.{append-nil, drop_all, length-drop, take_all}
 use borrow.Rule.Slice.PartMut.{put_mid}
 use lib.Lanes.{put_chunk}
@@ -62,6 +62,14 @@ cleared-rest n i xs words rest front is far =
     ap (λ l. rest ++ l) (drop_all i (drop n words) left) ∙ append-nil rest in
     ap (λ l. take n words ++ l) (last ∙ all)
     ∙ ap (λ l. take n l ++ replicate (length (drop n l)) 0) front ∙ cleared-drop n xs
+
+-- after the last group of eight the others are cleared, and then all are
+pub cleared-end : (group groups i : ℕ) (xs words rest : List ℕ) → group ≡ groups
+    → words ≡ cleared (8 * group) xs
+    → rest ≡ replicate (length (take i (drop (8 * groups) words))) 0
+    → length words ≤ 8 * groups + i → put_mid (8 * groups) i words rest ≡ replicate (length xs) 0
+cleared-end group groups i xs words rest last front =
+    cleared-rest (8 * groups) i xs words rest (front ∙ ap (λ n. cleared (8 * n) xs) last)
 
 -- three words are cleared by two at once and the last
 pub cleared-three : (xs : List ℕ) → length xs ≡ 3

@@ -110,6 +110,10 @@ no-change false k = ne_eqb (2 ^ k) 0 (λ none. absurd (omega (arith, none, pow_p
 pub get_or-default : (a : List ℕ) (i d e : ℕ) → i < length a → get_or a i d ≡ get_or a i e
 get_or-default a i d e within = grind (arith, common_steps)
 
+-- what is read of a list, whatever stands for an element past its end
+pub get_or-itself : (a : List ℕ) (i : ℕ) → i < length a → get_or a i 0 ≡ get_or a i (get_or a i 0)
+get_or-itself a i within = get_or-default a i 0 (get_or a i 0) within
+
 -- within one word, the mask of a position has that position alone
 pub bit_is_on-mask : (p q : ℕ) → p / 64 ≡ q / 64 → bit_is_on (2 ^ (q % 64)) p ≡ eqb p q
 bit_is_on-mask p q same = elim (cases_eq (p % 64) (q % 64)) [

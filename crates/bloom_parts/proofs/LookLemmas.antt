@@ -1,6 +1,7 @@
 -- Stretches of the places of a hash that are looked at one after the other.
-use Rattle.std.proofs.Common.{◌≡◌, ◌≢◌, ℕ, ◌+◌, ◌-◌, ◌*◌, ◌≤◌, Bool, true, false, ◌&&◌, eqb, List, length, refl, sym, subst, ◌∙◌, ap, arith, inl, inr}
+use Rattle.std.proofs.Common.{◌≡◌, ◌≢◌, ℕ, ◌+◌, ◌-◌, ◌*◌, ◌≤◌, min, Bool, true, false, ◌&&◌, eqb, List, length, refl, sym, subst, ◌∙◌, ap, arith, inl, inr}
 use mir.Val.{bool_byte}
+use Rattle.std.specs.Prelude.{IsTrue}
 use Rattle.std.proofs.Math.Bool.{and-false}
 use Rattle.std.proofs.lemmas.Bool.{cases_eq, ne_eqb, eq-eqb}
 use Rattle.bloom_parts.specs.Chain.{IsAt}
@@ -60,40 +61,47 @@ tells_next-stops places count x y words r fewer moved before is next =
     (tells_next-then places 1 (places + 1) x y words true false refl moved before
     (subst (TellsNext 1 y words) is next))
 
-module _ (hash k : ℕ) (chain : DoubleHasher) (words : List ℕ) (at : IsAt hash 0 chain) where
+module _ {hash : ℕ} {chain : DoubleHasher} (k : ℕ) (words : List ℕ) (at : IsAt hash 0 chain) where
   -- the places of a chain that gave none yet are those of its hash
   pub tells-all : (r : Bool) → TellsNext k chain words r
       → r ≡ are_in (64 * length words) k hash (content words)
   tells-all r tells = tells hash 0 at ∙ are_in_from-start (64 * length words) k hash (content words)
 
   -- where one of the first places is off, not all places of the hash are on
-  pub tells-first_off : (a : ℕ) (r : Bool) → a ≤ k → r ≡ false → TellsNext a chain words r
+  pub tells-off : (a : ℕ) → a + 1 ≤ k → TellsNext a chain words false
       → false ≡ are_in (64 * length words) k hash (content words)
-  tells-first_off a r fewer off first =
-      tells-all false (tells_next-off a k chain words fewer
-      (tells_next-as a chain words r false off first))
+  tells-off a fewer off =
+      tells-all false (tells_next-off a k chain words (omega (arith, fewer)) off)
 
-  module _ (a b : ℕ) (next : DoubleHasher) (r s : Bool) (moved : GoesOn a chain next)
-      (on : r ≡ true) (first : TellsNext a chain words r) (then : TellsNext b next words s) where
-    -- where the first places are on, those and the next are on as the next are
-    both : TellsNext (a + b) chain words s
-    both =
-        tells_next-then a b (a + b) chain next words true s refl moved
-        (tells_next-as a chain words r true on first) then
+  -- the first places are on, and of the others the last ones, so many at most, are looked at last
+  module _ (a : ℕ) (next : DoubleHasher)
+      (first : record { found : TellsNext a chain words true; moved : GoesOn a chain next })
+      (fewer : a + 1 ≤ k) (last most : ℕ) (is : last ≡ min (k - a) most) where
+    -- those and the ones between are on as the ones between are
+    both : (r : Bool) → TellsNext (k - a - last) next words r
+        → TellsNext (a + (k - a - last)) chain words r
+    both r then =
+        tells_next-then a (k - a - last) (a + (k - a - last)) chain next words true r refl
+        first.moved first.found then
 
-    -- where the first places are on and one of the next is off
-    pub tells-next_off : a + b ≤ k → s ≡ false
+    -- where one of the ones between is off, not all places of the hash are on
+    pub tells-next_off : TellsNext (k - a - last) next words false
         → false ≡ are_in (64 * length words) k hash (content words)
-    tells-next_off fewer off = tells-first_off (a + b) s fewer off both
+    tells-next_off off =
+        tells-all false (tells_next-off (a + (k - a - last)) k chain words
+        (omega (arith, fewer, is)) (both false off))
 
-    -- where both are on, the last ones decide
-    pub tells-last : (last : ℕ) (end : DoubleHasher) (t : Bool) → a + b + last ≡ k → s ≡ true
-        → GoesOn b next end → TellsNext last end words t
-        → t ≡ are_in (64 * length words) k hash (content words)
-    tells-last last end t all on' ahead rest =
-        tells-all t (tells_next-then (a + b) last k chain end words true t all
-        (goes_on-then a b chain next end moved ahead)
-        (tells_next-as (a + b) chain words s true on' both) rest)
+    -- where all of them are on, the last ones decide
+    pub tells-last : (end : DoubleHasher) (t : Bool)
+        → record {
+          found : TellsNext (k - a - last) next words true;
+          moved : IsTrue true → GoesOn (k - a - last) next end;
+        } → TellsNext last end words t → t ≡ are_in (64 * length words) k hash (content words)
+    tells-last end t then rest =
+        tells-all t (tells_next-then (a + (k - a - last)) last k chain end words true t
+        (omega (arith, fewer, is))
+        (goes_on-then a (k - a - last) chain next end first.moved (then.moved refl))
+        (both true then.found) rest)
 
 -- a digit is 1 at most
 pub digit-most : (b : Bool) → bool_byte b ≤ 1

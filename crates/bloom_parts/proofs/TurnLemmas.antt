@@ -51,7 +51,7 @@ turns_on-both i a b h old mid new v w one two =
     (turns_on-append i a b h old mid new (eqb v 0) (eqb w 0) one two)
 
 -- no place is turned on
-turns_on-none : (i h : ℕ) (words : List ℕ) → TurnsOn i 0 h words words true
+pub turns_on-none : (i h : ℕ) (words : List ℕ) → TurnsOn i 0 h words words true
 turns_on-none i h words = record {
   answers = sym (are_in_from-zero (64 * length words) i h (content words));
   bits = λ p.
@@ -79,36 +79,48 @@ turns_on_next-then a b x y old mid new v w moved one two hash i at =
     turns_on-both i a b hash old mid new v w (one hash i at) (two hash (i + a) (moved hash i at))
 
 -- at the start of a chain no place has been turned on
-pub has_turned_on-none : (hash : ℕ) (words : List ℕ) (chain : DoubleHasher) → IsAt hash 0 chain
+pub turned_on-none : (hash : ℕ) (words : List ℕ) (chain : DoubleHasher) → IsAt hash 0 chain
     → HasTurnedOn hash 0 words words chain 0
-has_turned_on-none hash words chain at = record { stands = at; turned = turns_on-none 0 hash words }
+turned_on-none hash words chain at = record { stands = at; turned = turns_on-none 0 hash words }
 
--- some more are turned on
-pub has_turned_on-then : (hash a b count : ℕ) (old mid new : List ℕ) (x y : DoubleHasher) (v w : ℕ)
-    → a + b ≡ count → HasTurnedOn hash a old mid x v → GoesOn b x y → TurnsOnNext b x mid new w
+-- at the start of a chain one call turns them on
+pub turned_on-once : {hash count : ℕ} {old new : List ℕ} {x y : DoubleHasher} {w : ℕ}
+    → IsAt hash 0 x → record { turns_on : TurnsOnNext count x old new w; moved : GoesOn count x y }
+    → HasTurnedOn hash count old new y w
+turned_on-once {hash} {count} {old} {new} {x} {y} {w} at next =
+    let all : 0 + count ≡ count = omega arith in
+    record {
+      stands = subst (λ m. IsAt hash m y) all (next.moved hash 0 at);
+      turned = next.turns_on hash 0 at;
+    }
+
+-- some more are turned on by one call
+pub turned_on-add : {hash a count : ℕ} {old mid new : List ℕ} {x y : DoubleHasher} {v : ℕ}
+    (b w : ℕ) → a + b ≡ count → HasTurnedOn hash a old mid x v
+    → record { turns_on : TurnsOnNext b x mid new w; moved : GoesOn b x y }
     → HasTurnedOn hash count old new y (bit_or v w)
-has_turned_on-then hash a b count old mid new x y v w all done moved next =
+turned_on-add {hash} {a} {count} {old} {mid} {new} {x} {y} {v} b w all done next =
     let start : a ≡ 0 + a = omega arith in
     let before =
-    subst (λ m. TurnsOn m b hash mid new (eqb w 0)) start (next hash a done.stands) in
+    subst (λ m. TurnsOn m b hash mid new (eqb w 0)) start (next.turns_on hash a done.stands) in
     record {
-      stands = subst (λ m. IsAt hash m y) all (moved hash a done.stands);
+      stands = subst (λ m. IsAt hash m y) all (next.moved hash a done.stands);
       turned = subst (λ m. TurnsOn 0 m hash old new (eqb (bit_or v w) 0)) all
           (turns_on-both 0 a b hash old mid new v w done.turned before);
     }
 
-module _ (hash count k : ℕ) (old new : List ℕ) (chain : DoubleHasher) (was_off : ℕ)
+module _ {hash count k : ℕ} {old new : List ℕ} {chain : DoubleHasher} {was_off : ℕ}
     (all : count ≡ k) (done : HasTurnedOn hash count old new chain was_off) where
   -- once all places of a hash were turned on, the word tells whether all were on before
-  pub has_turned_on-reply : eqb was_off 0 ≡ are_in (64 * length old) k hash (content old)
-  has_turned_on-reply =
+  pub turned_on-reply : eqb was_off 0 ≡ are_in (64 * length old) k hash (content old)
+  turned_on-reply =
       done.turned.answers ∙ are_in_from-start (64 * length old) count hash (content old)
       ∙ ap (λ m. are_in (64 * length old) m hash (content old)) all
 
   -- once all places of a hash were turned on, its positions are on besides what was
-  pub has_turned_on-content : (p : ℕ) → content new p
+  pub turned_on-content : (p : ℕ) → content new p
       ≡ (content old p || positions (64 * length old) k hash p)
-  has_turned_on-content p =
+  turned_on-content p =
       done.turned.bits p
       ∙ ap (λ b. content old p || b) (positions_from-start (64 * length old) count hash p)
       ∙ ap (λ m. content old p || positions (64 * length old) m hash p) all

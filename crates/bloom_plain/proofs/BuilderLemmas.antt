@@ -23,7 +23,7 @@ inserts_all-same hash_of steps it start made filter is_made all =
     (subst (λ i. WholeRun steps i (λ run. InsertsItems hash_of start run.items filter)) all.1 all.2)
 
 -- the number of bits for a rate's builder is that for its rate and items, where none counts as one
-pub size_of-rate : {S : Type 0} (inside start : RateStart S) (expected items bits : ℕ)
+size_of-rate : {S : Type 0} (inside start : RateStart S) (expected items bits : ℕ)
     → inside ≡ start → items ≡ max expected 1
     → IsSizeFor items (num_of inside.rate) (den_of inside.rate) bits → IsSizeOf start expected bits
 size_of-rate inside start expected items bits is_start is_items sized =
@@ -32,16 +32,17 @@ size_of-rate inside start expected items bits is_start is_items sized =
     (is_items ∙ max_comm expected 1) sized)
 
 -- a filter that was sized from zero words for a rate's items is made for them
-pub made_for-zeros : {S : Type 0} (inside start : RateStart S) (words : List ℕ) (items bits : ℕ)
-    (filter : Filter S) → inside ≡ start → IsSizeOf start items bits
+pub made_for-zeros : {S : Type 0} (inside start : RateStart S) (words : List ℕ)
+    (expected items bits : ℕ) (filter : Filter S) → inside ≡ start → items ≡ max expected 1
+    → IsSizeFor items (num_of inside.rate) (den_of inside.rate) bits
     → words ≡ replicate (words_for bits) 0
-    → filter ≡ sized_filter (record { words = words; hasher = inside.hasher }) items
-    → IsMadeFor start items filter
-made_for-zeros inside start words items bits filter is_start sized zeros made = (
+    → filter ≡ sized_filter (record { words = words; hasher = inside.hasher }) expected
+    → IsMadeFor start expected filter
+made_for-zeros inside start words expected items bits filter is_start is_items sized zeros made = (
   bits,
-  sized,
-  made ∙ ap (λ w. sized_filter (record { words = w; hasher = inside.hasher }) items) zeros
-      ∙ ap (λ b. sized_filter (empty_start b bits) items) is_start,
+  size_of-rate inside start expected items bits is_start is_items sized,
+  made ∙ ap (λ w. sized_filter (record { words = w; hasher = inside.hasher }) expected) zeros
+      ∙ ap (λ b. sized_filter (empty_start b bits) expected) is_start,
 )
 
 -- a size that is refused is refused as `zero_bits` refuses it

@@ -1,52 +1,24 @@
 -- Lists of commands, one after the other.
-use Rattle.std.proofs.Common.{◌≡◌, ℕ, ◌+◌, ◌*◌, ◌<◌, Bool, List, [], ◌∷◌, ◌++◌, length, take, get_or, map, Option, Some, None, unwrap_or, refl, sym, ◌∙◌, ap, subst, append-nil, append_assoc}
-use Rattle.std.specs.Option.{option_or}
+use Rattle.std.proofs.Common.{◌≡◌, ℕ, ◌+◌, ◌*◌, ◌<◌, Bool, List, [], ◌∷◌, ◌++◌, length, take, get_or, map, Option, None, refl, sym, ◌∙◌, ap, subst, append-nil, append_assoc}
 use Rattle.std.specs.Prelude.{option_to_list}
 use Rattle.std.proofs.lemmas.List.{map-append, take_more}
 use Rattle.std.specs.Iterator.{Yields}
 use Rattle.std.specs.Iterator.Runs.{WholeRun}
 use Rattle.std.proofs.iter.runs.Made.{run_of_exit}
 use Rattle.bloom_parts.specs.Content.{content}
-use Rattle.bloom_parts.specs.Deciders.{Decider, last_decision, state}
+use Rattle.bloom_parts.specs.Deciders.{state}
 use Rattle.bloom_parts.specs.Operations.{Operation, Insert, decides, state_after, reply}
+use Rattle.bloom_parts.proofs.PublishedLemmas.{state-append}
 use Rattle.bloom_plain.specs.Filter.{Filter, SameShape, num_bits_of}
 use Rattle.bloom_plain.specs.Replies.{CarriesOut, InsertsItems, replies, replies_after}
-
--- of three decisions, whichever two come first
-option_or-assoc : {T : Type 0} (a b c : Option T)
-    → option_or (option_or a b) c ≡ option_or a (option_or b c)
-option_or-assoc None b c = refl
-option_or-assoc (Some x) b c = refl
-
--- no decision changes nothing
-option_or-none : {T : Type 0} (a : Option T) → option_or a None ≡ a
-option_or-none None = refl
-option_or-none (Some x) = refl
-
--- a decision is carried out on what an earlier one made
-unwrap_or-or : {T : Type 0} (a b : Option T) (x : T)
-    → unwrap_or (option_or a b) x ≡ unwrap_or a (unwrap_or b x)
-unwrap_or-or None b x = refl
-unwrap_or-or (Some y) b x = refl
-
--- the later of two lists of deciders decides first
-pub last_decision-append : (ds es : List Decider) (p : ℕ)
-    → last_decision (ds ++ es) p ≡ option_or (last_decision es p) (last_decision ds p)
-last_decision-append [] es p = sym (option_or-none (last_decision es p))
-last_decision-append (d ∷ ds) es p =
-    ap (λ o. option_or o (d p)) (last_decision-append ds es p)
-    ∙ option_or-assoc (last_decision es p) (last_decision ds p) (d p)
 
 module _ (n k : ℕ) where
   -- the set after two lists of commands
   pub state_after-append : (A : ℕ → Bool) (xs ys : List Operation)
       → state_after n k A (xs ++ ys) ≡ state_after n k (state_after n k A xs) ys
   state_after-append A xs ys = λ i p.
-      let first = map (decides n k) xs in
-      let second = map (decides n k) ys in
       (ap (λ ds. state A ds p) (map-append (decides n k) xs ys)
-      ∙ ap (λ o. unwrap_or o (A p)) (last_decision-append first second p)
-      ∙ unwrap_or-or (last_decision second p) (last_decision first p) (A p)) i
+      ∙ state-append A (map (decides n k) xs) (map (decides n k) ys) p) i
 
   -- commands that were carried out before may count as a set
   replies_after-start : (A : ℕ → Bool) (xs earlier ys : List Operation)
@@ -162,10 +134,11 @@ module _ {S T : Type 0} (hash_of : S → T → ℕ) (old : Filter S) where
       )
 
   -- when the iterator has ended, those were all its items
-  pub inserts_items-whole : {I : Type 0} (steps : I → Option T → I → Type 0) (start last end : I)
-      (items : List T) (new : Filter S) → Yields steps start items last → steps last None end
-      → InsertsItems hash_of old items new
-      → WholeRun steps start (λ run. InsertsItems hash_of old run.items new)
-  inserts_items-whole steps start last end items new came ended did =
+  pub inserts_items-whole : {I : Type 0} (comes : I → Type 0) (steps : I → Option T → I → Type 0)
+      (start last end : I) (items : List T) (new : Filter S) → comes start
+      → Yields steps start items last → steps last None end → InsertsItems hash_of old items new
+      → (it : I) × comes it × WholeRun steps it (λ run. InsertsItems hash_of old run.items new)
+  inserts_items-whole comes steps start last end items new first came ended did =
       let made = run_of_exit steps start items last came end ended in
-      (made.0, made.1, made.2, subst (λ l. InsertsItems hash_of old l new) (sym made.3.0) did)
+      let all = subst (λ l. InsertsItems hash_of old l new) (sym made.3.0) did in
+      (start, first, (made.0, made.1, made.2, all))

@@ -1,5 +1,5 @@
 -- Hashes that are inserted together.
-use Rattle.std.proofs.Common.{◌≡◌, ℕ, Bool, true, false, ◌||◌, List, [], ◌∷◌, ◌++◌, map, refl, sym, ◌∙◌, ap, subst, append-nil, append_assoc}
+use Rattle.std.proofs.Common.{◌≡◌, ℕ, ◌<◌, Bool, true, false, ◌||◌, List, [], ◌∷◌, ◌++◌, length, map, arith, refl, sym, ◌∙◌, ap, subst, append-nil, append_assoc}
 use Rattle.std.proofs.lemmas.List.{map-append}
 use Rattle.std.proofs.lemmas.Bool.{and_parts}
 use Rattle.std.specs.List.{list_all}
@@ -74,6 +74,11 @@ pub record IsBehind {S : Type 0} (old : Filter S) (hashes waiting : List ℕ) (n
   pub cut : hashes ≡ before ++ waiting
   pub did : InsertsAll old before new
 
+-- and fewer than sixteen wait
+abbrev pub AreQueued : {S : Type 0} → Filter S → List ℕ → List ℕ → Filter S → Type 0
+AreQueued old hashes waiting new =
+    record { behind : IsBehind old hashes waiting new; room : length waiting < 16 }
+
 module _ {S : Type 0} (old : Filter S) (waiting more : List ℕ) (hash : ℕ) where
   -- a hash joins those that wait
   pub queues-wait : more ≡ waiting ++ hash ∷ [] → Queues old waiting hash old more
@@ -88,47 +93,56 @@ module _ {S : Type 0} (old : Filter S) (waiting more : List ℕ) (hash : ℕ) wh
     did = did;
   }
 
-module _ {S : Type 0} (old : Filter S) where
+module _ {S : Type 0} {old : Filter S} where
   -- no hash
-  pub is_behind-none : (waiting : List ℕ) → waiting ≡ [] → IsBehind old [] waiting old
-  is_behind-none waiting none = record {
-    before = [];
-    cut = sym none;
-    did = inserts_all-none old;
+  pub queued-none : {waiting : List ℕ} → waiting ≡ [] → AreQueued old [] waiting old
+  queued-none none = record {
+    behind = record { before = []; cut = sym none; did = inserts_all-none old };
+    room = omega (arith, ap length none);
   }
 
   -- one more joins those that wait
-  pub is_behind-next : (mid new : Filter S) (hashes : List ℕ) (hash : ℕ) (waiting more : List ℕ)
-      → IsBehind old hashes waiting mid → Queues mid waiting hash new more
-      → IsBehind old (hashes ++ hash ∷ []) more new
-  is_behind-next mid new hashes hash waiting more behind next = record {
-    before = behind.before ++ next.gone;
-    cut =
-        ap (λ l. l ++ hash ∷ []) behind.cut
-        ∙ append_assoc behind.before waiting (hash ∷ [])
-        ∙ ap (λ l. behind.before ++ l) next.cut
-        ∙ sym (append_assoc behind.before next.gone more);
-    did = inserts_all-join old mid new behind.before next.gone behind.did next.did;
-  }
+  pub queued-next : {mid new : Filter S} {hashes waiting more : List ℕ} {hash : ℕ}
+      → AreQueued old hashes waiting mid
+      → record { queues : Queues mid waiting hash new more; room : length more < 16 }
+      → AreQueued old (hashes ++ hash ∷ []) more new
+  queued-next {mid} {new} {hashes} {waiting} {more} {hash} before next =
+      let gone = next.queues.gone in
+      let first = before.behind.before in
+      record {
+        behind = record {
+          before = first ++ gone;
+          cut =
+              ap (λ l. l ++ hash ∷ []) before.behind.cut
+              ∙ append_assoc first waiting (hash ∷ [])
+              ∙ ap (λ l. first ++ l) next.queues.cut
+              ∙ sym (append_assoc first gone more);
+          did = inserts_all-join old mid new first gone before.behind.did next.queues.did;
+        };
+        room = next.room;
+      }
 
   -- where those that wait are inserted, all are
-  pub is_behind-all : (mid new : Filter S) (hashes waiting : List ℕ)
-      → IsBehind old hashes waiting mid → InsertsAll mid waiting new → InsertsAll old hashes new
-  is_behind-all mid new hashes waiting behind did =
+  pub queued-all : {mid new : Filter S} {hashes waiting given : List ℕ}
+      → AreQueued old hashes waiting mid → given ≡ waiting → InsertsAll mid given new
+      → InsertsAll old hashes new
+  queued-all {mid} {new} {hashes} {waiting} {given} queued all did =
+      let behind = queued.behind in
       subst (λ l. InsertsAll old l new) (sym behind.cut)
-      (inserts_all-join old mid new behind.before waiting behind.did did)
+      (inserts_all-join old mid new behind.before waiting behind.did
+      (subst (λ l. InsertsAll mid l new) all did))
 
   -- one more item: inserts keep the hasher, by which it is hashed
-  pub is_behind-item : {T : Type 0} (hash_of : S → T → ℕ) (mid new : Filter S) (items : List T)
-      (item : T) (waiting more : List ℕ)
-      → IsBehind old (map (hash_of old.hasher) items) waiting mid
-      → Queues mid waiting (hash_of mid.hasher item) new more
-      → IsBehind old (map (hash_of old.hasher) (items ++ item ∷ [])) more new
-  is_behind-item hash_of mid new items item waiting more behind next =
-      let hash = hash_of old.hasher in
-      let joined : map hash (items ++ item ∷ [])
-      ≡ map hash items ++ hash_of mid.hasher item ∷ [] =
-      map-append hash items (item ∷ [])
-      ∙ ap (λ h. map hash items ++ hash_of h item ∷ []) (sym behind.did.1.hasher) in
-      subst (λ l. IsBehind old l more new) (sym joined)
-      (is_behind-next mid new (map hash items) (hash_of mid.hasher item) waiting more behind next)
+  pub queued-item : {T : Type 0} (hash_of : S → T → ℕ) {mid new : Filter S} (items : List T)
+      (item : T) {waiting more : List ℕ} {hash : ℕ}
+      → AreQueued old (map (hash_of old.hasher) items) waiting mid
+      → hash ≡ hash_of mid.hasher item
+      → record { queues : Queues mid waiting hash new more; room : length more < 16 }
+      → AreQueued old (map (hash_of old.hasher) (items ++ item ∷ [])) more new
+  queued-item hash_of {mid} {new} items item {waiting} {more} {hash} before is next =
+      let hashes = map (hash_of old.hasher) items in
+      let joined : map (hash_of old.hasher) (items ++ item ∷ []) ≡ hashes ++ hash ∷ [] =
+      map-append (hash_of old.hasher) items (item ∷ [])
+      ∙ ap (λ h. hashes ++ hash_of h item ∷ []) (sym before.behind.did.1.hasher)
+      ∙ ap (λ h. hashes ++ h ∷ []) (sym is) in
+      subst (λ l. AreQueued old l more new) (sym joined) (queued-next before next)

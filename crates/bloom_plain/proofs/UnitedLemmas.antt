@@ -10,7 +10,7 @@ use Rattle.bloom_plain.specs.Filter.{num_bits_of}
 use Rattle.bloom_plain.specs.Laws.{UnitedInsertsLaw}
 use Rattle.bloom_plain.specs.Replies.{replies}
 use Rattle.bloom_plain.proofs.FoundLemmas.{leaves_on, leaves_on-list, all_spare}
-use Rattle.bloom_plain.proofs.ListLemmas.{last_decision-append}
+use Rattle.bloom_parts.proofs.PublishedLemmas.{last_decision-append}
 
 -- two decisions of which neither turns off make on what either does
 either-made : (d e : Option Bool) (was : Bool) → leaves_on d ≡ true → leaves_on e ≡ true

@@ -53,8 +53,9 @@ finds-known n k hash old new answer did = elim (cases_Bool answer) [
       ap (known_of new) (sym found.here) ∙ did.looks.found found.index (omega arith)))
   | inr off ↦
       let last = did.off off in
+      let at : ℕ = place n hash did.on in
       off ∙ sym (are_in-off n k hash (known_of new) did.on last.0
-      (unknown (content new.start (place n hash did.on)) (known_of new (place n hash did.on)) last.1))
+      (unknown (content new.start at) (known_of new at) last.1))
 ]
   where
     unknown : (a b : Bool) → (a || b) ≡ false → b ≡ false

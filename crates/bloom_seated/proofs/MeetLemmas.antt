@@ -11,11 +11,12 @@ use Rattle.bloom_parts.proofs.PublishedLemmas.{content-past}
 use Rattle.bloom_seated.specs.Sets.{set_of}
 use Rattle.bloom_seated.specs.Rule.{IsSeated}
 use Rattle.bloom_seated.specs.Plays.{FilterSeat, note_of, told}
-use Rattle.bloom_seated.specs.Passes.{Sight, sight_of, known_of, either_of, Views, Meets, Closes}
+use Rattle.bloom_seated.specs.Loads.{Views}
+use Rattle.bloom_seated.specs.Passes.{Sight, sight_of, known_of, either_of, Meets, Closes}
 use Rattle.bloom_seated.specs.Standing.{IsPassSeat}
 use Rattle.bloom_seated.specs.declared.rule.Sets.{Sets}
 use Rattle.bloom_seated.proofs.SetLemmas.{in-left, in-right}
-use Rattle.bloom_seated.proofs.StepLemmas.{pass-not_spent}
+use Rattle.bloom_seated.proofs.StepLemmas.Passes.{pass-not_spent}
 
 -- who looked at every word knows all that the filter began with
 start-known : (old new : Sight) (words : ℕ) → Views words old new → length old.start ≡ words
@@ -25,6 +26,11 @@ start-known old new words views whole p begun = elim (cases_lt (p / 64) words) [
   | inr past ↦
       absurd (both_ways (content old.start p) (content-past old.start p (omega arith)) begun)
 ]
+
+-- what is told of equal views
+pub told-same : (a b c d : Sets) → a ≡ b → c ≡ d → told a (note_of c) ≡ told b (note_of d)
+told-same a b c d first second =
+    ap (λ (v : Sets). told v (note_of c)) first ∙ ap (λ (v : Sets). told b (note_of v)) second
 
 -- the seats of two passes: before they met, as they knew of one another, and after
 module _ (a b a_told b_told a_new b_new : FilterSeat) (words : ℕ)
@@ -76,7 +82,7 @@ module _ (a b a_told b_told a_new b_new : FilterSeat) (words : ℕ)
   }
 
 -- the last words of a table, as a pass knows them
-pub closes : (count passes seat_id : ℕ) (seat : FilterSeat) (words : List ℕ)
+closes : (count passes seat_id : ℕ) (seat : FilterSeat) (words : List ℕ)
     (slots : List (Unit {0})) → IsPassSeat seat
     → Final (Seen (IsSeated count passes) seat_id seat.me.0) words slots
     → Closes (sight_of seat) words
@@ -109,7 +115,16 @@ take-next l m k i a at is more =
     more ∙ ap (λ z. z ++ a ∷ []) is ∙ ap (λ z. take i l ++ z ∷ []) (sym there.1)
     ∙ sym (take_more l i 0 there.0)
 
--- all words
-pub take-whole : (l k : List ℕ) (i n : ℕ) → k ≡ take i l → i ≡ n → n ≡ length l → k ≡ l
+-- and all of them
+take-whole : (l k : List ℕ) (i n : ℕ) → k ≡ take i l → i ≡ n → n ≡ length l → k ≡ l
 take-whole l k i n is at count =
     is ∙ ap (λ m. take m l) (at ∙ count) ∙ take_all (length l) l (le_refl (length l))
+
+-- the same of words that were taken out one by one
+pub closes-taken : (count passes seat_id : ℕ) (seat : FilterSeat) (words taken : List ℕ)
+    (slots : List (Unit {0})) (i n : ℕ) → IsPassSeat seat
+    → Final (Seen (IsSeated count passes) seat_id seat.me.0) words slots → taken ≡ take i words
+    → i ≡ n → n ≡ length words → Closes (sight_of seat) taken
+closes-taken count passes seat_id seat words taken slots i n pass final is at all =
+    subst (Closes (sight_of seat)) (sym (take-whole words taken i n is at all))
+    (closes count passes seat_id seat words slots pass final)

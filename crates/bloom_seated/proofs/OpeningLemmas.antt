@@ -7,11 +7,11 @@ use Rattle.atomic_table.specs.Table.{step, keeps, Allows, opening as opened}
 use Rattle.bloom_parts.specs.Content.{content}
 use Rattle.bloom_seated.specs.Sets.{set_of}
 use Rattle.bloom_seated.specs.Rule.{Standing, Has, IsSeated, passes_of, first_view}
-use Rattle.bloom_seated.specs.Plays.{Sat, with_bits, put_in, settled, IsFirst}
+use Rattle.bloom_seated.specs.Plays.{Sat, with_bits, put_in, settled, IsFirst, IsFresh}
 use Rattle.bloom_seated.specs.declared.rule.Sets.{Sets}
 use Rattle.bloom_seated.specs.declared.rule.Role.TheVariants.{Pass}
 use Rattle.bloom_seated.proofs.SetLemmas.{in-none}
-use Rattle.bloom_seated.proofs.RuleLemmas.{only-view}
+use Rattle.bloom_seated.proofs.RuleLemmas.Seats.{only-view}
 
 -- a table with one seat, which knows nothing, at the words that it carries
 module _ (s : Standing) (w : Sets) (one : s.views ≡ w ∷ []) (same : s.words ≡ w.start)
@@ -114,6 +114,14 @@ settles count passes slots seat me i first s rule sized at fits =
           (set-get_or s.words i 0 ∙ before.1) first.known first.gained first.some),
       refl,
     )
+
+-- it knows and gained nothing then
+pub settles-fresh : (v w : Sets) → IsFirst v → w ≡ record v { role = Pass } → IsFresh w
+settles-fresh v w was is = record {
+  role = ap (λ (u : Sets). u.role) is;
+  known = ap (λ (u : Sets). u.known) is ∙ was.known;
+  gained = ap (λ (u : Sets). u.gained) is ∙ was.gained;
+}
 
 -- a table of zero words with its first seat
 pub opens : (count passes : ℕ) → 1 ≤ passes

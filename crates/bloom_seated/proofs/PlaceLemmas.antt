@@ -1,9 +1,19 @@
 -- The places of a hash, one after the other.
-use Rattle.std.proofs.Common.{◌≡◌, ℕ, suc, ◌+◌, ◌/◌, ◌<◌, Bool, true, false, ◌||◌, ◌&&◌, eqb, inl, inr, refl, sym, ap, ◌∙◌, subst, arith, le_refl}
+use Rattle.std.proofs.Common.{◌≡◌, ℕ, suc, ◌+◌, ◌*◌, ◌/◌, ◌<◌, Bool, true, false, ◌||◌, ◌&&◌, eqb, inl, inr, refl, sym, ap, ◌∙◌, subst, arith, le_refl}
 use Rattle.std.proofs.lemmas.Bool.{both_ways, cases_lt}
+use Rattle.bloom_parts.specs.Chain.{chain}
+use Rattle.bloom_parts.specs.Content.{index_of}
 use Rattle.bloom_parts.specs.Places.{place, positions}
-use Rattle.bloom_seated.specs.Passes.{Sight, known_of, sure_of, Inserts, LooksAt, Looks, GrowsBeside, Finds}
-use Rattle.bloom_seated.proofs.PassLemmas.{inserts-none, inserts-then, inserts-as}
+use Rattle.bloom_seated.specs.Loads.{LooksAt}
+use Rattle.bloom_seated.specs.Passes.{Sight, known_of, sure_of, Inserts, Looks, GrowsBeside, Finds}
+use Rattle.bloom_seated.proofs.PassLemmas.Inserting.{inserts-none, inserts-then, inserts-as}
+
+-- where the next hash of the chain lies among these bits is the next place
+pub next-place : (count words hash i next position : ℕ) → count ≡ words → next ≡ chain hash i
+    → position ≡ index_of (count * 64) next → position ≡ place (64 * words) hash i
+next-place count words hash i next position counted is at =
+    let bits : count * 64 ≡ 64 * words = omega (arith, counted) in
+    at ∙ ap (λ n. index_of n next) bits ∙ ap (index_of (64 * words)) is
 
 -- the positions with one place more
 positions-next : (n hash i q : ℕ) → q ≡ place n hash i

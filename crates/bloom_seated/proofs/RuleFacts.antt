@@ -12,8 +12,8 @@ use Rattle.bloom_seated.specs.SeatedLaws.{is_pass, or_decides}
 use Rattle.bloom_seated.specs.declared.rule.Sets.{Sets}
 use Rattle.bloom_seated.specs.declared.rule.Role.{Role}
 use Rattle.bloom_seated.specs.declared.rule.Role.TheVariants.{First, Pass, Note}
-use Rattle.bloom_seated.proofs.PassFacts.{one-from, single-from}
-use Rattle.bloom_seated.proofs.RuleLemmas.{only-view}
+use Rattle.bloom_seated.proofs.PassFacts.Cases.{one-from, single-from}
+use Rattle.bloom_seated.proofs.RuleLemmas.Seats.{only-view}
 use Rattle.bloom_seated.proofs.WordLemmas.{content-with_bits}
 
 -- what a seat knows that gained what it knows

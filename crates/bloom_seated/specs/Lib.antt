@@ -1,3 +1,4 @@
+pub mod Loads
 pub mod Passes
 pub mod Plays
 pub mod Rule

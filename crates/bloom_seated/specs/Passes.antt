@@ -93,16 +93,6 @@ pub record Inserts (P : ℕ → Bool) (old new : Sight) (answer : Bool) : Type 0
   pub grew : answer ≡ false → HasGained old new
   pub stayed : answer ≡ true → IsPart (gained_of new) (gained_of old)
 
--- from old to new a pass loaded the word of a position, and answers whether this is on
-pub record LooksAt (position : ℕ) (old new : Sight) (answer : Bool) : Type 0 where
-  pub same : IsSamePass old new
-  pub gained : new.gained ≡ old.gained
-  pub kept : IsPart (known_of old) (known_of new)
-  pub on : answer ≡ true → known_of new position ≡ true
-  pub off : answer ≡ false → sure_of new position ≡ false
-  pub grown : (p : ℕ) → known_of new p ≡ true
-      → (known_of old p ≡ true) ⊎ (p / 64 ≡ position / 64)
-
 -- a position lies in the word of one of the first places of a hash
 pub record IsBeside (n hash places p : ℕ) : Type 0 where
   pub index : ℕ
@@ -130,13 +120,6 @@ pub record Finds (n k hash : ℕ) (old new : Sight) (answer : Bool) : Type 0 whe
   pub all : answer ≡ true → (on ≡ k) × GrowsBeside n hash k old new
   pub off : answer ≡ false → (on < k) × (sure_of new (place n hash on) ≡ false)
       × GrowsBeside n hash (on + 1) old new
-
--- from old to new a pass looked at the words before one: it knows all that these began with
-pub record Views (word : ℕ) (old new : Sight) : Type 0 where
-  pub same : IsSamePass old new
-  pub gained : new.gained ≡ old.gained
-  pub kept : IsPart (known_of old) (known_of new)
-  pub shown : (p : ℕ) → p / 64 < word → content old.start p ≡ true → known_of new p ≡ true
 
 -- what either of two passes knows
 abbrev pub either_of : Sight → Sight → ℕ → Bool

@@ -1,7 +1,8 @@
 //! The loops of passes over the positions of a hash.
 ghost use Rattle.std.specs.Prelude.{◌≡◌, ◌*◌, ◌^◌, ◌<◌, ◌≤◌, ◌==◌};
 ghost use Rattle.bloom_parts.specs.Places.{positions};
-ghost use Rattle.bloom_seated.specs.Passes.{Finds, Inserts, LooksAt, sight_of};
+ghost use Rattle.bloom_seated.specs.Loads.{LooksAt};
+ghost use Rattle.bloom_seated.specs.Passes.{Finds, Inserts, sight_of};
 ghost use Rattle.bloom_seated.specs.Plays.{SitsAt};
 ghost use Rattle.bloom_seated.specs.Standing.{IsStanding};
 ghost use Rattle.bloom_seated.specs.declared.rule.Role.TheVariants.{Pass};

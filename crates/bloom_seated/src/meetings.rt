@@ -1,6 +1,7 @@
 //! How passes meet: what one knows goes to the other as a note, and both look at every word.
 ghost use Rattle.std.specs.Prelude.{◌≡◌, ◌<◌};
-ghost use Rattle.bloom_seated.specs.Passes.{Meets, Views, sight_of};
+ghost use Rattle.bloom_seated.specs.Loads.{Views};
+ghost use Rattle.bloom_seated.specs.Passes.{Meets, sight_of};
 ghost use Rattle.bloom_seated.specs.Plays.{SitsAt, note_of, told, spent_view};
 ghost use Rattle.bloom_seated.specs.Standing.{IsPassSeat};
 ghost use Rattle.bloom_seated.specs.declared.rule.Role.TheVariants.{Pass};

@@ -1,9 +1,9 @@
 -- What fills a filter: no hash, one hash more, and the hashes of another filter.
-use Rattle.std.proofs.Common.{◌≡◌, ℕ, ◌*◌, Bool, false, ◌||◌, List, [], ◌∷◌, ◌++◌, length, map, replicate, refl, sym, subst, ◌∙◌, ap, append-nil}
+use Rattle.std.proofs.Common.{◌≡◌, ℕ, ◌+◌, ◌*◌, Bool, false, ◌||◌, List, [], ◌∷◌, ◌++◌, length, map, replicate, refl, sym, subst, ◌∙◌, ap, arith, append-nil}
 use Rattle.std.proofs.Math.Bool.{or_assoc, or_comm}
 use Rattle.std.proofs.lemmas.List.{map-append, length-replicate}
 use Rattle.std.proofs.lemmas.List.Folds.{concat-append}
-use Rattle.std.proofs.lemmas.List.Elements.{All-head, All-same}
+use Rattle.std.proofs.lemmas.List.Elements.{All-head, All-push, All-rest, All-same}
 use Rattle.std.specs.List.{concat}
 use Rattle.std.specs.Prelude.{All}
 use Rattle.bloom_parts.specs.Content.{content}
@@ -83,6 +83,23 @@ concat-map-push f xs x =
     ap concat (map-append f xs (x ∷ [])) ∙ concat-append (map f xs) (f x ∷ [])
     ∙ ap (λ l. concat (map f xs) ++ l) (append-nil (f x))
 
+-- two lists that are mapped to the same, and one more of each
+pub map-push-same : {X Y A : Type 0} (xs : List X) (ys : List Y) (f : X → A) (g : Y → A) (x : X)
+    (y : Y) {more : List X} → more ≡ xs ++ x ∷ [] → map f xs ≡ map g ys → f x ≡ g y
+    → map f more ≡ map g (ys ++ y ∷ [])
+map-push-same xs ys f g x y is same next =
+    ap (map f) is ∙ map-append f xs (x ∷ []) ∙ ap (λ l. l ++ f x ∷ []) same
+    ∙ ap (λ a. map g ys ++ a ∷ []) next ∙ sym (map-append g ys (y ∷ []))
+
+-- the whole is filled with the hashes of those that came, and those that are left have its shape
+abbrev pub IsGathered : {X S : Type 0} → Shape → List X → List X → (X → Shape) → (X → List ℕ)
+    → S → Filter S → Type 0
+IsGathered shape came rest shape_of hashes_of hasher whole = record {
+  left : All (λ x. shape_of x ≡ shape) rest;
+  filled : IsFilledWith shape (concat (map hashes_of came)) whole;
+  hasher : whole.hasher ≡ hasher;
+}
+
 module _ {X : Type 0} {xs rest : List X} {x : X} (starts : xs ≡ x ∷ rest) where
   -- what holds of all of a list holds of its first
   pub All-first : (P : X → Type 0) → All P xs → P x
@@ -94,3 +111,42 @@ module _ {X : Type 0} {xs rest : List X} {x : X} (starts : xs ≡ x ∷ rest) wh
       → IsFilledWith (shape_of x) hashes f → IsFilledWith shape hashes f
   filled-first shape shape_of hashes f all filled =
       subst (λ s. IsFilledWith s hashes f) (All-first (λ y. shape_of y ≡ shape) all) filled
+
+  -- one fewer is left after the first
+  pub length-first : length xs ≡ length rest + 1
+  length-first = let size = ap length starts in omega (arith, size)
+
+  -- one more that has the shape of the first, where all have one
+  pub shaped-push : {Y : Type 0} (ys : List Y) (shape : Shape) (shape_of : Y → Shape)
+      (first_of : X → Shape) (y : Y) {more : List Y} → more ≡ ys ++ y ∷ []
+      → All (λ z. shape_of z ≡ shape) ys → All (λ z. first_of z ≡ shape) xs
+      → shape_of y ≡ first_of x → All (λ z. shape_of z ≡ shape) more
+  shaped-push ys shape shape_of first_of y is shaped left same =
+      subst (All (λ z. shape_of z ≡ shape)) (sym is)
+      (All-push (λ z. shape_of z ≡ shape) ys y shaped
+      (same ∙ All-first (λ z. first_of z ≡ shape) left))
+
+  module _ {S : Type 0} (came : List X) (shape : Shape) (shape_of : X → Shape)
+      (hashes_of : X → List ℕ) {hasher : S} {whole part : Filter S}
+      (before : IsGathered shape came xs shape_of hashes_of hasher whole)
+      (filled : IsFilledWith (shape_of x) (hashes_of x) part) where
+    -- the part of the first is filled in the shape of the whole
+    first_filled : IsFilledWith shape (hashes_of x) part
+    first_filled = filled-first shape shape_of (hashes_of x) part before.left filled
+
+    -- and so has as many words and hashes
+    pub gathered-same : SameShape whole part
+    gathered-same =
+        filled-same shape whole part (concat (map hashes_of came)) (hashes_of x) before.filled
+        first_filled
+
+    -- once it is united with the whole, the first has come too
+    pub gathered-next : {new : Filter S} → Unites whole part new
+        → IsGathered shape (came ++ x ∷ []) rest shape_of hashes_of hasher new
+    gathered-next {new} united = record {
+      left = All-rest (λ y. shape_of y ≡ shape) x rest xs starts before.left;
+      filled = rw (concat-map-push hashes_of came x)
+          (filled-union shape whole part new (concat (map hashes_of came)) (hashes_of x)
+          before.filled first_filled united);
+      hasher = united.hasher ∙ before.hasher;
+    }

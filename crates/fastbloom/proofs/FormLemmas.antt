@@ -1,18 +1,19 @@
 -- The shape of a shared filter that is made for the items of a rate's builder.
-use Rattle.std.proofs.Common.{◌≡◌, ◌∙◌, ◌*◌, ◌≤◌, ℕ, max, replicate, length, sym, subst, ap, arith}
+use Rattle.std.proofs.Common.{◌≡◌, ◌∙◌, ◌*◌, ◌≤◌, ℕ, Option, max, replicate, length, sym, subst, ap, arith}
 use Rattle.std.proofs.Math.Nat.{max_comm}
 use Rattle.std.proofs.lemmas.List.{length-replicate}
+use Rattle.bloom_parts.specs.declared.error.FilterError.{FilterError}
 use Rattle.bloom_parts.specs.declared.math.rate.Rate.{Rate}
 use Rattle.bloom_parts.specs.Made.{SharedWords}
 use Rattle.bloom_parts.specs.Rates.{num_of, den_of}
 use Rattle.bloom_parts.specs.Sizing.{IsSizeFor, hashes_for}
-use Rattle.bloom_plain.specs.Builders.{RateStart, IsSizeOf, words_for, sized_filter, empty_start}
-use Rattle.fastbloom.specs.Shared.{SharedFilter, HasFormOf}
+use Rattle.bloom_plain.specs.Builders.{RateStart, IsSizeOf, RefusesAs, size_refusal, words_for, sized_filter, empty_start}
+use Rattle.fastbloom.specs.Shared.{SharedFilter, HasFormOf, HasFormFor}
 
 -- a builder's parts, which came out of the plain builder that it holds
 module _ {S : Type 0} (start plain : RateStart S) (of : plain ≡ start) where
   -- the number of bits for the rate and items is that of the builder, where none counts as one
-  pub size_of-parts : (rate : Rate) (expected items bits : ℕ)
+  size_of-parts : (rate : Rate) (expected items bits : ℕ)
       → rate ≡ plain.rate → items ≡ max expected 1
       → IsSizeFor items (num_of rate) (den_of rate) bits → IsSizeOf start expected bits
   size_of-parts rate expected items bits is_rate is_items sized =
@@ -22,7 +23,7 @@ module _ {S : Type 0} (start plain : RateStart S) (of : plain ≡ start) where
       (is_items ∙ max_comm expected 1) sized)
 
   -- a filter of so many words and hashes has the form that is asked for
-  pub form_of-zeros : (f : SharedFilter S) (words : SharedWords) (bits items size hashes : ℕ)
+  form_of-zeros : (f : SharedFilter S) (words : SharedWords) (bits items size hashes : ℕ)
       → f.words ≡ words → words.count ≡ words_for bits → size ≡ 64 * words.count
       → f.hashes ≡ max 1 hashes → 1 ≤ hashes → hashes ≡ hashes_for size (max 1 items)
       → f.hasher ≡ plain.hasher
@@ -37,3 +38,31 @@ module _ {S : Type 0} (start plain : RateStart S) (of : plain ≡ start) where
             (is_size ∙ ap (λ w. 64 * w) zeros);
         hasher = hasher ∙ ap (λ b. b.hasher) of;
       }
+
+  -- a size that is refused is refused as `zero_words` refuses it
+  pub refused-parts : (rate : Rate) (expected items bits : ℕ) (error : Option FilterError)
+      → rate ≡ plain.rate → items ≡ max expected 1
+      → IsSizeFor items (num_of rate) (den_of rate) bits → RefusesAs (size_refusal bits) error
+      → (size : ℕ) × IsSizeOf start expected size × RefusesAs (size_refusal size) error
+  refused-parts rate expected items bits error is_rate is_items sized refused =
+      (bits, size_of-parts rate expected items bits is_rate is_items sized, refused)
+
+  -- a filter that was made of so many zero words has the form for the items
+  pub form_of-parts : (own_rate : Rate) (own_hasher : S) (expected items bits size num : ℕ)
+      (f : SharedFilter S) (zeros : SharedWords)
+      → record { rate : own_rate ≡ plain.rate; hasher : own_hasher ≡ plain.hasher }
+      → items ≡ max expected 1 → IsSizeFor items (num_of own_rate) (den_of own_rate) bits
+      → zeros.count ≡ words_for bits → size ≡ 64 * zeros.count
+      → record { value : num ≡ hashes_for size (max 1 expected); least : 1 ≤ num }
+      → record {
+        words : f.words ≡ zeros;
+        hashes : f.hashes ≡ max 1 num;
+        hasher : f.hasher ≡ own_hasher;
+      } → HasFormFor start expected f
+  form_of-parts own_rate own_hasher expected items bits size num f zeros parts is_items sized count
+      is_size best made = (
+        bits,
+        size_of-parts own_rate expected items bits parts.rate is_items sized,
+        form_of-zeros f zeros bits expected size num made.words count is_size made.hashes best.least
+            best.value (made.hasher ∙ parts.hasher),
+      )

@@ -5,7 +5,7 @@ use Rattle.std.specs.Iterator.{Yields}
 use Rattle.std.specs.Iterator.Runs.{Run, YieldsRun}
 use Rattle.bloom_parts.specs.Made.{FoundByLoad, SharedWords}
 use Rattle.bloom_parts.specs.Reading.{Reading, ReadsNext}
-use Rattle.fastbloom.specs.Shared.{WereLoaded}
+use Rattle.fastbloom.specs.Shared.{SharedFilter, WereLoaded}
 
 -- a reading after some words: on the same vector, as many words on, and not past the last
 record CameTo (n : ℕ) (s t : Reading) (count : ℕ) : Type 0 where
@@ -56,15 +56,15 @@ each-loaded s t (word ∷ words) came (suc i) within =
     )
 
 -- a whole reading from word 0 on loads each word of the vector
-pub read-loaded : (run : Run ReadsNext) (reading : Reading) (vector : SharedWords)
+pub read-loaded : (run : Run ReadsNext) (reading : Reading) (vector : SharedWords) (words : List ℕ)
     → run.from ≡ reading → reading.vector ≡ vector → reading.next ≡ 0 → run.whole ≡ true
-    → WereLoaded vector run.items
+    → words ≡ run.items → WereLoaded vector words
 unfolding YieldsRun
-read-loaded run reading vector from of start whole =
+read-loaded run reading vector words from of start whole are =
     let same = ap (λ (r : Reading). r.vector) from ∙ of in
     let first = ap (λ (r : Reading). r.next) from ∙ start in
     let count = read-whole run reading vector from of start whole in
-    record {
+    subst (WereLoaded vector) (sym are) record {
       count = count;
       each = λ i within.
           let loaded =
@@ -85,3 +85,9 @@ below-next P n below here i within = elim (cases_eq i n) [
   | inl same ↦ subst P (sym same) here
   | inr other ↦ below i (omega (arith, within, other))
 ]
+
+-- what was loaded of a filter as it is opened was loaded of the filter
+pub loaded-of : {S : Type 0} {inside f : SharedFilter S} (at found : ℕ) → inside ≡ f
+    → FoundByLoad inside.words at found → FoundByLoad f.words at found
+loaded-of at found of here =
+    subst (λ (h : SharedFilter _). FoundByLoad h.words at found) of here

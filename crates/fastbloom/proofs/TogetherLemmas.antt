@@ -1,5 +1,5 @@
 -- Hashes that are inserted together into a filter that threads share.
-use Rattle.std.proofs.Common.{◌≡◌, ℕ, List, [], ◌∷◌, ◌++◌, map, sym, ◌∙◌, ap, subst, append-nil, append_assoc}
+use Rattle.std.proofs.Common.{◌≡◌, ℕ, ◌<◌, List, [], ◌∷◌, ◌++◌, length, map, arith, sym, ◌∙◌, ap, subst, append-nil, append_assoc}
 use Rattle.std.specs.List.{All}
 use Rattle.std.proofs.lemmas.List.{map-append}
 use Rattle.std.proofs.lemmas.List.Elements.{All-nil, All-append}
@@ -10,6 +10,11 @@ pub record IsBehind {S : Type 0} (f : SharedFilter S) (hashes waiting : List ℕ
   pub before : List ℕ
   pub cut : hashes ≡ before ++ waiting
   pub did : All (WasInserted f) before
+
+-- and fewer than sixteen wait
+abbrev pub AreQueued : {S : Type 0} → SharedFilter S → List ℕ → List ℕ → Type 0
+AreQueued f hashes waiting =
+    record { behind : IsBehind f hashes waiting; room : length waiting < 16 }
 
 module _ {S : Type 0} (f : SharedFilter S) where
   -- a hash joins those that wait
@@ -30,33 +35,44 @@ module _ {S : Type 0} (f : SharedFilter S) where
     did = did;
   }
 
+module _ {S : Type 0} {f : SharedFilter S} where
   -- no hash
-  pub is_behind-none : (waiting : List ℕ) → waiting ≡ [] → IsBehind f [] waiting
-  is_behind-none waiting none = record {
-    before = [];
-    cut = sym none;
-    did = All-nil (WasInserted f);
+  pub queued-none : {waiting : List ℕ} → waiting ≡ [] → AreQueued f [] waiting
+  queued-none none = record {
+    behind = record { before = []; cut = sym none; did = All-nil (WasInserted f) };
+    room = omega (arith, ap length none);
   }
 
   -- one more item: its hash joins those that wait
-  pub is_behind-item : {T : Type 0} (hash_of : S → T → ℕ) (items : List T) (item : T)
-      (waiting more : List ℕ) → IsBehind f (map (hash_of f.hasher) items) waiting
-      → QueuesInsert f waiting (hash_of f.hasher item) more
-      → IsBehind f (map (hash_of f.hasher) (items ++ item ∷ [])) more
-  is_behind-item hash_of items item waiting more behind next = record {
-    before = behind.before ++ next.gone;
-    cut =
-        map-append (hash_of f.hasher) items (item ∷ [])
-        ∙ ap (λ l. l ++ hash_of f.hasher item ∷ []) behind.cut
-        ∙ append_assoc behind.before waiting (hash_of f.hasher item ∷ [])
-        ∙ ap (λ l. behind.before ++ l) next.cut
-        ∙ sym (append_assoc behind.before next.gone more);
-    did = All-append (WasInserted f) behind.before next.gone behind.did next.did;
-  }
+  pub queued-item : {T : Type 0} (hash_of : S → T → ℕ) (items : List T) (item : T)
+      {waiting more : List ℕ} {hash : ℕ} → AreQueued f (map (hash_of f.hasher) items) waiting
+      → hash ≡ hash_of f.hasher item
+      → record { queues : QueuesInsert f waiting hash more; room : length more < 16 }
+      → AreQueued f (map (hash_of f.hasher) (items ++ item ∷ [])) more
+  queued-item hash_of items item {waiting} {more} {hash} before is next =
+      let gone = next.queues.gone in
+      let first = before.behind.before in
+      let hashes = map (hash_of f.hasher) items in
+      record {
+        behind = record {
+          before = first ++ gone;
+          cut =
+              map-append (hash_of f.hasher) items (item ∷ [])
+              ∙ ap (λ h. hashes ++ h ∷ []) (sym is)
+              ∙ ap (λ l. l ++ hash ∷ []) before.behind.cut
+              ∙ append_assoc first waiting (hash ∷ [])
+              ∙ ap (λ l. first ++ l) next.queues.cut
+              ∙ sym (append_assoc first gone more);
+          did = All-append (WasInserted f) first gone before.behind.did next.queues.did;
+        };
+        room = next.room;
+      }
 
   -- where those that wait are inserted, all are
-  pub is_behind-all : (hashes waiting : List ℕ) → IsBehind f hashes waiting
-      → All (WasInserted f) waiting → All (WasInserted f) hashes
-  is_behind-all hashes waiting behind did =
+  pub queued-all : {hashes waiting given : List ℕ} → AreQueued f hashes waiting → given ≡ waiting
+      → All (WasInserted f) given → All (WasInserted f) hashes
+  queued-all {hashes} {waiting} {given} queued all did =
+      let behind = queued.behind in
       subst (All (WasInserted f)) (sym behind.cut)
-      (All-append (WasInserted f) behind.before waiting behind.did did)
+      (All-append (WasInserted f) behind.before waiting behind.did
+      (subst (All (WasInserted f)) all did))

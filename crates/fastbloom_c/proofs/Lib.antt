@@ -1,2 +1,3 @@
+mod ManyLemmas
 mod NoWordLemmas
 mod PlanFacts

@@ -1,10 +1,16 @@
 //! Calls by hash.
 ghost use Rattle.std.specs.Prelude.{◌≡◌, ◌↔◌, ℕ, ◌*◌, ◌≤◌, ◌||◌, false, IsTrue, length, max};
-ghost use Rattle.std.specs.List.{list_any};
+ghost use Rattle.std.specs.List.{list_all, list_any};
 ghost use Rattle.bloom_parts.specs.Content.{content};
 ghost use Rattle.bloom_parts.specs.Places.{positions, are_in};
 
-use bloom_parts::slices::{contains_positions, insert_positions};
+use bloom_parts::slices::{contains_by_count, contains_positions, insert_positions};
+
+// From this many words on, which are four mebibytes, a filter is taken to be larger than a cache.
+const MANY_WORDS: usize = 1 << 19;
+
+// So many hashes are looked up together.
+const FEW: usize = 16;
 
 /// Turns on all positions of a hash, and answers whether all were on just before.
 ///
@@ -42,9 +48,63 @@ pub extern "C" fn fastbloom_contains_hash(words: &[u64], num_hashes: u32, hash: 
     }
 }
 
+// Whether all positions of all of these hashes are on. It branches on no word, so that the memory
+// brings the words side by side.
+fn all_are_on(words: &[u64], num_hashes: u32, hashes: &[u64]) -> bool
+    requires { 1 ≤ length words.now }
+    ensures { result ≡ list_all (λ hash. are_in (64 * length words.now) num_hashes hash
+        (content words.now)) hashes.now }
+{
+    let mut found: usize = 0;
+    'looks: for hash in hashes {
+        found += usize::from(contains_by_count(words, num_hashes, *hash));
+    }
+    found == hashes.len()
+}
+
+// Turns on all positions of each of these hashes, one after the other.
+fn insert_each(words: &mut [u64], num_hashes: u32, hashes: &[u64])
+    requires { 1 ≤ length words.old }
+    ensures content { (p : ℕ) → content words.new p ≡ (content words.old p
+        || list_any (λ hash. positions (64 * length words.old) num_hashes hash p) hashes.now) }
+    ensures shape { length words.new ≡ length words.old }
+{
+    'hashes: for hash in hashes {
+        insert_positions(words, num_hashes, *hash);
+    }
+}
+
+// The same. All are looked up first, and where all are on nothing is written.
+fn insert_few(words: &mut [u64], num_hashes: u32, hashes: &[u64])
+    requires { 1 ≤ length words.old }
+    ensures content { (p : ℕ) → content words.new p ≡ (content words.old p
+        || list_any (λ hash. positions (64 * length words.old) num_hashes hash p) hashes.now) }
+    ensures shape { length words.new ≡ length words.old }
+{
+    if !all_are_on(words, num_hashes, hashes) {
+        insert_each(words, num_hashes, hashes);
+    }
+}
+
+// The same, sixteen hashes at a time.
+fn insert_together(words: &mut [u64], num_hashes: u32, hashes: &[u64])
+    requires { 1 ≤ length words.old }
+    ensures content { (p : ℕ) → content words.new p ≡ (content words.old p
+        || list_any (λ hash. positions (64 * length words.old) num_hashes hash p) hashes.now) }
+    ensures shape { length words.new ≡ length words.old }
+{
+    let turns = hashes.len() / FEW;
+    'turns: for turn in 0..turns {
+        let at = FEW * turn;
+        insert_few(words, num_hashes, &hashes[at..at + FEW]);
+    }
+    insert_few(words, num_hashes, &hashes[FEW * turns..]);
+}
+
 /// Turns on all positions of each of these hashes, and answers whether there are words.
 ///
-/// No hashes of a filter count as one.
+/// No hashes of a filter count as one. Where the words are larger than a cache, sixteen hashes are
+/// looked up before they are inserted.
 #[unsafe(no_mangle)]
 pub extern "C" fn fastbloom_insert_hashes(
     words: &mut [u64],
@@ -60,9 +120,10 @@ pub extern "C" fn fastbloom_insert_hashes(
     if words.is_empty() {
         return false;
     }
-    let num_hashes = num_hashes.max(1);
-    'hashes: for hash in hashes {
-        insert_positions(words, num_hashes, *hash);
+    if words.len() >= MANY_WORDS {
+        insert_together(words, num_hashes.max(1), hashes);
+    } else {
+        insert_each(words, num_hashes.max(1), hashes);
     }
     true
 }

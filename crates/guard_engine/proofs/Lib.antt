@@ -4,3 +4,4 @@ mod FoundLemmas
 mod GuardedFacts
 mod LoadLemmas
 mod LoadedFacts
+mod RunLemmas

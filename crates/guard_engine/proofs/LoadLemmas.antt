@@ -121,12 +121,14 @@ Loads-more lines more old mid new first after = record {
     early : (key value : List ℕ) → old key value ⊎ Of lines key value
         → old key value ⊎ Of (lines ++ more) key value
     early key value (inl had) = inl had
-    early key value (inr (line, there, is)) = inr (line, Contains-append_left lines more line there, is)
+    early key value (inr (line, there, is)) =
+        inr (line, Contains-append_left lines more line there, is)
 
     late : (key value : List ℕ) → mid key value ⊎ Of more key value
         → old key value ⊎ Of (lines ++ more) key value
     late key value (inl had) = early key value (first.others key value had)
-    late key value (inr (line, there, is)) = inr (line, Contains-append_right lines more line there, is)
+    late key value (inr (line, there, is)) =
+        inr (line, Contains-append_right lines more line there, is)
 
     each : (line : List ℕ) → Contains lines line ⊎ Contains more line
         → HasTab line × ((value : List ℕ) × new (key_in line) value)

@@ -1,5 +1,5 @@
--- What a line says, and what a load promises: cases that hold, and near ones that don't. Byte 9 is the
--- tab.
+-- What a line says, and what a load promises: cases that hold, and near ones that don't. Byte 9 is
+-- the tab.
 use Rattle.std.proofs.Common.{◌≡◌, inl, inr, ℕ, List, [], ◌∷◌, refl, sym, ◌∙◌, ap, arith}
 use Rattle.guard_engine.specs.Loaded.{HasTab, IsEntryIn, Loads, key_in, value_in}
 use Rattle.guard_engine.proofs.GuardedFacts.{each, none, one}

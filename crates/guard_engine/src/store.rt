@@ -23,7 +23,8 @@ pub trait Store {
         ensures ready { is_ready self.old → is_known self.new → is_ready self.new }
         ensures keys { is_ready self.old → is_known self.new → IfOk result (λ keys.
             Lists (map string_bytes (vec_items keys)) (has self.old)) }
-        ensures stays { is_ready self.old → is_known self.new → Stays (has self.old) (has self.new) };
+        ensures stays { is_ready self.old → is_known self.new
+            → Stays (has self.old) (has self.new) };
 
     /// A value of the key, if it has one.
     fn value_of(&mut self, key: &str) -> Result<Option<String>, Self::Error>
@@ -32,7 +33,8 @@ pub trait Store {
         ensures value { is_ready self.old → is_known self.new → IfOk result (λ found.
             MatchOption found (Lacks (has self.old) key.now)
             (λ value. has self.old key.now (string_bytes value))) }
-        ensures stays { is_ready self.old → is_known self.new → Stays (has self.old) (has self.new) };
+        ensures stays { is_ready self.old → is_known self.new
+            → Stays (has self.old) (has self.new) };
 
     /// Adds an entry. After an error it is there, or nothing changed.
     fn add(&mut self, key: &str, value: &str) -> Result<(), Self::Error>

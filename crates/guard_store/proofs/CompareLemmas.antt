@@ -33,23 +33,32 @@ own_reverse Equal h = refl
 own_reverse Greater h = absurd cc
 
 -- a value of another class equals no text
-apart : (v : Value) (name : List ℕ) → (class v ≡ 2 → ⊥) → nat_cmp (class v) 2 ≡ Less ⊎ nat_cmp (class v) 2 ≡ Greater → is_true (from_truth (Some (is_eq (value_cmp v (Text name))))) ≡ false
+apart : (v : Value) (name : List ℕ) → (class v ≡ 2 → ⊥)
+    → nat_cmp (class v) 2 ≡ Less ⊎ nat_cmp (class v) 2 ≡ Greater
+    → is_true (from_truth (Some (is_eq (value_cmp v (Text name))))) ≡ false
 apart v name other (inl less) = holds_when _ ∙ ap is_eq (value_cmp-apart v (Text name) other ∙ less)
 apart v name other (inr more) = holds_when _ ∙ ap is_eq (value_cmp-apart v (Text name) other ∙ more)
 
 -- what equals a text is that text
-pub equals_only : (v : Value) (name : List ℕ) → is_true (binary (by.Compare Eq Binary) v (Text name)) ≡ true → v ≡ Text name
+pub equals_only : (v : Value) (name : List ℕ)
+    → is_true (binary (by.Compare Eq Binary) v (Text name)) ≡ true → v ≡ Text name
 unfolding binary
 equals_only Null name h = absurd cc
-equals_only (Int n) name h = absurd (let e = sym h ∙ apart (Int n) name (λ e. absurd cc) (inl refl) in cc)
-equals_only (Real x) name h = absurd (let e = sym h ∙ apart (Real x) name (λ e. absurd cc) (inl refl) in cc)
+equals_only (Int n) name h =
+    absurd (let e = sym h ∙ apart (Int n) name (λ e. absurd cc) (inl refl) in cc)
+equals_only (Real x) name h =
+    absurd (let e = sym h ∙ apart (Real x) name (λ e. absurd cc) (inl refl) in cc)
 equals_only (Text t) name h =
-    let same : is_eq (slice_cmp nat_cmp t name) ≡ true = ap is_eq (sym (value_cmp-Text t name)) ∙ sym (holds_when _) ∙ h in
+    let same : is_eq (slice_cmp nat_cmp t name) ≡ true =
+    ap is_eq (sym (value_cmp-Text t name)) ∙ sym (holds_when _) ∙ h in
     ap Text (exact_bytes t name (equal_only _ same))
-equals_only (Blob b) name h = absurd (let e = sym h ∙ apart (Blob b) name (λ e. absurd cc) (inr refl) in cc)
+equals_only (Blob b) name h =
+    absurd (let e = sym h ∙ apart (Blob b) name (λ e. absurd cc) (inr refl) in cc)
 
 -- a text equals itself
-pub equals_itself : (name : List ℕ) → is_true (binary (by.Compare Eq Binary) (Text name) (Text name)) ≡ true
+pub equals_itself : (name : List ℕ)
+    → is_true (binary (by.Compare Eq Binary) (Text name) (Text name)) ≡ true
 unfolding binary
 equals_itself name =
-    holds_when _ ∙ ap is_eq (value_cmp-Text name name) ∙ own_reverse _ (nat_list_cmp_total.antisymm name name)
+    holds_when _ ∙ ap is_eq (value_cmp-Text name name)
+    ∙ own_reverse _ (nat_list_cmp_total.antisymm name name)

@@ -1,5 +1,5 @@
 -- What the CREATE TABLE of the entries makes.
-use Rattle.std.proofs.Common.{◌≡◌, ℕ, List, [], codes, false, None, Ok, Err, Result, OnOk, refl, sym, ap, subst, ◌∙◌}
+use Rattle.std.proofs.Common.{◌≡◌, ℕ, List, [], ◌++◌, codes, false, None, Ok, Err, Result, OnOk, refl, sym, ap, subst, ◌∙◌}
 use Rattle.std.specs.Fmt.{digits}
 use Rattle.sqlite.proofs.Callers.{IsPlain, command_of, statement_of, runs_as}
 use Rattle.sqlite.specs.Change.{created, next_tree}
@@ -15,7 +15,9 @@ use Rattle.guard_store.proofs.InsertLemmas.{same_value, went}
 use Rattle.guard_store.specs.Entry.{MakesTable, entry, entry_schema, no_schema}
 
 abbrev pub create_text : List ℕ
-create_text = codes "CREATE TABLE entry (id INTEGER PRIMARY KEY, name TEXT NOT NULL UNIQUE, value TEXT NOT NULL) STRICT"
+create_text =
+    codes "CREATE TABLE entry (id INTEGER PRIMARY KEY, name TEXT NOT NULL UNIQUE, "
+    ++ codes "value TEXT NOT NULL) STRICT"
 
 create_is : (command_of (understood no_schema create_text) ≡ CreateTable)
     × (statement_of create_text (understood no_schema create_text) ≡ create_text)

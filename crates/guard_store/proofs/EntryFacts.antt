@@ -103,7 +103,8 @@ first-text : IsFirstText ((Text (8 ∷ []) ∷ []) ∷ (Text (9 ∷ []) ∷ []) 
 first-text = ((Text (8 ∷ []) ∷ []), ((Text (9 ∷ []) ∷ []) ∷ []), refl, refl)
 
 -- not of another row
-first-text-other : IsFirstText ((Text (8 ∷ []) ∷ []) ∷ (Text (9 ∷ []) ∷ []) ∷ []) (Some (9 ∷ [])) → ⊥
+first-text-other : IsFirstText ((Text (8 ∷ []) ∷ []) ∷ (Text (9 ∷ []) ∷ []) ∷ []) (Some (9 ∷ []))
+    → ⊥
 first-text-other (a_row, rest, begins, is) =
     let same : (Text (8 ∷ []) ∷ []) ≡ a_row = cc in
     let shown = ap (λ x. column x 0) same ∙ is in cc

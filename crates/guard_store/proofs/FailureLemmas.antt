@@ -133,8 +133,8 @@ failed old new e params c none is (inl (inr (may, does), same)) =
 failed old new e params c none is (inr fails) = (fails.0, fails.1, by_cause fails.0 fails.2)
   where
     by_cause : (cause : StoreError) → HasCause old new
-        (Does old.step_limit (mode_of old) params old.now (text_of create_text c) c.returning c.command
-        (Err None)) cause
+        (Does old.step_limit (mode_of old) params old.now (text_of create_text c) c.returning
+        c.command (Err None)) cause
         → HasCause old new ⊥ cause
     by_cause OutOfMemory h = h
     by_cause Io h = h

@@ -1,8 +1,5 @@
 -- What the INSERT of an entry does.
-use Rattle.std.proofs.Common.{◌≡◌, ◌⊎◌, inl, inr, ℕ, ℤ, List, [], ◌∷◌, codes, Bool, true, false, not, ◌&&◌, ◌||◌, cond, None, Ok, Err, Result, OnOk, OnErr, refl, sym, ap, subst, ◌∙◌, Contains, if◌then◌else◌, ◌≤◌, arith}
-use Rattle.std.specs.Ordering.{is_eq, match_ordering}
-use Rattle.std.specs.declared.cmp.Ordering.{Ordering}
-use Rattle.std.specs.declared.cmp.Ordering.TheVariants.{Less, Equal, Greater}
+use Rattle.std.proofs.Common.{◌≡◌, ◌⊎◌, inl, inr, ℕ, ℤ, List, [], ◌∷◌, codes, Bool, true, false, not, ◌&&◌, cond, None, Ok, Err, Result, OnOk, OnErr, refl, sym, ap, subst, ◌∙◌, Contains, if◌then◌else◌, ◌≤◌, arith}
 use Rattle.sqlite.proofs.Callers.{IsPlain, command_of, statement_of, runs_as, one_step}
 use Rattle.sqlite.specs.Cast.{cast}
 use Rattle.sqlite.specs.Command.TheVariants.{Insert}
@@ -12,13 +9,13 @@ use Rattle.sqlite.specs.Effect.{Database}
 use Rattle.sqlite.specs.Kind.TheVariants.{Integer}
 use Rattle.sqlite.specs.Listing.{understood}
 use Rattle.sqlite.specs.Ops.{unary}
-use Rattle.sqlite.specs.Order.{Row, column, value_cmp}
+use Rattle.sqlite.specs.Order.{Row, column}
 use Rattle.sqlite.specs.Rowids.TheVariants.{Chosen}
 use Rattle.sqlite.specs.Rows.{Written}
 use Rattle.sqlite.specs.Source.TheVariants.{Values}
 use Rattle.sqlite.specs.State.{State, Executes, HasCleanDisk, Shows, mode_of}
 use Rattle.sqlite.specs.Term.{Term, lit, col}
-use Rattle.sqlite.specs.Tree.{Trees, put_row, rowid}
+use Rattle.sqlite.specs.Tree.{Trees, put_row}
 use Rattle.sqlite.specs.declared.error.Error.{Error}
 use Rattle.sqlite.specs.declared.types.Value.{Value}
 use Rattle.sqlite.specs.declared.types.Value.TheVariants.{Null, Text}
@@ -27,6 +24,7 @@ use Rattle.sqlite_tied.specs.Compute.{everything}
 use Rattle.sqlite_trees.specs.View.{doubt}
 use Rattle.guard_engine.specs.Guarded.{Gains}
 use Rattle.guard_store.proofs.ListLemmas.{In, from_in, to_in}
+use Rattle.guard_store.proofs.PutLemmas.{put_here, put_kept, put_others}
 use Rattle.guard_store.proofs.StateLemmas.{executed_open, write_failed, write_failed_open}
 use Rattle.guard_store.specs.Entry.{HasEntry, IsKnown, IsReady, entry, entry_schema, stored}
 
@@ -53,7 +51,8 @@ unfolding unary
 cast_null = either _ Null
 
 -- a part that gave a value did not stop on the way
-pub went : {B E R : Type 0} {b : B} {Stops : E → Type 0} → ((stop : E) × Stops stop × (Ok b ≡ Err stop)) ⊎ R → R
+pub went : {B E R : Type 0} {b : B} {Stops : E → Type 0}
+    → ((stop : E) × Stops stop × (Ok b ≡ Err stop)) ⊎ R → R
 went (inl stopped) = absurd (let e = stopped.2 in cc)
 went (inr on) = on
 
@@ -69,8 +68,10 @@ record Added (old new : State) (row : Row) : Type 0 where
   schema : new.now.schema ≡ entry_schema
   rows : new.now.trees 0 ≡ put_row row (old.now.trees 0)
   fresh : is_taken (old.now.trees 0) row ≡ false
-  shown : Shows old new new.now (if old.in_transaction then old.committed else new.now) old.in_transaction
+  shown : Shows old new new.now (if old.in_transaction then old.committed else new.now)
+      old.in_transaction
 
+-- it leaves the row of the next id
 adds : (old new : State) (name value : List ℕ) (count : ℕ) → old.now.schema ≡ entry_schema
     → Executes insert_text (Text name ∷ Text value ∷ []) old new (Ok count)
     → Added old new (stored (next_rowid (old.now.trees 0)) name value)
@@ -79,73 +80,48 @@ adds old new name value count has h =
     let db = old.now.trees in
     let row = stored (next_rowid (db 0)) name value in
     let command = Insert 0 (Values terms 4) in
-    let w = runs_as insert_text params old new entry_schema has command insert_is insert_plain count h in
+    let w =
+    runs_as insert_text params old new entry_schema has command insert_is insert_plain count h in
     let text = statement_of insert_text (understood entry_schema insert_text) in
-    let done = went (subst (λ s. Does old.step_limit (mode_of old) params (record old.now { schema = s }) text None command (Ok (w.tally, new.now))) has w.changed) in
+    let done = went (subst (λ s. Does old.step_limit (mode_of old) params
+    (record old.now { schema = s }) text None command (Ok (w.tally, new.now))) has w.changed) in
     let now = ap (λ (p : Tally × Database). p.1) (same_value (went (went done.2).2).2) in
     let given = went done.1 in
     let written = went (went given.2).2 in
     let counted = went written.2 in
-    let trees : done.0.trees ≡ written.0 = ap (λ (it : Written). it.trees) (same_value counted.2) ∙ same_value counted.1 in
-    let applied = one_step entry_schema _ db written.0 (edit_of db entry [] Chosen 0 given.0) refl written.1 in
-    let edit : edited db (edit_of db entry [] Chosen 0 given.0) ≡ put_row row (db 0) = ap (λ all. edited db (edit_of db entry [] Chosen 0 all)) given.1.1 ∙ rw cast_null refl in
-    let news : are_fresh (left_by db (edit_of db entry [] Chosen 0 given.0)) (edit_of db entry [] Chosen 0 given.0).news ≡ are_fresh (db 0) (row ∷ []) =
-    ap (λ all. are_fresh (left_by db (edit_of db entry [] Chosen 0 all)) (edit_of db entry [] Chosen 0 all).news) given.1.1 ∙ rw cast_null refl in
+    let trees : done.0.trees ≡ written.0 =
+    ap (λ (it : Written). it.trees) (same_value counted.2) ∙ same_value counted.1 in
+    let the_edit = edit_of db entry [] Chosen 0 given.0 in
+    let applied = one_step entry_schema _ db written.0 the_edit refl written.1 in
+    let edit : edited db the_edit ≡ put_row row (db 0) =
+    ap (λ all. edited db (edit_of db entry [] Chosen 0 all)) given.1.1 ∙ rw cast_null refl in
+    let news : are_fresh (left_by db the_edit) the_edit.news ≡ are_fresh (db 0) (row ∷ []) =
+    ap (λ all. are_fresh (left_by db (edit_of db entry [] Chosen 0 all))
+    (edit_of db entry [] Chosen 0 all).news) given.1.1 ∙ rw cast_null refl in
     record {
       schema = ap (λ (d : Database). d.schema) now;
-      rows = ap (λ (d : Database). d.trees 0) now ∙ ap (λ (t : Trees). t 0) trees ∙ applied.rows ∙ edit;
+      rows = ap (λ (d : Database). d.trees 0) now ∙ ap (λ (t : Trees). t 0) trees ∙ applied.rows
+          ∙ edit;
       fresh = untaken _ (sym news ∙ applied.fresh);
       shown = w.shown;
     }
 
--- ---- what a row that is put does to the elements
-
-put_here : (new : Row) (rows : List Row) → In (put_row new rows) new
-put_here new [] = inl refl
-put_here new (r ∷ rs) = by_order (value_cmp (rowid r) (rowid new)) (put_here new rs)
-  where
-    by_order : (o : Ordering) → In (put_row new rs) new → In (match_ordering o (r ∷ put_row new rs) (new ∷ rs) (new ∷ r ∷ rs)) new
-    by_order Less later = inr later
-    by_order Equal later = inl refl
-    by_order Greater later = inl refl
-
-put_others : (new : Row) (rows : List Row) (x : Row) → In (put_row new rows) x → In rows x ⊎ (x ≡ new)
-put_others new [] x (inl e) = inr (sym e)
-put_others new [] x (inr h) = absurd h
-put_others new (r ∷ rs) x h = by_order (value_cmp (rowid r) (rowid new)) (put_others new rs x) h
-  where
-    past : In rs x ⊎ (x ≡ new) → In (r ∷ rs) x ⊎ (x ≡ new)
-    past (inl there) = inl (inr there)
-    past (inr is) = inr is
-
-    by_order : (o : Ordering) → (In (put_row new rs) x → In rs x ⊎ (x ≡ new))
-        → In (match_ordering o (r ∷ put_row new rs) (new ∷ rs) (new ∷ r ∷ rs)) x → In (r ∷ rs) x ⊎ (x ≡ new)
-    by_order Less later (inl e) = inl (inl e)
-    by_order Less later (inr more) = past (later more)
-    by_order Equal later (inl e) = inr (sym e)
-    by_order Equal later (inr more) = inl (inr more)
-    by_order Greater later (inl e) = inr (sym e)
-    by_order Greater later (inr more) = inl more
-
-put_kept : (new : Row) (rows : List Row) (x : Row) → is_taken rows new ≡ false → In rows x → In (put_row new rows) x
-put_kept new [] x fresh h = absurd h
-put_kept new (r ∷ rs) x fresh h = by_order (value_cmp (rowid r) (rowid new)) fresh (λ rest there. put_kept new rs x rest there) h
-  where
-    by_order : (o : Ordering) → (is_eq o || is_taken rs new) ≡ false → (is_taken rs new ≡ false → In rs x → In (put_row new rs) x)
-        → In (r ∷ rs) x → In (match_ordering o (r ∷ put_row new rs) (new ∷ rs) (new ∷ r ∷ rs)) x
-    by_order Less free later (inl e) = inl e
-    by_order Less free later (inr there) = inr (later free there)
-    by_order Equal free later there = absurd (let e = free in cc)
-    by_order Greater free later there = inr there
-
 -- ---- as entries
 
-gains : (id : ℤ) (rows after : List Row) (name value : List ℕ) → after ≡ put_row (stored id name value) rows
-    → is_taken rows (stored id name value) ≡ false → Gains (HasEntry rows) name value (HasEntry after)
+-- a row of a fresh id is one entry more
+gains : (id : ℤ) (rows after : List Row) (name value : List ℕ)
+    → after ≡ put_row (stored id name value) rows → is_taken rows (stored id name value) ≡ false
+    → Gains (HasEntry rows) name value (HasEntry after)
 gains id rows after name value is fresh = record {
   here = (new, back new (put_here new rows), refl, refl);
-  kept = λ k v had. (had.0, back had.0 (put_kept new rows had.0 fresh (to_in rows had.0 had.1)), had.2, had.3);
-  others = λ k v has. by_row k v has (put_others new rows has.0 (subst (λ all. In all has.0) is (to_in after has.0 has.1)));
+  kept = λ k v had. (
+    had.0,
+    back had.0 (put_kept new rows had.0 fresh (to_in rows had.0 had.1)),
+    had.2,
+    had.3,
+  );
+  others = λ k v has. by_row k v has
+      (put_others new rows has.0 (subst (λ all. In all has.0) is (to_in after has.0 has.1)));
 }
   where
     new : Row
@@ -157,7 +133,8 @@ gains id rows after name value is fresh = record {
     same_text : (s t : List ℕ) → Text s ≡ Text t → t ≡ s
     same_text s t e = cc
 
-    by_row : (k v : List ℕ) (has : HasEntry after k v) → In rows has.0 ⊎ (has.0 ≡ stored id name value)
+    by_row : (k v : List ℕ) (has : HasEntry after k v)
+        → In rows has.0 ⊎ (has.0 ≡ stored id name value)
         → HasEntry rows k v ⊎ ((k ≡ name) × (v ≡ value))
     by_row k v has (inl there) = inl (has.0, from_in rows has.0 there, has.2, has.3)
     by_row k v has (inr e) = inr (
@@ -166,25 +143,34 @@ gains id rows after name value is fresh = record {
     )
 
 -- what the statement does, whatever it answers
-pub insert_result : (old new : State) (name value : List ℕ) (r : Result ℕ Error) → IsReady old → IsKnown new
-    → Executes insert_text (Text name ∷ Text value ∷ []) old new r
-    → OnOk r (Gains (HasEntry (old.now.trees 0)) name value (HasEntry (new.now.trees 0))) × OnErr r (new.now ≡ old.now) × IsReady new
-insert_result old new name value (Ok count) ready known h =
+pub insert_result : {old new : State} (name value : List ℕ) (r : Result ℕ Error) → IsReady old
+    → IsKnown new → Executes insert_text (Text name ∷ Text value ∷ []) old new r
+    → OnOk r (Gains (HasEntry (old.now.trees 0)) name value (HasEntry (new.now.trees 0)))
+    × OnErr r (new.now ≡ old.now) × IsReady new
+insert_result {old} {new} name value (Ok count) ready known h =
     let it = adds old new name value count ready.schema h in (
       gains _ (old.now.trees 0) (new.now.trees 0) name value it.rows it.fresh,
       tt,
       record {
         schema = it.schema;
         autocommit = it.shown.mode ∙ ready.autocommit;
-        settled = it.shown.committed_is ∙ ap (λ b. if b then old.committed else new.now) ready.autocommit;
+        settled = it.shown.committed_is
+            ∙ ap (λ b. if b then old.committed else new.now) ready.autocommit;
       },
     )
-insert_result old new name value (Err e) ready known h =
+insert_result {old} {new} name value (Err e) ready known h =
     let it = write_failed _ _ old new e ready known.1 h in
     (tt, it.0, it.1)
 
 -- where the connection is known, it was known before
 pub write_known : (sql : List ℕ) (params : Row) (old new : State) (r : Result ℕ Error)
-    → (HasCleanDisk new → Executes sql params old new r) → doubt old.is_clean ≤ doubt new.is_clean → IsKnown new → IsKnown old
-write_known sql params old new (Ok count) ran clean known = (omega (arith, clean, known.0), executed_open sql params old new count (ran known.0) known.1)
-write_known sql params old new (Err e) ran clean known = (omega (arith, clean, known.0), write_failed_open sql params old new e (ran known.0) known.1)
+    → (HasCleanDisk new → Executes sql params old new r)
+    → doubt old.is_clean ≤ doubt new.is_clean → IsKnown new → IsKnown old
+write_known sql params old new (Ok count) ran clean known = (
+  omega (arith, clean, known.0),
+  executed_open sql params old new count (ran known.0) known.1,
+)
+write_known sql params old new (Err e) ran clean known = (
+  omega (arith, clean, known.0),
+  write_failed_open sql params old new e (ran known.0) known.1,
+)

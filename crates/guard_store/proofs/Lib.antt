@@ -5,7 +5,9 @@ mod FailureLemmas
 mod FitFacts
 mod InsertLemmas
 mod ListLemmas
+mod PutLemmas
 mod QueryLemmas
+mod ReadLemmas
 mod SelectLemmas
 mod StateLemmas
 mod TextLemmas

@@ -24,7 +24,8 @@ unchanged old new ready h = (
 )
 
 -- a transaction of one statement, taken back
-pub rolled_back : (old new : State) → IsReady old → IsTrue new.is_open → IsRolledBack old new → Keeps old new
+pub rolled_back : (old new : State) → IsReady old → IsTrue new.is_open → IsRolledBack old new
+    → Keeps old new
 rolled_back old new ready is_open h =
     let undone = h.undone is_open in
     let now : new.now ≡ old.now = undone.0 ∙ ready.settled in (
@@ -37,36 +38,39 @@ rolled_back old new ready is_open h =
     )
 
 -- a statement that was not run
-pub not_run : (sql : List ℕ) (params : Row) (old new : State) (e : Error) → IsReady old → IsTrue new.is_open
-    → IsNotRun old new sql params e → Keeps old new
+pub not_run : (sql : List ℕ) (params : Row) (old new : State) (e : Error) → IsReady old
+    → IsTrue new.is_open → IsNotRun old new sql params e → Keeps old new
 unfolding IsNotRun
 not_run sql params old new e ready is_open (inl h) = unchanged old new ready h.1
 not_run sql params old new e ready is_open (inr h) = rolled_back old new ready is_open h.3
 
 -- a command that failed
-pub command_failed : (sql : List ℕ) (c : _) (params : Row) (old new : State) (e : Error) → IsReady old → IsTrue new.is_open
-    → RunsCommand old new sql c params (Err e) → Keeps old new
+pub command_failed : (sql : List ℕ) (c : _) (params : Row) (old new : State) (e : Error)
+    → IsReady old → IsTrue new.is_open → RunsCommand old new sql c params (Err e) → Keeps old new
 command_failed sql c params old new e ready is_open (inl h) = unchanged old new ready h.1
 command_failed sql c params old new e ready is_open (inr h) = rolled_back old new ready is_open h.3
 
 -- a write that failed
-pub write_failed : (sql : List ℕ) (params : Row) (old new : State) (e : Error) → IsReady old → IsTrue new.is_open
-    → Executes sql params old new (Err e) → Keeps old new
+pub write_failed : (sql : List ℕ) (params : Row) (old new : State) (e : Error) → IsReady old
+    → IsTrue new.is_open → Executes sql params old new (Err e) → Keeps old new
 unfolding ExecutesIn
-write_failed sql params old new e ready is_open (inl h) = not_run sql params old new e ready is_open h
+write_failed sql params old new e ready is_open (inl h) =
+    not_run sql params old new e ready is_open h
 write_failed sql params old new e ready is_open (inr h) = elim (cases_Bool (shows_rows false h.0)) [
   | inl shows ↦ unchanged old new ready (rw shows at h.2).1
   | inr runs ↦ command_failed sql h.0 _ old new e ready is_open (rw runs at h.2)
 ]
 
 -- a query that failed
-pub query_failed : (sql : List ℕ) (params : Row) (old new : State) (e : Error) → IsReady old → IsTrue new.is_open
-    → FailsToQuery sql params old new e → Keeps old new
+pub query_failed : (sql : List ℕ) (params : Row) (old new : State) (e : Error) → IsReady old
+    → IsTrue new.is_open → FailsToQuery sql params old new e → Keeps old new
 unfolding FailsToQuery
-query_failed sql params old new e ready is_open (inl h) = not_run sql params old new e ready is_open h
+query_failed sql params old new e ready is_open (inl h) =
+    not_run sql params old new e ready is_open h
 query_failed sql params old new e ready is_open (inr h) = shown h.0.returning h.2
   where
-    shown : (r : _) → FailsToShow old new sql h.0 (timed params h.0.formats h.1.now) e r → Keeps old new
+    shown : (r : _) → FailsToShow old new sql h.0 (timed params h.0.formats h.1.now) e r
+        → Keeps old new
     shown None f = unchanged old new ready f.3
     shown (Some what) f = command_failed sql h.0 _ old new e ready is_open f
 
@@ -75,11 +79,13 @@ released old new at (inl h) = h.1.0.was_open
 released old new at (inr h) = h.1.0.was_open
 
 -- a command that ran found the connection open
-pub ran_open : (old new : State) (returning : _) (command : Command) (text : List ℕ) (params : Row) (count : ℕ)
-    → Runs old new returning command text params count → IsTrue new.is_open → IsTrue old.is_open
+pub ran_open : (old new : State) (returning : _) (command : Command) (text : List ℕ)
+    (params : Row) (count : ℕ) → Runs old new returning command text params count
+    → IsTrue new.is_open → IsTrue old.is_open
 ran_open old new returning (Select q names) text params count h is_open = absurd h
 ran_open old new returning (Insert at from) text params count h is_open = h.shown.was_open
-ran_open old new returning (InsertOr at how from clauses) text params count h is_open = h.shown.was_open
+ran_open old new returning (InsertOr at how from clauses) text params count h is_open =
+    h.shown.was_open
 ran_open old new returning (Update at q) text params count h is_open = h.shown.was_open
 ran_open old new returning (Delete at q) text params count h is_open = h.shown.was_open
 ran_open old new returning CreateTable text params count h is_open = h.shown.was_open
@@ -112,7 +118,8 @@ pub shown_open : (sql : List ℕ) (params : Row) (old new : State) (rows : List 
 unfolding Shown
 shown_open sql params old new rows h = by_kind h.0.returning h.2
   where
-    by_kind : (r : _) → ShowsRows old new sql h.0 (timed params h.0.formats h.1.now) rows r → IsTrue old.is_open
+    by_kind : (r : _) → ShowsRows old new sql h.0 (timed params h.0.formats h.1.now) rows r
+        → IsTrue old.is_open
     by_kind None s = s.3.0.was_open
     by_kind (Some what) s = s.1.shown.was_open
 
@@ -130,17 +137,21 @@ abbrev opened : State → State → Type 0
 opened old new = IsTrue new.is_open → IsTrue old.is_open
 
 -- a statement that was not run found the connection as open as it left it
-not_run_open : (sql : List ℕ) (params : Row) (old new : State) (e : Error) → IsNotRun old new sql params e → opened old new
+not_run_open : (sql : List ℕ) (params : Row) (old new : State) (e : Error)
+    → IsNotRun old new sql params e → opened old new
 unfolding IsNotRun
 not_run_open sql params old new e (inl h) is_open = h.1.0.was_open
 not_run_open sql params old new e (inr h) is_open = h.3.was_open is_open
 
-failed_open : (sql : List ℕ) (c : _) (params : Row) (old new : State) (e : Error) → RunsCommand old new sql c params (Err e) → opened old new
+-- nor did a command that failed open it
+failed_open : (sql : List ℕ) (c : _) (params : Row) (old new : State) (e : Error)
+    → RunsCommand old new sql c params (Err e) → opened old new
 failed_open sql c params old new e (inl h) is_open = h.1.0.was_open
 failed_open sql c params old new e (inr h) is_open = h.3.was_open is_open
 
--- so did a write that failed
-pub write_failed_open : (sql : List ℕ) (params : Row) (old new : State) (e : Error) → Executes sql params old new (Err e) → opened old new
+-- nor a write that failed
+pub write_failed_open : (sql : List ℕ) (params : Row) (old new : State) (e : Error)
+    → Executes sql params old new (Err e) → opened old new
 unfolding ExecutesIn
 write_failed_open sql params old new e (inl h) is_open = not_run_open sql params old new e h is_open
 write_failed_open sql params old new e (inr h) is_open = elim (cases_Bool (shows_rows false h.0)) [
@@ -148,12 +159,14 @@ write_failed_open sql params old new e (inr h) is_open = elim (cases_Bool (shows
   | inr runs ↦ failed_open sql h.0 _ old new e (rw runs at h.2) is_open
 ]
 
--- and a query that failed
-pub query_failed_open : (sql : List ℕ) (params : Row) (old new : State) (e : Error) → FailsToQuery sql params old new e → opened old new
+-- nor a query that failed
+pub query_failed_open : (sql : List ℕ) (params : Row) (old new : State) (e : Error)
+    → FailsToQuery sql params old new e → opened old new
 unfolding FailsToQuery
 query_failed_open sql params old new e (inl h) is_open = not_run_open sql params old new e h is_open
 query_failed_open sql params old new e (inr h) is_open = shown h.0.returning h.2
   where
-    shown : (r : _) → FailsToShow old new sql h.0 (timed params h.0.formats h.1.now) e r → IsTrue old.is_open
+    shown : (r : _) → FailsToShow old new sql h.0 (timed params h.0.formats h.1.now) e r
+        → IsTrue old.is_open
     shown None f = f.3.0.was_open
     shown (Some what) f = failed_open sql h.0 _ old new e f is_open

@@ -21,31 +21,38 @@ shown_text (r ∷ rs) (t ∷ ts) key e (inl is) = inl (let here = ap first_colum
 shown_text (r ∷ rs) (t ∷ ts) key e (inr there) = inr (shown_text rs ts key (same_rest e) there)
 
 -- the names that are shown are all keys
-names_listed : (table shown : List Row) (texts : List (List ℕ)) → AreNames table shown → ShowTexts shown texts
-    → Lists texts (HasEntry table)
+names_listed : (table shown : List Row) (texts : List (List ℕ)) → AreNames table shown
+    → ShowTexts shown texts → Lists texts (HasEntry table)
 names_listed table shown texts are show key value has =
     let there = subst (λ v. Contains shown (v ∷ [])) has.2 (are has.0 has.1) in
     from_in texts key (shown_text shown texts key show (to_in shown _ there))
 
-pub keys_result : {V : Type 0} (texts : V → List (List ℕ)) (table shown : List Row) (r : Result V Error)
-    → AreNames table shown → IfOk r (λ v. ShowTexts shown (texts v)) → IfOk r (λ v. Lists (texts v) (HasEntry table))
+-- the same of each answer
+pub keys_result : {V : Type 0} (texts : V → List (List ℕ)) (table shown : List Row)
+    (r : Result V Error) → AreNames table shown → IfOk r (λ v. ShowTexts shown (texts v))
+    → IfOk r (λ v. Lists (texts v) (HasEntry table))
 keys_result texts table shown (Ok v) are show = names_listed table shown (texts v) are show
 keys_result texts table shown (Err e) are show = tt
 
 -- the first value that is shown is one of the key, and there is none where no row is shown
-first_value : {V : Type 0} (text : V → List ℕ) (table shown : List Row) (key : List ℕ) (found : Option V)
-    → AreValues table key shown → IsFirstText shown (option_map text found)
+first_value : {V : Type 0} (text : V → List ℕ) (table shown : List Row) (key : List ℕ)
+    (found : Option V) → AreValues table key shown → IsFirstText shown (option_map text found)
     → MatchOption found (Lacks (HasEntry table) key) (λ v. HasEntry table key (text v))
 first_value text table shown key None are none = λ value has.
-    let there = subst (λ rows. Contains rows (column has.0 3 ∷ [])) none (are.whole has.0 has.1 has.2) in
+    let there =
+    subst (λ rows. Contains rows (column has.0 3 ∷ [])) none (are.whole has.0 has.1 has.2) in
     absurd (omega (arith, there.1))
 first_value text table shown key (Some v) are (row, rest, begins, is) =
     let there = subst (λ rows. Contains rows row) (sym begins) (0, omega arith, refl) in
     let from = are.sound row there in
     (from.0, from.1, from.2, ap first_column (sym from.3) ∙ is)
 
-pub value_result : {V : Type 0} (text : V → List ℕ) (table shown : List Row) (key : List ℕ) (r : Result (Option V) Error)
-    → AreValues table key shown → IfOk r (λ found. IsFirstText shown (option_map text found))
-    → IfOk r (λ found. MatchOption found (Lacks (HasEntry table) key) (λ v. HasEntry table key (text v)))
-value_result text table shown key (Ok found) are first = first_value text table shown key found are first
+-- the same of each answer
+pub value_result : {V : Type 0} (text : V → List ℕ) (table shown : List Row) (key : List ℕ)
+    (r : Result (Option V) Error) → AreValues table key shown
+    → IfOk r (λ found. IsFirstText shown (option_map text found))
+    → IfOk r (λ found.
+    MatchOption found (Lacks (HasEntry table) key) (λ v. HasEntry table key (text v)))
+value_result text table shown key (Ok found) are first =
+    first_value text table shown key found are first
 value_result text table shown key (Err e) are first = tt

@@ -87,7 +87,8 @@ stored id name value = Int id ∷ Null ∷ Words name ∷ Words value ∷ []
 -- a row of these has this name and this value
 abbrev pub HasEntry : List Row → List ℕ → List ℕ → Type 0
 HasEntry rows name value =
-    (a_row : Row) × Contains rows a_row × (column a_row 2 ≡ Words name) × (column a_row 3 ≡ Words value)
+    (a_row : Row) × Contains rows a_row × (column a_row 2 ≡ Words name)
+    × (column a_row 3 ≡ Words value)
 
 -- what a connection shows has the table alone, is committed, and stands in no transaction
 pub record IsReady (s : State) : Type 0 where

@@ -19,7 +19,8 @@ pub fn make_table<S: Alter>(conn: &mut Connection<S>) -> Result<usize, Error>
     ensures known { IsKnown (state S.Store conn.new) → IsKnown (state S.Store conn.old) }
 {
     conn.execute(
-        "CREATE TABLE entry (id INTEGER PRIMARY KEY, name TEXT NOT NULL UNIQUE, value TEXT NOT NULL) STRICT",
+        "CREATE TABLE entry (id INTEGER PRIMARY KEY, name TEXT NOT NULL UNIQUE, \
+         value TEXT NOT NULL) STRICT",
         &[],
     )
 }

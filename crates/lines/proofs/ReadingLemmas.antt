@@ -16,7 +16,7 @@ taken-ended {line = line} cut inside = record {
 }
 
 -- a last line that has no end
-taken-last : {old new line : List ℕ} → old ≡ line ++ new → has_no_end line ≡ true
+pub taken-last : {old new line : List ℕ} → old ≡ line ++ new → has_no_end line ≡ true
     → 0 < length line → new ≡ [] → HasTakenLine old new line
 taken-last {line = line} cut inside some none = record {
   taken = line;

@@ -1,6 +1,6 @@
 //! Bytes that were read and wait to be taken.
-ghost use Rattle.std.specs.Prelude.{◌≡◌, ◌<◌, ◌≤◌, [], take, drop, length, IfOk, OnOk};
-ghost use Rattle.std.specs.Io.KnownBytes.{Consumes, IsAtEnd};
+ghost use Rattle.std.specs.Prelude.{◌≡◌, ◌<◌, ◌≤◌, [], take, drop, length, IfOk, OnOk, OnErr};
+ghost use Rattle.std.specs.Io.KnownBytes.{Consumes, IsAtEnd, Keeps};
 
 use std::alloc::{AllocError, Global};
 use std::io;
@@ -64,12 +64,16 @@ impl Block {
         self.at = self.end;
     }
 
-    /// Reads a new block, in place of one that is empty. It is empty only at the end of the input.
+    /// Reads once, in place of a block that is empty. An interrupted read is tried again.
     pub fn fill<R: Read>(&mut self, input: &mut R) -> io::Result<()>
         requires { self.old ≡ [] }
         ensures taken { OnOk result
             (Consumes (R.remaining input.old) (R.remaining input.new) self.new) }
+        // It is empty only at the end of the input.
         ensures end { OnOk result (self.new ≡ [] → IsAtEnd (R.remaining input.new)) }
+        // After an error it is empty, and nothing was taken.
+        ensures none { OnErr result (self.new ≡ []) }
+        ensures kept { OnErr result (Keeps (R.remaining input.old) (R.remaining input.new)) }
     {
         let count = read_some(input, &mut self.bytes)?;
         self.at = 0;
@@ -87,6 +91,7 @@ fn read_some<R: Read>(input: &mut R, bytes: &mut Vec<u8>) -> io::Result<usize>
         (λ n. n ≡ 0 → 0 < length bytes.new.items → IsAtEnd (R.remaining input.new)) }
     ensures count { IfOk result (λ n. n ≤ length bytes.new.items) }
     ensures room { length bytes.new.items ≡ length bytes.old.items }
+    ensures kept { OnErr result (Keeps (R.remaining input.old) (R.remaining input.new)) }
 {
     'rounds: for _round in 0..u64::MAX {
         'tries: for _try in 0..u64::MAX {

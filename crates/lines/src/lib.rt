@@ -5,4 +5,6 @@ mod block;
 mod piece;
 mod reader;
 
+pub use block::Block;
+pub use piece::first_end;
 pub use reader::{LineReader, Next};

@@ -41,8 +41,8 @@ pub fn move_piece(block: &mut Block, line: &mut Vec<u8>, longest: usize) -> io::
     }
 }
 
-// Where the first line ends.
-fn first_end(bytes: &[u8]) -> Option<usize>
+/// Where the first line ends, if its end is among the bytes.
+pub fn first_end(bytes: &[u8]) -> Option<usize>
     ensures { MatchOption result (has_no_end bytes.now ≡ true) (HasEndAt bytes.now) }
 {
     'bytes: for (at, byte) in bytes.iter().enumerate() {

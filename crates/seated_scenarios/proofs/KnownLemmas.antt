@@ -1,10 +1,9 @@
 -- What a pass knows of many hashes, one after the other.
-use Rattle.std.proofs.Common.{◌≡◌, ℕ, ◌+◌, ◌<◌, ◌⊎◌, Bool, true, ◌||◌, List, [], ◌∷◌, ◌++◌, length, take, get_or, Contains, inl, inr, refl, sym, ap, ◌∙◌, subst, arith, le_refl}
+use Rattle.std.proofs.Common.{◌≡◌, ℕ, ◌+◌, ◌<◌, ◌⊎◌, Bool, List, [], length, take, get_or, Contains, inl, inr, sym, ap, ◌∙◌, subst, arith, le_refl}
 use Rattle.std.proofs.lemmas.Bool.{or_left, or_right}
 use Rattle.std.proofs.lemmas.List.{take_more, take_all}
 use Rattle.std.proofs.lemmas.List.Elements.{Contains-push_cases}
 use Rattle.bloom_parts.specs.Content.{content}
-use Rattle.bloom_parts.specs.Places.{IsPart}
 use Rattle.fastbloom.specs.Passes.{SeatedFilter, Sight, Knows, IsSure, known_of, positions_of, Inserts, Meets}
 use Rattle.seated_scenarios.specs.Known.{KnowsAll}
 
@@ -48,7 +47,7 @@ known-sure f pass hash known p is =
     or_right (content pass.start p) (known_of pass p) (known p is)
 
 -- after two passes met, both can be sure of what either knew
-pub both-sure : (f : SeatedFilter) (a b a_new b_new : Sight) (left right : List ℕ) (asked : ℕ)
+both-sure : (f : SeatedFilter) (a b a_new b_new : Sight) (left right : List ℕ) (asked : ℕ)
     → KnowsAll f a left → KnowsAll f b right → Meets a b a_new b_new
     → Contains left asked ⊎ Contains right asked
     → IsSure f a_new asked × IsSure f b_new asked
@@ -67,7 +66,17 @@ both-sure f a b a_new b_new left right asked known_a known_b met there = elim th
   )
 ]
 
--- the same of a promise of this filter and these hashes
+-- the same of the filter as two calls name it
+pub sure-after : (f g h : SeatedFilter) (a b a_new b_new : Sight) (left right : List ℕ)
+    (asked : ℕ) → KnowsAll f a left → KnowsAll f b right → Meets a b a_new b_new → g ≡ f → h ≡ f
+    → Contains left asked ⊎ Contains right asked → IsSure g a_new asked × IsSure h b_new asked
+sure-after f g h a b a_new b_new left right asked known_a known_b met first second there =
+    let both = both-sure f a b a_new b_new left right asked known_a known_b met there in (
+      subst (λ (s : SeatedFilter). IsSure s a_new asked) (sym first) both.0,
+      subst (λ (s : SeatedFilter). IsSure s b_new asked) (sym second) both.1,
+    )
+
+-- what a thread promised, of this filter and these hashes
 pub promised : (f given : SeatedFilter) (pass : Sight) (hashes said : List ℕ) → given ≡ f
     → said ≡ hashes → KnowsAll given pass said → KnowsAll f pass hashes
 promised f given pass hashes said same_filter same known =

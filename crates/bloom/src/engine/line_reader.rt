@@ -1,12 +1,13 @@
 //! Reading one line after the other.
-ghost use Rattle.std.specs.Prelude.{◌≡◌, ◌+◌, false, true, [], None, take, drop, IfOk, IfErr, IsOkUnless};
+ghost use Rattle.std.specs.Prelude.{◌≡◌, ◌+◌, false, true, [], ◌∷◌, None, take, drop, IfSome, IfOk, IfErr, IsOkUnless, MatchOption};
 ghost use Rattle.std.specs.Io.KnownBytes.{Keeps};
 ghost use Rattle.bloom.specs.Faults.{IsOfStream};
-ghost use Rattle.bloom.specs.Reading.{Asks, TakesByte, IsFirstLine, NextCommand, KnowsEnd, IsQuiet, left_of};
+ghost use Rattle.bloom.specs.Reading.{Asks, TakesByte, IsFirstLine, NextCommand, IsQuiet, left_of};
+ghost use Rattle.lines.specs.Reading.{KnowsEnd};
 
-use crate::engine::block::Block;
 use crate::engine::line::{LONGEST, Line, parse};
 use crate::fault::Fault;
+use lines::{Block, first_end};
 use std::alloc::Global;
 use std::io::{Read, Write};
 use std::marker::Model;
@@ -47,7 +48,7 @@ impl LineReader {
         ensures refused { IsOkUnless result Fault.Memory }
     {
         Ok(LineReader {
-            block: Block::new(alloc)?,
+            block: Block::new(alloc).map_err(|_| Fault::Memory)?,
             ended: false,
         })
     }
@@ -58,24 +59,24 @@ impl LineReader {
         input: &mut R,
         output: &mut W,
     ) -> Result<Option<u8>, Fault>
-        requires { KnowsEnd self.old (R.remaining input.old) }
+        requires { KnowsEnd self.old.ended (R.remaining input.old) }
         ensures byte { IfOk result (TakesByte (left_of self.old (R.remaining input.old))
             (left_of self.new (R.remaining input.new))) }
         ensures told { IfOk result (λ byte. byte ≡ None → self.new.ended ≡ true) }
-        ensures knows { KnowsEnd self.new (R.remaining input.new) }
+        ensures knows { KnowsEnd self.new.ended (R.remaining input.new) }
         ensures quiet { IsQuiet self.old self.new input.old input.new }
         ensures kept { Keeps (W.contents output.old) (W.contents output.new) }
         ensures fault { IfErr result IsOfStream }
     {
-        match self.block.take_byte() {
+        match take_byte(&mut self.block) {
             Some(byte) => Ok(Some(byte)),
             None => {
                 if self.ended {
                     return Ok(None);
                 }
                 output.flush().map_err(|_| Fault::Output)?;
-                self.block.fill(input)?;
-                let byte = self.block.take_byte();
+                self.block.fill(input).map_err(|_| Fault::Input)?;
+                let byte = take_byte(&mut self.block);
                 self.ended = byte.is_none();
                 Ok(byte)
             }
@@ -89,11 +90,11 @@ impl LineReader {
         input: &mut R,
         output: &mut W,
     ) -> Result<Next, Fault>
-        requires { KnowsEnd self.old (R.remaining input.old) }
+        requires { KnowsEnd self.old.ended (R.remaining input.old) }
         ensures next { IfOk result (NextCommand (left_of self.old (R.remaining input.old))
             (left_of self.new (R.remaining input.new))) }
         ensures told { IfOk result (λ next. next ≡ Next.End → self.new.ended ≡ true) }
-        ensures knows { KnowsEnd self.new (R.remaining input.new) }
+        ensures knows { KnowsEnd self.new.ended (R.remaining input.new) }
         ensures quiet { IsQuiet self.old self.new input.old input.new }
         ensures kept { Keeps (W.contents output.old) (W.contents output.new) }
         ensures fault { IfErr result IsOfStream }
@@ -116,21 +117,43 @@ impl LineReader {
         input: &mut R,
         output: &mut W,
     ) -> Result<Next, Fault>
-        requires { KnowsEnd self.old (R.remaining input.old) }
+        requires { KnowsEnd self.old.ended (R.remaining input.old) }
         ensures next { IfOk result (NextCommand (left_of self.old (R.remaining input.old))
             (left_of self.new (R.remaining input.new))) }
         // The end stays told, and then the reader isn't asked again.
         ensures told { IfOk result (λ next. next ≡ Next.End → self.new.ended ≡ true) }
-        ensures knows { KnowsEnd self.new (R.remaining input.new) }
+        ensures knows { KnowsEnd self.new.ended (R.remaining input.new) }
         ensures quiet { IsQuiet self.old self.new input.old input.new }
         ensures kept { Keeps (W.contents output.old) (W.contents output.new) }
         ensures fault { IfErr result IsOfStream }
     {
-        match self.block.line_length() {
+        match short_end(self.block.as_slice()) {
             Some(length) => Ok(next_in_block(&mut self.block, length)),
             None => self.across_blocks(input, output),
         }
     }
+}
+
+// Takes the first byte that waits, if there is one.
+fn take_byte(block: &mut Block) -> Option<u8>
+    ensures { MatchOption result ((block.old ≡ []) × (block.new ≡ []))
+        (λ byte. block.old ≡ byte ∷ block.new) }
+{
+    match block.as_slice() {
+        [] => None,
+        [byte, ..] => {
+            let byte = *byte;
+            block.skip(1);
+            Some(byte)
+        }
+    }
+}
+
+// Where the first line ends, if it isn't too long and its end is among the bytes.
+fn short_end(bytes: &[u8]) -> Option<usize>
+    ensures { IfSome result (IsFirstLine bytes.now) }
+{
+    first_end(&bytes[..bytes.len().min(TOO_LONG)])
 }
 
 // What the line asks for that the block has whole.
@@ -139,7 +162,7 @@ fn next_in_block(block: &mut Block, length: usize) -> Next
     ensures text { Asks (take length block.old) result }
     ensures taken { block.new ≡ drop (length + 1) block.old }
 {
-    let next = asked(block.front(length));
+    let next = asked(&block.as_slice()[..length]);
     block.skip(length + 1);
     next
 }

@@ -1,6 +1,6 @@
 //! The loops over the positions of a hash. They branch as seldom as they can, since no processor
 //! foresees whether one position is on.
-ghost use Rattle.std.specs.Prelude.{◌≡◌, ℕ, ◌*◌, ◌≤◌, ◌||◌, length, IsTrue};
+ghost use Rattle.std.specs.Prelude.{◌≡◌, ℕ, ◌*◌, ◌<◌, ◌≤◌, ◌||◌, length, IsTrue};
 ghost use Rattle.bloom_parts.specs.Content.{content};
 ghost use Rattle.bloom_parts.specs.Places.{positions, are_in};
 ghost use Rattle.bloom_parts.specs.Stretches.{GoesOn, TurnsOnNext, TellsNext};
@@ -30,9 +30,34 @@ fn turn_on_four(words: &mut [u64], chain: &mut DoubleHasher) -> u64
     first | second | third | fourth
 }
 
+// Turns on the next places of a hash, at most three. The answer is 0 exactly if all were on just
+// before. So few go by tests alone: a loop costs as much as the places.
+#[inline(always)]
+fn turn_on_few(words: &mut [u64], chain: &mut DoubleHasher, count: u32) -> u64
+    requires words { 1 ≤ length words.old }
+    requires few { count < 4 }
+    ensures turns_on { TurnsOnNext count chain.old words.old words.new result }
+    ensures moved { GoesOn count chain.old chain.new }
+{
+    if count == 0 {
+        return 0;
+    }
+    let first = turn_on_next(words, chain);
+    if count == 1 {
+        return first;
+    }
+    let second = turn_on_next(words, chain);
+    if count == 2 {
+        return first | second;
+    }
+    let third = turn_on_next(words, chain);
+    first | second | third
+}
+
 /// Turns on all positions of a hash, and answers whether all were on just before.
 ///
-/// It takes four in a turn and then the rest, and gathers in one word what was off.
+/// Of more than three it takes four in a turn and then the rest, and gathers in one word what was
+/// off.
 #[inline(always)]
 pub fn insert_positions(words: &mut [u64], num_hashes: u32, hash: u64) -> bool
     requires { 1 ≤ length words.old }
@@ -42,6 +67,9 @@ pub fn insert_positions(words: &mut [u64], num_hashes: u32, hash: u64) -> bool
     ensures shape { length words.new ≡ length words.old }
 {
     let mut chain = DoubleHasher::new(hash);
+    if num_hashes < 4 {
+        return turn_on_few(words, &mut chain, num_hashes) == 0;
+    }
     let mut was_off: u64 = 0;
     'turns: for _turn in 0..num_hashes / 4 {
         was_off |= turn_on_four(words, &mut chain);

@@ -41,19 +41,10 @@ begun = record {
 
 -- after a step that found its bit on
 abbrev further : Machine
-further = record {
-  call = Insert 1;
-  num_words = 1;
-  num_hashes = 2;
+further = record begun {
   turn = 1;
   chain = record { newest = 0x8114_f89c_0b63_613f; added = 0x517c_c1b7_2722_0a95 };
   place = 20;
-  other = 0;
-  all_on = true;
-  ended = false;
-  some_words = omega arith;
-  few_words = lit< tt;
-  some_hashes = omega arith;
   within = omega arith;
   room = λ e. omega arith;
 }

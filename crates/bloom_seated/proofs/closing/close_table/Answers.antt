@@ -1,7 +1,6 @@
-use Rattle.std.proofs.Common.{◌≡◌, ℕ, List, sym, subst, arith}
-use Rattle.std.specs.Mem.Slots.{slots_items, slots_counts}
-use Rattle.bloom_seated.specs.Passes.{Closes, sight_of}
-use Rattle.bloom_seated.proofs.MeetLemmas.{closes, take-next, take-whole}
+use Rattle.std.proofs.Common.{arith}
+use Rattle.std.specs.Mem.Slots.{slots_counts}
+use Rattle.bloom_seated.proofs.MeetLemmas.{take-next, closes-taken}
 use Rattle.bloom_seated.proofs.closing.close_table.Goals as goal
 
 -- the next word comes behind the others
@@ -15,9 +14,6 @@ words-preserved c = (
 -- all of the words are those of the table in the end
 pub returns-clause-closes : goal.returns-clause-closes
 returns-clause-closes c =
-    let items : List ℕ = slots_items c.close_with-closed.result.words in
-    let all : c.words.words.items ≡ items =
-    take-whole items c.words.words.items c.words.i _ c.words.invariant.0 (omega arith)
-    ((slots_counts c.close_with-closed.result.words).0) in
-    subst (Closes (sight_of c.args.seat)) (sym all)
-    (closes _ _ _ c.args.seat items _ c.requires.pass c.close_with-closed.ensures.values.2)
+    closes-taken _ _ _ c.args.seat _ _ _ c.words.i _ c.requires.pass
+    c.close_with-closed.ensures.values.2 c.words.invariant.0 (omega arith)
+    ((slots_counts c.close_with-closed.result.words).0)

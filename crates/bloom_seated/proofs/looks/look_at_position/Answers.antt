@@ -1,4 +1,4 @@
-use Rattle.bloom_seated.proofs.PassLemmas.{by-load}
+use Rattle.bloom_seated.proofs.PassLemmas.Looking.{by-load}
 use Rattle.bloom_seated.proofs.looks.look_at_position.Goals as goal
 
 -- the load tells of the one position of the mask

@@ -1,4 +1,4 @@
-use Rattle.bloom_seated.proofs.PassLemmas.{by-turn}
+use Rattle.bloom_seated.proofs.PassLemmas.Turning.{by-turn}
 use Rattle.bloom_seated.proofs.looks.turn_on_position.Goals as goal
 
 -- the step tells of the one position of the mask

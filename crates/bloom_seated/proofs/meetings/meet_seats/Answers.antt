@@ -1,8 +1,6 @@
 use Rattle.std.proofs.Common.{◌∙◌, ap, sym}
 use Rattle.atomic_table.specs.Seated.{TableId}
-use Rattle.bloom_seated.specs.declared.rule.Sets.{Sets}
-use Rattle.bloom_seated.specs.Plays.{note_of, told}
-use Rattle.bloom_seated.proofs.MeetLemmas.{meets}
+use Rattle.bloom_seated.proofs.MeetLemmas.{meets, told-same}
 use Rattle.bloom_seated.proofs.meetings.meet_seats.Goals as goal
 
 -- what each was told stays known as it looks at the words
@@ -14,8 +12,7 @@ returns-clause-meets c =
     c.view_words-2.new.seat c.args.table.now.shared.table_id.words
     (second.to_table ∙ first.from_table) (second.from_table ∙ first.to_table)
     (second.from_same ∙ first.to_told)
-    (second.to_told ∙ ap (λ (z : Sets × Sets). told z.0 (note_of z.1))
-    (λ i. (first.from_same i, sym second.from_same i)))
+    (second.to_told ∙ told-same _ _ _ _ first.from_same (sym second.from_same))
     c.view_words.ensures.views c.view_words-2.ensures.views
     (c.requires.a_pass.whole ∙ ap (λ (t : TableId). t.words) c.requires.a)
     (c.requires.b_pass.whole ∙ ap (λ (t : TableId). t.words) c.requires.b)

@@ -1,6 +1,6 @@
 use Rattle.std.proofs.Common.{◌∙◌, ap}
 use Rattle.bloom_seated.specs.declared.rule.Sets.{Sets}
-use Rattle.bloom_seated.proofs.PassLemmas.{views-next}
+use Rattle.bloom_seated.proofs.PassLemmas.Looking.{views-next}
 use Rattle.bloom_seated.proofs.meetings.view_words.Goals as goal
 
 -- each load shows one word more

@@ -1,5 +1,6 @@
 use Rattle.std.proofs.Common.{◌≡◌}
-use Rattle.bloom_seated.specs.Passes.{Views, sight_of}
+use Rattle.bloom_seated.specs.Loads.{Views}
+use Rattle.bloom_seated.specs.Passes.{sight_of}
 use Rattle.bloom_seated.specs.declared.rule.Role.TheVariants.{Pass}
 use Rattle.bloom_seated.proofs.meetings.view_words.Given as goal
 

@@ -1,6 +1,5 @@
-use Rattle.std.proofs.Common.{◌<◌, ap, ◌∙◌, subst}
-use Rattle.bloom_seated.specs.declared.rule.Sets.{Sets}
-use Rattle.bloom_seated.proofs.OpeningLemmas.{settles}
+use Rattle.std.proofs.Common.{◌<◌, ◌∙◌, subst}
+use Rattle.bloom_seated.proofs.OpeningLemmas.{settles, settles-fresh}
 use Rattle.bloom_seated.proofs.opening.open.Goals as goal
 
 -- the last step keeps the rule
@@ -13,10 +12,4 @@ load-requires c = (
 
 -- and makes the seat a pass that knows nothing
 pub returns-clause-fresh : goal.returns-clause-fresh
-returns-clause-fresh c =
-    let is = c.load.ensures.2 in
-    let was = c.put_words.ensures.first in record {
-      role = ap (λ (v : Sets). v.role) is;
-      known = ap (λ (v : Sets). v.known) is ∙ was.known;
-      gained = ap (λ (v : Sets). v.gained) is ∙ was.gained;
-    }
+returns-clause-fresh c = settles-fresh _ _ c.put_words.ensures.first c.load.ensures.2

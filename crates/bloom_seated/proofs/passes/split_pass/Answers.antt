@@ -1,4 +1,4 @@
-use Rattle.bloom_seated.proofs.StepLemmas.{begins}
+use Rattle.bloom_seated.proofs.StepLemmas.Splitting.{begins}
 use Rattle.bloom_seated.proofs.passes.split_pass.Goals as goal
 
 -- the split keeps the rule

@@ -1,5 +1,5 @@
 use Rattle.std.proofs.Common.{◌<◌, subst}
-use Rattle.bloom_seated.proofs.StepLemmas.{loads}
+use Rattle.bloom_seated.proofs.StepLemmas.Loading.{loads}
 use Rattle.bloom_seated.proofs.steps.load.Goals as goal
 
 -- a load keeps the rule

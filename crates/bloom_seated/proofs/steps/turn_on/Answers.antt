@@ -1,5 +1,5 @@
 use Rattle.std.proofs.Common.{◌<◌, subst}
-use Rattle.bloom_seated.proofs.StepLemmas.{turns_on}
+use Rattle.bloom_seated.proofs.StepLemmas.Turning.{turns_on}
 use Rattle.bloom_seated.proofs.steps.turn_on.Goals as goal
 
 -- an `|` keeps the rule

@@ -7,12 +7,11 @@ pub places-init : goal.places-init
 places-init c = record { chain = goes_on-none _; on = tells_next-none _ _ }
 
 pub places-preserved : goal.places-preserved
-places-preserved c =
-    let next = c.next_is_on.ensures in record {
-      chain = goes_on-then c.places._place 1 _ _ _ c.places.invariant.chain next.moved;
-      on = tells_next-on _ _ _ _ _ c.places.invariant.chain c.places.invariant.on
-          c.if-not-next_is_on.false next.found;
-    }
+places-preserved c = record {
+  chain = goes_on-then c.places._place 1 _ _ _ c.places.invariant.chain c.next_is_on.ensures.moved;
+  on = tells_next-on _ _ _ _ _ c.places.invariant.chain c.places.invariant.on
+      c.if-not-next_is_on.false c.next_is_on.ensures.found;
+}
 
 pub returns-then-not-next_is_on-clause-found : goal.returns-then-not-next_is_on-clause-found
 returns-then-not-next_is_on-clause-found c =

@@ -1,29 +1,28 @@
-use Rattle.std.proofs.Common.{◌+◌, ◌*◌, ◌/◌, arith}
-use Rattle.bloom_parts.proofs.TurnLemmas.{has_turned_on-none, has_turned_on-then, has_turned_on-reply, has_turned_on-content}
+use Rattle.std.proofs.Common.{refl, arith}
+use Rattle.bloom_parts.proofs.TurnLemmas.{turned_on-none, turned_on-once, turned_on-add, turned_on-reply, turned_on-content}
 use Rattle.bloom_parts.proofs.slices.positions.insert_positions.Goals as goal
 
+pub returns-then-num_hashes-lt4-clause-reply : goal.returns-then-num_hashes-lt4-clause-reply
+returns-then-num_hashes-lt4-clause-reply c =
+    turned_on-reply refl (turned_on-once c.new-chain.ensures c.turn_on_few.ensures)
+
+pub returns-then-num_hashes-lt4-clause-content : goal.returns-then-num_hashes-lt4-clause-content
+returns-then-num_hashes-lt4-clause-content c =
+    turned_on-content refl (turned_on-once c.new-chain.ensures c.turn_on_few.ensures)
+
 pub turns-init : goal.turns-init
-turns-init c = has_turned_on-none _ _ _ c.new-chain.ensures
+turns-init c = turned_on-none _ _ _ c.new-chain.ensures
 
 pub turns-preserved : goal.turns-preserved
-turns-preserved c =
-    let next = c.turn_on_four-was_off.ensures in
-    has_turned_on-then _ (4 * c.turns._turn) 4 _ _ _ _ _ _ _ _ (omega arith) c.turns.invariant
-    next.moved next.turns_on
+turns-preserved c = turned_on-add 4 _ (omega arith) c.turns.invariant c.turn_on_four-was_off.ensures
 
 pub rest-preserved : goal.rest-preserved
-rest-preserved c =
-    let turns = 4 * (c.args.num_hashes / 4) in
-    let next = c.turn_on_next-was_off.ensures in
-    has_turned_on-then _ (turns + c.rest._place) 1 _ _ _ _ _ _ _ _ (omega arith) c.rest.invariant
-    next.moved next.turns_on
+rest-preserved c = turned_on-add 1 _ (omega arith) c.rest.invariant c.turn_on_next-was_off.ensures
 
 pub returns-clause-reply : goal.returns-clause-reply
 returns-clause-reply c =
-    has_turned_on-reply _ _ _ _ _ _ _ (omega (arith, c.rest-test.false, c.rest.auto._place-end))
-    c.rest.invariant
+    turned_on-reply (omega (arith, c.rest-test.false, c.rest.auto._place-end)) c.rest.invariant
 
 pub returns-clause-content : goal.returns-clause-content
 returns-clause-content c =
-    has_turned_on-content _ _ _ _ _ _ _ (omega (arith, c.rest-test.false, c.rest.auto._place-end))
-    c.rest.invariant
+    turned_on-content (omega (arith, c.rest-test.false, c.rest.auto._place-end)) c.rest.invariant

@@ -9,10 +9,7 @@ given-preserved g c =
 
 pub returns : goal.returns
 returns g c =
-    let it = c.into_iter-item-iterator in (
-      it.result,
-      it.ensures.into_iter_gives,
-      inserts_items-whole (source_hash_of g.S.BuildHasher g.S.Hasher.Hasher g.T.Hash.hash_input)
-          _ g.I.IntoIter.Iterator.next_gives _ _ _ c.given.yielded _
-          c.given.yielded_by c.in-None.ensures.steps c.given.invariant,
-    )
+    inserts_items-whole (source_hash_of g.S.BuildHasher g.S.Hasher.Hasher g.T.Hash.hash_input) _
+    _ g.I.IntoIter.Iterator.next_gives _ _ _ c.given.yielded _
+    c.into_iter-item-iterator.ensures.into_iter_gives c.given.yielded_by c.in-None.ensures.steps
+    c.given.invariant

@@ -1,7 +1,6 @@
-use Rattle.std.proofs.Common.{◌<◌, map}
-use Rattle.arrayvec.specs.ArrayVec.{array_vec_len}
+use Rattle.std.proofs.Common.{map}
 use Rattle.bloom_plain.specs.SourceHash.{source_hash_of}
-use Rattle.bloom_plain.proofs.TogetherLemmas.{IsBehind}
+use Rattle.bloom_plain.proofs.TogetherLemmas.{AreQueued}
 use Rattle.bloom_plain.proofs.bloom.BloomFilter.insert_items_together.Given as goal
 
 -- the hashes of the items so far were inserted, but for those that wait, fewer than sixteen
@@ -9,7 +8,4 @@ abbrev pub invariant-given : goal.invariant-given
 invariant-given g l =
     let hash = source_hash_of g.S.BuildHasher g.S.Hasher.Hasher g.T.Hash.hash_input
     l.fn.self.hasher in
-    record {
-      behind : IsBehind l.fn.self (map hash l.yielded) l.waiting.items l.self;
-      room : array_vec_len l.waiting < 16;
-    }
+    AreQueued l.fn.self (map hash l.yielded) l.waiting.items l.self

@@ -1,11 +1,8 @@
-use Rattle.std.proofs.Common.{◌<◌, take}
-use Rattle.arrayvec.specs.ArrayVec.{array_vec_len}
-use Rattle.bloom_plain.proofs.TogetherLemmas.{IsBehind}
+use Rattle.std.proofs.Common.{take}
+use Rattle.bloom_plain.proofs.TogetherLemmas.{AreQueued}
 use Rattle.bloom_plain.proofs.bloom.together.insert_hashes_together.Given as goal
 
 -- the hashes so far were inserted, but for those that wait, fewer than sixteen
 abbrev pub invariant-hashes : goal.invariant-hashes
-invariant-hashes g l = record {
-  behind : IsBehind l.fn.filter (take l.hash-index l.hashes) l.waiting.items l.filter;
-  room : array_vec_len l.waiting < 16;
-}
+invariant-hashes g l =
+    AreQueued l.fn.filter (take l.hash-index l.hashes) l.waiting.items l.filter

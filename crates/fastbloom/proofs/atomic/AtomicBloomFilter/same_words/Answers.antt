@@ -1,16 +1,14 @@
 use Rattle.std.proofs.Common.{ap, subst, arith, rules}
 use Rattle.bloom_parts.specs.Made.{FoundByLoad}
-use Rattle.fastbloom.proofs.ReadingLemmas.{below-next}
+use Rattle.fastbloom.proofs.ReadingLemmas.{below-next, loaded-of}
 use Rattle.fastbloom.proofs.atomic.AtomicBloomFilter.same_words.Goals as goal
 
 pub words-preserved : goal.words-preserved
 words-preserved g c =
-    let at = c.words.word in
-    let here = subst (λ f. FoundByLoad f.words at c.load.result) c.self.view_is c.load.ensures in
-    let found = c.load-in-words.result in
-    let there = subst (λ f. FoundByLoad f.words at found) c.other.view_is c.load-in-words.ensures in
-    below-next _ at c.words.invariant
-    (c.load.result, here, subst (FoundByLoad _ at) (search rules) there)
+    let here = loaded-of c.words.word c.load.result c.self.view_is c.load.ensures in
+    let there = loaded-of c.words.word _ c.other.view_is c.load-in-words.ensures in
+    below-next _ c.words.word c.words.invariant
+    (c.load.result, here, subst (FoundByLoad _ c.words.word) (search rules) there)
 
 pub returns : goal.returns
 returns g c =

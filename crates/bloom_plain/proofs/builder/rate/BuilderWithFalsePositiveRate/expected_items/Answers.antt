@@ -1,5 +1,5 @@
 use Rattle.std.proofs.lemmas.Result.{err_from_is_err_and}
-use Rattle.bloom_plain.proofs.BuilderLemmas.{size_of-rate, refused-size, made_for-zeros}
+use Rattle.bloom_plain.proofs.BuilderLemmas.{refused-size, made_for-zeros}
 use Rattle.bloom_plain.proofs.builder.rate.BuilderWithFalsePositiveRate.expected_items.Goals as goal
 
 pub returns-in_err-bits-clause-refused : goal.returns-in_err-bits-clause-refused
@@ -11,8 +11,7 @@ returns-in_err-bits-clause-refused g c =
 
 pub returns-clause-made : goal.returns-clause-made
 returns-clause-made g c =
-    made_for-zeros _ _ _ _ _ _ c.self.view_is
-    (size_of-rate _ _ _ _ _ c.self.view_is c.max.ensures c.in_ok-size.ensures.value)
+    made_for-zeros _ _ _ _ _ _ _ c.self.view_is c.max.ensures c.in_ok-size.ensures.value
     c.in_ok-bits.ensures.words c.expected_items.ensures
 
 pub returns-clause-refused : goal.returns-clause-refused

@@ -1,6 +1,4 @@
-use Rattle.std.proofs.Common.{◌∙◌, ◌-◌, ap, arith, subst, sym}
-use Rattle.std.specs.Prelude.{vec_len}
-use Rattle.fastbloom.specs.Shared.{WereLoaded}
+use Rattle.std.proofs.Common.{◌∙◌, ◌-◌, ap, arith, vec_len}
 use Rattle.fastbloom.proofs.DataLemmas.{never_refused}
 use Rattle.fastbloom.proofs.ReadingLemmas.{read-loaded}
 use Rattle.fastbloom.proofs.atomic.data.AtomicBloomFilter.to_data.Goals as goal
@@ -10,15 +8,12 @@ returns-clause-words c =
     let iter = c.iter.ensures in
     let made = c.in_ok-bits.ensures in
     let vector = iter.vector ∙ ap (λ f. f.words) c.self.view_is in
-    subst (WereLoaded c.args.self.now.words) (sym made.3.0)
-    (read-loaded made.0 _ _ made.1 vector iter.next made.2)
+    read-loaded made.0 _ _ _ made.1 vector iter.next made.2 made.3.0
 
 pub returns-clause-good : goal.returns-clause-good
 returns-clause-good c =
     let count = (returns-clause-words c).count in
     let same = ap (λ f. f.words.count) c.self.view_is in
-    let iter = c.iter.ensures in
-    never_refused (vec_len c.in_ok-bits.bits) (c.self.inside.num_hashes - 1)
-    (omega (arith, count, same, c.in_ok-bits.bits.ok, iter.least))
-    (omega (arith, count, same, c.in_ok-bits.bits.ok, iter.most))
-    (omega (arith, c.self.invariant))
+    never_refused (vec_len c.in_ok-bits.bits) c.self.inside.words.count
+    (c.self.inside.num_hashes - 1) (omega (arith, count, same, c.in_ok-bits.bits.ok))
+    c.iter.ensures.least c.iter.ensures.most (omega (arith, c.self.invariant))

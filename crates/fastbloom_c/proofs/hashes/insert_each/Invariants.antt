@@ -1,14 +1,14 @@
-use Rattle.std.proofs.Common.{◌≡◌, ◌*◌, ◌||◌, ℕ, length, max, take}
+use Rattle.std.proofs.Common.{◌≡◌, ◌*◌, ◌||◌, ℕ, length, take}
 use Rattle.std.specs.List.{list_any}
 use Rattle.bloom_parts.specs.Content.{content}
 use Rattle.bloom_parts.specs.Places.{positions}
-use Rattle.fastbloom_c.proofs.hashes.fastbloom_insert_hashes.Given as goal
+use Rattle.fastbloom_c.proofs.hashes.insert_each.Given as goal
 
 -- the positions of the hashes so far were turned on
 abbrev pub invariant-hashes : goal.invariant-hashes
 invariant-hashes l = record {
   content : (p : ℕ) → content l.words p ≡ (content l.fn.words p || list_any
-      (λ hash. positions (64 * length l.fn.words) (max 1 l.fn.num_hashes) hash p)
+      (λ hash. positions (64 * length l.fn.words) l.fn.num_hashes hash p)
       (take l.hash-index l.hashes));
   shape : length l.words ≡ length l.fn.words;
 }
