@@ -1,14 +1,14 @@
 //! Filters as JSON text, in files and on writers.
-ghost use Rattle.std.specs.Prelude.{IfOk};
-ghost use Rattle.summaries.specs.Answers.{IsKeyed};
+ghost use Rattle.std.specs.Prelude.{IfOk, ⊤};
+ghost use Rattle.summaries_engine.specs.Answers.{IsKeyed};
 
-use crate::shards::Shelf;
 use anyhow::Context;
 use fastbloom::{BloomFilter, FilterData};
 use std::alloc::Global;
 use std::fs;
 use std::io::Write;
 use std::rt::Files;
+use summaries_engine::Shelf;
 
 /// The filter of a text.
 ///
@@ -28,6 +28,9 @@ pub struct Disk<'a, R> {
 }
 
 impl<'a, R: Files + AllocGlobal> Shelf for Disk<'a, R> {
+    // What files hold is known to no contract.
+    ghost has = { λ disk name filter. ⊤ };
+
     fn load(&self, name: &str) -> anyhow::Result<BloomFilter> {
         let text = fs::read_to_string(self.rt, name).context(format_args!(
             "{name}: it can't be read"

@@ -2,24 +2,21 @@
 #![tactic(auto)]
 
 mod command_line;
-mod engine;
 mod form;
-mod shards;
 #[cfg(test)]
 mod tests;
 
 use anyhow::{Context, bail};
 use clap::ArgMatches;
 use command_line::{BITS, FILTER, HASHES, WORKERS, command};
-use engine::{ask, build};
 use fastbloom::Shape;
 use form::Disk;
-use shards::{Shelf, unite_named};
 use std::alloc::Global;
 use std::io::{BufWriter, Write};
 use std::process::ExitCode;
 use std::rt::{Env, Files};
 use std::thread::Threads;
+use summaries_engine::{Shelf, ask, build, unite_named};
 
 fn run_build<R: Input + Print + AllocGlobal + Threads>(
     rt: &R,

@@ -1,15 +1,16 @@
 //! What no contract says: text, faults of readers and writers, and answers from outside.
+ghost use Rattle.std.specs.Prelude.{⊤};
+
 mod broken;
 mod words;
 
-use crate::engine::{ask, build};
 use crate::form::{filter_of, put};
-use crate::shards::{Shelf, unite_named};
 use anyhow::{Context, bail};
 use fastbloom::{BloomFilter, Shape};
 use std::alloc::Global;
 use std::test::Fail;
 use std::thread::Threads;
+use summaries_engine::{Shelf, ask, build, unite_named};
 
 // The text of the filter of these keys.
 fn built<R: Threads>(
@@ -42,6 +43,8 @@ struct Texts<'a> {
 }
 
 impl<'a> Shelf for Texts<'a> {
+    ghost has = { λ texts name filter. ⊤ };
+
     fn load(&self, name: &str) -> anyhow::Result<BloomFilter> {
         for (known, text) in self.texts {
             if *known == name {
@@ -93,10 +96,11 @@ fn keys_are_built_whoever_works(rt: HostRuntime) -> Result<(), Fail> {
 fn a_longer_list_is_built(rt: HostRuntime) -> Result<(), Fail> {
     let keys = b"0\n1\n2\n3\n4\n5\n6\n7\n8\n9\n";
     let made = built(&rt, rt.alloc(), keys, Shape::new(65, 3)?, 4)?;
-    assert_eq!(rt;
-        made.as_str(),
-        r#"{"bits":{"bits":[146516737561469954,1621647719239843848]},"num_hashes_minus_one":2,"k0":0,"k1":0}"#
-    );
+    let bits = "146516737561469954,1621647719239843848";
+    let text = format!(in rt.alloc();
+        r#"{{"bits":{{"bits":[{bits}]}},"num_hashes_minus_one":2,"k0":0,"k1":0}}"#
+    )?;
+    assert_eq!(rt; made.as_str(), text.as_str());
     Ok(())
 }
 

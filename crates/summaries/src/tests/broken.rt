@@ -1,12 +1,12 @@
 //! Readers that fail, keys that are too long, and writers that fail after each byte.
 use super::{A, BOTH, text_of};
-use crate::engine::{ask, build};
 use crate::form::{filter_of, put};
 use fastbloom::Shape;
 use std::alloc::Global;
 use std::io;
 use std::io::{Read, Write};
 use std::test::Fail;
+use summaries_engine::{ask, build};
 
 // Gives at most three bytes a read, and fails at its end.
 #[derive(Drop)]

@@ -60,43 +60,41 @@ fn other_words_are_refused(rt: HostRuntime) -> Result<(), Fail> {
     Ok(())
 }
 
+// Words of a build, and the bits, hashes and workers that they name.
+const BUILDS: [(&[&str], u64, u32, u16); 3] = [
+    (&["summaries", "build", "--bits", "64"], 64, 7, 1),
+    (
+        &[
+            "summaries",
+            "build",
+            "--bits=1000000000000",
+            "--hashes=1000",
+            "--workers=1024",
+        ],
+        1_000_000_000_000,
+        1000,
+        1024,
+    ),
+    (
+        &[
+            "summaries",
+            "build",
+            "--workers",
+            "1",
+            "--bits",
+            "1",
+            "--hashes",
+            "1",
+        ],
+        1,
+        1,
+        1,
+    ),
+];
+
 #[test]
 fn build_has_its_numbers(rt: HostRuntime) -> Result<(), Fail> {
-    for (words, bits, hashes, workers) in [
-        (
-            ["summaries", "build", "--bits", "64"].as_slice(),
-            64u64,
-            7u32,
-            1u16,
-        ),
-        (
-            &[
-                "summaries",
-                "build",
-                "--bits=1000000000000",
-                "--hashes=1000",
-                "--workers=1024",
-            ],
-            1_000_000_000_000,
-            1000,
-            1024,
-        ),
-        (
-            &[
-                "summaries",
-                "build",
-                "--workers",
-                "1",
-                "--bits",
-                "1",
-                "--hashes",
-                "1",
-            ],
-            1,
-            1,
-            1,
-        ),
-    ] {
+    for (words, bits, hashes, workers) in BUILDS {
         let matches = command(rt.alloc())?.try_get_matches_from(words)?;
         let Some(("build", matches)) = matches.subcommand() else {
             return Err(Fail::from("no build"));

@@ -1,7 +1,0 @@
-use Rattle.summaries.proofs.KeyLemmas.{IsHashing}
-use Rattle.summaries.proofs.engine.keys.hashes_of.Given as goal
-
--- the keys so far were hashed
-abbrev pub invariant-keys : goal.invariant-keys
-invariant-keys g l =
-    IsHashing (g.I.Read.remaining l.fn.input) l.lines (g.I.Read.remaining l.input) l.hashes.items

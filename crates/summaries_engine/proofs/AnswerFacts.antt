@@ -1,0 +1,99 @@
+-- What is read of keys and written of answers: cases that hold, and some that nearly do. Key "a" is
+-- byte 97 and "b" byte 98; among 64 bits and with two hashes 268500992 is the word of "a" alone.
+use Rattle.std.proofs.Common.{◌≡◌, ℕ, Bool, true, false, ◌*◌, List, [], ◌∷◌, length, map, Some, refl, sym, ap, ◌∙◌, arith}
+use Rattle.std.proofs.lemmas.List.{length-map}
+use Rattle.bloom_parts.specs.Chain.{chain}
+use Rattle.bloom_parts.specs.Content.{content}
+use Rattle.bloom_parts.specs.Keys.{key_of}
+use Rattle.bloom_parts.specs.Places.{are_in}
+use Rattle.bloom_parts.specs.Sip.{sip, start, round, absorb, answer, whole_words, rest}
+use Rattle.fastbloom.specs.Data.{DefaultFilter}
+use Rattle.fastbloom.specs.Filter.{contains}
+use Rattle.lines.specs.Lines.{lines_of}
+use Rattle.summaries_engine.specs.Answers.{IsKeyed, HashesAll, found_text, AnswersAll}
+use Rattle.summaries_engine.specs.Summaries.{hash_in}
+use Rattle.summaries_engine.proofs.SummaryFacts.{IsFilter, hash-a, hash-b, hash-in}
+
+-- the hashes of "a" and "b", of which the last has no end
+hashes-both : HashesAll (Some (97 ∷ 10 ∷ 98 ∷ [])) (Some [])
+    (0x4074_48d2_b89b_1813 ∷ 0x8b22_cf26_02fb_60ce ∷ [])
+unfolding lines_of
+hashes-both = record {
+  keys = (97 ∷ []) ∷ (98 ∷ []) ∷ [];
+  whole = record { are_lines = refl; none_left = refl };
+  hashed = ap (λ h. h ∷ 0x8b22_cf26_02fb_60ce ∷ []) (sym hash-a)
+      ∙ ap (λ h. sip 0 0 (97 ∷ []) ∷ h ∷ []) (sym hash-b);
+}
+
+-- not where one is left out
+hashes-less : HashesAll (Some (97 ∷ 10 ∷ 98 ∷ [])) (Some []) (0x4074_48d2_b89b_1813 ∷ []) → ⊥
+unfolding lines_of
+hashes-less did = none did.keys did.whole.are_lines did.hashed
+  where
+    none : (keys : List (List ℕ)) → (97 ∷ []) ∷ (98 ∷ []) ∷ [] ≡ keys
+        → 0x4074_48d2_b89b_1813 ∷ [] ≡ map (sip 0 0) keys → ⊥
+    none keys is hashed =
+        let wrong : 1 ≡ 2 = ap length hashed ∙ length-map keys (sip 0 0) ∙ ap length (sym is) in
+        omega (arith, wrong)
+
+-- nor where something is left to read
+hashes-left : HashesAll (Some (97 ∷ [])) (Some (98 ∷ [])) (0x4074_48d2_b89b_1813 ∷ []) → ⊥
+hashes-left did = cc (did.whole.none_left)
+
+-- whether the filter of "a" contains each
+found-a : (f : DefaultFilter) → IsFilter f 268500992 0 → contains f (hash_in f (97 ∷ [])) ≡ true
+unfolding content chain are_in
+found-a f is =
+    ap (contains f) (hash-in f 268500992 0 (97 ∷ []) is ∙ hash-a)
+    ∙ ap (λ w. are_in (64 * length w) f.hashes 0x4074_48d2_b89b_1813 (content w)) is.words
+    ∙ ap (λ k. are_in 64 k 0x4074_48d2_b89b_1813 (content (268500992 ∷ []))) is.hashes
+
+found-b : (f : DefaultFilter) → IsFilter f 268500992 0 → contains f (hash_in f (98 ∷ [])) ≡ false
+unfolding content chain are_in
+found-b f is =
+    ap (contains f) (hash-in f 268500992 0 (98 ∷ []) is ∙ hash-b)
+    ∙ ap (λ w. are_in (64 * length w) f.hashes 0x8b22_cf26_02fb_60ce (content w)) is.words
+    ∙ ap (λ k. are_in 64 k 0x8b22_cf26_02fb_60ce (content (268500992 ∷ []))) is.hashes
+
+-- of "b" and "a" the second is written, with an end
+text-a : (f : DefaultFilter) → IsFilter f 268500992 0
+    → found_text f ((98 ∷ []) ∷ (97 ∷ []) ∷ []) ≡ 97 ∷ 10 ∷ []
+text-a f is = rw (found-b f is, found-a f is) refl
+
+-- both keys were asked for
+answers-a : (f : DefaultFilter) → IsFilter f 268500992 0
+    → AnswersAll f (Some (98 ∷ 10 ∷ 97 ∷ 10 ∷ [])) (Some [])
+    (Some (5 ∷ [])) (Some (5 ∷ 97 ∷ 10 ∷ []))
+unfolding lines_of
+answers-a f is = record {
+  keys = (98 ∷ []) ∷ (97 ∷ []) ∷ [];
+  whole = record { are_lines = refl; none_left = refl };
+  text = ap (λ text. 5 ∷ text) (sym (text-a f is));
+}
+
+-- a key that is in may not be left out
+answers-less : (f : DefaultFilter) → IsFilter f 268500992 0
+    → AnswersAll f (Some (97 ∷ [])) (Some []) (Some []) (Some []) → ⊥
+unfolding lines_of
+answers-less f is did = none did.keys did.whole.are_lines did.text
+  where
+    written : (g : DefaultFilter) → IsFilter g 268500992 0
+        → found_text g ((97 ∷ []) ∷ []) ≡ 97 ∷ 10 ∷ []
+    written g has = rw (found-a g has) refl
+
+    none : (keys : List (List ℕ)) → (97 ∷ []) ∷ [] ≡ keys → [] ≡ found_text f keys → ⊥
+    none keys same text =
+        let wrong : 0 ≡ 2 =
+        ap length (text ∙ ap (found_text f) (sym same) ∙ written f is) in
+        omega (arith, wrong)
+
+-- a filter whose hasher has taken in nothing is keyed
+keyed : (f : DefaultFilter)
+    → f.hasher.hasher ≡ record { low = 3; high = 4; words = start 3 4; held = []; count = 0 }
+    → IsKeyed f
+unfolding whole_words rest
+keyed f is = rw is (record { low = refl; high = refl; words = refl; held = refl; count = refl })
+
+-- not one whose hasher has taken in a byte
+keyed-byte : (f : DefaultFilter) → f.hasher.hasher.count ≡ 1 → IsKeyed f → ⊥
+keyed-byte f is has = omega (arith, is, has.count)

@@ -1,0 +1,130 @@
+-- Keys read one after the other, with what was made of them so far.
+use Rattle.std.proofs.Common.{◌≡◌, ℕ, Bool, true, false, List, [], ◌∷◌, ◌++◌, map, filter, flat_map, Option, Some, None, refl, sym, subst, ◌∙◌, ap, append-nil, append_assoc}
+use Rattle.std.proofs.lemmas.List.{map-append}
+use Rattle.std.proofs.lemmas.Grind.{flat_map-append}
+use Rattle.std.proofs.lemmas.List.Elements.{filter-append}
+use Rattle.std.proofs.KnownBytes.{Appends-nil, Appends-trans}
+use Rattle.std.specs.Io.KnownBytes.{Appends}
+use Rattle.bloom_parts.specs.Sip.{sip}
+use Rattle.fastbloom.specs.Data.{DefaultFilter}
+use Rattle.fastbloom.specs.Filter.{contains}
+use Rattle.lines.specs.Reading.{Waiting, KnowsEnd, TakesShort, Ends, left_of}
+use Rattle.lines.proofs.TakenLemmas.{TakesLines, TakesLines-nil, TakesLines-more, IsReadWhole-from}
+use Rattle.summaries_engine.specs.Answers.{HashesAll, AnswersAll, found_text}
+use Rattle.summaries_engine.specs.Summaries.{hash_in}
+
+-- these keys were read so far
+pub record HasRead (read : Option (List ℕ)) (reader : Waiting) (left : Option (List ℕ))
+    (keys : List (List ℕ)) : Type 0 where
+  pub taken : TakesLines read (left_of reader left) keys
+  pub knows : KnowsEnd reader.ended left
+
+-- none
+pub read-none : (read : Option (List ℕ)) (reader : Waiting) → reader.bytes ≡ []
+    → reader.ended ≡ false → HasRead read reader read []
+read-none read reader empty opened = record {
+  taken = TakesLines-nil reader.bytes read empty;
+  knows = λ told. let wrong : false ≡ true = sym opened ∙ told in cc;
+}
+
+-- one more
+pub read-next : {longest : ℕ} (read : Option (List ℕ)) (old new : Waiting)
+    (left rest : Option (List ℕ)) (keys : List (List ℕ)) → HasRead read old left keys
+    → TakesShort longest (left_of old left) (left_of new rest) new.line → KnowsEnd new.ended rest
+    → HasRead read new rest (keys ++ new.line ∷ [])
+read-next read old new left rest keys so_far next knows = record {
+  taken = TakesLines-more read (left_of old left) (left_of new rest) keys new.line
+      so_far.taken next.takes;
+  knows = knows;
+}
+
+-- their hashes
+pub record IsHashing (read : Option (List ℕ)) (reader : Waiting) (left : Option (List ℕ))
+    (hashes : List ℕ) : Type 0 where
+  pub keys : List (List ℕ)
+  pub has_read : HasRead read reader left keys
+  pub hashed : hashes ≡ map (sip 0 0) keys
+
+-- one hash more
+pub hashing-next : {longest : ℕ} (read : Option (List ℕ)) (old new : Waiting)
+    (left rest : Option (List ℕ)) (hashes more : List ℕ) (hash : ℕ)
+    → IsHashing read old left hashes
+    → TakesShort longest (left_of old left) (left_of new rest) new.line → KnowsEnd new.ended rest
+    → hash ≡ sip 0 0 new.line → more ≡ hashes ++ hash ∷ [] → IsHashing read new rest more
+hashing-next read old new left rest hashes more hash so_far next knows is made = record {
+  keys = so_far.keys ++ new.line ∷ [];
+  has_read = read-next read old new left rest so_far.keys so_far.has_read next knows;
+  hashed = made ∙ ap (λ l. l ++ hash ∷ []) so_far.hashed
+      ∙ ap (λ h. map (sip 0 0) so_far.keys ++ h ∷ []) is
+      ∙ sym (map-append (sip 0 0) so_far.keys (new.line ∷ []));
+}
+
+-- all of them
+pub hashing-end : (read : Option (List ℕ)) (old new : Waiting) (left rest : Option (List ℕ))
+    (hashes : List ℕ) → IsHashing read old left hashes
+    → Ends (left_of old left) (left_of new rest) → HashesAll read rest hashes
+hashing-end read old new left rest hashes so_far end = record {
+  keys = so_far.keys;
+  whole = IsReadWhole-from read (left_of old left) rest new.bytes so_far.keys
+      so_far.has_read.taken end;
+  hashed = so_far.hashed;
+}
+
+-- the text of one key more
+found_text-more : (f : DefaultFilter) (keys : List (List ℕ)) (key : List ℕ)
+    → found_text f (keys ++ key ∷ []) ≡ found_text f keys ++ found_text f (key ∷ [])
+found_text-more f keys key =
+    let is_found : List ℕ → Bool = λ k. contains f (hash_in f k) in
+    let line : List ℕ → List ℕ = λ k. k ++ 10 ∷ [] in
+    ap (flat_map line) (filter-append is_found keys (key ∷ []))
+    ∙ flat_map-append line (filter is_found keys) (filter is_found (key ∷ []))
+
+-- a key that is found is written with an end
+pub found_text-found : (f : DefaultFilter) (key : List ℕ) → contains f (hash_in f key) ≡ true
+    → found_text f (key ∷ []) ≡ key ++ 10 ∷ []
+found_text-found f key found = rw found (append-nil (key ++ 10 ∷ []))
+
+-- one that isn't writes nothing
+pub found_text-lost : (f : DefaultFilter) (key : List ℕ) → contains f (hash_in f key) ≡ false
+    → found_text f (key ∷ []) ≡ []
+found_text-lost f key lost = rw lost refl
+
+-- the keys so far were answered
+pub record IsAnswering (f : DefaultFilter) (read : Option (List ℕ)) (reader : Waiting)
+    (left from to : Option (List ℕ)) : Type 0 where
+  pub keys : List (List ℕ)
+  pub has_read : HasRead read reader left keys
+  pub text : Appends from to (found_text f keys)
+
+-- none
+pub answering-none : (f : DefaultFilter) (read : Option (List ℕ)) (reader : Waiting)
+    (from : Option (List ℕ)) → reader.bytes ≡ [] → reader.ended ≡ false
+    → IsAnswering f read reader read from from
+answering-none f read reader from empty opened = record {
+  keys = [];
+  has_read = read-none read reader empty opened;
+  text = Appends-nil from;
+}
+
+-- one more
+pub answering-next : {longest : ℕ} (f : DefaultFilter) (read : Option (List ℕ)) (old new : Waiting)
+    (left rest from to more : Option (List ℕ)) → IsAnswering f read old left from to
+    → TakesShort longest (left_of old left) (left_of new rest) new.line → KnowsEnd new.ended rest
+    → Appends to more (found_text f (new.line ∷ [])) → IsAnswering f read new rest from more
+answering-next f read old new left rest from to more so_far next knows one = record {
+  keys = so_far.keys ++ new.line ∷ [];
+  has_read = read-next read old new left rest so_far.keys so_far.has_read next knows;
+  text = subst (Appends from more) (sym (found_text-more f so_far.keys new.line))
+      (Appends-trans from to more _ _ so_far.text one);
+}
+
+-- all of them
+pub answering-end : (f : DefaultFilter) (read : Option (List ℕ)) (old new : Waiting)
+    (left rest from to : Option (List ℕ)) → IsAnswering f read old left from to
+    → Ends (left_of old left) (left_of new rest) → AnswersAll f read rest from to
+answering-end f read old new left rest from to so_far end = record {
+  keys = so_far.keys;
+  whole = IsReadWhole-from read (left_of old left) rest new.bytes so_far.keys
+      so_far.has_read.taken end;
+  text = so_far.text;
+}

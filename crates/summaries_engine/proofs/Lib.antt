@@ -1,0 +1,10 @@
+mod AnswerFacts
+mod KeyLemmas
+mod NamedFacts
+mod NamedLemmas
+mod RefusalFacts
+mod RefusalLemmas
+mod ShardLemmas
+mod SummaryFacts
+mod UnionFacts
+mod UnionLemmas

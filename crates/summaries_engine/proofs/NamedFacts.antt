@@ -1,0 +1,65 @@
+-- Filters that have names: cases that hold, and some that nearly do. Here a name has one byte, and
+-- under it lies what has so many hashes.
+use Rattle.std.proofs.Common.{◌≡◌, ℕ, List, [], ◌∷◌, Some, None, refl, sym, ap, ◌∙◌, arith}
+use Rattle.std.specs.Prelude.{Ok, Err}
+use Rattle.fastbloom.specs.Data.{DefaultFilter}
+use Rattle.summaries_engine.specs.Named.{Named, AreNamed, GivesNext}
+
+abbrev counted : Named
+counted name f = name ≡ f.hashes ∷ []
+
+-- two names, and their filters in order
+named-both : (f g : DefaultFilter) → f.hashes ≡ 2 → g.hashes ≡ 3
+    → AreNamed counted ((2 ∷ []) ∷ (3 ∷ []) ∷ []) (f ∷ g ∷ [])
+named-both f g two three =
+    (ap (λ n. n ∷ []) (sym two), (ap (λ n. n ∷ []) (sym three), tt))
+
+-- not in the other order
+named-crossed : (f g : DefaultFilter) → f.hashes ≡ 2 → g.hashes ≡ 3
+    → AreNamed counted ((2 ∷ []) ∷ (3 ∷ []) ∷ []) (g ∷ f ∷ []) → ⊥
+named-crossed f g two three are = first (are.0 ∙ ap (λ n. n ∷ []) three)
+  where
+    first : ◌≡◌ {A = List ℕ} (2 ∷ []) (3 ∷ []) → ⊥
+    first same = cc
+
+-- nor with a name left over, or a filter
+named-fewer : (f : DefaultFilter) → AreNamed counted ((2 ∷ []) ∷ (3 ∷ []) ∷ []) (f ∷ []) → ⊥
+named-fewer f are = are.1
+
+named-more : (f g : DefaultFilter) → AreNamed counted ((2 ∷ []) ∷ []) (f ∷ g ∷ []) → ⊥
+named-more f g are = are.1
+
+abbrev Gives : List (List ℕ) → List (List ℕ) → DefaultFilter → Type 0
+Gives from to f =
+    GivesNext {E = ℕ} (λ (_ : ℕ). counted) (λ (_ : List (List ℕ)). 0) (λ names. names) from
+      (Some (Ok f)) to
+
+-- the filter of the first name is given, and the other names are left
+gives-first : (f : DefaultFilter) → f.hashes ≡ 2
+    → Gives ((2 ∷ []) ∷ (3 ∷ []) ∷ []) ((3 ∷ []) ∷ []) f
+gives-first f two = (refl, (2 ∷ [], refl, ap (λ n. n ∷ []) (sym two)))
+
+-- not that of the second
+gives-second : (f : DefaultFilter) → f.hashes ≡ 3
+    → Gives ((2 ∷ []) ∷ (3 ∷ []) ∷ []) ((3 ∷ []) ∷ []) f → ⊥
+gives-second f three given = wrong given.1.0 given.1.1 given.1.2
+  where
+    wrong : (name : List ℕ) → (2 ∷ []) ∷ (3 ∷ []) ∷ [] ≡ name ∷ (3 ∷ []) ∷ []
+        → name ≡ f.hashes ∷ [] → ⊥
+    wrong name left is = cc
+
+-- nor does a name stay
+gives-again : (f : DefaultFilter) → Gives ((2 ∷ []) ∷ []) ((2 ∷ []) ∷ []) f → ⊥
+gives-again f given = wrong given.1.0 given.1.1
+  where
+    wrong : (name : List ℕ) → (2 ∷ []) ∷ [] ≡ name ∷ (2 ∷ []) ∷ [] → ⊥
+    wrong name left = cc
+
+-- nothing is given only where no name is left
+gives-none :
+    GivesNext {E = ℕ} (λ (_ : ℕ). counted) (λ (_ : List (List ℕ)). 0) (λ names. names)
+      ((2 ∷ []) ∷ []) None [] → ⊥
+gives-none given = wrong given.1.0
+  where
+    wrong : ◌≡◌ {A = List (List ℕ)} ((2 ∷ []) ∷ []) [] → ⊥
+    wrong nothing = cc

@@ -1,0 +1,87 @@
+-- The theorem of shards, by the laws of filled filters.
+use Rattle.std.proofs.Common.{◌≡◌, ℕ, ◌<◌, List, [], ◌∷◌, ◌++◌, length, map, get_or, refl, sym, subst, ◌∙◌, ap}
+use Rattle.std.specs.Prelude.{Ok, Result, Option, None}
+use Rattle.std.specs.Iterator.{Yields}
+use Rattle.std.specs.Iterator.Runs.{WholeRun}
+use Rattle.std.specs.List.{Contains}
+use Rattle.std.proofs.iter.runs.Made.{run_of_exit}
+use Rattle.std.proofs.lemmas.List.{length-map, get_or-map, get_or_default}
+use Rattle.bloom_parts.specs.Content.{AreWords}
+use Rattle.bloom_parts.specs.Keys.{key_of}
+use Rattle.bloom_parts.specs.Sip.{sip}
+use Rattle.bloom_parts.specs.declared.hasher.CloneBuildHasher.{CloneBuildHasher}
+use Rattle.bloom_parts.specs.declared.hasher.sip.RandomDefaultHasher.{RandomDefaultHasher}
+use Rattle.fastbloom.specs.Data.{DefaultFilter}
+use Rattle.fastbloom.specs.Fill.{HaveSameHashes, IsFilledWith, AnyCuttingLaw, FilledContainsLaw}
+use Rattle.fastbloom.specs.Laws.{EqualityLaw}
+use Rattle.summaries_engine.specs.Summaries.{hash_in, joined, HaveSameKeys, IsUnionOf, UnitesShards, UnitesGiven}
+use Rattle.summaries_engine.proofs.UnionLemmas.{summary-joined}
+
+module _ (hash : List ℕ → ℕ) where
+  -- the hash of a key of a list is a hash of the list
+  pub hash-of-key : (keys : List (List ℕ)) (key : List ℕ) → Contains keys key
+      → Contains (map hash keys) (hash key)
+  hash-of-key keys key given = (
+    given.0,
+    subst (λ n. given.0 < n) (sym (length-map keys hash)) given.1,
+    get_or-map hash keys given.0 key (hash key) given.1 ∙ ap hash given.2,
+  )
+
+  -- a hash of the list is the hash of a key of it
+  key-of-hash : (keys : List (List ℕ)) (h : ℕ) → Contains (map hash keys) h
+      → (key : List ℕ) × Contains keys key × (hash key ≡ h)
+  key-of-hash keys h given =
+      let within : given.0 < length keys =
+      subst (λ n. given.0 < n) (length-map keys hash) given.1 in
+      let key = get_or keys given.0 [] in (
+        key,
+        (given.0, within, get_or_default keys given.0 key [] within),
+        sym (get_or-map hash keys given.0 [] h within) ∙ given.2,
+      )
+
+  -- lists of the same keys have the same hashes
+  hashes-same : (keys others : List (List ℕ)) → HaveSameKeys keys others
+      → HaveSameHashes (map hash keys) (map hash others)
+  hashes-same keys others same h = (
+    λ given. let one = key-of-hash keys h given in
+        subst (Contains (map hash others)) one.2
+        (hash-of-key others one.0 ((same one.0).0 one.1)),
+    λ given. let one = key-of-hash others h given in
+        subst (Contains (map hash keys)) one.2
+        (hash-of-key keys one.0 ((same one.0).1 one.1)),
+  )
+
+-- the hashers of default filters
+abbrev Builder : Type 0
+Builder = CloneBuildHasher RandomDefaultHasher
+
+-- the union of filters has all that is said of it
+pub unites-shards : (first : DefaultFilter) (others : List DefaultFilter) (made : DefaultFilter)
+    → EqualityLaw Builder → AnyCuttingLaw Builder → FilledContainsLaw Builder
+    → AreWords made.words → IsUnionOf (first ∷ others) made → UnitesShards (first ∷ others) made
+unites-shards first others made equality cutting contains_all words union = record {
+  union = union;
+  summary = λ shape parts each. summary-joined shape made first others parts each union;
+  same = λ shape parts keys whole each filled fit key same.
+      let hash = hash_in made in
+      let as_made : IsFilledWith shape (map hash keys) whole =
+      subst (λ pair. IsFilledWith shape (map (sip pair.0 pair.1) keys) whole) key filled in
+      (equality made whole).0
+      (cutting shape made whole (map hash (joined parts)) (map hash keys) words fit
+      (summary-joined shape made first others parts each union) as_made
+      (hashes-same hash (joined parts) keys same));
+  found = λ shape parts key each given.
+      contains_all shape made (map (hash_in made) (joined parts)) (hash_in made key)
+      (summary-joined shape made first others parts each union)
+      (hash-of-key (hash_in made) (joined parts) key given);
+}
+
+-- when the iterator has ended, those were all filters
+pub unites-whole : {I E : Type 0} (steps : I → Option (Result DefaultFilter E) → I → Type 0)
+    (start last end : I) (first : DefaultFilter) (items : List (Result DefaultFilter E))
+    (made : DefaultFilter) → Yields steps start items last → steps last None end
+    → UnitesGiven first items made
+    → WholeRun steps start (λ run. UnitesGiven first run.items made)
+unites-whole steps start last end first items made came ended did =
+    let run = run_of_exit steps start items last came end ended in
+    (run.0, run.1, run.2, subst (λ l. UnitesGiven first l made) (sym run.3.0) did)

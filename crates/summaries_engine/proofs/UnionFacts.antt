@@ -1,0 +1,106 @@
+-- Unions of summaries, at values from outside: cases that hold, and some that nearly do. Among 64
+-- bits and with two hashes 268500992 is the word of key "a" alone, and 281492156579840 that of "b".
+use Rattle.std.proofs.Common.{◌≡◌, ◌⊎◌, inl, inr, ℕ, true, false, ◌||◌, List, [], ◌∷◌, length, map, refl, sym, ap, ◌∙◌, arith, lit<}
+use Rattle.std.specs.Prelude.{Ok, Err}
+use Rattle.std.specs.List.{Contains}
+use Rattle.std.proofs.lemmas.Grind.{common_steps}
+use Rattle.std.proofs.lemmas.List.Elements.{All-from_recursion, All-head}
+use Rattle.bloom_parts.specs.Content.{content}
+use Rattle.bloom_parts.specs.Keys.{key_of}
+use Rattle.bloom_plain.proofs.CaseLemmas.{content-case, content-past}
+use Rattle.fastbloom.specs.Data.{DefaultFilter}
+use Rattle.fastbloom.specs.Filter.{SameShape}
+use Rattle.summaries_engine.specs.Summaries.{HaveSameKeys, HaveSameKey, IsUnionOf, UnitesGiven}
+use Rattle.summaries_engine.proofs.SummaryFacts.{IsFilter}
+
+-- the union of both
+union-both : (f g made : DefaultFilter) → IsFilter f 268500992 0 → IsFilter g 281492156579840 0
+    → IsFilter made 281492425080832 0 → IsUnionOf (f ∷ g ∷ []) made
+unfolding content
+union-both f g made one other is = record {
+  bits = λ p.
+      ap (λ w. content w p) is.words
+      ∙ content-case (281492425080832 ∷ [])
+      (λ q. content (268500992 ∷ []) q || (content (281492156579840 ∷ []) q || false)) refl
+      (λ q past. ap (λ b. b || (content (281492156579840 ∷ []) q || false))
+      (content-past (268500992 ∷ []) q past)
+      ∙ ap (λ b. b || false) (content-past (281492156579840 ∷ []) q past)) p
+      ∙ ap (λ w. content w p || (content (281492156579840 ∷ []) p || false)) (sym one.words)
+      ∙ ap (λ w. content f.words p || (content w p || false)) (sym other.words);
+  shape = All-from_recursion (SameShape made) (f ∷ g ∷ []) (
+    record {
+      words = ap length is.words ∙ ap length (sym one.words);
+      hashes = is.hashes ∙ sym one.hashes;
+    },
+    (
+      record {
+        words = ap length is.words ∙ ap length (sym other.words);
+        hashes = is.hashes ∙ sym other.hashes;
+      },
+      tt,
+    ),
+  );
+  key = All-from_recursion (HaveSameKey made) (f ∷ g ∷ [])
+      (is.key ∙ sym one.key, (is.key ∙ sym other.key, tt));
+}
+
+-- not where a filter was left out
+union-less : (f g made : DefaultFilter) → IsFilter f 268500992 0 → IsFilter g 281492156579840 0
+    → IsFilter made 268500992 0 → IsUnionOf (f ∷ g ∷ []) made → ⊥
+unfolding content
+union-less f g made one other is did =
+    let wrong : false ≡ true =
+    ap (λ w. content w 34) (sym is.words) ∙ did.bits 34
+    ∙ ap (λ w. content w 34 || (content g.words 34 || false)) one.words
+    ∙ ap (λ w. content (268500992 ∷ []) 34 || (content w 34 || false)) other.words in cc
+
+-- nor is the intersection, which is empty
+union-none : (f g made : DefaultFilter) → IsFilter f 268500992 0 → IsFilter g 281492156579840 0
+    → IsFilter made 0 0 → IsUnionOf (f ∷ g ∷ []) made → ⊥
+unfolding content
+union-none f g made one other is did =
+    let wrong : false ≡ true =
+    ap (λ w. content w 16) (sym is.words) ∙ did.bits 16
+    ∙ ap (λ w. content w 16 || (content g.words 16 || false)) one.words in cc
+
+-- nor is one under another key
+union-keyed : (f made : DefaultFilter) → IsFilter f 268500992 0 → IsFilter made 268500992 1
+    → IsUnionOf (f ∷ []) made → ⊥
+union-keyed f made one is did =
+    let wrong : 1 ≡ 0 =
+    ap (λ pair. pair.0) (sym is.key ∙ All-head (HaveSameKey made) f [] did.key ∙ one.key) in
+    omega (arith, wrong)
+
+-- the order makes no difference, nor does a key that comes twice
+same-keys : HaveSameKeys ((97 ∷ []) ∷ (98 ∷ []) ∷ (97 ∷ []) ∷ []) ((98 ∷ []) ∷ (97 ∷ []) ∷ [])
+same-keys key = (
+  λ w. elim (of-three w) [
+    | inl one ↦ (1, lit< tt, sym one)
+    | inr other ↦ (0, lit< tt, sym other)
+  ],
+  λ w. elim (of-two w) [
+    | inl other ↦ (1, lit< tt, sym other)
+    | inr one ↦ (0, lit< tt, sym one)
+  ],
+)
+  where
+    of-three : Contains ((97 ∷ []) ∷ (98 ∷ []) ∷ (97 ∷ []) ∷ []) key
+        → (key ≡ 97 ∷ []) ⊎ (key ≡ 98 ∷ [])
+    of-three w = grind (arith, common_steps, w.1, w.2)
+
+    of-two : Contains ((98 ∷ []) ∷ (97 ∷ []) ∷ []) key → (key ≡ 98 ∷ []) ⊎ (key ≡ 97 ∷ [])
+    of-two w = grind (arith, common_steps, w.1, w.2)
+
+-- a key that comes in one alone does
+other-keys : HaveSameKeys ((97 ∷ []) ∷ (98 ∷ []) ∷ []) ((97 ∷ []) ∷ []) → ⊥
+other-keys same =
+    let there = (same (98 ∷ [])).0 (1, lit< tt, refl) in
+    grind (arith, common_steps, there.1, there.2)
+
+-- a filter that wasn't read isn't among those united
+not-read : (f made : DefaultFilter) (error : ℕ) → UnitesGiven f (Err error ∷ []) made → ⊥
+not-read f made error did = none did.others did.all_read
+  where
+    none : (others : List DefaultFilter) → (Err error ∷ []) ≡ map Ok others → ⊥
+    none [] is = cc
+    none (g ∷ others) is = cc

@@ -1,0 +1,8 @@
+use Rattle.summaries_engine.proofs.KeyLemmas.{IsAnswering}
+use Rattle.summaries_engine.proofs.answers.ask.Given as goal
+
+-- the keys so far were answered
+abbrev pub invariant-keys : goal.invariant-keys
+invariant-keys g l =
+    IsAnswering l.filter (g.I.Read.remaining l.fn.input) l.lines (g.I.Read.remaining l.input)
+    (g.O.Write.contents l.fn.output) (g.O.Write.contents l.output)

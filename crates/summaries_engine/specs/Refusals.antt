@@ -1,0 +1,40 @@
+-- Why filters weren't united. The number of a filter is its place behind the first, and stays at
+-- 2^64 - 1. This project's own.
+use Rattle.std.specs.Prelude.{◌≡◌, ℕ, ◌+◌, ◌-◌, ◌^◌, min, List, [], ◌∷◌, ◌++◌, length, map, Ok, Err, Result, Option}
+use Rattle.std.specs.Iterator.{Yields}
+use Rattle.fastbloom.specs.Data.{DefaultFilter}
+use Rattle.fastbloom.specs.Filter.{SameShape}
+use Rattle.summaries_engine.specs.declared.unions.Difference.{Difference}
+use Rattle.summaries_engine.specs.declared.unions.Difference.TheVariants as difference
+use Rattle.summaries_engine.specs.declared.unions.Refusal.{Refusal}
+use Rattle.summaries_engine.specs.declared.unions.Refusal.TheVariants.{Unread, Differs}
+use Rattle.summaries_engine.specs.Summaries.{HaveSameKey}
+
+-- a filter differs from the first in this
+abbrev pub DiffersBy : DefaultFilter → DefaultFilter → Difference → Type 0
+DiffersBy first f difference.Shape = SameShape first f → ⊥
+DiffersBy first f difference.Key = HaveSameKey first f → ⊥
+
+-- the last of what was given is the filter of this number, and differs from the first
+pub record IsMisfit {E : Type 0} (first : DefaultFilter) (given : List (Result DefaultFilter E))
+    (number : ℕ) (how : Difference) : Type 0 where
+  pub others : List DefaultFilter
+  pub shard : DefaultFilter
+  pub came : given ≡ map Ok others ++ Ok shard ∷ []
+  pub differs : DiffersBy first shard how
+  pub counted : number ≡ min (length others + 1) (2 ^ 64 - 1)
+
+-- the last of what was given is the error, or the filter that differs
+abbrev pub IsRefusedFor : {E : Type 0} → DefaultFilter → List (Result DefaultFilter E)
+    → Refusal E → Type 0
+IsRefusedFor first given (Unread error) =
+    (others : List DefaultFilter) × (given ≡ map Ok others ++ Err error ∷ [])
+IsRefusedFor first given (Differs number how) = IsMisfit first given number how
+
+-- an iterator gave such a list, and was asked for no more
+pub record StopsAt {I E : Type 0} (steps : I → Option (Result DefaultFilter E) → I → Type 0)
+    (start : I) (first : DefaultFilter) (refusal : Refusal E) : Type 0 where
+  pub given : List (Result DefaultFilter E)
+  pub end : I
+  pub came : Yields steps start given end
+  pub refused : IsRefusedFor first given refusal

@@ -1,0 +1,79 @@
+//! Filters that have names, as files do, and their union.
+ghost use Rattle.std.specs.Prelude.{map, IfOk};
+ghost use Rattle.std.specs.Iterator.{item_count};
+ghost use Rattle.summaries_engine.specs.Answers.{IsKeyed};
+ghost use Rattle.summaries_engine.specs.Named.{AreNamed, GivesNext};
+ghost use Rattle.summaries_engine.specs.Summaries.{UnitesShards};
+
+use crate::unions::{Difference, Refusal, unite};
+use anyhow::{Context, anyhow};
+use fastbloom::BloomFilter;
+use std::slice;
+
+/// Where filters lie under names.
+pub trait Shelf {
+    ghost use Rattle.std.specs.Prelude.{ℕ, List};
+    ghost use Rattle.fastbloom.specs.Data.{DefaultFilter};
+
+    /// Which filters lie under which names.
+    ghost has: { Self → List ℕ → DefaultFilter → Type 0 };
+
+    /// The filter of this name, which each error tells.
+    fn load(&self, name: &str) -> anyhow::Result<BloomFilter>
+        ensures keyed { IfOk result IsKeyed }
+        ensures named { IfOk result (has self.now name.now) };
+}
+
+// The filters of names, each loaded when it is asked for.
+#[derive(Drop)]
+struct Shards<'a, 'n, S> {
+    shelf: &'a S,
+    names: slice::Iter<'a, &'n str>,
+}
+
+impl<'a, 'n, S: Shelf> Iterator for Shards<'a, 'n, S> {
+    type Item = anyhow::Result<BloomFilter>;
+
+    ghost next_gives = { GivesNext S.has (λ shards. shards.shelf.now)
+        (λ shards. map (λ name. name.now) shards.names.rest.now) };
+
+    ghost remaining = { item_count (λ shards. shards.names.rest.now) };
+
+    fn next(&mut self) -> Option<anyhow::Result<BloomFilter>> {
+        let name = self.names.next()?;
+        Some(self.shelf.load(name))
+    }
+}
+
+// Why a filter doesn't fit the first, with the names of both.
+fn misfit(names: &[&str], number: usize, how: Difference) -> anyhow::Error {
+    let first = names.first().copied().unwrap_or("?");
+    let name = names.get(number).copied().unwrap_or("?");
+    match how {
+        Difference::Shape => anyhow!("{name}: its shape isn't that of {first}"),
+        Difference::Key => anyhow!("{name}: its key isn't that of {first}"),
+    }
+}
+
+/// The union of the filters of these names. At most two are in memory at once.
+///
+/// # Errors
+/// At the first name whose filter can't be loaded, or has another shape or key than the first.
+pub fn unite_named<S: Shelf>(shelf: &S, names: &[&str]) -> anyhow::Result<BloomFilter>
+    // One filter lies under each name, and this is their union, by the theorem of shards.
+    ensures { IfOk result (λ made. (filters : _)
+        × AreNamed (S.has shelf.now) (map (λ name. name.now) names.now) filters
+        × UnitesShards filters made) }
+{
+    let (name, others) = names.split_first().context("no filter was named")?;
+    let first = shelf.load(name)?;
+    let others = Shards {
+        shelf,
+        names: others.iter(),
+    };
+    match unite(first, others) {
+        Ok(filter) => Ok(filter),
+        Err(Refusal::Unread(error)) => Err(error),
+        Err(Refusal::Differs(number, how)) => Err(misfit(names, number, how)),
+    }
+}

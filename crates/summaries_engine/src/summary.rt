@@ -1,0 +1,59 @@
+//! The filter of all keys of a reader, filled by workers.
+ghost use Rattle.std.specs.Prelude.{◌≡◌, ◌<◌, IfOk, IfSome, map};
+ghost use Rattle.std.specs.List.{concat};
+ghost use Rattle.lines.specs.Lines.{lines_of};
+ghost use Rattle.summaries_engine.specs.Answers.{IsKeyed};
+ghost use Rattle.summaries_engine.specs.Summaries.{IsSummaryOf};
+
+use crate::keys::hashes_of;
+use fastbloom::{BloomFilter, FilterError, Gate, Shape, fill};
+use std::alloc::Global;
+use std::io::Read;
+use std::sync::Arc;
+use std::thread::Threads;
+
+// Lets every worker through at once.
+#[derive(Drop)]
+struct Open;
+
+impl Gate for Open {
+    fn pass(&self, _worker: usize) {}
+}
+
+// The hashes in parts of at most so many.
+fn cut(alloc: Global, hashes: &[u64], most: usize) -> Result<Vec<Vec<u64>>, FilterError>
+    requires { 0 < most }
+    ensures { IfOk result
+        (λ parts. concat (map (λ part. part.items) parts.items) ≡ hashes.now) }
+{
+    let mut parts = Vec::new(alloc);
+    'parts: for part in hashes.chunks(most) {
+        parts.push(part.to_vec(alloc)?)?;
+    }
+    Ok(parts)
+}
+
+/// The filter of all keys of a reader, under the zero key. At most so many workers fill it, each
+/// with a part of the keys and a filter of its own.
+///
+/// # Errors
+/// At the first key that is too long, where a read fails, where there is no room, and where a
+/// thread can't be started.
+pub fn build<R: Threads, I: Read>(
+    rt: &R,
+    alloc: Global,
+    shape: Shape,
+    workers: usize,
+    input: &mut I,
+) -> anyhow::Result<BloomFilter>
+    requires { 0 < workers }
+    ensures summary { IfOk result (λ filter. IfSome (I.remaining input.old)
+        (λ bytes. IsSummaryOf shape (lines_of bytes) filter)) }
+    ensures keyed { IfOk result IsKeyed }
+{
+    let hashes = hashes_of(alloc, input)?;
+    let most = hashes.len().div_ceil(workers).max(1);
+    let parts = cut(alloc, hashes.as_slice(), most)?;
+    drop(hashes);
+    Ok(fill(rt, alloc, Arc::new(alloc, Open)?, shape, parts)?)
+}
