@@ -1,12 +1,11 @@
 -- What is read of keys and written of answers: cases that hold, and some that nearly do. Key "a" is
 -- byte 97 and "b" byte 98; among 64 bits and with two hashes 268500992 is the word of "a" alone.
-use Rattle.std.proofs.Common.{◌≡◌, ℕ, Bool, true, false, ◌*◌, List, [], ◌∷◌, length, map, Some, refl, sym, ap, ◌∙◌, arith}
+use Rattle.std.proofs.Common.{◌≡◌, ℕ, true, false, ◌*◌, List, [], ◌∷◌, length, map, Some, refl, sym, ap, ◌∙◌, arith}
 use Rattle.std.proofs.lemmas.List.{length-map}
 use Rattle.bloom_parts.specs.Chain.{chain}
 use Rattle.bloom_parts.specs.Content.{content}
-use Rattle.bloom_parts.specs.Keys.{key_of}
 use Rattle.bloom_parts.specs.Places.{are_in}
-use Rattle.bloom_parts.specs.Sip.{sip, start, round, absorb, answer, whole_words, rest}
+use Rattle.bloom_parts.specs.Sip.{sip, start, whole_words, rest}
 use Rattle.fastbloom.specs.Data.{DefaultFilter}
 use Rattle.fastbloom.specs.Filter.{contains}
 use Rattle.lines.specs.Lines.{lines_of}

@@ -1,7 +1,7 @@
 -- Filters that have names: cases that hold, and some that nearly do. Here a name has one byte, and
 -- under it lies what has so many hashes.
-use Rattle.std.proofs.Common.{◌≡◌, ℕ, List, [], ◌∷◌, Some, None, refl, sym, ap, ◌∙◌, arith}
-use Rattle.std.specs.Prelude.{Ok, Err}
+use Rattle.std.proofs.Common.{◌≡◌, ℕ, List, [], ◌∷◌, Some, None, refl, sym, ap, ◌∙◌}
+use Rattle.std.specs.Prelude.{Ok}
 use Rattle.fastbloom.specs.Data.{DefaultFilter}
 use Rattle.summaries_engine.specs.Named.{Named, AreNamed, GivesNext}
 
@@ -32,7 +32,7 @@ named-more f g are = are.1
 abbrev Gives : List (List ℕ) → List (List ℕ) → DefaultFilter → Type 0
 Gives from to f =
     GivesNext {E = ℕ} (λ (_ : ℕ). counted) (λ (_ : List (List ℕ)). 0) (λ names. names) from
-      (Some (Ok f)) to
+    (Some (Ok f)) to
 
 -- the filter of the first name is given, and the other names are left
 gives-first : (f : DefaultFilter) → f.hashes ≡ 2
@@ -58,7 +58,7 @@ gives-again f given = wrong given.1.0 given.1.1
 -- nothing is given only where no name is left
 gives-none :
     GivesNext {E = ℕ} (λ (_ : ℕ). counted) (λ (_ : List (List ℕ)). 0) (λ names. names)
-      ((2 ∷ []) ∷ []) None [] → ⊥
+    ((2 ∷ []) ∷ []) None [] → ⊥
 gives-none given = wrong given.1.0
   where
     wrong : ◌≡◌ {A = List (List ℕ)} ((2 ∷ []) ∷ []) [] → ⊥

@@ -1,5 +1,5 @@
 -- Filters that an iterator over names gave.
-use Rattle.std.proofs.Common.{◌≡◌, ℕ, List, [], ◌∷◌, map, Ok, Some, None, refl, sym, subst}
+use Rattle.std.proofs.Common.{◌≡◌, ℕ, List, [], ◌∷◌, map, Ok, None, sym, subst}
 use Rattle.std.specs.Iterator.{Yields}
 use Rattle.std.specs.Iterator.Runs.{WholeRun, YieldsRun}
 use Rattle.fastbloom.specs.Data.{DefaultFilter}
@@ -28,23 +28,25 @@ module _ {I S : Type 0} (E : Type 0) (has : S → Named) (shelf : I → S)
       )
 
   -- so a first filter, and those of a whole run, have the first name and those that were left
-  pub named-run : (first made : DefaultFilter) (name : List ℕ) (start : I)
-      → has (shelf start) name first
+  pub named-run : (first made : DefaultFilter) (name : List ℕ) (start : I) (on : S)
+      (all : List (List ℕ)) → shelf start ≡ on → name ∷ names start ≡ all → has on name first
       → WholeRun (GivesNext {E = E} has shelf names) start
-        (λ run. UnitesGiven first run.items made)
-      → (filters : List DefaultFilter)
-        × AreNamed (has (shelf start)) (name ∷ names start) filters × UnitesShards filters made
+      (λ run. UnitesGiven first run.items made)
+      → (filters : List DefaultFilter) × AreNamed (has on) all filters × UnitesShards filters made
   unfolding YieldsRun
-  named-run first made name start here whole =
+  named-run first made name start on all there these here whole =
       let run = whole.0 in
       let given = whole.3 in
       let came = run.gave.0 in
       let ended = came.2 whole.2 in
       let listed =
       subst (λ items. Yields (GivesNext {E = E} has shelf names) run.from items came.0)
-          given.all_read came.1 in (
+      given.all_read came.1 in
+      let later =
+      subst (λ s. AreNamed (has (shelf s)) (names s) given.others) whole.1
+      (named-to-end given.others run.from came.0 ended.0 listed ended.1) in (
         first ∷ given.others,
-        (here, subst (λ s. AreNamed (has (shelf s)) (names s) given.others) whole.1
-          (named-to-end given.others run.from came.0 ended.0 listed ended.1)),
+        subst (λ l. AreNamed (has on) l (first ∷ given.others)) these
+            (here, subst (λ s. AreNamed (has s) (names start) given.others) there later),
         given.unites,
       )

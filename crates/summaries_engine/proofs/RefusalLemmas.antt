@@ -1,16 +1,18 @@
 -- Filters that aren't united.
 use Rattle.std.proofs.Common.{◌≡◌, ℕ, ◌+◌, min, arith, length, length-append, List, [], ◌∷◌, ◌++◌, Option, Some, refl, sym, subst, ◌∙◌}
+use Rattle.std.proofs.lemmas.List.Elements.{All-head}
 use Rattle.std.specs.Prelude.{Err, Result}
 use Rattle.std.specs.Iterator.{Yields}
 use Rattle.fastbloom.specs.Data.{DefaultFilter}
 use Rattle.fastbloom.specs.Filter.{SameShape}
 use Rattle.summaries_engine.specs.declared.unions.Difference.{Difference}
 use Rattle.summaries_engine.specs.declared.unions.Difference.TheVariants as difference
-use Rattle.summaries_engine.specs.Refusals.{DiffersBy}
-use Rattle.summaries_engine.specs.Summaries.{HaveSameKey}
+use Rattle.summaries_engine.specs.declared.unions.Refusal.{Refusal}
+use Rattle.summaries_engine.specs.Refusals.{DiffersBy, IsRefusedFor, StopsAt}
+use Rattle.summaries_engine.specs.Summaries.{HaveSameKey, IsUnionOf}
 
 -- one item more
-pub yields-more : {I X : Type 0} (steps : I → Option X → I → Type 0) (start last end : I)
+yields-more : {I X : Type 0} (steps : I → Option X → I → Type 0) (start last end : I)
     (items : List X) (item : X) → Yields steps start items last → steps last (Some item) end
     → Yields steps start (items ++ item ∷ []) end
 yields-more steps start last end [] item came next =
@@ -18,8 +20,21 @@ yields-more steps start last end [] item came next =
 yields-more steps start last end (x ∷ items) item came next =
     (came.0, came.1, yields-more steps came.0 last end items item came.2 next)
 
+-- where the item is the last that was asked for, it is what the refusal is about
+pub stops : {I E : Type 0} (steps : I → Option (Result DefaultFilter E) → I → Type 0)
+    (start last end : I) (items : List (Result DefaultFilter E)) (item : Result DefaultFilter E)
+    (first : DefaultFilter) (refusal : Refusal E) → Yields steps start items last
+    → steps last (Some item) end → IsRefusedFor first (items ++ item ∷ []) refusal
+    → StopsAt steps start first refusal
+stops steps start last end items item first refusal came next refused = record {
+  given = items ++ item ∷ [];
+  end = end;
+  came = yields-more steps start last end items item came next;
+  refused = refused;
+}
+
 -- what differs from the union so far differs from the first
-pub differs-from : (first whole shard : DefaultFilter) (how : Difference)
+differs-from : (first whole shard : DefaultFilter) (how : Difference)
     (answer : Result (Unit {0}) Difference) → answer ≡ Err how
     → (answer ≡ Err difference.Shape → SameShape whole shard → ⊥)
     → (answer ≡ Err difference.Key → HaveSameKey whole shard → ⊥)
@@ -28,6 +43,17 @@ differs-from first whole shard difference.Shape answer is shape key fits same = 
     shape is (record { words = fits.words ∙ has.words; hashes = fits.hashes ∙ has.hashes })
 differs-from first whole shard difference.Key answer is shape key fits same = λ has.
     key is (same ∙ has)
+
+-- so with the union of the first and others
+pub misfit-differs : (first whole shard : DefaultFilter) (others : List DefaultFilter)
+    (how : Difference) (answer : Result (Unit {0}) Difference) → answer ≡ Err how
+    → (answer ≡ Err difference.Shape → SameShape whole shard → ⊥)
+    → (answer ≡ Err difference.Key → HaveSameKey whole shard → ⊥)
+    → IsUnionOf (first ∷ others) whole → DiffersBy first shard how
+misfit-differs first whole shard others how answer is shape key union =
+    differs-from first whole shard how answer is shape key
+    (All-head (SameShape whole) first others union.shape)
+    (All-head (HaveSameKey whole) first others union.key)
 
 -- the count of one filter more
 pub counted-more : (most number next : ℕ) (others : List DefaultFilter) (shard : DefaultFilter)

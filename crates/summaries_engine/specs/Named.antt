@@ -19,4 +19,4 @@ abbrev pub GivesNext : {I S E : Type 0} → (S → Named) → (I → S) → (I �
     → I → Option (Result DefaultFilter E) → I → Type 0
 GivesNext has shelf names from given to = (shelf to ≡ shelf from)
     × MatchOption given ((names from ≡ []) × (names to ≡ []))
-      (λ read. (name : List ℕ) × (names from ≡ name ∷ names to) × IfOk read (has (shelf from) name))
+    (λ read. (name : List ℕ) × (names from ≡ name ∷ names to) × IfOk read (has (shelf from) name))

@@ -1,4 +1,4 @@
-use Rattle.std.proofs.Common.{◌≡◌, [], ◌∷◌, ap, ◌∙◌, append-nil}
+use Rattle.std.proofs.Common.{[], ◌∷◌, ap, ◌∙◌, append-nil}
 use Rattle.bloom_parts.specs.Hashed.{finish, write}
 use Rattle.bloom_parts.specs.Sip.{sip}
 use Rattle.summaries_engine.proofs.keys.hash_of.Goals as goal

@@ -1,4 +1,4 @@
-use Rattle.std.proofs.Common.{◌≡◌, [], Ok, ap, subst, ◌∙◌}
+use Rattle.std.proofs.Common.{[], Ok, ap, subst, ◌∙◌}
 use Rattle.std.specs.Prelude.{IfOk}
 use Rattle.bloom_parts.specs.Sip.{sip}
 use Rattle.lines.specs.Reading.{NextLine, left_of}

@@ -1,4 +1,4 @@
-use Rattle.std.proofs.Common.{◌≡◌, ◌++◌, ◌<◌, map, sym, subst, ap, ◌∙◌, append_assoc}
+use Rattle.std.proofs.Common.{◌++◌, ◌<◌, map, sym, subst, ap, ◌∙◌, append_assoc}
 use Rattle.std.specs.List.{concat}
 use Rattle.std.specs.Slice.Iter.{chunks_rest}
 use Rattle.fastbloom.proofs.FillLemmas.{concat-map-push}

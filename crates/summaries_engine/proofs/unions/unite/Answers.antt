@@ -1,10 +1,7 @@
-use Rattle.std.proofs.Common.{◌≡◌, ◌-◌, ◌^◌, [], ◌∷◌, ◌++◌, Ok, map, refl, sym, ap, ◌∙◌}
+use Rattle.std.proofs.Common.{◌-◌, ◌^◌, [], ◌∷◌, ◌++◌, Ok, map, refl, sym, ap, ◌∙◌}
 use Rattle.std.proofs.lemmas.List.{map-append}
-use Rattle.std.proofs.lemmas.List.Elements.{All-head}
-use Rattle.fastbloom.specs.Filter.{SameShape}
-use Rattle.summaries_engine.specs.Summaries.{HaveSameKey}
 use Rattle.summaries_engine.proofs.UnionLemmas.{union-first, union-next}
-use Rattle.summaries_engine.proofs.RefusalLemmas.{yields-more, differs-from, counted-more}
+use Rattle.summaries_engine.proofs.RefusalLemmas.{stops, misfit-differs, counted-more}
 use Rattle.summaries_engine.proofs.ShardLemmas.{unites-shards, unites-whole}
 use Rattle.summaries_engine.proofs.unions.unite.Goals as goal
 
@@ -52,17 +49,12 @@ returns-in-Err-clause-refused g c =
     let so_far = c.shards.invariant in (
       it.result,
       it.ensures.into_iter_gives,
-      record {
-        given = c.shards.yielded ++ c.in-Some.shard ∷ [];
-        end = c.next.new.self;
-        came = yields-more g.I.IntoIter.Iterator.next_gives _ _ _ c.shards.yielded
-            c.in-Some.shard c.shards.yielded_by c.in-Some.ensures.steps;
-        refused = (
-          so_far.0,
-          ap (λ l. l ++ c.in-Some.shard ∷ []) so_far.1
-              ∙ ap (λ s. map Ok so_far.0 ++ s ∷ []) c.in-Err.is,
-        );
-      },
+      stops g.I.IntoIter.Iterator.next_gives _ _ _ c.shards.yielded c.in-Some.shard c.args.first _
+          c.shards.yielded_by c.in-Some.ensures.steps (
+            so_far.0,
+            ap (λ l. l ++ c.in-Some.shard ∷ []) so_far.1
+                ∙ ap (λ s. map Ok so_far.0 ++ s ∷ []) c.in-Err.is,
+          ),
     )
 
 -- the last differs
@@ -70,25 +62,17 @@ pub returns-in-Err-add-clause-refused : goal.returns-in-Err-add-clause-refused
 returns-in-Err-add-clause-refused g c =
     let it = c.into_iter-shard-iterator in
     let so_far = c.shards.invariant in
-    let first = c.args.first in
     let whole = c.shards.whole in (
       it.result,
       it.ensures.into_iter_gives,
-      record {
-        given = c.shards.yielded ++ c.in-Some.shard ∷ [];
-        end = c.next.new.self;
-        came = yields-more g.I.IntoIter.Iterator.next_gives _ _ _ c.shards.yielded
-            c.in-Some.shard c.shards.yielded_by c.in-Some.ensures.steps;
-        refused = record {
-          others = so_far.0;
-          shard = c.in-Ok.shard;
-          came = ap (λ l. l ++ c.in-Some.shard ∷ []) so_far.1
-              ∙ ap (λ s. map Ok so_far.0 ++ s ∷ []) c.in-Ok.is;
-          differs = differs-from first whole c.in-Ok.shard c.in-Err-add.how c.add.result
-              c.in-Err-add.is c.add.ensures.shape c.add.ensures.other
-              (All-head (SameShape whole) first so_far.0 so_far.2.shape)
-              (All-head (HaveSameKey whole) first so_far.0 so_far.2.key);
-          counted = so_far.3;
-        };
-      },
+      stops g.I.IntoIter.Iterator.next_gives _ _ _ c.shards.yielded c.in-Some.shard c.args.first _
+          c.shards.yielded_by c.in-Some.ensures.steps (record {
+            others = so_far.0;
+            shard = c.in-Ok.shard;
+            came = ap (λ l. l ++ c.in-Some.shard ∷ []) so_far.1
+                ∙ ap (λ s. map Ok so_far.0 ++ s ∷ []) c.in-Ok.is;
+            differs = misfit-differs c.args.first whole c.in-Ok.shard so_far.0 c.in-Err-add.how
+                c.add.result c.in-Err-add.is c.add.ensures.shape c.add.ensures.other so_far.2;
+            counted = so_far.3;
+          }),
     )
