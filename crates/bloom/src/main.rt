@@ -4,17 +4,11 @@
 ghost use Rattle.std.specs.Prelude.{◌≡◌, ◌^◌, ◌≤◌, IfOk, IsOkUnless, max, replicate};
 ghost use Rattle.bloom_parts.specs.Keys.{HasKey};
 
-mod command_line;
-mod engine;
-mod fault;
-mod number;
 #[cfg(test)]
 mod tests;
 
-use command_line::{arguments, given_words};
-use engine::serve;
+use bloom_engine::{Fault, arguments, given_words, serve};
 use fastbloom::BloomFilter;
-use fault::Fault;
 use std::alloc::Global;
 use std::io::BufWriter;
 use std::process::ExitCode;

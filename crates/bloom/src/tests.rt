@@ -6,9 +6,7 @@ mod room;
 mod sessions;
 mod streams;
 
-use crate::command_line::{arguments, given_words};
-use crate::engine::serve;
-use crate::fault::Fault;
+use bloom_engine::{Fault, arguments, given_words, serve};
 use fastbloom::BloomFilter;
 use sessions::SESSIONS;
 use std::alloc::{AllocError, Global};

@@ -1,7 +1,6 @@
 //! Bad lines, byte by byte, and ends of the input after each byte.
 use super::filter_of;
-use crate::engine::serve;
-use crate::fault::Fault;
+use bloom_engine::{Fault, serve};
 use std::test::Fail;
 
 // Second lines, each of them bad: bytes 0 and 255, byte 13, tabs, signs, letters and spaces out of

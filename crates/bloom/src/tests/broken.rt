@@ -1,7 +1,6 @@
 //! Readers and writers that fail after each byte, and writers that take one byte at a time.
 use super::filter_of;
-use crate::engine::serve;
-use crate::fault::Fault;
+use bloom_engine::{Fault, serve};
 use std::io;
 use std::io::{Read, Write};
 use std::test::Fail;

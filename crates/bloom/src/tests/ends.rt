@@ -1,7 +1,6 @@
 //! Readers with an endless line, and with more after their end.
 use super::filter_of;
-use crate::engine::serve;
-use crate::fault::Fault;
+use bloom_engine::{Fault, serve};
 use std::cell::Cell;
 use std::io;
 use std::io::Read;

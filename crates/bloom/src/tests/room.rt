@@ -1,7 +1,6 @@
 //! A run whose own request for memory may be refused. Its reader and writer take none.
 use super::filter_of;
-use crate::engine::serve;
-use crate::fault::Fault;
+use bloom_engine::{Fault, serve};
 use std::io;
 use std::io::Write;
 use std::test::Fail;

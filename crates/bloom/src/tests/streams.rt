@@ -1,7 +1,6 @@
 //! Readers and writers that give pieces, fail, or wait for a flush.
 use super::filter_of;
-use crate::engine::serve;
-use crate::fault::Fault;
+use bloom_engine::{Fault, serve};
 use std::cell::Cell;
 use std::io;
 use std::io::{Read, Write};

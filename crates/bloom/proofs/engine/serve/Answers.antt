@@ -1,6 +1,0 @@
-use Rattle.bloom.proofs.ServedLemmas.{served_upto-kept}
-use Rattle.bloom.proofs.engine.serve.Goals as goal
-
-pub returns-clause-bad : goal.returns-clause-bad
-returns-clause-bad g c = λ n is.
-    served_upto-kept n _ _ _ _ _ _ _ (c.serve_lines-served.ensures.bad n is) c.flush.ensures.bytes

@@ -1,6 +1,0 @@
-use Rattle.bloom.proofs.HexLemmas.{HasDigits}
-use Rattle.bloom.proofs.engine.text.hex_line.Given as goal
-
--- the digits so far, and those to come
-abbrev pub invariant-digits : goal.invariant-digits
-invariant-digits l = HasDigits l.word l.at l.text

@@ -1,0 +1,135 @@
+-- The first line that isn't good.
+use Rattle.std.proofs.Common.{◌≡◌, ℕ, ◌<◌, Bool, true, false, cond, eqb, leb, List, [], ◌∷◌, ◌++◌, length, map, Option, Some, None, IfSome, refl, sym, ◌∙◌, ap, append_assoc, append-nil, length-append, arith, inl, inr, ◌⊎◌, subst}
+use Rattle.std.specs.Io.KnownBytes.{prepend_known}
+use Rattle.std.proofs.lemmas.Bool.{and_left, and_right, cond-false, lt-leb}
+use Rattle.bloom_engine.specs.declared.engine.line.Line.{Line}
+use Rattle.bloom_engine.specs.declared.engine.line_reader.Next.TheVariants as next
+use Rattle.lines.specs.Lines.{lines_of, has_no_end, IsEnded}
+use Rattle.lines.proofs.LineLemmas.{lines_of-front}
+use Rattle.lines.proofs.TakenLemmas.{nil-front, ended-before}
+use Rattle.bloom_engine.specs.Lines.{line_of, longest_line, number_of, is_number, value_of, numbered}
+use Rattle.bloom_engine.specs.Reading.{NextCommand}
+use Rattle.bloom_engine.specs.Served.{IsReadUpTo}
+use Rattle.bloom_engine.proofs.TakenLemmas.{TakesGood}
+
+-- no line is good that is longer than the longest
+line_of-long : (line : List ℕ) → longest_line < length line → line_of line ≡ None
+unfolding line_of number_of
+line_of-long [] long = absurd (omega arith)
+line_of-long (letter ∷ []) long = absurd (omega arith)
+line_of-long (letter ∷ (space ∷ text)) long =
+    let many : leb (length text) 20 ≡ false = lt-leb (length text) 20 (omega arith) in
+    let no_number : is_number text ≡ false =
+    and_left _ _ (and_left _ _ (and_right (leb 1 (length text)) _ many)) in
+    ap (λ o. cond (eqb space 32) (numbered letter o) None)
+    (cond-false (is_number text) (Some (value_of text)) None no_number)
+    ∙ same (eqb space 32)
+  where
+    same : (b : Bool) → cond {A = Option Line} b None None ≡ None
+    same true = refl
+    same false = refl
+
+-- a line that was taken is the first of what was left
+first-line : (taken rest text : List ℕ) → lines_of taken ≡ text ∷ [] → IsEnded taken ⊎ (rest ≡ [])
+    → (later : List (List ℕ)) × (lines_of (taken ++ rest) ≡ text ∷ later)
+first-line taken rest text is (inl ended) =
+    (lines_of rest, ended rest ∙ ap (λ l. l ++ lines_of rest) is)
+first-line taken rest text is (inr none) =
+    ([], ap lines_of (ap (λ l. taken ++ l) none ∙ append-nil taken) ∙ is)
+
+-- the good lines before, what was left after them, what was taken of it, the block, and what the
+-- reader has left
+module _ (before left taken block rest : List ℕ) (lines : List Line)
+    (all_good : map line_of (lines_of before) ≡ map Some lines)
+    (ended : IsEnded before) (cut : left ≡ taken ++ (block ++ rest)) where
+  -- what was read of the input
+  gave : before ++ left ≡ (before ++ (taken ++ block)) ++ rest
+  gave =
+      ap (λ l. before ++ l) (cut ∙ sym (append_assoc taken block rest))
+      ∙ sym (append_assoc before (taken ++ block) rest)
+
+  -- a short line that isn't good
+  upto-short : (text : List ℕ) → lines_of taken ≡ text ∷ [] → IsEnded taken ⊎ (block ++ rest ≡ [])
+      → line_of text ≡ None
+      → IsReadUpTo (before ++ left) (Some (before ++ left)) (Some rest) lines
+  upto-short text is last bad =
+      let whole = first-line taken (block ++ rest) text is last in
+      let seen = first-line taken block text is (within last) in
+      record {
+        good = lines_of before;
+        bad = text;
+        later = whole.0;
+        cut = ended left ∙ ap (λ l. lines_of before ++ lines_of l) cut
+            ∙ ap (λ l. lines_of before ++ l) whole.1;
+        all_good = all_good;
+        is_bad = bad;
+        given = before ++ (taken ++ block);
+        gave = gave;
+        reached = record {
+          seen = text;
+          later = seen.0;
+          cut = ended (taken ++ block) ∙ ap (λ l. lines_of before ++ l) seen.1;
+          enough = inl refl;
+        };
+      }
+    where
+      within : IsEnded taken ⊎ (block ++ rest ≡ []) → IsEnded taken ⊎ (block ≡ [])
+      within (inl e) = inl e
+      within (inr none) = inr (nil-front block rest none)
+
+  -- a line that is too long
+  upto-long : has_no_end taken ≡ true → longest_line < length taken
+      → IsReadUpTo (before ++ left) (Some (before ++ left)) (Some rest) lines
+  upto-long inside long =
+      let some : 0 < length taken = omega arith in
+      let whole = lines_of-front taken (block ++ rest) inside some in
+      let seen = lines_of-front taken block inside some in
+      record {
+        good = lines_of before;
+        bad = taken ++ whole.0;
+        later = whole.1;
+        cut = ended left ∙ ap (λ l. lines_of before ++ lines_of l) cut
+            ∙ ap (λ l. lines_of before ++ l) whole.2;
+        all_good = all_good;
+        is_bad = line_of-long (taken ++ whole.0) (simp length-append (omega arith));
+        given = before ++ (taken ++ block);
+        gave = gave;
+        reached = record {
+          seen = taken ++ seen.0;
+          later = seen.1;
+          cut = ended (taken ++ block) ∙ ap (λ l. lines_of before ++ l) seen.2;
+          enough = inr (simp length-append (omega arith));
+        };
+      }
+
+-- line n isn't good, after these good lines
+pub upto : (read mid left : Option (List ℕ)) (block : List ℕ) (lines : List Line)
+    → TakesGood read mid lines
+    → NextCommand mid (prepend_known block left) next.Bad
+    → IfSome read (λ bytes. IsReadUpTo bytes read left lines)
+upto None mid left block lines p q = tt
+upto (Some x) None left block lines p q = absurd p.taken
+upto (Some x) (Some y) None block lines p (inl q) = absurd q.takes
+upto (Some x) (Some y) None block lines p (inr q) = absurd q
+upto (Some x) (Some y) (Some z) block lines p (inl q) =
+    let before = p.taken in
+    let took = q.takes in
+    let good = ap (map line_of) before.are_lines ∙ p.good in
+    let ended =
+    ended-before before.taken y took.taken (block ++ z) q.text before.last took.cut took.is_line in
+    subst (λ bytes. IsReadUpTo bytes (Some bytes) (Some z) lines) (sym before.cut)
+    (upto-short before.taken y took.taken block z lines good ended took.cut q.text took.is_line
+    took.last q.asks)
+upto (Some x) (Some y) (Some z) block lines p (inr q) =
+    let some : y ≡ [] → ⊥ = λ none.
+    let nothing : q.taken ≡ [] = nil-front q.taken (block ++ z) (sym q.cut ∙ none) in
+    omega (arith, q.long, ap length nothing) in
+    let before = p.taken in
+    let good = ap (map line_of) before.are_lines ∙ p.good in
+    subst (λ bytes. IsReadUpTo bytes (Some bytes) (Some z) lines) (sym before.cut)
+    (upto-long before.taken y q.taken block z lines good (ended before.last some) q.cut q.inside
+    q.long)
+  where
+    ended : {A B : Type 0} → A ⊎ B → (B → ⊥) → A
+    ended (inl a) none = a
+    ended (inr b) none = absurd (none b)

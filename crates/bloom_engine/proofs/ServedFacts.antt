@@ -1,0 +1,154 @@
+-- What serving promises of one and two lines: a case that holds, and near ones that don't.
+use Rattle.std.proofs.Common.{◌≡◌, ℕ, ◌+◌, ◌-◌, ◌^◌, min, List, [], ◌∷◌, ◌++◌, length, map, replicate, Option, Some, None, refl, sym, ap, arith, inl, inr}
+use Rattle.std.specs.Prelude.{codes}
+use Rattle.bloom_engine.specs.declared.engine.line.Line.{Line}
+use Rattle.bloom_engine.specs.declared.engine.line.Line.TheVariants.{Insert}
+use Rattle.lines.specs.Lines.{lines_of}
+use Rattle.bloom_engine.specs.Lines.{line_of, number_of}
+use Rattle.bloom_engine.specs.Served.{IsReadWhole, Reaches, IsReadUpTo, ServedAll, ServedUpTo}
+use Rattle.bloom_engine.proofs.CarriedFacts.{zeros, with_one, carried, carried-text, carried-bits}
+
+-- each line was good, and nothing is left
+whole : IsReadWhole (Some (codes "i 1\n")) (Some []) (Insert 1 ∷ [])
+unfolding lines_of line_of number_of
+whole = record { good = refl; none_left = refl }
+
+-- not if a byte is left
+whole-left : (lines : List Line) → IsReadWhole (Some (codes "i 1\n")) (Some (10 ∷ [])) lines → ⊥
+whole-left lines is = let left : ◌≡◌ {A = Option (List ℕ)} (Some (10 ∷ [])) (Some []) =
+    is.none_left in
+    cc
+
+-- nor if a line is bad
+whole-bad : (lines : List Line) → IsReadWhole (Some (codes "x\n")) (Some []) lines → ⊥
+unfolding lines_of line_of
+whole-bad [] is = let bad : ◌≡◌ {A = List (Option Line)} (None ∷ []) [] = is.good in cc
+whole-bad (line ∷ lines) is =
+    let bad : ◌≡◌ {A = List (Option Line)} (None ∷ []) (Some line ∷ map Some lines) = is.good in cc
+
+-- only these lines are good
+whole-lines : (left : Option (List ℕ)) (lines : List Line)
+    → IsReadWhole (Some (codes "i 1\n")) left lines → lines ≡ Insert 1 ∷ []
+unfolding lines_of line_of number_of
+whole-lines left [] is =
+    let good : ◌≡◌ {A = List (Option Line)} (Some (Insert 1) ∷ []) [] = is.good in cc
+whole-lines left (line ∷ []) is = let good : Some (Insert 1) ∷ [] ≡ Some line ∷ [] = is.good in cc
+whole-lines left (line ∷ (other ∷ lines)) is =
+    let good : Some (Insert 1) ∷ [] ≡ Some line ∷ Some other ∷ map Some lines = is.good in cc
+
+-- a bad line was given to its end
+reaches : Reaches (codes "i 1\nx\n") (codes "i 1" ∷ []) (codes "x")
+unfolding lines_of
+reaches = record { seen = codes "x"; later = []; cut = refl; enough = inl refl }
+
+-- or 23 bytes of it
+reaches-long : Reaches (replicate 23 49) [] (replicate 30 49)
+unfolding lines_of
+reaches-long =
+    record { seen = replicate 23 49; later = []; cut = refl; enough = inr (omega arith) }
+
+-- not if only 22 were
+reaches-short : Reaches (replicate 22 49) [] (replicate 30 49) → ⊥
+unfolding lines_of
+reaches-short is =
+    let line : replicate 22 49 ∷ [] ≡ is.seen ∷ is.later = is.cut in
+    let seen : replicate 22 49 ≡ is.seen = cc in
+    let count : 22 ≡ length is.seen = ap length seen in
+    elim is.enough [
+      | inl all ↦ (let more : length is.seen ≡ 30 = ap length all in omega (arith, count, more))
+      | inr long ↦ omega (arith, count, long)
+    ]
+
+-- nor if nothing of it was
+reaches-before : Reaches (codes "i 1\n") (codes "i 1" ∷ []) (codes "x") → ⊥
+unfolding lines_of
+reaches-before is = let lines : codes "i 1" ∷ [] ≡ codes "i 1" ∷ is.seen ∷ is.later = is.cut in cc
+
+-- line 2 is bad, and the first was carried out
+served : ServedUpTo 2 (Some (codes "i 1\nx\n")) (Some []) zeros with_one (Some [])
+    (Some (codes "false\n"))
+unfolding lines_of line_of number_of
+served = record {
+  lines = Insert 1 ∷ [];
+  carried = carried;
+  number = refl;
+  upto = record {
+    good = codes "i 1" ∷ [];
+    bad = codes "x";
+    later = [];
+    cut = refl;
+    all_good = refl;
+    is_bad = refl;
+    given = codes "i 1\nx\n";
+    gave = refl;
+    reached = reaches;
+  };
+}
+
+-- the good lines before the bad one are this one alone
+one-line : (good : List (List ℕ)) (bad : List ℕ) (later : List (List ℕ)) (lines : List Line)
+    → codes "i 1" ∷ codes "x" ∷ [] ≡ good ++ bad ∷ later → map line_of good ≡ map Some lines
+    → line_of bad ≡ None
+    → lines ≡ Insert 1 ∷ []
+unfolding line_of number_of
+one-line [] bad later lines cut all is_bad =
+    let first : codes "i 1" ≡ bad = cc in
+    let none : ◌≡◌ {A = Option Line} (Some (Insert 1)) None = rw (sym first) at is_bad in
+    cc
+one-line (g ∷ []) bad later [] cut all is_bad =
+    let none : ◌≡◌ {A = List (Option Line)} (line_of g ∷ []) [] = all in
+    cc
+one-line (g ∷ []) bad later (l ∷ []) cut all is_bad =
+    let first : codes "i 1" ≡ g = cc in
+    let same : ◌≡◌ {A = List (Option Line)} (Some (Insert 1) ∷ []) (Some l ∷ []) =
+    rw (sym first) at all in
+    cc
+one-line (g ∷ []) bad later (l ∷ (m ∷ ls)) cut all is_bad =
+    let none : ◌≡◌ {A = List (Option Line)} (line_of g ∷ []) (Some l ∷ Some m ∷ map Some ls) =
+    all in
+    cc
+one-line (g ∷ (h ∷ [])) bad later lines cut all is_bad =
+    let none : ◌≡◌ {A = List (List ℕ)} (codes "i 1" ∷ codes "x" ∷ []) (g ∷ h ∷ bad ∷ later) = cut in
+    cc
+one-line (g ∷ (h ∷ (i ∷ gs))) bad later lines cut all is_bad =
+    let none : ◌≡◌ {A = List (List ℕ)} (codes "i 1" ∷ codes "x" ∷ [])
+    (g ∷ h ∷ i ∷ (gs ++ bad ∷ later)) = cut in
+    cc
+
+-- so they are wherever the reader stands
+upto-lines : (left : Option (List ℕ)) (lines : List Line)
+    → IsReadUpTo (codes "i 1\nx\n") (Some (codes "i 1\nx\n")) left lines → lines ≡ Insert 1 ∷ []
+unfolding lines_of
+upto-lines left lines is = one-line is.good is.bad is.later lines is.cut is.all_good is.is_bad
+
+-- not the first line
+served-number : ServedUpTo 1 (Some (codes "i 1\nx\n")) (Some []) zeros with_one (Some [])
+    (Some (codes "false\n")) → ⊥
+served-number did =
+    let lines = upto-lines _ did.lines did.upto in
+    let number : 1 ≡ min (length did.lines + 1) (2 ^ 64 - 1) = did.number in
+    omega (arith, ap length lines, number)
+
+-- nor with another text
+served-text : ServedUpTo 2 (Some (codes "i 1\nx\n")) (Some []) zeros with_one (Some [])
+    (Some (codes "true\n")) → ⊥
+served-text did = carried-text did.lines (upto-lines _ did.lines did.upto) did.carried
+
+-- nor with a filter that stayed as it was
+served-filter : ServedUpTo 2 (Some (codes "i 1\nx\n")) (Some []) zeros zeros (Some [])
+    (Some (codes "false\n")) → ⊥
+served-filter did = carried-bits did.lines (upto-lines _ did.lines did.upto) did.carried
+
+-- every line is good
+all : ServedAll (Some (codes "i 1\n")) (Some []) zeros with_one (Some []) (Some (codes "false\n"))
+all = record { lines = Insert 1 ∷ []; carried = carried; whole = whole }
+
+-- not with another text
+all-text : ServedAll (Some (codes "i 1\n")) (Some []) zeros with_one (Some [])
+    (Some (codes "true\n")) → ⊥
+all-text did = carried-text did.lines (whole-lines _ did.lines did.whole) did.carried
+
+-- nor with a byte left
+all-left : ServedAll (Some (codes "i 1\n")) (Some (10 ∷ [])) zeros with_one (Some [])
+    (Some (codes "false\n")) → ⊥
+all-left did = whole-left did.lines did.whole

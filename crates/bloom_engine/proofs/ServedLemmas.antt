@@ -1,0 +1,139 @@
+-- From lines taken and carried out to what serving promises.
+use Rattle.std.proofs.Common.{◌≡◌, ℕ, ◌+◌, ◌^◌, ◌-◌, min, List, [], ◌∷◌, ◌++◌, length, map, Option, Some, None, Result, Err, false, refl, sym, ◌∙◌, ap, length-append, arith}
+use Rattle.std.specs.Io.KnownBytes.{Keeps, Appends, prepend_known}
+use Rattle.std.proofs.lemmas.Bool.{both_ways}
+use Rattle.fastbloom.specs.Filter.{Filter}
+use Rattle.fastbloom.specs.Laws.{JoinedListsLaw}
+use Rattle.bloom_engine.specs.declared.engine.line.Line.{Line}
+use Rattle.bloom_engine.specs.declared.engine.line_reader.Next.{Next}
+use Rattle.bloom_engine.specs.declared.engine.line_reader.Next.TheVariants as next
+use Rattle.bloom_engine.specs.declared.fault.Fault.{Fault}
+use Rattle.bloom_engine.specs.declared.fault.Fault.TheVariants as fault
+use Rattle.lines.specs.Reading as reading
+use Rattle.lines.specs.Reading.{Ends, KnowsEnd}
+use Rattle.lines.proofs.TakenLemmas as taken
+use Rattle.bloom_engine.specs.Lines.{line_of}
+use Rattle.bloom_engine.specs.Reading.{NextCommand, Waiting, left_of}
+use Rattle.bloom_engine.specs.Served.{Carried, IsReadWhole, ServedAll, ServedUpTo}
+use Rattle.bloom_engine.proofs.BadLineLemmas.{upto}
+use Rattle.bloom_engine.proofs.CarriedLemmas.{Carried-nil, Carried-more}
+use Rattle.bloom_engine.proofs.TakenLemmas.{TakesGood, TakesGood-nil, TakesGood-more}
+
+-- half-way through serving: these lines were taken and carried out, the next has this number, and
+-- the reader of lines and its input stand where those leave them
+pub record IsServing {S : Type 0} (read : Option (List ℕ)) (old : Filter S)
+    (from : Option (List ℕ)) (waiting : Waiting) (rest : Option (List ℕ)) (now : Filter S)
+    (to : Option (List ℕ)) (number : ℕ) : Type 0 where
+  pub lines : List Line
+  pub carried : Carried old now from to lines
+  pub taken : TakesGood read (left_of waiting rest) lines
+  pub counted : number ≡ min (length lines + 1) (2 ^ 64 - 1)
+  pub knows : KnowsEnd waiting.ended rest
+
+-- bytes that were appended stay
+Appends-kept : (a b c : Option (List ℕ)) (bytes : List ℕ) → Appends a b bytes → Keeps b c
+    → Appends a c bytes
+Appends-kept None b c bytes p q = tt
+Appends-kept (Some x) None c bytes p q = absurd p
+Appends-kept (Some x) (Some y) None bytes p q = absurd q
+Appends-kept (Some x) (Some y) (Some z) bytes p q = q ∙ p
+
+-- a flush changes nothing of what lines did
+Carried-kept : {S : Type 0} (f g : Filter S) (o p q : Option (List ℕ)) (lines : List Line)
+    → Carried f g o p lines → Keeps p q → Carried f g o q lines
+Carried-kept f g o p q lines so_far kept = record {
+  given = so_far.given;
+  filter = so_far.filter;
+  text = Appends-kept o p q _ so_far.text kept;
+}
+
+-- nothing is left of the block and of the reader
+IsReadWhole-from : (read left mid : Option (List ℕ)) (block : List ℕ) (lines : List Line)
+    → TakesGood read mid lines → Ends mid (prepend_known block left)
+    → IsReadWhole read left lines
+IsReadWhole-from read left mid block lines took ends =
+    at read (taken.IsReadWhole-from read mid left block took.texts took.taken ends)
+  where
+    at : (read : Option (List ℕ)) → reading.IsReadWhole read left took.texts
+        → IsReadWhole read left lines
+    at None whole = tt
+    at (Some bytes) whole = record {
+      good = ap (map line_of) whole.are_lines ∙ took.good;
+      none_left = whole.none_left;
+    }
+
+-- nothing was taken yet
+pub serving_nothing : {S : Type 0} (read from : Option (List ℕ)) (filter : Filter S)
+    (waiting : Waiting) → waiting.bytes ≡ [] → waiting.ended ≡ false
+    → IsServing read filter from waiting read filter from 1
+serving_nothing read from filter waiting empty untold = record {
+  lines = [];
+  carried = Carried-nil filter from;
+  taken = TakesGood-nil waiting.bytes read empty;
+  counted = refl;
+  knows = λ told. absurd (both_ways waiting.ended untold told);
+}
+
+-- half-way, after a flush, and the next line
+module _ {S : Type 0} {read : Option (List ℕ)} {old : Filter S} {from : Option (List ℕ)}
+    {waiting : Waiting} {rest : Option (List ℕ)} {now : Filter S} {to : Option (List ℕ)}
+    {number : ℕ} (so_far : IsServing read old from waiting rest now to number)
+    (kept : Option (List ℕ)) (keeps : Keeps to kept) (after : Waiting) (left : Option (List ℕ))
+    (came : Next) (is_next : NextCommand (left_of waiting rest) (left_of after left) came) where
+  -- what lines did so far, after the flush
+  carried : Carried old now from kept so_far.lines
+  carried = Carried-kept old now from to kept so_far.lines so_far.carried keeps
+
+  -- one more good line was taken and carried out
+  pub serving_more : (line : Line) (new : Filter S) (end : Option (List ℕ)) (more : ℕ)
+      → came ≡ next.Good line → KnowsEnd after.ended left → JoinedListsLaw S
+      → Carried now new kept end (line ∷ []) → more ≡ min (number + 1) (2 ^ 64 - 1)
+      → IsServing read old from after left new end more
+  serving_more line new end more good knows joins one count =
+      let took = rw good at is_next in
+      record {
+        lines = so_far.lines ++ line ∷ [];
+        carried = Carried-more joins old now new from kept end so_far.lines line carried one;
+        taken =
+            TakesGood-more read (left_of waiting rest) (left_of after left) so_far.lines took.text
+            line so_far.taken took.takes took.asks;
+        counted = simp length-append (omega (arith, count, so_far.counted));
+        knows = knows;
+      }
+
+  -- nothing is left
+  pub served_all : came ≡ next.End → ServedAll read left old now from kept
+  served_all end = record {
+    lines = so_far.lines;
+    carried = carried;
+    whole =
+        IsReadWhole-from read left (left_of waiting rest) after.bytes so_far.lines so_far.taken
+        (rw end at is_next);
+  }
+
+  -- the next line isn't good
+  pub served_upto : came ≡ next.Bad → (n : ℕ)
+      → ◌≡◌ {A = Result (Unit {0}) Fault} (Err (fault.Line number)) (Err (fault.Line n))
+      → ServedUpTo n read left old now from kept
+  served_upto bad n same =
+      let is : number ≡ n = cc in
+      record {
+        lines = so_far.lines;
+        carried = carried;
+        number = sym is ∙ so_far.counted;
+        upto =
+            upto read (left_of waiting rest) left after.bytes so_far.lines so_far.taken
+            (rw bad at is_next);
+      }
+
+-- a flush changes nothing of what was written
+pub served_upto-kept : {S : Type 0} (n : ℕ) (read left : Option (List ℕ)) (old new : Filter S)
+    (from to kept : Option (List ℕ))
+    → ServedUpTo n read left old new from to → Keeps to kept
+    → ServedUpTo n read left old new from kept
+served_upto-kept n read left old new from to kept served keeps = record {
+  lines = served.lines;
+  carried = Carried-kept old new from to kept served.lines served.carried keeps;
+  number = served.number;
+  upto = served.upto;
+}

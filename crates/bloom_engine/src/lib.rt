@@ -1,0 +1,11 @@
+//! The service of lines: commands to a Bloom filter, one a line, and their answers.
+#![tactic(auto)]
+
+mod command_line;
+mod engine;
+mod fault;
+mod number;
+
+pub use command_line::{arguments, given_words};
+pub use engine::serve;
+pub use fault::Fault;
