@@ -1,8 +1,9 @@
 //! Filters as data, and their JSON text, a word.
 
-use crate::filters::{filter_for, hash_of, measured_words};
+use crate::keys::{hash_of, measured_words};
 use crate::plan::Plan;
 use crate::table::Row;
+use bench_filters::filter_for;
 use fastbloom::{BloomFilter, FilterData};
 use std::alloc::Global;
 use std::rt::Clock;

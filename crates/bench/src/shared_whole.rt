@@ -1,8 +1,9 @@
 //! The calls on whole filters that threads share, a word, made by one thread.
 
-use crate::filters::{measured_words, shared_filter_for};
+use crate::keys::measured_words;
 use crate::plan::Plan;
 use crate::table::Row;
+use bench_filters::shared_filter_for;
 use fastbloom::AtomicBloomFilter;
 use std::alloc::Global;
 use std::rt::Clock;

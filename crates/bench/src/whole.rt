@@ -2,9 +2,10 @@
 ghost use Rattle.std.specs.Prelude.{All, IfOk};
 ghost use Rattle.bench.specs.Lists.{FitsEach};
 
-use crate::filters::{filter_for, hash_of, measured_words};
+use crate::keys::{hash_of, measured_words};
 use crate::plan::Plan;
 use crate::table::Row;
+use bench_filters::filter_for;
 use fastbloom::{BloomFilter, Command, DefaultHasher};
 use std::alloc::{AllocError, Global};
 use std::rt::Clock;
