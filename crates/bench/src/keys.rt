@@ -1,4 +1,4 @@
-//! The keys that are measured, and the words of what is measured by the word.
+//! The keys that are measured, and their hashes.
 
 use std::alloc::{AllocError, Global};
 
@@ -24,13 +24,4 @@ pub fn numbers_to(alloc: Global, end: u64) -> Result<Vec<u64>, AllocError> {
         numbers.push(key)?;
     }
     Ok(numbers)
-}
-
-/// The number of words of a filter of so many bits, or 0 where there are no keys and nothing is
-/// measured.
-pub fn measured_words(bits: usize, keys: u32) -> u64 {
-    if keys == 0 {
-        return 0;
-    }
-    bits as u64 / 64
 }
