@@ -1,8 +1,9 @@
 //! Filters as data, and their JSON text, a word.
 
-use crate::filters::{filter_for, hash_of, measured_words};
+use crate::keys::hash_of;
 use crate::plan::Plan;
 use crate::table::Row;
+use bench_filters::filter_for;
 use fastbloom::{BloomFilter, FilterData};
 use std::alloc::Global;
 use std::rt::Clock;
@@ -30,8 +31,7 @@ fn measure_to_data<R: Print + AllocGlobal + Clock>(
     plan: &Plan,
     filter: &BloomFilter,
 ) -> anyhow::Result<()> {
-    let words = measured_words(filter.num_bits(), plan.keys);
-    let mut row = Row::new(plan, ROWS[0], 7, words, "words");
+    let mut row = Row::by_words(plan, ROWS[0], filter.num_bits(), "words");
     'rounds: for _round in 0..row.rounds() {
         let start = Instant::now(rt)?;
         let form = filter.to_data(rt.alloc())?;
@@ -46,8 +46,7 @@ fn measure_from_data<R: Print + AllocGlobal + Clock>(
     plan: &Plan,
     filter: &BloomFilter,
 ) -> anyhow::Result<()> {
-    let words = measured_words(filter.num_bits(), plan.keys);
-    let mut row = Row::new(plan, ROWS[1], 7, words, "found after it");
+    let mut row = Row::by_words(plan, ROWS[1], filter.num_bits(), "found after it");
     'rounds: for _round in 0..row.rounds() {
         let form = filter.to_data(rt.alloc())?;
         let start = Instant::now(rt)?;
@@ -64,9 +63,8 @@ fn measure_writes<R: Print + AllocGlobal + Clock>(
     plan: &Plan,
     filter: &BloomFilter,
 ) -> anyhow::Result<()> {
-    let words = measured_words(filter.num_bits(), plan.keys);
     let form = filter.to_data(rt.alloc())?;
-    let mut row = Row::new(plan, ROWS[2], 7, words, "bytes");
+    let mut row = Row::by_words(plan, ROWS[2], filter.num_bits(), "bytes");
     'rounds: for _round in 0..row.rounds() {
         let start = Instant::now(rt)?;
         let text = serde_json::to_string(rt.alloc(), &form)?;
@@ -81,10 +79,9 @@ fn measure_reads<R: Print + AllocGlobal + Clock>(
     plan: &Plan,
     filter: &BloomFilter,
 ) -> anyhow::Result<()> {
-    let words = measured_words(filter.num_bits(), plan.keys);
     let form = filter.to_data(rt.alloc())?;
     let text = serde_json::to_string(rt.alloc(), &form)?;
-    let mut row = Row::new(plan, ROWS[3], 7, words, "words");
+    let mut row = Row::by_words(plan, ROWS[3], filter.num_bits(), "words");
     'rounds: for _round in 0..row.rounds() {
         let start = Instant::now(rt)?;
         let again: FilterData = serde_json::from_str(rt.alloc(), text.as_str())?;

@@ -1,10 +1,11 @@
 //! A filter that workers fill, beside the same inserts by one thread. A round is timed from its
 //! start to the whole filter, so threads, memory and unions count.
 
-use crate::filters::{filter_for, hash_of};
+use crate::keys::hash_of;
 use crate::plan::Plan;
 use crate::table::Row;
 use anyhow::bail;
+use bench_filters::filter_for;
 use fastbloom::{BloomFilter, Gate, Shape, fill};
 use std::alloc::Global;
 use std::rt::Clock;

@@ -1,8 +1,9 @@
 //! The calls that take a hash.
 
-use crate::filters::{filter_for, foreign_hash_of, hash_of};
+use crate::keys::{foreign_hash_of, hash_of};
 use crate::plan::Plan;
 use crate::table::Row;
+use bench_filters::filter_for;
 use fastbloom::BloomFilter;
 use std::rt::Clock;
 use std::time::Instant;

@@ -1,9 +1,9 @@
 //! The calls that take an item.
 ghost use Rattle.std.specs.Prelude.{◌≤◌};
 
-use crate::filters::filter_for;
 use crate::plan::Plan;
 use crate::table::Row;
+use bench_filters::filter_for;
 use fastbloom::BloomFilter;
 use std::rt::Clock;
 use std::time::Instant;

@@ -7,9 +7,9 @@
 
 mod data;
 mod fills;
-mod filters;
 mod hashes;
 mod items;
+mod keys;
 mod many;
 mod passes;
 mod plan;
@@ -21,7 +21,7 @@ mod table;
 mod threads;
 mod whole;
 
-use filters::filter_for;
+use bench_filters::filter_for;
 use plan::Plan;
 use std::alloc::Global;
 use std::rt::Clock;

@@ -1,8 +1,9 @@
 //! The calls that insert many items, each answered by a look-up of one of them.
 
-use crate::filters::{filter_for, numbers_to, shared_filter_for};
+use crate::keys::numbers_to;
 use crate::plan::Plan;
 use crate::table::Row;
+use bench_filters::{filter_for, shared_filter_for};
 use fastbloom::{AtomicBloomFilter, BloomFilter};
 use std::alloc::Global;
 use std::rt::Clock;

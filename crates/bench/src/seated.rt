@@ -1,7 +1,7 @@
 //! The calls of a filter that threads share under a rule, made by one thread.
 ghost use Rattle.std.specs.Prelude.{◌≡◌, IfOk};
 
-use crate::filters::{foreign_hash_of, hash_of};
+use crate::keys::{foreign_hash_of, hash_of};
 use crate::plan::Plan;
 use crate::table::Row;
 use fastbloom::{FilterError, Pass, SeatedBloomFilter};

@@ -1,9 +1,10 @@
 //! The calls of a filter that threads share, made by one thread, beside bare atomic operations.
 ghost use Rattle.std.specs.Prelude.{◌≤◌, ◌<◌, ◌^◌, vec_len};
 
-use crate::filters::{foreign_hash_of, hash_of, shared_filter_for};
+use crate::keys::{foreign_hash_of, hash_of};
 use crate::plan::Plan;
 use crate::table::Row;
+use bench_filters::shared_filter_for;
 use fastbloom::AtomicBloomFilter;
 use std::alloc::{AllocError, Global};
 use std::rt::Clock;

@@ -1,8 +1,8 @@
 //! The calls on whole filters that threads share, a word, made by one thread.
 
-use crate::filters::{measured_words, shared_filter_for};
 use crate::plan::Plan;
 use crate::table::Row;
+use bench_filters::shared_filter_for;
 use fastbloom::AtomicBloomFilter;
 use std::alloc::Global;
 use std::rt::Clock;
@@ -40,8 +40,7 @@ fn measure_call<R: Print + Clock>(
     other: &AtomicBloomFilter,
     (call, name): (Call, &'static str),
 ) -> anyhow::Result<()> {
-    let words = measured_words(other.num_bits(), plan.keys);
-    let mut row = Row::new(plan, name, 7, words, "same, or found after it");
+    let mut row = Row::by_words(plan, name, other.num_bits(), "same, or found after it");
     'rounds: for _round in 0..row.rounds() {
         let start = Instant::now(rt)?;
         let answer = make(filter, other, call);
@@ -56,8 +55,8 @@ fn measure_clones<R: Print + AllocGlobal + Clock>(
     plan: &Plan,
     filter: &AtomicBloomFilter,
 ) -> anyhow::Result<()> {
-    let words = measured_words(filter.num_bits(), plan.keys);
-    let mut row = Row::new(plan, "shared try_clone, a word", 7, words, "found after it");
+    let bits = filter.num_bits();
+    let mut row = Row::by_words(plan, "shared try_clone, a word", bits, "found after it");
     'rounds: for _round in 0..row.rounds() {
         let start = Instant::now(rt)?;
         let copy = filter.try_clone(rt.alloc())?;
@@ -72,8 +71,7 @@ fn measure_words<R: Print + Clock>(
     plan: &Plan,
     filter: &AtomicBloomFilter,
 ) -> anyhow::Result<()> {
-    let words = measured_words(filter.num_bits(), plan.keys);
-    let mut row = Row::new(plan, "shared iter, a word", 7, words, "odd words");
+    let mut row = Row::by_words(plan, "shared iter, a word", filter.num_bits(), "odd words");
     'rounds: for _round in 0..row.rounds() {
         let start = Instant::now(rt)?;
         let odd = filter.iter().filter(|word| *word % 2 == 1).count();
@@ -88,8 +86,7 @@ fn measure_data<R: Print + AllocGlobal + Clock>(
     plan: &Plan,
     filter: &AtomicBloomFilter,
 ) -> anyhow::Result<()> {
-    let words = measured_words(filter.num_bits(), plan.keys);
-    let mut row = Row::new(plan, "shared to_data, a word", 7, words, "words");
+    let mut row = Row::by_words(plan, "shared to_data, a word", filter.num_bits(), "words");
     'rounds: for _round in 0..row.rounds() {
         let start = Instant::now(rt)?;
         let form = filter.to_data(rt.alloc())?;
@@ -104,8 +101,8 @@ fn measure_takes<R: Print + AllocGlobal + Clock>(
     plan: &Plan,
     filter: &AtomicBloomFilter,
 ) -> anyhow::Result<()> {
-    let words = measured_words(filter.num_bits(), plan.keys);
-    let mut row = Row::new(plan, "shared take_words, a word", 7, words, "words");
+    let bits = filter.num_bits();
+    let mut row = Row::by_words(plan, "shared take_words, a word", bits, "words");
     'rounds: for _round in 0..row.rounds() {
         let start = Instant::now(rt)?;
         let taken = filter.take_words(rt.alloc())?;

@@ -1,8 +1,9 @@
 //! Calls by word steps, on words in memory.
 
-use crate::filters::{filter_for, hash_of};
+use crate::keys::hash_of;
 use crate::plan::Plan;
 use crate::table::Row;
+use bench_filters::filter_for;
 use fastbloom::{Call, Event, MemoryStore, drive, run};
 use std::alloc::{AllocError, Global};
 use std::rt::Clock;

@@ -41,6 +41,13 @@ impl Row {
         }
     }
 
+    /// The row of a call over the words of a filter with seven hashes and so many bits, a word.
+    /// Where there are no keys nothing is measured.
+    pub fn by_words(plan: &Plan, call: &'static str, bits: usize, counted: &'static str) -> Self {
+        let words = if plan.keys == 0 { 0 } else { bits as u64 / 64 };
+        Row::new(plan, call, 7, words, counted)
+    }
+
     /// Whether the row is measured.
     pub fn is_wanted(&self) -> bool {
         self.is_wanted

@@ -1,11 +1,11 @@
 //! The calls of a filter that threads share, made by several at once.
 ghost use Rattle.std.specs.Prelude.{⊤};
 
-use crate::filters::shared_filter_for;
 use crate::plan::Plan;
 use crate::shared::{contains_keys, insert_keys};
 use crate::table::Row;
 use anyhow::bail;
+use bench_filters::shared_filter_for;
 use fastbloom::AtomicBloomFilter;
 use std::alloc::Global;
 use std::rt::Clock;

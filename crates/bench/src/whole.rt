@@ -2,9 +2,10 @@
 ghost use Rattle.std.specs.Prelude.{All, IfOk};
 ghost use Rattle.bench.specs.Lists.{FitsEach};
 
-use crate::filters::{filter_for, hash_of, measured_words};
+use crate::keys::hash_of;
 use crate::plan::Plan;
 use crate::table::Row;
+use bench_filters::filter_for;
 use fastbloom::{BloomFilter, Command, DefaultHasher};
 use std::alloc::{AllocError, Global};
 use std::rt::Clock;
@@ -67,8 +68,7 @@ fn measure_call<R: Print + Clock>(
     other: &BloomFilter,
     (call, name): (Call, &'static str),
 ) -> anyhow::Result<()> {
-    let words = measured_words(other.num_bits(), plan.keys);
-    let mut row = Row::new(plan, name, 7, words, "equal, or found after it");
+    let mut row = Row::by_words(plan, name, other.num_bits(), "equal, or found after it");
     'rounds: for _round in 0..row.rounds() {
         let start = Instant::now(rt)?;
         let answer = make(filter, other, call);
@@ -83,8 +83,8 @@ fn measure_clones<R: Print + AllocGlobal + Clock>(
     plan: &Plan,
     filter: &BloomFilter,
 ) -> anyhow::Result<()> {
-    let words = measured_words(filter.num_bits(), plan.keys);
-    let mut row = Row::new(plan, "try_clone, a word", 7, words, "found after it");
+    let bits = filter.num_bits();
+    let mut row = Row::by_words(plan, "try_clone, a word", bits, "found after it");
     'rounds: for _round in 0..row.rounds() {
         let start = Instant::now(rt)?;
         let copy = filter.try_clone(rt.alloc())?;
@@ -99,8 +99,7 @@ fn measure_words<R: Print + Clock>(
     plan: &Plan,
     filter: &BloomFilter,
 ) -> anyhow::Result<()> {
-    let words = measured_words(filter.num_bits(), plan.keys);
-    let mut row = Row::new(plan, "iter, a word", 7, words, "odd words");
+    let mut row = Row::by_words(plan, "iter, a word", filter.num_bits(), "odd words");
     'rounds: for _round in 0..row.rounds() {
         let start = Instant::now(rt)?;
         let odd = filter.iter().filter(|word| *word % 2 == 1).count();

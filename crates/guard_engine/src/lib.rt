@@ -5,8 +5,6 @@ mod counts;
 mod guard;
 mod runs;
 mod store;
-#[cfg(test)]
-mod tests;
 
 pub use counts::Counts;
 pub use guard::{Found, Guard, Put, Refusal};

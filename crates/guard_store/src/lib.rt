@@ -5,8 +5,6 @@ mod entry_table;
 mod rows;
 mod schema;
 mod table;
-#[cfg(test)]
-mod tests;
 
 pub use entry_table::{EntryTable, Unfit};
 pub use rows::{first_text, texts};

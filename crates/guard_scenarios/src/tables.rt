@@ -1,13 +1,14 @@
-//! What no clause says: that the table is made where memory allows, and which statements make another.
+//! Stores over tables in memory: that a table is made where memory allows, and which statements
+//! make another.
 
-use crate::{EntryTable, Unfit};
 use guard_engine::Store;
+use guard_store::{EntryTable, Unfit};
 use sqlite::{Connection, Constraint, Error, ErrorCode, MemStore};
 use std::alloc::Global;
 use std::test::Fail;
 
-const TABLE: &str =
-    "CREATE TABLE entry (id INTEGER PRIMARY KEY, name TEXT NOT NULL UNIQUE, value TEXT NOT NULL) STRICT";
+const TABLE: &str = "CREATE TABLE entry (id INTEGER PRIMARY KEY, name TEXT NOT NULL UNIQUE, \
+     value TEXT NOT NULL) STRICT";
 
 // The calls, which no test needs a clause of.
 fn run(conn: &mut Connection<MemStore>, sql: &str) -> Result<usize, Error> {
@@ -82,27 +83,40 @@ fn what_a_table_had_is_found(rt: HostRuntime) -> Result<(), Fail> {
 const OTHERS: [&[&str]; 12] = [
     &["CREATE TABLE t (a)"],
     &[
-        "CREATE TABLE entry (id INTEGER PRIMARY KEY, name TEXT NOT NULL UNIQUE, value TEXT NOT NULL)",
+        "CREATE TABLE entry (id INTEGER PRIMARY KEY, name TEXT NOT NULL UNIQUE, \
+         value TEXT NOT NULL)",
     ],
     &[
-        "CREATE TABLE entry (id INTEGER PRIMARY KEY, name TEXT NOT NULL, value TEXT NOT NULL) STRICT",
-    ],
-    &["CREATE TABLE entry (id INTEGER PRIMARY KEY, name TEXT UNIQUE, value TEXT NOT NULL) STRICT"],
-    &["CREATE TABLE entry (id INTEGER PRIMARY KEY, name TEXT NOT NULL UNIQUE, value TEXT) STRICT"],
-    &[
-        "CREATE TABLE entry (id INTEGER PRIMARY KEY, name TEXT NOT NULL UNIQUE, value BLOB NOT NULL) STRICT",
+        "CREATE TABLE entry (id INTEGER PRIMARY KEY, name TEXT NOT NULL, \
+         value TEXT NOT NULL) STRICT",
     ],
     &[
-        "CREATE TABLE entry (id INTEGER PRIMARY KEY, value TEXT NOT NULL, name TEXT NOT NULL UNIQUE) STRICT",
+        "CREATE TABLE entry (id INTEGER PRIMARY KEY, name TEXT UNIQUE, \
+         value TEXT NOT NULL) STRICT",
     ],
     &[
-        "CREATE TABLE entry (id INTEGER PRIMARY KEY, name TEXT NOT NULL UNIQUE COLLATE NOCASE, value TEXT NOT NULL) STRICT",
+        "CREATE TABLE entry (id INTEGER PRIMARY KEY, name TEXT NOT NULL UNIQUE, \
+         value TEXT) STRICT",
     ],
     &[
-        "CREATE TABLE entry (id INTEGER PRIMARY KEY AUTOINCREMENT, name TEXT NOT NULL UNIQUE, value TEXT NOT NULL) STRICT",
+        "CREATE TABLE entry (id INTEGER PRIMARY KEY, name TEXT NOT NULL UNIQUE, \
+         value BLOB NOT NULL) STRICT",
     ],
     &[
-        "CREATE TABLE entry (id INTEGER PRIMARY KEY, name TEXT NOT NULL UNIQUE, value TEXT NOT NULL CHECK (value <> '')) STRICT",
+        "CREATE TABLE entry (id INTEGER PRIMARY KEY, value TEXT NOT NULL, \
+         name TEXT NOT NULL UNIQUE) STRICT",
+    ],
+    &[
+        "CREATE TABLE entry (id INTEGER PRIMARY KEY, name TEXT NOT NULL UNIQUE COLLATE NOCASE, \
+         value TEXT NOT NULL) STRICT",
+    ],
+    &[
+        "CREATE TABLE entry (id INTEGER PRIMARY KEY AUTOINCREMENT, name TEXT NOT NULL UNIQUE, \
+         value TEXT NOT NULL) STRICT",
+    ],
+    &[
+        "CREATE TABLE entry (id INTEGER PRIMARY KEY, name TEXT NOT NULL UNIQUE, \
+         value TEXT NOT NULL CHECK (value <> '')) STRICT",
     ],
     &[TABLE, "CREATE INDEX by_value ON entry (value)"],
     &[TABLE, "CREATE VIEW names AS SELECT name FROM entry"],
