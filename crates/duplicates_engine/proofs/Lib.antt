@@ -1,0 +1,6 @@
+mod FlushLemmas
+mod KeptFacts
+mod RunLemmas
+mod SiftLemmas
+mod ToldFacts
+mod WriteLemmas
