@@ -3,4 +3,5 @@ mod KeptFacts
 mod RunLemmas
 mod SiftLemmas
 mod ToldFacts
+mod ToldLemmas
 mod WriteLemmas

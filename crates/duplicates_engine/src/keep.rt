@@ -1,6 +1,7 @@
 //! Writes each line that is certainly new.
 ghost use Rattle.std.specs.Prelude.{◌≡◌, false, [], IfOk, IfErr};
 ghost use Rattle.duplicates_engine.specs.Kept.{KeepsLine, KeepsNew, KeepsUntil, line_hash};
+ghost use Rattle.duplicates_engine.specs.Told.{TellsMillions};
 
 use crate::fault::Fault;
 use crate::output::put_line;
@@ -46,6 +47,8 @@ fn keep_lines<S: BuildHasher, R: Read, W: Write, P: Progress>(
     ensures fault { IfErr result (KeepsUntil lines.old.longest
         (line_hash S.Hasher.Hasher (S.build_hasher filter.old.hasher)) (R.remaining input.old)
         filter.old filter.new (W.contents output.old) (W.contents output.new)) }
+    ensures told { IfOk result (λ tally.
+        TellsMillions (P.tells progress.old) (P.tells progress.new) tally.read) }
 {
     lists_join::<S>();
     inserted_stays_found::<S>();
@@ -91,6 +94,9 @@ pub fn keep_new<S: BuildHasher, R: Read, W: Write, P: Progress>(
     ensures fault { IfErr result (KeepsUntil longest
         (line_hash S.Hasher.Hasher (S.build_hasher filter.old.hasher)) (R.remaining input.old)
         filter.old filter.new (W.contents output.old) (W.contents output.new)) }
+    // The progress was told each million of the lines.
+    ensures told { IfOk result (λ tally.
+        TellsMillions (P.tells progress.old) (P.tells progress.new) tally.read) }
 {
     let Ok(mut lines) = LineReader::new(alloc, longest) else {
         return Err(Fault::Memory);

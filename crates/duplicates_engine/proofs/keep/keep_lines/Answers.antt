@@ -1,12 +1,14 @@
-use Rattle.std.proofs.Common.{◌≡◌, ap, ◌∙◌, refl, rules, Err}
+use Rattle.std.proofs.Common.{◌≡◌, ◌≤◌, ◌-◌, ◌^◌, arith, ap, ◌∙◌, refl, rules, Err}
 use Rattle.duplicates_engine.specs.Kept.{line_hash}
 use Rattle.duplicates_engine.proofs.RunLemmas.{line-kept, sifting-nil, keeps-all, until-long, until-writer, sifting-more}
+use Rattle.duplicates_engine.proofs.ToldLemmas.{told-nil, told-step}
 use Rattle.duplicates_engine.proofs.keep.keep_lines.Goals as goal
 
 pub lines-init : goal.lines-init
 lines-init g c = record {
   sifting = sifting-nil _ _ _ _ _ _ c.requires.empty c.requires.open refl refl;
   longest = refl;
+  told = told-nil _;
 }
 
 pub returns-in-Ok-End-clause-all : goal.returns-in-Ok-End-clause-all
@@ -48,4 +50,8 @@ lines-preserved g c =
           (rw c.in_ok-is_held.was at kept)
           c.after-tally.ensures.read c.after-tally.ensures.held;
       longest = c.in-Ok-Line.ensures.longest ∙ c.lines.invariant.longest;
+      told =
+          let fits : c.lines.tally.read ≤ 2 ^ 64 - 1 = omega (arith, sifting.counts.read) in
+          told-step _ _ _ _ _ c.lines.invariant.told c.after-tally.ensures.read fits
+          c.tell.ensures.told (λ within. ap g.P.Progress.tells (c.tell.ensures.quiet within));
     }
