@@ -1,5 +1,5 @@
 //! Writes each line that is certainly new.
-ghost use Rattle.std.specs.Prelude.{◌≡◌, false, [], IfOk, IfErr};
+ghost use Rattle.std.specs.Prelude.{◌≡◌, ℕ, false, [], IfOk, IfErr};
 ghost use Rattle.duplicates_engine.specs.Kept.{KeepsLine, KeepsNew, KeepsUntil, line_hash};
 ghost use Rattle.duplicates_engine.specs.Told.{TellsMillions};
 
@@ -49,6 +49,8 @@ fn keep_lines<S: BuildHasher, R: Read, W: Write, P: Progress>(
         filter.old filter.new (W.contents output.old) (W.contents output.new)) }
     ensures told { IfOk result (λ tally.
         TellsMillions (P.tells progress.old) (P.tells progress.new) tally.read) }
+    ensures told_first { IfErr result (λ _. (lines : ℕ)
+        × TellsMillions (P.tells progress.old) (P.tells progress.new) lines) }
 {
     lists_join::<S>();
     inserted_stays_found::<S>();
@@ -94,9 +96,11 @@ pub fn keep_new<S: BuildHasher, R: Read, W: Write, P: Progress>(
     ensures fault { IfErr result (KeepsUntil longest
         (line_hash S.Hasher.Hasher (S.build_hasher filter.old.hasher)) (R.remaining input.old)
         filter.old filter.new (W.contents output.old) (W.contents output.new)) }
-    // The progress was told each million of the lines.
+    // The progress was told each million of the lines, and at a fault the first of these.
     ensures told { IfOk result (λ tally.
         TellsMillions (P.tells progress.old) (P.tells progress.new) tally.read) }
+    ensures told_first { IfErr result (λ _. (lines : ℕ)
+        × TellsMillions (P.tells progress.old) (P.tells progress.new) lines) }
 {
     let Ok(mut lines) = LineReader::new(alloc, longest) else {
         return Err(Fault::Memory);
