@@ -2,15 +2,12 @@
 #![tactic(auto)]
 
 mod command_line;
-mod engine;
-mod fault;
 #[cfg(test)]
 mod tests;
 
 use anyhow::Context;
 use command_line::{Options, arguments};
-use engine::keep_new;
-use engine::tally::{Progress, Tally};
+use duplicates_engine::{Progress, Tally, keep_new};
 use fastbloom::{BloomFilter, FilterError};
 use std::alloc::Global;
 use std::env;
@@ -25,6 +22,11 @@ struct OnTerminal<'a> {
 }
 
 impl Progress for OnTerminal<'_> {
+    ghost use Rattle.std.specs.Prelude.{None};
+
+    // Nothing is known of what a terminal shows.
+    ghost tells = { λ _. None };
+
     fn tell(&mut self, tally: Tally) {
         if self.is_on {
             let _ = eprintln!(self.rt; "{} lines, {} held back", tally.read, tally.held);

@@ -2,9 +2,7 @@
 mod arguments;
 mod broken;
 
-use crate::engine::keep_new;
-use crate::engine::tally::{Progress, Tally};
-use crate::fault::Fault;
+use duplicates_engine::{Fault, Progress, Tally, keep_new};
 use fastbloom::{BloomFilter, FilterError, Rate};
 use std::alloc::Global;
 use std::test::Fail;
@@ -17,6 +15,11 @@ struct Told {
 }
 
 impl Progress for Told {
+    ghost use Rattle.std.specs.Prelude.{None};
+
+    // It forgets all but the last.
+    ghost tells = { λ _. None };
+
     fn tell(&mut self, tally: Tally) {
         self.times = self.times.saturating_add(1);
         self.last = tally;

@@ -1,8 +1,6 @@
 //! Readers that fail after each byte, and writers that take one byte at a time and fail.
 use super::{filter_of, untold};
-use crate::engine::keep_new;
-use crate::engine::tally::Tally;
-use crate::fault::Fault;
+use duplicates_engine::{Fault, Tally, keep_new};
 use std::io;
 use std::io::{ErrorKind, Read, Write};
 use std::test::Fail;

@@ -1,5 +1,0 @@
-mod FlushLemmas
-mod KeptFacts
-mod RunLemmas
-mod SiftLemmas
-mod WriteLemmas

@@ -1,7 +1,0 @@
-use Rattle.duplicates.proofs.FlushLemmas.{broken}
-use Rattle.duplicates.proofs.engine.keep_new.Goals as goal
-
-pub returns-clause-fault : goal.returns-clause-fault
-returns-clause-fault g c =
-    broken _ _ _ _ _ _ _ _ c.flush.ensures.bytes _ _ _ tt c.keep_lines-kept.ensures.all
-    (rw c.in-Ok.ensures.longest at c.keep_lines-kept.ensures.fault)

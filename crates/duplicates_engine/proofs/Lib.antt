@@ -1,0 +1,7 @@
+mod FlushLemmas
+mod KeptFacts
+mod RunLemmas
+mod SiftLemmas
+mod ToldFacts
+mod ToldLemmas
+mod WriteLemmas
