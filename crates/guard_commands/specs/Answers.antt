@@ -13,7 +13,7 @@ use Rattle.guard_engine.specs.Loaded.{Loads}
 use Rattle.guard_commands.specs.declared.commands.Answer.{Answer}
 use Rattle.guard_commands.specs.declared.commands.Answer.TheVariants as answers
 use Rattle.guard_commands.specs.declared.task.Task.{Task}
-use Rattle.guard_commands.specs.declared.task.Task.TheVariants as task
+use Rattle.guard_commands.specs.declared.task.Task.TheVariants as tasks
 
 -- a look-up whose answer is no value
 abbrev pub IsAbsence : Answer → Type 0
@@ -43,15 +43,23 @@ pub record IsLoaded (lines : List (List ℕ)) (old new : Entries) (loaded : Load
 
 -- the answer is one to the task, whose entries or keys stand in the text, and is so
 abbrev pub Answers : Task → List ℕ → Entries → Entries → Answer → Type 0
-Answers (task.Put key value) text old new answer =
+Answers (tasks.Put key value) text old new answer =
     (put : Put) × (answer ≡ answers.Put put) × IsPut key.now value.now old new put
-Answers (task.Get key) text old new answer =
+Answers (tasks.Get key) text old new answer =
     (found : Found) × (answer ≡ answers.Found found) × IsFound key.now old found × Stays old new
-Answers (task.Load file) text old new answer =
+Answers (tasks.Load file) text old new answer =
     (loaded : Loaded) × (counts : Counts) × (answer ≡ answers.Loaded loaded counts)
     × IsLoaded (lines text) old new loaded
-Answers task.Stats text old new answer =
+Answers tasks.Stats text old new answer =
     (counts : Counts) × (answer ≡ answers.Counted counts) × Stays old new
+
+-- what an error leaves of a store: an entry that was to be put came or not, and what was looked up
+-- stays; of a load it says nothing
+abbrev pub Leaves : Task → Entries → Entries → Type 0
+Leaves (tasks.Put key value) old new = Stays old new ⊎ Gains old key.now value.now new
+Leaves (tasks.Get key) old new = Stays old new
+Leaves (tasks.Load file) old new = ⊤
+Leaves tasks.Stats old new = Stays old new
 
 -- what the answer says of counts is this
 abbrev pub TellsCounts : Answer → Counts → Type 0

@@ -1,9 +1,9 @@
 //! What each task does, over any store.
-ghost use Rattle.std.specs.Prelude.{◌≡◌, ◌↔◌, IfOk, IsTrue};
+ghost use Rattle.std.specs.Prelude.{◌≡◌, ◌↔◌, IfOk, OnErr, IsTrue};
 ghost use Rattle.std.specs.Str.Lines.{lines};
 ghost use Rattle.guard_engine.specs.Counted.{Tallies};
-ghost use Rattle.guard_engine.specs.Guarded.{Guards, Stays, key_hash};
-ghost use Rattle.guard_commands.specs.Answers.{Answers, IsAbsence, IsNo, TellsCounts};
+ghost use Rattle.guard_engine.specs.Guarded.{Guards, IsSingle, Stays, key_hash};
+ghost use Rattle.guard_commands.specs.Answers.{Answers, IsAbsence, IsNo, Leaves, TellsCounts};
 
 use crate::task::Task;
 use anyhow::{Context, anyhow};
@@ -121,13 +121,23 @@ pub fn carry_out<T: Store<Error = E> + Drop, E: Error, B: BuildHasher + Drop>(
     ensures so { let hash = key_hash B.BuildHasher B.Hasher.Hasher in
         Guards hash guard.old.filter (T.is_ready guard.old.store) (T.has guard.old.store)
         → T.is_known guard.new.store → IfOk result (λ answer.
-        Answers task text.now (T.has guard.old.store) (T.has guard.new.store) answer) }
+        Answers task.entry text.now (T.has guard.old.store) (T.has guard.new.store) answer) }
     // What it says of counts is what the guard has counted.
     ensures counts { IfOk result (λ answer. TellsCounts answer guard.new.counts) }
     ensures tallies { let hash = key_hash B.BuildHasher B.Hasher.Hasher in
-        task ≡ Task.Stats → IfOk result (λ _.
+        task.entry ≡ Task.Stats → IfOk result (λ _.
         Tallies hash guard.old.filter (T.is_ready guard.old.store × T.is_known guard.new.store)
         (T.has guard.old.store) (lines text.now) guard.old.counts guard.new.counts) }
+    // What an error leaves.
+    ensures err { let hash = key_hash B.BuildHasher B.Hasher.Hasher in
+        Guards hash guard.old.filter (T.is_ready guard.old.store) (T.has guard.old.store)
+        → T.is_known guard.new.store
+        → OnErr result (Leaves task.entry (T.has guard.old.store) (T.has guard.new.store)) }
+    // A key is put once: where no key had two values, none has after, also after an error.
+    ensures once { let hash = key_hash B.BuildHasher B.Hasher.Hasher in
+        Guards hash guard.old.filter (T.is_ready guard.old.store) (T.has guard.old.store)
+        → T.is_known guard.new.store
+        → IsSingle (T.has guard.old.store) → IsSingle (T.has guard.new.store) }
     // It is a guard as before, also after an error.
     ensures guards { let hash = key_hash B.BuildHasher B.Hasher.Hasher in
         Guards hash guard.old.filter (T.is_ready guard.old.store) (T.has guard.old.store)
@@ -144,11 +154,15 @@ pub fn carry_out<T: Store<Error = E> + Drop, E: Error, B: BuildHasher + Drop>(
             let found = guard.get(key).context("the key can't be looked up")?;
             Ok(Answer::Found(found))
         }
-        Task::Load(_) => match load(guard, text) {
-            Ok(loaded) => Ok(Answer::Loaded(loaded, guard.counts)),
-            Err(Stop::Line(number)) => Err(anyhow!("line {number} has no tab")),
-            Err(Stop::Store(error)) => Err(error).context("a value can't be put"),
-        },
+        Task::Load(_) => {
+            // So its lines can be counted.
+            prove!(text.len() <= usize::MAX);
+            match load(guard, text) {
+                Ok(loaded) => Ok(Answer::Loaded(loaded, guard.counts)),
+                Err(Stop::Line(number)) => Err(anyhow!("line {number} has no tab")),
+                Err(Stop::Store(error)) => Err(error).context("a value can't be put"),
+            }
+        }
         Task::Stats => {
             ask(guard, text).context("a key can't be looked up")?;
             Ok(Answer::Counted(guard.counts))
