@@ -9,6 +9,6 @@ pub returns-in-Ok-clause-so : goal.returns-in-Ok-clause-so
 returns-in-Ok-clause-so g c = λ guards known.
     let now = c.in-Ok.ensures in
     let few : length (lines c.args.text.now) < 2 ^ 64 =
-        omega (arith, length-lines-le c.args.text.now, c.if-prove.false) in
+    omega (arith, length-lines-le c.args.text.now, c.if-prove.false) in
     Answers-load c.args.text.now c.in-Ok.loaded c.load.new.guard.counts c.in-Load.is
     (now.loads guards known) (now.counts few)
