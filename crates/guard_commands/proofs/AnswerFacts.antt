@@ -1,5 +1,5 @@
--- What an answer says of an entry and of a look-up, of a store with the key 1 and the value 2: cases
--- that hold, and near ones that don't.
+-- What an answer says of an entry and of a look-up, of a store with the key 1 and the value 2:
+-- cases that hold, and near ones that don't.
 use Rattle.std.proofs.Common.{◌≡◌, inl, inr, ℕ, [], ◌∷◌, string_bytes, refl}
 use Rattle.guard_engine.specs.declared.counts.Counts.{Counts}
 use Rattle.guard_engine.specs.declared.guard.Found.TheVariants.{Spared, FalseAlarm, Value}

@@ -1,5 +1,5 @@
--- What the answers to tasks say, of a store with the key 1 and the value 2: cases that hold, and near
--- ones that don't. Byte 9 is the tab.
+-- What the answers to tasks say, of a store with the key 1 and the value 2: cases that hold, and
+-- near ones that don't. Byte 9 is the tab.
 use Rattle.std.proofs.Common.{◌≡◌, inl, inr, ℕ, List, [], ◌∷◌, Bor, Contains, refl, sym, ap, subst, arith}
 use Rattle.std.proofs.lemmas.List.Elements.{Contains-append_right}
 use Rattle.std.specs.Str.Lines.{lines}
