@@ -2,18 +2,15 @@
 #![tactic(auto)]
 
 mod command_line;
-mod commands;
-mod disk;
 #[cfg(test)]
 mod tests;
 
 use anyhow::{Context, bail};
-use command_line::{Options, Task, arguments};
-use commands::{Answer, carry_out, guarded};
-use disk::{closed, opened};
+use command_line::{Options, arguments};
+use guard_commands::{Answer, Task, carry_out, guarded};
 use guard_engine::Store;
 use guard_store::EntryTable;
-use sqlite::{Alter, Connection, Error, Start, Wary};
+use sqlite::{Alter, Connection, Error, FileFrom, FileStore, Start, Wary};
 use std::alloc::Global;
 use std::process::ExitCode;
 use std::rt::Files;
@@ -75,6 +72,23 @@ fn serve_over<D: Alter + Drop>(
     let table = EntryTable::over(alloc, conn).context("it is no store of a guard")?;
     let (table, answer) = serve(alloc, table, options, text)?;
     Ok((table.into_connection(), answer))
+}
+
+// The connection to a file, which is made where there is none.
+fn opened<S: Start>(
+    rt: &HostRuntime,
+    path: &str,
+    start: S,
+) -> anyhow::Result<Connection<FileStore<FileFrom<S>>>> {
+    match Connection::open_from(rt, path, false, start) {
+        Ok(conn) => Ok(conn),
+        Err((error, _)) => Err(error).context("it can't be opened"),
+    }
+}
+
+// Copies the log into the file, and closes both.
+fn closed<S: Start>(conn: Connection<FileStore<FileFrom<S>>>) -> anyhow::Result<()> {
+    conn.close().context("it can't be closed")
 }
 
 // Carries the task out on a file.

@@ -1,10 +1,10 @@
 //! What no contract says: which words are understood, what is printed, and what a store that fails
 //! leaves.
 
-use crate::command_line::{Options, Task, arguments};
-use crate::commands::{carry_out, guarded};
+use crate::command_line::{Options, arguments};
 use clap::error::ErrorKind;
 use fastbloom::Rate;
+use guard_commands::{Task, carry_out, guarded};
 use guard_engine::{Guard, Store};
 use sqlite::{Error, ErrorCode};
 use std::alloc::Global;
@@ -83,56 +83,66 @@ fn told(
     }
 }
 
+// What is asked of a guard whose store has one place, and what is printed.
+const ASKED: [(Task<'static>, &str, &str, bool); 10] = [
+    (Task::Get("crab"), "", "absent: the store was spared", true),
+    (Task::Put("crab", "10"), "", "added", false),
+    (Task::Put("crab", "11"), "", "taken", true),
+    (Task::Get("crab"), "", "10", false),
+    (
+        Task::Stats,
+        "crab\nlobster\n",
+        "3 spared, 3 asked, 0 false alarms",
+        false,
+    ),
+    (
+        Task::Load("f"),
+        "crab\t1\n",
+        "0 added, 1 taken\n3 spared, 4 asked, 0 false alarms",
+        false,
+    ),
+    (
+        Task::Load("f"),
+        "crab\t1\nlobster\n",
+        "line 2 has no tab",
+        false,
+    ),
+    (
+        Task::Load("f"),
+        "lobster\t1\n",
+        "a value can't be put",
+        false,
+    ),
+    (
+        Task::Put("shrimp", "1"),
+        "",
+        "the value can't be put",
+        false,
+    ),
+    (
+        Task::Get("shrimp"),
+        "",
+        "absent: the store was asked for nothing",
+        true,
+    ),
+];
+
 #[test]
 fn answers_have_texts(rt: HostRuntime) -> Result<(), Fail> {
     let mut guard = opened(rt.alloc(), true)?;
-    let runs = [
-        (Task::Get("crab"), "", "absent: the store was spared", true),
-        (Task::Put("crab", "10"), "", "added", false),
-        (Task::Put("crab", "11"), "", "taken", true),
-        (Task::Get("crab"), "", "10", false),
-        (
-            Task::Stats,
-            "crab\nlobster\n",
-            "3 spared, 3 asked, 0 false alarms",
-            false,
-        ),
-        (
-            Task::Load("f"),
-            "crab\t1\n",
-            "0 added, 1 taken\n3 spared, 4 asked, 0 false alarms",
-            false,
-        ),
-        (
-            Task::Load("f"),
-            "crab\t1\nlobster\n",
-            "line 2 has no tab",
-            false,
-        ),
-        (
-            Task::Load("f"),
-            "lobster\t1\n",
-            "a value can't be put",
-            false,
-        ),
-        (
-            Task::Put("shrimp", "1"),
-            "",
-            "the value can't be put",
-            false,
-        ),
-        (
-            Task::Get("shrimp"),
-            "",
-            "absent: the store was asked for nothing",
-            true,
-        ),
-    ];
-    for (task, text, printed, is_no) in runs {
+    for (task, text, printed, is_no) in ASKED {
         let (got, no) = told(rt.alloc(), &mut guard, task, text)?;
         assert_eq!(rt; got.as_str(), printed);
         assert_eq!(rt; no, is_no);
     }
+    Ok(())
+}
+
+#[test]
+fn a_store_that_fails_has_texts(rt: HostRuntime) -> Result<(), Fail> {
+    let mut guard = opened(rt.alloc(), true)?;
+    let (got, _) = told(rt.alloc(), &mut guard, Task::Put("crab", "10"), "")?;
+    assert_eq!(rt; got.as_str(), "added");
     guard.store.reads = false;
     let broken = [
         (Task::Get("crab"), "", "the key can't be looked up"),

@@ -1,0 +1,4 @@
+mod AnswerFacts
+mod AnswerLemmas
+mod LineLemmas
+mod TaskFacts
