@@ -7,30 +7,39 @@ use fastbloom::{BloomFilter, FilterError, Rate};
 use std::alloc::Global;
 use std::test::Fail;
 
-// Counts how often it is told.
-#[derive(Drop)]
-struct Told {
-    times: u64,
-    last: Tally,
-}
+// Is told in vain.
+#[derive(Clone, Copy, Debug)]
+struct Told;
 
 impl Progress for Told {
     ghost use Rattle.std.specs.Prelude.{None};
 
-    // It forgets all but the last.
     ghost tells = { λ _. None };
 
+    fn tell(&mut self, _tally: Tally) {}
+}
+
+// Keeps what it is told, as long as there is room.
+#[derive(Drop)]
+struct Kept {
+    tallies: Vec<Tally>,
+    is_whole: bool,
+}
+
+impl Progress for Kept {
+    ghost use Rattle.std.specs.Prelude.{None, Some, if◌then◌else◌};
+
+    ghost tells = { λ kept. if kept.is_whole then Some kept.tallies.items else None };
+
     fn tell(&mut self, tally: Tally) {
-        self.times = self.times.saturating_add(1);
-        self.last = tally;
+        if self.is_whole {
+            self.is_whole = self.tallies.push(tally).is_ok();
+        }
     }
 }
 
 fn untold() -> Told {
-    Told {
-        times: 0,
-        last: Tally { read: 0, held: 0 },
-    }
+    Told
 }
 
 fn filter_of(alloc: Global) -> Result<BloomFilter, FilterError> {
@@ -121,7 +130,10 @@ fn progress_is_told_each_million_lines(rt: HostRuntime) -> Result<(), Fail> {
     let input = vec![in rt.alloc(); b'\n'; 2_000_001]?;
     let mut filter = filter_of(rt.alloc())?;
     let mut output = Vec::new(rt.alloc());
-    let mut told = untold();
+    let mut told = Kept {
+        tallies: Vec::new(rt.alloc()),
+        is_whole: true,
+    };
     let ended = keep_new(
         rt.alloc(),
         &mut filter,
@@ -135,9 +147,12 @@ fn progress_is_told_each_million_lines(rt: HostRuntime) -> Result<(), Fail> {
         held: 2_000_000,
     };
     assert_eq!(rt; ended, Ok(tally));
-    assert_eq!(rt; told.times, 2);
-    assert_eq!(rt; told.last.read, 2_000_000);
-    assert_eq!(rt; told.last.held, 1_999_999);
+    let tallies = [(1_000_000, 999_999), (2_000_000, 1_999_999)];
+    assert!(rt; told.is_whole);
+    assert_eq!(rt; told.tallies.len(), 2);
+    for (tally, (read, held)) in told.tallies.iter().zip(tallies) {
+        assert_eq!(rt; *tally, Tally { read, held });
+    }
     Ok(())
 }
 

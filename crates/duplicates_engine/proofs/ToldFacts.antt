@@ -29,9 +29,13 @@ tells-before is =
     let number : 2000000 ≡ 1000000 = ap (λ told. get_or (map (λ t. t.read) told) 0 0) is in
     omega (arith, number)
 
--- nor if what it was told before is forgotten
-tells-forgets : Tells (Some (one ∷ [])) None two → ⊥
-tells-forgets is = is
+-- it may lose what it was told
+tells-loses : Tells (Some (one ∷ [])) None two
+tells-loses = tt
+
+-- what was lost doesn't come back
+tells-again : Tells None (Some (two ∷ [])) two → ⊥
+tells-again is = is
 
 -- the first two whole millions
 whole : millions 2 ≡ 1000000 ∷ 2000000 ∷ []

@@ -22,9 +22,11 @@ millions-more n whole =
 told-more : (old now new : Option (List Tally)) (n : ℕ) (tally : Tally)
     → TellsMillions old now n → tally.read ≡ n + 1 → (n + 1) % 1000000 ≡ 0 → Tells now new tally
     → TellsMillions old new (n + 1)
-told-more None now new n tally so_far is whole more = tt
-told-more (Some told) None new n tally so_far is whole more = absurd so_far
-told-more (Some told) (Some here) None n tally so_far is whole more = absurd more
+told-more None now None n tally so_far is whole more = tt
+told-more None None (Some end) n tally so_far is whole more = absurd more
+told-more None (Some here) (Some end) n tally so_far is whole more = absurd so_far
+told-more (Some told) now None n tally so_far is whole more = tt
+told-more (Some told) None (Some end) n tally so_far is whole more = absurd more
 told-more (Some told) (Some here) (Some end) n tally so_far is whole more =
     let tallies = so_far.0 in (
       tallies ++ tally ∷ [],
@@ -38,8 +40,9 @@ told-more (Some told) (Some here) (Some end) n tally so_far is whole more =
 -- nothing was told within a million
 told-same : (old now : Option (List Tally)) (n m : ℕ) → TellsMillions old now n
     → m / 1000000 ≡ n / 1000000 → TellsMillions old now m
-told-same None now n m so_far same = tt
-told-same (Some told) None n m so_far same = absurd so_far
+told-same None None n m so_far same = tt
+told-same None (Some here) n m so_far same = absurd so_far
+told-same (Some told) None n m so_far same = tt
 told-same (Some told) (Some here) n m so_far same =
     (so_far.0, so_far.1, so_far.2 ∙ ap millions (sym same))
 

@@ -9,7 +9,7 @@ pub trait Progress {
     ghost use Rattle.std.specs.Prelude.{List, Option};
     ghost use Rattle.duplicates_engine.specs.declared.tally.Tally.{Tally};
 
-    /// What it was told so far, the first first, or None where it doesn't keep that.
+    /// What it was told so far, the first first, or None where it doesn't keep that, or no longer.
     ghost tells: { Self → Option (List Tally) };
 
     fn tell(&mut self, tally: Tally)
