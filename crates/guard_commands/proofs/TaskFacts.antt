@@ -1,11 +1,11 @@
 -- What the answers to tasks say, of a store with the key 1 and the value 2: cases that hold, and
 -- near ones that don't. Byte 9 is the tab.
-use Rattle.std.proofs.Common.{◌≡◌, inl, inr, ℕ, List, [], ◌∷◌, Bor, Contains, refl, sym, ap, subst, arith}
+use Rattle.std.proofs.Common.{◌≡◌, inl, inr, ℕ, List, [], ◌∷◌, Bor, Contains, length, length-append, refl, sym, ap, subst, arith}
 use Rattle.std.proofs.lemmas.List.Elements.{Contains-append_right}
 use Rattle.std.specs.Str.Lines.{lines}
 use Rattle.guard_engine.specs.declared.guard.Found.TheVariants.{Spared}
 use Rattle.guard_engine.specs.declared.guard.Put.TheVariants.{Added, Taken}
-use Rattle.guard_engine.specs.Loaded.{HasTab, Loads, key_in, value_in}
+use Rattle.guard_engine.specs.Loaded.{GainsMany, HasTab, Loads, key_in, value_in}
 use Rattle.guard_commands.specs.declared.commands.Answer.TheVariants as answers
 use Rattle.guard_commands.specs.declared.task.Task.TheVariants as tasks
 use Rattle.guard_commands.specs.Answers.{Answers, IsLoaded, Leaves, TellsCounts}
@@ -29,9 +29,9 @@ text = 1 ∷ 9 ∷ 2 ∷ 10 ∷ []
 tab : HasTab line
 tab = omega arith
 
--- the only line
-of_one : (other : List ℕ) → Contains (line ∷ []) other → other ≡ line
-of_one other (k, within, is) = let at : k ≡ 0 = omega (arith, within) in sym (rw at at is)
+-- the only one
+of_one : (only other : List ℕ) → Contains (only ∷ []) other → other ≡ only
+of_one only other (k, within, is) = let at : k ≡ 0 = omega (arith, within) in sym (rw at at is)
 
 -- the line was put
 loads : Loads (lines text) none one
@@ -47,16 +47,37 @@ loads = record {
     },
   );
   found = λ other is_in. subst (λ l. HasTab l × ((value : List ℕ) × one (key_in l) value))
-      (sym (of_one other is_in)) (tab, (2 ∷ [], (refl, refl)));
+      (sym (of_one line other is_in)) (tab, (2 ∷ [], (refl, refl)));
   first = λ before after other cut new lacks.
-      subst (λ l. one (key_in l) (value_in l)) (sym (of_one other (subst (λ all. Contains all other)
+      subst (λ l. one (key_in l) (value_in l)) (sym (of_one line other (subst (λ all. Contains all other)
       (sym cut) (Contains-append_right before (other ∷ after) other (0, omega arith, refl)))))
       (refl, refl);
 }
 
--- and counts as one
+-- one key got a value
+gained : GainsMany none one 1
+gained = record {
+  keys = (1 ∷ []) ∷ [];
+  counted = refl;
+  distinct = ((λ there. absurd (omega (arith, there.1))), tt);
+  gains = record {
+    lacked = λ key there value had. had;
+    found = λ key there. subst (λ k. (value : List ℕ) × one k value)
+        (sym (of_one (1 ∷ []) key there)) (2 ∷ [], (refl, refl));
+    others = λ key value has. inr (0, omega arith, sym has.0);
+  };
+}
+
+-- and counts as added
 is_loaded : IsLoaded (lines text) none one (loaded 1 0)
-is_loaded = record { loads = loads; counts = refl }
+is_loaded = record { loads = loads; counts = refl; gains = gained }
+
+-- not as taken
+loaded-taken : IsLoaded (lines text) none one (loaded 0 1) → ⊥
+loaded-taken is = elim (is.gains.gains.others (1 ∷ []) (2 ∷ []) (refl, refl)) [
+  | inl was ↦ was.1
+  | inr there ↦ absurd (omega (arith, is.gains.counted, there.1))
+]
 
 -- not as none
 loaded-none : IsLoaded (lines text) none one (loaded 0 0) → ⊥
@@ -116,23 +137,49 @@ stats-gains (told, same, stays) = (stays (1 ∷ []) (2 ∷ [])).0 (refl, refl)
 -- ---- what an error leaves
 
 -- of an entry all or nothing
-leaves-none : Leaves (tasks.Put (lent (1 ∷ [])) (lent (3 ∷ []))) one one
+leaves-none : Leaves (tasks.Put (lent (1 ∷ [])) (lent (3 ∷ []))) [] one one
 leaves-none = inl same-one
 
-leaves-all : Leaves (tasks.Put (lent (1 ∷ [])) (lent (2 ∷ []))) none one
+leaves-all : Leaves (tasks.Put (lent (1 ∷ [])) (lent (2 ∷ []))) [] none one
 leaves-all = inr gains
 
 -- not another entry
-leaves-other : Leaves (tasks.Put (lent (1 ∷ [])) (lent (3 ∷ []))) none one → ⊥
+leaves-other : Leaves (tasks.Put (lent (1 ∷ [])) (lent (3 ∷ []))) [] none one → ⊥
 leaves-other (inl stays) = (stays (1 ∷ []) (2 ∷ [])).0 (refl, refl)
 leaves-other (inr is) = let same = is.here.1 in cc
 
 -- of a look-up all as it was
-leaves-get : Leaves (tasks.Get (lent (1 ∷ []))) none one → ⊥
+leaves-get : Leaves (tasks.Get (lent (1 ∷ []))) [] none one → ⊥
 leaves-get stays = (stays (1 ∷ []) (2 ∷ [])).0 (refl, refl)
 
-leaves-stats : Leaves tasks.Stats none one → ⊥
+leaves-stats : Leaves tasks.Stats text none one → ⊥
 leaves-stats stays = (stays (1 ∷ []) (2 ∷ [])).0 (refl, refl)
+
+-- of a load its first lines, of which there may be none
+leaves-load : Leaves (tasks.Load (lent [])) text none one
+leaves-load = record { first = line ∷ []; rest = []; are = refl; loads = loads }
+
+leaves-load-none : Leaves (tasks.Load (lent [])) text one one
+leaves-load-none = record {
+  first = [];
+  rest = line ∷ [];
+  are = refl;
+  loads = record {
+    kept = λ key value had. had;
+    others = λ key value has. inl has;
+    found = λ other there. absurd (omega (arith, there.1));
+    first = λ before after other is.
+        absurd (omega (arith, ap length is, length-append before (other ∷ after)));
+  };
+}
+
+-- and nothing that isn't in the text
+leaves-load-other : Leaves (tasks.Load (lent [])) [] none one → ⊥
+leaves-load-other is = elim (is.loads.others (1 ∷ []) (2 ∷ []) (refl, refl)) [
+  | inl had ↦ had
+  | inr (other, there, entry) ↦
+      absurd (omega (arith, ap length is.are, length-append is.first is.rest, there.1))
+]
 
 -- ---- counts
 

@@ -9,7 +9,7 @@ use Rattle.guard_engine.specs.declared.guard.Put.{Put}
 use Rattle.guard_engine.specs.declared.guard.Put.TheVariants.{Added, Taken}
 use Rattle.guard_engine.specs.declared.runs.Loaded.{Loaded}
 use Rattle.guard_engine.specs.Guarded.{Entries, Gains, Lacks, Stays}
-use Rattle.guard_engine.specs.Loaded.{Loads}
+use Rattle.guard_engine.specs.Loaded.{GainsMany, Loads, LoadsFirst}
 use Rattle.guard_commands.specs.declared.commands.Answer.{Answer}
 use Rattle.guard_commands.specs.declared.commands.Answer.TheVariants as answers
 use Rattle.guard_commands.specs.declared.task.Task.{Task}
@@ -36,10 +36,12 @@ IsFound key entries (Value value) = entries key (string_bytes value)
 IsFound key entries Spared = Lacks entries key
 IsFound key entries FalseAlarm = Lacks entries key
 
--- what a load came to: each line was put, and counts once, as added or as taken
+-- what a load came to: each line was put, and counts once, as added or as taken; as added count
+-- just the keys that got a value
 pub record IsLoaded (lines : List (List ℕ)) (old new : Entries) (loaded : Loaded) : Type 0 where
   pub loads : Loads lines old new
   pub counts : loaded.added + loaded.taken ≡ length lines
+  pub gains : GainsMany old new loaded.added
 
 -- the answer is one to the task, whose entries or keys stand in the text, and is so
 abbrev pub Answers : Task → List ℕ → Entries → Entries → Answer → Type 0
@@ -53,13 +55,13 @@ Answers (tasks.Load file) text old new answer =
 Answers tasks.Stats text old new answer =
     (counts : Counts) × (answer ≡ answers.Counted counts) × Stays old new
 
--- what an error leaves of a store: an entry that was to be put came or not, and what was looked up
--- stays; of a load it says nothing
-abbrev pub Leaves : Task → Entries → Entries → Type 0
-Leaves (tasks.Put key value) old new = Stays old new ⊎ Gains old key.now value.now new
-Leaves (tasks.Get key) old new = Stays old new
-Leaves (tasks.Load file) old new = ⊤
-Leaves tasks.Stats old new = Stays old new
+-- what an error leaves of a store: an entry that was to be put came or not, the first lines of a
+-- load were put, and what was looked up stays
+abbrev pub Leaves : Task → List ℕ → Entries → Entries → Type 0
+Leaves (tasks.Put key value) text old new = Stays old new ⊎ Gains old key.now value.now new
+Leaves (tasks.Get key) text old new = Stays old new
+Leaves (tasks.Load file) text old new = LoadsFirst (lines text) old new
+Leaves tasks.Stats text old new = Stays old new
 
 -- what the answer says of counts is this
 abbrev pub TellsCounts : Answer → Counts → Type 0

@@ -132,7 +132,8 @@ pub fn carry_out<T: Store<Error = E> + Drop, E: Error, B: BuildHasher + Drop>(
     ensures err { let hash = key_hash B.BuildHasher B.Hasher.Hasher in
         Guards hash guard.old.filter (T.is_ready guard.old.store) (T.has guard.old.store)
         → T.is_known guard.new.store
-        → OnErr result (Leaves task.entry (T.has guard.old.store) (T.has guard.new.store)) }
+        → OnErr result
+        (Leaves task.entry text.now (T.has guard.old.store) (T.has guard.new.store)) }
     // A key is put once: where no key had two values, none has after, also after an error.
     ensures once { let hash = key_hash B.BuildHasher B.Hasher.Hasher in
         Guards hash guard.old.filter (T.is_ready guard.old.store) (T.has guard.old.store)

@@ -41,7 +41,7 @@ stays-less : Stays one none → ⊥
 stays-less is = (is (1 ∷ []) (2 ∷ [])).1 (refl, refl)
 
 -- the entry comes
-gains : Gains none (1 ∷ []) (2 ∷ []) one
+pub gains : Gains none (1 ∷ []) (2 ∷ []) one
 gains = record { here = (refl, refl); kept = λ k v had. absurd had; others = λ k v has. inr has }
 
 -- not with another value

@@ -1,7 +1,10 @@
+mod AskLemmas
 mod CountLemmas
 mod CountedFacts
 mod FoundLemmas
 mod GuardedFacts
+mod KeyLemmas
 mod LoadLemmas
 mod LoadedFacts
 mod RunLemmas
+mod StopLemmas

@@ -1,7 +1,9 @@
 -- Lines that are put one after the other.
-use Rattle.std.proofs.Common.{◌≡◌, ℕ, ◌⊎◌, inl, inr, List, [], ◌∷◌, ◌++◌, map, Option, Some, None, Bor, Ok, Err, Result, IfOk, IfSome, length, length-append, refl, sym, ap, subst, arith, Contains}
+use Rattle.std.proofs.Common.{◌≡◌, ℕ, ◌⊎◌, ◌+◌, drop, ◌∙◌, inl, inr, List, [], ◌∷◌, ◌++◌, map, Option, Some, None, Bor, Ok, Err, Result, IfOk, IfSome, length, length-append, refl, sym, ap, subst, arith, Contains}
 use Rattle.std.proofs.lemmas.Iterator.{items_from_drains}
+use Rattle.std.proofs.lemmas.Iterator.Consumers.{YieldsList-so_far, YieldsList-turn}
 use Rattle.std.proofs.lemmas.Iterator.Splits.{YieldsList-from_lines}
+use Rattle.std.proofs.lemmas.List.{drop_more, take-append-drop}
 use Rattle.std.proofs.lemmas.List.Elements.{Contains-append_left, Contains-append_right, Contains-append_cases}
 use Rattle.std.proofs.lemmas.Str.Pattern.{IsSplitOnceResult, split_once_first}
 use Rattle.std.specs.Iterator.{Yields}
@@ -17,7 +19,7 @@ abbrev Of : List (List ℕ) → List ℕ → List ℕ → Type 0
 Of lines key value = (line : List ℕ) × Contains lines line × IsEntryIn line key value
 
 -- the only element of a list
-only : {X : Type 0} (x y : X) → Contains (x ∷ []) y → y ≡ x
+pub only : {X : Type 0} (x y : X) → Contains (x ∷ []) y → y ≡ x
 only x y (k, within, is) = let at : k ≡ 0 = omega (arith, within) in sym (rw at at is)
 
 -- a list with an element isn't empty
@@ -45,14 +47,18 @@ cut_at (y ∷ xs) ys (b ∷ before) after x e =
       | inr (mid, is, more) ↦ inr (mid, rw (same, is) refl, more)
     ]
 
--- of no lines
-pub Loads-nil : (entries : Entries) → Loads [] entries entries
-Loads-nil entries = record {
-  kept = λ key value had. had;
-  others = λ key value has. inl has;
+-- of no lines, where all stays
+pub Loads-stays : (old new : Entries) → Stays old new → Loads [] old new
+Loads-stays old new stays = record {
+  kept = λ key value had. (stays key value).1 had;
+  others = λ key value has. inl ((stays key value).0 has);
   found = λ line in_none. absurd (omega (arith, in_none.1));
   first = λ before after line is. absurd (no_element before after line is);
 }
+
+-- of no lines
+pub Loads-nil : (entries : Entries) → Loads [] entries entries
+Loads-nil entries = Loads-stays entries entries (λ key value. (λ had. had, λ had. had))
 
 -- of a line whose entry came
 pub Loads-added : (line : List ℕ) (old new : Entries) → HasTab line
@@ -145,6 +151,22 @@ pub lines_read : (start last end : _) (text : List ℕ) (taken : List (Bor (List
 lines_read start last end text taken rest came ended =
     items_from_drains taken (last, came, λ _. (end, ended)) (YieldsList-from_lines text rest)
 
+-- and so far they are the first of them, before the one that came last
+pub lines_before : (start last next : _) (text : List ℕ) (taken : List (Bor (List ℕ)))
+    (line : Bor (List ℕ)) → lines_rest start ≡ text → Yields lines_steps start taken last
+    → lines_steps last (Some line) next
+    → (rest : List (List ℕ)) × (lines text ≡ map (λ l. l.now) taken ++ line.now ∷ rest)
+lines_before start last next text taken line rest came stepped =
+    let road = YieldsList-from_lines text rest in
+    let n = length taken in
+    let turn = YieldsList-turn road taken last came (Some line) next line refl stepped in (
+      drop (n + 1) (lines text),
+      sym (take-append-drop n (lines text))
+          ∙ ap (λ l. l ++ drop n (lines text)) (sym (YieldsList-so_far road taken last came))
+          ∙ ap (λ l. map (λ l. l.now) taken ++ l) (drop_more (lines text) n line.now turn.0)
+          ∙ ap (λ l. map (λ l. l.now) taken ++ l ∷ drop (n + 1) (lines text)) (sym turn.1),
+    )
+
 -- ---- one line
 
 -- what a cut at the tab gives
@@ -153,6 +175,13 @@ pub cut : (line : List ℕ) (r : Option (Bor (List ℕ) × Bor (List ℕ))) → 
 cut line None h = tt
 cut line (Some x) h = let at = split_once_first 9 line (Some x) h (omega arith) in
     record { tab = at.0; key_is = at.1; value_is = at.2 }
+
+-- where there is none
+pub uncut : (line : List ℕ) (r : Option (Bor (List ℕ) × Bor (List ℕ))) → IsSplitOnceResult 9 line r
+    → r ≡ None → ¬ HasTab line
+uncut line None h is tab =
+    let none = split_once_first 9 line None h (omega arith) in absurd (omega (arith, none, tab))
+uncut line (Some x) h is tab = cc
 
 -- a put of its entry, whatever it answers
 pub put_loads : {E : Type 0} (line key value : List ℕ) (old new : Entries) (r : Result Put E)

@@ -1,28 +1,28 @@
--- Runs over the lines of a text, half-way and at their end: a load, and many look-ups.
-use Rattle.std.proofs.Common.{◌≡◌, ◌↔◌, ◌+◌, ◌<◌, ◌^◌, ℕ, false, List, [], ◌∷◌, ◌++◌, map, length, length-append, string_bytes, None, Bor, Result, Ok, refl, sym, ap, subst, ◌∙◌, arith}
+-- Loads of the lines of a text, half-way, at their end, and at an error.
+use Rattle.std.proofs.Common.{◌≡◌, ◌+◌, ◌-◌, ◌<◌, ◌^◌, min, ℕ, suc, List, [], ◌∷◌, ◌++◌, map, length, length-append, Some, None, Bor, refl, sym, ap, subst, ◌∙◌, arith}
 use Rattle.std.proofs.lemmas.List.{length-map, map-append}
 use Rattle.std.specs.Iterator.{Yields}
 use Rattle.std.specs.Str.Iter.{lines_rest, lines_steps}
 use Rattle.std.specs.Str.Lines.{lines}
-use Rattle.bloom_plain.specs.Filter.{Filter, contains}
-use Rattle.guard_engine.specs.declared.counts.Counts.{Counts}
-use Rattle.guard_engine.specs.declared.guard.Found.{Found}
-use Rattle.guard_engine.specs.declared.guard.Found.TheVariants.{Spared, FalseAlarm, Value}
-use Rattle.guard_engine.specs.Counted.{Tallies, one_more}
-use Rattle.guard_engine.specs.Guarded.{Entries, Guards, IsSingle, Lacks, Stays}
-use Rattle.guard_engine.specs.Loaded.{Loads}
-use Rattle.guard_engine.proofs.CountLemmas.{Stays-after, Tallies-more, Tallies-none}
-use Rattle.guard_engine.proofs.LoadLemmas.{Loads-more, Loads-nil, lines_read}
-
--- ---- a load
+use Rattle.bloom_plain.specs.Filter.{Filter}
+use Rattle.guard_engine.specs.declared.guard.Put.{Put}
+use Rattle.guard_engine.specs.declared.runs.Loaded.{Loaded}
+use Rattle.guard_engine.specs.Guarded.{Entries, Guards, IsSingle}
+use Rattle.guard_engine.specs.Loaded.{GainsMany, HasTab, Loads, LoadsFirst, StopsAt, added_by}
+use Rattle.guard_engine.proofs.KeyLemmas.{GainsMany-more, GainsMany-none}
+use Rattle.guard_engine.proofs.LoadLemmas.{Loads-more, Loads-nil, lines_before, lines_read}
+use Rattle.guard_engine.proofs.StopLemmas.{LoadsFirst-after, StopsAt-after}
 
 -- these lines were put and counted; it is a guard as before, and no key has two values that had one
 pub record IsLoading {B S : Type 0} (hash_of : B → List ℕ → ℕ) (has : S → Entries)
     (is_ready is_known : S → Type 0) (f : Filter B) (old : S) (taken : List (Bor (List ℕ)))
-    (count : ℕ) (last : Filter B) (new : S) : Type 0 where
+    (loaded : Loaded) (number : ℕ) (last : Filter B) (new : S) : Type 0 where
   pub loads : Guards hash_of f (is_ready old) (has old) → is_known new
       → Loads (map (λ line. line.now) taken) (has old) (has new)
-  pub counts : length taken < 2 ^ 64 → count ≡ length taken
+  pub counts : length taken < 2 ^ 64 → loaded.added + loaded.taken ≡ length taken
+  pub added : Guards hash_of f (is_ready old) (has old) → is_known new → length taken < 2 ^ 64
+      → GainsMany (has old) (has new) loaded.added
+  pub numbered : length taken < 2 ^ 64 → number ≡ length taken
   pub guards : Guards hash_of f (is_ready old) (has old) → is_known new
       → Guards hash_of last (is_ready new) (has new)
   pub once : Guards hash_of f (is_ready old) (has old) → is_known new
@@ -32,10 +32,13 @@ pub record IsLoading {B S : Type 0} (hash_of : B → List ℕ → ℕ) (has : S 
 -- no line yet
 pub loading-none : {B S : Type 0} {hash_of : B → List ℕ → ℕ} {has : S → Entries}
     {is_ready is_known : S → Type 0} {f : Filter B} {old : S}
-    → IsLoading hash_of has is_ready is_known f old [] 0 f old
+    → IsLoading hash_of has is_ready is_known f old [] (record { added = 0; taken = 0 }) 0 f old
 loading-none {has = has} {old = old} = record {
   loads = λ guards known. Loads-nil (has old);
   counts = λ fits. refl;
+  added = λ guards known fits.
+      GainsMany-none (has old) (has old) (λ key value. (λ had. had, λ had. had));
+  numbered = λ fits. refl;
   guards = λ guards known. guards;
   once = λ guards known single. single;
   known = λ known. known;
@@ -43,37 +46,66 @@ loading-none {has = has} {old = old} = record {
 
 module _ {B S : Type 0} {hash_of : B → List ℕ → ℕ} {has : S → Entries}
     {is_ready is_known : S → Type 0} {f mid_f : Filter B} {old mid : S}
-    {taken : List (Bor (List ℕ))} {before : ℕ}
-    (so_far : IsLoading hash_of has is_ready is_known f old taken before mid_f mid) where
+    {taken : List (Bor (List ℕ))} {before : Loaded} {number : ℕ}
+    (so_far : IsLoading hash_of has is_ready is_known f old taken before number mid_f mid) where
   -- one line more
-  pub loading-more : {last : Filter B} {new : S} {after : ℕ} (line : Bor (List ℕ))
+  pub loading-more : {last : Filter B} {new : S} {after : Loaded} {next : ℕ} (line : Bor (List ℕ))
+      (put : Put)
       → (Guards hash_of mid_f (is_ready mid) (has mid) → is_known new
       → Loads (line.now ∷ []) (has mid) (has new))
+      → (Guards hash_of mid_f (is_ready mid) (has mid) → is_known new
+      → GainsMany (has mid) (has new) (added_by put))
       → (Guards hash_of mid_f (is_ready mid) (has mid) → is_known new
       → Guards hash_of last (is_ready new) (has new))
       → (Guards hash_of mid_f (is_ready mid) (has mid) → is_known new
       → IsSingle (has mid) → IsSingle (has new))
-      → (is_known new → is_known mid) → (before + 1 < 2 ^ 64 → after ≡ before + 1)
-      → IsLoading hash_of has is_ready is_known f old (taken ++ line ∷ []) after last new
-  loading-more {new = new} {after = after} line loads guards once known counted =
-      let more = length-append taken (line ∷ []) in
-      record {
-        loads = λ guarded told.
-            subst (λ all. Loads all (has old) (has new))
-            (sym (map-append (λ l. l.now) taken (line ∷ [])))
-            (Loads-more (map (λ l. l.now) taken) (line.now ∷ []) (has old) (has mid) (has new)
-            (so_far.loads guarded (known told))
-            (loads (so_far.guards guarded (known told)) told));
+      → (is_known new → is_known mid)
+      → (before.added + before.taken + 1 < 2 ^ 64
+      → after.added + after.taken ≡ before.added + before.taken + 1)
+      → (before.added + 1 < 2 ^ 64 → after.added ≡ before.added + added_by put)
+      → next ≡ min (number + 1) (2 ^ 64 - 1)
+      → IsLoading hash_of has is_ready is_known f old (taken ++ line ∷ []) after next last new
+  loading-more {new = new} {after = after} {next = next} line put loads gains guards once known sum
+      added numbered = record {
+        loads = all_put;
         counts = λ fits.
-            let was : before ≡ length taken = so_far.counts (omega (arith, fits, more)) in
-            let now : after ≡ before + 1 = counted (omega (arith, was, more, fits)) in
+            let was = so_far.counts (omega (arith, fits, more)) in
+            let now = sum (omega (arith, was, more, fits)) in
             omega (arith, was, now, more);
+        added = counted;
+        numbered = λ fits.
+            let was = so_far.numbered (omega (arith, fits, more)) in
+            omega (arith, was, numbered, more, fits);
         guards = λ guarded told. guards (so_far.guards guarded (known told)) told;
         once = λ guarded told single.
             once (so_far.guards guarded (known told)) told
             (so_far.once guarded (known told) single);
         known = λ told. so_far.known (known told);
       }
+    where
+      more : length (taken ++ line ∷ []) ≡ length taken + 1
+      more = length-append taken (line ∷ [])
+
+      all_put : Guards hash_of f (is_ready old) (has old) → is_known new
+          → Loads (map (λ l. l.now) (taken ++ line ∷ [])) (has old) (has new)
+      all_put guarded told =
+          subst (λ all. Loads all (has old) (has new))
+          (sym (map-append (λ l. l.now) taken (line ∷ [])))
+          (Loads-more (map (λ l. l.now) taken) (line.now ∷ []) (has old) (has mid) (has new)
+          (so_far.loads guarded (known told))
+          (loads (so_far.guards guarded (known told)) told))
+
+      counted : Guards hash_of f (is_ready old) (has old) → is_known new
+          → length (taken ++ line ∷ []) < 2 ^ 64 → GainsMany (has old) (has new) after.added
+      counted guarded told fits =
+          let few : length taken < 2 ^ 64 = omega (arith, fits, more) in
+          let was = so_far.counts few in
+          let now = so_far.guards guarded (known told) in
+          subst (GainsMany (has old) (has new))
+          (sym (added (omega (arith, was, more, fits))))
+          (GainsMany-more (has old) (has mid) (has new) before.added (added_by put)
+          (so_far.loads guarded (known told)).kept (loads now told).kept
+          (so_far.added guarded (known told) few) (gains now told))
 
   module _ {start from last end : _} {text : List ℕ} (given : start ≡ from)
       (rest : lines_rest from ≡ text) (came : Yields lines_steps start taken last)
@@ -82,6 +114,10 @@ module _ {B S : Type 0} {hash_of : B → List ℕ → ℕ} {has : S → Entries}
     all_lines : map (λ line. line.now) taken ≡ lines text
     all_lines = lines_read start last end text taken (ap lines_rest given ∙ rest) came ended
 
+    -- and are as many
+    many : length taken ≡ length (lines text)
+    many = sym (length-map taken (λ line. line.now)) ∙ ap length all_lines
+
     -- and all were put
     pub loaded-all : Guards hash_of f (is_ready old) (has old) → is_known mid
         → Loads (lines text) (has old) (has mid)
@@ -89,109 +125,46 @@ module _ {B S : Type 0} {hash_of : B → List ℕ → ℕ} {has : S → Entries}
         subst (λ all. Loads all (has old) (has mid)) all_lines (so_far.loads guards known)
 
     -- and counted
-    pub counted-all : length (lines text) < 2 ^ 64 → before ≡ length (lines text)
-    counted-all fits =
-        let many : length taken ≡ length (lines text) =
-        sym (length-map taken (λ line. line.now)) ∙ ap length all_lines in
-        so_far.counts (omega (arith, many, fits)) ∙ many
+    pub counted-all : length (lines text) < 2 ^ 64
+        → before.added + before.taken ≡ length (lines text)
+    counted-all fits = so_far.counts (omega (arith, many, fits)) ∙ many
 
--- ---- many look-ups
+    -- as many keys got a value as were added
+    pub added-all : Guards hash_of f (is_ready old) (has old) → is_known mid
+        → length (lines text) < 2 ^ 64 → GainsMany (has old) (has mid) before.added
+    added-all guards known fits = so_far.added guards known (omega (arith, many, fits))
 
--- these keys were looked up and counted; it is a guard as before over the same entries
-pub record IsAsking {B S : Type 0} (hash_of : B → List ℕ → ℕ) (has : S → Entries)
-    (is_ready is_known : S → Type 0) (f : Filter B) (old : S) (start : Counts)
-    (taken : List (Bor (List ℕ))) (last : Filter B) (new : S) (end : Counts) : Type 0 where
-  pub counts : Tallies hash_of f (is_ready old × is_known new) (has old)
-      (map (λ key. key.now) taken) start end
-  pub filter : last ≡ f
-  pub ready : is_ready old → is_known new → is_ready new
-  pub stays : is_ready old → is_known new → Stays (has old) (has new)
-  pub guards : Guards hash_of f (is_ready old) (has old) → is_known new
-      → Guards hash_of last (is_ready new) (has new)
-  pub known : is_known new → is_known old
+  module _ {start from : _} (last next : _) {text : List ℕ} (line : Bor (List ℕ)) (given : start ≡ from)
+      (rest : lines_rest from ≡ text) (came : Yields lines_steps start taken last)
+      (stepped : lines_steps last (Some line) next) where
+    -- the line is one of the text, behind those that were put
+    here : (more : List (List ℕ)) × (lines text ≡ map (λ l. l.now) taken ++ line.now ∷ more)
+    here = lines_before start last next text taken line (ap lines_rest given ∙ rest) came stepped
 
--- no key yet
-pub asking-none : {B S : Type 0} {hash_of : B → List ℕ → ℕ} {has : S → Entries}
-    {is_ready is_known : S → Type 0} {f : Filter B} {old : S} (start : Counts)
-    → start.spared < 2 ^ 64 → start.asked < 2 ^ 64 → start.false_alarms < 2 ^ 64
-    → IsAsking hash_of has is_ready is_known f old start [] f old start
-asking-none {hash_of = hash_of} {has = has} {is_ready = is_ready} {is_known = is_known} {f = f}
-    {old = old} start spared asked false_alarms = record {
-      counts = Tallies-none hash_of f (is_ready old × is_known old) (has old) start spared asked
-          false_alarms;
-      filter = refl;
-      ready = λ ready known. ready;
-      stays = λ ready known key value. (λ had. had, λ had. had);
-      guards = λ guards known. guards;
-      known = λ known. known;
-    }
+    -- at an error the first of them are put
+    pub first-put : {new : S} → (is_known new → is_known mid)
+        → (Guards hash_of mid_f (is_ready mid) (has mid) → is_known new
+        → LoadsFirst (line.now ∷ []) (has mid) (has new))
+        → Guards hash_of f (is_ready old) (has old) → is_known new
+        → LoadsFirst (lines text) (has old) (has new)
+    first-put {new} known one guards told =
+        LoadsFirst-after (lines text) (map (λ l. l.now) taken) here.0 line.now (has old) (has mid)
+        (has new) here.1 (so_far.loads guards (known told))
+        (one (so_far.guards guards (known told)) told)
 
--- what a look-up found is this
-abbrev Came : Type 0 → Found → Found → Type 0
-Came E found what = ◌≡◌ {A = Result Found E} (Ok found) (Ok what)
-
-module _ {B S : Type 0} {hash_of : B → List ℕ → ℕ} {has : S → Entries}
-    {is_ready is_known : S → Type 0} {f mid_f : Filter B} {old mid : S} {start before : Counts}
-    {taken : List (Bor (List ℕ))}
-    (so_far : IsAsking hash_of has is_ready is_known f old start taken mid_f mid before) where
-  -- nothing came or went, nor by a call that changes nothing
-  pub asking-stays : {new : S} → (is_known new → is_known mid)
-      → (is_ready mid → is_known new → Stays (has mid) (has new))
-      → is_ready old → is_known new → Stays (has old) (has new)
-  asking-stays {new} known stays ready told =
-      Stays-after (has old) (has mid) (has new) (so_far.stays ready (known told))
-      (stays (so_far.ready ready (known told)) told)
-
-  -- one key more
-  pub asking-more : {E : Type 0} {found : Found} {last : Filter B} {new : S} {after : Counts}
-      (key : Bor (List ℕ))
-      → (Came E found Spared ↔ (contains mid_f (hash_of mid_f.hasher key.now) ≡ false))
-      → last ≡ mid_f
-      → (is_ready mid → is_known new → Came E found FalseAlarm → Lacks (has mid) key.now)
-      → (is_ready mid → is_known new → (value : _) → Came E found (Value value)
-      → has mid key.now (string_bytes value))
-      → (is_ready mid → is_known new → is_ready new)
-      → (is_ready mid → is_known new → Stays (has mid) (has new))
-      → (Guards hash_of mid_f (is_ready mid) (has mid) → is_known new
-      → Guards hash_of last (is_ready new) (has new))
-      → (is_known new → is_known mid)
-      → (Came E found Spared → after ≡ record before { spared = one_more before.spared })
-      → (Came E found FalseAlarm → after ≡ record before {
-        asked = one_more before.asked;
-        false_alarms = one_more before.false_alarms;
-      })
-      → ((value : _) → Came E found (Value value)
-      → after ≡ record before { asked = one_more before.asked })
-      → IsAsking hash_of has is_ready is_known f old start (taken ++ key ∷ []) last new after
-  asking-more {E = E} {found = found} {new = new} {after = after} key asked same alarm value ready
-      stays guards known count_spared count_alarm count_value =
-      let keys = map (λ k. k.now) taken in
-      let of_first : Came E found Spared ↔ (contains f (hash_of f.hasher key.now) ≡ false) =
-      subst (λ g. Came E found Spared ↔ (contains g (hash_of g.hasher key.now) ≡ false))
-      so_far.filter asked in
-      record {
-        counts =
-            subst (λ all. Tallies hash_of f (is_ready old × is_known new) (has old) all start after)
-            (sym (map-append (λ k. k.now) taken (key ∷ [])))
-            (Tallies-more hash_of f (has old) keys key.now start before after _ _ so_far.counts
-            (λ told. (told.0, known told.1)) (Ok found) of_first
-            (λ told false_alarm v had.
-            alarm (so_far.ready told.0 (known told.1)) told.1 false_alarm v
-            ((so_far.stays told.0 (known told.1) key.now v).1 had))
-            (λ told v is. (so_far.stays told.0 (known told.1) key.now (string_bytes v)).0
-            (value (so_far.ready told.0 (known told.1)) told.1 v is))
-            count_spared count_alarm count_value);
-        filter = same ∙ so_far.filter;
-        ready = λ was told. ready (so_far.ready was (known told)) told;
-        stays = asking-stays known stays;
-        guards = λ guarded told. guards (so_far.guards guarded (known told)) told;
-        known = λ told. so_far.known (known told);
-      }
-
-  -- the keys were the lines of the text
-  pub asking-all : {begin from end last : _} {text : List ℕ} → begin ≡ from
-      → lines_rest from ≡ text → Yields lines_steps begin taken last → lines_steps last None end
-      → Tallies hash_of f (is_ready old × is_known mid) (has old) (lines text) start before
-  asking-all {begin = begin} {end = end} {last = last} {text = text} given rest came ended =
-      subst (λ keys. Tallies hash_of f (is_ready old × is_known mid) (has old) keys start before)
-      (lines_read begin last end text taken (ap lines_rest given ∙ rest) came ended) so_far.counts
+    -- and just those before a line without a tab, whose number is told
+    pub stops-at : {new : S} (at counted : ℕ) → (is_known new → is_known mid)
+        → counted ≡ min (number + 1) (2 ^ 64 - 1)
+        → (at ≡ counted) × (¬ HasTab line.now) × (new ≡ mid)
+        → Guards hash_of f (is_ready old) (has old) → is_known new
+        → length (lines text) < 2 ^ 64 → StopsAt (lines text) (has old) (has new) at
+    stops-at {new} at counted known counted_is told guards is_told fits =
+        let put = map (λ l. l.now) taken in
+        let are : length (lines text) ≡ length put + suc (length here.0) =
+        ap length here.1 ∙ length-append put (line.now ∷ here.0) in
+        let few = length-map taken (λ l. l.now) in
+        let was = so_far.numbered (omega (arith, are, few, fits)) in
+        subst (λ s. StopsAt (lines text) (has old) (has s) at) (sym told.2)
+        (StopsAt-after (lines text) put here.0 line.now (has old) (has mid) (has mid) here.1
+        (so_far.loads guards (known is_told)) at
+        (omega (arith, told.0, counted_is, was, few, are, fits)) told.1)

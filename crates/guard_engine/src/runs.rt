@@ -1,9 +1,9 @@
 //! Many keys at once.
-ghost use Rattle.std.specs.Prelude.{◌≡◌, ◌+◌, ◌^◌, ◌<◌, length, Ok, IfOk};
+ghost use Rattle.std.specs.Prelude.{◌≡◌, ℕ, ◌+◌, ◌^◌, ◌<◌, length, Err, IfOk, OnErr};
 ghost use Rattle.std.specs.Str.Lines.{lines};
 ghost use Rattle.guard_engine.specs.Counted.{Tallies};
 ghost use Rattle.guard_engine.specs.Guarded.{Guards, IsSingle, Stays, key_hash};
-ghost use Rattle.guard_engine.specs.Loaded.{Loads};
+ghost use Rattle.guard_engine.specs.Loaded.{GainsMany, Loads, LoadsFirst, StopsAt, added_by};
 
 mod line;
 
@@ -22,8 +22,9 @@ pub struct Loaded {
 impl Loaded {
     // One more entry.
     fn after(self, put: Put) -> Self
-        ensures { self.added + self.taken + 1 < 2 ^ 64
+        ensures sum { self.added + self.taken + 1 < 2 ^ 64
             → result.added + result.taken ≡ self.added + self.taken + 1 }
+        ensures added { self.added + 1 < 2 ^ 64 → result.added ≡ self.added + added_by put }
     {
         match put {
             Put::Added => Loaded {
@@ -61,6 +62,21 @@ pub fn load<T: Store + Drop, B: BuildHasher + Drop>(
         Loads (lines text.now) (T.has guard.old.store) (T.has guard.new.store)) }
     ensures counts { length (lines text.now) < 2 ^ 64 → IfOk result (λ loaded.
         loaded.added + loaded.taken ≡ length (lines text.now)) }
+    // As added count just the keys that got a value.
+    ensures added { let hash = key_hash B.BuildHasher B.Hasher.Hasher in
+        Guards hash guard.old.filter (T.is_ready guard.old.store) (T.has guard.old.store)
+        → T.is_known guard.new.store → length (lines text.now) < 2 ^ 64 → IfOk result (λ loaded.
+        GainsMany (T.has guard.old.store) (T.has guard.new.store) loaded.added) }
+    // After an error the first lines are put, and at a line without a tab just those before it.
+    ensures first { let hash = key_hash B.BuildHasher B.Hasher.Hasher in
+        Guards hash guard.old.filter (T.is_ready guard.old.store) (T.has guard.old.store)
+        → T.is_known guard.new.store → OnErr result
+        (LoadsFirst (lines text.now) (T.has guard.old.store) (T.has guard.new.store)) }
+    ensures stops { let hash = key_hash B.BuildHasher B.Hasher.Hasher in
+        Guards hash guard.old.filter (T.is_ready guard.old.store) (T.has guard.old.store)
+        → T.is_known guard.new.store → length (lines text.now) < 2 ^ 64
+        → (number : ℕ) → result ≡ Err (Stop.Line number)
+        → StopsAt (lines text.now) (T.has guard.old.store) (T.has guard.new.store) number }
     ensures guards { let hash = key_hash B.BuildHasher B.Hasher.Hasher in
         Guards hash guard.old.filter (T.is_ready guard.old.store) (T.has guard.old.store)
         → T.is_known guard.new.store

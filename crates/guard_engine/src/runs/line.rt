@@ -1,7 +1,7 @@
 //! One line of a text of entries.
-ghost use Rattle.std.specs.Prelude.{[], ◌∷◌, IfOk, IfSome};
+ghost use Rattle.std.specs.Prelude.{◌≡◌, ℕ, [], ◌∷◌, None, Err, IfOk, IfSome, OnErr};
 ghost use Rattle.guard_engine.specs.Guarded.{Guards, IsSingle, key_hash};
-ghost use Rattle.guard_engine.specs.Loaded.{IsEntryIn, Loads};
+ghost use Rattle.guard_engine.specs.Loaded.{GainsMany, HasTab, IsEntryIn, Loads, LoadsFirst, added_by};
 
 use super::Stop;
 use crate::guard::{Guard, Put};
@@ -10,7 +10,8 @@ use std::hash::BuildHasher;
 
 /// The key and the value of a line, where it has a tab.
 pub fn entry_of(line: &str) -> Option<(&str, &str)>
-    ensures { IfSome result (λ entry. IsEntryIn line.now entry.0.now entry.1.now) }
+    ensures entry { IfSome result (λ entry. IsEntryIn line.now entry.0.now entry.1.now) }
+    ensures none { result ≡ None → ¬ HasTab line.now }
 {
     line.split_once('\t')
 }
@@ -25,6 +26,16 @@ pub fn put_line<T: Store + Drop, B: BuildHasher + Drop>(
         Guards hash guard.old.filter (T.is_ready guard.old.store) (T.has guard.old.store)
         → T.is_known guard.new.store → IfOk result (λ _.
         Loads (line.now ∷ []) (T.has guard.old.store) (T.has guard.new.store)) }
+    ensures gains { let hash = key_hash B.BuildHasher B.Hasher.Hasher in
+        Guards hash guard.old.filter (T.is_ready guard.old.store) (T.has guard.old.store)
+        → T.is_known guard.new.store → IfOk result (λ put.
+        GainsMany (T.has guard.old.store) (T.has guard.new.store) (added_by put)) }
+    ensures first { let hash = key_hash B.BuildHasher B.Hasher.Hasher in
+        Guards hash guard.old.filter (T.is_ready guard.old.store) (T.has guard.old.store)
+        → T.is_known guard.new.store → OnErr result
+        (LoadsFirst (line.now ∷ []) (T.has guard.old.store) (T.has guard.new.store)) }
+    ensures no_tab { (at : ℕ) → result ≡ Err (Stop.Line at)
+        → (at ≡ number) × (¬ HasTab line.now) × (guard.new.store ≡ guard.old.store) }
     ensures guards { let hash = key_hash B.BuildHasher B.Hasher.Hasher in
         Guards hash guard.old.filter (T.is_ready guard.old.store) (T.has guard.old.store)
         → T.is_known guard.new.store

@@ -11,4 +11,4 @@ returns-in-Ok-clause-so g c = λ guards known.
     let few : length (lines c.args.text.now) < 2 ^ 64 =
     omega (arith, length-lines-le c.args.text.now, c.if-prove.false) in
     Answers-load c.args.text.now c.in-Ok.loaded c.load.new.guard.counts c.in-Load.is
-    (now.loads guards known) (now.counts few)
+    (now.loads guards known) (now.counts few) (now.added guards known few)

@@ -1,4 +1,4 @@
-use Rattle.guard_engine.proofs.RunLemmas.{asking-none, asking-more, asking-stays, asking-all}
+use Rattle.guard_engine.proofs.AskLemmas.{asking-none, asking-more, asking-stays, asking-all}
 use Rattle.guard_engine.proofs.runs.ask.Goals as goal
 
 pub keys-init : goal.keys-init

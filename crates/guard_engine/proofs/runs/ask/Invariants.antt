@@ -1,5 +1,5 @@
 use Rattle.guard_engine.specs.Guarded.{key_hash}
-use Rattle.guard_engine.proofs.RunLemmas.{IsAsking}
+use Rattle.guard_engine.proofs.AskLemmas.{IsAsking}
 use Rattle.guard_engine.proofs.runs.ask.Given as goal
 
 -- it is a guard as before over the same entries, and the keys so far were looked up and counted
