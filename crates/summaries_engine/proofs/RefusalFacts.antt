@@ -1,10 +1,11 @@
 -- Why filters aren't united: cases that hold, and some that nearly do.
-use Rattle.std.proofs.Common.{◌≡◌, ℕ, List, [], ◌∷◌, ◌++◌, map, refl, sym, ap, ◌∙◌, arith}
+use Rattle.std.proofs.Common.{◌≡◌, ℕ, List, [], ◌∷◌, ◌++◌, map, get_or, codes, decimal, refl, sym, ap, ◌∙◌, arith}
+use Rattle.std.proofs.lemmas.Fmt.{decimal-digits_of}
 use Rattle.std.specs.Prelude.{Ok, Result}
 use Rattle.fastbloom.specs.Data.{DefaultFilter}
 use Rattle.summaries_engine.specs.declared.unions.Difference.{Difference}
 use Rattle.summaries_engine.specs.declared.unions.Difference.TheVariants as difference
-use Rattle.summaries_engine.specs.Refusals.{DiffersBy, IsMisfit}
+use Rattle.summaries_engine.specs.Refusals.{DiffersBy, IsMisfit, too_long_text}
 use Rattle.summaries_engine.proofs.SummaryFacts.{IsFilter}
 
 -- a filter of three hashes and one of two
@@ -49,3 +50,14 @@ some-given given (f ∷ others) shard nothing is = cc
 misfit-none : (f : DefaultFilter) (number : ℕ) (how : Difference)
     → IsMisfit {E = ℕ} f [] number how → ⊥
 misfit-none f number how did = some-given [] did.others did.shard refl did.came
+
+-- the seventh key is too long
+seventh : too_long_text 6 ≡ codes "key 7 has more than 65536 bytes"
+seventh = let digits : decimal 7 ≡ codes "7" = decimal-digits_of 7 (omega arith) (omega arith) in
+    ap (λ number. codes "key " ++ (number ++ codes " has more than 65536 bytes")) digits
+
+-- and not the sixth
+seventh-sixth : too_long_text 6 ≡ codes "key 6 has more than 65536 bytes" → ⊥
+seventh-sixth is =
+    let digit : ◌≡◌ {A = ℕ} 55 54 = ap (λ text. get_or text 4 0) (sym seventh ∙ is) in
+    absurd (omega (arith, digit))

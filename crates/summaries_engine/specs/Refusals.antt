@@ -1,6 +1,7 @@
--- Why filters weren't united. The number of a filter is its place behind the first, and stays at
--- 2^64 - 1. This project's own.
-use Rattle.std.specs.Prelude.{◌≡◌, ℕ, ◌+◌, ◌-◌, ◌^◌, min, List, [], ◌∷◌, ◌++◌, length, map, Ok, Err, Result, Option}
+-- Why filters weren't united, and what is said of a key that is too long. The number of a filter is
+-- its place behind the first, that of a key its place from 1; both stay at 2^64 - 1. This project's
+-- own.
+use Rattle.std.specs.Prelude.{◌≡◌, ℕ, ◌+◌, ◌-◌, ◌^◌, min, codes, decimal, List, [], ◌∷◌, ◌++◌, length, map, Ok, Err, Result, Option}
 use Rattle.std.specs.Iterator.{Yields}
 use Rattle.fastbloom.specs.Data.{DefaultFilter}
 use Rattle.fastbloom.specs.Filter.{SameShape}
@@ -38,3 +39,8 @@ pub record StopsAt {I E : Type 0} (steps : I → Option (Result DefaultFilter E)
   pub end : I
   pub came : Yields steps start given end
   pub refused : IsRefusedFor first given refusal
+
+-- what is said of the key after so many, where it is too long
+abbrev pub too_long_text : ℕ → List ℕ
+too_long_text before =
+    codes "key " ++ (decimal (min (before + 1) (2 ^ 64 - 1)) ++ codes " has more than 65536 bytes")

@@ -1,8 +1,10 @@
 //! Keys: the lines of a reader, without their ends.
-ghost use Rattle.std.specs.Prelude.{◌≡◌, ℕ, IfOk};
+ghost use Rattle.std.specs.Prelude.{◌≡◌, ℕ, Some, IfOk};
+ghost use Rattle.anyhow.specs.Error.{IsMadeOf};
 ghost use Rattle.bloom_parts.specs.Keys.{HasKey};
 ghost use Rattle.bloom_parts.specs.Sip.{sip};
 ghost use Rattle.summaries_engine.specs.Answers.{HashesAll};
+ghost use Rattle.summaries_engine.specs.Refusals.{too_long_text};
 
 use anyhow::{Context, bail};
 use fastbloom::laws::source_hash_by_default;
@@ -47,7 +49,9 @@ pub fn hashes_of<I: Read>(alloc: Global, input: &mut I) -> anyhow::Result<Vec<u6
 }
 
 /// The error of a key that is too long, after so many others.
-pub fn too_long(before: u64) -> anyhow::Error {
+pub fn too_long(before: u64) -> anyhow::Error
+    ensures { IsMadeOf (Some (too_long_text before)) result }
+{
     let number = before.saturating_add(1);
     anyhow::anyhow!("key {number} has more than {LONGEST} bytes")
 }
