@@ -49,8 +49,9 @@ loads = record {
   found = λ other is_in. subst (λ l. HasTab l × ((value : List ℕ) × one (key_in l) value))
       (sym (of_one line other is_in)) (tab, (2 ∷ [], (refl, refl)));
   first = λ before after other cut new lacks.
-      subst (λ l. one (key_in l) (value_in l)) (sym (of_one line other (subst (λ all. Contains all other)
-      (sym cut) (Contains-append_right before (other ∷ after) other (0, omega arith, refl)))))
+      subst (λ l. one (key_in l) (value_in l))
+      (sym (of_one line other (subst (λ all. Contains all other) (sym cut)
+      (Contains-append_right before (other ∷ after) other (0, omega arith, refl)))))
       (refl, refl);
 }
 

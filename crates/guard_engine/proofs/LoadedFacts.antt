@@ -122,7 +122,11 @@ gains-two is = of is.keys is.counted is.distinct (λ key there. (is.gains.found 
     of [] counted apart same = cc
     of (x ∷ []) counted apart same = cc
     of (x ∷ y ∷ rest) counted apart same =
-        apart.0 (0, omega arith, same y (1, omega arith, refl) ∙ sym (same x (0, omega arith, refl)))
+        apart.0 (
+          0,
+          omega arith,
+          same y (1, omega arith, refl) ∙ sym (same x (0, omega arith, refl)),
+        )
 
 -- a key that had one got none
 gains-again : GainsMany one one 1 → ⊥

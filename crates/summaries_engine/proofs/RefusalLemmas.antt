@@ -1,14 +1,17 @@
--- Filters that aren't united.
-use Rattle.std.proofs.Common.{◌≡◌, ℕ, ◌+◌, min, arith, length, length-append, List, [], ◌∷◌, ◌++◌, Option, Some, refl, sym, subst, ◌∙◌}
+-- Filters that aren't united, and keys that are too long.
+use Rattle.std.proofs.Common.{◌≡◌, ℕ, ◌+◌, ◌-◌, ◌^◌, min, codes, decimal, arith, length, length-append, List, [], ◌∷◌, ◌++◌, Option, Some, refl, sym, subst, ◌∙◌}
+use Rattle.std.proofs.lemmas.Fmt.{decimal-digits_of}
 use Rattle.std.proofs.lemmas.List.Elements.{All-head}
 use Rattle.std.specs.Prelude.{Err, Result}
 use Rattle.std.specs.Iterator.{Yields}
+use Rattle.anyhow.specs.Error.{HasMessage}
+use Rattle.anyhow.specs.declared.error.Error.{Error}
 use Rattle.fastbloom.specs.Data.{DefaultFilter}
 use Rattle.fastbloom.specs.Filter.{SameShape}
 use Rattle.summaries_engine.specs.declared.unions.Difference.{Difference}
 use Rattle.summaries_engine.specs.declared.unions.Difference.TheVariants as difference
 use Rattle.summaries_engine.specs.declared.unions.Refusal.{Refusal}
-use Rattle.summaries_engine.specs.Refusals.{DiffersBy, IsRefusedFor, StopsAt}
+use Rattle.summaries_engine.specs.Refusals.{DiffersBy, IsRefusedFor, StopsAt, too_long_text}
 use Rattle.summaries_engine.specs.Summaries.{HaveSameKey, IsUnionOf}
 
 -- one item more
@@ -61,3 +64,21 @@ pub counted-more : (most number next : ℕ) (others : List DefaultFilter) (shard
     → next ≡ min (length (others ++ shard ∷ []) + 1) most
 counted-more most number next others shard so_far more =
     simp length-append (omega (arith, so_far, more))
+
+-- ---- a key that is too long
+
+-- its text, of a number and a limit
+abbrev says : ℕ → List ℕ → List ℕ
+says number limit =
+    codes "key " ++ (decimal number ++ (codes " has more than " ++ (limit ++ codes " bytes")))
+
+-- it is that of the number of the key
+pub too_long-message : (before number : ℕ) (error : Error)
+    → number ≡ min (before + 1) (2 ^ 64 - 1)
+    → HasMessage (Some (says number (decimal 65536))) error
+    → HasMessage (Some (too_long_text before)) error
+too_long-message before number error next message =
+    let limit : decimal 65536 ≡ codes "65536" =
+    decimal-digits_of 65536 (omega arith) (omega arith) in
+    subst (λ n. HasMessage (Some (says n (codes "65536"))) error) next
+    (subst (λ l. HasMessage (Some (says number l)) error) limit message)
