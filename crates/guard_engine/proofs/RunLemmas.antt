@@ -136,7 +136,8 @@ module _ {B S : Type 0} {hash_of : B → List ℕ → ℕ} {has : S → Entries}
 
   module _ {start from : _} (last next : _) {text : List ℕ} (line : Bor (List ℕ))
       (given : start ≡ from) (rest : lines_rest from ≡ text)
-      (came : Yields lines_steps start taken last) (stepped : lines_steps last (Some line) next) where
+      (came : Yields lines_steps start taken last)
+      (stepped : lines_steps last (Some line) next) where
     -- the line is one of the text, behind those that were put
     here : (more : List (List ℕ)) × (lines text ≡ map (λ l. l.now) taken ++ line.now ∷ more)
     here = lines_before start last next text taken line (ap lines_rest given ∙ rest) came stepped
