@@ -1,4 +1,6 @@
 mod AnswerFacts
 mod AnswerLemmas
 mod LineLemmas
+mod RefusalFacts
+mod RefusalLemmas
 mod TaskFacts

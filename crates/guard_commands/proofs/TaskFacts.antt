@@ -12,13 +12,13 @@ use Rattle.guard_commands.specs.Answers.{Answers, IsLoaded, Leaves, TellsCounts}
 use Rattle.guard_commands.proofs.AnswerFacts.{none, one, counts, loaded, gains, same-one, put-added, found-spared}
 
 -- a reference to a text
-abbrev lent : List ℕ → Bor (List ℕ)
+abbrev pub lent : List ℕ → Bor (List ℕ)
 lent text = record { ref_ptr = (0, 0); now = text }
 
 -- ---- a load
 
 -- the key 1, a tab, the value 2
-abbrev line : List ℕ
+abbrev pub line : List ℕ
 line = 1 ∷ 9 ∷ 2 ∷ []
 
 -- the text of this line
@@ -26,7 +26,7 @@ abbrev text : List ℕ
 text = 1 ∷ 9 ∷ 2 ∷ 10 ∷ []
 
 -- it has a tab
-tab : HasTab line
+pub tab : HasTab line
 tab = omega arith
 
 -- the only one
@@ -34,7 +34,7 @@ of_one : (only other : List ℕ) → Contains (only ∷ []) other → other ≡ 
 of_one only other (k, within, is) = let at : k ≡ 0 = omega (arith, within) in sym (rw at at is)
 
 -- the line was put
-loads : Loads (lines text) none one
+pub loads : Loads (lines text) none one
 loads = record {
   kept = λ key value had. absurd had;
   others = λ key value has. inr (

@@ -1,13 +1,14 @@
 //! What each task does, over any store.
-ghost use Rattle.std.specs.Prelude.{◌≡◌, ◌↔◌, IfOk, OnErr, IsTrue};
+ghost use Rattle.std.specs.Prelude.{◌≡◌, ◌↔◌, IfErr, IfOk, OnErr, IsTrue};
 ghost use Rattle.std.specs.Str.Lines.{lines};
 ghost use Rattle.guard_engine.specs.Counted.{Tallies};
 ghost use Rattle.guard_engine.specs.Guarded.{Guards, IsSingle, Stays, key_hash};
 ghost use Rattle.guard_commands.specs.Answers.{Answers, IsAbsence, IsNo, Leaves, TellsCounts};
+ghost use Rattle.guard_commands.specs.Refusals.{RefusesGuard, RefusesTask};
 
 use crate::task::Task;
 use anyhow::{Context, anyhow};
-use fastbloom::{BloomFilter, DefaultHasher, RandomDefaultHasher, Rate};
+use fastbloom::{BloomFilter, DefaultHasher, FilterError, RandomDefaultHasher, Rate};
 use guard_engine::{Counts, Found, Guard, Loaded, Put, Refusal, Stop, Store, ask, load};
 use std::alloc::Global;
 use std::error::Error;
@@ -100,6 +101,9 @@ pub fn guarded<T: Store<Error = E> + Drop, E: Error>(
         → Guards hash guard.filter (T.is_ready guard.store) (T.has guard.store)) }
     ensures stays { T.is_ready store → IfOk result (λ guard. T.is_known guard.store
         → Stays (T.has store) (T.has guard.store)) }
+    // Why there is none.
+    ensures refused { IfErr result
+        (RefusesGuard E.Display.output ⟦<FilterError as fmt::Display>⟧.output) }
 {
     match Guard::open(alloc, store, BloomFilter::with_false_pos(rate), room) {
         Ok(guard) => Ok(guard),
@@ -134,6 +138,11 @@ pub fn carry_out<T: Store<Error = E> + Drop, E: Error, B: BuildHasher + Drop>(
         → T.is_known guard.new.store
         → OnErr result
         (Leaves task.entry text.now (T.has guard.old.store) (T.has guard.new.store)) }
+    // Why it is one.
+    ensures refused { let hash = key_hash B.BuildHasher B.Hasher.Hasher in
+        Guards hash guard.old.filter (T.is_ready guard.old.store) (T.has guard.old.store)
+        → T.is_known guard.new.store → IfErr result (RefusesTask E.Display.output
+        task.entry text.now (T.has guard.old.store) (T.has guard.new.store)) }
     // A key is put once: where no key had two values, none has after, also after an error.
     ensures once { let hash = key_hash B.BuildHasher B.Hasher.Hasher in
         Guards hash guard.old.filter (T.is_ready guard.old.store) (T.has guard.old.store)

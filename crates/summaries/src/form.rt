@@ -1,5 +1,6 @@
 //! Filters as JSON text, in files and on writers.
-ghost use Rattle.std.specs.Prelude.{IfOk, ⊤};
+ghost use Rattle.std.specs.Prelude.{◌⊎◌, ◌++◌, codes, IfOk, Some, ⊤};
+ghost use Rattle.anyhow.specs.Error.{HasMessage};
 ghost use Rattle.summaries_engine.specs.Answers.{IsKeyed};
 
 use anyhow::Context;
@@ -31,13 +32,20 @@ impl<'a, R: Files + AllocGlobal> Shelf for Disk<'a, R> {
     // What files hold is known to no contract.
     ghost has = { λ disk name filter. ⊤ };
 
+    // Each error tells the name.
+    ghost fails = { λ disk name said.
+        HasMessage (Some (name ++ codes ": it can't be read")) said
+        ⊎ HasMessage (Some (name ++ codes ": it holds no filter")) said };
+
     fn load(&self, name: &str) -> anyhow::Result<BloomFilter> {
         let text = fs::read_to_string(self.rt, name).context(format_args!(
             "{name}: it can't be read"
         ))?;
-        filter_of(self.rt.alloc(), text.as_str()).context(format_args!(
-            "{name}: it holds no filter"
-        ))
+        Ok(
+            filter_of(self.rt.alloc(), text.as_str()).context(format_args!(
+                "{name}: it holds no filter"
+            ))?,
+        )
     }
 }
 

@@ -45,6 +45,8 @@ struct Texts<'a> {
 impl<'a> Shelf for Texts<'a> {
     ghost has = { λ texts name filter. ⊤ };
 
+    ghost fails = { λ texts name said. ⊤ };
+
     fn load(&self, name: &str) -> anyhow::Result<BloomFilter> {
         for (known, text) in self.texts {
             if *known == name {

@@ -1,5 +1,5 @@
 -- Keys read one after the other, with what was made of them so far.
-use Rattle.std.proofs.Common.{◌≡◌, ℕ, Bool, true, false, List, [], ◌∷◌, ◌++◌, map, filter, flat_map, Option, refl, sym, subst, ◌∙◌, ap, append-nil}
+use Rattle.std.proofs.Common.{◌≡◌, ℕ, ◌+◌, Bool, true, false, List, [], ◌∷◌, ◌++◌, map, filter, flat_map, length, length-append, Option, refl, sym, subst, ◌∙◌, ap, append-nil, arith}
 use Rattle.std.proofs.lemmas.List.{map-append}
 use Rattle.std.proofs.lemmas.Grind.{flat_map-append}
 use Rattle.std.proofs.lemmas.List.Elements.{filter-append}
@@ -18,42 +18,53 @@ pub record HasRead (read : Option (List ℕ)) (reader : Waiting) (left : Option 
     (keys : List (List ℕ)) : Type 0 where
   pub taken : TakesLines read (left_of reader left) keys
   pub knows : KnowsEnd reader.ended left
+  pub longest : reader.longest ≡ 65536
 
 -- none
 pub read-none : (read : Option (List ℕ)) (reader : Waiting) → reader.bytes ≡ []
-    → reader.ended ≡ false → HasRead read reader read []
-read-none read reader empty opened = record {
+    → reader.ended ≡ false → reader.longest ≡ 65536 → HasRead read reader read []
+read-none read reader empty opened longest = record {
   taken = TakesLines-nil reader.bytes read empty;
   knows = λ told. let wrong : false ≡ true = sym opened ∙ told in cc;
+  longest = longest;
 }
 
 -- one more
 pub read-next : {longest : ℕ} (read : Option (List ℕ)) (old new : Waiting)
     (left rest : Option (List ℕ)) (keys : List (List ℕ)) → HasRead read old left keys
     → TakesShort longest (left_of old left) (left_of new rest) new.line → KnowsEnd new.ended rest
-    → HasRead read new rest (keys ++ new.line ∷ [])
-read-next read old new left rest keys so_far next knows = record {
+    → new.longest ≡ old.longest → HasRead read new rest (keys ++ new.line ∷ [])
+read-next read old new left rest keys so_far next knows same = record {
   taken = TakesLines-more read (left_of old left) (left_of new rest) keys new.line
       so_far.taken next.takes;
   knows = knows;
+  longest = same ∙ so_far.longest;
 }
+
+-- one key more is one number more
+one-more : (number : ℕ) (keys : List (List ℕ)) (key : List ℕ) → number ≡ length keys
+    → number + 1 ≡ length (keys ++ key ∷ [])
+one-more number keys key counted = simp length-append (omega (arith, counted))
 
 -- their hashes
 pub record IsHashing (read : Option (List ℕ)) (reader : Waiting) (left : Option (List ℕ))
-    (hashes : List ℕ) : Type 0 where
+    (number : ℕ) (hashes : List ℕ) : Type 0 where
   pub keys : List (List ℕ)
   pub has_read : HasRead read reader left keys
+  pub counted : number ≡ length keys
   pub hashed : hashes ≡ map (sip 0 0) keys
 
 -- one hash more
 pub hashing-next : {longest : ℕ} (read : Option (List ℕ)) (old new : Waiting)
-    (left rest : Option (List ℕ)) (hashes more : List ℕ) (hash : ℕ)
-    → IsHashing read old left hashes
+    (left rest : Option (List ℕ)) (number : ℕ) (hashes more : List ℕ) (hash : ℕ)
+    → IsHashing read old left number hashes
     → TakesShort longest (left_of old left) (left_of new rest) new.line → KnowsEnd new.ended rest
-    → hash ≡ sip 0 0 new.line → more ≡ hashes ++ hash ∷ [] → IsHashing read new rest more
-hashing-next read old new left rest hashes more hash so_far next knows is made = record {
+    → new.longest ≡ old.longest → hash ≡ sip 0 0 new.line → more ≡ hashes ++ hash ∷ []
+    → IsHashing read new rest (number + 1) more
+hashing-next read old new left rest number hashes more hash so_far next knows same is made = record {
   keys = so_far.keys ++ new.line ∷ [];
-  has_read = read-next read old new left rest so_far.keys so_far.has_read next knows;
+  has_read = read-next read old new left rest so_far.keys so_far.has_read next knows same;
+  counted = one-more number so_far.keys new.line so_far.counted;
   hashed = made ∙ ap (λ l. l ++ hash ∷ []) so_far.hashed
       ∙ ap (λ h. map (sip 0 0) so_far.keys ++ h ∷ []) is
       ∙ sym (map-append (sip 0 0) so_far.keys (new.line ∷ []));
@@ -61,9 +72,9 @@ hashing-next read old new left rest hashes more hash so_far next knows is made =
 
 -- all of them
 pub hashing-end : (read : Option (List ℕ)) (old new : Waiting) (left rest : Option (List ℕ))
-    (hashes : List ℕ) → IsHashing read old left hashes
+    (number : ℕ) (hashes : List ℕ) → IsHashing read old left number hashes
     → Ends (left_of old left) (left_of new rest) → HashesAll read rest hashes
-hashing-end read old new left rest hashes so_far end = record {
+hashing-end read old new left rest number hashes so_far end = record {
   keys = so_far.keys;
   whole = IsReadWhole-from read (left_of old left) rest new.bytes so_far.keys
       so_far.has_read.taken end;
@@ -91,38 +102,44 @@ found_text-lost f key lost = rw lost refl
 
 -- the keys so far were answered
 pub record IsAnswering (f : DefaultFilter) (read : Option (List ℕ)) (reader : Waiting)
-    (left from to : Option (List ℕ)) : Type 0 where
+    (left : Option (List ℕ)) (number : ℕ) (from to : Option (List ℕ)) : Type 0 where
   pub keys : List (List ℕ)
   pub has_read : HasRead read reader left keys
+  pub counted : number ≡ length keys
   pub text : Appends from to (found_text f keys)
 
 -- none
 pub answering-none : (f : DefaultFilter) (read : Option (List ℕ)) (reader : Waiting)
     (from : Option (List ℕ)) → reader.bytes ≡ [] → reader.ended ≡ false
-    → IsAnswering f read reader read from from
-answering-none f read reader from empty opened = record {
+    → reader.longest ≡ 65536 → IsAnswering f read reader read 0 from from
+answering-none f read reader from empty opened longest = record {
   keys = [];
-  has_read = read-none read reader empty opened;
+  has_read = read-none read reader empty opened longest;
+  counted = refl;
   text = Appends-nil from;
 }
 
 -- one more
 pub answering-next : {longest : ℕ} (f : DefaultFilter) (read : Option (List ℕ)) (old new : Waiting)
-    (left rest from to more : Option (List ℕ)) → IsAnswering f read old left from to
+    (left rest : Option (List ℕ)) (number : ℕ) (from to more : Option (List ℕ))
+    → IsAnswering f read old left number from to
     → TakesShort longest (left_of old left) (left_of new rest) new.line → KnowsEnd new.ended rest
-    → Appends to more (found_text f (new.line ∷ [])) → IsAnswering f read new rest from more
-answering-next f read old new left rest from to more so_far next knows one = record {
+    → new.longest ≡ old.longest → Appends to more (found_text f (new.line ∷ []))
+    → IsAnswering f read new rest (number + 1) from more
+answering-next f read old new left rest number from to more so_far next knows same one = record {
   keys = so_far.keys ++ new.line ∷ [];
-  has_read = read-next read old new left rest so_far.keys so_far.has_read next knows;
+  has_read = read-next read old new left rest so_far.keys so_far.has_read next knows same;
+  counted = one-more number so_far.keys new.line so_far.counted;
   text = subst (Appends from more) (sym (found_text-more f so_far.keys new.line))
       (Appends-trans from to more _ _ so_far.text one);
 }
 
 -- all of them
 pub answering-end : (f : DefaultFilter) (read : Option (List ℕ)) (old new : Waiting)
-    (left rest from to : Option (List ℕ)) → IsAnswering f read old left from to
+    (left rest : Option (List ℕ)) (number : ℕ) (from to : Option (List ℕ))
+    → IsAnswering f read old left number from to
     → Ends (left_of old left) (left_of new rest) → AnswersAll f read rest from to
-answering-end f read old new left rest from to so_far end = record {
+answering-end f read old new left rest number from to so_far end = record {
   keys = so_far.keys;
   whole = IsReadWhole-from read (left_of old left) rest new.bytes so_far.keys
       so_far.has_read.taken end;

@@ -5,6 +5,7 @@ mod NamedLemmas
 mod RefusalFacts
 mod RefusalLemmas
 mod ShardLemmas
+mod StopLemmas
 mod SummaryFacts
 mod UnionFacts
 mod UnionLemmas

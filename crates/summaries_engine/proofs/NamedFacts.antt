@@ -8,6 +8,10 @@ use Rattle.summaries_engine.specs.Named.{Named, AreNamed, GivesNext}
 abbrev counted : Named
 counted name f = name ≡ f.hashes ∷ []
 
+-- the error of a name is its byte
+abbrev told : List ℕ → ℕ → Type 0
+told name error = name ≡ error ∷ []
+
 -- two names, and their filters in order
 named-both : (f g : DefaultFilter) → f.hashes ≡ 2 → g.hashes ≡ 3
     → AreNamed counted ((2 ∷ []) ∷ (3 ∷ []) ∷ []) (f ∷ g ∷ [])
@@ -31,8 +35,8 @@ named-more f g are = are.1
 
 abbrev Gives : List (List ℕ) → List (List ℕ) → DefaultFilter → Type 0
 Gives from to f =
-    GivesNext {E = ℕ} (λ (_ : ℕ). counted) (λ (_ : List (List ℕ)). 0) (λ names. names) from
-    (Some (Ok f)) to
+    GivesNext {E = ℕ} (λ (_ : ℕ). counted) (λ _. told) (λ (_ : List (List ℕ)). 0) (λ names. names)
+    from (Some (Ok f)) to
 
 -- the filter of the first name is given, and the other names are left
 gives-first : (f : DefaultFilter) → f.hashes ≡ 2
@@ -57,7 +61,7 @@ gives-again f given = wrong given.1.0 given.1.1
 
 -- nothing is given only where no name is left
 gives-none :
-    GivesNext {E = ℕ} (λ (_ : ℕ). counted) (λ (_ : List (List ℕ)). 0) (λ names. names)
+    GivesNext {E = ℕ} (λ (_ : ℕ). counted) (λ _. told) (λ (_ : List (List ℕ)). 0) (λ names. names)
     ((2 ∷ []) ∷ []) None [] → ⊥
 gives-none given = wrong given.1.0
   where

@@ -1,17 +1,89 @@
 -- Filters that an iterator over names gave.
-use Rattle.std.proofs.Common.{◌≡◌, ℕ, List, [], ◌∷◌, map, Ok, None, sym, subst}
+use Rattle.std.proofs.Common.{◌≡◌, ◌<◌, ◌+◌, ◌-◌, ◌^◌, ℕ, suc, Bor, min, List, [], ◌∷◌, ◌++◌, map, length, length-append, get_or, Ok, None, refl, sym, subst, ap, ◌∙◌, arith}
+use Rattle.std.specs.Prelude.{Err, Result, MatchResult}
+use Rattle.std.proofs.lemmas.List.{get_or-map}
 use Rattle.std.specs.Iterator.{Yields}
 use Rattle.std.specs.Iterator.Runs.{WholeRun, YieldsRun}
+use Rattle.anyhow.specs.declared.error.Error.{Error}
 use Rattle.fastbloom.specs.Data.{DefaultFilter}
-use Rattle.summaries_engine.specs.Named.{Named, AreNamed, GivesNext}
+use Rattle.summaries_engine.specs.declared.unions.Difference.{Difference}
+use Rattle.summaries_engine.specs.declared.unions.Refusal.{Refusal}
+use Rattle.summaries_engine.specs.declared.unions.Refusal.TheVariants.{Unread, Differs}
+use Rattle.summaries_engine.specs.Named.{Named, AreNamed, GivesNext, Reaches, StopsAtMisfit, StopsUnloaded, misfit_text}
+use Rattle.summaries_engine.specs.Stops.{Says}
+use Rattle.summaries_engine.specs.Refusals.{DiffersBy, StopsAt}
 use Rattle.summaries_engine.specs.Summaries.{UnitesGiven, UnitesShards}
 
-module _ {I S : Type 0} (E : Type 0) (has : S → Named) (shelf : I → S)
-    (names : I → List (List ℕ)) where
+-- filters are as many as their names
+named-length : (has : Named) (names : List (List ℕ)) (filters : List DefaultFilter)
+    → AreNamed has names filters → length filters ≡ length names
+named-length has [] [] are = refl
+named-length has [] (f ∷ filters) are = absurd are
+named-length has (name ∷ names) [] are = absurd are
+named-length has (name ∷ names) (f ∷ filters) are =
+    ap (λ n. suc n) (named-length has names filters are.1)
+
+-- the name behind so many others
+behind-them : (before after : List (List ℕ)) (name : List ℕ)
+    → get_or (before ++ name ∷ after) (length before) [] ≡ name
+behind-them [] after name = refl
+behind-them (other ∷ before) after name = behind-them before after name
+
+-- so in a list that is so cut
+name-behind : (all before after : List (List ℕ)) (name : List ℕ) (number : ℕ)
+    → all ≡ before ++ name ∷ after → number ≡ length before → get_or all number [] ≡ name
+name-behind all before after name number are at =
+    ap (λ l. get_or l number []) are ∙ ap (λ n. get_or (before ++ name ∷ after) n []) at
+    ∙ behind-them before after name
+
+-- the number of a filter behind the first is the place of its name
+number-at : (number others : ℕ) (all before after : List (List ℕ)) (name : List ℕ)
+    → length all < 2 ^ 64 → all ≡ before ++ name ∷ after → number ≡ min (others + 1) (2 ^ 64 - 1)
+    → suc others ≡ length before → (number ≡ length before) × (number < length all)
+number-at number others all before after name few are counted behind =
+    let long : length all ≡ length before + suc (length after) =
+    ap length are ∙ length-append before (name ∷ after) in
+    (omega (arith, few, long, counted, behind), omega (arith, few, long, counted, behind))
+
+-- where the filter of a name differs from the first, the number is that of the name
+pub record MisfitAt (has : Named) (names : List (List ℕ)) (first : DefaultFilter) (number : ℕ)
+    (how : Difference) : Type 0 where
+  pub filters : List DefaultFilter
+  pub name : List ℕ
+  pub shard : DefaultFilter
+  pub reaches : Reaches has names (first ∷ filters) name
+  pub loaded : has name shard
+  pub differs : DiffersBy first shard how
+  pub within : number < length names
+  pub is_name : get_or names number [] ≡ name
+
+-- what is said names it and the first
+pub misfit-said : (has : Named) (names : List (Bor (List ℕ))) (first : DefaultFilter) (number : ℕ)
+    (how : Difference) (other : Bor (List ℕ)) (name : List ℕ) (said : Error)
+    → MisfitAt has (map (λ name. name.now) names) first number how → number < length names
+    → get_or (map (λ name. name.now) names) 0 [] ≡ name
+    → Says (misfit_text how (get_or names number other).now name) said
+    → StopsAtMisfit has (map (λ name. name.now) names) said
+misfit-said has names first number how other name said at within is_first says = record {
+  first = first;
+  filters = at.filters;
+  name = at.name;
+  shard = at.shard;
+  how = how;
+  reaches = at.reaches;
+  loaded = at.loaded;
+  differs = at.differs;
+  says = subst (λ n. Says (misfit_text how at.name n) said) (sym is_first)
+      (subst (λ n. Says (misfit_text how n name) said)
+      (sym (get_or-map (λ n. n.now) names number other [] within) ∙ at.is_name) says);
+}
+
+module _ {I S : Type 0} (E : Type 0) (has : S → Named) (fails : S → List ℕ → E → Type 0)
+    (shelf : I → S) (names : I → List (List ℕ)) where
   -- what was given to the end, if all of it are filters, has the names that were left
   named-to-end : (filters : List DefaultFilter) (from to end : I)
-      → Yields (GivesNext {E = E} has shelf names) from (map Ok filters) to
-      → GivesNext {E = E} has shelf names to None end
+      → Yields (GivesNext {E = E} has fails shelf names) from (map Ok filters) to
+      → GivesNext {E = E} has fails shelf names to None end
       → AreNamed (has (shelf from)) (names from) filters
   named-to-end [] from to end came over =
       subst (λ left. AreNamed (has (shelf from)) left []) (sym (ended came)) tt
@@ -30,7 +102,7 @@ module _ {I S : Type 0} (E : Type 0) (has : S → Named) (shelf : I → S)
   -- so a first filter, and those of a whole run, have the first name and those that were left
   pub named-run : (first made : DefaultFilter) (name : List ℕ) (start : I) (on : S)
       (all : List (List ℕ)) → shelf start ≡ on → name ∷ names start ≡ all → has on name first
-      → WholeRun (GivesNext {E = E} has shelf names) start
+      → WholeRun (GivesNext {E = E} has fails shelf names) start
       (λ run. UnitesGiven first run.items made)
       → (filters : List DefaultFilter) × AreNamed (has on) all filters × UnitesShards filters made
   unfolding YieldsRun
@@ -40,7 +112,7 @@ module _ {I S : Type 0} (E : Type 0) (has : S → Named) (shelf : I → S)
       let came = run.gave.0 in
       let ended = came.2 whole.2 in
       let listed =
-      subst (λ items. Yields (GivesNext {E = E} has shelf names) run.from items came.0)
+      subst (λ items. Yields (GivesNext {E = E} has fails shelf names) run.from items came.0)
       given.all_read came.1 in
       let later =
       subst (λ s. AreNamed (has (shelf s)) (names s) given.others) whole.1
@@ -50,3 +122,88 @@ module _ {I S : Type 0} (E : Type 0) (has : S → Named) (shelf : I → S)
             (here, subst (λ s. AreNamed (has s) (names start) given.others) there later),
         given.unites,
       )
+
+  -- what was given up to the last that was asked for has the first of the names that were left
+  named-up-to : (filters : List DefaultFilter) (last : Result DefaultFilter E) (from to : I)
+      → Yields (GivesNext {E = E} has fails shelf names) from (map Ok filters ++ last ∷ []) to
+      → (name : List ℕ) × Reaches (has (shelf from)) (names from) filters name
+      × MatchResult last (has (shelf from) name) (fails (shelf from) name)
+  named-up-to [] last from to came =
+      let step = came.1 in (
+        step.1.0,
+        record { before = []; after = names came.0; are = step.1.1; loaded = tt },
+        step.1.2,
+      )
+  named-up-to (f ∷ filters) last from to came =
+      let step = came.1 in
+      let later = named-up-to filters last came.0 to came.2 in (
+        later.0,
+        record {
+          before = step.1.0 ∷ later.1.before;
+          after = later.1.after;
+          are = step.1.1 ∙ ap (λ l. step.1.0 ∷ l) later.1.are;
+          loaded = (
+            step.1.2,
+            subst (λ s. AreNamed (has s) later.1.before filters) step.0 later.1.loaded,
+          );
+        },
+        subst (λ s. MatchResult last (has s later.0) (fails s later.0)) step.0 later.2,
+      )
+
+  module _ (first : DefaultFilter) (name : List ℕ) (start : I) (on : S) (all : List (List ℕ))
+      (there : shelf start ≡ on) (these : name ∷ names start ≡ all) (here : has on name first)
+      where
+    -- with a first filter before it
+    reaches-behind : (filters : List DefaultFilter) (last : List ℕ)
+        → Reaches (has (shelf start)) (names start) filters last
+        → Reaches (has on) all (first ∷ filters) last
+    reaches-behind filters last reaches = record {
+      before = name ∷ reaches.before;
+      after = reaches.after;
+      are = sym these ∙ ap (λ l. name ∷ l) reaches.are;
+      loaded = (here, subst (λ s. AreNamed (has s) reaches.before filters) there reaches.loaded);
+    }
+
+    -- an error is that of the name at which it came
+    pub unloaded : (error : E) (refusal : Refusal E) → refusal ≡ Unread error
+        → StopsAt (GivesNext {E = E} has fails shelf names) start first refusal
+        → StopsUnloaded (has on) (fails on) all error
+    unloaded error refusal is told =
+        let stop =
+        subst (λ r. StopsAt (GivesNext {E = E} has fails shelf names) start first r) is told in
+        let others = stop.refused.0 in
+        let up = named-up-to others (Err error) start stop.end
+            (subst (λ given. Yields (GivesNext {E = E} has fails shelf names) start given stop.end)
+            stop.refused.1 stop.came) in record {
+          filters = first ∷ others;
+          name = up.0;
+          reaches = reaches-behind others up.0 up.1;
+          failed = subst (λ s. fails s up.0 error) there up.2;
+        }
+
+    -- a filter that differs is that of the name at which it came
+    pub misfit-at : (number : ℕ) (how : Difference) (refusal : Refusal E)
+        → refusal ≡ Differs number how → length all < 2 ^ 64
+        → StopsAt (GivesNext {E = E} has fails shelf names) start first refusal
+        → MisfitAt (has on) all first number how
+    misfit-at number how refusal is few told =
+        let stop =
+        subst (λ r. StopsAt (GivesNext {E = E} has fails shelf names) start first r) is told in
+        let misfit = stop.refused in
+        let up = named-up-to misfit.others (Ok misfit.shard) start stop.end
+            (subst (λ given. Yields (GivesNext {E = E} has fails shelf names) start given stop.end)
+            misfit.came stop.came) in
+        let reaches = reaches-behind misfit.others up.0 up.1 in
+        let at = number-at number (length misfit.others) all reaches.before reaches.after up.0 few
+            reaches.are misfit.counted
+            (named-length (has on) reaches.before (first ∷ misfit.others) reaches.loaded) in
+        record {
+          filters = misfit.others;
+          name = up.0;
+          shard = misfit.shard;
+          reaches = reaches;
+          loaded = subst (λ s. has s up.0 misfit.shard) there up.2;
+          differs = misfit.differs;
+          within = at.1;
+          is_name = name-behind all reaches.before reaches.after up.0 number reaches.are at.0;
+        }

@@ -1,4 +1,5 @@
 pub mod Answers
 pub mod Named
 pub mod Refusals
+pub mod Stops
 pub mod Summaries

@@ -1,6 +1,11 @@
 -- Filters that have names, and what an iterator over names gives. A name is its list of bytes.
-use Rattle.std.specs.Prelude.{◌≡◌, ℕ, List, [], ◌∷◌, Option, Result, IfOk, MatchOption, ⊤}
+use Rattle.std.specs.Prelude.{◌≡◌, ◌⊎◌, ℕ, codes, List, [], ◌∷◌, ◌++◌, get_or, Option, Result, MatchOption, MatchResult, ⊤}
+use Rattle.anyhow.specs.declared.error.Error.{Error}
 use Rattle.fastbloom.specs.Data.{DefaultFilter}
+use Rattle.summaries_engine.specs.declared.unions.Difference.{Difference}
+use Rattle.summaries_engine.specs.declared.unions.Difference.TheVariants as difference
+use Rattle.summaries_engine.specs.Refusals.{DiffersBy}
+use Rattle.summaries_engine.specs.Stops.{Says}
 
 -- which filters lie under which names
 abbrev pub Named : Type 1
@@ -13,10 +18,50 @@ AreNamed has [] (f ∷ filters) = ⊥
 AreNamed has (name ∷ names) [] = ⊥
 AreNamed has (name ∷ names) (f ∷ filters) = has name f × AreNamed has names filters
 
--- a call gave the filter of the first name that was left, or an error, and left the other names; or
+-- a call gave the filter of the first name that was left, or its error, and left the other names; or
 -- it gave nothing, where no name was left
-abbrev pub GivesNext : {I S E : Type 0} → (S → Named) → (I → S) → (I → List (List ℕ))
-    → I → Option (Result DefaultFilter E) → I → Type 0
-GivesNext has shelf names from given to = (shelf to ≡ shelf from)
+abbrev pub GivesNext : {I S E : Type 0} → (S → Named) → (S → List ℕ → E → Type 0) → (I → S)
+    → (I → List (List ℕ)) → I → Option (Result DefaultFilter E) → I → Type 0
+GivesNext has fails shelf names from given to = (shelf to ≡ shelf from)
     × MatchOption given ((names from ≡ []) × (names to ≡ []))
-    (λ read. (name : List ℕ) × (names from ≡ name ∷ names to) × IfOk read (has (shelf from) name))
+    (λ read. (name : List ℕ) × (names from ≡ name ∷ names to)
+    × MatchResult read (has (shelf from) name) (fails (shelf from) name))
+
+-- these filters lie under the names before this one
+pub record Reaches (has : Named) (names : List (List ℕ)) (filters : List DefaultFilter)
+    (name : List ℕ) : Type 0 where
+  pub before : List (List ℕ)
+  pub after : List (List ℕ)
+  pub are : names ≡ before ++ name ∷ after
+  pub loaded : AreNamed has before filters
+
+-- filters lie under the names before one, and that one's error is said
+pub record StopsUnloaded {E : Type 0} (has : Named) (fails : List ℕ → E → Type 0)
+    (names : List (List ℕ)) (said : E) : Type 0 where
+  pub filters : List DefaultFilter
+  pub name : List ℕ
+  pub reaches : Reaches has names filters name
+  pub failed : fails name said
+
+-- what is said of a filter that differs from the first, by both names
+abbrev pub misfit_text : Difference → List ℕ → List ℕ → List ℕ
+misfit_text difference.Shape name first =
+    name ++ (codes ": its shape isn't that of " ++ first)
+misfit_text difference.Key name first = name ++ (codes ": its key isn't that of " ++ first)
+
+-- the filter of a name differs from that of the first, and both names are said
+pub record StopsAtMisfit (has : Named) (names : List (List ℕ)) (said : Error) : Type 0 where
+  pub first : DefaultFilter
+  pub filters : List DefaultFilter
+  pub name : List ℕ
+  pub shard : DefaultFilter
+  pub how : Difference
+  pub reaches : Reaches has names (first ∷ filters) name
+  pub loaded : has name shard
+  pub differs : DiffersBy first shard how
+  pub says : Says (misfit_text how name (get_or names 0 [])) said
+
+-- there is no union: of no name, and else at the first name whose filter can't be loaded or differs
+abbrev pub StopsUniting : Named → (List ℕ → Error → Type 0) → List (List ℕ) → Error → Type 0
+StopsUniting has fails names said = ((names ≡ []) × Says (codes "no filter was named") said)
+    ⊎ StopsUnloaded has fails names said ⊎ StopsAtMisfit has names said

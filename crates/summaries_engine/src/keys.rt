@@ -1,12 +1,13 @@
 //! Keys: the lines of a reader, without their ends.
-ghost use Rattle.std.specs.Prelude.{◌≡◌, ℕ, Some, IfOk};
+ghost use Rattle.std.specs.Prelude.{◌≡◌, ℕ, Some, IfErr, IfOk};
 ghost use Rattle.anyhow.specs.Error.{IsMadeOf};
 ghost use Rattle.bloom_parts.specs.Keys.{HasKey};
 ghost use Rattle.bloom_parts.specs.Sip.{sip};
 ghost use Rattle.summaries_engine.specs.Answers.{HashesAll};
 ghost use Rattle.summaries_engine.specs.Refusals.{too_long_text};
+ghost use Rattle.summaries_engine.specs.Stops.{StopsHashing};
 
-use anyhow::{Context, bail};
+use anyhow::{Context, anyhow};
 use fastbloom::laws::source_hash_by_default;
 use fastbloom::{DefaultHasher, Text};
 use lines::{LineReader, Next};
@@ -32,20 +33,22 @@ pub fn hash_of(builder: &DefaultHasher, key: &[u8]) -> u64
 /// # Errors
 /// At the first key that is too long, where a read fails, and where there is no room.
 pub fn hashes_of<I: Read>(alloc: Global, input: &mut I) -> anyhow::Result<Vec<u64>>
-    ensures { IfOk result
+    ensures all { IfOk result
         (λ hashes. HashesAll (I.remaining input.old) (I.remaining input.new) hashes.items) }
+    // Why not all were hashed.
+    ensures stops { IfErr result (StopsHashing (I.remaining input.old)) }
 {
     let builder = DefaultHasher::keyed(0, 0);
-    let mut lines = LineReader::new(alloc, LONGEST)?;
+    let mut lines = LineReader::new(alloc, LONGEST).context("no memory")?;
     let mut hashes = Vec::new(alloc);
     'keys: for number in 0..u64::MAX {
         match lines.next_line(input).context("the keys can't be read")? {
             Next::End => return Ok(hashes),
-            Next::Line => hashes.push(hash_of(&builder, lines.line()))?,
+            Next::Line => hashes.push(hash_of(&builder, lines.line())).context("no memory")?,
             Next::TooLong => return Err(too_long(number)),
         }
     }
-    bail!("there are too many keys")
+    Err(anyhow!("there are too many keys"))
 }
 
 /// The error of a key that is too long, after so many others.
@@ -53,5 +56,5 @@ pub fn too_long(before: u64) -> anyhow::Error
     ensures { IsMadeOf (Some (too_long_text before)) result }
 {
     let number = before.saturating_add(1);
-    anyhow::anyhow!("key {number} has more than {LONGEST} bytes")
+    anyhow!("key {number} has more than {LONGEST} bytes")
 }

@@ -1,8 +1,9 @@
 //! Filters that have names, as files do, and their union.
-ghost use Rattle.std.specs.Prelude.{map, IfOk};
+ghost use Rattle.std.specs.Prelude.{map, IfErr, IfOk};
 ghost use Rattle.std.specs.Iterator.{item_count};
 ghost use Rattle.summaries_engine.specs.Answers.{IsKeyed};
-ghost use Rattle.summaries_engine.specs.Named.{AreNamed, GivesNext};
+ghost use Rattle.summaries_engine.specs.Named.{AreNamed, GivesNext, StopsUniting, misfit_text};
+ghost use Rattle.summaries_engine.specs.Stops.{Says};
 ghost use Rattle.summaries_engine.specs.Summaries.{UnitesShards};
 
 use crate::unions::{Difference, Refusal, unite};
@@ -13,15 +14,20 @@ use std::slice;
 /// Where filters lie under names.
 pub trait Shelf {
     ghost use Rattle.std.specs.Prelude.{ℕ, List};
+    ghost use Rattle.anyhow.specs.declared.error.Error.{Error};
     ghost use Rattle.fastbloom.specs.Data.{DefaultFilter};
 
     /// Which filters lie under which names.
     ghost has: { Self → List ℕ → DefaultFilter → Type 0 };
 
-    /// The filter of this name, which each error tells.
+    /// What errors say of a name.
+    ghost fails: { Self → List ℕ → Error → Type 0 };
+
+    /// The filter of this name.
     fn load(&self, name: &str) -> anyhow::Result<BloomFilter>
         ensures keyed { IfOk result IsKeyed }
-        ensures named { IfOk result (has self.now name.now) };
+        ensures named { IfOk result (has self.now name.now) }
+        ensures failed { IfErr result (fails self.now name.now) };
 }
 
 // The filters of names, each loaded when it is asked for.
@@ -34,7 +40,7 @@ struct Shards<'a, 'n, S> {
 impl<'a, 'n, S: Shelf> Iterator for Shards<'a, 'n, S> {
     type Item = anyhow::Result<BloomFilter>;
 
-    ghost next_gives = { GivesNext S.has (λ shards. shards.shelf.now)
+    ghost next_gives = { GivesNext S.has S.fails (λ shards. shards.shelf.now)
         (λ shards. map (λ name. name.now) shards.names.rest.now) };
 
     ghost remaining = { item_count (λ shards. shards.names.rest.now) };
@@ -45,10 +51,10 @@ impl<'a, 'n, S: Shelf> Iterator for Shards<'a, 'n, S> {
     }
 }
 
-// Why a filter doesn't fit the first, with the names of both.
-fn misfit(names: &[&str], number: usize, how: Difference) -> anyhow::Error {
-    let first = names.first().copied().unwrap_or("?");
-    let name = names.get(number).copied().unwrap_or("?");
+// Why the filter of a name doesn't fit the first.
+fn misfit(name: &str, first: &str, how: Difference) -> anyhow::Error
+    ensures { Says (misfit_text how name.now first.now) result }
+{
     match how {
         Difference::Shape => anyhow!("{name}: its shape isn't that of {first}"),
         Difference::Key => anyhow!("{name}: its key isn't that of {first}"),
@@ -61,9 +67,12 @@ fn misfit(names: &[&str], number: usize, how: Difference) -> anyhow::Error {
 /// At the first name whose filter can't be loaded, or has another shape or key than the first.
 pub fn unite_named<S: Shelf>(shelf: &S, names: &[&str]) -> anyhow::Result<BloomFilter>
     // One filter lies under each name, and this is their union, by the theorem of shards.
-    ensures { IfOk result (λ made. (filters : _)
+    ensures whole { IfOk result (λ made. (filters : _)
         × AreNamed (S.has shelf.now) (map (λ name. name.now) names.now) filters
         × UnitesShards filters made) }
+    // Why there is none.
+    ensures stops { IfErr result (StopsUniting (S.has shelf.now) (S.fails shelf.now)
+        (map (λ name. name.now) names.now)) }
 {
     let (name, others) = names.split_first().context("no filter was named")?;
     let first = shelf.load(name)?;
@@ -74,6 +83,11 @@ pub fn unite_named<S: Shelf>(shelf: &S, names: &[&str]) -> anyhow::Result<BloomF
     match unite(first, others) {
         Ok(filter) => Ok(filter),
         Err(Refusal::Unread(error)) => Err(error),
-        Err(Refusal::Differs(number, how)) => Err(misfit(names, number, how)),
+        Err(Refusal::Differs(number, how)) => {
+            // So the number of a filter is the place of its name.
+            prove!(names.len() <= usize::MAX);
+            prove!(number < names.len());
+            Err(misfit(names[number], name, how))
+        }
     }
 }

@@ -1,11 +1,13 @@
 //! The filter of all keys of a reader, filled by workers.
-ghost use Rattle.std.specs.Prelude.{◌≡◌, ◌<◌, IfOk, IfSome, map};
+ghost use Rattle.std.specs.Prelude.{◌≡◌, ◌<◌, IfErr, IfOk, IfSome, map};
 ghost use Rattle.std.specs.List.{concat};
 ghost use Rattle.lines.specs.Lines.{lines_of};
 ghost use Rattle.summaries_engine.specs.Answers.{IsKeyed};
+ghost use Rattle.summaries_engine.specs.Stops.{StopsBuilding};
 ghost use Rattle.summaries_engine.specs.Summaries.{IsSummaryOf};
 
 use crate::keys::hashes_of;
+use anyhow::Context;
 use fastbloom::{BloomFilter, FilterError, Gate, Shape, fill};
 use std::alloc::Global;
 use std::io::Read;
@@ -50,10 +52,13 @@ pub fn build<R: Threads, I: Read>(
     ensures summary { IfOk result (λ filter. IfSome (I.remaining input.old)
         (λ bytes. IsSummaryOf shape (lines_of bytes) filter)) }
     ensures keyed { IfOk result IsKeyed }
+    // Why there is none.
+    ensures stops { IfErr result (StopsBuilding (I.remaining input.old)) }
 {
     let hashes = hashes_of(alloc, input)?;
     let most = hashes.len().div_ceil(workers).max(1);
-    let parts = cut(alloc, hashes.as_slice(), most)?;
+    let parts = cut(alloc, hashes.as_slice(), most).context("no memory")?;
     drop(hashes);
-    Ok(fill(rt, alloc, Arc::new(alloc, Open)?, shape, parts)?)
+    let gate = Arc::new(alloc, Open).context("no memory")?;
+    Ok(fill(rt, alloc, gate, shape, parts).context("the filter can't be filled")?)
 }

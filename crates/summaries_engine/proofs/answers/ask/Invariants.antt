@@ -5,4 +5,4 @@ use Rattle.summaries_engine.proofs.answers.ask.Given as goal
 abbrev pub invariant-keys : goal.invariant-keys
 invariant-keys g l =
     IsAnswering l.filter (g.I.Read.remaining l.fn.input) l.lines (g.I.Read.remaining l.input)
-    (g.O.Write.contents l.fn.output) (g.O.Write.contents l.output)
+    l.number (g.O.Write.contents l.fn.output) (g.O.Write.contents l.output)

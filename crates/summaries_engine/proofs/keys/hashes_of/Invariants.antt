@@ -4,4 +4,5 @@ use Rattle.summaries_engine.proofs.keys.hashes_of.Given as goal
 -- the keys so far were hashed
 abbrev pub invariant-keys : goal.invariant-keys
 invariant-keys g l =
-    IsHashing (g.I.Read.remaining l.fn.input) l.lines (g.I.Read.remaining l.input) l.hashes.items
+    IsHashing (g.I.Read.remaining l.fn.input) l.lines (g.I.Read.remaining l.input) l.number
+    l.hashes.items
