@@ -10,9 +10,9 @@ use Rattle.guard_engine.specs.Guarded.{Entries}
 use Rattle.guard_engine.specs.Loaded.{HasTab, StopsAt}
 use Rattle.guard_commands.specs.declared.task.Task.{Task}
 use Rattle.guard_commands.specs.declared.task.Task.TheVariants as tasks
-use Rattle.guard_commands.specs.Refusals.{IsSaidOver, RefusesGuard, RefusesTask, SaysLine, line_text}
+use Rattle.guard_commands.specs.Refusals.{RefusesGuard, RefusesTask, SaysLine, line_text}
 use Rattle.guard_commands.proofs.AnswerFacts.{none, one}
-use Rattle.guard_commands.proofs.TaskFacts.{line, lent, loads, tab}
+use Rattle.guard_commands.proofs.TaskFacts.{line, loads, tab}
 
 -- an error that says no says no other text
 says-no : (text : List ℕ) (said : Error) → error_message said ≡ codes "no"
@@ -119,6 +119,7 @@ says-first said first at = of at.says.message
         let digits : decimal 2 ≡ codes "2" = decimal-digits_of 2 (omega arith) (omega arith) in
         ap line_text (is-second none one at.number at.stops)
         ∙ ap (λ d. codes "line " ++ (d ++ codes " has no tab")) digits
+
     of : HasMessage (Some (line_text at.number)) said → ⊥
     of (inl same) =
         let digit : ◌≡◌ {A = ℕ} 49 50 = ap (λ t. get_or t 5 0) (sym first ∙ same ∙ text) in

@@ -1,12 +1,16 @@
 -- What a guard promises, of a store of one entry: cases that hold, and near ones that don't. Hash 1
 -- has the positions 0, 20 and 32 among 64 bits, so its first two make the word 1048577.
-use Rattle.std.proofs.Common.{◌≡◌, inl, inr, ℕ, ◌-◌, ◌^◌, true, false, List, [], ◌∷◌, refl, sym, ◌∙◌, arith}
+use Rattle.std.proofs.Common.{◌≡◌, inl, inr, ℕ, ◌-◌, ◌^◌, true, false, List, [], ◌∷◌, refl, sym, subst, ◌∙◌, arith}
+use Rattle.std.specs.Prelude.{Bool, Contains, None, Option, Some, if◌then◌else◌, nat_le, ⊤}
 use Rattle.bloom_parts.specs.Chain.{chain}
 use Rattle.bloom_parts.specs.Content.{content}
 use Rattle.bloom_parts.specs.Places.{are_in}
+use Rattle.bloom_parts.specs.declared.error.FilterError.{FilterError}
+use Rattle.bloom_parts.specs.declared.error.FilterError.TheVariants.{HashCount, Memory, SizeOverflow, TooManyWords}
+use Rattle.bloom_plain.specs.Builders.{RateStart, IsSizeOf, RefusesAs, size_refusal, words_for}
 use Rattle.bloom_plain.specs.Filter.{Filter, contains}
 use Rattle.guard_engine.specs.Counted.{one_more}
-use Rattle.guard_engine.specs.Guarded.{Entries, Lacks, Stays, Gains, IsSingle, Lists, HoldsKeys, Guards}
+use Rattle.guard_engine.specs.Guarded.{Entries, Lacks, LacksFilter, Stays, Gains, IsSingle, Lists, HoldsKeys, Guards}
 
 -- no entry
 abbrev pub none : Entries
@@ -112,3 +116,45 @@ more = refl
 
 most : one_more (2 ^ 64 - 1) ≡ 2 ^ 64 - 1
 most = refl
+
+-- ---- no filter
+
+-- there is no memory for one of three items, which is else not refused
+lacks-memory : {B : Type 0} (start : RateStart B) (bits : ℕ) → IsSizeOf start 3 bits
+    → size_refusal bits ≡ None → LacksFilter start 3 ⊤ (λ (left : ℕ). ⊤) none Memory
+lacks-memory start bits size fits = record {
+  left = 0;
+  keys = [];
+  lists = λ ready known key value has. absurd has;
+  bits = bits;
+  size = size;
+  refuses = subst (λ refusal. RefusesAs refusal (Some Memory)) (sym fits) refl;
+}
+
+-- memory isn't the reason where the size is
+lacks-size : {B : Type 0} (start : RateStart B)
+    → ((bits : ℕ) → size_refusal bits ≡ Some SizeOverflow)
+    → LacksFilter start 3 ⊤ (λ (left : ℕ). ⊤) none Memory → ⊥
+lacks-size start large is =
+    let same : ◌≡◌ {A = Option FilterError} (Some Memory) (Some SizeOverflow) =
+    subst (λ refusal. RefusesAs refusal (Some Memory)) (large is.bits) is.refuses in cc
+
+-- nor is it a stored number of hashes
+lacks-hashes : {B : Type 0} (start : RateStart B)
+    → LacksFilter start 3 ⊤ (λ (left : ℕ). ⊤) none HashCount → ⊥
+lacks-hashes start is = of (nat_le (2 ^ 64) is.bits) (nat_le (2 ^ 58) (words_for is.bits)) is.refuses
+  where
+    of : (large many : Bool)
+        → RefusesAs (if large then Some SizeOverflow else if many then Some TooManyWords else None)
+        (Some HashCount) → ⊥
+    of true many same = cc
+    of false true same = cc
+    of false false same = cc
+
+-- a key that the store has counts
+lacks-uncounted : {B : Type 0} (start : RateStart B)
+    → (is : LacksFilter start 3 ⊤ (λ (left : ℕ). ⊤) one Memory) → is.keys ≡ [] → ⊥
+lacks-uncounted start is uncounted =
+    let there = subst (λ keys. Contains keys (1 ∷ [])) uncounted
+    (is.lists tt tt (1 ∷ []) (2 ∷ []) (refl, refl)) in
+    absurd (omega (arith, there.1))

@@ -6,5 +6,6 @@ mod GuardedFacts
 mod KeyLemmas
 mod LoadLemmas
 mod LoadedFacts
+mod OpenLemmas
 mod RunLemmas
 mod StopLemmas

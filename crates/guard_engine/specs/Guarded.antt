@@ -1,8 +1,10 @@
 -- What a store has, and what a guard before it keeps true: that its filter (B. H. Bloom, 1970) has
 -- each key of the store.
-use Rattle.std.specs.Prelude.{◌≡◌, ◌⊎◌, ◌↔◌, ℕ, true, List, [], ◌∷◌, Contains}
+use Rattle.std.specs.Prelude.{◌≡◌, ◌⊎◌, ◌↔◌, ℕ, ◌+◌, ◌-◌, ◌^◌, min, true, List, [], ◌∷◌, Contains, Some, length}
 use Rattle.std.specs.declared.hash.BuildHasher as builder
 use Rattle.std.specs.declared.hash.Hasher as hasher
+use Rattle.bloom_parts.specs.declared.error.FilterError.{FilterError}
+use Rattle.bloom_plain.specs.Builders.{RateStart, IsSizeOf, RefusesAs, size_refusal}
 use Rattle.bloom_plain.specs.Filter.{Filter, contains}
 use Rattle.bloom_plain.specs.SourceHash.{hash_by}
 
@@ -51,3 +53,14 @@ pub record Guards {B : Type 0} (hash_of : B → List ℕ → ℕ) (filter : Filt
     (entries : Entries) : Type 0 where
   pub ready : is_ready
   pub covers : Covers hash_of filter entries
+
+-- why a guard has no filter. Its store is gone, so this is of some that was left: if its medium told
+-- no lie, the keys were these; a filter for as many and for the room is refused so
+pub record LacksFilter {B T : Type 0} (start : RateStart B) (room : ℕ) (is_ready : Type 0)
+    (is_known : T → Type 0) (entries : Entries) (error : FilterError) : Type 0 where
+  pub left : T
+  pub keys : List (List ℕ)
+  pub lists : is_ready → is_known left → Lists keys entries
+  pub bits : ℕ
+  pub size : IsSizeOf start (min (length keys + room) (2 ^ 64 - 1)) bits
+  pub refuses : RefusesAs (size_refusal bits) (Some error)

@@ -1,8 +1,8 @@
 //! The guard: a store, and a filter that has each of its keys.
-ghost use Rattle.std.specs.Prelude.{◌≡◌, ◌↔◌, ◌⊎◌, false, map, string_bytes, vec_items, Ok, IfOk, OnOk, OnErr};
+ghost use Rattle.std.specs.Prelude.{◌≡◌, ◌↔◌, ◌⊎◌, false, map, string_bytes, vec_items, Err, Ok, IfOk, OnOk, OnErr};
 ghost use Rattle.bloom_plain.specs.Filter.{contains};
 ghost use Rattle.guard_engine.specs.Counted.{one_more};
-ghost use Rattle.guard_engine.specs.Guarded.{Gains, Guards, IsSingle, Lacks, Stays, key_hash};
+ghost use Rattle.guard_engine.specs.Guarded.{Gains, Guards, IsSingle, Lacks, LacksFilter, Stays, key_hash};
 
 mod keys;
 
@@ -69,6 +69,9 @@ impl<T: Store + Drop, B: BuildHasher + Drop> Guard<T, B> {
             → Guards hash guard.filter (T.is_ready guard.store) (T.has guard.store)) }
         ensures stays { T.is_ready store → IfOk result (λ guard. T.is_known guard.store
             → Stays (T.has store) (T.has guard.store)) }
+        // Why there is no filter.
+        ensures refused { (error : FilterError) → result ≡ Err (Refusal.Filter error)
+            → LacksFilter builder room (T.is_ready store) T.is_known (T.has store) error }
     {
         let mut store = store;
         let keys = match store.keys() {

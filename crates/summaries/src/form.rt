@@ -41,11 +41,9 @@ impl<'a, R: Files + AllocGlobal> Shelf for Disk<'a, R> {
         let text = fs::read_to_string(self.rt, name).context(format_args!(
             "{name}: it can't be read"
         ))?;
-        Ok(
-            filter_of(self.rt.alloc(), text.as_str()).context(format_args!(
-                "{name}: it holds no filter"
-            ))?,
-        )
+        Ok(filter_of(self.rt.alloc(), text.as_str()).context(format_args!(
+            "{name}: it holds no filter"
+        ))?)
     }
 }
 

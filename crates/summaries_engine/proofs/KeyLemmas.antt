@@ -1,9 +1,11 @@
 -- Keys read one after the other, with what was made of them so far.
-use Rattle.std.proofs.Common.{◌≡◌, ℕ, ◌+◌, Bool, true, false, List, [], ◌∷◌, ◌++◌, map, filter, flat_map, length, length-append, Option, refl, sym, subst, ◌∙◌, ap, append-nil, arith}
+use Rattle.std.proofs.Common.{◌≡◌, ℕ, ◌+◌, Bool, true, false, List, [], ◌∷◌, ◌++◌, if◌then◌else◌, map, filter, flat_map, length, length-append, Ok, Option, refl, sym, subst, ◌∙◌, ap, append-nil, arith}
 use Rattle.std.proofs.lemmas.List.{map-append}
 use Rattle.std.proofs.lemmas.Grind.{flat_map-append}
 use Rattle.std.proofs.lemmas.List.Elements.{filter-append}
 use Rattle.std.proofs.KnownBytes.{Appends-nil, Appends-trans}
+use Rattle.std.specs.Prelude.{Result}
+use Rattle.std.specs.Result.{is_ok}
 use Rattle.std.specs.Io.KnownBytes.{Appends}
 use Rattle.bloom_parts.specs.Sip.{sip}
 use Rattle.fastbloom.specs.Data.{DefaultFilter}
@@ -53,6 +55,13 @@ pub record IsHashing (read : Option (List ℕ)) (reader : Waiting) (left : Optio
   pub has_read : HasRead read reader left keys
   pub counted : number ≡ length keys
   pub hashed : hashes ≡ map (sip 0 0) keys
+
+-- a push that is done has added its hash
+pub pushed : {E : Type 0} (result : Result (Unit {0}) E) (hashes more : List ℕ) (hash : ℕ)
+    → result ≡ Ok tt → more ≡ (if is_ok result then hashes ++ hash ∷ [] else hashes)
+    → more ≡ hashes ++ hash ∷ []
+pushed result hashes more hash is made =
+    made ∙ ap (λ r. if is_ok r then hashes ++ hash ∷ [] else hashes) is
 
 -- one hash more
 pub hashing-next : {longest : ℕ} (read : Option (List ℕ)) (old new : Waiting)

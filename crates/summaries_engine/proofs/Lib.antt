@@ -5,6 +5,7 @@ mod NamedLemmas
 mod RefusalFacts
 mod RefusalLemmas
 mod ShardLemmas
+mod StopFacts
 mod StopLemmas
 mod SummaryFacts
 mod UnionFacts

@@ -5,7 +5,7 @@ use Rattle.std.specs.Prelude.{Ok}
 use Rattle.fastbloom.specs.Data.{DefaultFilter}
 use Rattle.summaries_engine.specs.Named.{Named, AreNamed, GivesNext}
 
-abbrev counted : Named
+abbrev pub counted : Named
 counted name f = name ≡ f.hashes ∷ []
 
 -- the error of a name is its byte

@@ -152,58 +152,58 @@ module _ {I S : Type 0} (E : Type 0) (has : S → Named) (fails : S → List ℕ
 
   module _ (first : DefaultFilter) (name : List ℕ) (start : I) (on : S) (all : List (List ℕ))
       (there : shelf start ≡ on) (these : name ∷ names start ≡ all) (here : has on name first)
-      where
-    -- with a first filter before it
-    reaches-behind : (filters : List DefaultFilter) (last : List ℕ)
-        → Reaches (has (shelf start)) (names start) filters last
-        → Reaches (has on) all (first ∷ filters) last
-    reaches-behind filters last reaches = record {
-      before = name ∷ reaches.before;
-      after = reaches.after;
-      are = sym these ∙ ap (λ l. name ∷ l) reaches.are;
-      loaded = (here, subst (λ s. AreNamed (has s) reaches.before filters) there reaches.loaded);
-    }
+    where
+      -- with a first filter before it
+      reaches-behind : (filters : List DefaultFilter) (last : List ℕ)
+          → Reaches (has (shelf start)) (names start) filters last
+          → Reaches (has on) all (first ∷ filters) last
+      reaches-behind filters last reaches = record {
+        before = name ∷ reaches.before;
+        after = reaches.after;
+        are = sym these ∙ ap (λ l. name ∷ l) reaches.are;
+        loaded = (here, subst (λ s. AreNamed (has s) reaches.before filters) there reaches.loaded);
+      }
 
-    -- an error is that of the name at which it came
-    pub unloaded : (error : E) (refusal : Refusal E) → refusal ≡ Unread error
-        → StopsAt (GivesNext {E = E} has fails shelf names) start first refusal
-        → StopsUnloaded (has on) (fails on) all error
-    unloaded error refusal is told =
-        let stop =
-        subst (λ r. StopsAt (GivesNext {E = E} has fails shelf names) start first r) is told in
-        let others = stop.refused.0 in
-        let up = named-up-to others (Err error) start stop.end
-            (subst (λ given. Yields (GivesNext {E = E} has fails shelf names) start given stop.end)
-            stop.refused.1 stop.came) in record {
-          filters = first ∷ others;
-          name = up.0;
-          reaches = reaches-behind others up.0 up.1;
-          failed = subst (λ s. fails s up.0 error) there up.2;
-        }
+      -- an error is that of the name at which it came
+      pub unloaded : (error : E) (refusal : Refusal E) → refusal ≡ Unread error
+          → StopsAt (GivesNext {E = E} has fails shelf names) start first refusal
+          → StopsUnloaded (has on) (fails on) all error
+      unloaded error refusal is told =
+          let stop =
+          subst (λ r. StopsAt (GivesNext {E = E} has fails shelf names) start first r) is told in
+          let others = stop.refused.0 in
+          let up = named-up-to others (Err error) start stop.end
+          (subst (λ given. Yields (GivesNext {E = E} has fails shelf names) start given stop.end)
+          stop.refused.1 stop.came) in record {
+            filters = first ∷ others;
+            name = up.0;
+            reaches = reaches-behind others up.0 up.1;
+            failed = subst (λ s. fails s up.0 error) there up.2;
+          }
 
-    -- a filter that differs is that of the name at which it came
-    pub misfit-at : (number : ℕ) (how : Difference) (refusal : Refusal E)
-        → refusal ≡ Differs number how → length all < 2 ^ 64
-        → StopsAt (GivesNext {E = E} has fails shelf names) start first refusal
-        → MisfitAt (has on) all first number how
-    misfit-at number how refusal is few told =
-        let stop =
-        subst (λ r. StopsAt (GivesNext {E = E} has fails shelf names) start first r) is told in
-        let misfit = stop.refused in
-        let up = named-up-to misfit.others (Ok misfit.shard) start stop.end
-            (subst (λ given. Yields (GivesNext {E = E} has fails shelf names) start given stop.end)
-            misfit.came stop.came) in
-        let reaches = reaches-behind misfit.others up.0 up.1 in
-        let at = number-at number (length misfit.others) all reaches.before reaches.after up.0 few
-            reaches.are misfit.counted
-            (named-length (has on) reaches.before (first ∷ misfit.others) reaches.loaded) in
-        record {
-          filters = misfit.others;
-          name = up.0;
-          shard = misfit.shard;
-          reaches = reaches;
-          loaded = subst (λ s. has s up.0 misfit.shard) there up.2;
-          differs = misfit.differs;
-          within = at.1;
-          is_name = name-behind all reaches.before reaches.after up.0 number reaches.are at.0;
-        }
+      -- a filter that differs is that of the name at which it came
+      pub misfit-at : (number : ℕ) (how : Difference) (refusal : Refusal E)
+          → refusal ≡ Differs number how → length all < 2 ^ 64
+          → StopsAt (GivesNext {E = E} has fails shelf names) start first refusal
+          → MisfitAt (has on) all first number how
+      misfit-at number how refusal is few told =
+          let stop =
+          subst (λ r. StopsAt (GivesNext {E = E} has fails shelf names) start first r) is told in
+          let misfit = stop.refused in
+          let up = named-up-to misfit.others (Ok misfit.shard) start stop.end
+          (subst (λ given. Yields (GivesNext {E = E} has fails shelf names) start given stop.end)
+          misfit.came stop.came) in
+          let reaches = reaches-behind misfit.others up.0 up.1 in
+          let at = number-at number (length misfit.others) all reaches.before reaches.after up.0 few
+          reaches.are misfit.counted
+          (named-length (has on) reaches.before (first ∷ misfit.others) reaches.loaded) in
+          record {
+            filters = misfit.others;
+            name = up.0;
+            shard = misfit.shard;
+            reaches = reaches;
+            loaded = subst (λ s. has s up.0 misfit.shard) there up.2;
+            differs = misfit.differs;
+            within = at.1;
+            is_name = name-behind all reaches.before reaches.after up.0 number reaches.are at.0;
+          }

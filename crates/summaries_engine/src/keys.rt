@@ -44,7 +44,9 @@ pub fn hashes_of<I: Read>(alloc: Global, input: &mut I) -> anyhow::Result<Vec<u6
     'keys: for number in 0..u64::MAX {
         match lines.next_line(input).context("the keys can't be read")? {
             Next::End => return Ok(hashes),
-            Next::Line => hashes.push(hash_of(&builder, lines.line())).context("no memory")?,
+            Next::Line => hashes
+                .push(hash_of(&builder, lines.line()))
+                .context("no memory")?,
             Next::TooLong => return Err(too_long(number)),
         }
     }

@@ -1,4 +1,4 @@
-use Rattle.std.proofs.Common.{◌≡◌, ◌-◌, ◌^◌, inl, codes, false, [], ◌∷◌, Ok, ap, subst, ◌∙◌, arith, rules}
+use Rattle.std.proofs.Common.{◌≡◌, inl, codes, false, [], ◌∷◌, Ok, ap, subst, ◌∙◌, arith, rules}
 use Rattle.std.proofs.KnownBytes.{Appends-nil}
 use Rattle.std.specs.Prelude.{Err, IfOk}
 use Rattle.std.specs.Io.KnownBytes.{Appends}

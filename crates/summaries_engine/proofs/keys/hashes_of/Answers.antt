@@ -1,9 +1,8 @@
-use Rattle.std.proofs.Common.{◌≡◌, ◌-◌, ◌^◌, inl, codes, false, [], ◌∷◌, ◌++◌, if◌then◌else◌, Ok, ap, refl, subst, ◌∙◌, arith, rules}
+use Rattle.std.proofs.Common.{◌≡◌, inl, codes, false, [], Ok, ap, refl, subst, ◌∙◌, arith, rules}
 use Rattle.std.specs.Prelude.{Err, IfOk}
-use Rattle.std.specs.Result.{is_ok}
 use Rattle.bloom_parts.specs.Sip.{sip}
 use Rattle.lines.specs.Reading.{NextLine, left_of}
-use Rattle.summaries_engine.proofs.KeyLemmas.{read-none, hashing-next, hashing-end}
+use Rattle.summaries_engine.proofs.KeyLemmas.{read-none, hashing-next, hashing-end, pushed}
 use Rattle.summaries_engine.specs.Stops.{StopsHashing}
 use Rattle.summaries_engine.proofs.StopLemmas.{from-none, hashing-stops, said-on, why-long, why-many, why-read, why-room}
 use Rattle.summaries_engine.proofs.keys.hashes_of.Goals as goal
@@ -47,9 +46,8 @@ keys-preserved g c =
     (c.in_ok-context.ensures ∙ ap Ok c.in-Line.is) c.next_line.ensures.next)
     c.next_line.ensures.knows c.next_line.ensures.longest
     (c.hash_of.ensures 0 0 c.keyed-builder.ensures ∙ ap (sip 0 0) c.line.ensures)
-    (c.push.ensures.items
-    ∙ ap (λ r. if is_ok r then c.keys.hashes.items ++ c.hash_of.result ∷ [] else c.keys.hashes.items)
-    c.in_ok-context-in-Line.ensures)
+    (pushed c.push.result c.keys.hashes.items c.push.new.self.items c.hash_of.result
+    c.in_ok-context-in-Line.ensures c.push.ensures.items)
 
 -- there was no room for the reader
 pub returns-in_err-lines-clause-stops : goal.returns-in_err-lines-clause-stops

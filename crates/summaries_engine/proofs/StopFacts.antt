@@ -1,0 +1,224 @@
+-- Why keys aren't taken to their end, and why named filters aren't united: cases that hold, and some
+-- that nearly do. Byte 10 ends a line.
+use Rattle.std.proofs.Common.{◌≡◌, ℕ, ◌+◌, inl, inr, List, [], ◌∷◌, ◌++◌, codes, length, length-append, get_or, Option, Some, refl, sym, ap, subst, ◌∙◌, arith}
+use Rattle.std.specs.Fmt.Cut.{EndsInDots}
+use Rattle.anyhow.specs.Error.{HasMessage, error_message}
+use Rattle.anyhow.specs.declared.error.Error.{Error}
+use Rattle.fastbloom.specs.Data.{DefaultFilter}
+use Rattle.lines.specs.Lines.{lines_of}
+use Rattle.lines.specs.Reading.{IsReadFrom}
+use Rattle.summaries_engine.specs.declared.unions.Difference.TheVariants as difference
+use Rattle.summaries_engine.specs.Named.{AreNamed, StopsAtMisfit, StopsUniting, StopsUnloaded, misfit_text}
+use Rattle.summaries_engine.specs.Refusals.{DiffersBy, too_long_text}
+use Rattle.summaries_engine.specs.Stops.{IsReasonAfter, Says, SaysOver, StopsAsking, StopsBuilding, StopsHashing}
+use Rattle.summaries_engine.proofs.NamedFacts.{counted}
+use Rattle.summaries_engine.proofs.StopLemmas.{from-none}
+
+-- an error that says one text says no other
+says-other : (is text : List ℕ) (said : Error) → error_message said ≡ is → (is ≡ text → ⊥)
+    → (EndsInDots 120 is → ⊥) → HasMessage (Some text) said → ⊥
+says-other is text said told other uncut (inl same) = other (sym told ∙ same)
+says-other is text said told other uncut (inr dots) = uncut (subst (EndsInDots 120) told dots)
+
+-- no is a whole text
+no-whole : EndsInDots 120 (codes "no") → ⊥
+no-whole ends =
+    let byte : ◌≡◌ {A = ℕ} 110 46 = ap (λ t. get_or t 0 0) ends in absurd (omega (arith, byte))
+
+-- ---- keys
+
+-- there is no room
+hashing-room : (said : Error) → SaysOver (codes "no memory") said → StopsHashing (Some []) said
+hashing-room said over = record {
+  keys = [];
+  first = from-none (Some []);
+  done = tt;
+  reason = inl over;
+}
+
+-- no reason says no
+reason-no : (read : Option (List ℕ)) (keys : List (List ℕ)) (said : Error)
+    → error_message said ≡ codes "no" → IsReasonAfter read keys said → ⊥
+reason-no read keys said told (inl over) =
+    says-other (codes "no") (codes "no memory") said told (λ same. cc) no-whole over.0
+reason-no read keys said told (inr (inl over)) =
+    says-other (codes "no") (codes "the keys can't be read") said told (λ same. cc) no-whole over.0
+reason-no read keys said told (inr (inr (inl at))) =
+    says-other (codes "no") (too_long_text (length keys)) said told (λ same. cc) no-whole
+    at.1.message
+reason-no read keys said told (inr (inr (inr at))) =
+    says-other (codes "no") (codes "there are too many keys") said told (λ same. cc) no-whole
+    at.1.message
+
+-- so nothing is refused for no reason
+hashing-no : (read : Option (List ℕ)) (said : Error) → error_message said ≡ codes "no"
+    → StopsHashing read said → ⊥
+hashing-no read said told stop = reason-no read stop.keys said told stop.reason
+
+asking-no : (f : DefaultFilter) (read from to : Option (List ℕ)) (said : Error)
+    → error_message said ≡ codes "no" → StopsAsking f read from to said → ⊥
+asking-no f read from to said told (inl stop) = reason-no read stop.keys said told stop.reason
+asking-no f read from to said told (inr over) =
+    says-other (codes "no") (codes "the keys can't be written") said told (λ same. cc) no-whole
+    over.0
+
+building-no : (read : Option (List ℕ)) (said : Error) → error_message said ≡ codes "no"
+    → StopsBuilding read said → ⊥
+building-no read said told (inl stop) = hashing-no read said told stop
+building-no read said told (inr (inl over)) =
+    says-other (codes "no") (codes "no memory") said told (λ same. cc) no-whole over.0
+building-no read said told (inr (inr over)) =
+    says-other (codes "no") (codes "the filter can't be filled") said told (λ same. cc) no-whole
+    over.0
+
+-- a write failed
+asking-write : (f : DefaultFilter) (read from to : Option (List ℕ)) (said : Error)
+    → SaysOver (codes "the keys can't be written") said → StopsAsking f read from to said
+asking-write f read from to said over = inr over
+
+-- the threads couldn't be started
+building-worker : (read : Option (List ℕ)) (said : Error)
+    → SaysOver (codes "the filter can't be filled") said → StopsBuilding read said
+building-worker read said over = inr (inr over)
+
+-- the one key of a reader isn't too long
+abbrev first_long : List ℕ
+first_long = codes "key 1 has more than 65536 bytes"
+
+short-key : (keys : List (List ℕ)) (said : Error) → error_message said ≡ first_long
+    → IsReadFrom (Some (1 ∷ 10 ∷ [])) keys → IsReasonAfter (Some (1 ∷ 10 ∷ [])) keys said → ⊥
+unfolding lines_of
+short-key keys said told first reason = of reason
+  where
+    whole : EndsInDots 120 first_long → ⊥
+    whole ends =
+        let byte : ◌≡◌ {A = ℕ} 116 46 = ap (λ t. get_or t 0 0) ends in
+        absurd (omega (arith, byte))
+
+    memory : first_long ≡ codes "no memory" → ⊥
+    memory same =
+        let byte : ◌≡◌ {A = ℕ} 107 110 = ap (λ t. get_or t 0 0) same in
+        absurd (omega (arith, byte))
+
+    unread : first_long ≡ codes "the keys can't be read" → ⊥
+    unread same =
+        let byte : ◌≡◌ {A = ℕ} 107 116 = ap (λ t. get_or t 0 0) same in
+        absurd (omega (arith, byte))
+
+    of : IsReasonAfter (Some (1 ∷ 10 ∷ [])) keys said → ⊥
+    of (inl over) = says-other first_long (codes "no memory") said told memory whole over.0
+    of (inr (inl over)) =
+        says-other first_long (codes "the keys can't be read") said told unread whole over.0
+    of (inr (inr (inl at))) = one keys at.0.cut
+      where
+        one : (keys : List (List ℕ)) → (1 ∷ []) ∷ [] ≡ keys ++ at.0.long ∷ at.0.later → ⊥
+        one [] cut =
+            let is : ◌≡◌ {A = List ℕ} (1 ∷ []) at.0.long = cc in
+            absurd (omega (arith, at.0.is_long, ap length is))
+        one (key ∷ keys) cut =
+            let none : ◌≡◌ {A = List (List ℕ)} [] (keys ++ at.0.long ∷ at.0.later) = cc in
+            absurd (omega (arith, ap length none, length-append keys (at.0.long ∷ at.0.later)))
+    of (inr (inr (inr at))) =
+        let few : 1 ≡ length keys + length first.later =
+        ap length first.cut ∙ length-append keys first.later in
+        absurd (omega (arith, few, at.0))
+
+hashing-short : (said : Error) → error_message said ≡ first_long
+    → StopsHashing (Some (1 ∷ 10 ∷ [])) said → ⊥
+hashing-short said told stop = short-key stop.keys said told stop.first stop.reason
+
+-- ---- names
+
+-- a load of a name fails by no error
+abbrev never : List ℕ → Error → Type 0
+never name said = ⊥
+
+-- no name
+uniting-none : (said : Error) → Says (codes "no filter was named") said
+    → StopsUniting counted never [] said
+uniting-none said says = inl (refl, says)
+
+-- and not a name whose filter is loaded
+uniting-one : (name : List ℕ) (said : Error) → StopsUniting counted never (name ∷ []) said → ⊥
+uniting-one name said (inl none) =
+    let wrong : ◌≡◌ {A = List (List ℕ)} (name ∷ []) [] = none.0 in cc
+uniting-one name said (inr (inl stop)) = stop.failed
+uniting-one name said (inr (inr stop)) = of stop.reaches.before stop.reaches.are stop.reaches.loaded
+  where
+    of : (before : List (List ℕ)) → name ∷ [] ≡ before ++ stop.name ∷ stop.reaches.after
+        → AreNamed counted before (stop.first ∷ stop.filters) → ⊥
+    of [] are loaded = loaded
+    of (other ∷ before) are loaded =
+        let none : ◌≡◌ {A = List (List ℕ)} [] (before ++ stop.name ∷ stop.reaches.after) = cc in
+        absurd (omega (
+          arith,
+          ap length none,
+          length-append before (stop.name ∷ stop.reaches.after),
+        ))
+
+-- the second filter couldn't be loaded
+unloaded-second : (fails : List ℕ → Error → Type 0) (f : DefaultFilter) (said : Error)
+    → f.hashes ≡ 2 → fails (3 ∷ []) said
+    → StopsUnloaded counted fails ((2 ∷ []) ∷ (3 ∷ []) ∷ []) said
+unloaded-second fails f said two failed = record {
+  filters = f ∷ [];
+  name = 3 ∷ [];
+  reaches = record {
+    before = (2 ∷ []) ∷ [];
+    after = [];
+    are = refl;
+    loaded = (ap (λ n. n ∷ []) (sym two), tt);
+  };
+  failed = failed;
+}
+
+-- nor one of another name
+unloaded-other : (f : DefaultFilter) (said : Error)
+    → StopsUnloaded counted (λ name error. name ≡ 4 ∷ []) ((2 ∷ []) ∷ (3 ∷ []) ∷ []) said → ⊥
+unloaded-other f said stop = of stop.reaches.before stop.reaches.are stop.failed
+  where
+    of : (before : List (List ℕ))
+        → (2 ∷ []) ∷ (3 ∷ []) ∷ [] ≡ before ++ stop.name ∷ stop.reaches.after
+        → stop.name ≡ 4 ∷ [] → ⊥
+    of [] are four = cc
+    of (x ∷ []) are four = cc
+    of (x ∷ y ∷ before) are four =
+        let none : ◌≡◌ {A = List (List ℕ)} [] (before ++ stop.name ∷ stop.reaches.after) = cc in
+        absurd (omega (
+          arith,
+          ap length none,
+          length-append before (stop.name ∷ stop.reaches.after),
+        ))
+
+-- the second filter has another shape
+misfit-second : (f g : DefaultFilter) (said : Error) → f.hashes ≡ 2 → g.hashes ≡ 3
+    → DiffersBy f g difference.Shape
+    → Says ((3 ∷ []) ++ (codes ": its shape isn't that of " ++ (2 ∷ []))) said
+    → StopsAtMisfit counted ((2 ∷ []) ∷ (3 ∷ []) ∷ []) said
+misfit-second f g said two three differs says = record {
+  first = f;
+  filters = [];
+  name = 3 ∷ [];
+  shard = g;
+  how = difference.Shape;
+  reaches = record {
+    before = (2 ∷ []) ∷ [];
+    after = [];
+    are = refl;
+    loaded = (ap (λ n. n ∷ []) (sym two), tt);
+  };
+  loaded = ap (λ n. n ∷ []) (sym three);
+  differs = differs;
+  says = says;
+}
+
+-- the text of a key isn't that of a shape
+misfit-key : (name first : List ℕ)
+    → misfit_text difference.Key name first ≡ misfit_text difference.Shape name first → ⊥
+misfit-key [] first same =
+    let byte : ◌≡◌ {A = ℕ} 107 115 = ap (λ t. get_or t 6 0) same in absurd (omega (arith, byte))
+misfit-key (byte ∷ name) first same = misfit-key name first (ap (λ t. rest t) same)
+  where
+    rest : List ℕ → List ℕ
+    rest [] = []
+    rest (x ∷ xs) = xs
