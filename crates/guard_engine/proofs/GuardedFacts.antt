@@ -142,7 +142,8 @@ lacks-size start large is =
 -- nor is it a stored number of hashes
 lacks-hashes : {B : Type 0} (start : RateStart B)
     → LacksFilter start 3 ⊤ (λ (left : ℕ). ⊤) none HashCount → ⊥
-lacks-hashes start is = of (nat_le (2 ^ 64) is.bits) (nat_le (2 ^ 58) (words_for is.bits)) is.refuses
+lacks-hashes start is =
+    of (nat_le (2 ^ 64) is.bits) (nat_le (2 ^ 58) (words_for is.bits)) is.refuses
   where
     of : (large many : Bool)
         → RefusesAs (if large then Some SizeOverflow else if many then Some TooManyWords else None)

@@ -70,13 +70,13 @@ pub hashing-next : {longest : ℕ} (read : Option (List ℕ)) (old new : Waiting
     → TakesShort longest (left_of old left) (left_of new rest) new.line → KnowsEnd new.ended rest
     → new.longest ≡ old.longest → hash ≡ sip 0 0 new.line → more ≡ hashes ++ hash ∷ []
     → IsHashing read new rest (number + 1) more
-hashing-next read old new left rest number hashes more hash so_far next knows same is made = record {
-  keys = so_far.keys ++ new.line ∷ [];
-  has_read = read-next read old new left rest so_far.keys so_far.has_read next knows same;
-  counted = one-more number so_far.keys new.line so_far.counted;
-  hashed = made ∙ ap (λ l. l ++ hash ∷ []) so_far.hashed
-      ∙ ap (λ h. map (sip 0 0) so_far.keys ++ h ∷ []) is
-      ∙ sym (map-append (sip 0 0) so_far.keys (new.line ∷ []));
+hashing-next read old new left rest number hashes more hash past next knows same is made = record {
+  keys = past.keys ++ new.line ∷ [];
+  has_read = read-next read old new left rest past.keys past.has_read next knows same;
+  counted = one-more number past.keys new.line past.counted;
+  hashed = made ∙ ap (λ l. l ++ hash ∷ []) past.hashed
+      ∙ ap (λ h. map (sip 0 0) past.keys ++ h ∷ []) is
+      ∙ sym (map-append (sip 0 0) past.keys (new.line ∷ []));
 }
 
 -- all of them

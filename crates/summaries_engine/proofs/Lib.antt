@@ -1,5 +1,6 @@
 mod AnswerFacts
 mod KeyLemmas
+mod MisfitLemmas
 mod NamedFacts
 mod NamedLemmas
 mod RefusalFacts
@@ -10,3 +11,4 @@ mod StopLemmas
 mod SummaryFacts
 mod UnionFacts
 mod UnionLemmas
+mod UnitingFacts

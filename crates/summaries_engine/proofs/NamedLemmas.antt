@@ -1,82 +1,16 @@
 -- Filters that an iterator over names gave.
-use Rattle.std.proofs.Common.{◌≡◌, ◌<◌, ◌+◌, ◌-◌, ◌^◌, ℕ, suc, Bor, min, List, [], ◌∷◌, ◌++◌, map, length, length-append, get_or, Ok, None, refl, sym, subst, ap, ◌∙◌, arith}
+use Rattle.std.proofs.Common.{◌≡◌, ◌<◌, ◌^◌, ℕ, List, [], ◌∷◌, ◌++◌, map, length, Ok, None, sym, subst, ap, ◌∙◌}
 use Rattle.std.specs.Prelude.{Err, Result, MatchResult}
-use Rattle.std.proofs.lemmas.List.{get_or-map}
 use Rattle.std.specs.Iterator.{Yields}
 use Rattle.std.specs.Iterator.Runs.{WholeRun, YieldsRun}
-use Rattle.anyhow.specs.declared.error.Error.{Error}
 use Rattle.fastbloom.specs.Data.{DefaultFilter}
 use Rattle.summaries_engine.specs.declared.unions.Difference.{Difference}
 use Rattle.summaries_engine.specs.declared.unions.Refusal.{Refusal}
 use Rattle.summaries_engine.specs.declared.unions.Refusal.TheVariants.{Unread, Differs}
-use Rattle.summaries_engine.specs.Named.{Named, AreNamed, GivesNext, Reaches, StopsAtMisfit, StopsUnloaded, misfit_text}
-use Rattle.summaries_engine.specs.Stops.{Says}
-use Rattle.summaries_engine.specs.Refusals.{DiffersBy, StopsAt}
+use Rattle.summaries_engine.specs.Named.{Named, AreNamed, GivesNext, Reaches, StopsUnloaded}
+use Rattle.summaries_engine.specs.Refusals.{StopsAt}
 use Rattle.summaries_engine.specs.Summaries.{UnitesGiven, UnitesShards}
-
--- filters are as many as their names
-named-length : (has : Named) (names : List (List ℕ)) (filters : List DefaultFilter)
-    → AreNamed has names filters → length filters ≡ length names
-named-length has [] [] are = refl
-named-length has [] (f ∷ filters) are = absurd are
-named-length has (name ∷ names) [] are = absurd are
-named-length has (name ∷ names) (f ∷ filters) are =
-    ap (λ n. suc n) (named-length has names filters are.1)
-
--- the name behind so many others
-behind-them : (before after : List (List ℕ)) (name : List ℕ)
-    → get_or (before ++ name ∷ after) (length before) [] ≡ name
-behind-them [] after name = refl
-behind-them (other ∷ before) after name = behind-them before after name
-
--- so in a list that is so cut
-name-behind : (all before after : List (List ℕ)) (name : List ℕ) (number : ℕ)
-    → all ≡ before ++ name ∷ after → number ≡ length before → get_or all number [] ≡ name
-name-behind all before after name number are at =
-    ap (λ l. get_or l number []) are ∙ ap (λ n. get_or (before ++ name ∷ after) n []) at
-    ∙ behind-them before after name
-
--- the number of a filter behind the first is the place of its name
-number-at : (number others : ℕ) (all before after : List (List ℕ)) (name : List ℕ)
-    → length all < 2 ^ 64 → all ≡ before ++ name ∷ after → number ≡ min (others + 1) (2 ^ 64 - 1)
-    → suc others ≡ length before → (number ≡ length before) × (number < length all)
-number-at number others all before after name few are counted behind =
-    let long : length all ≡ length before + suc (length after) =
-    ap length are ∙ length-append before (name ∷ after) in
-    (omega (arith, few, long, counted, behind), omega (arith, few, long, counted, behind))
-
--- where the filter of a name differs from the first, the number is that of the name
-pub record MisfitAt (has : Named) (names : List (List ℕ)) (first : DefaultFilter) (number : ℕ)
-    (how : Difference) : Type 0 where
-  pub filters : List DefaultFilter
-  pub name : List ℕ
-  pub shard : DefaultFilter
-  pub reaches : Reaches has names (first ∷ filters) name
-  pub loaded : has name shard
-  pub differs : DiffersBy first shard how
-  pub within : number < length names
-  pub is_name : get_or names number [] ≡ name
-
--- what is said names it and the first
-pub misfit-said : (has : Named) (names : List (Bor (List ℕ))) (first : DefaultFilter) (number : ℕ)
-    (how : Difference) (other : Bor (List ℕ)) (name : List ℕ) (said : Error)
-    → MisfitAt has (map (λ name. name.now) names) first number how → number < length names
-    → get_or (map (λ name. name.now) names) 0 [] ≡ name
-    → Says (misfit_text how (get_or names number other).now name) said
-    → StopsAtMisfit has (map (λ name. name.now) names) said
-misfit-said has names first number how other name said at within is_first says = record {
-  first = first;
-  filters = at.filters;
-  name = at.name;
-  shard = at.shard;
-  how = how;
-  reaches = at.reaches;
-  loaded = at.loaded;
-  differs = at.differs;
-  says = subst (λ n. Says (misfit_text how at.name n) said) (sym is_first)
-      (subst (λ n. Says (misfit_text how n name) said)
-      (sym (get_or-map (λ n. n.now) names number other [] within) ∙ at.is_name) says);
-}
+use Rattle.summaries_engine.proofs.MisfitLemmas.{MisfitAt, name-behind, named-length, number-at}
 
 module _ {I S : Type 0} (E : Type 0) (has : S → Named) (fails : S → List ℕ → E → Type 0)
     (shelf : I → S) (names : I → List (List ℕ)) where

@@ -3,7 +3,8 @@ use Rattle.std.proofs.lemmas.List.{length-map}
 use Rattle.std.specs.Prelude.{Err, IfErr, MatchOption}
 use Rattle.std.specs.List.{IsFirstAndRest}
 use Rattle.summaries_engine.specs.Named.{StopsUniting}
-use Rattle.summaries_engine.proofs.NamedLemmas.{misfit-at, misfit-said, named-run, unloaded}
+use Rattle.summaries_engine.proofs.MisfitLemmas.{misfit-said}
+use Rattle.summaries_engine.proofs.NamedLemmas.{misfit-at, named-run, unloaded}
 use Rattle.summaries_engine.proofs.shards.unite_named.Goals as goal
 
 -- the filters of all names, the first and those behind it
@@ -16,7 +17,8 @@ returns-in-Ok-clause-whole g c =
     subst (λ found. MatchOption found (length c.args.names.now ≡ 0)
     (λ p. IsFirstAndRest c.args.names.now p.0.now p.1.now))
     c.in_ok-name.ensures c.split_first.ensures.cases in
-    named-run _ g.S.Shelf.has g.S.Shelf.fails (λ it. it.shelf.now) (λ it. map (λ n. n.now) it.names.rest.now)
+    named-run _ g.S.Shelf.has g.S.Shelf.fails (λ it. it.shelf.now)
+    (λ it. map (λ n. n.now) it.names.rest.now)
     c.in_ok-first.first c.in-Ok.filter name whole.0 _ _ (ap (λ it. it.shelf.now) whole.1)
     (ap (λ l. name ∷ map (λ n. n.now) l) left ∙ sym (ap (map (λ n. n.now)) cut.0))
     c.in_ok-first.ensures.named whole.2

@@ -1,0 +1,103 @@
+-- Why named filters aren't united: cases that hold, and some that nearly do.
+use Rattle.std.proofs.Common.{◌≡◌, ℕ, inl, inr, List, [], ◌∷◌, ◌++◌, codes, length, length-append, get_or, refl, sym, ap, arith}
+use Rattle.anyhow.specs.declared.error.Error.{Error}
+use Rattle.fastbloom.specs.Data.{DefaultFilter}
+use Rattle.summaries_engine.specs.declared.unions.Difference.TheVariants as difference
+use Rattle.summaries_engine.specs.Named.{AreNamed, StopsAtMisfit, StopsUniting, StopsUnloaded, misfit_text}
+use Rattle.summaries_engine.specs.Refusals.{DiffersBy}
+use Rattle.summaries_engine.specs.Stops.{Says}
+use Rattle.summaries_engine.proofs.NamedFacts.{counted}
+
+-- a load of a name fails by no error
+abbrev never : List ℕ → Error → Type 0
+never name said = ⊥
+
+-- no name
+uniting-none : (said : Error) → Says (codes "no filter was named") said
+    → StopsUniting counted never [] said
+uniting-none said says = inl (refl, says)
+
+-- and not a name whose filter is loaded
+uniting-one : (name : List ℕ) (said : Error) → StopsUniting counted never (name ∷ []) said → ⊥
+uniting-one name said (inl none) =
+    let wrong : ◌≡◌ {A = List (List ℕ)} (name ∷ []) [] = none.0 in cc
+uniting-one name said (inr (inl stop)) = stop.failed
+uniting-one name said (inr (inr stop)) = of stop.reaches.before stop.reaches.are stop.reaches.loaded
+  where
+    of : (before : List (List ℕ)) → name ∷ [] ≡ before ++ stop.name ∷ stop.reaches.after
+        → AreNamed counted before (stop.first ∷ stop.filters) → ⊥
+    of [] are loaded = loaded
+    of (other ∷ before) are loaded =
+        let none : ◌≡◌ {A = List (List ℕ)} [] (before ++ stop.name ∷ stop.reaches.after) = cc in
+        absurd (omega (
+          arith,
+          ap length none,
+          length-append before (stop.name ∷ stop.reaches.after),
+        ))
+
+-- the second filter couldn't be loaded
+unloaded-second : (fails : List ℕ → Error → Type 0) (f : DefaultFilter) (said : Error)
+    → f.hashes ≡ 2 → fails (3 ∷ []) said
+    → StopsUnloaded counted fails ((2 ∷ []) ∷ (3 ∷ []) ∷ []) said
+unloaded-second fails f said two failed = record {
+  filters = f ∷ [];
+  name = 3 ∷ [];
+  reaches = record {
+    before = (2 ∷ []) ∷ [];
+    after = [];
+    are = refl;
+    loaded = (ap (λ n. n ∷ []) (sym two), tt);
+  };
+  failed = failed;
+}
+
+-- nor one of another name
+unloaded-other : (f : DefaultFilter) (said : Error)
+    → StopsUnloaded counted (λ name error. name ≡ 4 ∷ []) ((2 ∷ []) ∷ (3 ∷ []) ∷ []) said → ⊥
+unloaded-other f said stop = of stop.reaches.before stop.reaches.are stop.failed
+  where
+    of : (before : List (List ℕ))
+        → (2 ∷ []) ∷ (3 ∷ []) ∷ [] ≡ before ++ stop.name ∷ stop.reaches.after
+        → stop.name ≡ 4 ∷ [] → ⊥
+    of [] are four = cc
+    of (x ∷ []) are four = cc
+    of (x ∷ y ∷ before) are four =
+        let none : ◌≡◌ {A = List (List ℕ)} [] (before ++ stop.name ∷ stop.reaches.after) = cc in
+        absurd (omega (
+          arith,
+          ap length none,
+          length-append before (stop.name ∷ stop.reaches.after),
+        ))
+
+-- the second filter has another shape
+misfit-second : (f g : DefaultFilter) (said : Error) → f.hashes ≡ 2 → g.hashes ≡ 3
+    → DiffersBy f g difference.Shape
+    → Says ((3 ∷ []) ++ (codes ": its shape isn't that of " ++ (2 ∷ []))) said
+    → StopsAtMisfit counted ((2 ∷ []) ∷ (3 ∷ []) ∷ []) said
+misfit-second f g said two three differs says = record {
+  first = f;
+  filters = [];
+  name = 3 ∷ [];
+  shard = g;
+  how = difference.Shape;
+  reaches = record {
+    before = (2 ∷ []) ∷ [];
+    after = [];
+    are = refl;
+    loaded = (ap (λ n. n ∷ []) (sym two), tt);
+  };
+  loaded = ap (λ n. n ∷ []) (sym three);
+  differs = differs;
+  says = says;
+}
+
+-- the text of a key isn't that of a shape
+misfit-key : (name first : List ℕ)
+    → misfit_text difference.Key name first ≡ misfit_text difference.Shape name first → ⊥
+misfit-key [] first same =
+    let byte : ◌≡◌ {A = ℕ} 107 115 = ap (λ t. get_or t 6 0) same in absurd (omega (arith, byte))
+misfit-key (byte ∷ name) first same = misfit-key name first (ap (λ t. rest t) same)
+  where
+    rest : List ℕ → List ℕ
+    rest [] = []
+    rest (x ∷ xs) = xs
