@@ -1,4 +1,5 @@
--- Why keys aren't taken to their end: cases that hold, and some that nearly do. Byte 10 ends a line.
+-- Why keys aren't taken to their end: cases that hold, and some that nearly do. Byte 10 ends a
+-- line.
 use Rattle.std.proofs.Common.{◌≡◌, ℕ, ◌+◌, inl, inr, List, [], ◌∷◌, ◌++◌, codes, length, length-append, get_or, Option, Some, sym, ap, subst, ◌∙◌, arith}
 use Rattle.std.specs.Fmt.Cut.{EndsInDots}
 use Rattle.anyhow.specs.Error.{HasMessage, error_message}

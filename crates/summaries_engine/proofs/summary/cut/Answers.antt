@@ -8,7 +8,6 @@ use Rattle.summaries_engine.proofs.summary.cut.Goals as goal
 pub parts-preserved : goal.parts-preserved
 parts-preserved c =
     let before = concat (map (λ part. part.items) c.parts.parts.items) in
-    let part = c.in-Some.part.now in
     let rest = chunks_rest c.next.new.self in
     let so_far = c.parts.invariant in
     let came = c.in-Some.ensures.steps in record {
@@ -17,5 +16,5 @@ parts-preserved c =
           ap (λ l. concat (map (λ part. part.items) l) ++ rest) c.in_ok-push.ensures.items
           ∙ ap (λ l. l ++ rest) (concat-map-push (λ part. part.items) c.parts.parts.items _
           ∙ ap (λ l. before ++ l) (c.in_ok-to_vec.ensures.items_if_clones_equal (λ x y same. same)))
-          ∙ append_assoc before part rest ∙ ap (λ l. before ++ l) (sym came.1.0) ∙ so_far.joined;
+          ∙ append_assoc before _ rest ∙ ap (λ l. before ++ l) (sym came.1.0) ∙ so_far.joined;
     }
