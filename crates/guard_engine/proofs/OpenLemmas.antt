@@ -9,7 +9,8 @@ use Rattle.guard_engine.specs.declared.guard.Refusal.TheVariants as refusal
 
 -- refusals that are the same have the same error of a filter
 pub filter-injective : {G E : Type 0} (error other : FilterError)
-    → ◌≡◌ {A = Result G (Refusal E)} (Err (refusal.Filter error)) (Err (refusal.Filter other)) → error ≡ other
+    → ◌≡◌ {A = Result G (Refusal E)} (Err (refusal.Filter error)) (Err (refusal.Filter other))
+    → error ≡ other
 filter-injective error other is = cc
 
 -- a filter for so many keys and the room is refused

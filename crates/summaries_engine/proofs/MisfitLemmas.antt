@@ -1,12 +1,18 @@
 -- The place of a name whose filter differs from the first.
 use Rattle.std.proofs.Common.{◌≡◌, ◌<◌, ◌+◌, ◌-◌, ◌^◌, ℕ, suc, Bor, min, List, [], ◌∷◌, ◌++◌, map, length, length-append, get_or, refl, sym, subst, ap, ◌∙◌, arith}
-use Rattle.std.proofs.lemmas.List.{get_or-map}
+use Rattle.std.proofs.lemmas.List.{get_or-map, length-map}
 use Rattle.anyhow.specs.declared.error.Error.{Error}
 use Rattle.fastbloom.specs.Data.{DefaultFilter}
 use Rattle.summaries_engine.specs.declared.unions.Difference.{Difference}
 use Rattle.summaries_engine.specs.Named.{Named, AreNamed, Reaches, StopsAtMisfit, misfit_text}
 use Rattle.summaries_engine.specs.Refusals.{DiffersBy}
 use Rattle.summaries_engine.specs.Stops.{Says}
+
+-- as few texts as names
+pub few-names : (names : List (Bor (List ℕ))) → length names < 2 ^ 64
+    → length (map (λ name. name.now) names) < 2 ^ 64
+few-names names few =
+    subst (λ n. n < 2 ^ 64) (sym (length-map names (λ name. name.now))) few
 
 -- filters are as many as their names
 pub named-length : (has : Named) (names : List (List ℕ)) (filters : List DefaultFilter)

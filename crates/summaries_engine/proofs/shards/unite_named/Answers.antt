@@ -1,9 +1,9 @@
-use Rattle.std.proofs.Common.{◌≡◌, ◌<◌, ◌^◌, inl, inr, [], ◌∷◌, map, length, get_or, sym, subst, ap, ◌∙◌, arith, rules}
+use Rattle.std.proofs.Common.{◌≡◌, inl, inr, [], ◌∷◌, map, length, get_or, sym, subst, ap, ◌∙◌, arith, rules}
 use Rattle.std.proofs.lemmas.List.{length-map}
 use Rattle.std.specs.Prelude.{Err, IfErr, MatchOption}
 use Rattle.std.specs.List.{IsFirstAndRest}
 use Rattle.summaries_engine.specs.Named.{StopsUniting}
-use Rattle.summaries_engine.proofs.MisfitLemmas.{misfit-said}
+use Rattle.summaries_engine.proofs.MisfitLemmas.{few-names, misfit-said}
 use Rattle.summaries_engine.proofs.NamedLemmas.{misfit-at, named-run, unloaded}
 use Rattle.summaries_engine.proofs.shards.unite_named.Goals as goal
 
@@ -73,9 +73,7 @@ prove-unreachable-requires-in-Err-Differs g c =
     subst (λ found. MatchOption found (length c.args.names.now ≡ 0)
     (λ p. IsFirstAndRest c.args.names.now p.0.now p.1.now))
     c.in_ok-name.ensures c.split_first.ensures.cases in
-    let few : length (map (λ n. n.now) c.args.names.now) < 2 ^ 64 =
-    subst (λ n. n < 2 ^ 64) (sym (length-map c.args.names.now (λ n. n.now)))
-    (omega (arith, c.if-prove.false)) in
+    let few = few-names c.args.names.now (omega (arith, c.if-prove.false)) in
     let at =
     misfit-at _ g.S.Shelf.has g.S.Shelf.fails (λ it. it.shelf.now)
     (λ it. map (λ n. n.now) it.names.rest.now) c.in_ok-first.first name refused.0
@@ -95,9 +93,7 @@ returns-in-Err-Differs-clause-stops g c =
     subst (λ found. MatchOption found (length c.args.names.now ≡ 0)
     (λ p. IsFirstAndRest c.args.names.now p.0.now p.1.now))
     c.in_ok-name.ensures c.split_first.ensures.cases in
-    let few : length (map (λ n. n.now) c.args.names.now) < 2 ^ 64 =
-    subst (λ n. n < 2 ^ 64) (sym (length-map c.args.names.now (λ n. n.now)))
-    (omega (arith, c.if-prove.false)) in
+    let few = few-names c.args.names.now (omega (arith, c.if-prove.false)) in
     let at =
     misfit-at _ g.S.Shelf.has g.S.Shelf.fails (λ it. it.shelf.now)
     (λ it. map (λ n. n.now) it.names.rest.now) c.in_ok-first.first name refused.0
