@@ -1,5 +1,5 @@
 //! The filters that are measured.
-ghost use Rattle.std.specs.Prelude.{◌≡◌, ◌*◌, IfOk, max, replicate};
+ghost use Rattle.std.specs.Prelude.{◌≡◌, ◌*◌, IfErr, IfOk, max, replicate};
 ghost use Rattle.fastbloom.specs.Builders.{words_for};
 
 use fastbloom::{AtomicBloomFilter, BloomFilter, FilterError};
@@ -10,6 +10,7 @@ pub fn filter_for(alloc: Global, keys: u32, num_hashes: u32) -> Result<BloomFilt
     ensures words { IfOk result (λ filter.
         filter.words ≡ replicate (words_for (max 1 (keys * 10))) 0) }
     ensures hashes { IfOk result (λ filter. filter.hashes ≡ max 1 num_hashes) }
+    ensures refused { IfErr result (λ error. error ≡ FilterError.Memory) }
 {
     let builder = BloomFilter::with_num_bits(alloc, (keys as usize * 10).max(1))?;
     Ok(builder.hashes(num_hashes))
@@ -24,6 +25,7 @@ pub fn shared_filter_for(
     ensures words { IfOk result (λ filter.
         filter.words.count ≡ words_for (max 1 (keys * 10))) }
     ensures hashes { IfOk result (λ filter. filter.hashes ≡ max 1 num_hashes) }
+    ensures refused { IfErr result (λ error. error ≡ FilterError.Memory) }
 {
     let builder = AtomicBloomFilter::with_num_bits(alloc, (keys as usize * 10).max(1))?;
     builder.hashes(alloc, num_hashes)

@@ -14,6 +14,7 @@ pub mod Parties
 pub mod Premises
 pub mod Schedules
 pub mod TakeCourses
+pub mod TakesBetween
 pub mod Takes
 pub mod Unique
 pub mod Unlawful

@@ -1,24 +1,15 @@
 -- Worked courses of takes: what was on and was turned on is what was taken and what is left.
-use Rattle.std.proofs.Common.{◌≡◌, ◌∷◌, [], List, ℕ, zero, suc, true, false, Some, refl, arith, inl, sym, subst, lit<, slice_get, count_by}
+use Rattle.std.proofs.Common.{◌≡◌, ◌∷◌, [], ℕ, refl, arith, inl, count_by}
 use Rattle.std.specs.Prelude.{sum_by}
-use Rattle.bloom_parts.specs.Chain.{chain}
 use Rattle.bloom_parts.specs.Content.{content}
-use Rattle.bloom_steps.specs.declared.steps.vocabulary.Step.TheVariants.{Or, Zero}
 use Rattle.bloom_steps.specs.declared.steps.vocabulary.Step.TheVariants as step
-use Rattle.bloom_steps.specs.declared.steps.vocabulary.Call.{Call}
-use Rattle.bloom_steps.specs.declared.steps.vocabulary.Call.TheVariants.{Insert, Contains, Clear, Union, Intersect, Take}
-use Rattle.bloom_steps.specs.declared.steps.vocabulary.End.TheVariants.{Running, Done, Answer}
+use Rattle.bloom_steps.specs.declared.steps.vocabulary.Call.TheVariants.{Take}
+use Rattle.bloom_steps.specs.declared.steps.vocabulary.End.TheVariants.{Running, Done}
 use Rattle.bloom_steps.specs.declared.steps.vocabulary.Event.TheVariants.{Begin, Go}
 use Rattle.bloom_steps.specs.declared.steps.vocabulary.Record.TheVariants.{Began, Did}
-use Rattle.bloom_steps.specs.Courses.{CallAfterCall, Course, Follows, IsLawful, next_event, no_call, no_event, records_of, whole_call}
-use Rattle.bloom_steps.specs.Interleavings.{IsBalanced, LosesNothing, TakesLoseNothing, adds_or_takes, bits_on, bits_taken, count_below, found_off}
+use Rattle.bloom_steps.specs.Courses.{Course, Follows, next_event, no_event, records_of}
+use Rattle.bloom_steps.specs.Interleavings.{IsBalanced, bits_on, bits_taken, count_below, found_off}
 use Rattle.bloom_steps.specs.Moments.{bits_of}
-use Rattle.bloom_steps.specs.Scripts.{IsScript, Taken}
-use Rattle.bloom_steps.proofs.CourseFacts.Carrying.{carried}
-use Rattle.bloom_steps.proofs.CourseFacts.Lawful.{one-word}
-use Rattle.bloom_steps.proofs.CourseFacts.Parties.{none-past}
-use Rattle.bloom_steps.proofs.RunLemmas.Taken.{takes_lose_nothing}
-use Rattle.bloom_steps.proofs.StepFacts.Members.{each-member, took}
 
 -- bits that are on in a word
 five-bits : bits_on 5 ≡ 2
@@ -26,7 +17,7 @@ unfolding bits_on
 five-bits = refl
 
 -- the four numbers of a course: on at the start, turned on, taken, left
-record HasCounts (run : Course) (start gained taken left : ℕ) : Type 0 where
+pub record HasCounts (run : Course) (start gained taken left : ℕ) : Type 0 where
   pub at_start : count_below (bits_of run) (content run.start) ≡ start
   pub turned_on : count_by found_off run.records ≡ gained
   pub found : sum_by bits_taken run.records ≡ taken
@@ -91,122 +82,3 @@ both = record {
 both-counts : HasCounts both 3 0 3 0
 unfolding content bits_on
 both-counts = record { at_start = refl; turned_on = refl; found = refl; at_end = refl }
-
--- a take between the two steps of an insert, which found some word
-abbrev between : ℕ → Course
-between found = record {
-  start = 0 ∷ [];
-  records = Began 0 (Insert 1) ∷ Did 0 (Or 0 1) 0 Running ∷ Began 1 Take
-      ∷ Did 1 (step.Take 0) found Done ∷ Did 0 (Or 0 1048576) 0 (Answer false) ∷ [];
-  words = 1048576 ∷ [];
-}
-
--- the two steps of the insert
-abbrev inserted : List Taken
-inserted = took (Or 0 1) 0 Running ∷ took (Or 0 1048576) 0 (Answer false) ∷ []
-
--- they are a whole insert
-inserted-script : IsScript 1 2 (Insert 1) inserted
-unfolding chain
-inserted-script = record {
-  count = refl;
-  steps = each-member _ inserted (refl, (refl, tt));
-  stops = tt;
-  running = each-member _ inserted ((λ l. refl), ((λ l. absurd (omega (arith, l))), tt));
-  last =
-      each-member _ inserted (
-        (λ l. absurd (omega (arith, l))),
-        ((λ l. (false, refl, ((λ e. (0, took (Or 0 1) 0 Running, refl, refl)), (λ e. refl)))), tt),
-      );
-}
-
--- a take of one word
-abbrev taken : List Taken
-taken = took (step.Take 0) 1 Done ∷ []
-
--- it is a whole take
-taken-script : IsScript 1 2 Take taken
-taken-script = record {
-  count = refl;
-  steps = each-member _ taken (refl, tt);
-  stops = tt;
-  running = each-member _ taken ((λ l. absurd (omega (arith, l))), tt);
-  last = each-member _ taken ((λ l. refl), tt);
-}
-
--- the calls of each party
-calls : (party : ℕ) → CallAfterCall 1 2 party (records_of party (between 1).records)
-unfolding records_of
-calls zero = whole_call (Insert 1) inserted [] inserted-script no_call
-calls (suc zero) = whole_call Take taken [] taken-script no_call
-calls (suc (suc party)) =
-    subst (CallAfterCall 1 2 (suc (suc party)))
-    (sym (none-past 2 (suc (suc party)) (between 1).records 5 refl (omega arith))) no_call
-
--- it finds the first bit and leaves the second
-lawful-between : IsLawful 2 (between 1)
-lawful-between =
-    carried 2 (between 1)
-    (omega arith, refl, lit< tt, (omega arith, refl, lit< tt, (omega arith, refl, lit< tt, tt)))
-    refl refl (one-word 1048576 (lit< tt)) calls
-
--- each of its calls adds or takes
-each-between : (found m party : ℕ) (call : Call)
-    → slice_get (between found).records m ≡ Some (Began party call) → adds_or_takes call ≡ true
-each-between found m party call g =
-    each-member (λ m r. r ≡ Began party call → adds_or_takes call ≡ true) (between found).records (
-      (λ e. let is : Insert 1 ≡ call = cc in subst (λ c. adds_or_takes c ≡ true) is refl),
-      (
-        (λ e. absurd (cc)),
-        (
-          (λ e. let is : Take ≡ call = cc in subst (λ c. adds_or_takes c ≡ true) is refl),
-          ((λ e. absurd (cc)), ((λ e. absurd (cc)), tt)),
-        ),
-      ),
-    ) m (Began party call) g refl
-
--- so it loses nothing
-between-kept : LosesNothing (between 1)
-between-kept = takes_lose_nothing 2 (between 1) lawful-between (each-between 1)
-
--- 0 + 2 = 1 + 1
-between-counts : HasCounts (between 1) 0 2 1 1
-unfolding content bits_on
-between-counts = record { at_start = refl; turned_on = refl; found = refl; at_end = refl }
-
--- a take that turns the word off and doesn't tell the bit: 0 + 2 against 0 + 1
-lost-counts : HasCounts (between 0) 0 2 0 1
-unfolding content bits_on
-lost-counts = record { at_start = refl; turned_on = refl; found = refl; at_end = refl }
-
--- the theorem refuses it
-lost : TakesLoseNothing (between 0) → ⊥
-lost keeps =
-    let even = (keeps (each-between 0)).whole in
-    let c = lost-counts in
-    omega (arith, even, c.at_start, c.turned_on, c.found, c.at_end)
-
--- at the moment just after the take already
-lost-then : TakesLoseNothing (between 0) → ⊥
-unfolding content bits_on
-lost-then keeps = let even = (keeps (each-between 0)).always 4 (omega arith) in cc
-
--- with a clear in the take's place a bit is lost, 0 + 2 against 0 + 1, so the premise is needed
-abbrev cleared : Course
-cleared = record {
-  start = 0 ∷ [];
-  records = Began 0 (Insert 1) ∷ Did 0 (Or 0 1) 0 Running ∷ Began 1 Clear
-      ∷ Did 1 (Zero 0) 0 Done ∷ Did 0 (Or 0 1048576) 0 (Answer false) ∷ [];
-  words = 1048576 ∷ [];
-}
-
--- its numbers
-cleared-counts : HasCounts cleared 0 2 0 1
-unfolding content bits_on
-cleared-counts = record { at_start = refl; turned_on = refl; found = refl; at_end = refl }
-
--- the calls of which the theorem speaks
-adds-or-takes : (adds_or_takes (Insert 1) ≡ true) × (adds_or_takes (Contains 1) ≡ true)
-    × (adds_or_takes Take ≡ true) × (adds_or_takes Clear ≡ false)
-    × (adds_or_takes Union ≡ false) × (adds_or_takes Intersect ≡ false)
-adds-or-takes = (refl, refl, refl, refl, refl, refl)
