@@ -1,20 +1,70 @@
 //! Filters as data, and their JSON text, a word.
 
+use crate::filters::filter_for;
 use crate::keys::hash_of;
 use crate::plan::Plan;
-use crate::table::Row;
-use bench_filters::filter_for;
+use crate::table::{Made, Measured, Row, measure};
 use fastbloom::{BloomFilter, FilterData};
 use std::alloc::Global;
 use std::rt::Clock;
-use std::time::Instant;
 
-const ROWS: [&'static str; 4] = [
-    "to_data, a word",
-    "from_data, a word",
-    "JSON written, a word",
-    "JSON read, a word",
+#[derive(Clone, Copy)]
+enum Call {
+    ToData,
+    FromData,
+    Write,
+    Read,
+}
+
+const ROWS: [(Call, &'static str, &'static str); 4] = [
+    (Call::ToData, "to_data, a word", "words"),
+    (Call::FromData, "from_data, a word", "found after it"),
+    (Call::Write, "JSON written, a word", "bytes"),
+    (Call::Read, "JSON read, a word", "words"),
 ];
+
+// A call, and what it is made on: a filter, its data or their text.
+#[derive(Drop)]
+struct Calls {
+    alloc: Global,
+    call: Call,
+    filter: BloomFilter,
+    data: Option<FilterData>,
+    text: String,
+}
+
+impl Measured for Calls {
+    fn prepare(&mut self, round: u32) -> anyhow::Result<()> {
+        match self.call {
+            Call::ToData => {}
+            Call::FromData | Call::Write => self.data = Some(self.filter.to_data(self.alloc)?),
+            Call::Read => {
+                if round == 0 {
+                    self.text = serde_json::to_string(
+                        self.alloc,
+                        &self.filter.to_data(self.alloc)?,
+                    )?;
+                }
+            }
+        }
+        Ok(())
+    }
+
+    fn make(&mut self, _round: u32) -> anyhow::Result<Made> {
+        Ok(match self.call {
+            Call::ToData => Made::Data(self.filter.to_data(self.alloc)?),
+            Call::FromData => match self.data.take() {
+                Some(data) => Made::Filled(BloomFilter::from_data(data)?, 1),
+                None => Made::Answers(0),
+            },
+            Call::Write => match &self.data {
+                Some(data) => Made::Text(serde_json::to_string(self.alloc, data)?),
+                None => Made::Answers(0),
+            },
+            Call::Read => Made::Data(serde_json::from_str(self.alloc, self.text.as_str())?),
+        })
+    }
+}
 
 // A filter of all keys.
 fn full_filter(alloc: Global, keys: u32) -> anyhow::Result<BloomFilter> {
@@ -25,79 +75,24 @@ fn full_filter(alloc: Global, keys: u32) -> anyhow::Result<BloomFilter> {
     Ok(filter)
 }
 
-// The row of `to_data`.
-fn measure_to_data<R: Print + AllocGlobal + Clock>(
-    rt: &R,
-    plan: &Plan,
-    filter: &BloomFilter,
-) -> anyhow::Result<()> {
-    let mut row = Row::by_words(plan, ROWS[0], filter.num_bits(), "words");
-    'rounds: for _round in 0..row.rounds() {
-        let start = Instant::now(rt)?;
-        let form = filter.to_data(rt.alloc())?;
-        row.add(form.bits.bits.len() as u64, start.elapsed(rt)?);
-    }
-    Ok(row.print(rt)?)
-}
-
-// The row of `from_data`.
-fn measure_from_data<R: Print + AllocGlobal + Clock>(
-    rt: &R,
-    plan: &Plan,
-    filter: &BloomFilter,
-) -> anyhow::Result<()> {
-    let mut row = Row::by_words(plan, ROWS[1], filter.num_bits(), "found after it");
-    'rounds: for _round in 0..row.rounds() {
-        let form = filter.to_data(rt.alloc())?;
-        let start = Instant::now(rt)?;
-        let again = BloomFilter::from_data(form)?;
-        let answer = again.contains_hash(hash_of(0));
-        row.add(u64::from(answer), start.elapsed(rt)?);
-    }
-    Ok(row.print(rt)?)
-}
-
-// The row of the text of data.
-fn measure_writes<R: Print + AllocGlobal + Clock>(
-    rt: &R,
-    plan: &Plan,
-    filter: &BloomFilter,
-) -> anyhow::Result<()> {
-    let form = filter.to_data(rt.alloc())?;
-    let mut row = Row::by_words(plan, ROWS[2], filter.num_bits(), "bytes");
-    'rounds: for _round in 0..row.rounds() {
-        let start = Instant::now(rt)?;
-        let text = serde_json::to_string(rt.alloc(), &form)?;
-        row.add(text.len() as u64, start.elapsed(rt)?);
-    }
-    Ok(row.print(rt)?)
-}
-
-// The row of the data of a text.
-fn measure_reads<R: Print + AllocGlobal + Clock>(
-    rt: &R,
-    plan: &Plan,
-    filter: &BloomFilter,
-) -> anyhow::Result<()> {
-    let form = filter.to_data(rt.alloc())?;
-    let text = serde_json::to_string(rt.alloc(), &form)?;
-    let mut row = Row::by_words(plan, ROWS[3], filter.num_bits(), "words");
-    'rounds: for _round in 0..row.rounds() {
-        let start = Instant::now(rt)?;
-        let again: FilterData = serde_json::from_str(rt.alloc(), text.as_str())?;
-        row.add(again.bits.bits.len() as u64, start.elapsed(rt)?);
-    }
-    Ok(row.print(rt)?)
-}
-
 /// The rows of a filter of all keys as data, and as text.
-pub fn measure<R: Print + AllocGlobal + Clock>(rt: &R, plan: &Plan) -> anyhow::Result<()> {
-    if !ROWS.iter().any(|row| plan.wants(row)) {
+pub fn measure_all<R: Print + AllocGlobal + Clock>(rt: &R, plan: &Plan) -> anyhow::Result<()> {
+    if !ROWS.iter().any(|row| plan.wants(row.1)) {
         return Ok(());
     }
-    let filter = full_filter(rt.alloc(), plan.keys)?;
-    measure_to_data(rt, plan, &filter)?;
-    measure_from_data(rt, plan, &filter)?;
-    measure_writes(rt, plan, &filter)?;
-    measure_reads(rt, plan, &filter)
+    let alloc = rt.alloc();
+    let filter = full_filter(alloc, plan.keys)?;
+    let bits = filter.num_bits();
+    let mut calls = Calls {
+        alloc,
+        call: Call::ToData,
+        filter,
+        data: None,
+        text: String::new(alloc),
+    };
+    'calls: for (call, name, counted) in ROWS {
+        calls.call = call;
+        measure(rt, Row::by_words(plan, name, bits, counted), &mut calls)?;
+    }
+    Ok(())
 }

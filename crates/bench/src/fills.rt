@@ -1,17 +1,17 @@
 //! A filter that workers fill, beside the same inserts by one thread. A round is timed from its
 //! start to the whole filter, so threads, memory and unions count.
 
+use crate::filters::filter_for;
 use crate::keys::hash_of;
 use crate::plan::Plan;
-use crate::table::Row;
+use crate::table::{Made, Measured, Row, measure};
 use anyhow::bail;
-use bench_filters::filter_for;
 use fastbloom::{BloomFilter, Gate, Shape, fill};
 use std::alloc::Global;
+use std::mem;
 use std::rt::Clock;
 use std::sync::Arc;
 use std::thread::Threads;
-use std::time::Instant;
 
 // Lets every worker through at once.
 #[derive(Drop)]
@@ -41,16 +41,6 @@ fn parts_of(alloc: Global, keys: u64, parts: u64) -> anyhow::Result<Vec<Vec<u64>
     Ok(cut)
 }
 
-// How many of the first keys the filter contains.
-fn found(filter: &BloomFilter, keys: u64) -> u64 {
-    let mut answers: u64 = 0;
-    'keys: for key in 0..keys {
-        let answer = filter.contains_hash(hash_of(key));
-        answers = answers.wrapping_add(u64::from(answer));
-    }
-    answers
-}
-
 #[inline(never)]
 fn insert_all(filter: &mut BloomFilter, hashes: &Vec<u64>) {
     'hashes: for hash in hashes {
@@ -58,62 +48,86 @@ fn insert_all(filter: &mut BloomFilter, hashes: &Vec<u64>) {
     }
 }
 
-// The row of one thread, which makes the filter and inserts every hash.
-fn measure_alone<R: Print + AllocGlobal + Clock>(rt: &R, plan: &Plan) -> anyhow::Result<()> {
-    let mut row = Row::new(
-        plan,
-        "inserts by one thread",
-        1,
-        plan.count(),
-        "found after it",
-    );
-    let hashes = hashes_of(rt.alloc(), 0, row.wanted_operations())?;
-    'rounds: for _round in 0..row.rounds() {
-        let start = Instant::now(rt)?;
-        let mut filter = filter_for(rt.alloc(), plan.keys, 7)?;
-        insert_all(&mut filter, &hashes);
-        let time = start.elapsed(rt)?;
-        row.add(found(&filter, plan.count()), time);
-    }
-    Ok(row.print(rt)?)
+#[derive(Clone, Copy)]
+enum Call {
+    Alone,
+    Fill,
 }
 
-// The row of so many workers.
-fn measure_workers<R: Print + AllocGlobal + Clock + Threads>(
+// Who fills a filter, and its hashes: in whole, or in a part for each worker.
+#[derive(Drop)]
+struct Calls<'a, R> {
+    rt: &'a R,
+    call: Call,
+    workers: u32,
+    keys: u32,
+    shape: Shape,
+    gate: Arc<Open, Global>,
+    hashes: Vec<u64>,
+    parts: Vec<Vec<u64>>,
+}
+
+impl<'a, R: AllocGlobal + Threads> Measured for Calls<'a, R> {
+    fn prepare(&mut self, round: u32) -> anyhow::Result<()> {
+        let (alloc, keys) = (self.rt.alloc(), u64::from(self.keys));
+        match self.call {
+            Call::Alone => {
+                if round == 0 {
+                    self.hashes = hashes_of(alloc, 0, keys)?;
+                }
+            }
+            Call::Fill => self.parts = parts_of(alloc, keys, u64::from(self.workers))?,
+        }
+        Ok(())
+    }
+
+    // One thread makes the filter and inserts every hash, as the workers do.
+    fn make(&mut self, _round: u32) -> anyhow::Result<Made> {
+        let alloc = self.rt.alloc();
+        let filter = match self.call {
+            Call::Alone => {
+                let mut filter = filter_for(alloc, self.keys, 7)?;
+                insert_all(&mut filter, &self.hashes);
+                filter
+            }
+            Call::Fill => {
+                let parts = mem::replace(&mut self.parts, Vec::new(alloc));
+                let gate = Arc::try_clone(&self.gate)?;
+                fill(self.rt, alloc, gate, self.shape, parts)?
+            }
+        };
+        Ok(Made::Filled(filter, u64::from(self.keys)))
+    }
+}
+
+/// The rows of one thread, and of one, two and four workers.
+pub fn measure_all<R: Print + AllocGlobal + Clock + Threads>(
     rt: &R,
     plan: &Plan,
-    workers: u32,
 ) -> anyhow::Result<()> {
     let Ok(shape) = Shape::new((plan.keys as usize * 10).max(1), 7) else {
         bail!("no such shape");
     };
-    let gate = Arc::new(rt.alloc(), Open)?;
-    let mut row = Row::new(
-        plan,
-        "fill by workers:",
-        workers,
-        plan.count(),
-        "found after it",
-    );
-    'rounds: for _round in 0..row.rounds() {
-        let parts = parts_of(rt.alloc(), plan.count(), u64::from(workers))?;
-        let gate = Arc::try_clone(&gate)?;
-        let start = Instant::now(rt)?;
-        let filter = fill(rt, rt.alloc(), gate, shape, parts)?;
-        let time = start.elapsed(rt)?;
-        row.add(found(&filter, plan.count()), time);
-    }
-    Ok(row.print(rt)?)
-}
-
-/// The rows of one thread, and of one, two and four workers.
-pub fn measure<R: Print + AllocGlobal + Clock + Threads>(
-    rt: &R,
-    plan: &Plan,
-) -> anyhow::Result<()> {
-    measure_alone(rt, plan)?;
-    'counts: for workers in [1, 2, 4] {
-        measure_workers(rt, plan, workers)?;
+    let mut calls = Calls {
+        rt,
+        call: Call::Alone,
+        workers: 1,
+        keys: plan.keys,
+        shape,
+        gate: Arc::new(rt.alloc(), Open)?,
+        hashes: Vec::new(rt.alloc()),
+        parts: Vec::new(rt.alloc()),
+    };
+    'calls: for (call, name, workers) in [
+        (Call::Alone, "inserts by one thread", 1),
+        (Call::Fill, "fill by workers:", 1),
+        (Call::Fill, "fill by workers:", 2),
+        (Call::Fill, "fill by workers:", 4),
+    ] {
+        calls.call = call;
+        calls.workers = workers;
+        let row = Row::new(plan, name, workers, plan.count(), "found after it");
+        measure(rt, row, &mut calls)?;
     }
     Ok(())
 }

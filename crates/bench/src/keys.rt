@@ -1,5 +1,6 @@
 //! The keys that are measured, and their hashes.
 
+use fastbloom::BloomFilter;
 use std::alloc::{AllocError, Global};
 
 /// The hash of a key: the numbers of keys, spread evenly.
@@ -11,10 +12,21 @@ pub fn hash_of(key: u64) -> u64 {
     word ^ (word >> 31)
 }
 
-/// The hash of a key that is never inserted.
-#[inline]
-pub fn foreign_hash_of(key: u64) -> u64 {
-    hash_of(key.wrapping_add(1 << 40))
+/// The first of the keys that a round looks up, of which none is ever inserted. Each round takes
+/// other keys, which no processor can know from the round before.
+pub fn first_foreign_key(keys: u64, round: u32) -> u64 {
+    keys.wrapping_mul(u64::from(round)).wrapping_add(1 << 40)
+}
+
+/// Looks so many keys from this one up, and counts the answers that were true.
+#[inline(never)]
+pub fn contains_keys(filter: &BloomFilter, first: u64, keys: u64) -> u64 {
+    let mut answers: u64 = 0;
+    'keys: for key in 0..keys {
+        let answer = filter.contains_hash(hash_of(first.wrapping_add(key)));
+        answers = answers.wrapping_add(u64::from(answer));
+    }
+    answers
 }
 
 /// The numbers of keys below this one.

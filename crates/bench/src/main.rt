@@ -7,11 +7,10 @@
 
 mod data;
 mod fills;
-mod hashes;
-mod items;
+mod filters;
 mod keys;
-mod many;
 mod passes;
+mod plain;
 mod plan;
 mod seated;
 mod shared;
@@ -21,42 +20,22 @@ mod table;
 mod threads;
 mod whole;
 
-use bench_filters::filter_for;
+use filters::filter_for;
 use plan::Plan;
 use std::alloc::Global;
-use std::rt::Clock;
-use std::thread::Threads;
-
-// The rows of plain filters.
-fn measure_plain<R: Print + AllocGlobal + Clock>(rt: &R, plan: &Plan) -> anyhow::Result<()> {
-    items::measure(rt, plan)?;
-    many::measure_plain(rt, plan)?;
-    'counts: for num_hashes in [1, 2, 3, 7, 22] {
-        hashes::measure(rt, plan, num_hashes)?;
-    }
-    whole::measure(rt, plan)?;
-    data::measure(rt, plan)?;
-    passes::measure(rt, plan)?;
-    steps::measure(rt, plan)
-}
-
-// The rows of filters that threads share, or fill.
-fn measure_shared<R: Print + AllocGlobal + Clock + Threads>(
-    rt: &R,
-    plan: &Plan,
-) -> anyhow::Result<()> {
-    shared::measure(rt, plan)?;
-    many::measure_shared(rt, plan)?;
-    shared_whole::measure(rt, plan)?;
-    seated::measure(rt, plan)?;
-    threads::measure(rt, plan)?;
-    fills::measure(rt, plan)
-}
 
 fn main(rt: HostRuntime) -> anyhow::Result<()> {
     let plan = plan::given(&rt)?;
     let bits = filter_for(rt.alloc(), plan.keys, 7)?.num_bits();
     table::head(&rt, &plan, bits)?;
-    measure_plain(&rt, &plan)?;
-    measure_shared(&rt, &plan)
+    plain::measure_all(&rt, &plan)?;
+    whole::measure_all(&rt, &plan)?;
+    data::measure_all(&rt, &plan)?;
+    passes::measure_all(&rt, &plan)?;
+    steps::measure_all(&rt, &plan)?;
+    shared::measure_all(&rt, &plan)?;
+    shared_whole::measure_all(&rt, &plan)?;
+    seated::measure_all(&rt, &plan)?;
+    threads::measure_all(&rt, &plan)?;
+    fills::measure_all(&rt, &plan)
 }

@@ -4,11 +4,10 @@
 ghost use Rattle.std.specs.Prelude.{◌≡◌, length};
 
 use crate::plan::Plan;
-use crate::table::Row;
+use crate::table::{Made, Measured, Row, measure};
 use fastbloom::BloomFilter;
 use std::alloc::Global;
 use std::rt::Clock;
-use std::time::Instant;
 
 // Each word becomes the `|` of itself and the other's.
 #[inline(never)]
@@ -169,35 +168,43 @@ fn make(pair: &mut Pair, pass: Pass, times: u64) -> u64 {
     0
 }
 
-// The row of one pass, a word.
-fn measure_pass<R: Print + Clock>(
-    rt: &R,
-    plan: &Plan,
-    pair: &mut Pair,
-    (pass, call): (Pass, &'static str),
-    words: u32,
-) -> anyhow::Result<()> {
-    // So often that a round goes over 2^20 words.
-    let times = (1u64 << 20) / u64::from(words.max(1));
-    let operations = times.wrapping_mul(u64::from(words));
-    let mut row = Row::new(plan, call, words, operations, "equal");
-    let rounds = if plan.keys == 0 { 0 } else { row.rounds() };
-    'rounds: for _round in 0..rounds {
-        let start = Instant::now(rt)?;
-        let answers = make(pair, pass, times);
-        row.add(answers, start.elapsed(rt)?);
-    }
-    Ok(row.print(rt)?)
+// A pass, the filters that it is made on, and how often a round makes it.
+#[derive(Drop)]
+struct Passes {
+    pass: Pass,
+    pair: Pair,
+    times: u64,
 }
 
-// All passes over so many words.
+impl Measured for Passes {
+    fn prepare(&mut self, _round: u32) -> anyhow::Result<()> {
+        Ok(())
+    }
+
+    fn make(&mut self, _round: u32) -> anyhow::Result<Made> {
+        let times = self.times;
+        Ok(Made::Answers(make(&mut self.pair, self.pass, times)))
+    }
+}
+
+// All passes over so many words. A round goes over 2^20 words.
 fn measure_size<R: Print + AllocGlobal + Clock>(
     rt: &R,
     plan: &Plan,
     words: u32,
 ) -> anyhow::Result<()> {
-    let mut pair = pair_of(rt.alloc(), words as usize)?;
-    'passes: for pass in [
+    let times = if plan.keys == 0 {
+        0
+    } else {
+        (1 << 20) / u64::from(words.max(1))
+    };
+    let operations = times.wrapping_mul(u64::from(words));
+    let mut passes = Passes {
+        pass: Pass::Union,
+        pair: pair_of(rt.alloc(), words as usize)?,
+        times,
+    };
+    'passes: for (pass, call) in [
         (Pass::Union, "union, words:"),
         (Pass::PlainUnion, "  plain union, words:"),
         (Pass::Intersect, "intersect, words:"),
@@ -207,14 +214,19 @@ fn measure_size<R: Print + AllocGlobal + Clock>(
         (Pass::Clear, "clear, words:"),
         (Pass::PlainClear, "  plain clear, words:"),
     ] {
-        measure_pass(rt, plan, &mut pair, pass, words)?;
+        passes.pass = pass;
+        measure(
+            rt,
+            Row::new(plan, call, words, operations, "equal"),
+            &mut passes,
+        )?;
     }
     Ok(())
 }
 
 /// The rows of whole passes over 15, 1,023 and 2^20 words, a word each. Where there are no keys
 /// nothing is measured.
-pub fn measure<R: Print + AllocGlobal + Clock>(rt: &R, plan: &Plan) -> anyhow::Result<()> {
+pub fn measure_all<R: Print + AllocGlobal + Clock>(rt: &R, plan: &Plan) -> anyhow::Result<()> {
     'sizes: for words in [15, 1023, 1 << 20] {
         measure_size(rt, plan, words)?;
     }

@@ -1,7 +1,7 @@
 //! The calls of a filter that threads share under a rule, made by one thread.
 ghost use Rattle.std.specs.Prelude.{◌≡◌, IfOk};
 
-use crate::keys::{foreign_hash_of, hash_of};
+use crate::keys::{first_foreign_key, hash_of};
 use crate::plan::Plan;
 use crate::table::Row;
 use fastbloom::{FilterError, Pass, SeatedBloomFilter};
@@ -36,30 +36,15 @@ fn insert_keys(filter: &SeatedBloomFilter, pass: &mut Pass, keys: u64) -> u64
     answers
 }
 
-// Looks the keys up, and counts the answers that were true.
+// Looks so many keys from this one up, and counts the answers that were true.
 #[inline(never)]
-fn contains_keys(filter: &SeatedBloomFilter, pass: &mut Pass, keys: u64) -> u64
+fn contains_keys(filter: &SeatedBloomFilter, pass: &mut Pass, first: u64, keys: u64) -> u64
     requires { pass.old.filter ≡ filter.now.table }
     ensures { pass.new.filter ≡ pass.old.filter }
 {
     let mut answers: u64 = 0;
     'keys: for key in 0..keys {
-        let answer = filter.contains_hash_as(pass, hash_of(key));
-        answers = answers.wrapping_add(u64::from(answer));
-    }
-    answers
-}
-
-// Each round takes other keys, which no processor can know from the round before.
-#[inline(never)]
-fn contains_foreign_keys(filter: &SeatedBloomFilter, pass: &mut Pass, keys: u64, round: u32) -> u64
-    requires { pass.old.filter ≡ filter.now.table }
-    ensures { pass.new.filter ≡ pass.old.filter }
-{
-    let first = keys.wrapping_mul(u64::from(round));
-    let mut answers: u64 = 0;
-    'keys: for key in 0..keys {
-        let answer = filter.contains_hash_as(pass, foreign_hash_of(first.wrapping_add(key)));
+        let answer = filter.contains_hash_as(pass, hash_of(first.wrapping_add(key)));
         answers = answers.wrapping_add(u64::from(answer));
     }
     answers
@@ -67,7 +52,7 @@ fn contains_foreign_keys(filter: &SeatedBloomFilter, pass: &mut Pass, keys: u64,
 
 /// Prints the rows of inserts, and of look-ups of keys that are there and that aren't. Each round
 /// has a filter of its own, since bits never go off.
-pub fn measure<R: Print + AllocGlobal + Clock>(rt: &R, plan: &Plan) -> anyhow::Result<()> {
+pub fn measure_all<R: Print + AllocGlobal + Clock>(rt: &R, plan: &Plan) -> anyhow::Result<()> {
     let count = plan.count();
     let mut inserts = Row::new(plan, "seated insert_hash_as", 7, count, "true");
     let mut hits = Row::new(plan, "seated hit", 7, count, "true");
@@ -79,10 +64,11 @@ pub fn measure<R: Print + AllocGlobal + Clock>(rt: &R, plan: &Plan) -> anyhow::R
         let answers = insert_keys(&filter, &mut pass, count);
         inserts.add(answers, start.elapsed(rt)?);
         let start = Instant::now(rt)?;
-        let answers = contains_keys(&filter, &mut pass, count);
+        let answers = contains_keys(&filter, &mut pass, 0, count);
         hits.add(answers, start.elapsed(rt)?);
         let start = Instant::now(rt)?;
-        let answers = contains_foreign_keys(&filter, &mut pass, count, round);
+        let first = first_foreign_key(count, round);
+        let answers = contains_keys(&filter, &mut pass, first, count);
         misses.add(answers, start.elapsed(rt)?);
     }
     inserts.print(rt)?;

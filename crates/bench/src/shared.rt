@@ -1,52 +1,47 @@
 //! The calls of a filter that threads share, made by one thread, beside bare atomic operations.
 ghost use Rattle.std.specs.Prelude.{◌≤◌, ◌<◌, ◌^◌, vec_len};
 
-use crate::keys::{foreign_hash_of, hash_of};
+use crate::filters::shared_filter_for;
+use crate::keys::{first_foreign_key, hash_of, numbers_to};
 use crate::plan::Plan;
-use crate::table::Row;
-use bench_filters::shared_filter_for;
+use crate::table::{Made, Measured, Row, measure};
 use fastbloom::AtomicBloomFilter;
 use std::alloc::{AllocError, Global};
 use std::rt::Clock;
 use std::sync::atomic::{AtomicU64, Ordering};
-use std::time::Instant;
 
-const HIT: &'static str = "shared hit";
-
-const MISS: &'static str = "shared miss";
-
-/// Inserts the keys between two, and counts the answers that were true.
+/// Inserts so many keys from this one, and counts the answers that were true.
 #[inline(never)]
-pub fn insert_keys(filter: &AtomicBloomFilter, first: u64, end: u64) -> u64 {
-    let mut answers: u64 = 0;
-    'keys: for key in first..end {
-        let answer = filter.insert_hash(hash_of(key));
-        answers = answers.wrapping_add(u64::from(answer));
-    }
-    answers
-}
-
-/// Looks the keys between two up, and counts the answers that were true.
-#[inline(never)]
-pub fn contains_keys(filter: &AtomicBloomFilter, first: u64, end: u64) -> u64 {
-    let mut answers: u64 = 0;
-    'keys: for key in first..end {
-        let answer = filter.contains_hash(hash_of(key));
-        answers = answers.wrapping_add(u64::from(answer));
-    }
-    answers
-}
-
-// Each round takes other keys, which no processor can know from the round before.
-#[inline(never)]
-fn contains_foreign_keys(filter: &AtomicBloomFilter, keys: u64, round: u32) -> u64 {
-    let first = keys.wrapping_mul(u64::from(round));
+pub fn insert_keys(filter: &AtomicBloomFilter, first: u64, keys: u64) -> u64 {
     let mut answers: u64 = 0;
     'keys: for key in 0..keys {
-        let answer = filter.contains_hash(foreign_hash_of(first.wrapping_add(key)));
+        let answer = filter.insert_hash(hash_of(first.wrapping_add(key)));
         answers = answers.wrapping_add(u64::from(answer));
     }
     answers
+}
+
+/// Looks so many keys from this one up, and counts the answers that were true.
+#[inline(never)]
+pub fn contains_keys(filter: &AtomicBloomFilter, first: u64, keys: u64) -> u64 {
+    let mut answers: u64 = 0;
+    'keys: for key in 0..keys {
+        let answer = filter.contains_hash(hash_of(first.wrapping_add(key)));
+        answers = answers.wrapping_add(u64::from(answer));
+    }
+    answers
+}
+
+#[inline(never)]
+fn extend_by_numbers(filter: &AtomicBloomFilter, keys: u64) -> u64 {
+    filter.extend(0..keys);
+    u64::from(filter.contains(&0u64))
+}
+
+#[inline(never)]
+fn insert_all_numbers(filter: &AtomicBloomFilter, numbers: &[u64]) -> u64 {
+    filter.insert_all(numbers);
+    u64::from(filter.contains(&0u64))
 }
 
 // Seven bare operations for each key, on words that are found as a filter's are.
@@ -82,75 +77,77 @@ fn bare_words(alloc: Global, keys: u32) -> Result<Vec<AtomicU64>, AllocError> {
     Ok(words)
 }
 
-// The row of bare operations, seven of them for each key.
-fn measure_bare<R: Print + AllocGlobal + Clock>(rt: &R, plan: &Plan) -> anyhow::Result<()> {
-    let mut row = Row::new(plan, "fetch_or, seven", 7, plan.count(), "true");
-    'rounds: for _round in 0..row.rounds() {
-        let words = bare_words(rt.alloc(), plan.keys)?;
-        if words.is_empty() || words.len() >= 1 << 58 {
-            break;
+#[derive(Clone, Copy)]
+enum Call {
+    Bare,
+    InsertHash,
+    Hit,
+    Miss,
+    Extend,
+    InsertAll,
+}
+
+// A call, the filter that it is made on, bare words and items.
+#[derive(Drop)]
+struct Calls {
+    alloc: Global,
+    call: Call,
+    filter: AtomicBloomFilter,
+    words: Vec<AtomicU64>,
+    numbers: Vec<u64>,
+    keys: u32,
+}
+
+impl Measured for Calls {
+    fn prepare(&mut self, round: u32) -> anyhow::Result<()> {
+        match self.call {
+            Call::Bare => self.words = bare_words(self.alloc, self.keys)?,
+            Call::InsertHash | Call::Extend | Call::InsertAll => self.filter.clear(),
+            Call::Hit | Call::Miss => {
+                if round == 0 {
+                    insert_keys(&self.filter, 0, u64::from(self.keys));
+                }
+            }
         }
-        let start = Instant::now(rt)?;
-        let answers = bare_operations(&words, plan.count());
-        row.add(answers, start.elapsed(rt)?);
+        Ok(())
     }
-    Ok(row.print(rt)?)
-}
 
-// The row of inserts.
-fn measure_inserts<R: Print + Clock>(
-    rt: &R,
-    plan: &Plan,
-    filter: &AtomicBloomFilter,
-) -> anyhow::Result<()> {
-    let mut row = Row::new(plan, "shared insert_hash", 7, plan.count(), "true");
-    'rounds: for _round in 0..row.rounds() {
-        filter.clear();
-        let start = Instant::now(rt)?;
-        let answers = insert_keys(filter, 0, plan.count());
-        row.add(answers, start.elapsed(rt)?);
+    fn make(&mut self, round: u32) -> anyhow::Result<Made> {
+        let keys = u64::from(self.keys);
+        let filter = &self.filter;
+        Ok(Made::Answers(match self.call {
+            Call::Bare if self.words.is_empty() || self.words.len() >= 1 << 58 => 0,
+            Call::Bare => bare_operations(&self.words, keys),
+            Call::InsertHash => insert_keys(filter, 0, keys),
+            Call::Hit => contains_keys(filter, 0, keys),
+            Call::Miss => contains_keys(filter, first_foreign_key(keys, round), keys),
+            Call::Extend => extend_by_numbers(filter, keys),
+            Call::InsertAll => insert_all_numbers(filter, &self.numbers),
+        }))
     }
-    Ok(row.print(rt)?)
-}
-
-// The row of look-ups of keys that the filter has.
-fn measure_hits<R: Print + Clock>(
-    rt: &R,
-    plan: &Plan,
-    filter: &AtomicBloomFilter,
-) -> anyhow::Result<()> {
-    let mut row = Row::new(plan, HIT, 7, plan.count(), "true");
-    'rounds: for _round in 0..row.rounds() {
-        let start = Instant::now(rt)?;
-        let answers = contains_keys(filter, 0, plan.count());
-        row.add(answers, start.elapsed(rt)?);
-    }
-    Ok(row.print(rt)?)
-}
-
-// The row of look-ups of keys that were never inserted.
-fn measure_misses<R: Print + Clock>(
-    rt: &R,
-    plan: &Plan,
-    filter: &AtomicBloomFilter,
-) -> anyhow::Result<()> {
-    let mut row = Row::new(plan, MISS, 7, plan.count(), "true");
-    'rounds: for round in 0..row.rounds() {
-        let start = Instant::now(rt)?;
-        let answers = contains_foreign_keys(filter, plan.count(), round);
-        row.add(answers, start.elapsed(rt)?);
-    }
-    Ok(row.print(rt)?)
 }
 
 /// The rows of a shared filter with seven hashes, by one thread.
-pub fn measure<R: Print + AllocGlobal + Clock>(rt: &R, plan: &Plan) -> anyhow::Result<()> {
-    let filter = shared_filter_for(rt.alloc(), plan.keys, 7)?;
-    measure_bare(rt, plan)?;
-    measure_inserts(rt, plan, &filter)?;
-    if plan.wants(HIT) || plan.wants(MISS) {
-        insert_keys(&filter, 0, plan.count());
+pub fn measure_all<R: Print + AllocGlobal + Clock>(rt: &R, plan: &Plan) -> anyhow::Result<()> {
+    let (alloc, keys) = (rt.alloc(), plan.count());
+    let mut calls = Calls {
+        alloc,
+        call: Call::Bare,
+        filter: shared_filter_for(alloc, plan.keys, 7)?,
+        words: Vec::new(alloc),
+        numbers: numbers_to(alloc, keys)?,
+        keys: plan.keys,
+    };
+    'calls: for (call, name, counted) in [
+        (Call::Bare, "fetch_or, seven", "true"),
+        (Call::InsertHash, "shared insert_hash", "true"),
+        (Call::Hit, "shared hit", "true"),
+        (Call::Miss, "shared miss", "true"),
+        (Call::Extend, "shared extend, u64", "found after it"),
+        (Call::InsertAll, "shared insert_all, u64", "found after it"),
+    ] {
+        calls.call = call;
+        measure(rt, Row::new(plan, name, 7, keys, counted), &mut calls)?;
     }
-    measure_hits(rt, plan, &filter)?;
-    measure_misses(rt, plan, &filter)
+    Ok(())
 }

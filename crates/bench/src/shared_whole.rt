@@ -1,131 +1,99 @@
 //! The calls on whole filters that threads share, a word, made by one thread.
 
+use crate::filters::shared_filter_for;
 use crate::plan::Plan;
-use crate::table::Row;
-use bench_filters::shared_filter_for;
+use crate::table::{Made, Measured, Row, measure};
 use fastbloom::AtomicBloomFilter;
 use std::alloc::Global;
 use std::rt::Clock;
-use std::time::Instant;
 
-// A call on whole filters that takes no memory.
+const CHANGED: &'static str = "same, or found after it";
+
 #[derive(Clone, Copy)]
 enum Call {
     Union,
     Intersect,
     SameWords,
     Clear,
+    Clone,
+    Iter,
+    ToData,
+    TakeWords,
 }
 
-// Makes a call, and answers whether the words are the same, or, of a call that changes the filter,
-// what a look-up finds right after it.
-fn make(filter: &AtomicBloomFilter, other: &AtomicBloomFilter, call: Call) -> bool {
+// A call, and the filters that it is made on.
+#[derive(Drop)]
+struct Calls {
+    alloc: Global,
+    call: Call,
+    filter: AtomicBloomFilter,
+    other: AtomicBloomFilter,
+}
+
+// Whether the words are the same, or, of a call that changes the filter, what a look-up finds right
+// after it. Unions leave both filters with the same words.
+fn answer_of(filter: &AtomicBloomFilter, other: &AtomicBloomFilter, call: Call) -> bool {
     if !filter.same_shape(other) {
         return false;
     }
     match call {
         Call::Union => filter.union(other),
         Call::Intersect => filter.intersect(other),
-        Call::SameWords => return filter.same_words(other),
         Call::Clear => filter.clear(),
+        Call::SameWords | Call::Clone | Call::Iter | Call::ToData | Call::TakeWords => {
+            return filter.same_words(other);
+        }
     }
     filter.contains_hash(0)
 }
 
-// The row of a call. Unions leave both filters with the same words.
-fn measure_call<R: Print + Clock>(
-    rt: &R,
-    plan: &Plan,
-    filter: &AtomicBloomFilter,
-    other: &AtomicBloomFilter,
-    (call, name): (Call, &'static str),
-) -> anyhow::Result<()> {
-    let mut row = Row::by_words(plan, name, other.num_bits(), "same, or found after it");
-    'rounds: for _round in 0..row.rounds() {
-        let start = Instant::now(rt)?;
-        let answer = make(filter, other, call);
-        row.add(u64::from(answer), start.elapsed(rt)?);
+impl Measured for Calls {
+    fn prepare(&mut self, _round: u32) -> anyhow::Result<()> {
+        Ok(())
     }
-    Ok(row.print(rt)?)
-}
 
-// The row of clones, each answered by a look-up in the copy.
-fn measure_clones<R: Print + AllocGlobal + Clock>(
-    rt: &R,
-    plan: &Plan,
-    filter: &AtomicBloomFilter,
-) -> anyhow::Result<()> {
-    let bits = filter.num_bits();
-    let mut row = Row::by_words(plan, "shared try_clone, a word", bits, "found after it");
-    'rounds: for _round in 0..row.rounds() {
-        let start = Instant::now(rt)?;
-        let copy = filter.try_clone(rt.alloc())?;
-        row.add(u64::from(copy.contains_hash(0)), start.elapsed(rt)?);
+    fn make(&mut self, _round: u32) -> anyhow::Result<Made> {
+        Ok(match self.call {
+            Call::Union | Call::Intersect | Call::SameWords | Call::Clear => {
+                let answer = answer_of(&self.filter, &self.other, self.call);
+                Made::Answers(u64::from(answer))
+            }
+            Call::Clone => Made::SharedCopy(self.other.try_clone(self.alloc)?),
+            Call::Iter => {
+                let odd = self.other.iter().filter(|word| *word % 2 == 1).count();
+                Made::Answers(odd as u64)
+            }
+            Call::ToData => Made::Data(self.other.to_data(self.alloc)?),
+            Call::TakeWords => Made::Words(self.other.take_words(self.alloc)?),
+        })
     }
-    Ok(row.print(rt)?)
-}
-
-// The row of `iter`, which loads the words one after the other.
-fn measure_words<R: Print + Clock>(
-    rt: &R,
-    plan: &Plan,
-    filter: &AtomicBloomFilter,
-) -> anyhow::Result<()> {
-    let mut row = Row::by_words(plan, "shared iter, a word", filter.num_bits(), "odd words");
-    'rounds: for _round in 0..row.rounds() {
-        let start = Instant::now(rt)?;
-        let odd = filter.iter().filter(|word| *word % 2 == 1).count();
-        row.add(odd as u64, start.elapsed(rt)?);
-    }
-    Ok(row.print(rt)?)
-}
-
-// The row of `to_data`.
-fn measure_data<R: Print + AllocGlobal + Clock>(
-    rt: &R,
-    plan: &Plan,
-    filter: &AtomicBloomFilter,
-) -> anyhow::Result<()> {
-    let mut row = Row::by_words(plan, "shared to_data, a word", filter.num_bits(), "words");
-    'rounds: for _round in 0..row.rounds() {
-        let start = Instant::now(rt)?;
-        let form = filter.to_data(rt.alloc())?;
-        row.add(form.bits.bits.len() as u64, start.elapsed(rt)?);
-    }
-    Ok(row.print(rt)?)
-}
-
-// The row of `take_words`.
-fn measure_takes<R: Print + AllocGlobal + Clock>(
-    rt: &R,
-    plan: &Plan,
-    filter: &AtomicBloomFilter,
-) -> anyhow::Result<()> {
-    let bits = filter.num_bits();
-    let mut row = Row::by_words(plan, "shared take_words, a word", bits, "words");
-    'rounds: for _round in 0..row.rounds() {
-        let start = Instant::now(rt)?;
-        let taken = filter.take_words(rt.alloc())?;
-        row.add(taken.len() as u64, start.elapsed(rt)?);
-    }
-    Ok(row.print(rt)?)
 }
 
 /// The rows of whole shared filters, by one thread.
-pub fn measure<R: Print + AllocGlobal + Clock>(rt: &R, plan: &Plan) -> anyhow::Result<()> {
-    let filter = shared_filter_for(rt.alloc(), plan.keys, 7)?;
-    let other = shared_filter_for(rt.alloc(), plan.keys, 7)?;
+pub fn measure_all<R: Print + AllocGlobal + Clock>(rt: &R, plan: &Plan) -> anyhow::Result<()> {
+    let alloc = rt.alloc();
+    let filter = shared_filter_for(alloc, plan.keys, 7)?;
+    let other = shared_filter_for(alloc, plan.keys, 7)?;
     other.insert_hash(0);
-    'calls: for call in [
-        (Call::Union, "shared union, a word"),
-        (Call::Intersect, "shared intersect, a word"),
-        (Call::SameWords, "shared same_words, a word"),
-        (Call::Clear, "shared clear, a word"),
+    let bits = other.num_bits();
+    let mut calls = Calls {
+        alloc,
+        call: Call::Union,
+        filter,
+        other,
+    };
+    'calls: for (call, name, counted) in [
+        (Call::Union, "shared union, a word", CHANGED),
+        (Call::Intersect, "shared intersect, a word", CHANGED),
+        (Call::SameWords, "shared same_words, a word", CHANGED),
+        (Call::Clear, "shared clear, a word", CHANGED),
+        (Call::Clone, "shared try_clone, a word", "found after it"),
+        (Call::Iter, "shared iter, a word", "odd words"),
+        (Call::ToData, "shared to_data, a word", "words"),
+        (Call::TakeWords, "shared take_words, a word", "words"),
     ] {
-        measure_call(rt, plan, &filter, &other, call)?;
+        calls.call = call;
+        measure(rt, Row::by_words(plan, name, bits, counted), &mut calls)?;
     }
-    measure_clones(rt, plan, &other)?;
-    measure_words(rt, plan, &other)?;
-    measure_data(rt, plan, &other)?;
-    measure_takes(rt, plan, &other)
+    Ok(())
 }

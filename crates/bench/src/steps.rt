@@ -1,13 +1,12 @@
 //! Calls by word steps, on words in memory.
 
+use crate::filters::filter_for;
 use crate::keys::hash_of;
 use crate::plan::Plan;
-use crate::table::Row;
-use bench_filters::filter_for;
-use fastbloom::{Call, Event, MemoryStore, drive, run};
+use crate::table::{Made, Measured, Row, measure};
+use fastbloom::{BloomFilter, Call, Event, MemoryStore, drive, run};
 use std::alloc::{AllocError, Global};
 use std::rt::Clock;
-use std::time::Instant;
 
 const RUN: &'static str = "run, an event";
 
@@ -44,36 +43,64 @@ fn inserts_on(alloc: Global, events: u32) -> Result<Vec<Event>, AllocError> {
     Ok(schedule)
 }
 
-// The row of `drive` over memory.
-fn measure_drive<R: Print + AllocGlobal + Clock>(rt: &R, plan: &Plan) -> anyhow::Result<()> {
-    let mut row = Row::new(plan, "drive, an insert", 7, plan.count(), "true");
-    'rounds: for _round in 0..row.rounds() {
-        let mut store = store_for(rt.alloc(), plan.keys)?;
-        let start = Instant::now(rt)?;
-        let answers = drive_inserts(&mut store, plan.count());
-        row.add(answers, start.elapsed(rt)?);
-    }
-    Ok(row.print(rt)?)
+#[derive(Clone, Copy)]
+enum Step {
+    Drive,
+    Run,
 }
 
-// The row of `run`.
-fn measure_run<R: Print + AllocGlobal + Clock>(rt: &R, plan: &Plan) -> anyhow::Result<()> {
-    let schedule = inserts_on(rt.alloc(), plan.keys)?;
-    let filter = filter_for(rt.alloc(), plan.keys, 7)?;
-    let mut row = Row::new(plan, RUN, 7, plan.count(), "records");
-    'rounds: for _round in 0..row.rounds() {
-        let start = Instant::now(rt)?;
-        let trace = run(rt.alloc(), filter.as_slice(), 7, 1, &schedule)?;
-        row.add(trace.records().len() as u64, start.elapsed(rt)?);
+// A call, and the words or the schedule that it is made on.
+#[derive(Drop)]
+struct Calls {
+    alloc: Global,
+    call: Step,
+    keys: u32,
+    store: MemoryStore,
+    filter: BloomFilter,
+    schedule: Vec<Event>,
+}
+
+impl Measured for Calls {
+    fn prepare(&mut self, _round: u32) -> anyhow::Result<()> {
+        match self.call {
+            Step::Drive => self.store = store_for(self.alloc, self.keys)?,
+            Step::Run => {}
+        }
+        Ok(())
     }
-    Ok(row.print(rt)?)
+
+    fn make(&mut self, _round: u32) -> anyhow::Result<Made> {
+        Ok(match self.call {
+            Step::Drive => Made::Answers(drive_inserts(&mut self.store, u64::from(self.keys))),
+            Step::Run => {
+                let trace = run(self.alloc, self.filter.as_slice(), 7, 1, &self.schedule)?;
+                Made::Trace(trace)
+            }
+        })
+    }
 }
 
 /// The rows of `drive` over memory and of `run`.
-pub fn measure<R: Print + AllocGlobal + Clock>(rt: &R, plan: &Plan) -> anyhow::Result<()> {
-    measure_drive(rt, plan)?;
-    if plan.wants(RUN) {
-        measure_run(rt, plan)?;
+pub fn measure_all<R: Print + AllocGlobal + Clock>(rt: &R, plan: &Plan) -> anyhow::Result<()> {
+    let (alloc, keys) = (rt.alloc(), plan.keys);
+    let mut calls = Calls {
+        alloc,
+        call: Step::Drive,
+        keys,
+        store: store_for(alloc, keys)?,
+        filter: filter_for(alloc, keys, 7)?,
+        schedule: inserts_on(alloc, if plan.wants(RUN) { keys } else { 0 })?,
+    };
+    'calls: for (call, name, counted) in [
+        (Step::Drive, "drive, an insert", "true"),
+        (Step::Run, RUN, "records"),
+    ] {
+        calls.call = call;
+        measure(
+            rt,
+            Row::new(plan, name, 7, plan.count(), counted),
+            &mut calls,
+        )?;
     }
     Ok(())
 }

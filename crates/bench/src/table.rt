@@ -1,8 +1,51 @@
 //! The table of what was measured.
 
+use crate::keys::contains_keys;
 use crate::plan::Plan;
+use fastbloom::{AtomicBloomFilter, BloomFilter, FilterData, Trace};
 use std::io;
-use std::time::Duration;
+use std::rt::Clock;
+use std::time::{Duration, Instant};
+
+/// What a round made. It is counted, and dropped, once the clock has stopped.
+#[derive(Drop)]
+pub enum Made {
+    /// Answers that are counted already.
+    Answers(u64),
+    /// A copy, in which the hash 0 is looked up.
+    Copy(BloomFilter),
+    SharedCopy(AtomicBloomFilter),
+    /// A filter, in which the first keys are looked up.
+    Filled(BloomFilter, u64),
+    Data(FilterData),
+    Text(String),
+    Words(Vec<u64>),
+    Trace(Trace),
+}
+
+impl Made {
+    fn count(&self) -> u64 {
+        match self {
+            Made::Answers(answers) => *answers,
+            Made::Copy(filter) => u64::from(filter.contains_hash(0)),
+            Made::SharedCopy(filter) => u64::from(filter.contains_hash(0)),
+            Made::Filled(filter, keys) => contains_keys(filter, 0, *keys),
+            Made::Data(data) => data.bits.bits.len() as u64,
+            Made::Text(text) => text.len() as u64,
+            Made::Words(words) => words.len() as u64,
+            Made::Trace(trace) => trace.records().len() as u64,
+        }
+    }
+}
+
+/// A call that a row measures, with what it is made on.
+pub trait Measured {
+    /// Does what a round needs before its clock starts.
+    fn prepare(&mut self, round: u32) -> anyhow::Result<()>;
+
+    /// Makes the call as often as the row says. This is what is timed.
+    fn make(&mut self, round: u32) -> anyhow::Result<Made>;
+}
 
 /// A row of the table: one call, how often a round makes it, and the best round so far.
 #[derive(Clone, Copy)]
@@ -48,16 +91,6 @@ impl Row {
         Row::new(plan, call, 7, words, counted)
     }
 
-    /// Whether the row is measured.
-    pub fn is_wanted(&self) -> bool {
-        self.is_wanted
-    }
-
-    /// How often a round makes the call, 0 where the row isn't measured.
-    pub fn wanted_operations(&self) -> u64 {
-        if self.is_wanted { self.operations } else { 0 }
-    }
-
     /// The number of rounds, 0 where the row isn't measured.
     pub fn rounds(&self) -> u32 {
         self.rounds
@@ -94,6 +127,22 @@ impl Row {
             Ok(())
         }
     }
+}
+
+/// Measures a row, and prints it where it is wanted.
+pub fn measure<R: Print + Clock, M: Measured>(
+    rt: &R,
+    mut row: Row,
+    measured: &mut M,
+) -> anyhow::Result<()> {
+    'rounds: for round in 0..row.rounds() {
+        measured.prepare(round)?;
+        let start = Instant::now(rt)?;
+        let made = measured.make(round)?;
+        let time = start.elapsed(rt)?;
+        row.add(made.count(), time);
+    }
+    Ok(row.print(rt)?)
 }
 
 /// Prints what is measured, and the head of the table.

@@ -1,18 +1,21 @@
 //! The calls of a filter that threads share, made by several at once.
 ghost use Rattle.std.specs.Prelude.{⊤};
 
+use crate::filters::shared_filter_for;
 use crate::plan::Plan;
 use crate::shared::{contains_keys, insert_keys};
-use crate::table::Row;
+use crate::table::{Made, Measured, Row, measure};
 use anyhow::bail;
-use bench_filters::shared_filter_for;
 use fastbloom::AtomicBloomFilter;
 use std::alloc::Global;
 use std::rt::Clock;
 use std::sync::Arc;
 use std::thread;
 use std::thread::{Promise, PromisedHandle, Threads};
-use std::time::Instant;
+
+const INSERT: &'static str = "insert by threads:";
+
+const HIT: &'static str = "hit by threads:";
 
 type Shared = Arc<AtomicBloomFilter, Global>;
 
@@ -31,18 +34,18 @@ enum Job {
     Find,
 }
 
-// Starts a thread with the keys between two.
+// Starts a thread with so many keys from this one.
 fn start<R: Threads>(
     rt: &R,
     filter: &Shared,
     job: Job,
     first: u64,
-    end: u64,
+    keys: u64,
 ) -> anyhow::Result<PromisedHandle<u64, Anything>> {
     let shared = Arc::try_clone(filter)?;
     let work = move || match job {
-        Job::Insert => insert_keys(&shared, first, end),
-        Job::Find => contains_keys(&shared, first, end),
+        Job::Insert => insert_keys(&shared, first, keys),
+        Job::Find => contains_keys(&shared, first, keys),
     };
     match thread::spawn_with(rt, Anything, work) {
         Ok(child) => Ok(child),
@@ -62,7 +65,7 @@ fn round_of<R: AllocGlobal + Threads>(
     let mut children = Vec::new(rt.alloc());
     'threads: for thread in 0..threads {
         let first = part.wrapping_mul(thread);
-        children.push(start(rt, filter, job, first, first.wrapping_add(part))?)?;
+        children.push(start(rt, filter, job, first, part)?)?;
     }
     let mut answers: u64 = 0;
     'joins: for child in children {
@@ -71,39 +74,63 @@ fn round_of<R: AllocGlobal + Threads>(
     Ok(answers)
 }
 
-// The rows of inserts and of hits by so many threads, on one filter with seven hashes.
-fn measure_threads<R: Print + AllocGlobal + Clock + Threads>(
-    rt: &R,
-    plan: &Plan,
-    filter: &Shared,
-    threads: u32,
-) -> anyhow::Result<()> {
-    let keys = plan.count();
-    let mut inserts = Row::new(plan, "insert by threads:", threads, keys, "true");
-    let mut hits = Row::new(plan, "hit by threads:", threads, keys, "true");
-    let threads = u64::from(threads);
-    'rounds: for _round in 0..inserts.rounds().max(hits.rounds()) {
-        filter.clear();
-        let begin = Instant::now(rt)?;
-        let answers = round_of(rt, filter, Job::Insert, threads, keys)?;
-        inserts.add(answers, begin.elapsed(rt)?);
-        let begin = Instant::now(rt)?;
-        let answers = round_of(rt, filter, Job::Find, threads, keys)?;
-        hits.add(answers, begin.elapsed(rt)?);
+// What the threads do, and how many, on one filter with seven hashes.
+#[derive(Drop)]
+struct Calls<'a, R> {
+    rt: &'a R,
+    job: Job,
+    filter: Shared,
+    threads: u64,
+    keys: u64,
+}
+
+impl<'a, R: AllocGlobal + Threads> Measured for Calls<'a, R> {
+    fn prepare(&mut self, round: u32) -> anyhow::Result<()> {
+        match self.job {
+            Job::Insert => self.filter.clear(),
+            Job::Find => {
+                if round == 0 {
+                    insert_keys(&self.filter, 0, self.keys);
+                }
+            }
+        }
+        Ok(())
     }
-    inserts.print(rt)?;
-    Ok(hits.print(rt)?)
+
+    fn make(&mut self, _round: u32) -> anyhow::Result<Made> {
+        let answers = round_of(self.rt, &self.filter, self.job, self.threads, self.keys)?;
+        Ok(Made::Answers(answers))
+    }
 }
 
 /// The rows of inserts and of hits by one, two and four threads.
-pub fn measure<R: Print + AllocGlobal + Clock + Threads>(
+pub fn measure_all<R: Print + AllocGlobal + Clock + Threads>(
     rt: &R,
     plan: &Plan,
 ) -> anyhow::Result<()> {
     let filter = shared_filter_for(rt.alloc(), plan.keys, 7)?;
-    let filter = Arc::new(rt.alloc(), filter)?;
-    'counts: for threads in [1, 2, 4] {
-        measure_threads(rt, plan, &filter, threads)?;
+    let mut calls = Calls {
+        rt,
+        job: Job::Insert,
+        filter: Arc::new(rt.alloc(), filter)?,
+        threads: 1,
+        keys: plan.count(),
+    };
+    'calls: for (threads, job, name) in [
+        (1, Job::Insert, INSERT),
+        (1, Job::Find, HIT),
+        (2, Job::Insert, INSERT),
+        (2, Job::Find, HIT),
+        (4, Job::Insert, INSERT),
+        (4, Job::Find, HIT),
+    ] {
+        calls.threads = u64::from(threads);
+        calls.job = job;
+        measure(
+            rt,
+            Row::new(plan, name, threads, plan.count(), "true"),
+            &mut calls,
+        )?;
     }
     Ok(())
 }

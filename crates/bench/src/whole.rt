@@ -2,16 +2,18 @@
 ghost use Rattle.std.specs.Prelude.{All, IfOk};
 ghost use Rattle.bench.specs.Lists.{FitsEach};
 
+use crate::filters::filter_for;
 use crate::keys::hash_of;
 use crate::plan::Plan;
-use crate::table::Row;
-use bench_filters::filter_for;
+use crate::table::{Made, Measured, Row, measure};
 use fastbloom::{BloomFilter, Command, DefaultHasher};
 use std::alloc::{AllocError, Global};
 use std::rt::Clock;
 use std::time::Instant;
 
 const REPLAY: &'static str = "replay, a command";
+
+const CHANGED: &'static str = "equal, or found after it";
 
 // By turns an insert of a key, and a look-up of it.
 fn command_on(key: u64) -> Command<'static, DefaultHasher>
@@ -36,76 +38,58 @@ fn commands_on(alloc: Global, keys: u32) -> Result<Vec<Command<'static, DefaultH
     Ok(commands)
 }
 
-// A call on whole filters.
 #[derive(Clone, Copy)]
 enum Call {
     Union,
     Intersect,
     Equality,
     Clear,
+    Clone,
+    Iter,
 }
 
-// Makes a call, and answers whether the filters are equal, or, of a call that changes the filter,
-// what a look-up finds right after it.
-fn make(filter: &mut BloomFilter, other: &BloomFilter, call: Call) -> bool {
+// A call, and the filters that it is made on.
+#[derive(Drop)]
+struct Calls {
+    alloc: Global,
+    call: Call,
+    filter: BloomFilter,
+    other: BloomFilter,
+}
+
+// Whether the filters are equal, or, of a call that changes the filter, what a look-up finds right
+// after it. Unions leave both filters equal.
+fn answer_of(filter: &mut BloomFilter, other: &BloomFilter, call: Call) -> bool {
     if !filter.same_shape(other) {
         return false;
     }
     match call {
         Call::Union => filter.union(other),
         Call::Intersect => filter.intersect(other),
-        Call::Equality => return *filter == *other,
         Call::Clear => filter.clear(),
+        Call::Equality | Call::Clone | Call::Iter => return *filter == *other,
     }
     filter.contains_hash(0)
 }
 
-// The row of a call. Unions leave both filters equal.
-fn measure_call<R: Print + Clock>(
-    rt: &R,
-    plan: &Plan,
-    filter: &mut BloomFilter,
-    other: &BloomFilter,
-    (call, name): (Call, &'static str),
-) -> anyhow::Result<()> {
-    let mut row = Row::by_words(plan, name, other.num_bits(), "equal, or found after it");
-    'rounds: for _round in 0..row.rounds() {
-        let start = Instant::now(rt)?;
-        let answer = make(filter, other, call);
-        row.add(u64::from(answer), start.elapsed(rt)?);
+impl Measured for Calls {
+    fn prepare(&mut self, _round: u32) -> anyhow::Result<()> {
+        Ok(())
     }
-    Ok(row.print(rt)?)
-}
 
-// The row of clones, each answered by a look-up in the copy.
-fn measure_clones<R: Print + AllocGlobal + Clock>(
-    rt: &R,
-    plan: &Plan,
-    filter: &BloomFilter,
-) -> anyhow::Result<()> {
-    let bits = filter.num_bits();
-    let mut row = Row::by_words(plan, "try_clone, a word", bits, "found after it");
-    'rounds: for _round in 0..row.rounds() {
-        let start = Instant::now(rt)?;
-        let copy = filter.try_clone(rt.alloc())?;
-        row.add(u64::from(copy.contains_hash(0)), start.elapsed(rt)?);
+    fn make(&mut self, _round: u32) -> anyhow::Result<Made> {
+        Ok(match self.call {
+            Call::Union | Call::Intersect | Call::Equality | Call::Clear => {
+                let answer = answer_of(&mut self.filter, &self.other, self.call);
+                Made::Answers(u64::from(answer))
+            }
+            Call::Clone => Made::Copy(self.other.try_clone(self.alloc)?),
+            Call::Iter => {
+                let odd = self.other.iter().filter(|word| *word % 2 == 1).count();
+                Made::Answers(odd as u64)
+            }
+        })
     }
-    Ok(row.print(rt)?)
-}
-
-// The row of `iter`, which gives the words one after the other.
-fn measure_words<R: Print + Clock>(
-    rt: &R,
-    plan: &Plan,
-    filter: &BloomFilter,
-) -> anyhow::Result<()> {
-    let mut row = Row::by_words(plan, "iter, a word", filter.num_bits(), "odd words");
-    'rounds: for _round in 0..row.rounds() {
-        let start = Instant::now(rt)?;
-        let odd = filter.iter().filter(|word| *word % 2 == 1).count();
-        row.add(odd as u64, start.elapsed(rt)?);
-    }
-    Ok(row.print(rt)?)
 }
 
 // The row of `replay`.
@@ -124,20 +108,29 @@ fn measure_lists<R: Print + AllocGlobal + Clock>(rt: &R, plan: &Plan) -> anyhow:
 }
 
 /// The rows of the calls on whole filters, and of `replay`.
-pub fn measure<R: Print + AllocGlobal + Clock>(rt: &R, plan: &Plan) -> anyhow::Result<()> {
-    let mut filter = filter_for(rt.alloc(), plan.keys, 7)?;
-    let mut other = filter_for(rt.alloc(), plan.keys, 7)?;
+pub fn measure_all<R: Print + AllocGlobal + Clock>(rt: &R, plan: &Plan) -> anyhow::Result<()> {
+    let alloc = rt.alloc();
+    let filter = filter_for(alloc, plan.keys, 7)?;
+    let mut other = filter_for(alloc, plan.keys, 7)?;
     other.insert_hash(0);
-    'calls: for call in [
-        (Call::Union, "union, a word"),
-        (Call::Intersect, "intersect, a word"),
-        (Call::Equality, "==, a word"),
-        (Call::Clear, "clear, a word"),
+    let bits = other.num_bits();
+    let mut calls = Calls {
+        alloc,
+        call: Call::Union,
+        filter,
+        other,
+    };
+    'calls: for (call, name, counted) in [
+        (Call::Union, "union, a word", CHANGED),
+        (Call::Intersect, "intersect, a word", CHANGED),
+        (Call::Equality, "==, a word", CHANGED),
+        (Call::Clear, "clear, a word", CHANGED),
+        (Call::Clone, "try_clone, a word", "found after it"),
+        (Call::Iter, "iter, a word", "odd words"),
     ] {
-        measure_call(rt, plan, &mut filter, &other, call)?;
+        calls.call = call;
+        measure(rt, Row::by_words(plan, name, bits, counted), &mut calls)?;
     }
-    measure_clones(rt, plan, &other)?;
-    measure_words(rt, plan, &other)?;
     if plan.wants(REPLAY) {
         measure_lists(rt, plan)?;
     }

@@ -4,11 +4,8 @@
 ghost use Rattle.std.specs.Prelude.{◌≡◌, ◌^◌, ◌≤◌, IfOk, IsOkUnless, max, replicate};
 ghost use Rattle.bloom_parts.specs.Keys.{HasKey};
 
-#[cfg(test)]
-mod tests;
-
 use bloom_engine::{Fault, arguments, given_words, serve};
-use fastbloom::BloomFilter;
+use bloom_plain::BloomFilter;
 use std::alloc::Global;
 use std::io::BufWriter;
 use std::process::ExitCode;

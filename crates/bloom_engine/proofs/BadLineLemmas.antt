@@ -3,7 +3,7 @@ use Rattle.std.proofs.Common.{◌≡◌, ℕ, ◌<◌, Bool, true, false, cond, 
 use Rattle.std.specs.Io.KnownBytes.{prepend_known}
 use Rattle.std.proofs.lemmas.Bool.{and_left, and_right, cond-false, lt-leb}
 use Rattle.bloom_engine.specs.declared.engine.line.Line.{Line}
-use Rattle.bloom_engine.specs.declared.engine.line_reader.Next.TheVariants as next
+use Rattle.bloom_engine.specs.declared.engine.commands.Next.TheVariants as next
 use Rattle.lines.specs.Lines.{lines_of, has_no_end, IsEnded}
 use Rattle.lines.proofs.LineLemmas.{lines_of-front}
 use Rattle.lines.proofs.TakenLemmas.{nil-front, ended-before}

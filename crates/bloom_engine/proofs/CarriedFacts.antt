@@ -9,8 +9,8 @@ use Rattle.bloom_parts.specs.Chain.{chain}
 use Rattle.bloom_parts.specs.Places.{positions, are_in}
 use Rattle.bloom_parts.specs.Operations as command
 use Rattle.bloom_parts.specs.Operations.{state_after}
-use Rattle.fastbloom.specs.Filter.{Filter}
-use Rattle.fastbloom.specs.Replies.{CarriesOut, replies}
+use Rattle.bloom_plain.specs.Filter.{Filter}
+use Rattle.bloom_plain.specs.Replies.{CarriesOut, replies}
 use Rattle.bloom_engine.specs.declared.engine.line.Line.{Line}
 use Rattle.bloom_engine.specs.declared.engine.line.Line.TheVariants.{Insert, Contains, Clear, Words}
 use Rattle.bloom_engine.specs.Lines.{operations}

@@ -7,9 +7,9 @@ use Rattle.bloom_parts.specs.Content.{content}
 use Rattle.bloom_parts.specs.Operations as command
 use Rattle.bloom_parts.specs.Operations.{Operation, state_after}
 use Rattle.bloom_parts.specs.Places.{are_in}
-use Rattle.fastbloom.specs.Filter.{Filter}
-use Rattle.fastbloom.specs.Laws.{JoinedListsLaw}
-use Rattle.fastbloom.specs.Replies.{CarriesOut, replies_after}
+use Rattle.bloom_plain.specs.Filter.{Filter}
+use Rattle.bloom_plain.specs.Laws.{JoinedListsLaw}
+use Rattle.bloom_plain.specs.Replies.{CarriesOut, replies_after}
 use Rattle.bloom_engine.specs.declared.engine.line.Line.{Line}
 use Rattle.bloom_engine.specs.declared.engine.line.Line.TheVariants.{Insert, Contains, Clear, Words}
 use Rattle.bloom_engine.specs.Lines.{operation_of_line, operations}

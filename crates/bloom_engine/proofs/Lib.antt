@@ -5,7 +5,6 @@ mod HexLemmas
 mod LineFacts
 mod NumberLemmas
 mod ReadingFacts
-mod ReadingLemmas
 mod ServedFacts
 mod ServedLemmas
 mod TakenLemmas

@@ -2,18 +2,18 @@
 use Rattle.std.proofs.Common.{◌≡◌, ℕ, ◌+◌, ◌^◌, ◌-◌, min, List, [], ◌∷◌, ◌++◌, length, map, Option, Some, None, Result, Err, false, refl, sym, ◌∙◌, ap, length-append, arith}
 use Rattle.std.specs.Io.KnownBytes.{Keeps, Appends, prepend_known}
 use Rattle.std.proofs.lemmas.Bool.{both_ways}
-use Rattle.fastbloom.specs.Filter.{Filter}
-use Rattle.fastbloom.specs.Laws.{JoinedListsLaw}
+use Rattle.bloom_plain.specs.Filter.{Filter}
+use Rattle.bloom_plain.specs.Laws.{JoinedListsLaw}
 use Rattle.bloom_engine.specs.declared.engine.line.Line.{Line}
-use Rattle.bloom_engine.specs.declared.engine.line_reader.Next.{Next}
-use Rattle.bloom_engine.specs.declared.engine.line_reader.Next.TheVariants as next
+use Rattle.bloom_engine.specs.declared.engine.commands.Next.{Next}
+use Rattle.bloom_engine.specs.declared.engine.commands.Next.TheVariants as next
 use Rattle.bloom_engine.specs.declared.fault.Fault.{Fault}
 use Rattle.bloom_engine.specs.declared.fault.Fault.TheVariants as fault
 use Rattle.lines.specs.Reading as reading
-use Rattle.lines.specs.Reading.{Ends, KnowsEnd}
+use Rattle.lines.specs.Reading.{Ends, KnowsEnd, Waiting, left_of}
 use Rattle.lines.proofs.TakenLemmas as taken
-use Rattle.bloom_engine.specs.Lines.{line_of}
-use Rattle.bloom_engine.specs.Reading.{NextCommand, Waiting, left_of}
+use Rattle.bloom_engine.specs.Lines.{line_of, longest_line}
+use Rattle.bloom_engine.specs.Reading.{NextCommand}
 use Rattle.bloom_engine.specs.Served.{Carried, IsReadWhole, ServedAll, ServedUpTo}
 use Rattle.bloom_engine.proofs.BadLineLemmas.{upto}
 use Rattle.bloom_engine.proofs.CarriedLemmas.{Carried-nil, Carried-more}
@@ -29,6 +29,7 @@ pub record IsServing {S : Type 0} (read : Option (List ℕ)) (old : Filter S)
   pub taken : TakesGood read (left_of waiting rest) lines
   pub counted : number ≡ min (length lines + 1) (2 ^ 64 - 1)
   pub knows : KnowsEnd waiting.ended rest
+  pub limit : waiting.longest ≡ longest_line
 
 -- bytes that were appended stay
 Appends-kept : (a b c : Option (List ℕ)) (bytes : List ℕ) → Appends a b bytes → Keeps b c
@@ -65,13 +66,14 @@ IsReadWhole-from read left mid block lines took ends =
 -- nothing was taken yet
 pub serving_nothing : {S : Type 0} (read from : Option (List ℕ)) (filter : Filter S)
     (waiting : Waiting) → waiting.bytes ≡ [] → waiting.ended ≡ false
-    → IsServing read filter from waiting read filter from 1
-serving_nothing read from filter waiting empty untold = record {
+    → waiting.longest ≡ longest_line → IsServing read filter from waiting read filter from 1
+serving_nothing read from filter waiting empty untold limit = record {
   lines = [];
   carried = Carried-nil filter from;
   taken = TakesGood-nil waiting.bytes read empty;
   counted = refl;
   knows = λ told. absurd (both_ways waiting.ended untold told);
+  limit = limit;
 }
 
 -- half-way, after a flush, and the next line
@@ -86,10 +88,11 @@ module _ {S : Type 0} {read : Option (List ℕ)} {old : Filter S} {from : Option
 
   -- one more good line was taken and carried out
   pub serving_more : (line : Line) (new : Filter S) (end : Option (List ℕ)) (more : ℕ)
-      → came ≡ next.Good line → KnowsEnd after.ended left → JoinedListsLaw S
+      → came ≡ next.Good line → KnowsEnd after.ended left → after.longest ≡ longest_line
+      → JoinedListsLaw S
       → Carried now new kept end (line ∷ []) → more ≡ min (number + 1) (2 ^ 64 - 1)
       → IsServing read old from after left new end more
-  serving_more line new end more good knows joins one count =
+  serving_more line new end more good knows limit joins one count =
       let took = rw good at is_next in
       record {
         lines = so_far.lines ++ line ∷ [];
@@ -99,6 +102,7 @@ module _ {S : Type 0} {read : Option (List ℕ)} {old : Filter S} {from : Option
             line so_far.taken took.takes took.asks;
         counted = simp length-append (omega (arith, count, so_far.counted));
         knows = knows;
+        limit = limit;
       }
 
   -- nothing is left

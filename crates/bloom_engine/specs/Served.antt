@@ -3,8 +3,8 @@
 use Rattle.std.specs.Prelude.{◌≡◌, ◌⊎◌, Bool, ℕ, ◌+◌, ◌-◌, ◌^◌, ◌<◌, min, List, [], ◌∷◌, ◌++◌, length, map, Option, Some, None, IfSome}
 use Rattle.std.specs.Io.KnownBytes.{Appends, Consumes}
 use Rattle.bloom_parts.specs.Content.{content}
-use Rattle.fastbloom.specs.Filter.{Filter}
-use Rattle.fastbloom.specs.Replies.{CarriesOut}
+use Rattle.bloom_plain.specs.Filter.{Filter}
+use Rattle.bloom_plain.specs.Replies.{CarriesOut}
 use Rattle.bloom_engine.specs.declared.engine.line.Line.{Line}
 use Rattle.lines.specs.Lines.{lines_of}
 use Rattle.bloom_engine.specs.Lines.{line_of, longest_line, operations}

@@ -1,18 +1,19 @@
 //! Serves lines: reads them, carries them out, and writes their text.
 ghost use Rattle.std.specs.Prelude.{◌≡◌, ◌≢◌, ℕ, false, [], ◌∷◌, OnOk, IfErr, Err};
 ghost use Rattle.std.specs.Io.KnownBytes.{Keeps};
-ghost use Rattle.bloom_engine.specs.Faults.{IsOfStream};
+ghost use Rattle.bloom_engine.specs.Lines.{longest_line};
 ghost use Rattle.bloom_engine.specs.Served.{Carried, ServedAll, ServedUpTo};
 
+mod commands;
 mod line;
-mod line_reader;
 mod text;
 
 use crate::fault::Fault;
-use fastbloom::laws::lists_join;
-use fastbloom::{BloomFilter, DefaultHasher};
-use line::Line;
-use line_reader::{LineReader, Next};
+use bloom_plain::laws::lists_join;
+use bloom_plain::{BloomFilter, DefaultHasher};
+use commands::{Next, next_command};
+use line::{LONGEST, Line};
+use lines::LineReader;
 use std::alloc::Global;
 use std::io::{Read, Write};
 use text::{put_reply, put_words};
@@ -44,6 +45,7 @@ fn serve_lines<R: Read, W: Write>(
 ) -> Result<(), Fault>
     requires empty { lines.old.bytes ≡ [] }
     requires open { lines.old.ended ≡ false }
+    requires limit { lines.old.longest ≡ longest_line }
     ensures all { OnOk result (ServedAll (R.remaining input.old) (R.remaining input.new)
         filter.old filter.new (W.contents output.old) (W.contents output.new)) }
     ensures bad { (n : ℕ) → result ≡ Err (Fault.Line n)
@@ -57,7 +59,7 @@ fn serve_lines<R: Read, W: Write>(
     // Two counts, so that none ends before the input does.
     'rounds: for _round in 0..u64::MAX {
         'lines: for _line in 0..u64::MAX {
-            match lines.next_command(input, output)? {
+            match next_command(lines, input, output)? {
                 Next::End => return Ok(()),
                 Next::Good(line) => serve_line(filter, line, output)?,
                 Next::Bad => return Err(Fault::Line(number)),
@@ -95,7 +97,7 @@ pub fn serve<R: Read, W: Write>(
         → Keeps (W.contents output.old) (W.contents output.new) }
     ensures usage { result ≢ Err Fault.Usage }
 {
-    let mut lines = LineReader::new(alloc)?;
+    let mut lines = LineReader::new(alloc, LONGEST).map_err(|_| Fault::Memory)?;
     let served = serve_lines(&mut lines, filter, input, output);
     output.flush().map_err(|_| Fault::Output)?;
     served

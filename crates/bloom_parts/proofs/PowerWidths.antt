@@ -19,12 +19,6 @@ times-whole u product some rounds x =
     let high : product u x * u < (x + 1) * u = omega (arith, rounds.near_above u x) in
     omega (arith, lt_of_mul-lt-mul_right u low, lt_of_mul-lt-mul_right u high)
 
--- a number times nothing is nothing
-pub times-none : (u : ℕ) (product : ℕ → ℕ → ℕ) → Rounds u product → (x : ℕ) → product x 0 ≡ 0
-times-none u product rounds x =
-    let high : product x 0 * u < 1 * u = omega (arith, rounds.near_above x 0) in
-    omega (arith, lt_of_mul-lt-mul_right u high)
-
 -- products of factors that are w and d apart are at most w + d + 1 apart
 product-apart : (u high low b a up down w d : ℕ) → high ≤ u → a ≤ u →
     up * u < high * b + u → low * a < down * u + u → high ≤ low + w → b ≤ a + d →

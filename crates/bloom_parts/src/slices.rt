@@ -12,6 +12,12 @@ mod positions;
 use kernels::{and_words, clear_words, or_words, same_words};
 pub use positions::{contains_by_count, contains_positions, insert_positions};
 
+/// From this many words on, which are four mebibytes, a filter counts as larger than a cache.
+pub const MANY_WORDS: usize = 1 << 19;
+
+/// How many hashes are looked up together where a filter is larger than a cache.
+pub const GROUP: usize = 16;
+
 /// Turns every position off.
 pub fn clear(words: &mut [u64])
     ensures content { (p : ℕ) → content words.new p ≡ false }

@@ -102,18 +102,6 @@ carries_out-next says old mid new list i c r s given within is first second all_
     (carries_out-append old mid new (map says (take i list)) (says c ∷ []) r s first second))
 
 module _ {S T : Type 0} (hash_of : S → T → ℕ) (old : Filter S) where
-  -- no item
-  pub inserts_items-none : InsertsItems hash_of old [] old
-  inserts_items-none = (
-    [],
-    record {
-      bits = λ p. refl;
-      answers = refl;
-      shape = record { words = refl; hashes = refl };
-      hasher = refl;
-    },
-  )
-
   -- one more item: inserts keep the hasher, by which it is hashed
   pub inserts_items-next : (mid new : Filter S) (items : List T) (item : T) (reply : Bool)
       → InsertsItems hash_of old items mid

@@ -80,11 +80,7 @@ AreQueued old hashes waiting new =
     record { behind : IsBehind old hashes waiting new; room : length waiting < 16 }
 
 module _ {S : Type 0} (old : Filter S) (waiting more : List ℕ) (hash : ℕ) where
-  -- a hash joins those that wait
-  pub queues-wait : more ≡ waiting ++ hash ∷ [] → Queues old waiting hash old more
-  queues-wait is = record { gone = []; cut = sym is; did = inserts_all-none old }
-
-  -- and all of them are inserted
+  -- a hash joins those that wait, and all of them are inserted
   pub queues-insert : (new : Filter S) (none : List ℕ) → more ≡ waiting ++ hash ∷ []
       → InsertsAll old more new → none ≡ [] → Queues old waiting hash new none
   queues-insert new none is did empty = record {

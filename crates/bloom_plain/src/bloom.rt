@@ -1,5 +1,5 @@
 //! The plain Bloom filter, which its owner changes. Its constructors stand with the builders.
-ghost use Rattle.std.specs.Prelude.{◌≡◌, ◌*◌, ◌^◌, ◌<◌, ◌≤◌, ◌∷◌, [], length, max};
+ghost use Rattle.std.specs.Prelude.{◌≡◌, ◌^◌, ◌<◌, ◌≤◌, ◌∷◌, [], length, max};
 ghost use Rattle.bloom_parts.specs.Operations as operation;
 ghost use Rattle.bloom_parts.specs.Content.{AreWords};
 ghost use Rattle.bloom_plain.specs.Filter.{HasShape, num_bits_of, contains, Inserts};

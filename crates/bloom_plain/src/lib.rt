@@ -8,3 +8,8 @@ pub mod laws;
 pub use bloom::{
     BitsData, BloomFilter, Command, FilterData, expected_rate, insert_hashes, shape_of_data,
 };
+pub use bloom_parts::error::FilterError;
+pub use bloom_parts::hasher::{CloneBuildHasher, DefaultHasher, RandomDefaultHasher};
+pub use bloom_parts::math::Rate;
+pub use bloom_parts::text::Text;
+pub use builder::{BuilderWithBits, BuilderWithFalsePositiveRate};

@@ -71,41 +71,6 @@ module _ (n hash i q : ℕ) (old mid new : Sight) (answer : Bool) (is : q ≡ pl
     })
   ]
 
-  -- it was on
-  pub looks-next : answer ≡ true → Looks n hash (i + 1) old new
-  looks-next on = record {
-    same = looks-kept.same;
-    gained = looks-kept.gained;
-    kept = looks-kept.kept;
-    found = λ j below. elim (cases_lt j i) [
-      | inl earlier ↦ looks-kept.found j earlier
-      | inr late ↦
-          let last : j ≡ i = omega arith in
-          ap (known_of new) (ap (place n hash) last ∙ sym is) ∙ second.on on
-    ];
-  }
-
-  -- it was off
-  pub finds-off : (k : ℕ) → i < k → answer ≡ false → Finds n k hash old new false
-  finds-off k below off = record {
-    on = i;
-    most = omega arith;
-    looks = looks-kept;
-    all = λ wrong. absurd (both_ways false refl wrong);
-    off = λ same. (below, ap (sure_of new) (sym is) ∙ second.off off, grows-next);
-  }
-
--- all were on
-pub finds-all : (n k hash : ℕ) (old new : Sight) → Looks n hash k old new
-    → GrowsBeside n hash k old new → Finds n k hash old new true
-finds-all n k hash old new looks beside = record {
-  on = k;
-  most = le_refl k;
-  looks = looks;
-  all = λ same. (refl, beside);
-  off = λ wrong. absurd (both_ways true wrong refl);
-}
-
 -- no place was looked at yet
 pub looks-begin : (n hash : ℕ) (old : Sight) → Looks n hash 0 old old
 looks-begin n hash old = record {

@@ -1,5 +1,5 @@
 //! The loops of passes over the positions of a hash.
-ghost use Rattle.std.specs.Prelude.{◌≡◌, ◌*◌, ◌^◌, ◌<◌, ◌≤◌, ◌==◌};
+ghost use Rattle.std.specs.Prelude.{◌≡◌, ◌*◌, ◌<◌, ◌==◌};
 ghost use Rattle.bloom_parts.specs.Places.{positions};
 ghost use Rattle.bloom_seated.specs.Loads.{LooksAt};
 ghost use Rattle.bloom_seated.specs.Passes.{Finds, Inserts, sight_of};

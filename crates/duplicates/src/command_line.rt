@@ -1,12 +1,12 @@
 //! The command line.
 
+use bloom_plain::Rate;
 use clap::error::ErrorKind;
 use clap::{Arg, Command, Error, value_parser};
-use fastbloom::Rate;
 use std::alloc::Global;
 
 /// What the words after the program's name ask for.
-#[derive(Clone, Copy, Debug, PartialEq, Eq)]
+#[derive(Clone, Copy)]
 pub struct Options {
     /// How many different lines are expected.
     pub items: usize,

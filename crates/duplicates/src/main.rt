@@ -2,13 +2,11 @@
 #![tactic(auto)]
 
 mod command_line;
-#[cfg(test)]
-mod tests;
 
 use anyhow::Context;
+use bloom_plain::{BloomFilter, FilterError};
 use command_line::{Options, arguments};
 use duplicates_engine::{Progress, Tally, keep_new};
-use fastbloom::{BloomFilter, FilterError};
 use std::alloc::Global;
 use std::env;
 use std::io::{BufWriter, IsTerminal};

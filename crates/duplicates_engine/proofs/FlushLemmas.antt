@@ -3,7 +3,7 @@ use Rattle.std.proofs.Common.{ℕ, List, Option, Result, Ok, Err, refl}
 use Rattle.std.specs.Prelude.{IfOk, IfErr}
 use Rattle.std.specs.Io.KnownBytes.{Keeps}
 use Rattle.std.proofs.KnownBytes.{Appends-kept}
-use Rattle.fastbloom.specs.Filter.{Filter}
+use Rattle.bloom_plain.specs.Filter.{Filter}
 use Rattle.lines.specs.Reading.{IsReadFrom}
 use Rattle.lines.proofs.TakenLemmas.{IsReadFrom-whole, IsReadFrom-long}
 use Rattle.duplicates_engine.specs.declared.fault.Fault.{Fault}

@@ -6,8 +6,8 @@ use Rattle.bloom_parts.specs.Content.{content}
 use Rattle.bloom_parts.specs.Chain.{chain}
 use Rattle.bloom_parts.specs.Places.{are_in}
 use Rattle.bloom_parts.specs.Operations.{Insert}
-use Rattle.fastbloom.specs.Filter.{Filter}
-use Rattle.fastbloom.specs.Replies.{replies}
+use Rattle.bloom_plain.specs.Filter.{Filter}
+use Rattle.bloom_plain.specs.Replies.{replies}
 use Rattle.lines.specs.Lines.{lines_of}
 use Rattle.duplicates_engine.specs.declared.fault.Fault.TheVariants.{TooLong, Memory, Output}
 use Rattle.duplicates_engine.specs.Faults.{Begins, IsWrittenAt, IsReadAt}

@@ -1,13 +1,13 @@
 -- From lines read and kept to what a run promises.
-use Rattle.std.proofs.Common.{◌≡◌, ℕ, ◌+◌, ◌-◌, ◌^◌, min, Bool, false, cond, List, [], ◌∷◌, ◌++◌, Option, IfSome, Result, Ok, Err, inl, inr, ◌⊎◌, refl, sym, ◌∙◌, ap, subst, arith}
+use Rattle.std.proofs.Common.{◌≡◌, ℕ, ◌+◌, ◌-◌, ◌^◌, min, Bool, false, cond, List, [], ◌∷◌, ◌++◌, Option, Result, Ok, Err, inl, inr, ◌⊎◌, refl, sym, ◌∙◌, ap, subst, arith}
 use Rattle.std.proofs.lemmas.Bool.{both_ways}
 use Rattle.std.specs.Io.KnownBytes.{Appends}
 use Rattle.std.proofs.KnownBytes.{Appends-nil, Appends-trans}
 use Rattle.bloom_parts.specs.Operations.{Insert}
-use Rattle.fastbloom.specs.Filter.{Filter, contains}
-use Rattle.fastbloom.specs.Laws.{JoinedListsLaw, FoundAfterInsertsLaw}
-use Rattle.fastbloom.specs.Replies.{CarriesOut}
-use Rattle.lines.specs.Reading.{Waiting, left_of, KnowsEnd, TakesShort, BeginsLong, Ends, IsReadFrom}
+use Rattle.bloom_plain.specs.Filter.{Filter, contains}
+use Rattle.bloom_plain.specs.Laws.{JoinedListsLaw, FoundAfterInsertsLaw}
+use Rattle.bloom_plain.specs.Replies.{CarriesOut}
+use Rattle.lines.specs.Reading.{Waiting, left_of, KnowsEnd, TakesShort, TakesLong, Ends, IsReadFrom}
 use Rattle.lines.proofs.TakenLemmas.{TakesLines, TakesLines-nil, TakesLines-more, IsReadWhole-from, IsReadFrom-taken, IsReadToLong-from}
 use Rattle.duplicates_engine.specs.declared.fault.Fault.{Fault}
 use Rattle.duplicates_engine.specs.declared.fault.Fault.TheVariants.{TooLong, Memory, Input, Output}
@@ -87,9 +87,9 @@ module _ {S : Type 0} {hash_of : List ℕ → ℕ} {read : Option (List ℕ)} {o
 
   -- the next line is too long
   pub until-long : (number : ℕ) → number ≡ min (tally.read + 1) (2 ^ 64 - 1)
-      → IfSome (left_of waiting rest) (BeginsLong longest)
+      → (left : Option (List ℕ)) → TakesLong longest (left_of waiting rest) left
       → KeepsUntil longest hash_of read old now from to (TooLong number)
-  until-long number is long = record {
+  until-long number is left long = record {
     lines = so_far.lines;
     replies = so_far.replies;
     sifts = so_far.sifts;
@@ -99,7 +99,8 @@ module _ {S : Type 0} {hash_of : List ℕ → ℕ} {read : Option (List ℕ)} {o
     reached = record {
       is_number = omega (arith, is, so_far.counts.read);
       is_long =
-          IsReadToLong-from longest read (left_of waiting rest) so_far.lines so_far.taken long;
+          IsReadToLong-from longest read (left_of waiting rest) left so_far.lines so_far.taken
+          long;
     };
   }
 

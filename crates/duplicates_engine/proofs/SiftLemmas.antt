@@ -4,9 +4,9 @@ use Rattle.std.proofs.lemmas.Bool.{cases_lt, true≢false}
 use Rattle.std.proofs.Math.Seq.{get_or-append_seam}
 use Rattle.std.proofs.lemmas.List.{get_or_append_left, map-append, take-append-drop}
 use Rattle.bloom_parts.specs.Operations.{Insert}
-use Rattle.fastbloom.specs.Filter.{Filter, contains}
-use Rattle.fastbloom.specs.Laws.{JoinedListsLaw, FoundAfterInsertsLaw}
-use Rattle.fastbloom.specs.Replies.{CarriesOut}
+use Rattle.bloom_plain.specs.Filter.{Filter, contains}
+use Rattle.bloom_plain.specs.Laws.{JoinedListsLaw, FoundAfterInsertsLaw}
+use Rattle.bloom_plain.specs.Replies.{CarriesOut}
 use Rattle.duplicates_engine.specs.declared.tally.Tally.{Tally}
 use Rattle.duplicates_engine.specs.Kept.{held_back, text_of_fresh, piece, Sifts, Counts}
 

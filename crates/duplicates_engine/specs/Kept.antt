@@ -4,9 +4,9 @@ use Rattle.std.specs.Prelude.{◌≡◌, ◌≢◌, ◌<◌, ◌+◌, ◌-◌, �
 use Rattle.std.specs.declared.hash.Hasher as hasher
 use Rattle.std.specs.Io.KnownBytes.{Appends}
 use Rattle.bloom_parts.specs.Operations.{Insert}
-use Rattle.fastbloom.specs.Filter.{Filter, contains}
-use Rattle.fastbloom.specs.Replies.{CarriesOut}
-use Rattle.fastbloom.specs.SourceHash.{hash_by}
+use Rattle.bloom_plain.specs.Filter.{Filter, contains}
+use Rattle.bloom_plain.specs.Replies.{CarriesOut}
+use Rattle.bloom_plain.specs.SourceHash.{hash_by}
 use Rattle.lines.specs.Reading.{IsReadWhole}
 use Rattle.duplicates_engine.specs.declared.fault.Fault.{Fault}
 use Rattle.duplicates_engine.specs.declared.tally.Tally.{Tally}

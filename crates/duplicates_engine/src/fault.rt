@@ -1,5 +1,4 @@
 //! Why a run ends early.
-ghost use Rattle.std.specs.Prelude.{◌≡◌};
 ghost use Rattle.duplicates_engine.specs.Faults.{IsOfReader};
 
 use std::io;

@@ -1,6 +1,6 @@
 -- What fills a filter: no hash, one hash more, and the hashes of another filter.
-use Rattle.std.proofs.Common.{◌≡◌, ℕ, ◌+◌, ◌*◌, Bool, false, ◌||◌, List, [], ◌∷◌, ◌++◌, length, map, replicate, refl, sym, subst, ◌∙◌, ap, arith, append-nil}
-use Rattle.std.proofs.Math.Bool.{or_assoc, or_comm}
+use Rattle.std.proofs.Common.{◌≡◌, ℕ, ◌+◌, ◌*◌, ◌||◌, List, [], ◌∷◌, ◌++◌, length, map, replicate, refl, sym, subst, ◌∙◌, ap, arith, append-nil}
+use Rattle.std.proofs.Math.Bool.{or_assoc}
 use Rattle.std.proofs.lemmas.List.{map-append, length-replicate}
 use Rattle.std.proofs.lemmas.List.Folds.{concat-append}
 use Rattle.std.proofs.lemmas.List.Elements.{All-head, All-push, All-rest, All-same}
@@ -9,7 +9,7 @@ use Rattle.std.specs.Prelude.{All}
 use Rattle.bloom_parts.specs.Content.{content}
 use Rattle.bloom_parts.specs.Places.{positions}
 use Rattle.bloom_parts.proofs.PublishedLemmas.{content-zeros}
-use Rattle.bloom_plain.specs.Filter.{Filter, SameShape, Inserts, Unites}
+use Rattle.bloom_plain.specs.Filter.{Filter, SameShape, Unites}
 use Rattle.fastbloom.specs.declared.parallel.shape.Shape.{Shape}
 use Rattle.fastbloom.specs.Fill.{words_of, hashes_of, positions_of_all, IsFilledWith}
 
@@ -21,10 +21,6 @@ positions_of_all-append n k (x ∷ xs) ys p =
     ap (λ b. positions n k x p || b) (positions_of_all-append n k xs ys p)
     ∙ sym (or_assoc (positions n k x p) (positions_of_all n k xs p) (positions_of_all n k ys p))
 
--- the positions of one hash
-positions_of_one : (n k hash p : ℕ) → positions_of_all n k (hash ∷ []) p ≡ positions n k hash p
-positions_of_one n k hash p = or_comm (positions n k hash p) false
-
 module _ {S : Type 0} (shape : Shape) where
   -- zero words hold no hash
   pub filled-none : (f : Filter S) → f.words ≡ replicate (words_of shape) 0
@@ -34,24 +30,6 @@ module _ {S : Type 0} (shape : Shape) where
     num_hashes = hashes;
     bits = λ p. ap (λ words. content words p) zeros ∙ content-zeros (words_of shape) p;
   }
-
-  -- an insert adds its hash
-  pub filled-insert : (old new : Filter S) (hashes : List ℕ) (hash : ℕ) {reply : Bool}
-      → IsFilledWith shape hashes old → Inserts old hash new reply
-      → IsFilledWith shape (hashes ++ hash ∷ []) new
-  filled-insert old new hashes hash filled inserted =
-      let n = 64 * words_of shape in
-      let k = hashes_of shape in record {
-        words = sym inserted.shape.words ∙ filled.words;
-        num_hashes = sym inserted.shape.hashes ∙ filled.num_hashes;
-        bits = λ p. inserted.bits p
-            ∙ ap (λ b. b || positions (64 * length old.words) old.hashes hash p) (filled.bits p)
-            ∙ ap (λ w. positions_of_all n k hashes p || positions (64 * w) old.hashes hash p)
-            filled.words
-            ∙ ap (λ h. positions_of_all n k hashes p || positions n h hash p) filled.num_hashes
-            ∙ ap (λ b. positions_of_all n k hashes p || b) (sym (positions_of_one n k hash p))
-            ∙ sym (positions_of_all-append n k hashes (hash ∷ []) p);
-      }
 
   -- filters that were filled have one shape
   pub filled-same : (f g : Filter S) (hashes others : List ℕ)

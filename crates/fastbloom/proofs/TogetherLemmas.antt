@@ -17,16 +17,7 @@ AreQueued f hashes waiting =
     record { behind : IsBehind f hashes waiting; room : length waiting < 16 }
 
 module _ {S : Type 0} (f : SharedFilter S) where
-  -- a hash joins those that wait
-  pub queues-wait : (waiting more : List ℕ) (hash : ℕ) → more ≡ waiting ++ hash ∷ []
-      → QueuesInsert f waiting hash more
-  queues-wait waiting more hash is = record {
-    gone = [];
-    cut = sym is;
-    did = All-nil (WasInserted f);
-  }
-
-  -- and all of them are inserted
+  -- a hash joins those that wait, and all of them are inserted
   pub queues-insert : (waiting more none : List ℕ) (hash : ℕ) → more ≡ waiting ++ hash ∷ []
       → All (WasInserted f) more → none ≡ [] → QueuesInsert f waiting hash none
   queues-insert waiting more none hash is did empty = record {

@@ -1,5 +1,5 @@
 //! One filter that many workers fill, each with a part of the hashes.
-ghost use Rattle.std.specs.Prelude.{◌≡◌, ◌⊎◌, IfOk, IfErr, IsOkUnless, map};
+ghost use Rattle.std.specs.Prelude.{◌≡◌, ◌⊎◌, IfOk, IfErr, map};
 ghost use Rattle.std.specs.List.{concat};
 ghost use Rattle.bloom_parts.specs.Keys.{HasKey};
 ghost use Rattle.fastbloom.specs.Fill.{IsFilledWith};

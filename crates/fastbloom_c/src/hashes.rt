@@ -4,13 +4,9 @@ ghost use Rattle.std.specs.List.{list_all, list_any};
 ghost use Rattle.bloom_parts.specs.Content.{content};
 ghost use Rattle.bloom_parts.specs.Places.{positions, are_in};
 
-use bloom_parts::slices::{contains_by_count, contains_positions, insert_positions};
-
-// From this many words on, which are four mebibytes, a filter is taken to be larger than a cache.
-const MANY_WORDS: usize = 1 << 19;
-
-// So many hashes are looked up together.
-const FEW: usize = 16;
+use bloom_parts::slices::{
+    GROUP, MANY_WORDS, contains_by_count, contains_positions, insert_positions,
+};
 
 /// Turns on all positions of a hash, and answers whether all were on just before.
 ///
@@ -93,12 +89,12 @@ fn insert_together(words: &mut [u64], num_hashes: u32, hashes: &[u64])
         || list_any (λ hash. positions (64 * length words.old) num_hashes hash p) hashes.now) }
     ensures shape { length words.new ≡ length words.old }
 {
-    let turns = hashes.len() / FEW;
+    let turns = hashes.len() / GROUP;
     'turns: for turn in 0..turns {
-        let at = FEW * turn;
-        insert_few(words, num_hashes, &hashes[at..at + FEW]);
+        let at = GROUP * turn;
+        insert_few(words, num_hashes, &hashes[at..at + GROUP]);
     }
-    insert_few(words, num_hashes, &hashes[FEW * turns..]);
+    insert_few(words, num_hashes, &hashes[GROUP * turns..]);
 }
 
 /// Turns on all positions of each of these hashes, and answers whether there are words.

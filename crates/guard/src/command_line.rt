@@ -1,13 +1,13 @@
 //! The command line.
 
+use bloom_plain::Rate;
 use clap::error::ErrorKind;
 use clap::{Arg, ArgMatches, Command, Error};
-use fastbloom::Rate;
-use guard_commands::Task;
+use guard_engine::Task;
 use std::alloc::Global;
 
 /// What the words after the program's name ask for.
-#[derive(Clone, Copy, Debug, PartialEq, Eq)]
+#[derive(Clone, Copy)]
 pub struct Options<'a> {
     /// The name of the store's file.
     pub store: &'a str,

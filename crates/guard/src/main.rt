@@ -2,13 +2,10 @@
 #![tactic(auto)]
 
 mod command_line;
-#[cfg(test)]
-mod tests;
 
 use anyhow::{Context, bail};
 use command_line::{Options, arguments};
-use guard_commands::{Answer, Task, carry_out, guarded};
-use guard_engine::Store;
+use guard_engine::{Answer, Store, Task, carry_out, guarded};
 use guard_store::EntryTable;
 use sqlite::{Alter, Connection, Error, FileFrom, FileStore, Start, Wary};
 use std::alloc::Global;

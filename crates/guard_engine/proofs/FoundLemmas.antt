@@ -6,12 +6,7 @@ use Rattle.std.proofs.Math.Seq.{get_or-append_seam}
 use Rattle.bloom_plain.specs.Filter.{Filter, contains}
 use Rattle.guard_engine.specs.Guarded.{HoldsKeys}
 
--- of no keys
-pub HoldsKeys-nil : {B : Type 0} (hash_of : B → List ℕ → ℕ) (filter : Filter B)
-    → HoldsKeys hash_of filter []
-HoldsKeys-nil hash_of filter key in_none = absurd (omega (arith, in_none.1))
-
--- and of one more
+-- what holds for some keys holds for one more
 HoldsKeys-more : {B : Type 0} (hash_of : B → List ℕ → ℕ) (old new : Filter B)
     (keys : List (List ℕ)) (last : List ℕ) → HoldsKeys hash_of old keys
     → new.hasher ≡ old.hasher

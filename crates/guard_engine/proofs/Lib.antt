@@ -1,11 +1,17 @@
+mod AnswerFacts
+mod AnswerLemmas
 mod AskLemmas
 mod CountLemmas
 mod CountedFacts
 mod FoundLemmas
 mod GuardedFacts
 mod KeyLemmas
+mod LineLemmas
 mod LoadLemmas
 mod LoadedFacts
 mod OpenLemmas
+mod RefusalFacts
+mod RefusalLemmas
 mod RunLemmas
 mod StopLemmas
+mod TaskFacts

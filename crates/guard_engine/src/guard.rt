@@ -1,5 +1,5 @@
 //! The guard: a store, and a filter that has each of its keys.
-ghost use Rattle.std.specs.Prelude.{◌≡◌, ◌↔◌, ◌⊎◌, false, map, string_bytes, vec_items, Err, Ok, IfOk, OnOk, OnErr};
+ghost use Rattle.std.specs.Prelude.{◌≡◌, ◌↔◌, ◌⊎◌, false, string_bytes, Err, Ok, IfOk, OnOk, OnErr};
 ghost use Rattle.bloom_plain.specs.Filter.{contains};
 ghost use Rattle.guard_engine.specs.Counted.{one_more};
 ghost use Rattle.guard_engine.specs.Guarded.{Gains, Guards, IsSingle, Lacks, LacksFilter, Stays, key_hash};
@@ -8,8 +8,8 @@ mod keys;
 
 use crate::counts::Counts;
 use crate::store::Store;
-use fastbloom::laws::{contained_stays, insert_answers_contains};
-use fastbloom::{BloomFilter, BuilderWithFalsePositiveRate, DefaultHasher, FilterError, Text};
+use bloom_plain::laws::{contained_stays, insert_answers_contains};
+use bloom_plain::{BloomFilter, BuilderWithFalsePositiveRate, DefaultHasher, FilterError, Text};
 use keys::insert_keys;
 use std::alloc::Global;
 use std::hash::BuildHasher;

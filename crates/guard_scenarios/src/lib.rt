@@ -1,9 +1,5 @@
-//! Tests of a guard and of its store in a database: what no contract says, at values from outside.
+//! Tests of the store of a guard in a database: what no contract says, at values from outside.
 #![tactic(auto)]
 
-#[cfg(test)]
-mod guards;
-#[cfg(test)]
-mod shelf;
 #[cfg(test)]
 mod tables;

@@ -1,6 +1,6 @@
 -- Cutting bytes into lines.
-use Rattle.std.proofs.Common.{◌≡◌, ◌≢◌, ℕ, ◌<◌, true, not, eqb, List, [], ◌∷◌, ◌++◌, length, refl, sym, ◌∙◌, ap, append_assoc, arith}
-use Rattle.std.proofs.lemmas.Bool.{and_parts, and_from, ne_eqb, not-true, cond-false}
+use Rattle.std.proofs.Common.{◌≡◌, ◌≢◌, ℕ, ◌<◌, zero, suc, true, false, not, eqb, get_or, List, [], ◌∷◌, ◌++◌, length, refl, sym, ◌∙◌, ap, append_assoc, arith}
+use Rattle.std.proofs.lemmas.Bool.{and_parts, and_from, and_left, and_right, ne_eqb, not-true, cond-false}
 use Rattle.lines.specs.Lines.{lines_of, onto_first, has_no_end, IsEnded}
 
 -- no bytes are no lines
@@ -67,6 +67,16 @@ has_no_end-more (d ∷ line) b inside other =
     let parts = and_parts (not (eqb d 10)) (has_no_end line) inside in
     and_from (not (eqb d 10)) (has_no_end (line ++ b ∷ []))
     parts.0 (has_no_end-more line b parts.1 other)
+
+-- bytes one of which ends a line
+pub has_no_end-not : (bytes : List ℕ) (n : ℕ) → n < length bytes → get_or bytes n 0 ≡ 10
+    → has_no_end bytes ≡ false
+has_no_end-not [] n within end = absurd (omega (arith, within))
+has_no_end-not (b ∷ bytes) zero within end =
+    and_left (not (eqb b 10)) (has_no_end bytes) (ap (λ x. not (eqb x 10)) end)
+has_no_end-not (b ∷ bytes) (suc n) within end =
+    and_right (not (eqb b 10)) (has_no_end bytes)
+    (has_no_end-not bytes n (omega (arith, within)) end)
 
 -- bytes one after the other that end no line
 pub has_no_end-append : (xs ys : List ℕ) → has_no_end xs ≡ true → has_no_end ys ≡ true

@@ -1,10 +1,10 @@
 -- What reading lines promises: of each relation a case that holds, and a near one that doesn't.
-use Rattle.std.proofs.Common.{◌≡◌, ℕ, ◌<◌, true, false, List, [], ◌∷◌, ◌++◌, length, get_or, Option, Some, refl, sym, ap, arith, inl, inr}
+use Rattle.std.proofs.Common.{◌≡◌, ℕ, true, false, List, [], ◌∷◌, length, get_or, Option, Some, refl, sym, ◌∙◌, ap, arith, inl, inr}
 use Rattle.std.specs.Prelude.{codes}
 use Rattle.std.proofs.lemmas.List.{append_cancel_right}
 use Rattle.lines.specs.declared.reader.Next.TheVariants.{End, Line, TooLong}
 use Rattle.lines.specs.Lines.{lines_of, has_no_end}
-use Rattle.lines.specs.Reading.{KnowsEnd, TakesLine, BeginsLong, Ends, NextLine, IsReadWhole, IsReadFrom, IsReadToLong}
+use Rattle.lines.specs.Reading.{KnowsEnd, TakesLine, TakesLong, Ends, NextLine, has_next, IsReadWhole, IsReadFrom, IsReadToLong}
 use Rattle.lines.proofs.ReadingLemmas.{taken-ended}
 
 -- a list with a number isn't empty
@@ -43,27 +43,41 @@ ends = record { nothing = refl; end = refl }
 ends-not : Ends (Some (10 ∷ [])) (Some []) → ⊥
 ends-not is = not_nil _ _ is.nothing
 
--- four bytes that end no line are more than three
-begins_long : BeginsLong 3 (codes "abcd\n")
-begins_long = record {
-  front = codes "abcd";
-  rest = 10 ∷ [];
-  cut = refl;
-  inside = refl;
-  long = omega arith;
-}
+-- three bytes of a line were taken, which are more than two
+takes_long : TakesLong 2 (Some (codes "abcd\n")) (Some (codes "d\n"))
+takes_long = record { taken = codes "abc"; cut = refl; inside = refl; long = omega arith }
 
--- no byte is more than none
-begins_long-not : BeginsLong 0 (codes "\nab") → ⊥
-begins_long-not is = at is.front is.cut is.inside is.long
-  where
-    at : (front : List ℕ) → codes "\nab" ≡ front ++ is.rest
-        → has_no_end front ≡ true → 0 < length front → ⊥
-    at [] cut inside long = omega (arith, long)
-    at (b ∷ front) cut inside long =
-        let first : 10 ≡ b = cc in
-        let bad : false ≡ true = rw (sym first) at inside in
-        cc
+-- not more than three
+takes_long-not : TakesLong 3 (Some (codes "abcd\n")) (Some (codes "d\n")) → ⊥
+takes_long-not is =
+    let taken : codes "abc" ≡ is.taken =
+    append_cancel_right (codes "abc") is.taken (codes "d\n") is.cut in
+    let count : 3 ≡ length is.taken = ap length taken in
+    omega (arith, count, is.long)
+
+-- nor more than one, where the line ends between
+takes_long-end : TakesLong 1 (Some (codes "a\nb")) (Some (codes "b")) → ⊥
+takes_long-end is =
+    let taken : codes "a\n" ≡ is.taken =
+    append_cancel_right (codes "a\n") is.taken (codes "b") is.cut in
+    let inside : has_no_end (codes "a\n") ≡ true = ap has_no_end taken ∙ is.inside in
+    cc
+
+-- an end waits
+told : has_next (record { line = []; bytes = codes "a\n"; ended = false; longest = 3 }) ≡ true
+told = refl
+
+-- none does, and as many bytes as a line may have
+told-not : has_next (record { line = []; bytes = codes "abc"; ended = false; longest = 3 }) ≡ false
+told-not = refl
+
+-- one byte more
+told-long : has_next (record { line = []; bytes = codes "abc"; ended = false; longest = 2 }) ≡ true
+told-long = refl
+
+-- the input has ended
+told-end : has_next (record { line = []; bytes = []; ended = true; longest = 3 }) ≡ true
+told-end = refl
 
 -- the longest line comes next
 next_line : NextLine 3 (Some (codes "abc\nx\n")) (Some (codes "x\n")) (codes "abc") Line
@@ -81,9 +95,16 @@ next_end = ends
 next_end-not : NextLine 3 (Some (10 ∷ [])) (Some (10 ∷ [])) [] End → ⊥
 next_end-not is = not_nil _ _ is.end
 
--- a line that is too long comes next, wherever the reader stands after it
-next_long : NextLine 3 (Some (codes "abcd\n")) (Some []) [] TooLong
-next_long = begins_long
+-- a line that is too long comes next
+next_long : NextLine 2 (Some (codes "abcd\n")) (Some (codes "d\n")) [] TooLong
+next_long = takes_long
+
+-- not if nothing of it was taken
+next_long-not : NextLine 2 (Some (codes "abcd\n")) (Some (codes "abcd\n")) [] TooLong → ⊥
+next_long-not is =
+    let taken : [] ≡ is.taken = append_cancel_right [] is.taken (codes "abcd\n") is.cut in
+    let count : 0 ≡ length is.taken = ap length taken in
+    omega (arith, count, is.long)
 
 -- these are all lines
 whole : IsReadWhole (Some (codes "a\nb")) (Some []) (codes "a" ∷ codes "b" ∷ [])

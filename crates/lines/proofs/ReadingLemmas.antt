@@ -1,8 +1,10 @@
 -- What reading one line took.
-use Rattle.std.proofs.Common.{◌≡◌, ℕ, ◌<◌, ◌≤◌, true, List, [], ◌∷◌, ◌++◌, length, length-append, Option, Some, None, IfSome, sym, ◌∙◌, ap, subst, append_assoc, arith, inl, inr}
+use Rattle.std.proofs.Common.{◌≡◌, ℕ, ◌<◌, ◌≤◌, Bool, true, false, not, ◌||◌, List, [], ◌∷◌, ◌++◌, length, length-append, Option, Some, None, refl, sym, ◌∙◌, ◌⊎◌, ap, subst, append_assoc, arith, inl, inr}
+use Rattle.std.specs.Prelude.{nat_lt}
+use Rattle.std.proofs.lemmas.Bool.{le-ltb, not-true, both_ways}
 use Rattle.std.specs.Io.KnownBytes.{Consumes, IsAtEnd, prepend_known}
 use Rattle.lines.specs.Lines.{has_no_end}
-use Rattle.lines.specs.Reading.{HasTakenLine, TakesLine, TakesShort, BeginsLong, Ends, GrowsToEnd, GrowsByAll, GrowsTooLong}
+use Rattle.lines.specs.Reading.{HasTakenLine, TakesLine, TakesShort, TakesLong, GrowsToEnd, GrowsByAll, GrowsTooLong, is_told}
 use Rattle.lines.proofs.LineLemmas.{lines_of-nil, lines_of-ended, lines_of-last, has_no_end-append, IsEnded-line}
 
 -- a line that was taken with its end
@@ -30,19 +32,6 @@ pub record IsHalfway (longest : ℕ) (old now : Option (List ℕ)) (line : List 
   pub taken : Consumes old now line
   pub inside : has_no_end line ≡ true
   pub short : length line ≤ longest
-
--- nothing was taken yet
-pub halfway-nil : (longest : ℕ) (old : Option (List ℕ)) (line : List ℕ) → line ≡ []
-    → IsHalfway longest old old line
-halfway-nil longest old line none = record {
-  taken = at old;
-  inside = ap has_no_end none;
-  short = omega (arith, ap length none);
-}
-  where
-    at : (old : Option (List ℕ)) → Consumes old old line
-    at None = tt
-    at (Some x) = sym (ap (λ l. l ++ x) none)
 
 -- nothing is left of a block, and a new one was read
 refilled : (old rest left : Option (List ℕ)) (block more line : List ℕ)
@@ -94,25 +83,47 @@ module _ {longest : ℕ} (old rest : Option (List ℕ)) {block line : List ℕ}
           ∙ has_no_end-append line part so_far.inside end.grows.inside)
 
   -- the line is too long
-  pub begins-long : GrowsTooLong longest block line → IfSome old (BeginsLong longest)
-  begins-long grows = at old rest so_far.taken
+  pub takes-long : {new : List ℕ} → GrowsTooLong longest block new line
+      → TakesLong longest old (prepend_known new rest)
+  takes-long {new = new} grows = at old rest so_far.taken
     where
       at : (old rest : Option (List ℕ)) → Consumes old (prepend_known block rest) line
-          → IfSome old (BeginsLong longest)
+          → TakesLong longest old (prepend_known new rest)
       at None rest p = tt
       at (Some x) None p = absurd p
       at (Some x) (Some y) p =
           let part = grows.part in
           record {
-            front = line ++ part;
-            rest = grows.rest ++ y;
+            taken = line ++ part;
             cut =
-                p ∙ ap (λ l. line ++ l) (ap (λ l. l ++ y) grows.cut
-                ∙ append_assoc part grows.rest y)
-                ∙ sym (append_assoc line part (grows.rest ++ y));
+                p ∙ ap (λ l. line ++ l) (ap (λ l. l ++ y) grows.cut ∙ append_assoc part new y)
+                ∙ sym (append_assoc line part (new ++ y));
             inside = has_no_end-append line part so_far.inside grows.inside;
             long = simp length-append (omega (arith, grows.long));
           }
+
+-- a line that is told without a read: where all bytes that wait were moved to an empty line, and
+-- they were its first, the end was told
+pub told-ended : (ended : Bool) (longest : ℕ) {block new line more : List ℕ} → line ≡ []
+    → is_told ended longest block ≡ true → GrowsByAll longest block new line more → ended ≡ true
+told-ended true longest none told all = refl
+told-ended false longest {block = block} {line = line} {more = more} none told all =
+    let grown : more ≡ block = all.grows.joined ∙ ap (λ l. l ++ block) none in
+    let few : length block ≤ longest = omega (arith, all.grows.short, ap length grown) in
+    let fits : nat_lt longest (length block) ≡ false = le-ltb longest (length block) few in
+    let same : not (has_no_end block) ≡ true =
+    sym (ap (λ b. b || not (has_no_end block)) fits) ∙ told in
+    absurd (both_ways (has_no_end block) (not-true (has_no_end block) same) all.grows.inside)
+
+-- the same within the loop of a reader that began with a block and an empty line
+pub told-now : {began ended : Bool} {longest : ℕ} {first block new line more : List ℕ}
+    → (began ≡ true → ended ≡ true)
+    → (ended ≡ true) ⊎ record { empty : line ≡ []; block : block ≡ first }
+    → is_told began longest first ≡ true → GrowsByAll longest block new line more → ended ≡ true
+told-now {began} {ended} {longest} stays (inl is) told all = is
+told-now {began} {ended} {longest} stays (inr start) told all =
+    stays (told-ended began longest start.empty
+    (subst (λ b. is_told began longest b ≡ true) (sym start.block) told) all)
 
 -- nothing follows the bytes of the line
 module _ {longest : ℕ} (old left : Option (List ℕ)) {line fresh : List ℕ}
@@ -122,13 +133,6 @@ module _ {longest : ℕ} (old left : Option (List ℕ)) {line fresh : List ℕ}
   at-end : (left : Option (List ℕ)) → IsAtEnd left → IsAtEnd (prepend_known fresh left)
   at-end None end = tt
   at-end (Some y) end = ap (λ l. l ++ y) none ∙ end
-
-  -- there is no line
-  pub ends-here : line ≡ [] → Ends old (prepend_known fresh left)
-  ends-here empty = record {
-    nothing = subst (Consumes old (prepend_known fresh left)) empty so_far.taken;
-    end = at-end left end;
-  }
 
   -- there is a last line
   pub takes-last : 0 < length line → TakesShort longest old (prepend_known fresh left) line

@@ -1,8 +1,8 @@
 -- Lines taken, one after the other.
-use Rattle.std.proofs.Common.{◌≡◌, ℕ, ◌<◌, List, [], ◌∷◌, ◌++◌, length, length-append, Option, Some, None, IfSome, refl, sym, ◌∙◌, ap, append_assoc, append-nil, arith, inl, inr, ◌⊎◌}
+use Rattle.std.proofs.Common.{◌≡◌, ℕ, ◌<◌, List, [], ◌∷◌, ◌++◌, length, length-append, Option, Some, None, refl, sym, ◌∙◌, ap, append_assoc, append-nil, arith, inl, inr, ◌⊎◌}
 use Rattle.std.specs.Io.KnownBytes.{prepend_known}
 use Rattle.lines.specs.Lines.{lines_of, IsEnded}
-use Rattle.lines.specs.Reading.{TakesLine, BeginsLong, Ends, IsReadWhole, IsReadFrom, IsReadToLong}
+use Rattle.lines.specs.Reading.{TakesLine, TakesLong, Ends, IsReadWhole, IsReadFrom, IsReadToLong}
 use Rattle.lines.proofs.LineLemmas.{lines_of-nil, lines_of-front, IsEnded-nil, IsEnded-append}
 
 -- these lines were taken, and the last of them had its end or nothing is left
@@ -127,17 +127,17 @@ IsReadFrom-long longest None lines p = tt
 IsReadFrom-long longest (Some x) lines p = record { later = p.long ∷ p.later; cut = p.cut }
 
 -- the next line is too long
-pub IsReadToLong-from : (longest : ℕ) (read mid : Option (List ℕ)) (lines : List (List ℕ))
-    → TakesLines read mid lines → IfSome mid (BeginsLong longest)
-    → IsReadToLong longest read lines
-IsReadToLong-from longest None mid lines p q = tt
-IsReadToLong-from longest (Some x) None lines p q = absurd p
-IsReadToLong-from longest (Some x) (Some y) lines p q =
-    let some : 0 < length q.front = omega (arith, q.long) in
-    let found = lines_of-front q.front q.rest q.inside some in
-    let rest : lines_of y ≡ (q.front ++ found.0) ∷ found.1 = ap lines_of q.cut ∙ found.2 in
+pub IsReadToLong-from : (longest : ℕ) (read mid left : Option (List ℕ)) (lines : List (List ℕ))
+    → TakesLines read mid lines → TakesLong longest mid left → IsReadToLong longest read lines
+IsReadToLong-from longest None mid left lines p q = tt
+IsReadToLong-from longest (Some x) None left lines p q = absurd p
+IsReadToLong-from longest (Some x) (Some y) None lines p q = absurd q
+IsReadToLong-from longest (Some x) (Some y) (Some z) lines p q =
+    let some : 0 < length q.taken = omega (arith, q.long) in
+    let found = lines_of-front q.taken z q.inside some in
+    let rest : lines_of y ≡ (q.taken ++ found.0) ∷ found.1 = ap lines_of q.cut ∙ found.2 in
     record {
-      long = q.front ++ found.0;
+      long = q.taken ++ found.0;
       later = found.1;
       cut =
           ap lines_of p.cut ∙ (ended p.last) y ∙ ap (λ l. l ++ lines_of y) p.are_lines
@@ -148,5 +148,5 @@ IsReadToLong-from longest (Some x) (Some y) lines p q =
     ended : IsEnded p.taken ⊎ (y ≡ []) → IsEnded p.taken
     ended (inl is) = is
     ended (inr none) =
-        let front : q.front ≡ [] = nil-front q.front q.rest (sym q.cut ∙ none) in
-        absurd (omega (arith, q.long, ap length front))
+        let nothing : q.taken ≡ [] = nil-front q.taken z (sym q.cut ∙ none) in
+        absurd (omega (arith, q.long, ap length nothing))

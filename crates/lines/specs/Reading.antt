@@ -1,6 +1,6 @@
 -- What reading one line takes, and what a program read that took one line after the other. What a
 -- reader has left is Some of the bytes, or None where it doesn't tell.
-use Rattle.std.specs.Prelude.{◌≡◌, ◌⊎◌, ℕ, ◌+◌, ◌<◌, ◌≤◌, List, [], ◌∷◌, ◌++◌, length, take, slice_index, Bool, true, Option, Some, None, IfSome}
+use Rattle.std.specs.Prelude.{◌≡◌, ◌⊎◌, ℕ, ◌+◌, ◌<◌, ◌≤◌, List, [], ◌∷◌, ◌++◌, length, take, slice_index, Bool, true, not, nat_lt, ◌||◌, Option, Some, None, IfSome}
 use Rattle.std.specs.Io.KnownBytes.{Consumes, IsAtEnd, prepend_known}
 use Rattle.lines.specs.declared.reader.Next.{Next}
 use Rattle.lines.specs.declared.reader.Next.TheVariants.{End, Line, TooLong}
@@ -24,6 +24,15 @@ left_of waiting rest = prepend_known waiting.bytes rest
 abbrev pub KnowsEnd : Bool → Option (List ℕ) → Type 0
 KnowsEnd ended rest = ended ≡ true → IsAtEnd rest
 
+-- whether the next line is told without asking the reader: the end was told, more bytes wait than a
+-- line may have, or one of them ends a line
+abbrev pub is_told : Bool → ℕ → List ℕ → Bool
+is_told ended longest bytes = ended || (nat_lt longest (length bytes) || not (has_no_end bytes))
+
+-- the same of a reader of lines
+abbrev pub has_next : Waiting → Bool
+has_next waiting = is_told waiting.ended waiting.longest waiting.bytes
+
 -- the first line of these bytes has n bytes, and its end is there too
 pub record HasEndAt (bytes : List ℕ) (n : ℕ) : Type 0 where
   pub within : n < length bytes
@@ -43,13 +52,18 @@ TakesLine None new line = Unit {0}
 TakesLine (Some old) None line = ⊥
 TakesLine (Some old) (Some new) line = HasTakenLine old new line
 
--- these bytes begin with more of one line than a line may have
-pub record BeginsLong (longest : ℕ) (bytes : List ℕ) : Type 0 where
-  pub front : List ℕ
-  pub rest : List ℕ
-  pub cut : bytes ≡ front ++ rest
-  pub inside : has_no_end front ≡ true
-  pub long : longest < length front
+-- from these bytes to those more bytes of one line were taken than a line may have
+pub record HasTakenLong (longest : ℕ) (old new : List ℕ) : Type 0 where
+  pub taken : List ℕ
+  pub cut : old ≡ taken ++ new
+  pub inside : has_no_end taken ≡ true
+  pub long : longest < length taken
+
+-- the same of what a reader has, where it tells its bytes
+abbrev pub TakesLong : ℕ → Option (List ℕ) → Option (List ℕ) → Type 0
+TakesLong longest None new = Unit {0}
+TakesLong longest (Some old) None = ⊥
+TakesLong longest (Some old) (Some new) = HasTakenLong longest old new
 
 -- nothing is left, and nothing was taken
 pub record Ends (old new : Option (List ℕ)) : Type 0 where
@@ -65,7 +79,7 @@ pub record TakesShort (longest : ℕ) (old new : Option (List ℕ)) (line : List
 abbrev pub NextLine : ℕ → Option (List ℕ) → Option (List ℕ) → List ℕ → Next → Type 0
 NextLine longest old new line End = Ends old new
 NextLine longest old new line Line = TakesShort longest old new line
-NextLine longest old new line TooLong = IfSome old (BeginsLong longest)
+NextLine longest old new line TooLong = TakesLong longest old new
 
 -- a line grew by bytes that end no line, and isn't too long
 pub record Grows (longest : ℕ) (line more part : List ℕ) : Type 0 where
@@ -84,11 +98,10 @@ pub record GrowsByAll (longest : ℕ) (old new line more : List ℕ) : Type 0 wh
   pub none_left : new ≡ []
   pub grows : Grows longest line more old
 
--- a line would grow by bytes that make it too long
-pub record GrowsTooLong (longest : ℕ) (old line : List ℕ) : Type 0 where
+-- bytes were taken that would make a line too long
+pub record GrowsTooLong (longest : ℕ) (old new line : List ℕ) : Type 0 where
   pub part : List ℕ
-  pub rest : List ℕ
-  pub cut : old ≡ part ++ rest
+  pub cut : old ≡ part ++ new
   pub inside : has_no_end part ≡ true
   pub long : longest < length line + length part
 
@@ -96,7 +109,7 @@ pub record GrowsTooLong (longest : ℕ) (old line : List ℕ) : Type 0 where
 abbrev pub MovesPiece : ℕ → List ℕ → List ℕ → List ℕ → List ℕ → Piece → Type 0
 MovesPiece longest old new line more piece.Ended = GrowsToEnd longest old new line more
 MovesPiece longest old new line more piece.All = GrowsByAll longest old new line more
-MovesPiece longest old new line more piece.TooLong = GrowsTooLong longest old line
+MovesPiece longest old new line more piece.TooLong = GrowsTooLong longest old new line
 
 -- these are all lines of the bytes, and the reader is at its end
 pub record HasReadAll (bytes : List ℕ) (left : Option (List ℕ)) (lines : List (List ℕ)) : Type 0

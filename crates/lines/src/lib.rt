@@ -5,6 +5,4 @@ mod block;
 mod piece;
 mod reader;
 
-pub use block::Block;
-pub use piece::first_end;
 pub use reader::{LineReader, Next};

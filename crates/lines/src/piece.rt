@@ -1,5 +1,5 @@
 //! Moves waiting bytes to a line.
-ghost use Rattle.std.specs.Prelude.{◌≡◌, ◌+◌, ◌<◌, ◌≤◌, true, false, ◌++◌, length, IfOk, MatchOption};
+ghost use Rattle.std.specs.Prelude.{◌≡◌, ◌+◌, ◌<◌, ◌≤◌, true, false, not, ◌++◌, length, IfOk, MatchOption};
 ghost use Rattle.lines.specs.Lines.{has_no_end};
 ghost use Rattle.lines.specs.Reading.{HasEndAt, MovesPiece};
 
@@ -13,7 +13,7 @@ pub enum Piece {
     Ended,
     /// All bytes were moved, and none ends the line.
     All,
-    /// The line would be too long. Nothing was moved.
+    /// The line would be too long. What waited of it was taken, and not moved.
     TooLong,
 }
 
@@ -26,6 +26,7 @@ pub fn move_piece(block: &mut Block, line: &mut Vec<u8>, longest: usize) -> io::
     match first_end(block.as_slice()) {
         Some(count) => {
             if !append(line, &block.as_slice()[..count], longest)? {
+                block.skip(count);
                 return Ok(Piece::TooLong);
             }
             block.skip(count + 1);
@@ -33,6 +34,7 @@ pub fn move_piece(block: &mut Block, line: &mut Vec<u8>, longest: usize) -> io::
         }
         None => {
             if !append(line, block.as_slice(), longest)? {
+                block.clear();
                 return Ok(Piece::TooLong);
             }
             block.clear();
@@ -41,8 +43,8 @@ pub fn move_piece(block: &mut Block, line: &mut Vec<u8>, longest: usize) -> io::
     }
 }
 
-/// Where the first line ends, if its end is among the bytes.
-pub fn first_end(bytes: &[u8]) -> Option<usize>
+// Where the first line ends, if its end is among the bytes.
+fn first_end(bytes: &[u8]) -> Option<usize>
     ensures { MatchOption result (has_no_end bytes.now ≡ true) (HasEndAt bytes.now) }
 {
     'bytes: for (at, byte) in bytes.iter().enumerate() {
@@ -51,6 +53,16 @@ pub fn first_end(bytes: &[u8]) -> Option<usize>
         }
     }
     None
+}
+
+/// Whether one of the bytes ends a line.
+pub fn has_end(bytes: &[u8]) -> bool
+    ensures { result ≡ not (has_no_end bytes.now) }
+{
+    match first_end(bytes) {
+        Some(_) => true,
+        None => false,
+    }
 }
 
 // Appends bytes to a line, unless they make it too long, and answers whether they did not.

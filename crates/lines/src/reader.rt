@@ -1,14 +1,17 @@
 //! Reading one line after the other.
-ghost use Rattle.std.specs.Prelude.{◌≡◌, ◌≤◌, false, true, [], length, IfOk, OnOk};
+ghost use Rattle.std.specs.Prelude.{◌≡◌, false, true, [], IfOk, OnOk};
 ghost use Rattle.std.specs.Io.KnownBytes.{Consumes, prepend_known};
-ghost use Rattle.lines.specs.Reading.{KnowsEnd, NextLine, left_of};
+ghost use Rattle.lines.specs.Reading.{KnowsEnd, NextLine, has_next, is_told, left_of};
 
 use crate::block::Block;
-use crate::piece::{Piece, move_piece};
+use crate::piece::{Piece, has_end, move_piece};
 use std::alloc::{AllocError, Global};
 use std::io;
 use std::io::{ErrorKind, Read};
 use std::marker::Model;
+
+// How many bytes a line has room for at first. Where lines may have no more, none asks for memory.
+const FIRST_ROOM: usize = 64;
 
 /// What the next line came to.
 #[derive(Clone, Copy, Debug, PartialEq, Eq)]
@@ -17,7 +20,7 @@ pub enum Next {
     End,
     /// There is one.
     Line,
-    /// It is longer than a line may be. Its beginning was taken.
+    /// It is longer than a line may be. More of it was taken than a line may have.
     TooLong,
 }
 
@@ -54,7 +57,7 @@ impl LineReader {
     {
         Ok(LineReader {
             block: Block::new(alloc)?,
-            line: Vec::new(alloc),
+            line: Vec::with_capacity(alloc, longest.min(FIRST_ROOM))?,
             ended: false,
             longest,
         })
@@ -65,6 +68,21 @@ impl LineReader {
         ensures { result.now ≡ self.now.line }
     {
         self.line.as_slice()
+    }
+
+    /// Whether the next line is told without a read: its end waits, or more bytes than a line may
+    /// have, or the input has ended.
+    pub fn has_next(&self) -> bool
+        ensures { result ≡ has_next self.now }
+    {
+        if self.ended {
+            return true;
+        }
+        let bytes = self.block.as_slice();
+        if bytes.len() > self.longest {
+            return true;
+        }
+        has_end(bytes)
     }
 
     /// Reads the next line. After the end it reads nothing.
@@ -78,9 +96,10 @@ impl LineReader {
             (left_of self.new (R.remaining input.new)) self.new.line) }
         ensures knows { KnowsEnd self.new.ended (R.remaining input.new) }
         ensures longest { self.new.longest ≡ self.old.longest }
-        // The end stays told, and then the reader isn't asked again.
+        // The end stays told.
         ensures told { self.old.ended ≡ true → self.new.ended ≡ true }
-        ensures quiet { self.old.ended ≡ true → input.new ≡ input.old }
+        // The reader isn't asked where it needn't be.
+        ensures quiet { has_next self.old ≡ true → input.new ≡ input.old }
     {
         self.line.clear();
         fill_line(
@@ -108,7 +127,7 @@ fn fill_line<R: Read>(
         (prepend_known block.new (R.remaining input.new)) line.new.items) }
     ensures knows { KnowsEnd ended.new (R.remaining input.new) }
     ensures told { ended.old ≡ true → ended.new ≡ true }
-    ensures quiet { ended.old ≡ true → input.new ≡ input.old }
+    ensures quiet { is_told ended.old longest block.old ≡ true → input.new ≡ input.old }
 {
     // A count that no input outlasts: each turn but the last takes a byte or more.
     'pieces: for _piece in 0..u64::MAX {

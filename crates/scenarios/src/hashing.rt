@@ -9,45 +9,30 @@ use fastbloom::{BloomFilter, BuilderWithBits, FilterError, Text};
 use std::alloc::Global;
 use std::hash::{BuildHasher, Hash, Hasher};
 
-// The hash of no bytes under the key bytes 0 to 15 turns on position 42 of 64 bits.
-#[test]
-fn the_first_vector_is_a_position(rt: HostRuntime) -> Result<(), FilterError> {
-    let key = [0, 1, 2, 3, 4, 5, 6, 7, 8, 9, 10, 11, 12, 13, 14, 15];
-    let hash = RandomDefaultHasher::seeded(&key).finish();
-    assert_eq!(rt; hash, 0xabac_0158_050f_c4dc);
-    let mut filter = BloomFilter::from_vec(vec![in rt.alloc(); 0; 1]?)?.hashes(1);
-    assert!(rt; !filter.insert_hash(hash));
-    assert_eq!(rt; filter.as_slice()[0], 1 << 42);
-    Ok(())
+// The hash of the bytes of one write under the zero key.
+fn hash_of(bytes: &[u8]) -> u64 {
+    let mut hasher = RandomDefaultHasher::default();
+    hasher.write(bytes);
+    hasher.finish()
 }
 
-// The hash of the bytes 1 to 5 under the zero key, by Rust's own `std::hash::DefaultHasher` (1.95),
-// which is SipHash-1-3 under that key.
-#[test]
-fn pieces_hash_as_the_whole(rt: HostRuntime) {
-    let mut pieces = RandomDefaultHasher::default();
-    pieces.write(&[1, 2, 3]);
-    pieces.write(&[4, 5]);
-    let mut whole = RandomDefaultHasher::default();
-    whole.write(&[1, 2, 3, 4, 5]);
-    assert_eq!(rt; pieces.finish(), 0xde68_2ee7_0fbe_bc3f);
-    assert_eq!(rt; whole.finish(), 0xde68_2ee7_0fbe_bc3f);
+// The hash of the bytes 1 to 5, written in two pieces.
+fn hash_of_pieces() -> u64 {
+    let mut hasher = RandomDefaultHasher::default();
+    hasher.write(&[1, 2, 3]);
+    hasher.write(&[4, 5]);
+    hasher.finish()
 }
 
-// The hash of the bytes 1 and 2, by Rust's own hasher.
-#[test]
-fn a_number_counts_as_its_lowest_byte_first(rt: HostRuntime) {
-    let mut number = RandomDefaultHasher::default();
-    number.write_u16(0x0201);
-    let mut bytes = RandomDefaultHasher::default();
-    bytes.write(&[1, 2]);
-    assert_eq!(rt; number.finish(), 0x1d6b_2993_44ba_b347);
-    assert_eq!(rt; bytes.finish(), 0x1d6b_2993_44ba_b347);
+// The hash of a number whose lowest byte is 1 and the next 2.
+fn hash_of_number() -> u64 {
+    let mut hasher = RandomDefaultHasher::default();
+    hasher.write_u16(0x0201);
+    hasher.finish()
 }
 
-// The hash of the 94 bytes, by Rust's own hasher.
-#[test]
-fn every_number_write_adds_just_its_bytes(rt: HostRuntime) {
+// The hash of sixteen bytes and one number of each type, all of them 1.
+fn hash_of_numbers() -> u64 {
     let mut pieces = RandomDefaultHasher::default();
     pieces.write(&[1; 16]);
     pieces.write_u8(1);
@@ -62,53 +47,82 @@ fn every_number_write_adds_just_its_bytes(rt: HostRuntime) {
     pieces.write_i64(1);
     pieces.write_i128(1);
     pieces.write_isize(1);
-    let mut bytes = [0; 94];
-    for i in 0..16 {
-        bytes[i] = 1;
-    }
-    for start in [16, 17, 19, 23, 31, 47, 55, 56, 58, 62, 70, 86] {
-        bytes[start] = 1;
-    }
-    let mut whole = RandomDefaultHasher::default();
-    whole.write(&bytes);
-    assert_eq!(rt; pieces.finish(), 0xa974_2e3c_46eb_4c8f);
-    assert_eq!(rt; whole.finish(), 0xa974_2e3c_46eb_4c8f);
+    pieces.finish()
 }
 
-// The hashes of no bytes and of the byte 7, by Rust's own hasher.
-#[test]
-fn an_answer_ends_nothing(rt: HostRuntime) {
+// The bytes of those numbers, lowest first.
+const NUMBERS: [u8; 94] = [
+    1, 1, 1, 1, 1, 1, 1, 1, 1, 1, 1, 1, 1, 1, 1, 1, 1, 1, 0, 1, 0, 0, 0, 1, 0, 0, 0, 0, 0, 0, 0, 1,
+    0, 0, 0, 0, 0, 0, 0, 0, 0, 0, 0, 0, 0, 0, 0, 1, 0, 0, 0, 0, 0, 0, 0, 1, 1, 0, 1, 0, 0, 0, 1, 0,
+    0, 0, 0, 0, 0, 0, 1, 0, 0, 0, 0, 0, 0, 0, 0, 0, 0, 0, 0, 0, 0, 0, 1, 0, 0, 0, 0, 0, 0, 0,
+];
+
+// The hashes of no bytes, of the byte 7 written after that answer, and the same asked again.
+fn answers_on_the_way() -> [u64; 3] {
     let mut hasher = RandomDefaultHasher::default();
-    assert_eq!(rt; hasher.finish(), 0xd1fb_a762_150c_532c);
+    let none = hasher.finish();
     hasher.write(&[7]);
-    assert_eq!(rt; hasher.finish(), 0xfff3_eb0c_7071_97bf);
-    assert_eq!(rt; hasher.finish(), 0xfff3_eb0c_7071_97bf);
+    [none, hasher.finish(), hasher.finish()]
 }
+
+// The values are those of Rust's own `std::hash::DefaultHasher` (1.95), which is SipHash-1-3 under
+// the zero key, for the same bytes.
+#[test]
+fn a_hash_is_of_the_bytes_written_however_they_are_cut(rt: HostRuntime) {
+    let [none, seven, again] = answers_on_the_way();
+    for (found, hash) in [
+        (hash_of_pieces(), 0xde68_2ee7_0fbe_bc3f),
+        (hash_of(&[1, 2, 3, 4, 5]), 0xde68_2ee7_0fbe_bc3f),
+        (hash_of_number(), 0x1d6b_2993_44ba_b347),
+        (hash_of(&[1, 2]), 0x1d6b_2993_44ba_b347),
+        (hash_of_numbers(), 0xa974_2e3c_46eb_4c8f),
+        (hash_of(&NUMBERS), 0xa974_2e3c_46eb_4c8f),
+        (none, 0xd1fb_a762_150c_532c),
+        (seven, 0xfff3_eb0c_7071_97bf),
+        (again, 0xfff3_eb0c_7071_97bf),
+    ] {
+        assert!(rt; found == hash, "{hash}");
+    }
+}
+
+// The key bytes 0 to 15.
+const COUNTING: [u8; 16] = [0, 1, 2, 3, 4, 5, 6, 7, 8, 9, 10, 11, 12, 13, 14, 15];
 
 // The big-endian bytes of 42.
 const SEED: [u8; 16] = [0, 0, 0, 0, 0, 0, 0, 0, 0, 0, 0, 0, 0, 0, 0, 42];
 
-#[test]
-fn a_seed_is_sixteen_big_endian_bytes(rt: HostRuntime) {
-    assert_eq!(rt;
-        DefaultHasher::seeded(&SEED).key(),
-        (0, 3026418949592973312)
-    );
+// A builder of a word.
+fn builder_of(alloc: Global, word: u64) -> Result<BuilderWithBits, FilterError> {
+    BloomFilter::from_vec(vec![in alloc; word; 1]?)
 }
 
-// A builder of the word 5.
-fn builder_of_five(alloc: Global) -> Result<BuilderWithBits, FilterError> {
-    BloomFilter::from_vec(vec![in alloc; 5; 1]?)
+// Whether the hash of no bytes under the counting key is this, also that of an item which writes
+// nothing, and turns on position 42 of 64 bits.
+fn first_vector_holds(alloc: Global) -> Result<bool, FilterError> {
+    let hash = RandomDefaultHasher::seeded(&COUNTING).finish();
+    let mut filter = builder_of(alloc, 0)?.hashes(1);
+    let stood = filter.insert_hash(hash);
+    let builder = builder_of(alloc, 0)?.hasher(DefaultHasher::seeded(&COUNTING));
+    let of_item = builder.hashes(1).source_hash(&Empty);
+    let is_known = (hash == 0xabac_0158_050f_c4dc) & (of_item == 0xabac_0158_050f_c4dc);
+    Ok(is_known & !stood & (filter.as_slice()[0] == 1 << 42))
 }
 
-#[test]
-fn a_seed_makes_the_hasher_of_its_bytes(rt: HostRuntime) -> Result<(), FilterError> {
-    let seeded = builder_of_five(rt.alloc())?.seed(&42).hashes(2);
-    let given = builder_of_five(rt.alloc())?.hasher(DefaultHasher::seeded(&SEED));
+// Whether a seed makes the hasher of its sixteen big-endian bytes.
+fn seed_is_its_bytes(alloc: Global) -> Result<bool, FilterError> {
+    let seeded = builder_of(alloc, 5)?.seed(&42).hashes(2);
+    let given = builder_of(alloc, 5)?.hasher(DefaultHasher::seeded(&SEED));
     let given = given.hashes(2);
-    assert_eq!(rt; seeded.source_hash(&"42"), given.source_hash(&"42"));
-    assert_eq!(rt; seeded.source_hash(&7u64), given.source_hash(&7u64));
-    Ok(())
+    let (k0, k1) = DefaultHasher::seeded(&SEED).key();
+    let has_key = (k0 == 0) & (k1 == 3026418949592973312);
+    let texts = seeded.source_hash(&"42") == given.source_hash(&"42");
+    Ok(has_key & texts & (seeded.source_hash(&7u64) == given.source_hash(&7u64)))
+}
+
+#[test]
+fn sixteen_bytes_make_the_key_of_a_hasher(rt: HostRuntime) {
+    assert!(rt; matches!(first_vector_holds(rt.alloc()), Ok(true)));
+    assert!(rt; matches!(seed_is_its_bytes(rt.alloc()), Ok(true)));
 }
 
 #[derive(PartialEq, Eq, Hash)]
@@ -128,55 +142,61 @@ enum Shape {
 #[derive(PartialEq, Eq, Hash)]
 struct Empty;
 
-// An item hashes to this under the zero key, and is found once it was inserted and not before.
-fn goes_in<T: Hash>(rt: &HostRuntime, item: &T, hash: u64) -> Result<bool, FilterError> {
-    let mut filter = BloomFilter::from_vec(vec![in rt.alloc(); 0; 4]?)?.hashes(3);
-    let is_new = !filter.contains(item) && !filter.insert(item);
-    Ok(filter.source_hash(item) == hash && is_new && filter.contains(item) && filter.insert(item))
+// Whether an item hashes to this under the zero key, and is found in a filter that was cleared once
+// it was inserted, and not before.
+fn goes_in<T: Hash>(filter: &mut BloomFilter, item: &T, hash: u64) -> bool {
+    filter.clear();
+    let found_before = filter.contains(item);
+    let stood_before = filter.insert(item);
+    let stands = filter.insert(item);
+    let is_new = !found_before & !stood_before;
+    (filter.source_hash(item) == hash) & is_new & stands & filter.contains(item)
 }
 
-// What Rust's own hasher (1.95) answers for the same items.
-#[test]
-fn numbers_and_texts_go_in(rt: HostRuntime) -> Result<(), FilterError> {
-    assert!(rt; goes_in(&rt, &42u64, 0x7b3e_724b_36eb_df51)?);
-    assert!(rt; goes_in(&rt, &-1i32, 0x52c4_0c88_74ca_d6e2)?);
-    assert!(rt; goes_in(&rt, &"42", 0x05ee_89d1_0068_c3d9)?);
-    assert!(rt; goes_in(&rt, &"🦀", 0x75e3_0e0e_d52f_68a3)?);
-    assert!(rt; goes_in(&rt, &(1u8, 2u16), 0x6b1c_fe27_4045_3cce)?);
-    Ok(())
+// A filter of 256 bits and 3 hashes, with nothing in it.
+fn empty_filter(alloc: Global) -> Result<BloomFilter, FilterError> {
+    Ok(BloomFilter::from_vec(vec![in alloc; 0; 4]?)?.hashes(3))
 }
 
-#[test]
-fn items_of_derived_types_go_in(rt: HostRuntime) -> Result<(), FilterError> {
-    assert!(rt; goes_in(&rt, &Point { x: 1, y: -2 }, 0x7764_59f8_d398_c60e)?);
-    assert!(rt; goes_in(&rt, &Shape::Dot, 0xbd60_acb6_58c7_9e45)?);
-    assert!(rt; goes_in(&rt, &Shape::Round(3), 0x23a5_d0f3_6a07_c6bc)?);
-    assert!(rt; goes_in(&rt, &Shape::Square { side: 9 }, 0xbde4_4376_9258_25d7)?);
-    assert!(rt; goes_in(&rt, &Empty, 0xd1fb_a762_150c_532c)?);
-    Ok(())
+// Which numbers and texts go in. What Rust's own hasher (1.95) answers for the same items.
+fn plain_items(filter: &mut BloomFilter) -> [bool; 5] {
+    [
+        goes_in(filter, &42u64, 0x7b3e_724b_36eb_df51),
+        goes_in(filter, &-1i32, 0x52c4_0c88_74ca_d6e2),
+        goes_in(filter, &"42", 0x05ee_89d1_0068_c3d9),
+        goes_in(filter, &"🦀", 0x75e3_0e0e_d52f_68a3),
+        goes_in(filter, &(1u8, 2u16), 0x6b1c_fe27_4045_3cce),
+    ]
 }
 
-// What Rust's own hasher answers after one write of these bytes.
-#[test]
-fn a_text_is_hashed_as_its_bytes_alone(rt: HostRuntime) -> Result<(), FilterError> {
-    assert!(rt;
+// Which items of derived types go in. What Rust's own hasher answers for the same items.
+fn derived_items(filter: &mut BloomFilter) -> [bool; 5] {
+    [
+        goes_in(filter, &Point { x: 1, y: -2 }, 0x7764_59f8_d398_c60e),
+        goes_in(filter, &Shape::Dot, 0xbd60_acb6_58c7_9e45),
+        goes_in(filter, &Shape::Round(3), 0x23a5_d0f3_6a07_c6bc),
+        goes_in(filter, &Shape::Square { side: 9 }, 0xbde4_4376_9258_25d7),
+        goes_in(filter, &Empty, 0xd1fb_a762_150c_532c),
+    ]
+}
+
+// Which texts go in as their bytes alone. What Rust's own hasher answers after one write of them.
+fn texts(filter: &mut BloomFilter) -> [bool; 3] {
+    [
         goes_in(
-            &rt,
+            filter,
             &Text([1, 2, 3, 4, 5].as_slice()),
-            0xde68_2ee7_0fbe_bc3f
-        )?
-    );
-    assert!(rt; goes_in(&rt, &Text([7].as_slice()), 0xfff3_eb0c_7071_97bf)?);
-    assert!(rt; goes_in(&rt, &Text([].as_slice()), 0xd1fb_a762_150c_532c)?);
-    Ok(())
+            0xde68_2ee7_0fbe_bc3f,
+        ),
+        goes_in(filter, &Text([7].as_slice()), 0xfff3_eb0c_7071_97bf),
+        goes_in(filter, &Text([].as_slice()), 0xd1fb_a762_150c_532c),
+    ]
 }
 
-// An item that writes nothing has the hash of no bytes, under the key bytes 0 to 15.
 #[test]
-fn an_item_of_nothing_has_the_hash_of_no_bytes(rt: HostRuntime) -> Result<(), FilterError> {
-    let key = [0, 1, 2, 3, 4, 5, 6, 7, 8, 9, 10, 11, 12, 13, 14, 15];
-    let builder = BloomFilter::from_vec(vec![in rt.alloc(); 0; 1]?)?;
-    let filter = builder.hasher(DefaultHasher::seeded(&key)).hashes(1);
-    assert_eq!(rt; filter.source_hash(&Empty), 0xabac_0158_050f_c4dc);
-    Ok(())
+fn items_of_all_types_go_in_by_their_hash(rt: HostRuntime) {
+    let mut filter = empty_filter(rt.alloc()).expect(&rt, "memory");
+    assert!(rt; plain_items(&mut filter) == [true; 5]);
+    assert!(rt; derived_items(&mut filter) == [true; 5]);
+    assert!(rt; texts(&mut filter) == [true; 3]);
 }

@@ -7,7 +7,6 @@ ghost use Rattle.fastbloom.specs.SourceHash.{source_hash_of};
 use fastbloom::{BloomFilter, BuilderWithBits, FilterError, Rate};
 use std::alloc::Global;
 use std::hash::{BuildHasher, Hash, Hasher};
-use std::test::Fail;
 
 // The items of a slice, in order: what `items` says of any iterator tells its callers this.
 fn fill_by_slice<S: BuildHasher, T: Hash>(
@@ -20,31 +19,28 @@ fn fill_by_slice<S: BuildHasher, T: Hash>(
     builder.items(items)
 }
 
-#[test]
-fn the_first_item_of_a_built_filter_is_new(rt: HostRuntime) -> Result<(), Fail> {
-    let mut filter = BloomFilter::with_num_bits(rt.alloc(), 1202)?.expected_items(4);
-    assert_eq!(rt; filter.num_bits(), 1216);
-    assert!(rt; !filter.insert(&5));
-    Ok(())
-}
-
 // Two texts, the second of which has four bytes in one character.
 const TEXTS: [&str; 2] = ["42", "🦀"];
 
-#[test]
-fn items_size_a_filter_by_rate_and_go_in(rt: HostRuntime) -> Result<(), Fail> {
-    let filter = BloomFilter::with_false_pos(Rate::new(1, 1000)?).items(rt.alloc(), &TEXTS)?;
-    assert_eq!(rt; (filter.num_bits(), filter.num_hashes()), (64, 22));
-    assert!(rt; filter.contains(&"42") && filter.contains(&"🦀"));
-    Ok(())
+// Whether a filter is sized for these texts, and contains them.
+fn is_of_texts(filter: &BloomFilter) -> bool {
+    let has_shape = (filter.num_bits() == 64) & (filter.num_hashes() == 22);
+    has_shape & filter.contains(&"42") & filter.contains(&"🦀")
 }
 
-#[test]
-fn items_size_a_filter_of_bits_and_go_in(rt: HostRuntime) -> Result<(), Fail> {
-    let filter = fill_by_slice(BloomFilter::with_num_bits(rt.alloc(), 64)?, &TEXTS);
-    assert_eq!(rt; (filter.num_bits(), filter.num_hashes()), (64, 22));
-    assert!(rt; filter.contains(&"42") && filter.contains(&"🦀"));
-    Ok(())
+// Whether the items size a filter by rate, and go in.
+fn rate_takes_items(alloc: Global) -> Result<bool, FilterError> {
+    let filter = BloomFilter::with_false_pos(Rate::new(1, 1000)?).items(alloc, &TEXTS)?;
+    Ok(is_of_texts(&filter))
+}
+
+// Whether the items size a filter of bits, and go in, and the first item of a filter that was
+// sized for more is new.
+fn bits_take_items(alloc: Global) -> Result<bool, FilterError> {
+    let filter = fill_by_slice(BloomFilter::with_num_bits(alloc, 64)?, &TEXTS);
+    let mut sized = BloomFilter::with_num_bits(alloc, 1202)?.expected_items(4);
+    let is_new = !sized.insert(&5);
+    Ok(is_of_texts(&filter) & is_new & (sized.num_bits() == 1216))
 }
 
 // A filter made of another's words and number of hashes, under this seed.
@@ -61,13 +57,18 @@ fn built_again(
     )
 }
 
-#[test]
-fn a_filter_of_items_is_built_again_from_its_words(rt: HostRuntime) -> Result<(), Fail> {
+// Whether a filter of items is built again from its words.
+fn words_build_again(alloc: Global) -> Result<bool, FilterError> {
     let builder = BloomFilter::with_false_pos(Rate::new(1, 1000)?).seed(&42);
-    let filter = builder.items(rt.alloc(), &[1, 2])?;
-    let again = built_again(rt.alloc(), &filter, &42)?;
-    assert!(rt; again == filter);
-    assert!(rt; filter.contains(&1) && filter.contains(&2));
-    assert!(rt; again.contains(&1) && again.contains(&2));
-    Ok(())
+    let filter = builder.items(alloc, &[1, 2])?;
+    let again = built_again(alloc, &filter, &42)?;
+    let finds = filter.contains(&1) & filter.contains(&2);
+    Ok((again == filter) & finds & again.contains(&1) & again.contains(&2))
+}
+
+#[test]
+fn items_size_a_filter_and_go_in_and_stay_in_its_words(rt: HostRuntime) {
+    assert!(rt; matches!(rate_takes_items(rt.alloc()), Ok(true)));
+    assert!(rt; matches!(bits_take_items(rt.alloc()), Ok(true)));
+    assert!(rt; matches!(words_build_again(rt.alloc()), Ok(true)));
 }

@@ -10,11 +10,11 @@ mod hashing;
 #[cfg(test)]
 mod items;
 #[cfg(test)]
-mod lanes;
-#[cfg(test)]
 mod lists;
 #[cfg(test)]
 mod overstated;
+#[cfg(test)]
+mod sets;
 #[cfg(test)]
 mod sizing;
 #[cfg(test)]

@@ -5,7 +5,6 @@ ghost use Rattle.std.specs.Iterator.{at_most};
 use fastbloom::{AtomicBloomFilter, BloomFilter, FilterError, Rate};
 use std::alloc::Global;
 use std::cell::Cell;
-use std::test::Fail;
 
 // Says that it has more items than come, and counts those that are taken.
 #[derive(Drop)]
@@ -59,45 +58,51 @@ fn filter_of_three(alloc: Global) -> Result<BloomFilter, FilterError> {
     Ok(filter)
 }
 
-// The number of items that an iterator says sizes the filter, and those that come go in.
-#[test]
-fn what_an_iterator_says_sizes_alone(rt: HostRuntime) -> Result<(), Fail> {
+// Whether the number of items that an iterator says sizes the filter, and those that come go in.
+fn sizes_plain(alloc: Global) -> Result<bool, FilterError> {
     let taken = Cell::new(0);
-    let builder = BloomFilter::with_num_bits(rt.alloc(), 64)?;
+    let builder = BloomFilter::with_num_bits(alloc, 64)?;
     let filter = builder.items(three_of(500, &taken));
-    assert_eq!(rt; filter.num_hashes(), 1);
-    assert!(rt; filter == filter_of_three(rt.alloc())?);
-    assert_eq!(rt; taken.get(), 3);
-    Ok(())
+    let has_items = filter == filter_of_three(alloc)?;
+    Ok((filter.num_hashes() == 1) & has_items & (taken.get() == 3))
 }
 
-#[test]
-fn what_an_iterator_says_sizes_a_shared_filter_alone(rt: HostRuntime) -> Result<(), Fail> {
+// The same of a filter that threads share.
+fn sizes_shared(alloc: Global) -> Result<bool, FilterError> {
     let taken = Cell::new(0);
-    let builder = AtomicBloomFilter::with_num_bits(rt.alloc(), 64)?;
-    let filter = builder.items(rt.alloc(), three_of(500, &taken))?;
-    assert_eq!(rt; filter.num_hashes(), 1);
-    assert!(rt; filter.iter().eq(filter_of_three(rt.alloc())?.iter()));
-    assert_eq!(rt; taken.get(), 3);
-    Ok(())
+    let builder = AtomicBloomFilter::with_num_bits(alloc, 64)?;
+    let filter = builder.items(alloc, three_of(500, &taken))?;
+    let has_items = filter.iter().eq(filter_of_three(alloc)?.iter());
+    Ok((filter.num_hashes() == 1) & has_items & (taken.get() == 3))
 }
 
-#[test]
-fn a_refused_size_takes_no_item(rt: HostRuntime) -> Result<(), Fail> {
+// Whether a size that is refused takes no item.
+fn refuses_plain(alloc: Global, half: Rate) -> bool {
     let taken = Cell::new(0);
     let items = three_of(18446744073709551615, &taken);
-    let filter = BloomFilter::with_false_pos(Rate::new(1, 2)?).items(rt.alloc(), items);
-    assert!(rt; filter == Err(FilterError::SizeOverflow));
-    assert_eq!(rt; taken.get(), 0);
-    Ok(())
+    let refused = BloomFilter::with_false_pos(half).items(alloc, items).err();
+    (refused == Some(FilterError::SizeOverflow)) & (taken.get() == 0)
+}
+
+// The same of a filter that threads share.
+fn refuses_shared(alloc: Global, half: Rate) -> bool {
+    let taken = Cell::new(0);
+    let items = three_of(18446744073709551615, &taken);
+    let refused = AtomicBloomFilter::with_false_pos(half)
+        .items(alloc, items)
+        .err();
+    (refused == Some(FilterError::SizeOverflow)) & (taken.get() == 0)
 }
 
 #[test]
-fn a_refused_size_of_a_shared_filter_takes_no_item(rt: HostRuntime) -> Result<(), Fail> {
-    let taken = Cell::new(0);
-    let items = three_of(18446744073709551615, &taken);
-    let filter = AtomicBloomFilter::with_false_pos(Rate::new(1, 2)?).items(rt.alloc(), items);
-    assert!(rt; filter.err() == Some(FilterError::SizeOverflow));
-    assert_eq!(rt; taken.get(), 0);
-    Ok(())
+fn what_an_iterator_says_sizes_alone(rt: HostRuntime) {
+    assert!(rt; matches!(sizes_plain(rt.alloc()), Ok(true)));
+    assert!(rt; matches!(sizes_shared(rt.alloc()), Ok(true)));
+}
+
+#[test]
+fn a_refused_size_takes_no_item(rt: HostRuntime) {
+    let half = Rate::new(1, 2).expect(&rt, "neither part is zero");
+    assert!(rt; refuses_plain(rt.alloc(), half));
+    assert!(rt; refuses_shared(rt.alloc(), half));
 }

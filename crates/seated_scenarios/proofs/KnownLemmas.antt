@@ -18,10 +18,6 @@ insert-keeps : (f : SeatedFilter) (old new : Sight) (hash other : ℕ) (answer :
 insert-keeps f old new hash other answer did known p is =
     did.known p ∙ or_left (known_of old p) (positions_of f hash p) (known p is)
 
--- none of no hashes
-pub known-none : (f : SeatedFilter) (pass : Sight) → KnowsAll f pass []
-known-none f pass hash there = let below : there.0 < 0 = there.1 in absurd (omega arith)
-
 -- the next hash is inserted
 pub known-next : (f : SeatedFilter) (old new : Sight) (hashes : List ℕ) (i hash : ℕ)
     (answer : Bool) → i < length hashes → hash ≡ get_or hashes i 0

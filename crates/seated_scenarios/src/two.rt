@@ -1,6 +1,6 @@
 //! Two threads that share a filter: after both were joined and their passes met, what either
 //! inserted is found.
-ghost use Rattle.std.specs.Prelude.{◌≡◌, ◌⊎◌, ◌^◌, ◌<◌, ◌≤◌, Contains, IfOk, IfSome, true};
+ghost use Rattle.std.specs.Prelude.{◌≡◌, ◌⊎◌, Contains, IfOk, IfSome, true};
 ghost use Rattle.std.specs.Arc.{arc_value};
 ghost use Rattle.seated_scenarios.specs.Known.{KnowsAll};
 

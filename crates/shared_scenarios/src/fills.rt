@@ -2,110 +2,97 @@
 
 mod gates;
 
-use crate::threads::inserts::spread;
-use fastbloom::{BloomFilter, FilterError, Gate, Shape, fill};
-use gates::{Counting, Meeting, Open};
+use crate::filters::spread;
+use fastbloom::{BloomFilter, FilterError, Shape, fill};
+use gates::{Open, Watching};
 use std::alloc::{AllocError, Global};
 use std::sync::Arc;
 use std::sync::atomic::{AtomicU64, Ordering};
 use std::test::Fail;
 use std::thread::Threads;
 
-// The parts of the first worked case: hash 1, then hashes 0 and 1, then none.
-fn three_parts(alloc: Global) -> Result<Vec<Vec<u64>>, AllocError> {
-    Ok(vec![in alloc;
-        vec![in alloc; 1u64]?,
-        vec![in alloc; 0u64, 1]?,
-        Vec::new(alloc),
-    ]?)
+// Parts of hashes, and the word that they make in a filter of 64 bits and 3 hashes: hash 1, then
+// hashes 0 and 1, then none; no part at all; and the same hashes, cut in two further ways.
+const CUTS: [(&[&[u64]], u64); 4] = [
+    (&THREE, 4296015873),
+    (&[], 0),
+    (&[&[1], &[0]], 4296015873),
+    (&[&[], &[0, 1]], 4296015873),
+];
+
+const THREE: [&[u64]; 3] = [&[1], &[0, 1], &[]];
+
+// The parts as vectors.
+fn parts_of(alloc: Global, cut: &[&[u64]]) -> Result<Vec<Vec<u64>>, AllocError> {
+    let mut parts = Vec::new(alloc);
+    for part in cut {
+        parts.push(part.to_vec(alloc)?)?;
+    }
+    Ok(parts)
 }
 
 // One filter of 64 bits and 3 hashes, filled by a worker for each part.
-fn fill_word<R: Threads>(rt: &R, alloc: Global, parts: Vec<Vec<u64>>) -> Result<BloomFilter, Fail> {
+fn fill_word<R: Threads>(rt: &R, alloc: Global, cut: &[&[u64]]) -> Result<BloomFilter, Fail> {
     let shape = Shape::new(64, 3)?;
+    let parts = parts_of(alloc, cut)?;
     Ok(fill(rt, alloc, Arc::new(alloc, Open)?, shape, parts)?)
 }
 
-#[test]
-fn three_parts_fill_one_word(rt: HostRuntime) -> Result<(), Fail> {
-    let filter = fill_word(&rt, rt.alloc(), three_parts(rt.alloc())?)?;
-    assert_eq!(rt; filter.as_slice(), [4296015873].as_slice());
-    assert_eq!(rt; (filter.num_bits(), filter.num_hashes()), (64, 3));
-    Ok(())
+// Whether a filter has this shape, and this one word.
+fn is_word(filter: &BloomFilter, shape: (usize, u32), word: u64) -> bool {
+    (filter.num_bits(), filter.num_hashes()) == shape && filter.iter().eq([word])
 }
 
 #[test]
-fn no_part_leaves_the_filter_empty(rt: HostRuntime) -> Result<(), Fail> {
-    let filter = fill_word(&rt, rt.alloc(), Vec::new(rt.alloc()))?;
-    assert_eq!(rt; filter.as_slice(), [0].as_slice());
+fn parts_fill_a_filter_however_they_are_cut(rt: HostRuntime) -> Result<(), Fail> {
+    for (cut, word) in CUTS {
+        let filter = fill_word(&rt, rt.alloc(), cut)?;
+        assert!(rt; is_word(&filter, (64, 3), word), "{cut:?}");
+    }
+    let apart = fill_word(&rt, rt.alloc(), &[&[1], &[0]])?;
+    assert!(rt; apart == fill_word(&rt, rt.alloc(), &[&[], &[0, 1]])?);
     Ok(())
 }
 
+// No bits, and more bits than words can hold, are refused as by a builder. One bit and no hashes
+// have 64 bits and one hash.
 #[test]
-fn another_cutting_gives_an_equal_filter(rt: HostRuntime) -> Result<(), Fail> {
-    let alloc = rt.alloc();
-    let apart = vec![in alloc; vec![in alloc; 1u64]?, vec![in alloc; 0u64]?]?;
-    let together = vec![in alloc; Vec::new(alloc), vec![in alloc; 0u64, 1]?]?;
-    assert!(rt; fill_word(&rt, alloc, apart)? == fill_word(&rt, alloc, together)?);
-    Ok(())
-}
-
-#[test]
-fn shapes_refuse_what_builders_refuse(rt: HostRuntime) -> Result<(), Fail> {
-    assert_eq!(rt; Shape::new(0, 1).err(), Some(FilterError::ZeroBits));
-    assert_eq!(rt;
-        Shape::new(usize::MAX, 1).err(),
-        Some(FilterError::TooManyWords)
-    );
-    Ok(())
-}
-
-#[test]
-fn a_shape_of_one_bit_and_no_hashes_has_64_bits_and_one_hash(rt: HostRuntime) -> Result<(), Fail> {
-    let alloc = rt.alloc();
-    let shape = Shape::new(1, 0)?;
-    let filter = fill(&rt, alloc, Arc::new(alloc, Open)?, shape, Vec::new(alloc))?;
-    assert_eq!(rt; (filter.num_bits(), filter.num_hashes()), (64, 1));
-    Ok(())
-}
-
-#[test]
-fn each_worker_passes_the_gate_once_by_its_number(rt: HostRuntime) -> Result<(), Fail> {
-    let alloc = rt.alloc();
-    let counting = Counting {
-        passes: AtomicU64::new(0),
-        numbers: AtomicU64::new(0),
-    };
-    let gate = Arc::new(alloc, counting)?;
-    let passed = Arc::try_clone(&gate)?;
-    fill(&rt, alloc, gate, Shape::new(64, 3)?, three_parts(alloc)?)?;
-    assert_eq!(rt; passed.passes.load(Ordering::SeqCst), 3);
-    assert_eq!(rt; passed.numbers.load(Ordering::SeqCst), 7);
+fn shapes_are_rounded_and_refused_as_by_builders(rt: HostRuntime) -> Result<(), Fail> {
+    for (bits, refused) in [
+        (0, FilterError::ZeroBits),
+        (usize::MAX, FilterError::TooManyWords),
+    ] {
+        assert!(rt; Shape::new(bits, 1).err() == Some(refused), "{bits} bits");
+    }
+    let gate = Arc::new(rt.alloc(), Open)?;
+    let filter = fill(
+        &rt,
+        rt.alloc(),
+        gate,
+        Shape::new(1, 0)?,
+        Vec::new(rt.alloc()),
+    )?;
+    assert!(rt; is_word(&filter, (64, 1), 0));
     Ok(())
 }
 
 // Two workers can meet only while both run.
 #[test]
-fn fill_runs_at_once(rt: HostRuntime) -> Result<(), Fail> {
-    let alloc = rt.alloc();
-    let meeting = Meeting {
-        first: AtomicU64::new(0),
-        second: AtomicU64::new(0),
-        met: AtomicU64::new(0),
-    };
-    let gate = Arc::new(alloc, meeting)?;
+fn each_worker_passes_the_gate_once_while_others_run(rt: HostRuntime) -> Result<(), Fail> {
+    let gate = Arc::new(rt.alloc(), Watching::new())?;
     let seen = Arc::try_clone(&gate)?;
-    let filter = fill(&rt, alloc, gate, Shape::new(64, 3)?, three_parts(alloc)?)?;
-    assert_eq!(rt; filter.as_slice(), [4296015873].as_slice());
-    assert_eq!(rt; seen.met.load(Ordering::SeqCst), 2);
+    let parts = parts_of(rt.alloc(), &THREE)?;
+    let filter = fill(&rt, rt.alloc(), gate, Shape::new(64, 3)?, parts)?;
+    assert!(rt; is_word(&filter, (64, 3), 4296015873));
+    assert!(rt; seen.counts() == (3, 7, 2));
     Ok(())
 }
 
 // The hashes of part `part` of a hundred, a thousand each.
-fn thousand(alloc: Global, part: u32) -> Result<Vec<u64>, Fail> {
+fn thousand(alloc: Global, part: u64) -> Result<Vec<u64>, Fail> {
     let mut hashes = Vec::new(alloc);
-    for i in 0..1000 {
-        hashes.push(spread(1000 * part as u64 + i))?;
+    for i in 0..1000u64 {
+        hashes.push(spread(part.wrapping_mul(1000).wrapping_add(i)))?;
     }
     Ok(hashes)
 }

@@ -1,10 +1,13 @@
-//! Tests of the filters that threads share or fill: what no contract says, at values from outside.
+//! Tests of the filters that threads share, fill or send as data: what no contract says, at values
+//! from outside.
 #![tactic(auto)]
 
 #[cfg(test)]
 mod builders;
 #[cfg(test)]
 mod by_hash;
+#[cfg(test)]
+mod data;
 #[cfg(test)]
 mod fills;
 #[cfg(test)]
@@ -13,5 +16,7 @@ mod filters;
 mod items;
 #[cfg(test)]
 mod original;
+#[cfg(test)]
+mod seated;
 #[cfg(test)]
 mod threads;

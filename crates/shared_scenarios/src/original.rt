@@ -23,7 +23,11 @@ fn answers(filter: &AtomicBloomFilter, line: &Line) -> bool {
 fn answers_all(alloc: Global, session: &Session) -> Result<bool, FilterError> {
     let zeros = vec![in alloc; 0u64; session.words]?;
     let filter = AtomicBloomFilter::from_vec(zeros)?.hashes(alloc, session.hashes)?;
-    Ok(session.lines.iter().all(|line| answers(&filter, line)))
+    let mut all = true;
+    for line in session.lines {
+        all &= answers(&filter, line);
+    }
+    Ok(all)
 }
 
 #[test]

@@ -1,20 +1,32 @@
 //! Threads that share a filter. Each is started with an `Arc` of it, and joined.
 ghost use Rattle.std.specs.Prelude.{⊤};
 
-pub(crate) mod inserts;
+mod inserts;
 mod storms;
 mod takes;
+mod tasks;
 mod turns;
 
-use crate::filters::filter_of;
 use fastbloom::AtomicBloomFilter;
 use std::alloc::Global;
 use std::sync::Arc;
+use std::sync::atomic::AtomicU64;
 use std::test::Fail;
 use std::thread;
 use std::thread::{Promise, PromisedHandle, Threads};
+use tasks::{Task, work};
 
-type Shared = Arc<AtomicBloomFilter, Global>;
+// A filter that threads share, and how many stand at the line where so many threads wait for each
+// other, so that their calls overlap.
+#[derive(Drop)]
+struct Scene {
+    alloc: Global,
+    filter: AtomicBloomFilter,
+    line: AtomicU64,
+    threads: u64,
+}
+
+type Shared = Arc<Scene, Global>;
 
 // What a thread promises of the number that it counts: nothing.
 #[derive(Clone, Copy)]
@@ -26,15 +38,27 @@ impl Promise<u64> for Anything {
 
 type Child = PromisedHandle<u64, Anything>;
 
-// What a thread does with the filter that it shares, and what it counts.
-trait Work: Drop + Send + 'static {
-    fn work(&self, filter: &AtomicBloomFilter) -> u64;
+// A filter in an `Arc`, for so many threads that wait for each other.
+fn share(alloc: Global, filter: AtomicBloomFilter, threads: u64) -> Result<Shared, Fail> {
+    let scene = Scene {
+        alloc,
+        filter,
+        line: AtomicU64::new(0),
+        threads,
+    };
+    Ok(Arc::new(alloc, scene)?)
 }
 
-// Starts a thread that shares the filter.
-fn start<R: Threads, W: Work>(rt: &R, filter: &Shared, work: W) -> Result<Child, Fail> {
-    let shared = Arc::try_clone(filter)?;
-    Ok(thread::spawn_with(rt, Anything, move || work.work(&shared))?)
+// Starts a thread for each of the tasks.
+fn start<R: Threads>(rt: &R, shared: &Shared, tasks: &[Task]) -> Result<Vec<Child>, Fail> {
+    let mut children = Vec::new(shared.alloc);
+    for task in tasks {
+        let scene = Arc::try_clone(shared)?;
+        let task = *task;
+        let child = thread::spawn_with(rt, Anything, move || work(&scene, task))?;
+        children.push(child)?;
+    }
+    Ok(children)
 }
 
 // Waits for every thread, and adds up what they counted.
@@ -44,9 +68,4 @@ fn join_all<R: Threads>(rt: &R, children: Vec<Child>) -> u64 {
         sum = sum.saturating_add(child.join(rt));
     }
     sum
-}
-
-// A filter of these words in an `Arc`.
-fn share(alloc: Global, words: &[u64], num_hashes: u32) -> Result<Shared, Fail> {
-    Ok(Arc::new(alloc, filter_of(alloc, words, num_hashes)?)?)
 }

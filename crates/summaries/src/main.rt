@@ -3,8 +3,6 @@
 
 mod command_line;
 mod form;
-#[cfg(test)]
-mod tests;
 
 use anyhow::{Context, bail};
 use clap::ArgMatches;
@@ -16,7 +14,7 @@ use std::io::{BufWriter, Write};
 use std::process::ExitCode;
 use std::rt::{Env, Files};
 use std::thread::Threads;
-use summaries_engine::{Shelf, ask, build, unite_named};
+use summaries_engine::{Shelf, ask, build, put, unite_named};
 
 fn run_build<R: Input + Print + AllocGlobal + Threads>(
     rt: &R,
@@ -30,13 +28,13 @@ fn run_build<R: Input + Print + AllocGlobal + Threads>(
     let shape = Shape::new(bits as usize, hashes)?;
     let workers = usize::from(workers.max(1));
     let filter = build(rt, rt.alloc(), shape, workers, &mut rt.reader())?;
-    form::put(rt.alloc(), &filter, &mut std::io::writer(rt))
+    put(rt.alloc(), &filter, &mut std::io::writer(rt))
 }
 
 fn run_unite<R: Files + Print + AllocGlobal>(rt: &R, matches: &ArgMatches) -> anyhow::Result<()> {
     let names = matches.get_strs(FILTER).context("which filters?")?;
     let filter = unite_named(&Disk { rt }, names)?;
-    form::put(rt.alloc(), &filter, &mut std::io::writer(rt))
+    put(rt.alloc(), &filter, &mut std::io::writer(rt))
 }
 
 fn run_ask<R: Files + Input + Print + AllocGlobal>(

@@ -1,5 +1,5 @@
 -- Keys read one after the other, with what was made of them so far.
-use Rattle.std.proofs.Common.{◌≡◌, ℕ, ◌+◌, Bool, true, false, List, [], ◌∷◌, ◌++◌, if◌then◌else◌, map, filter, flat_map, length, length-append, Ok, Option, refl, sym, subst, ◌∙◌, ap, append-nil, arith}
+use Rattle.std.proofs.Common.{◌≡◌, ℕ, ◌+◌, Bool, true, false, List, [], ◌∷◌, ◌++◌, if◌then◌else◌, map, filter, flat_map, length, length-append, Ok, Option, refl, sym, subst, ◌∙◌, ap, arith}
 use Rattle.std.proofs.lemmas.List.{map-append}
 use Rattle.std.proofs.lemmas.Grind.{flat_map-append}
 use Rattle.std.proofs.lemmas.List.Elements.{filter-append}
@@ -98,16 +98,6 @@ found_text-more f keys key =
     let line : List ℕ → List ℕ = λ k. k ++ 10 ∷ [] in
     ap (flat_map line) (filter-append is_found keys (key ∷ []))
     ∙ flat_map-append line (filter is_found keys) (filter is_found (key ∷ []))
-
--- a key that is found is written with an end
-pub found_text-found : (f : DefaultFilter) (key : List ℕ) → contains f (hash_in f key) ≡ true
-    → found_text f (key ∷ []) ≡ key ++ 10 ∷ []
-found_text-found f key found = rw found (append-nil (key ++ 10 ∷ []))
-
--- one that isn't writes nothing
-pub found_text-lost : (f : DefaultFilter) (key : List ℕ) → contains f (hash_in f key) ≡ false
-    → found_text f (key ∷ []) ≡ []
-found_text-lost f key lost = rw lost refl
 
 -- the keys so far were answered
 pub record IsAnswering (f : DefaultFilter) (read : Option (List ℕ)) (reader : Waiting)

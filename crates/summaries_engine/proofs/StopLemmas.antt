@@ -1,10 +1,10 @@
 -- Keys that weren't taken to their end.
 use Rattle.std.proofs.Common.{◌≡◌, inl, inr, ℕ, ◌-◌, ◌^◌, codes, List, [], length, Ok, Option, Some, None, refl, sym, subst, ◌∙◌}
-use Rattle.std.specs.Prelude.{Err, IfErr, IfSome, IsErrAnd, Result}
+use Rattle.std.specs.Prelude.{Err, IfErr, IsErrAnd, Result}
 use Rattle.anyhow.specs.declared.error.Error.{Error}
 use Rattle.fastbloom.specs.Data.{DefaultFilter}
 use Rattle.lines.specs.Lines.{lines_of}
-use Rattle.lines.specs.Reading.{Waiting, BeginsLong, IsReadFrom, left_of}
+use Rattle.lines.specs.Reading.{Waiting, TakesLong, IsReadFrom, left_of}
 use Rattle.lines.proofs.TakenLemmas.{TakesLines, IsReadFrom-taken, IsReadToLong-from}
 use Rattle.summaries_engine.specs.Refusals.{too_long_text}
 use Rattle.summaries_engine.specs.Stops.{IsReasonAfter, Says, SaysOver, StopsAsking, StopsHashing}
@@ -40,11 +40,11 @@ pub why-read : (read mid : Option (List ℕ)) (number : ℕ) (said : Error)
 why-read read mid number said says = λ keys counted taken. inr (inl says)
 
 -- the next key is too long
-pub why-long : (longest : ℕ) (read mid : Option (List ℕ)) (number : ℕ) (said : Error)
-    → longest ≡ 65536 → IfSome mid (BeginsLong longest) → Says (too_long_text number) said
+pub why-long : (longest : ℕ) (read mid left : Option (List ℕ)) (number : ℕ) (said : Error)
+    → longest ≡ 65536 → TakesLong longest mid left → Says (too_long_text number) said
     → Why read mid number said
-why-long longest read mid number said is long says = λ keys counted taken. inr (inr (inl (
-  IsReadToLong-from 65536 read mid keys taken (subst (λ n. IfSome mid (BeginsLong n)) is long),
+why-long longest read mid left number said is long says = λ keys counted taken. inr (inr (inl (
+  IsReadToLong-from 65536 read mid left keys taken (subst (λ n. TakesLong n mid left) is long),
   subst (λ n. Says (too_long_text n) said) counted says,
 )))
 

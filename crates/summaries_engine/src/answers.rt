@@ -1,5 +1,5 @@
 //! Which keys of a reader a filter contains.
-ghost use Rattle.std.specs.Prelude.{◌≡◌, ◌++◌, ◌∷◌, [], codes, true, IfErr, OnOk};
+ghost use Rattle.std.specs.Prelude.{◌++◌, ◌∷◌, [], codes, IfErr, OnOk};
 ghost use Rattle.std.specs.Io.KnownBytes.{Appends};
 ghost use Rattle.summaries_engine.specs.Answers.{IsKeyed, AnswersAll, found_text};
 ghost use Rattle.summaries_engine.specs.Stops.{SaysOver, StopsAsking};

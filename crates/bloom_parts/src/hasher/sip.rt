@@ -1,5 +1,5 @@
 //! The hasher of SipHash-1-3.
-ghost use Rattle.std.specs.Prelude.{◌≡◌, ℕ, ◌%◌, ◌∷◌, ◌++◌, [], length, ◌≤◌, ◌+◌};
+ghost use Rattle.std.specs.Prelude.{◌≡◌, ◌%◌, ◌++◌, [], length, ◌≤◌, ◌+◌};
 ghost use Rattle.std.specs.List.{concat};
 ghost use Rattle.std.specs.Int.{w64, from_le_bytes};
 ghost use Rattle.bloom_parts.specs.Buffers.{AreBytes, IsPadded, held_in};
@@ -27,7 +27,6 @@ pub struct RandomDefaultHasher {
 }
 
 impl Model for RandomDefaultHasher {
-    ghost use Rattle.std.specs.Prelude.{◌<◌};
     ghost use Rattle.std.proofs.Common.{ap, sym};
     ghost use Rattle.bloom_parts.specs.Hashed.{SipState};
     ghost use Rattle.bloom_parts.specs.Buffers.{padded, held_in, IsKept};

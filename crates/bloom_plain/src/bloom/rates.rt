@@ -1,5 +1,5 @@
 //! The rate of false positives that is expected of a filter.
-ghost use Rattle.std.specs.Prelude.{◌≡◌, ◌+◌, ◌*◌, ◌<◌, ◌≤◌};
+ghost use Rattle.std.specs.Prelude.{◌≡◌, ◌*◌, ◌<◌, ◌≤◌};
 ghost use Rattle.bloom_plain.specs.Filter.{num_bits_of};
 ghost use Rattle.bloom_parts.specs.Brackets.{low_of, high_of, width_of, HoldsRate, rate_low, rate_high};
 

@@ -11,10 +11,8 @@ ghost use Rattle.bloom_plain.specs.SourceHash.{source_hash_of};
 
 use crate::bloom::BloomFilter;
 use arrayvec::ArrayVec;
+use bloom_parts::slices::{GROUP, MANY_WORDS};
 use std::hash::{BuildHasher, Hash};
-
-// From this many words on, which are four mebibytes, a filter is taken to be larger than a cache.
-const MANY_WORDS: usize = 1 << 19;
 
 impl<S> BloomFilter<S> {
     // Whether the filter is larger than a cache.
@@ -56,7 +54,7 @@ impl<S> BloomFilter<S> {
 
     // Lets a hash wait, and inserts all that wait where they are sixteen.
     #[inline(always)]
-    fn insert_later(&mut self, waiting: &mut ArrayVec<u64, 16>, hash: u64)
+    fn insert_later(&mut self, waiting: &mut ArrayVec<u64, GROUP>, hash: u64)
         requires { array_vec_len waiting.old < 16 }
         ensures queues { Queues self.old waiting.old.items hash self.new waiting.new.items }
         ensures room { array_vec_len waiting.new < 16 }
@@ -82,7 +80,7 @@ impl<S: BuildHasher> BloomFilter<S> {
             InsertsItems (source_hash_of S.BuildHasher S.Hasher.Hasher T.hash_input)
             self.old run.items self.new) }
     {
-        let mut waiting = ArrayVec::<u64, 16>::new();
+        let mut waiting = ArrayVec::<u64, GROUP>::new();
         'given: for item in iter {
             let hash = self.source_hash(&item);
             self.insert_later(&mut waiting, hash);
@@ -95,7 +93,7 @@ impl<S: BuildHasher> BloomFilter<S> {
 fn insert_hashes_together<S>(filter: &mut BloomFilter<S>, hashes: &[u64])
     ensures { InsertsAll filter.old hashes.now filter.new }
 {
-    let mut waiting = ArrayVec::<u64, 16>::new();
+    let mut waiting = ArrayVec::<u64, GROUP>::new();
     'hashes: for hash in hashes {
         filter.insert_later(&mut waiting, *hash);
     }

@@ -80,12 +80,3 @@ views-next old mid new word found table told before =
             (ap (λ l. content l p) before.same.start ∙ begun))))
       ];
     }
-
--- no word was looked at yet
-pub views-begin : (old : Sight) → Views 0 old old
-views-begin old = record {
-  same = record { filter = refl; start = refl };
-  gained = refl;
-  kept = λ p is. is;
-  shown = λ p below begun. absurd (omega arith);
-}

@@ -1,5 +1,5 @@
 //! What step of a call comes next.
-ghost use Rattle.std.specs.Prelude.{◌≡◌, ◌+◌, ◌-◌, ◌*◌, ◌^◌, ◌<◌, ◌≤◌, false};
+ghost use Rattle.std.specs.Prelude.{◌≡◌, ◌+◌, ◌*◌, ◌^◌, ◌<◌, ◌≤◌, false};
 ghost use Rattle.bloom_parts.specs.Content.{bit_is_on};
 ghost use Rattle.bloom_steps.specs.Plans.{hash_of, most_steps, plan_of};
 

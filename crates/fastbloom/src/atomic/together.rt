@@ -1,6 +1,6 @@
 //! Many inserts into a filter that is larger than a cache. The words of sixteen hashes are loaded
 //! first, so that the memory brings them side by side: a step that changes a word waits for it.
-ghost use Rattle.std.specs.Prelude.{◌≡◌, ◌<◌, All};
+ghost use Rattle.std.specs.Prelude.{◌<◌, All};
 ghost use Rattle.arrayvec.specs.ArrayVec.{array_vec_len};
 ghost use Rattle.std.specs.Iterator.{IsFiniteIterable};
 ghost use Rattle.std.specs.Iterator.Runs.{WholeRun};
@@ -11,10 +11,8 @@ use super::AtomicBloomFilter;
 use arrayvec::ArrayVec;
 use bloom_parts::bit_vector::index;
 use bloom_parts::hasher::DoubleHasher;
+use bloom_parts::slices::{GROUP, MANY_WORDS};
 use std::hash::{BuildHasher, Hash};
-
-// From this many words on, which are four mebibytes, a filter is taken to be larger than a cache.
-const MANY_WORDS: usize = 1 << 19;
 
 impl<S> AtomicBloomFilter<S> {
     // Whether the filter is larger than a cache.
@@ -46,7 +44,7 @@ impl<S> AtomicBloomFilter<S> {
 
     // Lets a hash wait, and inserts all that wait where they are sixteen.
     #[inline(always)]
-    fn insert_later(&self, waiting: &mut ArrayVec<u64, 16>, hash: u64)
+    fn insert_later(&self, waiting: &mut ArrayVec<u64, GROUP>, hash: u64)
         requires { array_vec_len waiting.old < 16 }
         ensures queues { QueuesInsert self.now waiting.old.items hash waiting.new.items }
         ensures room { array_vec_len waiting.new < 16 }
@@ -68,7 +66,7 @@ impl<S: BuildHasher> AtomicBloomFilter<S> {
             × WholeRun I.IntoIter.next_gives it (λ run. MakesInserts
             (source_hash_of S.BuildHasher S.Hasher.Hasher T.hash_input) self.now run.items) }
     {
-        let mut waiting = ArrayVec::<u64, 16>::new();
+        let mut waiting = ArrayVec::<u64, GROUP>::new();
         'given: for item in iter {
             let hash = self.source_hash(&item);
             self.insert_later(&mut waiting, hash);

@@ -2,8 +2,8 @@
 ghost use Rattle.std.specs.Prelude.{◌≡◌, map, string_bytes};
 ghost use Rattle.guard_engine.specs.Guarded.{HoldsKeys, key_hash};
 
-use fastbloom::laws::{contained_stays, insert_answers_contains};
-use fastbloom::{BloomFilter, Text};
+use bloom_plain::laws::{contained_stays, insert_answers_contains};
+use bloom_plain::{BloomFilter, Text};
 use std::hash::BuildHasher;
 
 /// Inserts every key.

@@ -190,29 +190,43 @@ fn decode(alloc: Global, text: &str) -> Result<Vec<u8>, AllocError> {
     Ok(bytes)
 }
 
-#[test]
-fn vectors_under_the_counting_key(rt: HostRuntime) {
-    let key = [0, 1, 2, 3, 4, 5, 6, 7, 8, 9, 10, 11, 12, 13, 14, 15];
+// Whether the bytes of a message hash to this under a key.
+fn is_answered(key: &[u8; 16], message: &[u8], answer: u64) -> bool {
+    let mut hasher = RandomDefaultHasher::seeded(key);
+    hasher.write(message);
+    hasher.finish() == answer
+}
+
+// Whether a line of the drawn keys holds.
+fn is_drawn(alloc: Global, line: &(u128, &str, u64)) -> Result<bool, AllocError> {
+    let (key, text, answer) = line;
+    let message = decode(alloc, text)?;
+    Ok(is_answered(&key.to_be_bytes(), &message, *answer))
+}
+
+// The message of 257 bytes, of which byte i is 3 + 7 * i modulo 256.
+fn counting_message() -> [u8; 257] {
     let mut message = [0u8; 257];
     let mut byte = 3u8;
     for i in 0..257 {
         message[i] = byte;
         byte = byte.wrapping_add(7);
     }
-    for (length, answer) in COUNTING_KEY {
-        let mut hasher = RandomDefaultHasher::seeded(&key);
-        hasher.write(&message[..length.min(257)]);
-        assert_eq!(rt; hasher.finish(), answer, "{length} bytes");
-    }
+    message
 }
 
 #[test]
-fn vectors_under_drawn_keys(rt: HostRuntime) -> Result<(), AllocError> {
-    for (key, text, answer) in DRAWN_KEYS {
-        let message = decode(rt.alloc(), text)?;
-        let mut hasher = RandomDefaultHasher::seeded(&key.to_be_bytes());
-        hasher.write(&message);
-        assert_eq!(rt; hasher.finish(), answer, "{} bytes", message.len());
+fn vectors_under_the_counting_key_and_under_drawn_keys_hold(rt: HostRuntime) {
+    let message = counting_message();
+    for (length, answer) in COUNTING_KEY {
+        let holds = is_answered(&super::COUNTING, &message[..length.min(257)], answer);
+        assert!(rt; holds, "{length}");
     }
-    Ok(())
+    for line in &DRAWN_KEYS {
+        assert!(rt;
+            matches!(is_drawn(rt.alloc(), line), Ok(true)),
+            "{}",
+            line.2
+        );
+    }
 }

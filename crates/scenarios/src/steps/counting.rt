@@ -1,5 +1,5 @@
 //! A store that counts the steps made on it.
-ghost use Rattle.std.specs.Prelude.{◌≡◌, ◌^◌, ◌<◌, ◌≤◌, length};
+ghost use Rattle.std.specs.Prelude.{◌≡◌, length};
 ghost use Rattle.scenarios.specs.Tallies.{Counts};
 
 use fastbloom::{MemoryStore, Step, WordStore};

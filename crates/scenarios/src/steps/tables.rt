@@ -1,50 +1,86 @@
-//! Short names for the lines of a schedule and of a course.
-ghost use Rattle.std.specs.Prelude.{◌≤◌, ◌<◌, ◌^◌, length};
-
-use fastbloom::{Call, End, Event, Record, Step, run};
+//! Courses in tables, with short names for the lines of a schedule and of a course.
+use fastbloom::{Event, Record, run};
 use std::alloc::Global;
 
-pub(super) fn begin(party: usize, call: Call) -> Event {
-    Event::Begin { party, call }
+macro_rules! begin {
+    ($party:expr, $call:expr) => {
+        Event::Begin {
+            party: $party,
+            call: $call,
+        }
+    };
 }
 
-pub(super) fn go(party: usize) -> Event {
-    Event::Go { party, given: 0 }
+macro_rules! go_given {
+    ($party:expr, $given:expr) => {
+        Event::Go {
+            party: $party,
+            given: $given,
+        }
+    };
 }
 
-pub(super) fn go_given(party: usize, given: u64) -> Event {
-    Event::Go { party, given }
+macro_rules! go {
+    ($party:expr) => {
+        Event::Go {
+            party: $party,
+            given: 0,
+        }
+    };
 }
 
-pub(super) fn began(party: usize, call: Call) -> Record {
-    Record::Began { party, call }
+macro_rules! began {
+    ($party:expr, $call:expr) => {
+        Record::Began {
+            party: $party,
+            call: $call,
+        }
+    };
 }
 
-pub(super) fn did(party: usize, step: Step, found: u64, ended: End) -> Record {
-    Record::Did {
-        party,
-        step,
-        found,
-        ended,
+macro_rules! did {
+    ($party:expr, $step:expr, $found:expr, $ended:expr) => {
+        Record::Did {
+            party: $party,
+            step: $step,
+            found: $found,
+            ended: $ended,
+        }
+    };
+}
+
+pub(super) use began;
+pub(super) use begin;
+pub(super) use did;
+pub(super) use go;
+pub(super) use go_given;
+
+// The words before, what is run on them, and the records and the words that this gives.
+pub(super) struct Course {
+    pub(super) name: &'static str,
+    pub(super) words: &'static [u64],
+    pub(super) num_hashes: u32,
+    pub(super) parties: usize,
+    pub(super) schedule: &'static [Event],
+    pub(super) records: &'static [Record],
+    pub(super) after: &'static [u64],
+}
+
+// Whether a run of a course's schedule gives its records, and its words in the end.
+pub(super) fn is_taken(alloc: Global, course: &Course) -> bool {
+    let words = course.words;
+    if words.is_empty() || words.len() >= 1 << 58 || course.num_hashes == 0 {
+        return false;
     }
-}
-
-// Whether a run of a schedule gives these records, and these words in the end.
-pub(super) fn is_course(
-    alloc: Global,
-    words: &[u64],
-    num_hashes: u32,
-    parties: usize,
-    schedule: &[Event],
-    records: &[Record],
-    after: &[u64],
-) -> bool
-    requires some_words { 1 ≤ length words.now }
-    requires few_words { length words.now < 2 ^ 58 }
-    requires hashes { 1 ≤ num_hashes }
-{
-    let Ok(trace) = run(alloc, words, num_hashes, parties, schedule) else {
+    let Ok(trace) = run(
+        alloc,
+        words,
+        course.num_hashes,
+        course.parties,
+        course.schedule,
+    ) else {
         return false;
     };
-    trace.start() == words && trace.records() == records && trace.words() == after
+    let records = trace.records() == course.records;
+    (trace.start() == words) & records & (trace.words() == course.after)
 }

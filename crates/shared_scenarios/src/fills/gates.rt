@@ -11,36 +11,36 @@ impl Gate for Open {
     fn pass(&self, _worker: usize) {}
 }
 
-/// Counts the workers, and keeps a bit for the number of each of the first 64.
+/// Counts the workers, and keeps a bit for the number of each of the first 64. Workers 0 and 1 each
+/// look for the other, for at most 10,000,000 turns.
 #[derive(Drop)]
-pub(crate) struct Counting {
-    pub(crate) passes: AtomicU64,
-    pub(crate) numbers: AtomicU64,
+pub(crate) struct Watching {
+    passes: AtomicU64,
+    numbers: AtomicU64,
+    met: AtomicU64,
 }
 
-impl Gate for Counting {
-    fn pass(&self, worker: usize) {
-        self.passes.fetch_add(1, Ordering::SeqCst);
-        if worker < 64 {
-            self.numbers.fetch_or(1 << worker, Ordering::SeqCst);
+impl Watching {
+    /// A gate that no worker passed yet.
+    pub(crate) fn new() -> Watching {
+        Watching {
+            passes: AtomicU64::new(0),
+            numbers: AtomicU64::new(0),
+            met: AtomicU64::new(0),
         }
     }
-}
 
-/// Workers 0 and 1 each raise a flag and look for the other's, for at most 10,000,000 turns.
-#[derive(Drop)]
-pub(crate) struct Meeting {
-    pub(crate) first: AtomicU64,
-    pub(crate) second: AtomicU64,
-    pub(crate) met: AtomicU64,
-}
+    /// How many passed, the bits of their numbers, and how many saw the other.
+    pub(crate) fn counts(&self) -> (u64, u64, u64) {
+        let passes = self.passes.load(Ordering::SeqCst);
+        let numbers = self.numbers.load(Ordering::SeqCst);
+        (passes, numbers, self.met.load(Ordering::SeqCst))
+    }
 
-impl Meeting {
-    // Raises one flag, looks for the other, and counts where it was seen.
-    fn look(&self, mine: &AtomicU64, other: &AtomicU64) {
-        mine.store(1, Ordering::SeqCst);
+    // Looks for both of the first two numbers, and counts once they are seen.
+    fn look(&self) {
         'turns: for _ in 0..10_000_000 {
-            if other.load(Ordering::SeqCst) == 1 {
+            if self.numbers.load(Ordering::SeqCst) & 3 == 3 {
                 self.met.fetch_add(1, Ordering::SeqCst);
                 return;
             }
@@ -49,12 +49,14 @@ impl Meeting {
     }
 }
 
-impl Gate for Meeting {
+impl Gate for Watching {
     fn pass(&self, worker: usize) {
-        match worker {
-            0 => self.look(&self.first, &self.second),
-            1 => self.look(&self.second, &self.first),
-            _ => {}
+        self.passes.fetch_add(1, Ordering::SeqCst);
+        if worker < 64 {
+            self.numbers.fetch_or(1 << worker, Ordering::SeqCst);
+        }
+        if worker < 2 {
+            self.look();
         }
     }
 }

@@ -1,232 +1,80 @@
-//! Storms: many threads that make all calls on one filter, each drawn from numbers that are spread.
-use super::inserts::{count_on, spread};
-use super::{Child, Shared, Work, join_all, share, start};
-use crate::filters::{is_empty, shape_of};
+//! Storms: random calls by many threads on one filter.
+use super::tasks::Task;
+use super::{join_all, share, start};
+use crate::filters::{count_on, filter_of, has_words, shape_of, spread};
 use fastbloom::{AtomicBloomFilter, BloomFilter};
 use std::alloc::Global;
-use std::sync::Arc;
-use std::sync::atomic::{AtomicU64, Ordering};
 use std::test::Fail;
-use std::thread::{Threads, yield_now};
 
-// Where threads wait for each other, so that their calls overlap.
-type Line = Arc<AtomicU64, Global>;
-
-// Waits until so many threads stand at the line, for at most 10,000,000 turns.
-fn wait_for(line: &AtomicU64, threads: u64) {
-    line.fetch_add(1, Ordering::SeqCst);
-    'turns: for _ in 0..10_000_000 {
-        if line.load(Ordering::SeqCst) >= threads {
-            return;
-        }
-        yield_now();
-    }
-}
-
-// Draws 1,000 calls by the numbers from the first on.
-#[derive(Drop)]
-struct AllCalls {
-    alloc: Global,
-    first: u64,
-    line: Line,
-}
-
-// Unites or intersects a filter with itself.
-fn meet_itself(filter: &AtomicBloomFilter, unites: bool) {
-    if filter.same_shape(filter) {
-        if unites {
-            filter.union(filter);
-        } else {
-            filter.intersect(filter);
-        }
-    }
-}
-
-// The call is drawn by the three highest bits, the hash is the whole number.
-fn call_by(alloc: Global, filter: &AtomicBloomFilter, drawn: u64) {
-    match drawn >> 61 {
-        0 => filter.clear(),
-        1 => meet_itself(filter, true),
-        2 => meet_itself(filter, false),
-        3 => drop(filter.take_words(alloc)),
-        4 => drop(filter.contains_hash(drawn)),
-        5 => drop(filter.insert(&drawn)),
-        _ => drop(filter.insert_hash(drawn)),
-    }
-}
-
-impl Work for AllCalls {
-    fn work(&self, filter: &AtomicBloomFilter) -> u64 {
-        wait_for(&self.line, 8);
-        for i in 0..1000u64 {
-            call_by(self.alloc, filter, spread(self.first.wrapping_add(i)));
-        }
-        0
-    }
-}
-
-// Starts eight threads that make 1,000 calls each.
-fn start_storm<R: Threads>(rt: &R, alloc: Global, filter: &Shared) -> Result<Vec<Child>, Fail> {
-    let line = Arc::new(alloc, AtomicU64::new(0))?;
-    let mut children = Vec::new(alloc);
-    for i in 0..8u64 {
-        let calls = AllCalls {
-            alloc,
-            first: i * 1000,
-            line: Arc::try_clone(&line)?,
-        };
-        children.push(start(rt, filter, calls)?)?;
-    }
-    Ok(children)
-}
+// Eight threads that make 1,000 calls each.
+const STORM: [Task; 8] = [
+    Task::Calls(0),
+    Task::Calls(1000),
+    Task::Calls(2000),
+    Task::Calls(3000),
+    Task::Calls(4000),
+    Task::Calls(5000),
+    Task::Calls(6000),
+    Task::Calls(7000),
+];
 
 // Whether a filter that was cleared is empty, and a hundred inserts answer as a plain filter's.
 fn is_as_new(alloc: Global, filter: &AtomicBloomFilter) -> Result<bool, Fail> {
     filter.clear();
-    let was_empty = is_empty(filter);
+    let was_empty = count_on(filter) == 0;
     let mut plain = BloomFilter::with_num_bits(alloc, 1024)?.hashes(3);
     let mut is_alike = true;
     for i in 0..100u64 {
         is_alike &= filter.insert_hash(spread(i)) == plain.insert_hash(spread(i));
     }
-    Ok(was_empty && is_alike && filter.iter().eq(plain.iter()))
+    Ok(was_empty && is_alike && has_words(filter, plain.as_slice()))
 }
 
-#[test]
-fn a_filter_is_as_new_after_a_storm(rt: HostRuntime) -> Result<(), Fail> {
-    let filter = share(rt.alloc(), &[0; 16], 3)?;
-    let children = start_storm(&rt, rt.alloc(), &filter)?;
-    join_all(&rt, children);
-    assert!(rt; is_as_new(rt.alloc(), &filter)?);
-    Ok(())
-}
-
-#[test]
-fn a_clone_in_a_storm_has_the_shape(rt: HostRuntime) -> Result<(), Fail> {
-    let filter = share(rt.alloc(), &[0; 16], 3)?;
-    let children = start_storm(&rt, rt.alloc(), &filter)?;
-    let shape = shape_of(&filter.try_clone(rt.alloc())?);
-    join_all(&rt, children);
-    assert_eq!(rt; shape, (1024, 3));
-    assert!(rt; is_as_new(rt.alloc(), &filter)?);
-    Ok(())
-}
-
-// The number of words, of hashes less one, and the key.
-fn data_shape(alloc: Global, filter: &AtomicBloomFilter) -> Result<(usize, u32, u64, u64), Fail> {
+// Whether the data have 16 words, 3 hashes and the zero key.
+fn has_data(alloc: Global, filter: &AtomicBloomFilter) -> Result<bool, Fail> {
     let form = filter.to_data(alloc)?;
-    Ok((
-        form.bits.bits.len(),
-        form.num_hashes_minus_one,
-        form.k0,
-        form.k1,
-    ))
+    let num_words = form.bits.bits.len();
+    Ok((num_words, form.num_hashes_minus_one, form.k0, form.k1) == (16, 2, 0, 0))
 }
 
+// A storm in which nothing else is done, one in which a clone is made, and one in which data are.
 #[test]
-fn data_in_a_storm_have_the_shape(rt: HostRuntime) -> Result<(), Fail> {
-    let filter = share(rt.alloc(), &[0; 16], 3)?;
-    let children = start_storm(&rt, rt.alloc(), &filter)?;
-    let shape = data_shape(rt.alloc(), &filter)?;
-    join_all(&rt, children);
-    assert_eq!(rt; shape, (16, 2, 0, 0));
-    assert!(rt; is_as_new(rt.alloc(), &filter)?);
+fn clones_and_data_in_a_storm_have_the_shape_and_it_leaves_the_filter_as_new(
+    rt: HostRuntime,
+) -> Result<(), Fail> {
+    for storm in 0..3u64 {
+        let shared = share(rt.alloc(), filter_of(rt.alloc(), &[0; 16], 3)?, 8)?;
+        let children = start(&rt, &shared, &STORM)?;
+        let is_right = match storm {
+            0 => true,
+            1 => shape_of(&shared.filter.try_clone(rt.alloc())?) == (1024, 3),
+            _ => has_data(rt.alloc(), &shared.filter)?,
+        };
+        join_all(&rt, children);
+        assert!(rt; is_right, "storm {storm}");
+        assert!(rt; is_as_new(rt.alloc(), &shared.filter)?, "storm {storm}");
+    }
     Ok(())
 }
 
-// Makes so many inserts, each with a look-up of another hash, and counts those that were new.
-#[derive(Drop)]
-struct InsertsAndLooks {
-    first: u64,
-    line: Line,
-}
-
-impl Work for InsertsAndLooks {
-    fn work(&self, filter: &AtomicBloomFilter) -> u64 {
-        wait_for(&self.line, 8);
-        let mut new = 0u64;
-        for i in 0..1000u64 {
-            let drawn = spread(self.first.wrapping_add(i));
-            filter.contains_hash(spread(drawn));
-            if !filter.insert_hash(drawn) {
-                new = new.saturating_add(1);
-            }
-        }
-        new
-    }
-}
-
-// Takes the words out 100 times, and counts the bits in them.
-#[derive(Drop)]
-struct Takes {
-    alloc: Global,
-    line: Line,
-}
-
-fn count_bits(words: &[u64]) -> u64 {
-    let mut on = 0u64;
-    for word in words {
-        on = on.saturating_add(word.count_ones() as u64);
-    }
-    on
-}
-
-impl Work for Takes {
-    fn work(&self, filter: &AtomicBloomFilter) -> u64 {
-        wait_for(&self.line, 8);
-        let mut taken = 0u64;
-        for _ in 0..100 {
-            if let Ok(words) = filter.take_words(self.alloc) {
-                taken = taken.saturating_add(count_bits(words.as_slice()));
-            }
-        }
-        taken
-    }
-}
-
-// Starts five threads that insert. Each has half of its hashes in common with the next.
-fn start_inserting<R: Threads>(
-    rt: &R,
-    alloc: Global,
-    filter: &Shared,
-    line: &Line,
-) -> Result<Vec<Child>, Fail> {
-    let mut children = Vec::new(alloc);
-    for i in 0..5u64 {
-        let inserts = InsertsAndLooks {
-            first: i * 500,
-            line: Arc::try_clone(line)?,
-        };
-        children.push(start(rt, filter, inserts)?)?;
-    }
-    Ok(children)
-}
-
-// Starts three threads that take.
-fn start_taking<R: Threads>(
-    rt: &R,
-    alloc: Global,
-    filter: &Shared,
-    line: &Line,
-) -> Result<Vec<Child>, Fail> {
-    let mut children = Vec::new(alloc);
-    for _ in 0..3 {
-        let line = Arc::try_clone(line)?;
-        children.push(start(rt, filter, Takes { alloc, line })?)?;
-    }
-    Ok(children)
-}
+// Five threads that insert, each of which has half of its hashes in common with the next.
+const INSERTING: [Task; 5] = [
+    Task::Inserts(0, 1000),
+    Task::Inserts(500, 1500),
+    Task::Inserts(1000, 2000),
+    Task::Inserts(1500, 2500),
+    Task::Inserts(2000, 3000),
+];
 
 // With one hash an insert that answers false turned on one bit. So these are as many as the bits
 // that were taken and those that are left.
 #[test]
 fn a_storm_of_inserts_and_takes_loses_no_bit(rt: HostRuntime) -> Result<(), Fail> {
-    let filter = share(rt.alloc(), &[0; 16], 1)?;
-    let line = Arc::new(rt.alloc(), AtomicU64::new(0))?;
-    let inserting = start_inserting(&rt, rt.alloc(), &filter, &line)?;
-    let taking = start_taking(&rt, rt.alloc(), &filter, &line)?;
+    let shared = share(rt.alloc(), filter_of(rt.alloc(), &[0; 16], 1)?, 8)?;
+    let inserting = start(&rt, &shared, &INSERTING)?;
+    let taking = start(&rt, &shared, &[Task::Takes; 3])?;
     let new = join_all(&rt, inserting);
     let taken = join_all(&rt, taking);
-    assert_eq!(rt; new, taken.saturating_add(count_on(&filter)));
+    assert!(rt; new == taken.saturating_add(count_on(&shared.filter)));
     Ok(())
 }

@@ -1,5 +1,6 @@
 use Rattle.std.proofs.Common.{◌≡◌, ◌≤◌, ◌-◌, ◌^◌, arith, ap, ◌∙◌, refl, rules, Err}
 use Rattle.duplicates_engine.specs.Kept.{line_hash}
+use Rattle.lines.specs.Reading.{left_of}
 use Rattle.duplicates_engine.proofs.RunLemmas.{line-kept, sifting-nil, keeps-all, until-long, until-writer, sifting-more}
 use Rattle.duplicates_engine.proofs.ToldLemmas.{told-nil, told-step}
 use Rattle.duplicates_engine.proofs.keep.keep_lines.Goals as goal
@@ -20,6 +21,7 @@ pub returns-in-Ok-TooLong-clause-fault : goal.returns-in-Ok-TooLong-clause-fault
 returns-in-Ok-TooLong-clause-fault g c =
     let long = rw c.in-Ok-TooLong.field-0-is at c.in-Ok-TooLong.ensures.next in
     until-long c.lines.invariant.sifting _ _ c.saturating_add.ensures
+    (left_of c.next_line.new.self (g.R.Read.remaining c.next_line.new.input))
     (rw c.lines.invariant.longest at long)
 
 pub returns-in_err-is_held-clause-fault : goal.returns-in_err-is_held-clause-fault

@@ -1,4 +1,4 @@
-use Rattle.std.proofs.Common.{◌+◌, ◌<◌, length, sym, subst, take, drop, take-append-drop}
+use Rattle.std.proofs.Common.{◌+◌, ◌<◌, ◌++◌, length, sym, ◌∙◌, ap, subst, take, take-append-drop}
 use Rattle.lines.specs.Reading.{HasEndAt}
 use Rattle.lines.proofs.piece.move_piece.Goals as goal
 
@@ -9,8 +9,9 @@ returns-then-not-branch c =
     let end = subst (λ bytes. HasEndAt bytes count) c.as_slice.ensures c.in-Some.ensures in
     record {
       part = take count block;
-      rest = drop count block;
-      cut = sym (take-append-drop count block);
+      cut =
+          sym (take-append-drop count block)
+          ∙ ap (λ rest. take count block ++ rest) (sym c.skip.ensures);
       inside = end.inside;
       long =
           subst (λ bytes. c.args.longest < length c.args.line.now.items + length (take count bytes))

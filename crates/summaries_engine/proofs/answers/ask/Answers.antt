@@ -92,7 +92,8 @@ returns-in-TooLong-clause-stops g c =
     let rest = g.I.Read.remaining c.next_line.new.input in
     asking-stops c.args.filter.now read left (g.O.Write.contents c.args.output.now)
     (g.O.Write.contents c.keys.output) old c.keys.number c.too_long.result c.keys.invariant
-    (why-long old.longest read (left_of old left) c.keys.number c.too_long.result
+    (why-long old.longest read (left_of old left) (left_of new rest) c.keys.number
+    c.too_long.result
     c.keys.invariant.has_read.longest
     (subst (λ r. IfOk r (NextLine old.longest (left_of old left) (left_of new rest) new.line))
     (c.in_ok-context.ensures ∙ ap Ok c.in-TooLong.is) c.next_line.ensures.next)

@@ -1,6 +1,0 @@
-use Rattle.std.proofs.Common.{◌≡◌}
-use Rattle.bench.proofs.seated.contains_foreign_keys.Given as goal
-
--- the pass stays of its filter
-abbrev pub invariant-keys : goal.invariant-keys
-invariant-keys l = l.pass.filter ≡ l.initial.pass.filter

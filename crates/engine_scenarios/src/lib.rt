@@ -1,0 +1,18 @@
+//! Tests of the engines of the programs: what no contract says, over readers, writers and stores
+//! that fail or behave oddly.
+#![tactic(auto)]
+
+#[cfg(test)]
+mod bloom;
+#[cfg(test)]
+mod duplicates;
+#[cfg(test)]
+mod faulty;
+#[cfg(test)]
+mod guards;
+#[cfg(test)]
+mod room;
+#[cfg(test)]
+mod shelf;
+#[cfg(test)]
+mod summaries;

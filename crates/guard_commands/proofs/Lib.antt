@@ -1,6 +1,0 @@
-mod AnswerFacts
-mod AnswerLemmas
-mod LineLemmas
-mod RefusalFacts
-mod RefusalLemmas
-mod TaskFacts

@@ -1,0 +1,71 @@
+-- What the answer to a task says: of the store's entries before and after, and of the guard's
+-- counts. That is this project's own.
+use Rattle.std.specs.Prelude.{◌≡◌, ◌⊎◌, ◌+◌, ℕ, List, length, string_bytes, ⊤}
+use Rattle.std.specs.Str.Lines.{lines}
+use Rattle.guard_engine.specs.declared.counts.Counts.{Counts}
+use Rattle.guard_engine.specs.declared.guard.Found.{Found}
+use Rattle.guard_engine.specs.declared.guard.Found.TheVariants.{Spared, FalseAlarm, Value}
+use Rattle.guard_engine.specs.declared.guard.Put.{Put}
+use Rattle.guard_engine.specs.declared.guard.Put.TheVariants.{Added, Taken}
+use Rattle.guard_engine.specs.declared.runs.Loaded.{Loaded}
+use Rattle.guard_engine.specs.Guarded.{Entries, Gains, Lacks, Stays}
+use Rattle.guard_engine.specs.Loaded.{GainsMany, Loads, LoadsFirst}
+use Rattle.guard_engine.specs.declared.commands.Answer.{Answer}
+use Rattle.guard_engine.specs.declared.commands.Answer.TheVariants as answers
+use Rattle.guard_engine.specs.declared.task.Task.{Task}
+use Rattle.guard_engine.specs.declared.task.Task.TheVariants as tasks
+
+-- a look-up whose answer is no value
+abbrev pub IsAbsence : Answer → Type 0
+IsAbsence answer =
+    (found : Found) × (answer ≡ answers.Found found) × ((value : _) → ¬ (found ≡ Value value))
+
+-- an absence, or the key of an entry that was to be put had a value
+abbrev pub IsNo : Answer → Type 0
+IsNo answer = IsAbsence answer ⊎ (answer ≡ answers.Put Taken)
+
+-- what became of an entry: its key had no value, and it came and no other; or its key has a value,
+-- and all stays
+abbrev pub IsPut : List ℕ → List ℕ → Entries → Entries → Put → Type 0
+IsPut key value old new Added = Lacks old key × Gains old key value new
+IsPut key value old new Taken = ((other : List ℕ) × old key other) × Stays old new
+
+-- what was found at a key: a value that it has, or that it has none
+abbrev pub IsFound : List ℕ → Entries → Found → Type 0
+IsFound key entries (Value value) = entries key (string_bytes value)
+IsFound key entries Spared = Lacks entries key
+IsFound key entries FalseAlarm = Lacks entries key
+
+-- what a load came to: each line was put, and counts once, as added or as taken; as added count
+-- just the keys that got a value
+pub record IsLoaded (lines : List (List ℕ)) (old new : Entries) (loaded : Loaded) : Type 0 where
+  pub loads : Loads lines old new
+  pub counts : loaded.added + loaded.taken ≡ length lines
+  pub gains : GainsMany old new loaded.added
+
+-- the answer is one to the task, whose entries or keys stand in the text, and is so
+abbrev pub Answers : Task → List ℕ → Entries → Entries → Answer → Type 0
+Answers (tasks.Put key value) text old new answer =
+    (put : Put) × (answer ≡ answers.Put put) × IsPut key.now value.now old new put
+Answers (tasks.Get key) text old new answer =
+    (found : Found) × (answer ≡ answers.Found found) × IsFound key.now old found × Stays old new
+Answers (tasks.Load file) text old new answer =
+    (loaded : Loaded) × (counts : Counts) × (answer ≡ answers.Loaded loaded counts)
+    × IsLoaded (lines text) old new loaded
+Answers tasks.Stats text old new answer =
+    (counts : Counts) × (answer ≡ answers.Counted counts) × Stays old new
+
+-- what an error leaves of a store: an entry that was to be put came or not, the first lines of a
+-- load were put, and what was looked up stays
+abbrev pub Leaves : Task → List ℕ → Entries → Entries → Type 0
+Leaves (tasks.Put key value) text old new = Stays old new ⊎ Gains old key.now value.now new
+Leaves (tasks.Get key) text old new = Stays old new
+Leaves (tasks.Load file) text old new = LoadsFirst (lines text) old new
+Leaves tasks.Stats text old new = Stays old new
+
+-- what the answer says of counts is this
+abbrev pub TellsCounts : Answer → Counts → Type 0
+TellsCounts (answers.Put put) counts = ⊤
+TellsCounts (answers.Found found) counts = ⊤
+TellsCounts (answers.Loaded loaded told) counts = told ≡ counts
+TellsCounts (answers.Counted told) counts = told ≡ counts
