@@ -135,6 +135,29 @@ holds-below is = omega (arith, is.at_most)
 holds-above : Holds above_third 1 3 → ⊥
 holds-above is = omega (arith, is.at_least)
 
+-- the bounds are sharp for fractions of several parts too: 2 / 3 lies above this, 3 / 5 below that
+abbrev below_two_thirds : Bracket
+below_two_thirds = record {
+  low = 0;
+  high = 6148914691236517205;
+  ordered = lit≤ tt;
+  in_range = lit≤ tt;
+}
+
+holds-two_thirds : Holds below_two_thirds 2 3 → ⊥
+holds-two_thirds is = omega (arith, is.at_most)
+
+abbrev above_three_fifths : Bracket
+above_three_fifths = record {
+  low = 5534023222112865485;
+  high = 9223372036854775808;
+  ordered = lit≤ tt;
+  in_range = lit≤ tt;
+}
+
+holds-three_fifths : Holds above_three_fifths 3 5 → ⊥
+holds-three_fifths is = omega (arith, is.at_least)
+
 width-third : width_of third ≡ 1
 width-third = refl
 

@@ -1,11 +1,24 @@
--- What the definition of a reading says of single words, each with a case that nearly holds.
-use Rattle.std.proofs.Common.{◌≡◌, ℕ, Some, None, refl, arith, ap}
-use Rattle.bloom_parts.specs.Made.{SharedWords, FoundByLoad}
+-- What is said of single words of a vector that threads share, and of readings of it, each with a
+-- case that nearly holds.
+use Rattle.std.proofs.Common.{◌≡◌, ◌^◌, ℕ, Some, None, refl, arith, ap, lit<}
+use Rattle.bloom_parts.specs.Made.{SharedWords, IsOnWord, FoundByLoad}
 use Rattle.bloom_parts.specs.Reading.{Reading, ReadsNext}
 
 -- a vector of two words, under any name
 abbrev two : ℕ → SharedWords
 two name = record { name = name; count = 2 }
+
+-- the greatest word is on its last index
+on-last : (name : ℕ) → IsOnWord (two name) 1 0xffff_ffff_ffff_ffff
+on-last name = (omega arith, lit< tt)
+
+-- no word is past it
+on-past : (name : ℕ) → IsOnWord (two name) 2 0 → ⊥
+on-past name on = omega (arith, on.0)
+
+-- and a word has 64 bits
+on-wide : (name : ℕ) → IsOnWord (two name) 1 (2 ^ 64) → ⊥
+on-wide name on = omega (arith, on.1)
 
 -- a reading of it that comes to this word next
 abbrev at : ℕ → ℕ → Reading
@@ -23,6 +36,10 @@ no-more name = (refl, (omega arith, refl))
 -- none comes while a word is left
 none-too-early : (name : ℕ) → ReadsNext (at name 1) None (at name 1) → ⊥
 none-too-early name reads = omega (arith, reads.1.0)
+
+-- where none comes, the reading stays where it is
+none-back : (name : ℕ) → ReadsNext (at name 2) None (at name 0) → ⊥
+none-back name reads = omega (arith, reads.1.1)
 
 -- no word comes after the last
 none-too-many : (name found : ℕ) → ReadsNext (at name 2) (Some found) (at name 3) → ⊥

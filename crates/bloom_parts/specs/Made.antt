@@ -1,7 +1,8 @@
--- That a step was made on a word of a vector that threads share, and what it found there. Outside
--- of this file nothing unfolds these facts: a proof has one only where the step itself handed it
--- out. The lemmas that make them are cited by the proofs of those steps alone. This project's own.
-use Rattle.std.specs.Prelude.{ℕ, ◌<◌, ◌^◌}
+-- That a step was made on a word of a vector that threads share, and what it found there; and with
+-- which words a vector began. Outside of this file nothing unfolds these facts: a proof has one only
+-- where the step itself handed it out. The lemmas that make them are cited by the proofs of those
+-- steps alone, as the full check sees. This project's own.
+use Rattle.std.specs.Prelude.{◌≡◌, ℕ, ◌<◌, ◌^◌, List, length}
 
 -- a vector that threads share: a name that tells it from others, and how many words it has
 pub record SharedWords : Type 0 where
@@ -11,6 +12,10 @@ pub record SharedWords : Type 0 where
 -- word i is one of the vector's, and the number is a word of 64 bits
 abbrev pub IsOnWord : SharedWords → ℕ → ℕ → Type 0
 IsOnWord vector i word = (i < vector.count) × (word < 2 ^ 64)
+
+-- the vector began with these words
+pub BeganWith : (vector : SharedWords) (words : List ℕ) → Type 0
+BeganWith vector words = vector.count ≡ length words
 
 -- a load of word i of the vector found this
 pub FoundByLoad : (vector : SharedWords) (i found : ℕ) → Type 0
@@ -31,6 +36,12 @@ MadeZero vector i = i < vector.count
 -- word i of the vector was made 0, and this was there
 pub FoundBySwap : (vector : SharedWords) (i found : ℕ) → Type 0
 FoundBySwap vector i found = IsOnWord vector i found
+
+-- the fact of a beginning
+pub made_by_start : (vector : SharedWords) (words : List ℕ) → vector.count ≡ length words
+    → BeganWith vector words
+unfolding BeganWith
+made_by_start vector words count = count
 
 -- the fact of a load
 pub made_by_load : (vector : SharedWords) (i found : ℕ) → IsOnWord vector i found

@@ -9,12 +9,14 @@ ghost use Rattle.bloom_parts.specs.Content.{AreWords, content, index_of};
 mod atomic;
 mod by_hash;
 mod gathered;
+mod loads;
 mod words;
 
 use crate::error::FilterError;
 use crate::slices;
 pub use atomic::{AtomicBitVec, AtomicWords};
 pub use gathered::gather;
+pub use loads::Loads;
 use std::alloc::Global;
 use std::marker::Model;
 pub use words::Words;

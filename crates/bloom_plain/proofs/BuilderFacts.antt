@@ -94,7 +94,7 @@ refuses-unlisted : RefusesAs None (Some ZeroBits) → ⊥
 refuses-unlisted refused = cc
 
 -- the words and the hasher of a builder
-abbrev start : List ℕ → ℕ → Start ℕ
+abbrev pub start : List ℕ → ℕ → Start ℕ
 start words hasher = record { words = words; hasher = hasher }
 
 -- builders are equal whatever their hashers

@@ -1,15 +1,15 @@
 -- Data of filters: cases that hold, and cases that nearly do. A form is given by what is seen of
 -- it.
-use Rattle.std.proofs.Common.{◌≡◌, ℕ, List, Some, None, [], ◌∷◌, true, false, refl, arith, ap}
+use Rattle.std.proofs.Common.{◌≡◌, ℕ, List, Some, None, [], ◌∷◌, true, false, get_or, refl, arith, ap}
 use Rattle.std.specs.Prelude.{vec_len}
 use Rattle.bloom_parts.specs.declared.error.FilterError.TheVariants.{EmptyWords, TooManyWords, HashCount}
 use Rattle.bloom_parts.specs.declared.hasher.CloneBuildHasher.{CloneBuildHasher}
 use Rattle.bloom_parts.specs.declared.hasher.sip.RandomDefaultHasher.{RandomDefaultHasher}
 use Rattle.bloom_parts.specs.Chain.{chain}
 use Rattle.bloom_parts.specs.Content.{content}
-use Rattle.bloom_parts.specs.Keys.{key_of}
+use Rattle.bloom_parts.specs.Keys.{HasKey, key_of}
 use Rattle.bloom_parts.specs.Places.{are_in}
-use Rattle.bloom_plain.specs.Data.{AnswerAlike, DefaultFilter, IsDataOf, data_refusal}
+use Rattle.bloom_plain.specs.Data.{AnswerAlike, DataLaw, DefaultFilter, IsDataOf, SameItemsLaw, data_refusal}
 use Rattle.bloom_plain.specs.declared.bloom.data.FilterData.{FilterData}
 
 -- how many words a form has, and its number of hashes less one
@@ -108,3 +108,33 @@ alike-word : (hasher : CloneBuildHasher RandomDefaultHasher)
     → AnswerAlike (filter (1048577 ∷ []) 2 hasher) (filter (1 ∷ []) 2 hasher) → ⊥
 unfolding content chain are_in
 alike-word hasher same = let found : false ≡ true = same.found 1 in cc
+
+-- nor with other words, whatever is found
+alike-words : (hasher : CloneBuildHasher RandomDefaultHasher)
+    → AnswerAlike (filter (1 ∷ []) 2 hasher) (filter (1048577 ∷ []) 2 hasher) → ⊥
+alike-words hasher same =
+    let wrong : 1048577 ≡ 1 = ap (λ words. get_or words 0 0) same.words in omega (arith, wrong)
+
+-- nor under another key
+alike-key : (one other : CloneBuildHasher RandomDefaultHasher)
+    → key_of one ≡ (0, 1) → key_of other ≡ (0, 2)
+    → AnswerAlike (filter (1 ∷ []) 2 one) (filter (1 ∷ []) 2 other) → ⊥
+alike-key one other is is' same =
+    let high = ap (λ (k : ℕ × ℕ). k.1) is in
+    let high' = ap (λ (k : ℕ × ℕ). k.1) is' in
+    let wrong = ap (λ (k : ℕ × ℕ). k.1) same.key in
+    omega (arith, high, high', wrong)
+
+-- filters of the same data answer alike
+data-used : DataLaw → (form : FilterData) (f g : DefaultFilter) → IsFive form
+    → IsFilter f 5 2 0 3026418949592973312 → IsFilter g 5 2 0 3026418949592973312 → AnswerAlike f g
+data-used law form f g is of of' = law f g form (five form f is of) (five form g is of')
+
+-- and have one source hash for each item, though one has other words
+same_items-used : (hash_of : CloneBuildHasher RandomDefaultHasher → ℕ → ℕ) → SameItemsLaw hash_of
+    → (form : FilterData) (f g : DefaultFilter) → IsFive form
+    → IsFilter f 5 2 0 3026418949592973312 → IsFilter g 6 1 0 3026418949592973312
+    → HasKey f.hasher 0 3026418949592973312 → HasKey g.hasher 0 3026418949592973312
+    → hash_of g.hasher 8 ≡ hash_of f.hasher 8
+same_items-used hash_of law form f g is of of' key key' =
+    law f g form 0 3026418949592973312 key (five form f is of) (rw (is.low, is.high) key') 8

@@ -1,48 +1,52 @@
 -- An insert, at values from outside: cases that hold, and some that differ from one of them in one
 -- thing and don't. Hash 1 has the positions 0, 20 and 32 among 64 bits.
-use Rattle.std.proofs.Common.{◌≡◌, true, false, ◌||◌, [], ◌∷◌, refl, ap, ◌∙◌, arith, lit<}
+use Rattle.std.proofs.Common.{◌≡◌, ◌<◌, ◌^◌, ℕ, Bool, true, false, ◌||◌, [], ◌∷◌, refl, ap, ◌∙◌, arith, lit<}
 use Rattle.bloom_parts.specs.Chain.{chain}
 use Rattle.bloom_parts.specs.Content.{content}
 use Rattle.bloom_parts.specs.Places.{positions, are_in}
-use Rattle.bloom_plain.specs.Filter.{Inserts}
-use Rattle.bloom_plain.proofs.CaseLemmas.{content-case, content-past, positions-past}
+use Rattle.bloom_plain.specs.Filter.{contains, Inserts}
+use Rattle.bloom_plain.proofs.CaseLemmas.{alike_below, content-case, content-past, positions-past}
 use Rattle.bloom_plain.proofs.FilterFacts.{filter}
+
+-- a hash is inserted into one word, which is compared bit by bit
+pub inserts-word : (old new k hash : ℕ) (reply : Bool) → hash < 2 ^ 64
+    → reply ≡ contains (filter (old ∷ []) k 7) hash
+    → alike_below 64 (content (new ∷ [])) (λ p. content (old ∷ []) p || positions 64 k hash p)
+    ≡ true
+    → Inserts (filter (old ∷ []) k 7) hash (filter (new ∷ []) k 7) reply
+inserts-word old new k hash reply fits answers alike = record {
+  answers = answers;
+  bits = content-case (new ∷ []) (λ p. content (old ∷ []) p || positions 64 k hash p) alike
+      (λ p past. ap (λ b. b || positions 64 k hash p) (content-past (old ∷ []) p past)
+      ∙ positions-past 64 k hash p (lit< tt) fits past);
+  shape = record { words = refl; hashes = refl };
+  hasher = refl;
+}
 
 -- hash 1 is inserted into one zero word
 pub inserts-first : Inserts (filter (0 ∷ []) 2 7) 1 (filter (1048577 ∷ []) 2 7) false
 unfolding content positions chain are_in
-inserts-first = record {
-  answers = refl;
-  bits = content-case (1048577 ∷ []) (λ p. content (0 ∷ []) p || positions 64 2 1 p) refl
-      (λ p past. ap (λ b. b || positions 64 2 1 p) (content-past (0 ∷ []) p past)
-      ∙ positions-past 64 2 1 p (lit< tt) (lit< tt) past);
-  shape = record { words = refl; hashes = refl };
-  hasher = refl;
-}
+inserts-first = inserts-word 0 1048577 2 1 false (lit< tt) refl refl
+
+-- into a word that has one of its positions
+pub inserts-rest : Inserts (filter (1 ∷ []) 2 7) 1 (filter (1048577 ∷ []) 2 7) false
+unfolding content positions chain are_in
+inserts-rest = inserts-word 1 1048577 2 1 false (lit< tt) refl refl
 
 -- and into the word that it made
 pub inserts-again : Inserts (filter (1048577 ∷ []) 2 7) 1 (filter (1048577 ∷ []) 2 7) true
 unfolding content positions chain are_in
-inserts-again = record {
-  answers = refl;
-  bits = content-case (1048577 ∷ []) (λ p. content (1048577 ∷ []) p || positions 64 2 1 p) refl
-      (λ p past. ap (λ b. b || positions 64 2 1 p) (content-past (1048577 ∷ []) p past)
-      ∙ positions-past 64 2 1 p (lit< tt) (lit< tt) past);
-  shape = record { words = refl; hashes = refl };
-  hasher = refl;
-}
+inserts-again = inserts-word 1048577 1048577 2 1 true (lit< tt) refl refl
+
+-- hash 0 has position 0 twice
+pub inserts-zero : Inserts (filter (0 ∷ []) 2 7) 0 (filter (1 ∷ []) 2 7) false
+unfolding content positions chain are_in
+inserts-zero = inserts-word 0 1 2 0 false (lit< tt) refl refl
 
 -- with three hashes
-pub inserts-three : Inserts (filter (0 ∷ []) 3 7) 1 (filter (4296015873 ∷ []) 3 7) false
+inserts-three : Inserts (filter (0 ∷ []) 3 7) 1 (filter (4296015873 ∷ []) 3 7) false
 unfolding content positions chain are_in
-inserts-three = record {
-  answers = refl;
-  bits = content-case (4296015873 ∷ []) (λ p. content (0 ∷ []) p || positions 64 3 1 p) refl
-      (λ p past. ap (λ b. b || positions 64 3 1 p) (content-past (0 ∷ []) p past)
-      ∙ positions-past 64 3 1 p (lit< tt) (lit< tt) past);
-  shape = record { words = refl; hashes = refl };
-  hasher = refl;
-}
+inserts-three = inserts-word 0 4296015873 3 1 false (lit< tt) refl refl
 
 -- the reply is the look-up just before, not just after
 inserts-reply : Inserts (filter (0 ∷ []) 2 7) 1 (filter (1048577 ∷ []) 2 7) true → ⊥

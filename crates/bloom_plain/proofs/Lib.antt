@@ -4,6 +4,7 @@ mod BuilderLemmas
 pub mod CaseLemmas
 mod DataFacts
 mod DataLemmas
+mod EqualityFacts
 mod FilterFacts
 mod FoundLemmas
 mod HashFacts
@@ -16,6 +17,7 @@ mod RateFacts
 mod RateLemmas
 mod ReplyLemmas
 mod SetFacts
+mod SetLawFacts
 mod TogetherLemmas
 mod UnitedFacts
 mod UnitedLemmas

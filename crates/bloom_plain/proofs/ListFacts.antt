@@ -120,6 +120,24 @@ carried_out-others = record {
   hasher = refl;
 }
 
+-- a clear, an insert of hash 0, and a union with 8
+abbrev pub after_clear : List (Command ℕ)
+after_clear = Clear ∷ Insert 0 ∷ Union eight ∷ []
+
+-- what was on before goes off, position 0 comes on, and 1 or 8 is 9
+pub carried_out-clear : CarriesOut (filter (5 ∷ []) 1 7) (map operation_of after_clear)
+    (filter (9 ∷ []) 1 7) (false ∷ [])
+unfolding content positions chain are_in
+carried_out-clear = record {
+  bits = content-case (9 ∷ []) (state_after 64 1 (content (5 ∷ [])) (map operation_of after_clear))
+      refl
+      (λ p past. rw (content-past (8 ∷ []) p past)
+      (rw (positions-past 64 1 0 p (lit< tt) (lit< tt) past) refl));
+  answers = refl;
+  shape = record { words = refl; hashes = refl };
+  hasher = refl;
+}
+
 -- in the other order 5 or 8 is 13, and 13 and 6 is 4
 carried_out-order : CarriesOut (filter (5 ∷ []) 1 7) (map operation_of with_others)
     (filter (5 ∷ []) 1 7) (false ∷ false ∷ []) → ⊥

@@ -17,11 +17,15 @@ start num den some some' hasher = record {
 }
 
 -- one half
-abbrev half : RateStart ℕ
+abbrev pub half : RateStart ℕ
 half = start 1 2 (lit< tt) (lit< tt) 7
 
+-- two quarters, under another hasher
+abbrev pub quarters : RateStart ℕ
+quarters = start 2 4 (lit< tt) (lit< tt) 8
+
 -- builders are equal whatever their hashers, and 1/2 is 2/4
-same_start-fraction : same_rate_start half (start 2 4 (lit< tt) (lit< tt) 8) ≡ true
+same_start-fraction : same_rate_start half quarters ≡ true
 same_start-fraction = refl
 
 -- 1/2 isn't 1/4

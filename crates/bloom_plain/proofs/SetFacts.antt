@@ -1,10 +1,9 @@
 -- Clear, union and intersection, at values from outside: for each a case that holds, and some that
 -- differ from it in one thing and don't.
-use Rattle.std.proofs.Common.{◌≡◌, true, false, ◌||◌, ◌&&◌, [], ◌∷◌, refl, sym, ap, ◌∙◌, arith}
-use Rattle.std.proofs.Math.Bool.{or_self, and_self}
+use Rattle.std.proofs.Common.{◌≡◌, ℕ, true, false, ◌||◌, ◌&&◌, [], ◌∷◌, refl, ap, ◌∙◌, arith}
 use Rattle.bloom_parts.specs.Content.{content}
 use Rattle.bloom_plain.specs.Filter.{Clears, Unites, Intersects}
-use Rattle.bloom_plain.proofs.CaseLemmas.{content-case, content-past}
+use Rattle.bloom_plain.proofs.CaseLemmas.{alike_below, content-case, content-past}
 use Rattle.bloom_plain.proofs.FilterFacts.{filter}
 
 -- a word is cleared
@@ -29,24 +28,24 @@ clears-words did = let wrong : 1 ≡ 2 = did.shape.words in omega (arith, wrong)
 clears-hasher : Clears (filter (5 ∷ []) 2 7) (filter (0 ∷ []) 2 8) → ⊥
 clears-hasher did = let wrong : 8 ≡ 7 = did.hasher in omega (arith, wrong)
 
--- 5 or 6 is 7, whatever the hasher of the other
-pub unites : Unites (filter (5 ∷ []) 2 7) (filter (6 ∷ []) 2 8) (filter (7 ∷ []) 2 7)
-unfolding content
-unites = record {
-  bits = content-case (7 ∷ []) (λ p. content (5 ∷ []) p || content (6 ∷ []) p) refl
-      (λ p past. ap (λ b. b || content (6 ∷ []) p) (content-past (5 ∷ []) p past)
-      ∙ content-past (6 ∷ []) p past);
+-- filters of one word are united, where the words are so bit by bit
+pub unites-words : (old other new hasher another : ℕ)
+    → alike_below 64 (content (new ∷ [])) (λ p. content (old ∷ []) p || content (other ∷ []) p)
+    ≡ true
+    → Unites (filter (old ∷ []) 2 hasher) (filter (other ∷ []) 2 another)
+    (filter (new ∷ []) 2 hasher)
+unites-words old other new hasher another alike = record {
+  bits = content-case (new ∷ []) (λ p. content (old ∷ []) p || content (other ∷ []) p) alike
+      (λ p past. ap (λ b. b || content (other ∷ []) p) (content-past (old ∷ []) p past)
+      ∙ content-past (other ∷ []) p past);
   shape = record { words = refl; hashes = refl };
   hasher = refl;
 }
 
--- a filter united with itself stays as it is
-pub unites-itself : Unites (filter (5 ∷ []) 2 7) (filter (5 ∷ []) 2 7) (filter (5 ∷ []) 2 7)
-unites-itself = record {
-  bits = λ p. sym (or_self (content (5 ∷ []) p));
-  shape = record { words = refl; hashes = refl };
-  hasher = refl;
-}
+-- 5 or 6 is 7, whatever the hasher of the other
+pub unites : Unites (filter (5 ∷ []) 2 7) (filter (6 ∷ []) 2 8) (filter (7 ∷ []) 2 7)
+unfolding content
+unites = unites-words 5 6 7 7 8 refl
 
 -- a position of the other that stays off
 unites-less : Unites (filter (5 ∷ []) 2 7) (filter (6 ∷ []) 2 8) (filter (5 ∷ []) 2 7) → ⊥
@@ -66,23 +65,23 @@ unites-hashes did = let wrong : 2 ≡ 3 = did.shape.hashes in omega (arith, wron
 unites-hasher : Unites (filter (5 ∷ []) 2 7) (filter (6 ∷ []) 2 8) (filter (7 ∷ []) 2 8) → ⊥
 unites-hasher did = let wrong : 8 ≡ 7 = did.hasher in omega (arith, wrong)
 
--- 5 and 6 is 4, whatever the hasher of the other
-pub intersects : Intersects (filter (5 ∷ []) 2 7) (filter (6 ∷ []) 2 8) (filter (4 ∷ []) 2 7)
-unfolding content
-intersects = record {
-  bits = content-case (4 ∷ []) (λ p. content (5 ∷ []) p && content (6 ∷ []) p) refl
-      (λ p past. ap (λ b. b && content (6 ∷ []) p) (content-past (5 ∷ []) p past));
+-- filters of one word are intersected, where the words are so bit by bit
+pub intersects-words : (old other new hasher another : ℕ)
+    → alike_below 64 (content (new ∷ [])) (λ p. content (old ∷ []) p && content (other ∷ []) p)
+    ≡ true
+    → Intersects (filter (old ∷ []) 2 hasher) (filter (other ∷ []) 2 another)
+    (filter (new ∷ []) 2 hasher)
+intersects-words old other new hasher another alike = record {
+  bits = content-case (new ∷ []) (λ p. content (old ∷ []) p && content (other ∷ []) p) alike
+      (λ p past. ap (λ b. b && content (other ∷ []) p) (content-past (old ∷ []) p past));
   shape = record { words = refl; hashes = refl };
   hasher = refl;
 }
 
--- a filter intersected with itself stays as it is
-pub intersects-itself : Intersects (filter (5 ∷ []) 2 7) (filter (5 ∷ []) 2 7) (filter (5 ∷ []) 2 7)
-intersects-itself = record {
-  bits = λ p. sym (and_self (content (5 ∷ []) p));
-  shape = record { words = refl; hashes = refl };
-  hasher = refl;
-}
+-- 5 and 6 is 4, whatever the hasher of the other
+pub intersects : Intersects (filter (5 ∷ []) 2 7) (filter (6 ∷ []) 2 8) (filter (4 ∷ []) 2 7)
+unfolding content
+intersects = intersects-words 5 6 4 7 8 refl
 
 -- a position that the other lacks stays on
 intersects-more : Intersects (filter (5 ∷ []) 2 7) (filter (6 ∷ []) 2 8) (filter (5 ∷ []) 2 7) → ⊥

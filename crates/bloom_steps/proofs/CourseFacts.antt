@@ -5,6 +5,7 @@ pub mod Courses
 pub mod Endings
 pub mod Finding
 pub mod Finished
+pub mod FoundBetween
 pub mod Gains
 pub mod Inserts
 pub mod Lawful

@@ -1,5 +1,5 @@
 -- What a flush behind a run leaves of its promises.
-use Rattle.std.proofs.Common.{ℕ, List, Option, Result, Ok, Err, refl}
+use Rattle.std.proofs.Common.{ℕ, Bool, List, Option, Result, Ok, Err, inl, refl}
 use Rattle.std.specs.Prelude.{IfOk, IfErr}
 use Rattle.std.specs.Io.KnownBytes.{Keeps}
 use Rattle.std.proofs.KnownBytes.{Appends-kept}
@@ -11,6 +11,7 @@ use Rattle.duplicates_engine.specs.declared.fault.Fault.TheVariants.{TooLong, Me
 use Rattle.duplicates_engine.specs.declared.tally.Tally.{Tally}
 use Rattle.duplicates_engine.specs.Faults.{IsOfWriter, IsReadAt}
 use Rattle.duplicates_engine.specs.Kept.{text_of_fresh, KeepsNew, KeepsUntil}
+use Rattle.duplicates_engine.specs.Told.{TellsOf, TellsUntil}
 use Rattle.duplicates_engine.proofs.WriteLemmas.{Begins-whole, from-begins, to-begins}
 
 -- at any fault the lines are the first of the input
@@ -30,12 +31,36 @@ reached-writer longest Memory read lines is first = absurd is
 reached-writer longest (Input kind) read lines is first = absurd is
 reached-writer longest (Output kind) read lines is first = first
 
+-- all lines were told, also at a fault of the writer
+tells-all : (fault : Fault) (before after : Option (List Tally)) (replies : List Bool)
+    → IsOfWriter fault → TellsOf before after replies → TellsUntil fault before after replies
+tells-all (TooLong number) before after replies is tells = absurd is
+tells-all Memory before after replies is tells = absurd is
+tells-all (Input kind) before after replies is tells = absurd is
+tells-all (Output kind) before after replies is tells = inl tells
+
+-- what was told up to one fault was told up to a later one of the writer
+tells-again : (first fault : Fault) (before after : Option (List Tally)) (replies : List Bool)
+    → IsOfWriter fault → TellsUntil first before after replies
+    → TellsUntil fault before after replies
+tells-again (TooLong number) fault before after replies is tells =
+    tells-all fault before after replies is tells
+tells-again Memory fault before after replies is tells =
+    tells-all fault before after replies is tells
+tells-again (Input kind) fault before after replies is tells =
+    tells-all fault before after replies is tells
+tells-again (Output kind) (TooLong number) before after replies is tells = absurd is
+tells-again (Output kind) Memory before after replies is tells = absurd is
+tells-again (Output kind) (Input other) before after replies is tells = absurd is
+tells-again (Output kind) (Output other) before after replies is tells = tells
+
 module _ {S : Type 0} (longest : ℕ) (hash_of : List ℕ → ℕ) (read : Option (List ℕ))
-    (old new : Filter S) (from to kept : Option (List ℕ)) (keeps : Keeps to kept) where
+    (old new : Filter S) (from to kept : Option (List ℕ)) (before after : Option (List Tally))
+    (keeps : Keeps to kept) where
   -- where the flush behind a whole run fails, the run ended at that
   pub all-broken : (left : Option (List ℕ)) (tally : Tally) (fault : Fault) → IsOfWriter fault
-      → KeepsNew hash_of read left old new from to tally
-      → KeepsUntil longest hash_of read old new from kept fault
+      → KeepsNew longest hash_of read left old new from to before after tally
+      → KeepsUntil longest hash_of read old new from kept before after fault
   all-broken left tally fault is run =
       let text = text_of_fresh run.lines run.replies in
       record {
@@ -48,12 +73,14 @@ module _ {S : Type 0} (longest : ℕ) (hash_of : List ℕ → ℕ) (read : Optio
         reached =
             reached-writer longest fault read run.lines is
             (IsReadFrom-whole read left run.lines run.whole);
+        short = run.short;
+        tells = tells-all fault before after run.replies is run.tells;
       }
 
   -- and so behind a run up to a fault
   pub until-broken : (first fault : Fault) → IsOfWriter fault
-      → KeepsUntil longest hash_of read old new from to first
-      → KeepsUntil longest hash_of read old new from kept fault
+      → KeepsUntil longest hash_of read old new from to before after first
+      → KeepsUntil longest hash_of read old new from kept before after fault
   until-broken first fault is run =
       let text = text_of_fresh run.lines run.replies in
       record {
@@ -66,13 +93,15 @@ module _ {S : Type 0} (longest : ℕ) (hash_of : List ℕ → ℕ) (read : Optio
         reached =
             reached-writer longest fault read run.lines is
             (first-lines longest first read run.lines run.reached);
+        short = run.short;
+        tells = tells-again first fault before after run.replies is run.tells;
       }
 
   -- so it is whatever came first
   pub broken : (left : Option (List ℕ)) (result : Result Tally Fault) (fault : Fault)
       → IsOfWriter fault
-      → IfOk result (KeepsNew hash_of read left old new from to)
-      → IfErr result (KeepsUntil longest hash_of read old new from to)
-      → KeepsUntil longest hash_of read old new from kept fault
+      → IfOk result (KeepsNew longest hash_of read left old new from to before after)
+      → IfErr result (KeepsUntil longest hash_of read old new from to before after)
+      → KeepsUntil longest hash_of read old new from kept before after fault
   broken left (Ok tally) fault is all until = all-broken left tally fault is all
   broken left (Err first) fault is all until = until-broken first fault is until

@@ -1,5 +1,6 @@
 -- What a run promises: of each relation a case that holds, and a near one that doesn't.
-use Rattle.std.proofs.Common.{◌≡◌, ℕ, ◌-◌, ◌^◌, min, zero, suc, true, false, List, [], ◌∷◌, ◌++◌, length, map, get_or, Some, refl, sym, ◌∙◌, ap, arith}
+use Rattle.std.proofs.Common.{◌≡◌, ◌≤◌, ℕ, ◌-◌, ◌^◌, min, zero, suc, true, false, List, [], ◌∷◌, ◌++◌, length, map, get_or, None, Some, refl, sym, ◌∙◌, ap, subst, arith}
+use Rattle.std.proofs.lemmas.List.Elements.{All-nil}
 use Rattle.std.specs.Prelude.{codes}
 use Rattle.std.specs.declared.io.ErrorKind.TheVariants as kind
 use Rattle.bloom_parts.specs.Content.{content}
@@ -9,9 +10,12 @@ use Rattle.bloom_parts.specs.Operations.{Insert}
 use Rattle.bloom_plain.specs.Filter.{Filter}
 use Rattle.bloom_plain.specs.Replies.{replies}
 use Rattle.lines.specs.Lines.{lines_of}
+use Rattle.lines.specs.Reading.{AreShort}
+use Rattle.duplicates_engine.specs.declared.tally.Tally.{Tally}
 use Rattle.duplicates_engine.specs.declared.fault.Fault.TheVariants.{TooLong, Memory, Output}
 use Rattle.duplicates_engine.specs.Faults.{Begins, IsWrittenAt, IsReadAt}
-use Rattle.duplicates_engine.specs.Kept.{held_back, text_of_fresh, AreNew, Counts, KeepsNew, KeepsUntil}
+use Rattle.duplicates_engine.specs.Kept.{text_of_fresh, AreNew, Counts, KeepsNew, KeepsUntil}
+use Rattle.duplicates_engine.specs.Told.{held_back, TellsMillions}
 use Rattle.duplicates_engine.proofs.SiftLemmas.{Sifts-nil}
 
 -- three lines, of which the third came before
@@ -81,7 +85,7 @@ abbrev zeros : Filter (Unit {0})
 zeros = record { words = 0 ∷ []; hashes = 3; hasher = tt }
 
 -- a run over nothing
-keeps : KeepsNew (λ line. 1) (Some []) (Some []) zeros zeros (Some []) (Some [])
+keeps : KeepsNew 0 (λ line. 1) (Some []) (Some []) zeros zeros (Some []) (Some []) None None
     (record { read = 0; held = 0 })
 unfolding lines_of
 keeps = record {
@@ -90,12 +94,37 @@ keeps = record {
   sifts = Sifts-nil _ _;
   text = refl;
   whole = record { are_lines = refl; none_left = refl };
+  short = All-nil (λ line. length line ≤ 0);
   counts = record { read = refl; held = refl };
+  tells = tt;
 }
 
+-- not if a tally is told
+keeps-told : (new : Filter (Unit {0})) → KeepsNew 0 (λ line. 1) (Some []) (Some []) zeros new
+    (Some []) (Some []) (Some []) (Some (record { read = 0; held = 0 } ∷ []))
+    (record { read = 0; held = 0 }) → ⊥
+unfolding lines_of
+keeps-told new run =
+    let lines : [] ≡ run.lines = run.whole.are_lines in
+    let none : length run.replies ≡ 0 = run.sifts.count ∙ ap length (sym lines) in
+    let told =
+    subst (TellsMillions (Some []) (Some (record { read = 0; held = 0 } ∷ [])) run.replies)
+    (ap (λ n. min n (2 ^ 64 - 1)) none) run.tells in
+    let more : 1 ≡ 0 = ap length told in
+    omega (arith, more)
+
+-- nor with a line that is too long
+keeps-long : (new : Filter (Unit {0})) (tally : Tally) → KeepsNew 0 (λ line. 1)
+    (Some (codes "a\n")) (Some []) zeros new (Some []) (Some (codes "a\n")) None None tally → ⊥
+unfolding lines_of
+keeps-long new tally run =
+    let lines : codes "a" ∷ [] ≡ run.lines = run.whole.are_lines in
+    let short = subst (AreShort 0) (sym lines) run.short in
+    omega (arith, short 0 [] (omega arith))
+
 -- not if a line is left out that the filter answers false
-keeps-not : (new : Filter (Unit {0})) → KeepsNew (λ line. 1) (Some (codes "a\n")) (Some []) zeros
-    new (Some []) (Some []) (record { read = 1; held = 1 }) → ⊥
+keeps-not : (new : Filter (Unit {0})) → KeepsNew 1 (λ line. 1) (Some (codes "a\n")) (Some [])
+    zeros new (Some []) (Some []) None None (record { read = 1; held = 1 }) → ⊥
 unfolding lines_of content chain are_in
 keeps-not new run =
     let lines : codes "a" ∷ [] ≡ run.lines = run.whole.are_lines in
@@ -107,8 +136,8 @@ keeps-not new run =
     omega (arith, one, none)
 
 -- nor if its text isn't written
-keeps-text : (new : Filter (Unit {0})) → KeepsNew (λ line. 1) (Some (codes "a\n")) (Some []) zeros
-    new (Some []) (Some []) (record { read = 1; held = 0 }) → ⊥
+keeps-text : (new : Filter (Unit {0})) → KeepsNew 1 (λ line. 1) (Some (codes "a\n")) (Some [])
+    zeros new (Some []) (Some []) None None (record { read = 1; held = 0 }) → ⊥
 unfolding lines_of content chain are_in
 keeps-text new run =
     let lines : codes "a" ∷ [] ≡ run.lines = run.whole.are_lines in
@@ -122,7 +151,8 @@ keeps-text new run =
     omega (arith, more)
 
 -- a run that found no room
-until : KeepsUntil 3 (λ line. 1) (Some (codes "a\n")) zeros zeros (Some []) (Some []) Memory
+until : KeepsUntil 3 (λ line. 1) (Some (codes "a\n")) zeros zeros (Some []) (Some []) None None
+    Memory
 until = record {
   lines = [];
   replies = [];
@@ -131,11 +161,13 @@ until = record {
   text = refl;
   told = refl;
   reached = record { later = lines_of (codes "a\n"); cut = refl };
+  short = All-nil (λ line. length line ≤ 3);
+  tells = tt;
 }
 
 -- not if it wrote a line that it didn't read
 until-not : (new : Filter (Unit {0})) → KeepsUntil 3 (λ line. 1) (Some []) zeros new (Some [])
-    (Some (codes "a\n")) Memory → ⊥
+    (Some (codes "a\n")) None None Memory → ⊥
 unfolding lines_of
 until-not new run =
     let none : run.lines ≡ [] = nil-front run.lines run.reached.later (sym run.reached.cut) in

@@ -1,20 +1,23 @@
 -- From lines read and kept to what a run promises.
-use Rattle.std.proofs.Common.{◌≡◌, ℕ, ◌+◌, ◌-◌, ◌^◌, min, Bool, false, cond, List, [], ◌∷◌, ◌++◌, Option, Result, Ok, Err, inl, inr, ◌⊎◌, refl, sym, ◌∙◌, ap, subst, arith}
-use Rattle.std.proofs.lemmas.Bool.{both_ways}
+use Rattle.std.proofs.Common.{◌≡◌, ℕ, ◌+◌, ◌-◌, ◌%◌, ◌^◌, ◌≢◌, ◌≤◌, min, length, Bool, cond, List, [], ◌∷◌, ◌++◌, Option, Result, Ok, Err, inl, inr, ◌⊎◌, refl, sym, ◌∙◌, ap, subst, arith}
+use Rattle.std.proofs.lemmas.List.Elements.{All-append, All-from_recursion}
 use Rattle.std.specs.Io.KnownBytes.{Appends}
-use Rattle.std.proofs.KnownBytes.{Appends-nil, Appends-trans}
+use Rattle.std.proofs.KnownBytes.{Appends-trans}
 use Rattle.bloom_parts.specs.Operations.{Insert}
 use Rattle.bloom_plain.specs.Filter.{Filter, contains}
 use Rattle.bloom_plain.specs.Laws.{JoinedListsLaw, FoundAfterInsertsLaw}
 use Rattle.bloom_plain.specs.Replies.{CarriesOut}
-use Rattle.lines.specs.Reading.{Waiting, left_of, KnowsEnd, TakesShort, TakesLong, Ends, IsReadFrom}
-use Rattle.lines.proofs.TakenLemmas.{TakesLines, TakesLines-nil, TakesLines-more, IsReadWhole-from, IsReadFrom-taken, IsReadToLong-from}
+use Rattle.lines.specs.Reading.{Waiting, left_of, KnowsEnd, AreShort, TakesShort, TakesLong, Ends, IsReadFrom}
+use Rattle.lines.proofs.TakenLemmas.{TakesLines, TakesLines-more, IsReadWhole-from, IsReadFrom-taken, IsReadToLong-from}
 use Rattle.duplicates_engine.specs.declared.fault.Fault.{Fault}
 use Rattle.duplicates_engine.specs.declared.fault.Fault.TheVariants.{TooLong, Memory, Input, Output}
 use Rattle.duplicates_engine.specs.declared.tally.Tally.{Tally}
 use Rattle.duplicates_engine.specs.Faults.{IsOfReader, IsOfWriter, IsWrittenAt, IsReadAt}
 use Rattle.duplicates_engine.specs.Kept.{text_of_fresh, piece, Sifts, Counts, KeepsLine, KeepsNew, KeepsUntil}
-use Rattle.duplicates_engine.proofs.SiftLemmas.{fresh-more, Counts-nil, Counts-more, Sifts-nil, Sifts-more}
+use Rattle.duplicates_engine.specs.Told.{Tells, TellsOf, TellsUntil}
+use Rattle.duplicates_engine.proofs.SiftLemmas.{fresh-more, Counts-more, Sifts-more}
+use Rattle.duplicates_engine.proofs.StartLemmas.{IsSifting}
+use Rattle.duplicates_engine.proofs.ToldLemmas.{told-step}
 use Rattle.duplicates_engine.proofs.WriteLemmas.{Begins-after, from-begins, to-begins}
 
 -- the same line, under the same hash
@@ -28,32 +31,15 @@ line-kept {same_hash = same_hash} {line = line} {old = old} {new = new} {from = 
     subst (λ l. KeepsLine same_hash l old new from to result) lines
     (subst (λ h. KeepsLine h line old new from to result) hashes kept)
 
--- half-way through a run: these lines were taken and sifted, and the new ones written
-pub record IsSifting {S : Type 0} (hash_of : List ℕ → ℕ) (read : Option (List ℕ))
-    (old : Filter S) (from : Option (List ℕ)) (waiting : Waiting) (rest : Option (List ℕ))
-    (now : Filter S) (to : Option (List ℕ)) (tally : Tally) : Type 0 where
-  pub lines : List (List ℕ)
-  pub replies : List Bool
-  pub sifts : Sifts hash_of old now lines replies
-  pub text : Appends from to (text_of_fresh lines replies)
-  pub taken : TakesLines read (left_of waiting rest) lines
-  pub knows : KnowsEnd waiting.ended rest
-  pub counts : Counts lines replies tally
-
--- nothing was taken yet
-pub sifting-nil : {S : Type 0} (hash_of : List ℕ → ℕ) (read from : Option (List ℕ))
-    (filter : Filter S) (waiting : Waiting) (tally : Tally) → waiting.bytes ≡ []
-    → waiting.ended ≡ false → tally.read ≡ 0 → tally.held ≡ 0
-    → IsSifting hash_of read filter from waiting read filter from tally
-sifting-nil hash_of read from filter waiting tally empty untold none_read none_held = record {
-  lines = [];
-  replies = [];
-  sifts = Sifts-nil hash_of filter;
-  text = Appends-nil from;
-  taken = TakesLines-nil waiting.bytes read empty;
-  knows = λ told. absurd (both_ways waiting.ended untold told);
-  counts = Counts-nil tally none_read none_held;
-}
+-- at a fault of the writer the last line isn't told
+tells-last : (fault : Fault) (before after : Option (List Tally)) (replies : List Bool)
+    (reply : Bool) → IsOfWriter fault → TellsOf before after replies
+    → TellsUntil fault before after (replies ++ reply ∷ [])
+tells-last (TooLong number) before after replies reply is tells = absurd is
+tells-last Memory before after replies reply is tells = absurd is
+tells-last (Input kind) before after replies reply is tells = absurd is
+tells-last (Output kind) before after replies reply is tells =
+    inr (record { earlier = replies; last = reply; cut = refl; tells = tells })
 
 -- what was reached at a fault of the reader or of the writer
 reached-at : (longest : ℕ) (fault : Fault) (read : Option (List ℕ)) (lines : List (List ℕ))
@@ -66,14 +52,15 @@ reached-at longest (Input kind) read lines is first = first
 reached-at longest (Output kind) read lines is first = first
 
 -- half-way, and the next line
-module _ {S : Type 0} {hash_of : List ℕ → ℕ} {read : Option (List ℕ)} {old : Filter S}
-    {from : Option (List ℕ)} {waiting : Waiting} {rest : Option (List ℕ)} {now : Filter S}
-    {to : Option (List ℕ)} {tally : Tally}
-    (so_far : IsSifting hash_of read old from waiting rest now to tally) (longest : ℕ) where
+module _ {S : Type 0} {longest : ℕ} {hash_of : List ℕ → ℕ} {read : Option (List ℕ)}
+    {old : Filter S} {from : Option (List ℕ)} {before : Option (List Tally)} {waiting : Waiting}
+    {rest : Option (List ℕ)} {now : Filter S} {to : Option (List ℕ)}
+    {then : Option (List Tally)} {tally : Tally}
+    (so_far : IsSifting longest hash_of read old from before waiting rest now to then tally) where
   -- nothing is left
   pub keeps-all : (after : Waiting) (left : Option (List ℕ))
       → Ends (left_of waiting rest) (left_of after left)
-      → KeepsNew hash_of read left old now from to tally
+      → KeepsNew longest hash_of read left old now from to before then tally
   keeps-all after left ends = record {
     lines = so_far.lines;
     replies = so_far.replies;
@@ -82,13 +69,15 @@ module _ {S : Type 0} {hash_of : List ℕ → ℕ} {read : Option (List ℕ)} {o
     whole =
         IsReadWhole-from read (left_of waiting rest) left after.bytes so_far.lines so_far.taken
         ends;
+    short = so_far.short;
     counts = so_far.counts;
+    tells = so_far.tells;
   }
 
   -- the next line is too long
   pub until-long : (number : ℕ) → number ≡ min (tally.read + 1) (2 ^ 64 - 1)
       → (left : Option (List ℕ)) → TakesLong longest (left_of waiting rest) left
-      → KeepsUntil longest hash_of read old now from to (TooLong number)
+      → KeepsUntil longest hash_of read old now from to before then (TooLong number)
   until-long number is left long = record {
     lines = so_far.lines;
     replies = so_far.replies;
@@ -102,6 +91,8 @@ module _ {S : Type 0} {hash_of : List ℕ → ℕ} {read : Option (List ℕ)} {o
           IsReadToLong-from longest read (left_of waiting rest) left so_far.lines so_far.taken
           long;
     };
+    short = so_far.short;
+    tells = so_far.tells;
   }
 
   module _ (joined : JoinedListsLaw S) (found : FoundAfterInsertsLaw S) (after : Waiting)
@@ -112,6 +103,12 @@ module _ {S : Type 0} {hash_of : List ℕ → ℕ} {read : Option (List ℕ)} {o
     taken =
         TakesLines-more read (left_of waiting rest) (left_of after left) so_far.lines after.line
         so_far.taken took.takes
+
+    -- and it is short enough
+    short : AreShort longest (so_far.lines ++ after.line ∷ [])
+    short =
+        All-append (λ line. length line ≤ longest) so_far.lines (after.line ∷ []) so_far.short
+        (All-from_recursion (λ line. length line ≤ longest) (after.line ∷ []) (took.short, tt))
 
     -- and sifted
     sifts : (new : Filter S) (reply : Bool)
@@ -124,13 +121,19 @@ module _ {S : Type 0} {hash_of : List ℕ → ℕ} {read : Option (List ℕ)} {o
 
     -- one more line was kept or held back
     pub sifting-more : (new : Filter S) (end : Option (List ℕ)) (held : Bool) (more : Tally)
+        (last : Option (List Tally))
         → KnowsEnd after.ended left → KeepsLine hash_of after.line now new to end (Ok held)
         → more.read ≡ min (tally.read + 1) (2 ^ 64 - 1)
         → more.held ≡ cond held (min (tally.held + 1) (2 ^ 64 - 1)) tally.held
-        → IsSifting hash_of read old from after left new end more
-    sifting-more new end held more knows kept one_read one_held =
+        → (more.read % 1000000 ≡ 0 → Tells then last more)
+        → (more.read % 1000000 ≢ 0 → last ≡ then)
+        → IsSifting longest hash_of read old from before after left new end last more
+    sifting-more new end held more last knows kept one_read one_held told quiet =
         let reply = kept.reply in
         let line = after.line in
+        let counts =
+        Counts-more so_far.lines so_far.replies line reply tally more so_far.counts one_read
+        (one_held ∙ ap (λ r. cond r (min (tally.held + 1) (2 ^ 64 - 1)) tally.held) kept.told.0) in
         record {
           lines = so_far.lines ++ line ∷ [];
           replies = so_far.replies ++ reply ∷ [];
@@ -143,36 +146,39 @@ module _ {S : Type 0} {hash_of : List ℕ → ℕ} {read : Option (List ℕ)} {o
               so_far.text kept.text);
           taken = taken;
           knows = knows;
-          counts =
-              Counts-more so_far.lines so_far.replies line reply tally more so_far.counts
-              one_read
-              (one_held ∙ ap (λ r. cond r (min (tally.held + 1) (2 ^ 64 - 1)) tally.held)
-              kept.told.0);
+          short = short;
+          counts = counts;
+          tells =
+              told-step before then last so_far.replies reply more so_far.tells
+              (omega (arith, one_read, so_far.counts.read, so_far.sifts.count)) counts.held told
+              quiet;
         }
 
     -- a fault of the writer came
     pub until-writer : (new : Filter S) (end : Option (List ℕ)) (fault : Fault)
         → KeepsLine hash_of after.line now new to end (Err fault)
-        → KeepsUntil longest hash_of read old new from end fault
+        → KeepsUntil longest hash_of read old new from end before then fault
     until-writer new end fault kept =
         let reply = kept.reply in
         let line = after.line in
-        let before = text_of_fresh so_far.lines so_far.replies in
+        let text = text_of_fresh so_far.lines so_far.replies in
         let lines = so_far.lines ++ line ∷ [] in
         let is = kept.told.0 in
         record {
           lines = lines;
           replies = so_far.replies ++ reply ∷ [];
           sifts = sifts new reply kept.carried kept.answers;
-          written = before ++ kept.written;
-          text = Appends-trans from to end before kept.written so_far.text kept.text;
+          written = text ++ kept.written;
+          text = Appends-trans from to end text kept.written so_far.text kept.text;
           told =
-              subst (λ t. IsWrittenAt fault t (before ++ kept.written))
+              subst (λ t. IsWrittenAt fault t (text ++ kept.written))
               (sym (fresh-more so_far.lines so_far.replies line reply so_far.sifts.count))
-              (from-begins fault (before ++ piece line reply) (before ++ kept.written) is
-              (Begins-after before (piece line reply) kept.written
+              (from-begins fault (text ++ piece line reply) (text ++ kept.written) is
+              (Begins-after text (piece line reply) kept.written
               (to-begins fault (piece line reply) kept.written kept.told.1)));
           reached =
               reached-at longest fault read lines (inr is)
               (IsReadFrom-taken read (left_of after left) lines taken);
+          short = short;
+          tells = tells-last fault before then so_far.replies reply is so_far.tells;
         }

@@ -8,7 +8,8 @@ use Rattle.bloom_plain.specs.Filter.{Filter, contains}
 use Rattle.bloom_plain.specs.Laws.{JoinedListsLaw, FoundAfterInsertsLaw}
 use Rattle.bloom_plain.specs.Replies.{CarriesOut}
 use Rattle.duplicates_engine.specs.declared.tally.Tally.{Tally}
-use Rattle.duplicates_engine.specs.Kept.{held_back, text_of_fresh, piece, Sifts, Counts}
+use Rattle.duplicates_engine.specs.Kept.{text_of_fresh, piece, Sifts, Counts}
+use Rattle.duplicates_engine.specs.Told.{held_back}
 
 -- what one more line adds to the text of the new ones
 pub fresh-more : (lines : List (List ℕ)) (replies : List Bool) (line : List ℕ) (reply : Bool)

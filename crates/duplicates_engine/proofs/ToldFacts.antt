@@ -1,7 +1,9 @@
 -- What a progress is told: of each relation cases that hold, and near ones that don't.
-use Rattle.std.proofs.Common.{◌≡◌, [], ◌∷◌, length, map, get_or, Some, None, refl, ◌∙◌, ap, arith}
+use Rattle.std.proofs.Common.{◌≡◌, ◌-◌, ◌^◌, inr, min, Bool, true, false, List, [], ◌∷◌, ◌++◌, length, map, take, get_or, length-append, Some, None, refl, ap, subst, arith}
+use Rattle.std.specs.declared.io.ErrorKind.TheVariants as kind
+use Rattle.duplicates_engine.specs.declared.fault.Fault.TheVariants.{Memory, Output}
 use Rattle.duplicates_engine.specs.declared.tally.Tally.{Tally}
-use Rattle.duplicates_engine.specs.Told.{Tells, millions, TellsMillions}
+use Rattle.duplicates_engine.specs.Told.{Tells, held_back, millions, tally_after, TellsMillions, TellsUntil}
 
 -- the counts at a million lines
 abbrev one : Tally
@@ -41,22 +43,53 @@ tells-again is = is
 whole : millions 2 ≡ 1000000 ∷ 2000000 ∷ []
 whole = refl
 
--- both lie within so many lines, behind what was told before
-each : TellsMillions (Some (two ∷ [])) (Some (two ∷ one ∷ two ∷ [])) 2999999
-each = (one ∷ two ∷ [], refl, refl)
+-- the tally of the first two lines of three
+tally-two : tally_after (false ∷ true ∷ true ∷ []) 2 ≡ record { read = 2; held = 1 }
+tally-two = refl
 
--- with one line more there is a third
-each-not : TellsMillions (Some []) (Some (one ∷ two ∷ [])) 3000000 → ⊥
-each-not is =
-    let more : 2 ≡ 3 = ap length (ap (map (λ t. t.read)) is.1 ∙ is.2) in omega (arith, more)
+module _ (replies : List Bool) where
+  -- the tallies of both whole millions are told behind what was told before
+  each : TellsMillions (Some (two ∷ []))
+      (Some (two ∷ tally_after replies 1000000 ∷ tally_after replies 2000000 ∷ [])) replies 2999999
+  each = refl
 
--- with one line less than the second million only the first is told
-each-first : TellsMillions (Some []) (Some (one ∷ [])) 1999999
-each-first = (one ∷ [], refl, refl)
+  -- with one line more there is a third
+  each-not : TellsMillions (Some [])
+      (Some (tally_after replies 1000000 ∷ tally_after replies 2000000 ∷ [])) replies 3000000 → ⊥
+  each-not is = let more : 2 ≡ 3 = ap length is in omega (arith, more)
 
--- not in another order
-each-order : TellsMillions (Some []) (Some (two ∷ one ∷ [])) 2999999 → ⊥
-each-order is =
-    let number : 2000000 ≡ 1000000 =
-    ap (λ numbers. get_or numbers 0 0) (ap (map (λ t. t.read)) is.1 ∙ is.2) in
-    omega (arith, number)
+  -- with one line less than the second million only the first is told
+  each-first : TellsMillions (Some []) (Some (tally_after replies 1000000 ∷ [])) replies 1999999
+  each-first = refl
+
+  -- not in another order
+  each-order : TellsMillions (Some [])
+      (Some (tally_after replies 2000000 ∷ tally_after replies 1000000 ∷ [])) replies 2999999 → ⊥
+  each-order is =
+      let number : 2000000 ≡ 1000000 = ap (λ told. get_or (map (λ t. t.read) told) 0 0) is in
+      omega (arith, number)
+
+  -- not with one line more held back than those that were
+  each-held : held_back (take 1000000 replies) ≡ 3
+      → TellsMillions (Some []) (Some (record one { held = 4 } ∷ [])) replies 1999999 → ⊥
+  each-held three is =
+      let number : 4 ≡ held_back (take 1000000 replies) =
+      ap (λ told. get_or (map (λ t. t.held) told) 0 0) is in
+      omega (arith, three, number)
+
+  -- where the last line makes the first million, the writer may have failed before it was told
+  until-last : (reply : Bool) → length replies ≡ 999999
+      → TellsUntil (Output kind.BrokenPipe) (Some []) (Some []) (replies ++ reply ∷ [])
+  until-last reply size =
+      inr (record { earlier = replies; last = reply; cut = refl; tells = rw size refl })
+
+  -- at another fault it was told
+  until-memory : (reply : Bool) → length replies ≡ 999999
+      → TellsUntil Memory (Some []) (Some []) (replies ++ reply ∷ []) → ⊥
+  until-memory reply size tells =
+      let all = replies ++ reply ∷ [] in
+      let number : min (length all) (2 ^ 64 - 1) ≡ 1000000 =
+      omega (arith, size, length-append replies (reply ∷ [])) in
+      let told = subst (TellsMillions (Some []) (Some []) all) number tells in
+      let more : 0 ≡ 1 = ap length told in
+      omega (arith, more)

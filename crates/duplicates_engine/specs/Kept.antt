@@ -7,10 +7,11 @@ use Rattle.bloom_parts.specs.Operations.{Insert}
 use Rattle.bloom_plain.specs.Filter.{Filter, contains}
 use Rattle.bloom_plain.specs.Replies.{CarriesOut}
 use Rattle.bloom_plain.specs.SourceHash.{hash_by}
-use Rattle.lines.specs.Reading.{IsReadWhole}
+use Rattle.lines.specs.Reading.{AreShort, IsReadWhole}
 use Rattle.duplicates_engine.specs.declared.fault.Fault.{Fault}
 use Rattle.duplicates_engine.specs.declared.tally.Tally.{Tally}
 use Rattle.duplicates_engine.specs.Faults.{IsOfWriter, IsWrittenAt, IsReadAt}
+use Rattle.duplicates_engine.specs.Told.{held_back, TellsOf, TellsUntil}
 
 -- the hash that stands for a line: the answer of a fresh hasher after one write of its bytes
 abbrev pub line_hash : {H : Type 0} → hasher.Ghosts H → H → List ℕ → ℕ
@@ -22,11 +23,6 @@ fresh [] replies = []
 fresh (line ∷ lines) [] = []
 fresh (line ∷ lines) (reply ∷ replies) =
     if reply then fresh lines replies else line ∷ fresh lines replies
-
--- how many lines were answered true
-abbrev pub held_back : List Bool → ℕ
-held_back [] = 0
-held_back (reply ∷ replies) = if reply then held_back replies + 1 else held_back replies
 
 -- each line with an end
 abbrev pub text_of : List (List ℕ) → List ℕ
@@ -53,20 +49,25 @@ pub record Counts (lines : List (List ℕ)) (replies : List Bool) (tally : Tally
   pub read : tally.read ≡ min (length lines) (2 ^ 64 - 1)
   pub held : tally.held ≡ min (held_back replies) (2 ^ 64 - 1)
 
--- a whole run: all lines of the input were sifted, and the new ones written
-pub record KeepsNew {S : Type 0} (hash_of : List ℕ → ℕ) (read left : Option (List ℕ))
-    (old new : Filter S) (from to : Option (List ℕ)) (tally : Tally) : Type 0 where
+-- a whole run: all lines of the input were sifted, the new ones written, and each million of them
+-- told
+pub record KeepsNew {S : Type 0} (longest : ℕ) (hash_of : List ℕ → ℕ)
+    (read left : Option (List ℕ)) (old new : Filter S) (from to : Option (List ℕ))
+    (before after : Option (List Tally)) (tally : Tally) : Type 0 where
   pub lines : List (List ℕ)
   pub replies : List Bool
   pub sifts : Sifts hash_of old new lines replies
   pub text : Appends from to (text_of_fresh lines replies)
   pub whole : IsReadWhole read left lines
+  pub short : AreShort longest lines
   pub counts : Counts lines replies tally
+  pub tells : TellsOf before after replies
 
 -- a run up to a fault: the first lines of the input were sifted, and the new ones written, at a
 -- fault of the writer as far as it took them
 pub record KeepsUntil {S : Type 0} (longest : ℕ) (hash_of : List ℕ → ℕ) (read : Option (List ℕ))
-    (old new : Filter S) (from to : Option (List ℕ)) (fault : Fault) : Type 0 where
+    (old new : Filter S) (from to : Option (List ℕ)) (before after : Option (List Tally))
+    (fault : Fault) : Type 0 where
   pub lines : List (List ℕ)
   pub replies : List Bool
   pub sifts : Sifts hash_of old new lines replies
@@ -74,6 +75,8 @@ pub record KeepsUntil {S : Type 0} (longest : ℕ) (hash_of : List ℕ → ℕ) 
   pub text : Appends from to written
   pub told : IsWrittenAt fault (text_of_fresh lines replies) written
   pub reached : IsReadAt longest fault read lines
+  pub short : AreShort longest lines
+  pub tells : TellsUntil fault before after replies
 
 -- what one line writes that was answered so
 abbrev pub piece : List ℕ → Bool → List ℕ

@@ -1,7 +1,6 @@
 //! Writes each line that is certainly new.
-ghost use Rattle.std.specs.Prelude.{◌≡◌, ℕ, false, [], IfOk, IfErr};
+ghost use Rattle.std.specs.Prelude.{◌≡◌, false, [], IfOk, IfErr};
 ghost use Rattle.duplicates_engine.specs.Kept.{KeepsLine, KeepsNew, KeepsUntil, line_hash};
-ghost use Rattle.duplicates_engine.specs.Told.{TellsMillions};
 
 use crate::fault::Fault;
 use crate::output::put_line;
@@ -40,17 +39,15 @@ fn keep_lines<S: BuildHasher, R: Read, W: Write, P: Progress>(
 ) -> Result<Tally, Fault>
     requires empty { lines.old.bytes ≡ [] }
     requires open { lines.old.ended ≡ false }
-    ensures all { IfOk result (KeepsNew
+    ensures all { IfOk result (KeepsNew lines.old.longest
         (line_hash S.Hasher.Hasher (S.build_hasher filter.old.hasher))
         (R.remaining input.old) (R.remaining input.new) filter.old filter.new
-        (W.contents output.old) (W.contents output.new)) }
+        (W.contents output.old) (W.contents output.new)
+        (P.tells progress.old) (P.tells progress.new)) }
     ensures fault { IfErr result (KeepsUntil lines.old.longest
         (line_hash S.Hasher.Hasher (S.build_hasher filter.old.hasher)) (R.remaining input.old)
-        filter.old filter.new (W.contents output.old) (W.contents output.new)) }
-    ensures told { IfOk result (λ tally.
-        TellsMillions (P.tells progress.old) (P.tells progress.new) tally.read) }
-    ensures told_first { IfErr result (λ _. (lines : ℕ)
-        × TellsMillions (P.tells progress.old) (P.tells progress.new) lines) }
+        filter.old filter.new (W.contents output.old) (W.contents output.new)
+        (P.tells progress.old) (P.tells progress.new)) }
 {
     lists_join::<S>();
     inserted_stays_found::<S>();
@@ -87,20 +84,17 @@ pub fn keep_new<S: BuildHasher, R: Read, W: Write, P: Progress>(
     progress: &mut P,
 ) -> Result<Tally, Fault>
     // All lines were inserted in order, those answered false were written, and each of these
-    // differs from every line before it.
-    ensures all { IfOk result (KeepsNew
+    // differs from every line before it. The progress was told each million of the lines.
+    ensures all { IfOk result (KeepsNew longest
         (line_hash S.Hasher.Hasher (S.build_hasher filter.old.hasher))
         (R.remaining input.old) (R.remaining input.new) filter.old filter.new
-        (W.contents output.old) (W.contents output.new)) }
-    // So it is with the lines before a fault.
+        (W.contents output.old) (W.contents output.new)
+        (P.tells progress.old) (P.tells progress.new)) }
+    // The same of the lines before a fault.
     ensures fault { IfErr result (KeepsUntil longest
         (line_hash S.Hasher.Hasher (S.build_hasher filter.old.hasher)) (R.remaining input.old)
-        filter.old filter.new (W.contents output.old) (W.contents output.new)) }
-    // The progress was told each million of the lines, and at a fault the first of these.
-    ensures told { IfOk result (λ tally.
-        TellsMillions (P.tells progress.old) (P.tells progress.new) tally.read) }
-    ensures told_first { IfErr result (λ _. (lines : ℕ)
-        × TellsMillions (P.tells progress.old) (P.tells progress.new) lines) }
+        filter.old filter.new (W.contents output.old) (W.contents output.new)
+        (P.tells progress.old) (P.tells progress.new)) }
 {
     let Ok(mut lines) = LineReader::new(alloc, longest) else {
         return Err(Fault::Memory);

@@ -4,7 +4,7 @@ use Rattle.std.proofs.Math.Nat.{max_comm}
 use Rattle.std.proofs.lemmas.List.{length-replicate}
 use Rattle.bloom_parts.specs.declared.error.FilterError.{FilterError}
 use Rattle.bloom_parts.specs.declared.math.rate.Rate.{Rate}
-use Rattle.bloom_parts.specs.Made.{SharedWords}
+use Rattle.bloom_parts.specs.Made.{SharedWords, BeganWith}
 use Rattle.bloom_parts.specs.Rates.{num_of, den_of}
 use Rattle.bloom_parts.specs.Sizing.{IsSizeFor, hashes_for}
 use Rattle.bloom_plain.specs.Builders.{RateStart, IsSizeOf, RefusesAs, size_refusal, words_for, sized_filter, empty_start}
@@ -24,15 +24,18 @@ module _ {S : Type 0} (start plain : RateStart S) (of : plain ≡ start) where
 
   -- a filter of so many words and hashes has the form that is asked for
   form_of-zeros : (f : SharedFilter S) (words : SharedWords) (bits items size hashes : ℕ)
-      → f.words ≡ words → words.count ≡ words_for bits → size ≡ 64 * words.count
+      → f.words ≡ words → BeganWith words (replicate (words_for bits) 0)
+      → words.count ≡ words_for bits → size ≡ 64 * words.count
       → f.hashes ≡ max 1 hashes → 1 ≤ hashes → hashes ≡ hashes_for size (max 1 items)
       → f.hasher ≡ plain.hasher
       → HasFormOf f (sized_filter (empty_start start bits) items)
-  form_of-zeros f words bits items size hashes is_words count is_size is_hashes some best hasher =
+  form_of-zeros f words bits items size hashes is_words began count is_size is_hashes some best
+      hasher =
       let as_many : f.hashes ≡ hashes = omega (arith, is_hashes, some) in
       let zeros : words.count ≡ length (replicate (words_for bits) 0) =
       count ∙ sym (length-replicate (words_for bits) 0) in
       record {
+        began = subst (λ v. BeganWith v (replicate (words_for bits) 0)) (sym is_words) began;
         words = ap (λ v. v.count) is_words ∙ zeros;
         hashes = as_many ∙ best ∙ ap (λ n. hashes_for n (max 1 items))
             (is_size ∙ ap (λ w. 64 * w) zeros);
@@ -52,6 +55,7 @@ module _ {S : Type 0} (start plain : RateStart S) (of : plain ≡ start) where
       (f : SharedFilter S) (zeros : SharedWords)
       → record { rate : own_rate ≡ plain.rate; hasher : own_hasher ≡ plain.hasher }
       → items ≡ max expected 1 → IsSizeFor items (num_of own_rate) (den_of own_rate) bits
+      → BeganWith zeros (replicate (words_for bits) 0)
       → zeros.count ≡ words_for bits → size ≡ 64 * zeros.count
       → record { value : num ≡ hashes_for size (max 1 expected); least : 1 ≤ num }
       → record {
@@ -59,10 +63,10 @@ module _ {S : Type 0} (start plain : RateStart S) (of : plain ≡ start) where
         hashes : f.hashes ≡ max 1 num;
         hasher : f.hasher ≡ own_hasher;
       } → HasFormFor start expected f
-  form_of-parts own_rate own_hasher expected items bits size num f zeros parts is_items sized count
-      is_size best made = (
+  form_of-parts own_rate own_hasher expected items bits size num f zeros parts is_items sized began
+      count is_size best made = (
         bits,
         size_of-parts own_rate expected items bits parts.rate is_items sized,
-        form_of-zeros f zeros bits expected size num made.words count is_size made.hashes best.least
-            best.value (made.hasher ∙ parts.hasher),
+        form_of-zeros f zeros bits expected size num made.words began count is_size made.hashes
+            best.least best.value (made.hasher ∙ parts.hasher),
       )

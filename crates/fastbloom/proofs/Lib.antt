@@ -4,6 +4,7 @@ mod FillLawLemmas
 pub mod FillLemmas
 mod FormLemmas
 mod InsertedLemmas
+mod MadeFacts
 mod ReadingLemmas
 mod SeatedStepFacts
 mod SharedFacts

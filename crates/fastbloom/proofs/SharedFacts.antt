@@ -3,7 +3,7 @@ use Rattle.std.proofs.Common.{◌≡◌, ◌∙◌, ℕ, zero, suc, ◌+◌, ◌
 use Rattle.std.proofs.lemmas.Option.{none-some, same_Some}
 use Rattle.bloom_parts.specs.Chain.{chain}
 use Rattle.bloom_parts.specs.Places.{place}
-use Rattle.bloom_parts.specs.Made.{FoundByLoad, FoundByOr, MadeZero}
+use Rattle.bloom_parts.specs.Made.{BeganWith, FoundByLoad, FoundByOr, MadeZero}
 use Rattle.bloom_steps.specs.declared.steps.vocabulary.Step.TheVariants.{Or}
 use Rattle.bloom_steps.specs.declared.steps.vocabulary.Call.TheVariants.{Insert, Clear, Union}
 use Rattle.bloom_steps.specs.declared.steps.vocabulary.End.TheVariants.{Answer}
@@ -36,9 +36,17 @@ other-hashes same = omega (arith, same.hashes)
 abbrev plain : ℕ → Filter ℕ
 plain hasher = record { words = 5 ∷ 6 ∷ []; hashes = 3; hasher = hasher }
 
--- the form is that of the number of words, the hashes and the hasher
-same-form : HasFormOf (filter 1 2 3) (plain 7)
-same-form = record { words = refl; hashes = refl; hasher = refl }
+-- the form is that of the words at the beginning, their number, the hashes and the hasher
+same-form : BeganWith (filter 1 2 3).words (5 ∷ 6 ∷ []) → HasFormOf (filter 1 2 3) (plain 7)
+same-form began = record { began = began; words = refl; hashes = refl; hasher = refl }
+
+-- it tells which words they were
+began-form : HasFormOf (filter 1 2 3) (plain 7) → BeganWith (filter 1 2 3).words (5 ∷ 6 ∷ [])
+began-form form = form.began
+
+-- another number of hashes is another form
+hash-more : HasFormOf (filter 1 2 4) (plain 7) → ⊥
+hash-more form = omega (arith, form.hashes)
 
 -- another hasher is another form
 other-hasher : HasFormOf (filter 1 2 3) (plain 8) → ⊥

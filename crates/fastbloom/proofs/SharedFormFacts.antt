@@ -2,7 +2,7 @@
 -- How many sixty-fourths of a halving one half has is a premise here; `bloom_parts` shows it.
 use Rattle.std.proofs.Common.{◌≡◌, ◌∙◌, ℕ, zero, suc, ◌+◌, ◌<◌, Bool, List, [], ◌∷◌, Some, length, option_map, replicate, refl, ap, slice_get, sym, subst, arith, lit<}
 use Rattle.std.proofs.lemmas.Option.{same_Some, slice_get-map}
-use Rattle.bloom_parts.specs.Made.{FoundByLoad, FoundBySwap}
+use Rattle.bloom_parts.specs.Made.{BeganWith, FoundByLoad, FoundBySwap}
 use Rattle.bloom_parts.specs.Sizing.{IsHalvings, size_for}
 use Rattle.bloom_plain.specs.Builders.{RateStart, words_for, empty_start, sized_filter, IsSizeOf}
 use Rattle.bloom_steps.specs.declared.steps.vocabulary.Step.TheVariants.{Take}
@@ -21,8 +21,13 @@ half = record {
 
 module _ (one : IsHalvings 1 2 64) where
   -- 1000 items at one half are 1448 bits, so 23 words, and one hash
-  form-half : HasFormFor half 1000 (filter 1 23 1)
-  form-half = (1448, (64, one, refl), record { words = refl; hashes = refl; hasher = refl })
+  form-half : BeganWith (filter 1 23 1).words (replicate 23 0)
+      → HasFormFor half 1000 (filter 1 23 1)
+  form-half began = (
+    1448,
+    (64, one, refl),
+    record { began = began; words = refl; hashes = refl; hasher = refl },
+  )
 
   -- no other number of bits is
   bits-half : (bits : ℕ) → IsSizeOf half 1000 bits → bits ≡ 1448
@@ -49,8 +54,12 @@ module _ (one : IsHalvings 1 2 64) where
       omega (arith, wrong)
 
   -- no item counts as one, which 44 hashes suit
-  form-half_none : HasFormFor half 0 (filter 1 1 44)
-  form-half_none = (64, (64, one, refl), record { words = refl; hashes = refl; hasher = refl })
+  form-half_none : BeganWith (filter 1 1 44).words (0 ∷ []) → HasFormFor half 0 (filter 1 1 44)
+  form-half_none began = (
+    64,
+    (64, one, refl),
+    record { began = began; words = refl; hashes = refl; hasher = refl },
+  )
 
 -- the hash of a number under a hasher that is a number
 abbrev sum : ℕ → ℕ → ℕ

@@ -1,7 +1,7 @@
 -- What contracts see of a filter that threads share, and of which steps its calls are made. Its
 -- words aren't seen, since any thread may change them. This project's own.
 use Rattle.std.specs.Prelude.{◌≡◌, ◌≢◌, ℕ, ◌<◌, Bool, List, [], ◌∷◌, ◌++◌, length, map, slice_get, All, Option, Some, None}
-use Rattle.bloom_parts.specs.Made.{SharedWords, FoundByLoad, FoundByOr, FoundByAnd, MadeZero, FoundBySwap}
+use Rattle.bloom_parts.specs.Made.{SharedWords, BeganWith, FoundByLoad, FoundByOr, FoundByAnd, MadeZero, FoundBySwap}
 use Rattle.bloom_plain.specs.Builders.{RateStart, IsSizeOf, sized_filter, empty_start}
 use Rattle.bloom_plain.specs.Filter.{Filter}
 use Rattle.bloom_steps.specs.declared.steps.vocabulary.Step.{Step}
@@ -22,8 +22,10 @@ pub record HaveSameShape {S : Type 0} (f g : SharedFilter S) : Type 0 where
   pub words : f.words.count ≡ g.words.count
   pub hashes : f.hashes ≡ g.hashes
 
--- a shared filter has the number of words, the number of hashes and the hasher of a plain one
+-- a shared filter began with the words of a plain one, and has its number of words, its number of
+-- hashes and its hasher
 pub record HasFormOf {S : Type 0} (f : SharedFilter S) (plain : Filter S) : Type 0 where
+  pub began : BeganWith f.words plain.words
   pub words : f.words.count ≡ length plain.words
   pub hashes : f.hashes ≡ plain.hashes
   pub hasher : f.hasher ≡ plain.hasher
@@ -83,6 +85,10 @@ pub record WereLoaded (vector : SharedWords) (words : List ℕ) : Type 0 where
   pub count : length words ≡ vector.count
   pub each : (i : ℕ) → i < vector.count
       → (found : ℕ) × FoundByLoad vector i found × (slice_get words i ≡ Some found)
+
+-- a vector began with the words of another, each as a load of it found it
+abbrev pub BeganAsLoaded : SharedWords → SharedWords → Type 0
+BeganAsLoaded vector other = (words : List ℕ) × WereLoaded other words × BeganWith vector words
 
 -- filters of one shape, of which each word that was loaded of the one equals that of the other
 pub record WereFoundAlike {S : Type 0} (f g : SharedFilter S) : Type 0 where

@@ -1,6 +1,6 @@
 -- What reading one line takes, and what a program read that took one line after the other. What a
 -- reader has left is Some of the bytes, or None where it doesn't tell.
-use Rattle.std.specs.Prelude.{◌≡◌, ◌⊎◌, ℕ, ◌+◌, ◌<◌, ◌≤◌, List, [], ◌∷◌, ◌++◌, length, take, slice_index, Bool, true, not, nat_lt, ◌||◌, Option, Some, None, IfSome}
+use Rattle.std.specs.Prelude.{◌≡◌, ◌⊎◌, ℕ, ◌+◌, ◌<◌, ◌≤◌, List, [], ◌∷◌, ◌++◌, length, take, slice_index, Bool, true, not, nat_lt, ◌||◌, All, Option, Some, None, IfSome}
 use Rattle.std.specs.Io.KnownBytes.{Consumes, IsAtEnd, prepend_known}
 use Rattle.lines.specs.declared.reader.Next.{Next}
 use Rattle.lines.specs.declared.reader.Next.TheVariants.{End, Line, TooLong}
@@ -74,6 +74,10 @@ pub record Ends (old new : Option (List ℕ)) : Type 0 where
 pub record TakesShort (longest : ℕ) (old new : Option (List ℕ)) (line : List ℕ) : Type 0 where
   pub takes : TakesLine old new line
   pub short : length line ≤ longest
+
+-- each of these lines is short enough
+abbrev pub AreShort : ℕ → List (List ℕ) → Type 0
+AreShort longest lines = All (λ line. length line ≤ longest) lines
 
 -- what the next line came to
 abbrev pub NextLine : ℕ → Option (List ℕ) → Option (List ℕ) → List ℕ → Next → Type 0

@@ -15,7 +15,11 @@ mod filters;
 #[cfg(test)]
 mod items;
 #[cfg(test)]
+mod large;
+#[cfg(test)]
 mod original;
+#[cfg(test)]
+mod quiet;
 #[cfg(test)]
 mod seated;
 #[cfg(test)]

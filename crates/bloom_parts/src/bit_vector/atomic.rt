@@ -2,7 +2,7 @@
 ghost use Rattle.std.specs.Prelude.{◌≡◌, ◌*◌, ◌-◌, ◌^◌, ◌<◌, ◌≤◌, IsTrue, length, IfOk, IsOkUnless};
 ghost use Rattle.std.specs.Iterator.{IsFinite, at_most};
 ghost use Rattle.std.specs.Iterator.Runs.{EachRunFrom, WholeRun};
-ghost use Rattle.bloom_parts.specs.Made.{FoundByLoad, FoundByOr, FoundByAnd, MadeZero, FoundBySwap};
+ghost use Rattle.bloom_parts.specs.Made.{BeganWith, FoundByLoad, FoundByOr, FoundByAnd, MadeZero, FoundBySwap};
 ghost use Rattle.bloom_parts.specs.Reading.{ReadsNext};
 
 use super::gather;
@@ -42,6 +42,8 @@ impl AtomicBitVec {
         requires ends { IsFinite (I.remaining words) }
         requires fits { EachRunFrom I.next_gives words
             (λ p. IsTrue p.whole → (1 ≤ length p.items) × (length p.items < 2 ^ 58)) }
+        ensures words { IfOk result (λ v. WholeRun I.next_gives words
+            (λ p. BeganWith v p.items)) }
         ensures count { IfOk result (λ v. WholeRun I.next_gives words
             (λ p. v.count ≡ length p.items)) }
         ensures refused { IsOkUnless result FilterError.Memory }

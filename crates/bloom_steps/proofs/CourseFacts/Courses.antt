@@ -131,3 +131,15 @@ off_and_on = record {
       ∷ Did 1 (Or 0 1) 0 (Answer false) ∷ Did 0 (Load 0) 1 (Answer false) ∷ [];
   words = 1 ∷ [];
 }
+
+-- an insert and a look-up of its hash that answers so, with clears just before the first record of
+-- both and just after the last, with one hash
+abbrev pub found_between_clears_answering : Bool → Course
+found_between_clears_answering answer = record {
+  start = 1 ∷ [];
+  records =
+      Began 1 Clear ∷ Did 1 (Zero 0) 0 Done ∷ Began 0 (Insert 0)
+      ∷ Did 0 (Or 0 1) 0 (Answer false) ∷ Began 0 (Contains 0)
+      ∷ Did 0 (Load 0) 1 (Answer answer) ∷ Began 1 Clear ∷ Did 1 (Zero 0) 0 Done ∷ [];
+  words = 0 ∷ [];
+}

@@ -2,6 +2,7 @@
 ghost use Rattle.std.specs.Prelude.{◌≡◌, ◌+◌, None, IfOk, IsOkUnless, vec_len};
 ghost use Rattle.std.specs.Result.{result_err};
 ghost use Rattle.bloom_parts.specs.Keys.{HasKey, key_of};
+ghost use Rattle.bloom_parts.specs.Made.{BeganWith};
 ghost use Rattle.bloom_plain.specs.Builders.{RefusesAs};
 ghost use Rattle.bloom_plain.specs.Data.{data_refusal};
 ghost use Rattle.fastbloom.specs.Shared.{WereLoaded};
@@ -43,6 +44,7 @@ impl AtomicBloomFilter {
     /// `HashCount` where the number of hashes would be 2^32, and else `Memory` where there is no
     /// room for the words that threads share.
     pub fn from_data(alloc: Global, form: FilterData) -> Result<Self, FilterError>
+        ensures began { IfOk result (λ filter. BeganWith filter.words form.bits.bits.items) }
         ensures words { IfOk result (λ filter. filter.words.count ≡ vec_len form.bits.bits) }
         ensures hashes { IfOk result (λ filter. filter.hashes ≡ form.num_hashes_minus_one + 1) }
         ensures key { IfOk result (λ filter. HasKey filter.hasher form.k0 form.k1) }

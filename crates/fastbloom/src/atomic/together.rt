@@ -9,10 +9,20 @@ ghost use Rattle.fastbloom.specs.Shared.{MakesInserts, WasInserted, QueuesInsert
 
 use super::AtomicBloomFilter;
 use arrayvec::ArrayVec;
-use bloom_parts::bit_vector::index;
+use bloom_parts::bit_vector::{Loads, index};
 use bloom_parts::hasher::DoubleHasher;
 use bloom_parts::slices::{GROUP, MANY_WORDS};
 use std::hash::{BuildHasher, Hash};
+
+// Loads the words of a hash. Nothing depends on what they hold, so no load waits for another.
+#[inline(always)]
+fn touch(words: &Loads<'_>, num_hashes: u32, hash: u64) {
+    let num_bits = words.num_bits();
+    let mut chain = DoubleHasher::new(hash);
+    'places: for _place in 0..num_hashes {
+        words.load(index(num_bits, chain.next()) / 64);
+    }
+}
 
 impl<S> AtomicBloomFilter<S> {
     // Whether the filter is larger than a cache.
@@ -20,22 +30,12 @@ impl<S> AtomicBloomFilter<S> {
         self.words.len() >= MANY_WORDS
     }
 
-    // Loads the words of a hash. Nothing depends on what they hold, so no load waits for another.
-    #[inline(always)]
-    fn touch(&self, hash: u64) {
-        let num_bits = self.words.num_bits();
-        let mut chain = DoubleHasher::new(hash);
-        'places: for _place in 0..self.num_hashes {
-            self.words.load(index(num_bits, chain.next()) / 64);
-        }
-    }
-
     // Inserts hashes, in order, whose words are all loaded first.
     fn insert_few(&self, hashes: &[u64])
         ensures { All (WasInserted self.now) hashes.now }
     {
         'touches: for hash in hashes {
-            self.touch(*hash);
+            touch(&self.words.loads(), self.num_hashes, *hash);
         }
         'inserts: for hash in hashes {
             self.insert_hash(*hash);

@@ -2,7 +2,7 @@
 ghost use Rattle.std.specs.Prelude.{◌≡◌, ◌⊎◌, ◌*◌, ◌≤◌, length, IfOk, IsOkUnless};
 ghost use Rattle.std.specs.Bool.{MatchBool};
 ghost use Rattle.bloom_parts.specs.Brackets.{low_of, high_of, width_of, HoldsRate, rate_low, rate_high};
-ghost use Rattle.fastbloom.specs.Shared.{HaveSameShape, TakesWords, WereFoundAlike, WereFoundToDiffer};
+ghost use Rattle.fastbloom.specs.Shared.{BeganAsLoaded, HaveSameShape, TakesWords, WereFoundAlike, WereFoundToDiffer};
 
 use super::AtomicBloomFilter;
 use super::keeping_store::KeepingStore;
@@ -77,6 +77,7 @@ impl<S: Clone> AtomicBloomFilter<S> {
     /// # Errors
     /// `Memory` where there is no room for the words, or none for the clone of the hasher.
     pub fn try_clone(&self, alloc: Global) -> Result<Self, FilterError>
+        ensures began { IfOk result (λ copy. BeganAsLoaded copy.words self.now.words) }
         ensures words { IfOk result (λ copy. copy.words.count ≡ self.now.words.count) }
         ensures hashes { IfOk result (λ copy. copy.hashes ≡ self.now.hashes) }
         ensures hasher { IfOk result (λ copy. S.is_clone self.now.hasher copy.hasher) }

@@ -7,6 +7,7 @@ ghost use Rattle.std.specs.Iterator.Runs.{WholeRun};
 ghost use Rattle.std.specs.Cmp.Lexicographic.{nat_list_eq_equiv};
 ghost use Rattle.std.specs.Cmp.{on_equiv, partial_equiv_from_equiv};
 ghost use Rattle.bloom_parts.specs.Keys.{HasKey, key_low, key_high};
+ghost use Rattle.bloom_parts.specs.Made.{BeganWith};
 ghost use Rattle.bloom_plain.specs.Builders.{words_for, words_refusal, bits_refusal, RefusesAs, sized_filter, same_start};
 ghost use Rattle.fastbloom.specs.Shared.{HasFormOf, MakesInserts};
 ghost use Rattle.bloom_plain.specs.SourceHash.{lent_hash_of};
@@ -47,6 +48,7 @@ fn filter_of<S: Drop>(
 ) -> Result<AtomicBloomFilter<S>, FilterError>
     requires some { 1 ≤ length bits.now }
     requires few { length bits.now < 2 ^ 58 }
+    ensures began { IfOk result (λ filter. BeganWith filter.words bits.now) }
     ensures words { IfOk result (λ filter. filter.words.count ≡ length bits.now) }
     ensures hashes { IfOk result (λ filter. filter.hashes ≡ max 1 num_hashes) }
     ensures hasher { IfOk result (λ filter. filter.hasher ≡ hasher) }
@@ -120,6 +122,7 @@ impl<S: Drop> AtomicBuilderWithBits<S> {
     /// # Errors
     /// `Memory` where there is no room for the words that threads share.
     pub fn hashes(self, alloc: Global, num_hashes: u32) -> Result<AtomicBloomFilter<S>, FilterError>
+        ensures began { IfOk result (λ filter. BeganWith filter.words self.words) }
         ensures words { IfOk result (λ filter. filter.words.count ≡ length self.words) }
         ensures hashes { IfOk result (λ filter. filter.hashes ≡ max 1 num_hashes) }
         ensures hasher { IfOk result (λ filter. filter.hasher ≡ self.hasher) }

@@ -1,11 +1,12 @@
 //! Builders that size a filter that threads share by a rate of false positives.
-ghost use Rattle.std.specs.Prelude.{◌≡◌, ℕ, ◌<◌, IfOk};
+ghost use Rattle.std.specs.Prelude.{◌≡◌, ℕ, ◌<◌, IfOk, replicate};
 ghost use Rattle.std.specs.Result.{result_err};
 ghost use Rattle.std.specs.Int.{w128, to_be_bytes};
 ghost use Rattle.std.specs.Iterator.{IsFiniteIterable, items_left};
 ghost use Rattle.std.specs.Iterator.Runs.{WholeRun};
 ghost use Rattle.std.specs.Cmp.{on_equiv, partial_equiv_from_equiv};
 ghost use Rattle.bloom_parts.specs.Keys.{HasKey, key_low, key_high};
+ghost use Rattle.bloom_parts.specs.Made.{BeganWith};
 ghost use Rattle.bloom_parts.specs.RateLaws.{same_rate-laws};
 ghost use Rattle.bloom_plain.specs.Builders.{words_for, size_refusal, RefusesAs, IsSizeOf, same_rate_start};
 ghost use Rattle.fastbloom.specs.Shared.{HasFormFor, MakesInserts};
@@ -42,6 +43,7 @@ impl<S> Model for AtomicBuilderWithFalsePositiveRate<S> {
 // Zero words that threads share for this many bits, in room that is asked for at once.
 fn zero_words(alloc: Global, num_bits: usize) -> Result<AtomicBitVec, FilterError>
     requires { 0 < num_bits }
+    ensures began { IfOk result (λ words. BeganWith words (replicate (words_for num_bits) 0)) }
     ensures count { IfOk result (λ words. words.count ≡ words_for num_bits) }
     ensures refused { RefusesAs (size_refusal num_bits) (result_err result) }
 {

@@ -1,26 +1,25 @@
-use Rattle.std.proofs.Common.{◌≡◌, ◌≤◌, ◌-◌, ◌^◌, arith, ap, ◌∙◌, refl, rules, Err}
+use Rattle.std.proofs.Common.{◌≡◌, ap, ◌∙◌, refl, rules, Err}
 use Rattle.duplicates_engine.specs.Kept.{line_hash}
 use Rattle.lines.specs.Reading.{left_of}
-use Rattle.duplicates_engine.proofs.RunLemmas.{line-kept, sifting-nil, keeps-all, until-long, until-writer, sifting-more}
-use Rattle.duplicates_engine.proofs.ToldLemmas.{told-nil, told-step}
+use Rattle.duplicates_engine.proofs.RunLemmas.{line-kept, keeps-all, until-long, until-writer, sifting-more}
+use Rattle.duplicates_engine.proofs.StartLemmas.{sifting-nil}
 use Rattle.duplicates_engine.proofs.keep.keep_lines.Goals as goal
 
 pub lines-init : goal.lines-init
 lines-init g c = record {
-  sifting = sifting-nil _ _ _ _ _ _ c.requires.empty c.requires.open refl refl;
+  sifting = sifting-nil _ _ _ _ _ _ _ _ c.requires.empty c.requires.open refl refl;
   longest = refl;
-  told = told-nil _;
 }
 
 pub returns-in-Ok-End-clause-all : goal.returns-in-Ok-End-clause-all
 returns-in-Ok-End-clause-all g c =
-    keeps-all c.lines.invariant.sifting c.lines.lines.longest c.next_line.new.self _
+    keeps-all c.lines.invariant.sifting c.next_line.new.self _
     (rw c.in-Ok-End.field-0-is at c.in-Ok-End.ensures.next)
 
 pub returns-in-Ok-TooLong-clause-fault : goal.returns-in-Ok-TooLong-clause-fault
 returns-in-Ok-TooLong-clause-fault g c =
     let long = rw c.in-Ok-TooLong.field-0-is at c.in-Ok-TooLong.ensures.next in
-    until-long c.lines.invariant.sifting _ _ c.saturating_add.ensures
+    until-long c.lines.invariant.sifting _ c.saturating_add.ensures
     (left_of c.next_line.new.self (g.R.Read.remaining c.next_line.new.input))
     (rw c.lines.invariant.longest at long)
 
@@ -34,7 +33,7 @@ returns-in_err-is_held-clause-fault g c =
     let same : c.from_residual.result ≡ Err fault = search rules in
     let kept = line-kept hash c.line.ensures c.keep_line.ensures in
     rw same
-    (until-writer sifting _ c.lists_join.ensures c.inserted_stays_found.ensures.inserts
+    (until-writer sifting c.lists_join.ensures c.inserted_stays_found.ensures.inserts
     c.next_line.new.self _ (rw c.lines.invariant.longest at took) _ _ fault
     (rw c.in_err-is_held.was at kept))
 
@@ -47,13 +46,10 @@ lines-preserved g c =
     let kept = line-kept hash c.line.ensures c.keep_line.ensures in
     record {
       sifting =
-          sifting-more sifting c.lines.lines.longest c.lists_join.ensures
-          c.inserted_stays_found.ensures.inserts _ _ took _ _ _ _ c.in-Ok-Line.ensures.knows
+          sifting-more sifting c.lists_join.ensures c.inserted_stays_found.ensures.inserts _ _
+          (rw c.lines.invariant.longest at took) _ _ _ _ _ c.in-Ok-Line.ensures.knows
           (rw c.in_ok-is_held.was at kept)
-          c.after-tally.ensures.read c.after-tally.ensures.held;
+          c.after-tally.ensures.read c.after-tally.ensures.held c.tell.ensures.told
+          (λ within. ap g.P.Progress.tells (c.tell.ensures.quiet within));
       longest = c.in-Ok-Line.ensures.longest ∙ c.lines.invariant.longest;
-      told =
-          let fits : c.lines.tally.read ≤ 2 ^ 64 - 1 = omega (arith, sifting.counts.read) in
-          told-step _ _ _ _ _ c.lines.invariant.told c.after-tally.ensures.read fits
-          c.tell.ensures.told (λ within. ap g.P.Progress.tells (c.tell.ensures.quiet within));
     }

@@ -12,8 +12,9 @@ returns-in_err-words-clause-refused g c =
 pub returns-clause-form : goal.returns-clause-form
 returns-clause-form g c =
     form_of-parts _ _ c.self.view_is _ _ _ _ _ _ _ _ _ c.rate_and_hasher-hasher.ensures
-    c.max.ensures c.in_ok-size.ensures.value c.in_ok-words.ensures.count c.num_bits.ensures.value
-    c.num_hashes_for-num_hashes.ensures c.from_parts.ensures
+    c.max.ensures c.in_ok-size.ensures.value c.in_ok-words.ensures.began
+    c.in_ok-words.ensures.count c.num_bits.ensures.value c.num_hashes_for-num_hashes.ensures
+    c.from_parts.ensures
 
 pub returns-clause-refused : goal.returns-clause-refused
 returns-clause-refused g c =

@@ -1,0 +1,50 @@
+//! Words that threads share, to be loaded and never changed.
+ghost use Rattle.std.specs.Prelude.{◌≡◌, ◌*◌, ◌<◌, ◌≤◌};
+ghost use Rattle.bloom_parts.specs.Made.{FoundByLoad};
+
+use super::atomic::AtomicBitVec;
+use std::marker::Model;
+
+/// The words of a vector that threads share, for code that may load them and no more.
+#[derive(Drop)]
+pub struct Loads<'a> {
+    vector: &'a AtomicBitVec,
+}
+
+impl<'a> Model for Loads<'a> {
+    ghost use Rattle.bloom_parts.specs.Made.{SharedWords};
+
+    ghost Value = { SharedWords };
+
+    ghost view = { λ l. l.vector.now };
+}
+
+impl<'a> Loads<'a> {
+    /// The number of bits, 64 for each word.
+    #[inline]
+    pub fn num_bits(&self) -> usize
+        ensures value { result ≡ 64 * self.now.count }
+        ensures least { 64 ≤ result }
+    {
+        self.vector.num_bits()
+    }
+
+    /// Reads a word.
+    #[inline]
+    pub fn load(&self, word: usize) -> u64
+        requires { word < self.now.count }
+        ensures { FoundByLoad self.now word result }
+    {
+        self.vector.load(word)
+    }
+}
+
+impl AtomicBitVec {
+    /// The words, to be loaded alone.
+    #[inline]
+    pub fn loads(&self) -> Loads<'_>
+        ensures { result ≡ self.now }
+    {
+        Loads { vector: self }
+    }
+}
