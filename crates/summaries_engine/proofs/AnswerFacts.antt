@@ -1,7 +1,8 @@
 -- What is read of keys and written of answers: cases that hold, and some that nearly do. Key "a" is
 -- byte 97 and "b" byte 98; among 64 bits and with two hashes 268500992 is the word of "a" alone.
-use Rattle.std.proofs.Common.{◌≡◌, ℕ, true, false, ◌*◌, List, [], ◌∷◌, length, map, Some, refl, sym, ap, ◌∙◌, arith}
+use Rattle.std.proofs.Common.{◌≡◌, ◌≤◌, ℕ, true, false, ◌*◌, List, [], ◌∷◌, length, map, Option, Some, refl, sym, subst, ap, ◌∙◌, arith}
 use Rattle.std.proofs.lemmas.List.{length-map}
+use Rattle.std.proofs.lemmas.List.Elements.{All-from_recursion}
 use Rattle.bloom_parts.specs.Chain.{chain}
 use Rattle.bloom_parts.specs.Content.{content}
 use Rattle.bloom_parts.specs.Places.{are_in}
@@ -9,9 +10,16 @@ use Rattle.bloom_parts.specs.Sip.{sip, start, whole_words, rest}
 use Rattle.fastbloom.specs.Data.{DefaultFilter}
 use Rattle.fastbloom.specs.Filter.{contains}
 use Rattle.lines.specs.Lines.{lines_of}
+use Rattle.lines.specs.Reading.{AreShort}
 use Rattle.summaries_engine.specs.Answers.{IsKeyed, HashesAll, found_text, AnswersAll}
 use Rattle.summaries_engine.specs.Summaries.{hash_in}
 use Rattle.summaries_engine.proofs.SummaryFacts.{IsFilter, hash-a, hash-b, hash-in}
+
+-- two keys of which neither is too long
+both-short : (key other : List ℕ) → length key ≤ 65536 → length other ≤ 65536
+    → AreShort 65536 (key ∷ other ∷ [])
+both-short key other one two =
+    All-from_recursion (λ key. length key ≤ 65536) (key ∷ other ∷ []) (one, (two, tt))
 
 -- the hashes of "a" and "b", of which the last has no end
 hashes-both : HashesAll (Some (97 ∷ 10 ∷ 98 ∷ [])) (Some [])
@@ -20,9 +28,16 @@ unfolding lines_of
 hashes-both = record {
   keys = (97 ∷ []) ∷ (98 ∷ []) ∷ [];
   whole = record { are_lines = refl; none_left = refl };
+  short = both-short (97 ∷ []) (98 ∷ []) (omega arith) (omega arith);
   hashed = ap (λ h. h ∷ 0x8b22_cf26_02fb_60ce ∷ []) (sym hash-a)
       ∙ ap (λ h. sip 0 0 (97 ∷ []) ∷ h ∷ []) (sym hash-b);
 }
+
+-- none of them is too long
+hashes-long : (read left : Option (List ℕ)) (hashes : List ℕ) (did : HashesAll read left hashes)
+    (key : List ℕ) → did.keys ≡ key ∷ [] → length key ≡ 65537 → ⊥
+hashes-long read left hashes did key is long =
+    omega (arith, long, subst (AreShort 65536) is did.short 0 [] (omega arith))
 
 -- not where one is left out
 hashes-less : HashesAll (Some (97 ∷ 10 ∷ 98 ∷ [])) (Some []) (0x4074_48d2_b89b_1813 ∷ []) → ⊥
@@ -67,8 +82,16 @@ unfolding lines_of
 answers-a f is = record {
   keys = (98 ∷ []) ∷ (97 ∷ []) ∷ [];
   whole = record { are_lines = refl; none_left = refl };
+  short = both-short (98 ∷ []) (97 ∷ []) (omega arith) (omega arith);
   text = ap (λ text. 5 ∷ text) (sym (text-a f is));
 }
+
+-- none of them is too long
+answers-long : (f : DefaultFilter) (read left from to : Option (List ℕ))
+    (did : AnswersAll f read left from to) (key : List ℕ) → did.keys ≡ key ∷ []
+    → length key ≡ 65537 → ⊥
+answers-long f read left from to did key is long =
+    omega (arith, long, subst (AreShort 65536) is did.short 0 [] (omega arith))
 
 -- a key that is in may not be left out
 answers-less : (f : DefaultFilter) → IsFilter f 268500992 0

@@ -1,8 +1,8 @@
 -- Keys read one after the other, with what was made of them so far.
-use Rattle.std.proofs.Common.{◌≡◌, ℕ, ◌+◌, Bool, true, false, List, [], ◌∷◌, ◌++◌, if◌then◌else◌, map, filter, flat_map, length, length-append, Ok, Option, refl, sym, subst, ◌∙◌, ap, arith}
+use Rattle.std.proofs.Common.{◌≡◌, ℕ, ◌+◌, ◌≤◌, Bool, true, false, List, [], ◌∷◌, ◌++◌, if◌then◌else◌, map, filter, flat_map, length, length-append, Ok, Option, refl, sym, subst, ◌∙◌, ap, arith}
 use Rattle.std.proofs.lemmas.List.{map-append}
 use Rattle.std.proofs.lemmas.Grind.{flat_map-append}
-use Rattle.std.proofs.lemmas.List.Elements.{filter-append}
+use Rattle.std.proofs.lemmas.List.Elements.{All-append, All-from_recursion, All-nil, filter-append}
 use Rattle.std.proofs.KnownBytes.{Appends-nil, Appends-trans}
 use Rattle.std.specs.Prelude.{Result}
 use Rattle.std.specs.Result.{is_ok}
@@ -10,7 +10,7 @@ use Rattle.std.specs.Io.KnownBytes.{Appends}
 use Rattle.bloom_parts.specs.Sip.{sip}
 use Rattle.fastbloom.specs.Data.{DefaultFilter}
 use Rattle.fastbloom.specs.Filter.{contains}
-use Rattle.lines.specs.Reading.{Waiting, KnowsEnd, TakesShort, Ends, left_of}
+use Rattle.lines.specs.Reading.{Waiting, AreShort, KnowsEnd, TakesShort, Ends, left_of}
 use Rattle.lines.proofs.TakenLemmas.{TakesLines, TakesLines-nil, TakesLines-more, IsReadWhole-from}
 use Rattle.summaries_engine.specs.Answers.{HashesAll, AnswersAll, found_text}
 use Rattle.summaries_engine.specs.Summaries.{hash_in}
@@ -21,6 +21,7 @@ pub record HasRead (read : Option (List ℕ)) (reader : Waiting) (left : Option 
   pub taken : TakesLines read (left_of reader left) keys
   pub knows : KnowsEnd reader.ended left
   pub longest : reader.longest ≡ 65536
+  pub short : AreShort 65536 keys
 
 -- none
 pub read-none : (read : Option (List ℕ)) (reader : Waiting) → reader.bytes ≡ []
@@ -29,18 +30,22 @@ read-none read reader empty opened longest = record {
   taken = TakesLines-nil reader.bytes read empty;
   knows = λ told. let wrong : false ≡ true = sym opened ∙ told in cc;
   longest = longest;
+  short = All-nil (λ key. length key ≤ 65536);
 }
 
 -- one more
-pub read-next : {longest : ℕ} (read : Option (List ℕ)) (old new : Waiting)
+pub read-next : (read : Option (List ℕ)) (old new : Waiting)
     (left rest : Option (List ℕ)) (keys : List (List ℕ)) → HasRead read old left keys
-    → TakesShort longest (left_of old left) (left_of new rest) new.line → KnowsEnd new.ended rest
+    → TakesShort old.longest (left_of old left) (left_of new rest) new.line → KnowsEnd new.ended rest
     → new.longest ≡ old.longest → HasRead read new rest (keys ++ new.line ∷ [])
 read-next read old new left rest keys so_far next knows same = record {
   taken = TakesLines-more read (left_of old left) (left_of new rest) keys new.line
       so_far.taken next.takes;
   knows = knows;
   longest = same ∙ so_far.longest;
+  short = All-append (λ key. length key ≤ 65536) keys (new.line ∷ []) so_far.short
+      (All-from_recursion (λ key. length key ≤ 65536) (new.line ∷ [])
+      (subst (λ n. length new.line ≤ n) so_far.longest next.short, tt));
 }
 
 -- one key more is one number more
@@ -64,11 +69,11 @@ pushed result hashes more hash is made =
     made ∙ ap (λ r. if is_ok r then hashes ++ hash ∷ [] else hashes) is
 
 -- one hash more
-pub hashing-next : {longest : ℕ} (read : Option (List ℕ)) (old new : Waiting)
+pub hashing-next : (read : Option (List ℕ)) (old new : Waiting)
     (left rest : Option (List ℕ)) (number : ℕ) (hashes more : List ℕ) (hash : ℕ)
     → IsHashing read old left number hashes
-    → TakesShort longest (left_of old left) (left_of new rest) new.line → KnowsEnd new.ended rest
-    → new.longest ≡ old.longest → hash ≡ sip 0 0 new.line → more ≡ hashes ++ hash ∷ []
+    → TakesShort old.longest (left_of old left) (left_of new rest) new.line
+    → KnowsEnd new.ended rest → new.longest ≡ old.longest → hash ≡ sip 0 0 new.line → more ≡ hashes ++ hash ∷ []
     → IsHashing read new rest (number + 1) more
 hashing-next read old new left rest number hashes more hash past next knows same is made = record {
   keys = past.keys ++ new.line ∷ [];
@@ -87,6 +92,7 @@ hashing-end read old new left rest number hashes so_far end = record {
   keys = so_far.keys;
   whole = IsReadWhole-from read (left_of old left) rest new.bytes so_far.keys
       so_far.has_read.taken end;
+  short = so_far.has_read.short;
   hashed = so_far.hashed;
 }
 
@@ -119,11 +125,11 @@ answering-none f read reader from empty opened longest = record {
 }
 
 -- one more
-pub answering-next : {longest : ℕ} (f : DefaultFilter) (read : Option (List ℕ)) (old new : Waiting)
+pub answering-next : (f : DefaultFilter) (read : Option (List ℕ)) (old new : Waiting)
     (left rest : Option (List ℕ)) (number : ℕ) (from to more : Option (List ℕ))
     → IsAnswering f read old left number from to
-    → TakesShort longest (left_of old left) (left_of new rest) new.line → KnowsEnd new.ended rest
-    → new.longest ≡ old.longest → Appends to more (found_text f (new.line ∷ []))
+    → TakesShort old.longest (left_of old left) (left_of new rest) new.line
+    → KnowsEnd new.ended rest → new.longest ≡ old.longest → Appends to more (found_text f (new.line ∷ []))
     → IsAnswering f read new rest (number + 1) from more
 answering-next f read old new left rest number from to more so_far next knows same one = record {
   keys = so_far.keys ++ new.line ∷ [];
@@ -142,5 +148,6 @@ answering-end f read old new left rest number from to so_far end = record {
   keys = so_far.keys;
   whole = IsReadWhole-from read (left_of old left) rest new.bytes so_far.keys
       so_far.has_read.taken end;
+  short = so_far.has_read.short;
   text = so_far.text;
 }

@@ -1,12 +1,13 @@
 -- Why keys aren't taken to their end: cases that hold, and some that nearly do. Byte 10 ends a
 -- line.
-use Rattle.std.proofs.Common.{◌≡◌, ℕ, ◌+◌, inl, inr, List, [], ◌∷◌, ◌++◌, codes, length, length-append, get_or, Option, Some, sym, ap, subst, ◌∙◌, arith}
+use Rattle.std.proofs.Common.{◌≡◌, ◌≤◌, ℕ, ◌+◌, inl, inr, List, [], ◌∷◌, ◌++◌, codes, length, length-append, get_or, Option, Some, sym, ap, subst, ◌∙◌, arith}
+use Rattle.std.proofs.lemmas.List.Elements.{All-nil}
 use Rattle.std.specs.Fmt.Cut.{EndsInDots}
 use Rattle.anyhow.specs.Error.{HasMessage, error_message}
 use Rattle.anyhow.specs.declared.error.Error.{Error}
 use Rattle.fastbloom.specs.Data.{DefaultFilter}
 use Rattle.lines.specs.Lines.{lines_of}
-use Rattle.lines.specs.Reading.{IsReadFrom}
+use Rattle.lines.specs.Reading.{AreShort, IsReadFrom}
 use Rattle.summaries_engine.specs.Refusals.{too_long_text}
 use Rattle.summaries_engine.specs.Stops.{IsReasonAfter, SaysOver, StopsAsking, StopsBuilding, StopsHashing}
 use Rattle.summaries_engine.proofs.StopLemmas.{from-none}
@@ -29,9 +30,16 @@ hashing-room : (said : Error) → SaysOver (codes "no memory") said → StopsHas
 hashing-room said over = record {
   keys = [];
   first = from-none (Some []);
+  short = All-nil (λ key. length key ≤ 65536);
   done = tt;
   reason = inl over;
 }
+
+-- no key before is too long
+hashing-long : (read : Option (List ℕ)) (said : Error) (stop : StopsHashing read said)
+    (key : List ℕ) → stop.keys ≡ key ∷ [] → length key ≡ 65537 → ⊥
+hashing-long read said stop key is long =
+    omega (arith, long, subst (AreShort 65536) is stop.short 0 [] (omega arith))
 
 -- no reason says no
 reason-no : (read : Option (List ℕ)) (keys : List (List ℕ)) (said : Error)

@@ -61,6 +61,7 @@ pub hashing-stops : (read left : Option (List ℕ)) (reader : Waiting) (number :
 hashing-stops read left reader number hashes said so_far why = record {
   keys = so_far.keys;
   first = IsReadFrom-taken read (left_of reader left) so_far.keys so_far.has_read.taken;
+  short = so_far.has_read.short;
   done = tt;
   reason = why so_far.keys so_far.counted so_far.has_read.taken;
 }
@@ -72,6 +73,7 @@ pub asking-stops : (f : DefaultFilter) (read left from to : Option (List ℕ)) (
 asking-stops f read left from to reader number said so_far why = inl (record {
   keys = so_far.keys;
   first = IsReadFrom-taken read (left_of reader left) so_far.keys so_far.has_read.taken;
+  short = so_far.has_read.short;
   done = so_far.text;
   reason = why so_far.keys so_far.counted so_far.has_read.taken;
 })

@@ -5,17 +5,18 @@ use Rattle.bloom_parts.specs.Keys.{HasKey, key_of}
 use Rattle.bloom_parts.specs.Sip.{sip}
 use Rattle.fastbloom.specs.Data.{DefaultFilter}
 use Rattle.fastbloom.specs.Filter.{contains}
-use Rattle.lines.specs.Reading.{IsReadWhole}
+use Rattle.lines.specs.Reading.{AreShort, IsReadWhole}
 use Rattle.summaries_engine.specs.Summaries.{hash_in}
 
 -- the hashers of a filter have the filter's key, and have taken in nothing
 abbrev pub IsKeyed : DefaultFilter → Type 0
 IsKeyed f = HasKey f.hasher (key_of f.hasher).0 (key_of f.hasher).1
 
--- these are the hashes, under the zero key, of all keys that a reader had
+-- these are the hashes, under the zero key, of all keys that a reader had, none of which is too long
 pub record HashesAll (read left : Option (List ℕ)) (hashes : List ℕ) : Type 0 where
   pub keys : List (List ℕ)
   pub whole : IsReadWhole read left keys
+  pub short : AreShort 65536 keys
   pub hashed : hashes ≡ map (sip 0 0) keys
 
 -- the keys that a filter contains, in order, each with the end of a line
@@ -23,8 +24,9 @@ abbrev pub found_text : DefaultFilter → List (List ℕ) → List ℕ
 found_text f keys =
     flat_map (λ key. key ++ 10 ∷ []) (filter (λ key. contains f (hash_in f key)) keys)
 
--- each key that a reader had was asked for, and those that may be in were written
+-- each key that a reader had was asked for, none is too long, and those that may be in were written
 pub record AnswersAll (f : DefaultFilter) (read left from to : Option (List ℕ)) : Type 0 where
   pub keys : List (List ℕ)
   pub whole : IsReadWhole read left keys
+  pub short : AreShort 65536 keys
   pub text : Appends from to (found_text f keys)

@@ -5,7 +5,7 @@ use Rattle.std.specs.Io.KnownBytes.{Appends}
 use Rattle.anyhow.specs.Error.{IsContextOn, IsMadeOf}
 use Rattle.anyhow.specs.declared.error.Error.{Error}
 use Rattle.fastbloom.specs.Data.{DefaultFilter}
-use Rattle.lines.specs.Reading.{IsReadFrom, IsReadToLong}
+use Rattle.lines.specs.Reading.{AreShort, IsReadFrom, IsReadToLong}
 use Rattle.summaries_engine.specs.Answers.{found_text}
 use Rattle.summaries_engine.specs.Refusals.{too_long_text}
 
@@ -25,11 +25,12 @@ IsReasonAfter read keys said = SaysOver (codes "no memory") said
     ⊎ (IsReadToLong 65536 read keys × Says (too_long_text (length keys)) said)
     ⊎ ((length keys ≡ 2 ^ 64 - 1) × Says (codes "there are too many keys") said)
 
--- so it was behind some of the first keys, with which so much was done
+-- it stopped behind these first keys, none of which is too long, and `Done` holds of them
 pub record StopsAfter (read : Option (List ℕ)) (Done : List (List ℕ) → Type 0) (said : Error)
     : Type 0 where
   pub keys : List (List ℕ)
   pub first : IsReadFrom read keys
+  pub short : AreShort 65536 keys
   pub done : Done keys
   pub reason : IsReasonAfter read keys said
 

@@ -1,6 +1,7 @@
 //! The filter of all keys of a reader, filled by workers.
 ghost use Rattle.std.specs.Prelude.{◌≡◌, ◌<◌, IfErr, IfOk, IfSome, map};
 ghost use Rattle.std.specs.List.{concat};
+ghost use Rattle.bloom_parts.specs.Keys.{HasKey};
 ghost use Rattle.lines.specs.Lines.{lines_of};
 ghost use Rattle.summaries_engine.specs.Answers.{IsKeyed};
 ghost use Rattle.summaries_engine.specs.Stops.{StopsBuilding};
@@ -51,6 +52,7 @@ pub fn build<R: Threads, I: Read>(
     requires { 0 < workers }
     ensures summary { IfOk result (λ filter. IfSome (I.remaining input.old)
         (λ bytes. IsSummaryOf shape (lines_of bytes) filter)) }
+    ensures key { IfOk result (λ filter. HasKey filter.hasher 0 0) }
     ensures keyed { IfOk result IsKeyed }
     // Why there is none.
     ensures stops { IfErr result (StopsBuilding (I.remaining input.old)) }

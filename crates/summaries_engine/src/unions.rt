@@ -38,6 +38,8 @@ pub fn add(whole: &mut BloomFilter, shard: &BloomFilter) -> Result<(), Differenc
     // A refusal leaves the whole as it was.
     ensures shape { result ≡ Err Difference.Shape → ¬ SameShape whole.old shard.now }
     ensures other { result ≡ Err Difference.Key → ¬ HaveSameKey whole.old shard.now }
+    // The shape comes first.
+    ensures order { result ≡ Err Difference.Key → SameShape whole.old shard.now }
     ensures kept { OnErr result (whole.new ≡ whole.old) }
 {
     if !whole.same_shape(shard) {

@@ -1,5 +1,6 @@
-use Rattle.std.proofs.Common.{◌≡◌, inl, codes, false, [], ◌∷◌, Ok, ap, subst, ◌∙◌, arith, rules}
+use Rattle.std.proofs.Common.{◌≡◌, ◌≤◌, length, inl, codes, false, [], ◌∷◌, Ok, ap, subst, ◌∙◌, arith, rules}
 use Rattle.std.proofs.KnownBytes.{Appends-nil}
+use Rattle.std.proofs.lemmas.List.Elements.{All-nil}
 use Rattle.std.specs.Prelude.{Err, IfOk}
 use Rattle.std.specs.Io.KnownBytes.{Appends}
 use Rattle.lines.specs.Reading.{NextLine, left_of}
@@ -63,6 +64,7 @@ returns-in_err-lines-clause-stops g c =
     (λ says. inl (record {
       keys = [];
       first = from-none read;
+      short = All-nil (λ key. length key ≤ 65536);
       done = Appends-nil to;
       reason = inl says;
     }))

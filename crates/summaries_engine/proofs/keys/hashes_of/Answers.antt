@@ -1,4 +1,5 @@
-use Rattle.std.proofs.Common.{◌≡◌, inl, codes, false, [], Ok, ap, refl, subst, ◌∙◌, arith, rules}
+use Rattle.std.proofs.Common.{◌≡◌, ◌≤◌, length, inl, codes, false, [], Ok, ap, refl, subst, ◌∙◌, arith, rules}
+use Rattle.std.proofs.lemmas.List.Elements.{All-nil}
 use Rattle.std.specs.Prelude.{Err, IfOk}
 use Rattle.bloom_parts.specs.Sip.{sip}
 use Rattle.lines.specs.Reading.{NextLine, left_of}
@@ -59,6 +60,7 @@ returns-in_err-lines-clause-stops g c =
     (λ says. record {
       keys = [];
       first = from-none read;
+      short = All-nil (λ key. length key ≤ 65536);
       done = tt;
       reason = inl says;
     })
