@@ -4,8 +4,8 @@ use crate::filters::{filter_of, has_words};
 use fastbloom::{AtomicBloomFilter, FilterError, Rate};
 use std::alloc::Global;
 
-// Bits 0 and 2 of word 0, and 1 and 2 of word 1.
-const WORDS: [u64; 3] = [5, 6, 0];
+// Bits 0 and 2 of word 0, 1 and 2 of word 1, 0 and 3 of word 2.
+const WORDS: [u64; 3] = [5, 6, 9];
 
 // Among 192 bits hash 0 has position 0, and hash 1 has one of the positions from 60 to 62 too.
 fn looks_are_right(filter: &AtomicBloomFilter, other: &AtomicBloomFilter) -> bool {
@@ -43,6 +43,16 @@ fn inserts_set_their_bits_alone(alloc: Global) -> Result<bool, FilterError> {
     Ok(by_hash && of_item)
 }
 
+// Whether a clear turns every word off, and a take gives the words and does so too.
+fn all_words_go_off(alloc: Global) -> Result<bool, FilterError> {
+    let cleared = filter_of(alloc, &WORDS, 2)?;
+    cleared.clear();
+    let taken = filter_of(alloc, &WORDS, 2)?;
+    let words = taken.take_words(alloc)?;
+    let is_off = has_words(&cleared, &[0, 0, 0]) && has_words(&taken, &[0, 0, 0]);
+    Ok(is_off && words.as_slice() == WORDS.as_slice())
+}
+
 // Whether builders make of an item the filter that it is inserted into, over the builder's words.
 fn builders_keep_words_and_items(alloc: Global) -> Result<bool, FilterError> {
     let words = [4, 8].to_vec(alloc)?;
@@ -60,6 +70,7 @@ fn builders_keep_words_and_items(alloc: Global) -> Result<bool, FilterError> {
 fn calls_leave_all_bits_but_their_own(rt: HostRuntime) -> Result<(), FilterError> {
     assert!(rt; readers_change_nothing(rt.alloc())?);
     assert!(rt; inserts_set_their_bits_alone(rt.alloc())?);
+    assert!(rt; all_words_go_off(rt.alloc())?);
     assert!(rt; builders_keep_words_and_items(rt.alloc())?);
     Ok(())
 }
