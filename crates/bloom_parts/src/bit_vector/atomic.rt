@@ -1,7 +1,8 @@
 //! Words that threads share, each read or changed by one atomic operation.
-ghost use Rattle.std.specs.Prelude.{◌≡◌, ◌*◌, ◌-◌, ◌^◌, ◌<◌, ◌≤◌, IsTrue, length, IfOk, IsOkUnless};
-ghost use Rattle.std.specs.Iterator.{IsFinite, at_most};
+ghost use Rattle.std.specs.Prelude.{◌≡◌, ◌*◌, ◌-◌, ◌^◌, ◌<◌, ◌≤◌, IsTrue, length, Some, IfOk, IfSome, IsOkUnless};
+ghost use Rattle.std.specs.Iterator.{IsFinite, UpTo, at_most};
 ghost use Rattle.std.specs.Iterator.Runs.{EachRunFrom, WholeRun};
+ghost use Rattle.std.specs.Iterator.SizeHint.{IsWithinCount};
 ghost use Rattle.bloom_parts.specs.Made.{BeganWith, FoundByLoad, FoundByOr, FoundByAnd, MadeZero, FoundBySwap};
 ghost use Rattle.bloom_parts.specs.Reading.{ReadsNext};
 
@@ -173,8 +174,13 @@ impl<'a> Iterator for AtomicWords<'a> {
         Some(word)
     }
 
-    // Both bounds are exact, so that a copy asks for its room at once.
-    fn size_hint(&self) -> (usize, Option<usize>) {
+    // A copy asks for its room at once.
+    fn size_hint(&self) -> (usize, Option<usize>)
+        ensures lower { IsWithinCount result.0 (at_most (self.now.vector.count - self.now.next)) }
+        ensures upper { IfSome result.1 (UpTo (at_most (self.now.vector.count - self.now.next))) }
+        ensures exact { (result.0 ≡ self.now.vector.count - self.now.next)
+            × (result.1 ≡ Some result.0) }
+    {
         let left = self.end.saturating_sub(self.next);
         (left, Some(left))
     }

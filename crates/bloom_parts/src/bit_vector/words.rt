@@ -1,6 +1,7 @@
 //! The words of a bit vector, one after the other.
-ghost use Rattle.std.specs.Prelude.{◌≡◌, ℕ, List};
-ghost use Rattle.std.specs.Iterator.{YieldsFirst, item_count};
+ghost use Rattle.std.specs.Prelude.{◌≡◌, ℕ, List, length, Some, IfSome};
+ghost use Rattle.std.specs.Iterator.{UpTo, YieldsFirst, at_most, item_count};
+ghost use Rattle.std.specs.Iterator.SizeHint.{IsWithinCount};
 
 use std::marker::Model;
 
@@ -36,5 +37,14 @@ impl<'a> Iterator for Words<'a> {
         let (first, others) = self.rest.split_first()?;
         self.rest = others;
         Some(*first)
+    }
+
+    // A copy asks for its room at once.
+    fn size_hint(&self) -> (usize, Option<usize>)
+        ensures lower { IsWithinCount result.0 (at_most (length self.now)) }
+        ensures upper { IfSome result.1 (UpTo (at_most (length self.now))) }
+        ensures exact { (result.0 ≡ length self.now) × (result.1 ≡ Some result.0) }
+    {
+        (self.rest.len(), Some(self.rest.len()))
     }
 }
