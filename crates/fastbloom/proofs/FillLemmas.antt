@@ -1,8 +1,7 @@
 -- What fills a filter: no hash, one hash more, and the hashes of another filter.
-use Rattle.std.proofs.Common.{◌≡◌, ℕ, ◌+◌, ◌*◌, ◌||◌, List, [], ◌∷◌, ◌++◌, length, map, replicate, refl, sym, subst, ◌∙◌, ap, arith, append-nil}
+use Rattle.std.proofs.Common.{◌≡◌, ℕ, ◌+◌, ◌*◌, ◌||◌, List, [], ◌∷◌, ◌++◌, length, map, replicate, refl, sym, subst, ◌∙◌, ap, arith, append-nil, append_assoc}
 use Rattle.std.proofs.Math.Bool.{or_assoc}
 use Rattle.std.proofs.lemmas.List.{map-append, length-replicate}
-use Rattle.std.proofs.lemmas.List.Folds.{concat-append}
 use Rattle.std.proofs.lemmas.List.Elements.{All-head, All-push, All-rest, All-same}
 use Rattle.std.specs.List.{concat}
 use Rattle.std.specs.Prelude.{All}
@@ -54,13 +53,6 @@ module _ {S : Type 0} (shape : Shape) where
             ∙ sym (positions_of_all-append n k hashes others p);
       }
 
--- one list more, at the end of lists that are joined
-pub concat-map-push : {X : Type 0} (f : X → List ℕ) (xs : List X) (x : X)
-    → concat (map f (xs ++ x ∷ [])) ≡ concat (map f xs) ++ f x
-concat-map-push f xs x =
-    ap concat (map-append f xs (x ∷ [])) ∙ concat-append (map f xs) (f x ∷ [])
-    ∙ ap (λ l. concat (map f xs) ++ l) (append-nil (f x))
-
 -- two lists that are mapped to the same, and one more of each
 pub map-push-same : {X Y A : Type 0} (xs : List X) (ys : List Y) (f : X → A) (g : Y → A) (x : X)
     (y : Y) {more : List X} → more ≡ xs ++ x ∷ [] → map f xs ≡ map g ys → f x ≡ g y
@@ -69,14 +61,15 @@ map-push-same xs ys f g x y is same next =
     ap (map f) is ∙ map-append f xs (x ∷ []) ∙ ap (λ l. l ++ f x ∷ []) same
     ∙ ap (λ a. map g ys ++ a ∷ []) next ∙ sym (map-append g ys (y ∷ []))
 
--- the whole is filled with the hashes of those that came, and those that are left have its shape
-abbrev pub IsGathered : {X S : Type 0} → Shape → List X → List X → (X → Shape) → (X → List ℕ)
-    → S → Filter S → Type 0
-IsGathered shape came rest shape_of hashes_of hasher whole = record {
-  left : All (λ x. shape_of x ≡ shape) rest;
-  filled : IsFilledWith shape (concat (map hashes_of came)) whole;
-  hasher : whole.hasher ≡ hasher;
-}
+-- the whole is filled with some hashes, and these with the hashes of those that are left, which
+-- have its shape, are all hashes
+pub record IsGathered {X S : Type 0} (shape : Shape) (all : List ℕ) (rest : List X)
+    (shape_of : X → Shape) (hashes_of : X → List ℕ) (hasher : S) (whole : Filter S) : Type 0 where
+  pub came : List ℕ
+  pub joined : came ++ concat (map hashes_of rest) ≡ all
+  pub left : All (λ x. shape_of x ≡ shape) rest
+  pub filled : IsFilledWith shape came whole
+  pub hasher_stays : whole.hasher ≡ hasher
 
 module _ {X : Type 0} {xs rest : List X} {x : X} (starts : xs ≡ x ∷ rest) where
   -- what holds of all of a list holds of its first
@@ -104,27 +97,27 @@ module _ {X : Type 0} {xs rest : List X} {x : X} (starts : xs ≡ x ∷ rest) wh
       (All-push (λ z. shape_of z ≡ shape) ys y shaped
       (same ∙ All-first (λ z. first_of z ≡ shape) left))
 
-  module _ {S : Type 0} (came : List X) (shape : Shape) (shape_of : X → Shape)
+  module _ {S : Type 0} (all : List ℕ) (shape : Shape) (shape_of : X → Shape)
       (hashes_of : X → List ℕ) {hasher : S} {whole part : Filter S}
-      (before : IsGathered shape came xs shape_of hashes_of hasher whole)
+      (before : IsGathered shape all xs shape_of hashes_of hasher whole)
       (filled : IsFilledWith (shape_of x) (hashes_of x) part) where
     -- the part of the first is filled in the shape of the whole
     first_filled : IsFilledWith shape (hashes_of x) part
     first_filled = filled-first shape shape_of (hashes_of x) part before.left filled
 
-    -- and so has as many words and hashes
+    -- the part of the first has as many words and hashes as the whole
     pub gathered-same : SameShape whole part
-    gathered-same =
-        filled-same shape whole part (concat (map hashes_of came)) (hashes_of x) before.filled
-        first_filled
+    gathered-same = filled-same shape whole part before.came (hashes_of x) before.filled first_filled
 
-    -- once it is united with the whole, the first has come too
+    -- once it is united with the whole, the first is no longer left
     pub gathered-next : {new : Filter S} → Unites whole part new
-        → IsGathered shape (came ++ x ∷ []) rest shape_of hashes_of hasher new
+        → IsGathered shape all rest shape_of hashes_of hasher new
     gathered-next {new} united = record {
+      came = before.came ++ hashes_of x;
+      joined = append_assoc before.came (hashes_of x) (concat (map hashes_of rest))
+          ∙ ap (λ r. before.came ++ concat (map hashes_of r)) (sym starts) ∙ before.joined;
       left = All-rest (λ y. shape_of y ≡ shape) x rest xs starts before.left;
-      filled = rw (concat-map-push hashes_of came x)
-          (filled-union shape whole part new (concat (map hashes_of came)) (hashes_of x)
-          before.filled first_filled united);
-      hasher = united.hasher ∙ before.hasher;
+      filled = filled-union shape whole part new before.came (hashes_of x) before.filled
+          first_filled united;
+      hasher_stays = united.hasher ∙ before.hasher_stays;
     }

@@ -13,8 +13,8 @@ use std::alloc::Global;
 use std::sync::Arc;
 use std::thread::Threads;
 
-// The jobs, the filter that is to hold all, and room for the workers.
-#[derive(Drop)]
+// The jobs, the filter that is to hold all, and room for the workers. It isn't `Drop`, since a worker
+// isn't.
 pub(super) struct Crew<G> {
     jobs: Vec<Job<G>>,
     whole: BloomFilter,
@@ -65,9 +65,9 @@ pub(super) fn prepare<G: Gate + Drop>(
     ensures key { IfOk result (λ crew. HasKey crew.whole.hasher 0 0) }
     ensures refused { IsOkUnless result FilterError.Memory }
 {
-    let workers = Vec::with_capacity(alloc, parts.len())?;
     let whole = shape.empty_filter(alloc)?;
     let jobs = jobs_of(alloc, gate, shape, parts)?;
+    let workers = Vec::with_capacity(alloc, jobs.len())?;
     Ok(Crew {
         jobs,
         whole,
@@ -86,34 +86,34 @@ fn start_all<R: Threads, G: Gate + Send + Sync + Drop + 'static>(
     requires shaped { All (λ job. job.shape ≡ shape) jobs.items }
     requires idle { vec_len workers.old ≡ 0 }
     requires room { vec_len jobs ≤ vec_capacity workers.old }
-    ensures shaped { All (λ worker. worker.promise.shape ≡ shape) workers.new.items }
+    ensures shaped { All (λ worker. worker.shape ≡ shape) workers.new.items }
     ensures hashes { IsTrue result
-        → map (λ worker. worker.promise.hashes.value.items) workers.new.items
+        → map (λ worker. worker.hashes.value.items) workers.new.items
         ≡ map (λ job. job.hashes.items) jobs.items }
 {
     'jobs: for job in jobs {
         let Some(worker) = start(rt, job) else {
             return false;
         };
-        let Ok(()) = workers.push(worker) else {
-            unreachable!()
-        };
+        workers.push_reserved(worker);
     }
     true
 }
 
 // Waits for each worker, and unites its filter with the whole.
 fn gather<R: Threads>(rt: &R, workers: Vec<Worker>, shape: Shape, whole: &mut BloomFilter)
-    requires shaped { All (λ worker. worker.promise.shape ≡ shape) workers.items }
+    requires shaped { All (λ worker. worker.shape ≡ shape) workers.items }
     requires empty { IsFilledWith shape [] whole.old }
     ensures filled { IsFilledWith shape
-        (concat (map (λ worker. worker.promise.hashes.value.items) workers.items)) whole.new }
+        (concat (map (λ worker. worker.hashes.value.items) workers.items)) whole.new }
     ensures hasher { whole.new.hasher ≡ whole.old.hasher }
 {
-    'workers: for worker in workers {
+    let mut left = workers.into_iter();
+    'workers: while let Some(worker) = left.next() {
         let part = worker.join(rt);
         whole.union(&part);
     }
+    left.destroy_empty();
 }
 
 /// Sets the workers to work, waits for each, and unites what they made.

@@ -6,6 +6,7 @@ use super::gate::Gate;
 use super::shape::Shape;
 use bloom_plain::{BloomFilter, insert_hashes};
 use std::alloc::Global;
+use std::marker::Model;
 use std::snapshot::Snapshot;
 use std::sync::Arc;
 use std::thread;
@@ -23,8 +24,29 @@ impl Promise<BloomFilter> for FilledPart {
         IsFilledWith promise.shape promise.hashes.value.items filter };
 }
 
-// A thread that works, and what it promises of its filter.
-pub(super) type Worker = PromisedHandle<BloomFilter, FilledPart>;
+// A thread that works. Contracts see what it promises of its filter. It isn't `Drop`, so the checker
+// refuses a function that has one and doesn't join it.
+pub(super) struct Worker {
+    handle: PromisedHandle<BloomFilter, FilledPart>,
+}
+
+impl Model for Worker {
+    ghost use Rattle.fastbloom.specs.declared.parallel.job.FilledPart.{FilledPart};
+
+    ghost Value = { FilledPart };
+
+    ghost view = { λ worker. worker.handle.promise };
+}
+
+impl Worker {
+    // Waits for the thread to end, and gives its filter.
+    pub(super) fn join<R: Threads>(self, rt: &R) -> BloomFilter
+        ensures filled { IsFilledWith self.shape self.hashes.value.items result }
+    {
+        let Worker { handle } = self;
+        handle.join(rt)
+    }
+}
 
 // All that a worker needs: its number, its part of the hashes, and a filter of its own.
 #[derive(Drop)]
@@ -59,15 +81,15 @@ pub(super) fn start<R: Threads, G: Gate + Send + Sync + Drop + 'static>(
     job: Job<G>,
 ) -> Option<Worker>
     ensures hashes { IfSome result (λ worker.
-        worker.promise.hashes.value.items ≡ job.hashes.items) }
-    ensures shape { IfSome result (λ worker. worker.promise.shape ≡ job.shape) }
+        worker.hashes.value.items ≡ job.hashes.items) }
+    ensures shape { IfSome result (λ worker. worker.shape ≡ job.shape) }
 {
     let promise = FilledPart {
         shape: job.shape,
         hashes: Snapshot::of(&job.hashes),
     };
     match thread::spawn_with(rt, promise, move || work(job)) {
-        Ok(worker) => Some(worker),
+        Ok(handle) => Some(Worker { handle }),
         Err(_refused) => None,
     }
 }

@@ -4,12 +4,11 @@ use Rattle.fastbloom.proofs.parallel.crew.gather.Goals as goal
 -- a worker's filter has the shape of the whole
 pub union-requires : goal.union-requires
 union-requires g c =
-    gathered-same c.in-Some.ensures.steps.0 c.workers.yielded c.args.shape (λ w. w.promise.shape)
-    (λ w. w.promise.hashes.value.items) c.workers.invariant c.join-part.ensures
+    gathered-same c.in-Some.ensures.items _ c.args.shape (λ w. w.shape) (λ w. w.hashes.value.items)
+    c.workers.invariant c.join-part.ensures.filled
 
 -- a worker's hashes more
 pub workers-preserved : goal.workers-preserved
 workers-preserved g c =
-    gathered-next c.in-Some.ensures.steps.0 c.workers.yielded c.args.shape (λ w. w.promise.shape)
-    (λ w. w.promise.hashes.value.items) c.workers.invariant c.join-part.ensures
-    c.union.ensures.unites
+    gathered-next c.in-Some.ensures.items _ c.args.shape (λ w. w.shape) (λ w. w.hashes.value.items)
+    c.workers.invariant c.join-part.ensures.filled c.union.ensures.unites

@@ -9,11 +9,12 @@ jobs-preserved g c =
     let came = c.in-Some.ensures.steps.0 in
     let jobs = c.jobs.invariant in
     let made = c.in-Some-start.ensures in
-    let pushed : vec_len c.push.new.self ≡ vec_len c.jobs.workers + 1 = search rules in record {
-      hashes = map-push-same c.jobs.workers.items c.jobs.yielded _ _ _ _ c.in-Ok.ensures.items
+    let pushed : vec_len c.push_reserved.new.self ≡ vec_len c.jobs.workers + 1 = search rules in record {
+      hashes = map-push-same c.jobs.workers.items c.jobs.yielded _ _ _ _ {more = c.push_reserved.new.self.items}
+          c.push_reserved.ensures.items
           jobs.hashes made.hashes;
-      shaped = shaped-push came c.jobs.workers.items c.args.shape (λ w. w.promise.shape)
-          (λ job. job.shape) _ c.in-Ok.ensures.items jobs.shaped jobs.left made.shape;
+      shaped = shaped-push came c.jobs.workers.items c.args.shape (λ w. w.shape)
+          (λ job. job.shape) _ {more = c.push_reserved.new.self.items} c.push_reserved.ensures.items jobs.shaped jobs.left made.shape;
       left = All-rest (λ job. job.shape ≡ c.args.shape) _ _ _ came jobs.left;
-      room = omega (arith, length-first came, pushed, jobs.room, c.push.new.self.ok);
+      room = omega (arith, length-first came, pushed, jobs.room, c.push_reserved.new.self.ok);
     }
