@@ -1,5 +1,5 @@
 -- What the definitions of calls on shared filters say: cases that hold, and cases that nearly do.
-use Rattle.std.proofs.Common.{◌≡◌, ◌∙◌, ℕ, zero, suc, ◌+◌, ◌*◌, ◌/◌, ◌%◌, ◌^◌, ◌<◌, Bool, false, List, [], ◌∷◌, length, Some, None, refl, sym, subst, arith, slice_get}
+use Rattle.std.proofs.Common.{◌≡◌, ◌≢◌, ◌∙◌, ℕ, zero, suc, ◌+◌, ◌*◌, ◌/◌, ◌%◌, ◌^◌, ◌<◌, Bool, false, List, [], ◌∷◌, length, Some, None, refl, sym, subst, arith, slice_get}
 use Rattle.std.proofs.lemmas.Option.{none-some, same_Some}
 use Rattle.bloom_parts.specs.Chain.{chain}
 use Rattle.bloom_parts.specs.Places.{place}
@@ -102,7 +102,7 @@ member (t ∷ rest) zero within = (t, refl)
 member (t ∷ rest) (suc i) within = member rest i (omega (arith, within))
 
 -- by an insert each position of its hash was turned on, in the filter's own words
-insert-turns-on-each : {S : Type 0} (f : SharedFilter S) (hash : ℕ) (reply : Bool)
+pub insert-turns-on-each : {S : Type 0} (f : SharedFilter S) (hash : ℕ) (reply : Bool)
     → MakesInsert f hash reply → (i : ℕ) → i < f.hashes
     → let p = place (64 * f.words.count) hash i in
     (found : ℕ) × FoundByOr f.words (p / 64) (2 ^ (p % 64)) found
@@ -150,6 +150,12 @@ found-alike here there = record {
       (omega (arith, within)) (5, here, there);
 }
 
+-- where two filters are found alike, one word was loaded of both at each index
+alike-loaded : WereFoundAlike (filter 1 2 3) (filter 2 2 3)
+    → (found : ℕ) × FoundByLoad (filter 1 2 3).words 1 found
+    × FoundByLoad (filter 2 2 3).words 1 found
+alike-loaded alike = alike.words 1 (omega arith)
+
 -- filters of other hash counts are never found alike
 hashes-differ : WereFoundAlike (filter 1 1 3) (filter 2 1 4) → ⊥
 hashes-differ alike = omega (arith, alike.shape.hashes)
@@ -166,6 +172,13 @@ found-to-differ here there =
       there = there;
       differ = λ e. omega (arith, e);
     }
+
+-- words that differ were loaded of both filters, at one index
+differ-loaded : WereFoundToDiffer (filter 1 1 3) (filter 2 1 3)
+    → (i : ℕ) × (found : ℕ) × (other : ℕ) × FoundByLoad (filter 1 1 3).words i found
+    × FoundByLoad (filter 2 1 3).words i other × (found ≢ other)
+differ-loaded differ =
+    (differ.index, differ.found, differ.other, differ.here, differ.there, differ.differ)
 
 -- words that are equal don't differ
 equal-words : (differ : WereFoundToDiffer (filter 1 1 3) (filter 2 1 3))
