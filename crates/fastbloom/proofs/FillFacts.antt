@@ -66,26 +66,26 @@ filled = record {
       ∙ ap (λ b. b || false) one);
 }
 
--- not with a position off
+-- a filter in which a position of its hash is off isn't filled with that hash
 filled-less : IsFilledWith shape (1 ∷ []) (filter (1048577 ∷ []) 3) → ⊥
 unfolding content positions chain
 filled-less did = let wrong : false ≡ true = did.bits 32 in cc
 
--- nor with one more on
+-- a filter in which one more position is set isn't filled with its hash
 filled-more : IsFilledWith shape (0 ∷ []) (filter (3 ∷ []) 3) → ⊥
 unfolding content positions chain
 filled-more did = let wrong : true ≡ false = did.bits 1 in cc
 
--- nor where a hash of the list is left out
+-- a filter that lacks one hash of a list isn't filled with the list
 filled-without : IsFilledWith shape (0 ∷ 1 ∷ []) (filter (1 ∷ []) 3) → ⊥
 unfolding content positions chain
 filled-without did = let wrong : false ≡ true = did.bits 20 in cc
 
--- nor in another shape
+-- a filter of two words isn't filled in a shape of one
 filled-words : IsFilledWith shape [] (filter (0 ∷ 0 ∷ []) 3) → ⊥
 filled-words did = let wrong : 2 ≡ 1 = did.words in omega (arith, wrong)
 
--- nor with another number of hashes
+-- a filter of two hashes isn't filled in a shape of three
 filled-hashes : IsFilledWith shape [] (filter (0 ∷ []) 2) → ⊥
 filled-hashes did = let wrong : 2 ≡ 3 = did.num_hashes in omega (arith, wrong)
 

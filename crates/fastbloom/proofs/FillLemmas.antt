@@ -90,7 +90,7 @@ module _ {X : Type 0} {xs rest : List X} {x : X} (starts : xs ≡ x ∷ rest) wh
   filled-first shape shape_of hashes f all filled =
       subst (λ s. IsFilledWith s hashes f) (All-first (λ y. shape_of y ≡ shape) all) filled
 
-  -- one fewer is left after the first
+  -- a list is one longer than what comes after its first
   pub length-first : length xs ≡ length rest + 1
   length-first = let size = ap length starts in omega (arith, size)
 
@@ -112,7 +112,7 @@ module _ {X : Type 0} {xs rest : List X} {x : X} (starts : xs ≡ x ∷ rest) wh
     first_filled : IsFilledWith shape (hashes_of x) part
     first_filled = filled-first shape shape_of (hashes_of x) part before.left filled
 
-    -- and so has as many words and hashes
+    -- the part of the first has as many words and hashes as the whole
     pub gathered-same : SameShape whole part
     gathered-same =
         filled-same shape whole part (concat (map hashes_of came)) (hashes_of x) before.filled

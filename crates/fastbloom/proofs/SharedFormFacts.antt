@@ -29,7 +29,7 @@ module _ (one : IsHalvings 1 2 64) where
     record { began = began; words = refl; hashes = refl; hasher = refl },
   )
 
-  -- no other number of bits is
+  -- the size for 1000 items at one half is 1448 bits and nothing else
   bits-half : (bits : ℕ) → IsSizeOf half 1000 bits → bits ≡ 1448
   bits-half bits sized =
       let few = sized.1.least 64 one.enough in
@@ -37,7 +37,7 @@ module _ (one : IsHalvings 1 2 64) where
       let same : sized.0 ≡ 64 = omega (arith, few, many) in
       sized.2 ∙ ap (size_for 1000) same
 
-  -- so not 24 words
+  -- a filter for 1000 items at one half doesn't have 24 words
   form-half_words : HasFormFor half 1000 (filter 1 24 1) → ⊥
   form-half_words form =
       let bits = bits-half form.0 form.1 in
@@ -45,7 +45,7 @@ module _ (one : IsHalvings 1 2 64) where
       form.2.words ∙ ap (λ b. length (replicate (words_for b) 0)) bits in
       omega (arith, wrong)
 
-  -- not two hashes
+  -- a filter for 1000 items at one half doesn't have two hashes
   form-half_hashes : HasFormFor half 1000 (filter 1 23 2) → ⊥
   form-half_hashes form =
       let bits = bits-half form.0 form.1 in
@@ -108,7 +108,7 @@ inserts-second f seven all =
 abbrev one_take : ℕ → List Taken
 one_take found = record { step = Take 0; found = found; ended = Done } ∷ []
 
--- it was made by a swap of word 0, and the word taken is the one found
+-- a take of one word is a swap of word 0, and gives the word that the swap found
 takes-one : (name : ℕ) → FoundBySwap (filter name 1 1).words 0 5
     → TakesWords (filter name 1 1) (5 ∷ [])
 takes-one name made = record {
@@ -131,7 +131,7 @@ takes-one name made = record {
 takes-fewer : (name : ℕ) → TakesWords (filter name 1 1) [] → ⊥
 takes-fewer name takes = let count = taken-count _ _ takes in omega (arith, count)
 
--- nor more
+-- no more words are taken than there are
 takes-more : (name : ℕ) → TakesWords (filter name 1 1) (5 ∷ 6 ∷ []) → ⊥
 takes-more name takes = let count = taken-count _ _ takes in omega (arith, count)
 
