@@ -65,7 +65,7 @@ const SIZES: [(usize, u64, u64, Result<usize, FilterError>); 12] = [
     (18446744073709551615, 1, 2, Err(FilterError::SizeOverflow)),
 ];
 
-// Whether so many items at the rate of a fraction have this size.
+// Whether this many items at the rate of a fraction have this size.
 fn has_size(items: usize, num: u64, den: u64, size: Result<usize, FilterError>) -> bool {
     match Rate::new(num, den) {
         Ok(rate) => optimal_size(items, rate) == size,

@@ -7,7 +7,8 @@ use fastbloom::{FilterError, Pass, SeatedBloomFilter};
 use std::alloc::Global;
 use std::test::Fail;
 
-// A filter of these words with one pass, where so many are asked for.
+// A filter of these words and its only pass. The number of passes asked for is 0 or 1: no passes
+// count as one. A pass is what a thread needs to call a seated filter.
 fn with_one(
     alloc: Global,
     words: &[u64],
@@ -92,8 +93,7 @@ fn given_words_are_there(alloc: Global) -> Result<bool, Fail> {
     Ok(given && !before && !inserted && after && is_closed)
 }
 
-// Whether a filter of these words, into which a hash goes, is closed with those. No passes count as
-// one.
+// Whether a filter of these words, into which one hash is inserted, is closed with those words.
 fn inserts_to(
     alloc: Global,
     words: &[u64],
