@@ -82,8 +82,8 @@ fn is_fixed(alloc: Global, bits: usize, items: usize, hashes: u32) -> Result<boo
     Ok(filter.num_hashes() == hashes)
 }
 
-// The parts of a rate, items, bits and hashes. A half has one halving, a thousandth nearly ten, 3/2
-// none. Bits are rounded up to words.
+// The parts of a rate, items, bits and hashes. One is halved once to come to a half, nearly ten
+// times to come to a thousandth, and not at all for 3/2. Bits are rounded up to words.
 const BY_RATE: [(u64, u64, usize, usize, u32); 4] = [
     (1, 2, 1000, 1472, 1),
     (1, 2, 0, 64, 44),

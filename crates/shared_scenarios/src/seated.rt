@@ -1,4 +1,5 @@
-//! Seated filters at values from outside, by one thread.
+//! Seated filters at values from outside, by one thread. In a seated filter a bit that was set
+//! stays set, and each thread calls it with a pass of its own.
 ghost use Rattle.std.specs.Prelude.{◌≡◌, IfOk};
 
 mod threads;
@@ -8,7 +9,7 @@ use std::alloc::Global;
 use std::test::Fail;
 
 // A filter of these words and its only pass. The number of passes asked for is 0 or 1: no passes
-// count as one. A pass is what a thread needs to call a seated filter.
+// count as one.
 fn with_one(
     alloc: Global,
     words: &[u64],
