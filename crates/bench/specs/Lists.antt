@@ -1,4 +1,4 @@
--- Lists of commands that are measured (the project's own).
+-- Lists of commands that are measured. This project's own.
 use Rattle.fastbloom.specs.CommandOf.{Fits}
 use Rattle.fastbloom.specs.Filter.{Filter}
 use Rattle.fastbloom.specs.Command.{Command}

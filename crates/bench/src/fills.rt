@@ -30,7 +30,7 @@ fn hashes_of(alloc: Global, first: u64, end: u64) -> anyhow::Result<Vec<u64>> {
     Ok(hashes)
 }
 
-// The hashes of the keys, cut into so many parts.
+// The hashes of the keys, cut into this many parts.
 fn parts_of(alloc: Global, keys: u64, parts: u64) -> anyhow::Result<Vec<Vec<u64>>> {
     let size = keys.checked_div(parts).unwrap_or(0);
     let mut cut = Vec::new(alloc);

@@ -16,7 +16,7 @@ pub fn filter_for(alloc: Global, keys: u32, num_hashes: u32) -> Result<BloomFilt
     Ok(builder.hashes(num_hashes))
 }
 
-/// The same filter, for threads to share.
+/// An empty filter for threads to share, with ten bits for each key, and one bit at least.
 pub fn shared_filter_for(
     alloc: Global,
     keys: u32,

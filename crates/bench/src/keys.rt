@@ -18,7 +18,7 @@ pub fn first_foreign_key(keys: u64, round: u32) -> u64 {
     keys.wrapping_mul(u64::from(round)).wrapping_add(1 << 40)
 }
 
-/// Looks so many keys from this one up, and counts the answers that were true.
+/// Looks up this many keys from the first on, and counts the answers that were true.
 #[inline(never)]
 pub fn contains_keys(filter: &BloomFilter, first: u64, keys: u64) -> u64 {
     let mut answers: u64 = 0;

@@ -8,17 +8,17 @@
 mod data;
 mod fills;
 mod filters;
+mod kernels;
 mod keys;
-mod passes;
 mod plain;
 mod plan;
 mod seated;
 mod shared;
-mod shared_whole;
+mod shared_whole_filter;
 mod steps;
 mod table;
 mod threads;
-mod whole;
+mod whole_filter;
 
 use filters::filter_for;
 use plan::Plan;
@@ -29,12 +29,12 @@ fn main(rt: HostRuntime) -> anyhow::Result<()> {
     let bits = filter_for(rt.alloc(), plan.keys, 7)?.num_bits();
     table::head(&rt, &plan, bits)?;
     plain::measure_all(&rt, &plan)?;
-    whole::measure_all(&rt, &plan)?;
+    whole_filter::measure_all(&rt, &plan)?;
     data::measure_all(&rt, &plan)?;
-    passes::measure_all(&rt, &plan)?;
+    kernels::measure_all(&rt, &plan)?;
     steps::measure_all(&rt, &plan)?;
     shared::measure_all(&rt, &plan)?;
-    shared_whole::measure_all(&rt, &plan)?;
+    shared_whole_filter::measure_all(&rt, &plan)?;
     seated::measure_all(&rt, &plan)?;
     threads::measure_all(&rt, &plan)?;
     fills::measure_all(&rt, &plan)

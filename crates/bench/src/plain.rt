@@ -21,7 +21,7 @@ fn hash_numbers(filter: &BloomFilter, keys: u64) -> u64 {
     answers
 }
 
-// Each item is text of so many bytes at one of 32 places.
+// Each item is text of `size` bytes at one of 32 places.
 #[inline(never)]
 fn hash_texts(filter: &BloomFilter, text: &str, size: usize, keys: u64) -> u64
     requires { size ≤ MOST_BYTES }

@@ -12,7 +12,7 @@ const ROUNDS: u32 = 10;
 
 const USAGE: &'static str = "usage: bench [KEYS [ROUNDS [WORD]]]";
 
-/// The rows whose name has a word, on filters for so many keys, in so many rounds.
+/// Which rows are measured, by a word in their names, for how many keys, and in how many rounds.
 #[derive(Drop)]
 pub struct Plan {
     pub keys: u32,

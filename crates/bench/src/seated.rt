@@ -9,7 +9,7 @@ use std::alloc::Global;
 use std::rt::Clock;
 use std::time::Instant;
 
-// An empty filter of ten bits a key and seven hashes, and its pass.
+// An empty filter of ten bits a key and seven hashes, and its pass, which each call is given.
 fn seated_filter_for(alloc: Global, keys: u32) -> Result<(SeatedBloomFilter, Pass), FilterError>
     ensures { IfOk result (λ made. made.1.filter ≡ made.0.table) }
 {
@@ -36,7 +36,7 @@ fn insert_keys(filter: &SeatedBloomFilter, pass: &mut Pass, keys: u64) -> u64
     answers
 }
 
-// Looks so many keys from this one up, and counts the answers that were true.
+// Looks up this many keys from the first on, and counts the answers that were true.
 #[inline(never)]
 fn contains_keys(filter: &SeatedBloomFilter, pass: &mut Pass, first: u64, keys: u64) -> u64
     requires { pass.old.filter ≡ filter.now.table }

@@ -10,7 +10,7 @@ use std::alloc::{AllocError, Global};
 use std::rt::Clock;
 use std::sync::atomic::{AtomicU64, Ordering};
 
-/// Inserts so many keys from this one, and counts the answers that were true.
+/// Inserts this many keys from the first on, and counts the answers that were true.
 #[inline(never)]
 pub fn insert_keys(filter: &AtomicBloomFilter, first: u64, keys: u64) -> u64 {
     let mut answers: u64 = 0;
@@ -21,7 +21,7 @@ pub fn insert_keys(filter: &AtomicBloomFilter, first: u64, keys: u64) -> u64 {
     answers
 }
 
-/// Looks so many keys from this one up, and counts the answers that were true.
+/// Looks up this many keys from the first on, and counts the answers that were true.
 #[inline(never)]
 pub fn contains_keys(filter: &AtomicBloomFilter, first: u64, keys: u64) -> u64 {
     let mut answers: u64 = 0;

@@ -28,7 +28,7 @@ fn drive_inserts(store: &mut MemoryStore, keys: u64) -> u64 {
     answers
 }
 
-// As many events: inserts of one party, of which each is its beginning and seven steps.
+// This many events: inserts of one party, each of which is its beginning and seven steps.
 fn inserts_on(alloc: Global, events: u32) -> Result<Vec<Event>, AllocError> {
     let mut schedule = Vec::new(alloc);
     'events: for event in 0..u64::from(events) {

@@ -84,7 +84,7 @@ impl Row {
         }
     }
 
-    /// The row of a call over the words of a filter with seven hashes and so many bits, a word.
+    /// The row of a call over the words of a filter with seven hashes and this many bits, a word.
     /// Where there are no keys nothing is measured.
     pub fn by_words(plan: &Plan, call: &'static str, bits: usize, counted: &'static str) -> Self {
         let words = if plan.keys == 0 { 0 } else { bits as u64 / 64 };

@@ -34,7 +34,7 @@ enum Job {
     Find,
 }
 
-// Starts a thread with so many keys from this one.
+// Starts a thread with this many keys from the first on.
 fn start<R: Threads>(
     rt: &R,
     filter: &Shared,

@@ -14,13 +14,13 @@ use Rattle.bloom_plain.specs.Laws.{EqualContentLaw}
 use Rattle.fastbloom.specs.Fill.{words_of, hashes_of, positions_of_all, IsPositionOfOne, HaveSameHashes, UnionOfPositionsLaw, AnyCuttingLaw, FilledByInsertsLaw, FilledByUnionLaw, FilledContainsLaw}
 use Rattle.fastbloom.proofs.FillLemmas.{positions_of_all-append, filled-same, filled-union}
 
--- two truth values that imply one another are the same
+-- two truth values that imply each other are equal
 same-truth : (a b : Bool) → (a ≡ true → b ≡ true) → (b ≡ true → a ≡ true) → a ≡ b
 same-truth true b to from = sym (to refl)
 same-truth false true to from = from refl
 same-truth false false to from = refl
 
--- what is made on is on besides what was
+-- after a step that sets some positions, a position is set if it was, or if the step sets it
 made-on : (made was : Bool) → unwrap_or (cond made (Some true) None) was ≡ (was || made)
 made-on true was = or_comm true was
 made-on false was = or_comm false was
@@ -64,7 +64,7 @@ module _ (n k : ℕ) where
       (λ on. let one = of-one others p on in
       of-all hashes p one.hash ((same one.hash).1 one.given) one.here)
 
-  -- inserts make the union on, besides what was
+  -- after inserts a position is set if it was before, or if it is in the union
   pub state-inserts : (A : ℕ → Bool) (hashes : List ℕ) (p : ℕ)
       → state_after n k A (map Insert hashes) p ≡ (A p || positions_of_all n k hashes p)
   state-inserts A [] p = or_comm false (A p)
@@ -76,7 +76,7 @@ module _ (n k : ℕ) where
       ∙ ap (λ b. b || positions_of_all n k hashes p) (made-on (positions n k hash p) (A p))
       ∙ or_assoc (A p) (positions n k hash p) (positions_of_all n k hashes p)
 
--- `positions_of_all` is the union
+-- `positions_of_all` is the union of the positions of the hashes
 pub union_of_positions_law : UnionOfPositionsLaw
 union_of_positions_law n k hashes p =
     (of-one n k hashes p, λ one. of-all n k hashes p one.hash one.given one.here)
@@ -106,12 +106,12 @@ filled_by_inserts_law S shape old new earlier hashes filled inserted =
           ∙ sym (positions_of_all-append n k earlier hashes p);
     }
 
--- the content is what either had
+-- the union of two filled filters is filled with the hashes of both
 pub filled_by_union_law : (S : Type 0) → FilledByUnionLaw S
 filled_by_union_law S shape old other new hashes others filled added united =
     filled-union shape old other new hashes others filled added united
 
--- each position of a hash that was inserted is on
+-- a filled filter contains each of its hashes, since all their positions are set
 pub filled_contains_law : (S : Type 0) → FilledContainsLaw S
 filled_contains_law S shape f hashes hash filled given =
     let n = 64 * words_of shape in

@@ -83,7 +83,7 @@ module _ {X : Type 0} {xs rest : List X} {x : X} (starts : xs ≡ x ∷ rest) wh
   filled-first shape shape_of hashes f all filled =
       subst (λ s. IsFilledWith s hashes f) (All-first (λ y. shape_of y ≡ shape) all) filled
 
-  -- one fewer is left after the first
+  -- a list is one longer than what comes after its first
   pub length-first : length xs ≡ length rest + 1
   length-first = let size = ap length starts in omega (arith, size)
 

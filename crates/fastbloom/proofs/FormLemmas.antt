@@ -22,7 +22,7 @@ module _ {S : Type 0} (start plain : RateStart S) (of : plain ≡ start) where
       (subst (λ i. IsSizeFor i (num_of rate) (den_of rate) bits)
       (is_items ∙ max_comm expected 1) sized)
 
-  -- a filter of so many words and hashes has the form that is asked for
+  -- a filter with this number of words and of hashes has the form that is asked for
   form_of-zeros : (f : SharedFilter S) (words : SharedWords) (bits items size hashes : ℕ)
       → f.words ≡ words → BeganWith words (replicate (words_for bits) 0)
       → words.count ≡ words_for bits → size ≡ 64 * words.count
@@ -50,7 +50,7 @@ module _ {S : Type 0} (start plain : RateStart S) (of : plain ≡ start) where
   refused-parts rate expected items bits error is_rate is_items sized refused =
       (bits, size_of-parts rate expected items bits is_rate is_items sized, refused)
 
-  -- a filter that was made of so many zero words has the form for the items
+  -- a filter that was made of this number of zero words has the form for the items
   pub form_of-parts : (own_rate : Rate) (own_hasher : S) (expected items bits size num : ℕ)
       (f : SharedFilter S) (zeros : SharedWords)
       → record { rate : own_rate ≡ plain.rate; hasher : own_hasher ≡ plain.hasher }

@@ -32,8 +32,8 @@ module _ {S T : Type 0} (hash_of : S → T → ℕ) (f : SharedFilter S) where
       let all = subst (MakesInserts hash_of f) (sym made.3.0) did in
       (start, first, (made.0, made.1, made.2, all))
 
-  -- a form that was made for as many items as an iterator has left, and what was inserted from one
-  -- that equals it
+  -- a filter has the form for as many items as an iterator has left, and the items of an equal
+  -- iterator were inserted into it
   pub made_inserts-same : {I : Type 0} (comes : I → Type 0) (form : ℕ → Type 0) (left : I → ℕ)
       (steps : I → Option T → I → Type 0) (it : I) (count : ℕ) → comes it → count ≡ left it
       → form count

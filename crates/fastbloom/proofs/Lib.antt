@@ -1,9 +1,13 @@
+mod CallFacts
 mod DataLemmas
 mod FillFacts
+mod FillLawFacts
 mod FillLawLemmas
 pub mod FillLemmas
 mod FormLemmas
 mod InsertedLemmas
+mod LiveStoreFacts
+mod LoadedFacts
 mod MadeFacts
 mod ReadingLemmas
 mod SeatedStepFacts

@@ -5,7 +5,7 @@ use Rattle.bloom_steps.specs.declared.steps.vocabulary.Step.TheVariants.{Load, O
 use Rattle.fastbloom.specs.Shared.{IsMade}
 
 module _ (words other : SharedWords) (i mask found : ℕ) where
-  -- a load is one of the filter's own word
+  -- a load reads the filter's own word
   made-load : IsMade words other (Load i) found ↔ FoundByLoad words i found
   made-load = (λ made. made, λ made. made)
 
@@ -13,7 +13,7 @@ module _ (words other : SharedWords) (i mask found : ℕ) where
   made-or : IsMade words other (Or i mask) found ↔ FoundByOr words i mask found
   made-or = (λ made. made, λ made. made)
 
-  -- an `&` too
+  -- an `&` has its mask
   made-and : IsMade words other (And i mask) found ↔ FoundByAnd words i mask found
   made-and = (λ made. made, λ made. made)
 
@@ -21,10 +21,10 @@ module _ (words other : SharedWords) (i mask found : ℕ) where
   made-zero : IsMade words other (Zero i) found ↔ (MadeZero words i × (found ≡ 0))
   made-zero = (λ made. made, λ made. made)
 
-  -- the other's word is loaded
+  -- a load of the other's word reads the other's vector
   made-other : IsMade words other (Other i) found ↔ FoundByLoad other i found
   made-other = (λ made. made, λ made. made)
 
-  -- and a take is a swap
+  -- a take is a swap with zero
   made-take : IsMade words other (Take i) found ↔ FoundBySwap words i found
   made-take = (λ made. made, λ made. made)

@@ -7,13 +7,14 @@ use Rattle.bloom_parts.specs.Made.{FoundByLoad, SharedWords}
 use Rattle.bloom_parts.specs.Reading.{Reading, ReadsNext}
 use Rattle.fastbloom.specs.Shared.{SharedFilter, WereLoaded}
 
--- a reading after some words: on the same vector, as many words on, and not past the last
+-- a reading after some words: it stays on its vector, has gone on by as many words, and isn't past
+-- the last
 record CameTo (n : ℕ) (s t : Reading) (count : ℕ) : Type 0 where
   pub size : t.vector.count ≡ n
   pub next : t.next ≡ s.next + count
   pub most : t.next ≤ n
 
--- as many words were read as the reading went on
+-- a reading goes on by one index for each word that it reads
 counted : (n : ℕ) (s t : Reading) (words : List ℕ) → Yields ReadsNext s words t
     → s.vector.count ≡ n → s.next ≤ n → CameTo n s t (length words)
 counted n s t [] came size most =

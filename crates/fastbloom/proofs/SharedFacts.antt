@@ -1,5 +1,5 @@
 -- What the definitions of calls on shared filters say: cases that hold, and cases that nearly do.
-use Rattle.std.proofs.Common.{◌≡◌, ◌∙◌, ℕ, zero, suc, ◌+◌, ◌*◌, ◌/◌, ◌%◌, ◌^◌, ◌<◌, Bool, false, List, [], ◌∷◌, length, Some, None, refl, sym, subst, arith, slice_get}
+use Rattle.std.proofs.Common.{◌≡◌, ◌≢◌, ◌∙◌, ℕ, zero, suc, ◌+◌, ◌*◌, ◌/◌, ◌%◌, ◌^◌, ◌<◌, Bool, false, List, [], ◌∷◌, length, Some, None, refl, sym, subst, arith, slice_get}
 use Rattle.std.proofs.lemmas.Option.{none-some, same_Some}
 use Rattle.bloom_parts.specs.Chain.{chain}
 use Rattle.bloom_parts.specs.Places.{place}
@@ -12,7 +12,7 @@ use Rattle.bloom_plain.specs.Filter.{Filter}
 use Rattle.fastbloom.specs.Shared.{SharedFilter, HaveSameShape, HasFormOf, IsMade, MakesCall, MakesInsert, WereFoundAlike, WereFoundToDiffer}
 use Rattle.fastbloom.proofs.SharedLemmas.{insert-answers, silent}
 
--- a filter of so many words and hashes, under any name, whose hasher is a number
+-- a filter with this number of words and of hashes, under any name, whose hasher is a number
 abbrev pub filter : ℕ → ℕ → ℕ → SharedFilter ℕ
 filter name words hashes = record {
   words = record { name = name; count = words };
@@ -24,11 +24,11 @@ filter name words hashes = record {
 same-shape : HaveSameShape (filter 1 2 3) (filter 4 2 3)
 same-shape = record { words = refl; hashes = refl }
 
--- one word more does
+-- filters with different numbers of words have different shapes
 other-words : HaveSameShape (filter 1 2 3) (filter 1 3 3) → ⊥
 other-words same = omega (arith, same.words)
 
--- and so does one hash more
+-- filters with different numbers of hashes have different shapes
 other-hashes : HaveSameShape (filter 1 2 3) (filter 1 2 4) → ⊥
 other-hashes same = omega (arith, same.hashes)
 
@@ -40,19 +40,19 @@ plain hasher = record { words = 5 ∷ 6 ∷ []; hashes = 3; hasher = hasher }
 same-form : BeganWith (filter 1 2 3).words (5 ∷ 6 ∷ []) → HasFormOf (filter 1 2 3) (plain 7)
 same-form began = record { began = began; words = refl; hashes = refl; hasher = refl }
 
--- it tells which words they were
+-- a form tells with which words the filter began
 began-form : HasFormOf (filter 1 2 3) (plain 7) → BeganWith (filter 1 2 3).words (5 ∷ 6 ∷ [])
 began-form form = form.began
 
--- another number of hashes is another form
+-- a filter with another number of hashes has another form
 hash-more : HasFormOf (filter 1 2 4) (plain 7) → ⊥
 hash-more form = omega (arith, form.hashes)
 
--- another hasher is another form
+-- a filter with another hasher has another form
 other-hasher : HasFormOf (filter 1 2 3) (plain 8) → ⊥
 other-hasher form = omega (arith, form.hasher)
 
--- one word less is another form
+-- a filter with one word less has another form
 word-short : HasFormOf (filter 1 1 3) (plain 7) → ⊥
 word-short form = omega (arith, form.words)
 
@@ -65,7 +65,7 @@ only P t holds (suc i) u got = absurd (none-some u got)
 abbrev one_or : ℕ → Bool → List Taken
 one_or found reply = record { step = Or 0 1; found = found; ended = Answer reply } ∷ []
 
--- it found its bit off, and so its reply is false
+-- an insert whose one step found its bit off replies false
 insert-of-new : (name : ℕ) → FoundByOr (filter name 1 1).words 0 1 0
     → MakesInsert (filter name 1 1) 0 false
 unfolding chain
@@ -89,7 +89,7 @@ insert-replies name hash calls =
     let some = insert-answers 1 1 hash calls.taken (omega arith) calls.script in
     none-some some.0 (calls.answers ∙ some.1)
 
--- a clear has none
+-- a clear has no reply
 clear-is-silent : (name : ℕ) (reply : Bool)
     → MakesCall (filter name 2 1) (filter name 2 1) Clear (Some reply) → ⊥
 clear-is-silent name reply calls =
@@ -102,7 +102,7 @@ member (t ∷ rest) zero within = (t, refl)
 member (t ∷ rest) (suc i) within = member rest i (omega (arith, within))
 
 -- by an insert each position of its hash was turned on, in the filter's own words
-insert-turns-on-each : {S : Type 0} (f : SharedFilter S) (hash : ℕ) (reply : Bool)
+pub insert-turns-on-each : {S : Type 0} (f : SharedFilter S) (hash : ℕ) (reply : Bool)
     → MakesInsert f hash reply → (i : ℕ) → i < f.hashes
     → let p = place (64 * f.words.count) hash i in
     (found : ℕ) × FoundByOr f.words (p / 64) (2 ^ (p % 64)) found
@@ -139,7 +139,7 @@ union-loads-the-other f other calls i within =
           (calls.made (2 * i + 1) write.0 write.1),
     )
 
--- one word, found alike by a load of either filter
+-- two filters of one word are found alike where a load of either found the same word
 found-alike : FoundByLoad (filter 1 1 3).words 0 5 → FoundByLoad (filter 2 1 3).words 0 5
     → WereFoundAlike (filter 1 1 3) (filter 2 1 3)
 found-alike here there = record {
@@ -150,11 +150,17 @@ found-alike here there = record {
       (omega (arith, within)) (5, here, there);
 }
 
+-- where two filters are found alike, one word was loaded of both at each index
+alike-loaded : WereFoundAlike (filter 1 2 3) (filter 2 2 3)
+    → (found : ℕ) × FoundByLoad (filter 1 2 3).words 1 found
+    × FoundByLoad (filter 2 2 3).words 1 found
+alike-loaded alike = alike.words 1 (omega arith)
+
 -- filters of other hash counts are never found alike
 hashes-differ : WereFoundAlike (filter 1 1 3) (filter 2 1 4) → ⊥
 hashes-differ alike = omega (arith, alike.shape.hashes)
 
--- a word that was loaded of both, and differs
+-- two filters are found to differ where loads at one index found different words
 found-to-differ : FoundByLoad (filter 1 1 3).words 0 5 → FoundByLoad (filter 2 1 3).words 0 6
     → WereFoundToDiffer (filter 1 1 3) (filter 2 1 3)
 found-to-differ here there =
@@ -166,6 +172,13 @@ found-to-differ here there =
       there = there;
       differ = λ e. omega (arith, e);
     }
+
+-- words that differ were loaded of both filters, at one index
+differ-loaded : WereFoundToDiffer (filter 1 1 3) (filter 2 1 3)
+    → (i : ℕ) × (found : ℕ) × (other : ℕ) × FoundByLoad (filter 1 1 3).words i found
+    × FoundByLoad (filter 2 1 3).words i other × (found ≢ other)
+differ-loaded differ =
+    (differ.index, differ.found, differ.other, differ.here, differ.there, differ.differ)
 
 -- words that are equal don't differ
 equal-words : (differ : WereFoundToDiffer (filter 1 1 3) (filter 2 1 3))

@@ -1,14 +1,14 @@
 -- What filters that threads share are made of: the form for items at a rate, and many inserts.
 -- How many sixty-fourths of a halving one half has is a premise here; `bloom_parts` shows it.
 use Rattle.std.proofs.Common.{◌≡◌, ◌∙◌, ℕ, zero, suc, ◌+◌, ◌<◌, Bool, List, [], ◌∷◌, Some, length, option_map, replicate, refl, ap, slice_get, sym, subst, arith, lit<}
-use Rattle.std.proofs.lemmas.Option.{same_Some, slice_get-map}
-use Rattle.bloom_parts.specs.Made.{BeganWith, FoundByLoad, FoundBySwap}
+use Rattle.std.proofs.lemmas.Option.{slice_get-map}
+use Rattle.bloom_parts.specs.Made.{BeganWith, FoundBySwap}
 use Rattle.bloom_parts.specs.Sizing.{IsHalvings, size_for}
 use Rattle.bloom_plain.specs.Builders.{RateStart, words_for, empty_start, sized_filter, IsSizeOf}
 use Rattle.bloom_steps.specs.declared.steps.vocabulary.Step.TheVariants.{Take}
 use Rattle.bloom_steps.specs.declared.steps.vocabulary.End.TheVariants.{Done}
 use Rattle.bloom_steps.specs.Scripts.{Taken}
-use Rattle.fastbloom.specs.Shared.{SharedFilter, HasFormFor, IsMade, MakesInsert, MakesInserts, TakesWords, WereLoaded}
+use Rattle.fastbloom.specs.Shared.{SharedFilter, HasFormFor, IsMade, MakesInsert, MakesInserts, TakesWords}
 use Rattle.fastbloom.proofs.SharedFacts.{filter, member, only}
 use Rattle.fastbloom.proofs.TakenLemmas.{taken-count}
 
@@ -29,7 +29,7 @@ module _ (one : IsHalvings 1 2 64) where
     record { began = began; words = refl; hashes = refl; hasher = refl },
   )
 
-  -- no other number of bits is
+  -- the size for 1000 items at one half is 1448 bits and nothing else
   bits-half : (bits : ℕ) → IsSizeOf half 1000 bits → bits ≡ 1448
   bits-half bits sized =
       let few = sized.1.least 64 one.enough in
@@ -37,7 +37,7 @@ module _ (one : IsHalvings 1 2 64) where
       let same : sized.0 ≡ 64 = omega (arith, few, many) in
       sized.2 ∙ ap (size_for 1000) same
 
-  -- so not 24 words
+  -- a filter for 1000 items at one half doesn't have 24 words
   form-half_words : HasFormFor half 1000 (filter 1 24 1) → ⊥
   form-half_words form =
       let bits = bits-half form.0 form.1 in
@@ -45,13 +45,24 @@ module _ (one : IsHalvings 1 2 64) where
       form.2.words ∙ ap (λ b. length (replicate (words_for b) 0)) bits in
       omega (arith, wrong)
 
-  -- not two hashes
+  -- a filter for 1000 items at one half doesn't have two hashes
   form-half_hashes : HasFormFor half 1000 (filter 1 23 2) → ⊥
   form-half_hashes form =
       let bits = bits-half form.0 form.1 in
       let wrong : 2 ≡ 1 =
       form.2.hashes ∙ ap (λ b. (sized_filter (empty_start half b) 1000).hashes) bits in
       omega (arith, wrong)
+
+  -- the words began as zeros
+  form-half_began : HasFormFor half 1000 (filter 1 23 1)
+      → BeganWith (filter 1 23 1).words (replicate 23 0)
+  form-half_began form =
+      subst (λ b. BeganWith (filter 1 23 1).words (replicate (words_for b) 0))
+      (bits-half form.0 form.1) form.2.began
+
+  -- the hasher is that of the builder
+  form-half_hasher : (f : SharedFilter ℕ) → HasFormFor half 1000 f → f.hasher ≡ 7
+  form-half_hasher f form = form.2.hasher
 
   -- no item counts as one, which 44 hashes suit
   form-half_none : BeganWith (filter 1 1 44).words (0 ∷ []) → HasFormFor half 0 (filter 1 1 44)
@@ -79,7 +90,14 @@ inserts-two f seven first second one two (suc zero) d within =
     (second, subst (λ s. MakesInsert f (s + 4) second) (sym seven) two)
 inserts-two f seven first second one two (suc (suc k)) d within = absurd (omega (arith, within))
 
--- and by no fewer: the second has a call of its own, for its own hash
+-- the first item has a call of its own, for its own hash
+inserts-first : (f : SharedFilter ℕ) → f.hasher ≡ 7 → MakesInserts sum f (3 ∷ 4 ∷ [])
+    → (reply : Bool) × MakesInsert f 10 reply
+inserts-first f seven all =
+    let first = all 0 0 (omega arith) in
+    (first.0, subst (λ s. MakesInsert f (s + 3) first.0) seven first.1)
+
+-- the second item has a call of its own, for its own hash
 inserts-second : (f : SharedFilter ℕ) → f.hasher ≡ 7 → MakesInserts sum f (3 ∷ 4 ∷ [])
     → (reply : Bool) × MakesInsert f 11 reply
 inserts-second f seven all =
@@ -90,7 +108,7 @@ inserts-second f seven all =
 abbrev one_take : ℕ → List Taken
 one_take found = record { step = Take 0; found = found; ended = Done } ∷ []
 
--- it was made by a swap of word 0, and the word taken is the one found
+-- a take of one word is a swap of word 0, and gives the word that the swap found
 takes-one : (name : ℕ) → FoundBySwap (filter name 1 1).words 0 5
     → TakesWords (filter name 1 1) (5 ∷ [])
 takes-one name made = record {
@@ -113,7 +131,7 @@ takes-one name made = record {
 takes-fewer : (name : ℕ) → TakesWords (filter name 1 1) [] → ⊥
 takes-fewer name takes = let count = taken-count _ _ takes in omega (arith, count)
 
--- nor more
+-- no more words are taken than there are
 takes-more : (name : ℕ) → TakesWords (filter name 1 1) (5 ∷ 6 ∷ []) → ⊥
 takes-more name takes = let count = taken-count _ _ takes in omega (arith, count)
 
@@ -131,24 +149,3 @@ takes-each f words takes i within =
           ∙ slice_get-map (λ (t : Taken). t.found) s i
           ∙ ap (option_map (λ (t : Taken). t.found)) at.1,
     )
-
--- the words of a vector of one word
-were-loaded : (name : ℕ) → FoundByLoad (filter name 1 1).words 0 5
-    → WereLoaded (filter name 1 1).words (5 ∷ [])
-were-loaded name made = record {
-  count = refl;
-  each = λ i within. subst
-      (λ j. (found : ℕ) × FoundByLoad (filter name 1 1).words j found
-      × (slice_get (5 ∷ []) j ≡ Some found)) (omega (arith, within)) (5, made, refl);
-}
-
--- no fewer, and no more
-fewer-loaded : (name : ℕ) → WereLoaded (filter name 2 1).words (5 ∷ []) → ⊥
-fewer-loaded name words = omega (arith, words.count)
-
--- each is one that was found there
-other-loaded : (name : ℕ) → WereLoaded (filter name 1 1).words (5 ∷ [])
-    → FoundByLoad (filter name 1 1).words 0 5
-other-loaded name words =
-    let first = words.each 0 (omega arith) in
-    subst (FoundByLoad (filter name 1 1).words 0) (sym (same_Some 5 first.0 first.2)) first.1

@@ -71,7 +71,7 @@ drives-take f reply before after words others size drives =
           (λ i t got. subst (λ n. t.step ≡ Take n) (omega arith) (drives.script.steps i t got));
     }
 
--- and has kept as many as there are
+-- a take gives as many words as the filter has
 pub taken-count : {S : Type 0} (f : SharedFilter S) (words : List ℕ) → TakesWords f words
     → length words ≡ f.words.count
 taken-count f words takes =

@@ -5,13 +5,13 @@ use Rattle.std.proofs.lemmas.List.{map-append}
 use Rattle.std.proofs.lemmas.List.Elements.{All-nil, All-append}
 use Rattle.fastbloom.specs.Shared.{SharedFilter, WasInserted, QueuesInsert}
 
--- these hashes were inserted, but for those that wait
+-- of some hashes those at the front were inserted, and the others wait
 pub record IsBehind {S : Type 0} (f : SharedFilter S) (hashes waiting : List ℕ) : Type 0 where
   pub before : List ℕ
   pub cut : hashes ≡ before ++ waiting
   pub did : All (WasInserted f) before
 
--- and fewer than sixteen wait
+-- of some hashes those at the front were inserted, and the others wait, fewer than sixteen
 abbrev pub AreQueued : {S : Type 0} → SharedFilter S → List ℕ → List ℕ → Type 0
 AreQueued f hashes waiting =
     record { behind : IsBehind f hashes waiting; room : length waiting < 16 }
@@ -27,7 +27,7 @@ module _ {S : Type 0} (f : SharedFilter S) where
   }
 
 module _ {S : Type 0} {f : SharedFilter S} where
-  -- no hash
+  -- before the first hash none waits
   pub queued-none : {waiting : List ℕ} → waiting ≡ [] → AreQueued f [] waiting
   queued-none none = record {
     behind = record { before = []; cut = sym none; did = All-nil (WasInserted f) };
@@ -59,7 +59,7 @@ module _ {S : Type 0} {f : SharedFilter S} where
         room = next.room;
       }
 
-  -- where those that wait are inserted, all are
+  -- once those that wait are inserted, all hashes are
   pub queued-all : {hashes waiting given : List ℕ} → AreQueued f hashes waiting → given ≡ waiting
       → All (WasInserted f) given → All (WasInserted f) hashes
   queued-all {hashes} {waiting} {given} queued all did =

@@ -1,5 +1,5 @@
--- What contracts see of a filter that workers fill from parts of its hashes. To fill a filter by
--- parts is this project's own.
+-- What contracts see of a filter that several workers fill, each with one part of the hashes. To
+-- fill a filter by parts is this project's own.
 use Rattle.std.specs.Prelude.{◌≡◌, ◌↔◌, ℕ, ◌*◌, Bool, true, false, ◌||◌, List, [], ◌∷◌, ◌++◌, length, IsTrue}
 use Rattle.std.specs.List.{Contains}
 use Rattle.bloom_parts.specs.Content.{content, AreWords}
@@ -21,7 +21,7 @@ abbrev pub positions_of_all : ℕ → ℕ → List ℕ → ℕ → Bool
 positions_of_all n k [] p = false
 positions_of_all n k (hash ∷ hashes) p = positions n k hash p || positions_of_all n k hashes p
 
--- a filter has this shape, and on are exactly the positions of these hashes
+-- a filter has this shape, and exactly the positions of these hashes are set
 pub record IsFilledWith {S : Type 0} (shape : Shape) (hashes : List ℕ) (f : Filter S) : Type 0 where
   pub words : length f.words ≡ words_of shape
   pub num_hashes : f.hashes ≡ hashes_of shape
@@ -38,7 +38,7 @@ pub record IsPositionOfOne (n k : ℕ) (hashes : List ℕ) (p : ℕ) : Type 0 wh
   pub given : Contains hashes hash
   pub here : positions n k hash p ≡ true
 
--- `positions_of_all` is the union
+-- `positions_of_all` is the union of the positions of the hashes
 abbrev pub UnionOfPositionsLaw : Type 0
 UnionOfPositionsLaw = (n k : ℕ) (hashes : List ℕ) (p : ℕ)
     → (positions_of_all n k hashes p ≡ true) ↔ IsPositionOfOne n k hashes p
@@ -51,19 +51,19 @@ AnyCuttingLaw S = (shape : Shape) (f g : Filter S) (hashes others : List ℕ)
     → IsFilledWith shape hashes f → IsFilledWith shape others g → HaveSameHashes hashes others
     → IsTrue (same_filter f g)
 
--- inserts, one after the other, fill a filter with their hashes besides those that it had
+-- inserting hashes one after the other fills a filter with them, besides the hashes that it had
 abbrev pub FilledByInsertsLaw : (S : Type 0) → Type 0
 FilledByInsertsLaw S = (shape : Shape) (old new : Filter S) (earlier hashes : List ℕ)
     → IsFilledWith shape earlier old → InsertsAll old hashes new
     → IsFilledWith shape (earlier ++ hashes) new
 
--- a union of filters fills one with the hashes of both
+-- the union of two filled filters is filled with the hashes of both
 abbrev pub FilledByUnionLaw : (S : Type 0) → Type 0
 FilledByUnionLaw S = (shape : Shape) (old other new : Filter S) (hashes others : List ℕ)
     → IsFilledWith shape hashes old → IsFilledWith shape others other → Unites old other new
     → IsFilledWith shape (hashes ++ others) new
 
--- a filter that was filled with hashes contains each
+-- a filter that was filled with hashes contains each of them
 abbrev pub FilledContainsLaw : (S : Type 0) → Type 0
 FilledContainsLaw S = (shape : Shape) (f : Filter S) (hashes : List ℕ) (hash : ℕ)
     → IsFilledWith shape hashes f → Contains hashes hash → contains f hash ≡ true

@@ -1,5 +1,5 @@
--- The definitions of plain filters are those of `bloom_plain`, and those of word steps those of
--- `bloom_steps`; those of seated filters are of `bloom_seated`. All are below this library.
+-- The definitions of this library, and those of the libraries below it that its contracts cite:
+-- `bloom_plain` on plain filters, `bloom_steps` on word steps, `bloom_seated` on seated filters.
 pub mod Fill
 pub mod LiveStore
 pub mod Shared

@@ -1,5 +1,6 @@
--- The stores of a call on a filter that threads share: what they lend and keep, and what a step of
--- them says.
+-- The stores on which a call of a shared filter makes its steps: which vectors a store lends, which
+-- words it keeps, and what one step of it does. A step is one atomic operation on one word
+-- (`bloom_steps`). This project's own.
 use Rattle.std.specs.Prelude.{◌≡◌, ℕ, List, slice_set}
 use Rattle.bloom_parts.specs.Made.{SharedWords}
 use Rattle.bloom_steps.specs.declared.steps.vocabulary.Step.{Step}
@@ -11,7 +12,7 @@ pub record Lent : Type 0 where
   pub words : SharedWords
   pub other : SharedWords
 
--- by a step that was made the store lends the same vectors as before
+-- a step was made on the lent vectors, and the store lends the same ones afterwards
 abbrev pub MakesStep : Lent → Step → ℕ → Lent → Type 0
 MakesStep before step found after = IsMade before.words before.other step found × (after ≡ before)
 
@@ -20,7 +21,8 @@ pub record Keeping : Type 0 where
   pub lent : Lent
   pub kept : List ℕ
 
--- a word that was taken out is kept at its own index
+-- the words kept after a step: a take keeps what it found at its own index, and no other step keeps
+-- anything
 abbrev pub kept_after : List ℕ → Step → ℕ → List ℕ
 kept_after kept (Load i) found = kept
 kept_after kept (Or i mask) found = kept
@@ -29,7 +31,7 @@ kept_after kept (Zero i) found = kept
 kept_after kept (Other i) found = kept
 kept_after kept (Take i) found = slice_set kept i found
 
--- a step that was made on what is lent, and what is kept after it
+-- a step was made on the lent vectors, and the word that it took out, if any, is kept
 abbrev pub KeepsStep : Keeping → Step → ℕ → Keeping → Type 0
 KeepsStep before step found after =
     MakesStep before.lent step found after.lent

@@ -1,5 +1,7 @@
--- What contracts see of a filter that threads share, and of which steps its calls are made. Its
--- words aren't seen, since any thread may change them. This project's own.
+-- What contracts see of a filter that threads share, and which steps its calls make. Contracts
+-- don't see its words, since any thread may change them at any time. A step is one atomic operation
+-- on one word, and a script is a list of steps, each with what it found, that a call may make
+-- (`bloom_steps`). These definitions are this project's own.
 use Rattle.std.specs.Prelude.{◌≡◌, ◌≢◌, ℕ, ◌<◌, Bool, List, [], ◌∷◌, ◌++◌, length, map, slice_get, All, Option, Some, None}
 use Rattle.bloom_parts.specs.Made.{SharedWords, BeganWith, FoundByLoad, FoundByOr, FoundByAnd, MadeZero, FoundBySwap}
 use Rattle.bloom_plain.specs.Builders.{RateStart, IsSizeOf, sized_filter, empty_start}
@@ -17,7 +19,7 @@ pub record SharedFilter (S : Type 0) : Type 0 where
   pub hashes : ℕ
   pub hasher : S
 
--- as many words and as many hashes
+-- two shared filters have equal numbers of words and of hashes
 pub record HaveSameShape {S : Type 0} (f g : SharedFilter S) : Type 0 where
   pub words : f.words.count ≡ g.words.count
   pub hashes : f.hashes ≡ g.hashes
@@ -30,13 +32,14 @@ pub record HasFormOf {S : Type 0} (f : SharedFilter S) (plain : Filter S) : Type
   pub hashes : f.hashes ≡ plain.hashes
   pub hasher : f.hasher ≡ plain.hasher
 
--- it has those of the filter for these items at the rate of a builder
+-- a shared filter has the form of the filter for this many items at the rate of a builder
 abbrev pub HasFormFor : {S : Type 0} → RateStart S → ℕ → SharedFilter S → Type 0
 HasFormFor start items f =
     (bits : ℕ) × IsSizeOf start items bits
     × HasFormOf f (sized_filter (empty_start start bits) items)
 
--- a step was made on a vector, or on the other where it reads the other's word, and found this
+-- a step was made on a vector, or on the other vector where it reads the other's word, and this is
+-- what it found
 abbrev pub IsMade : SharedWords → SharedWords → Step → ℕ → Type 0
 IsMade words other (Load i) found = FoundByLoad words i found
 IsMade words other (Or i mask) found = FoundByOr words i mask found
@@ -45,8 +48,8 @@ IsMade words other (Zero i) found = MadeZero words i × (found ≡ 0)
 IsMade words other (Other i) found = FoundByLoad other i found
 IsMade words other (Take i) found = FoundBySwap words i found
 
--- a call was made: the steps of a whole script of it on the words of a filter, and the script's
--- answer given
+-- a call was made: every step of one of its scripts was made on the words of a filter, and the
+-- reply is the script's answer
 pub record MakesCall {S : Type 0} (f other : SharedFilter S) (call : Call) (reply : Option Bool)
     : Type 0 where
   pub taken : List Taken
@@ -62,8 +65,8 @@ MakesInsert f hash reply = MakesCall f f (Insert hash) (Some reply)
 abbrev pub WasInserted : {S : Type 0} → SharedFilter S → ℕ → Type 0
 WasInserted f hash = (reply : Bool) × MakesInsert f hash reply
 
--- a hash joined those that wait to be inserted: of all these the first were inserted, and the others
--- wait
+-- a hash joined the end of a queue of hashes: those at the front were inserted, and the others
+-- still wait
 pub record QueuesInsert {S : Type 0} (f : SharedFilter S) (waiting : List ℕ) (hash : ℕ)
     (more : List ℕ) : Type 0 where
   pub gone : List ℕ
@@ -75,28 +78,28 @@ abbrev pub MakesInserts : {S T : Type 0} → (S → T → ℕ) → SharedFilter 
 MakesInserts hash_of f items =
     All (λ hash. (reply : Bool) × MakesInsert f hash reply) (map (hash_of f.hasher) items)
 
--- the words of a filter were taken out: those that the steps of a take found, in order
+-- the words of a filter were taken out: they are what the steps of a take found, in order
 pub record TakesWords {S : Type 0} (f : SharedFilter S) (words : List ℕ) : Type 0 where
   pub made : MakesCall f f call.Take None
   pub found : words ≡ map (λ t. t.found) made.taken
 
--- these are the words of a vector, each found by a load of the word of its index
+-- the words of a vector as they were loaded: a load of each index found the word at that index
 pub record WereLoaded (vector : SharedWords) (words : List ℕ) : Type 0 where
   pub count : length words ≡ vector.count
   pub each : (i : ℕ) → i < vector.count
       → (found : ℕ) × FoundByLoad vector i found × (slice_get words i ≡ Some found)
 
--- a vector began with the words of another, each as a load of it found it
+-- a vector began with words that were loaded of another, one load for each index
 abbrev pub BeganAsLoaded : SharedWords → SharedWords → Type 0
 BeganAsLoaded vector other = (words : List ℕ) × WereLoaded other words × BeganWith vector words
 
--- filters of one shape, of which each word that was loaded of the one equals that of the other
+-- two filters have equal shapes, and at each index a load of either found the same word
 pub record WereFoundAlike {S : Type 0} (f g : SharedFilter S) : Type 0 where
   pub shape : HaveSameShape f g
   pub words : (i : ℕ) → i < f.words.count
       → (found : ℕ) × FoundByLoad f.words i found × FoundByLoad g.words i found
 
--- filters of one shape, and a word that was loaded of the one and differs from that of the other
+-- at some index a load of one filter found another word than a load of the other
 pub record WereFoundToDiffer {S : Type 0} (f g : SharedFilter S) : Type 0 where
   pub index : ℕ
   pub found : ℕ

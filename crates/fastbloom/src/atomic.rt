@@ -40,7 +40,7 @@ impl<S> Model for AtomicBloomFilter<S> {
 }
 
 impl<S> AtomicBloomFilter<S> {
-    // The filter of these parts. No hashes count as one.
+    // The filter of these parts. `num_hashes` 0 counts as 1.
     pub(crate) fn from_parts(words: AtomicBitVec, num_hashes: u32, hasher: S) -> Self
         ensures words { result.words ≡ words }
         ensures hashes { result.hashes ≡ max 1 num_hashes }
@@ -86,7 +86,8 @@ impl<S> AtomicBloomFilter<S> {
         &self.hasher
     }
 
-    /// Turns on all positions of a hash, and answers whether its own steps found all of them on.
+    /// Turns on all positions of a hash, and answers whether its own steps found all of them on
+    /// already. So it answers false exactly if it turned on a bit itself.
     pub fn insert_hash(&self, hash: u64) -> bool
         ensures { MakesInsert self.now hash result }
     {

@@ -24,9 +24,9 @@ pub fn fill_of_any_cutting<S>()
 /// What `fill` answers is what inserts of all hashes, one after the other, make of an empty filter.
 pub fn fill_equals_one_filter<S>()
     ensures inserts { FilledByInsertsLaw S }
-    // So a union of two such filters is filled with the hashes of both.
+    // The union of two such filters is filled with the hashes of both.
     ensures union { FilledByUnionLaw S }
-    // What the clause on the bits says is the union of the positions.
+    // `positions_of_all`, by which `IsFilledWith` says the bits, is the union of the positions.
     ensures positions { UnionOfPositionsLaw }
 {}
 

@@ -1,4 +1,5 @@
--- A store that counts the steps made on it. It stands for any store that has a relation of its own.
+-- A store that counts the steps made on it. A step is one operation on one word (`bloom_steps`).
+-- The store stands for any store that has a relation of its own.
 use Rattle.std.specs.Prelude.{◌≡◌, ◌+◌, ◌%◌, ◌^◌, ℕ}
 use Rattle.bloom_steps.specs.declared.steps.vocabulary.Step.{Step}
 use Rattle.bloom_steps.specs.Memories.{Memory, Moves}
@@ -9,6 +10,6 @@ pub record Counted : Type 0 where
   pub steps : ℕ
 
 -- a step moves the memory as the table says, and the count by one
-pub record Counts (before : Counted) (step : Step) (found : ℕ) (after : Counted) : Type 0 where
+pub record CountsStep (before : Counted) (step : Step) (found : ℕ) (after : Counted) : Type 0 where
   pub moves : Moves before.memory step found after.memory
   pub one_more : after.steps ≡ (before.steps + 1) % 2 ^ 64

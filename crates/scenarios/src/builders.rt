@@ -20,7 +20,7 @@ const SHAPES: [(usize, u32, usize, u32); 7] = [
     (1, 4294967295, 64, 4294967295),
 ];
 
-// Whether a filter of so many bits and hashes has this shape, and nothing in it.
+// Whether the filter for the bits and hashes of a row has the row's shape, and nothing in it.
 fn is_shaped(alloc: Global, row: (usize, u32, usize, u32)) -> Result<bool, FilterError> {
     let (asked, hashes, num_bits, num_hashes) = row;
     let filter = BloomFilter::with_num_bits(alloc, asked)?.hashes(hashes);
@@ -55,7 +55,7 @@ const ITEMS_REFUSED: [(usize, FilterError); 3] = [
     (18446744073709551615, FilterError::SizeOverflow),
 ];
 
-// The filter for so many items at the rate of a fraction.
+// The filter for this many items at the rate of a fraction.
 fn filter_at(alloc: Global, num: u64, den: u64, items: usize) -> Result<BloomFilter, FilterError> {
     BloomFilter::with_false_pos(Rate::new(num, den)?).expected_items(alloc, items)
 }
@@ -82,8 +82,8 @@ fn is_fixed(alloc: Global, bits: usize, items: usize, hashes: u32) -> Result<boo
     Ok(filter.num_hashes() == hashes)
 }
 
-// The parts of a rate, items, bits and hashes. A half has one halving, a thousandth nearly ten, 3/2
-// none. Bits are rounded up to words.
+// The parts of a rate, items, bits and hashes. One is halved once to come to a half, nearly ten
+// times to come to a thousandth, and not at all for 3/2. Bits are rounded up to words.
 const BY_RATE: [(u64, u64, usize, usize, u32); 4] = [
     (1, 2, 1000, 1472, 1),
     (1, 2, 0, 64, 44),

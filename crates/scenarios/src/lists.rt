@@ -16,7 +16,7 @@ pub(super) fn filter_of(
     Ok(BloomFilter::from_vec(words)?.hashes(num_hashes))
 }
 
-// The items of a slice, in order: what `insert_all` says of any iterator tells its callers this.
+// Inserts the items of a slice, in order, as callers learn from what `insert_all` says.
 fn insert_slice<S: BuildHasher, T: Hash>(filter: &mut BloomFilter<S>, items: &[T])
     ensures { InsertsItems (source_hash_of S.BuildHasher S.Hasher.Hasher T.hash_input)
         filter.old items.now filter.new }
@@ -24,7 +24,7 @@ fn insert_slice<S: BuildHasher, T: Hash>(filter: &mut BloomFilter<S>, items: &[T
     filter.insert_all(items)
 }
 
-// The same of the items of a vector, by `extend`.
+// Inserts the items of a vector, in order, as callers learn from what `extend` says.
 fn insert_vec<S: BuildHasher, T: Hash + Drop>(filter: &mut BloomFilter<S>, items: Vec<T>)
     ensures { InsertsItems (source_hash_of S.BuildHasher S.Hasher.Hasher T.hash_input)
         filter.old items.items filter.new }

@@ -38,7 +38,7 @@ impl<'a> ExactSizeIterator for Overstated<'a> {
     }
 }
 
-// The items 1, 2 and 3 of an iterator that says so many, and counts them.
+// The items 1, 2 and 3 of an iterator that says it has this number, and counts those taken.
 fn three_of(said: usize, taken: &Cell<usize>) -> Overstated<'_>
     requires { 3 ≤ said }
 {
@@ -58,7 +58,7 @@ fn filter_of_three(alloc: Global) -> Result<BloomFilter, FilterError> {
     Ok(filter)
 }
 
-// Whether the number of items that an iterator says sizes the filter, and those that come go in.
+// Whether a plain filter is sized by the number that an iterator says, and takes in what comes.
 fn sizes_plain(alloc: Global) -> Result<bool, FilterError> {
     let taken = Cell::new(0);
     let builder = BloomFilter::with_num_bits(alloc, 64)?;
@@ -67,7 +67,7 @@ fn sizes_plain(alloc: Global) -> Result<bool, FilterError> {
     Ok((filter.num_hashes() == 1) & has_items & (taken.get() == 3))
 }
 
-// The same of a filter that threads share.
+// Whether a shared filter is sized by the number that an iterator says, and takes in what comes.
 fn sizes_shared(alloc: Global) -> Result<bool, FilterError> {
     let taken = Cell::new(0);
     let builder = AtomicBloomFilter::with_num_bits(alloc, 64)?;
@@ -76,7 +76,7 @@ fn sizes_shared(alloc: Global) -> Result<bool, FilterError> {
     Ok((filter.num_hashes() == 1) & has_items & (taken.get() == 3))
 }
 
-// Whether a size that is refused takes no item.
+// Whether a plain filter whose size is refused takes no item.
 fn refuses_plain(alloc: Global, half: Rate) -> bool {
     let taken = Cell::new(0);
     let items = three_of(18446744073709551615, &taken);
@@ -84,7 +84,7 @@ fn refuses_plain(alloc: Global, half: Rate) -> bool {
     (refused == Some(FilterError::SizeOverflow)) & (taken.get() == 0)
 }
 
-// The same of a filter that threads share.
+// Whether a shared filter whose size is refused takes no item.
 fn refuses_shared(alloc: Global, half: Rate) -> bool {
     let taken = Cell::new(0);
     let items = three_of(18446744073709551615, &taken);

@@ -105,7 +105,7 @@ fn unions_hold_what_either_holds_and_intersections_what_both_hold(rt: HostRuntim
     assert!(rt; matches!(combines_hashes(rt.alloc()), Ok(true)));
 }
 
-// Whether a filter of so many words, all on, is all off after a clear.
+// Whether a filter of this many words, with every bit set, has no bit set after a clear.
 fn is_cleared(alloc: Global, length: usize) -> Result<bool, FilterError> {
     let words = vec![in alloc; u64::MAX; length]?;
     let mut filter = BloomFilter::from_vec(words)?.hashes(1);

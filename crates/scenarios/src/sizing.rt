@@ -42,9 +42,10 @@ fn hashes_are_rounded_half_up_within_their_range(rt: HostRuntime) {
     }
 }
 
-// Items, the two parts of a rate, and the size. A half has one halving, a thousandth 638
-// sixty-fourths, the least rate 64 halvings, 3/2 and more none, and the greatest rate below one a
-// single sixty-fourth. The last two sizes are held by no word.
+// Items, the two parts of a rate, and the size. The size goes by how many times one is halved to
+// come to the rate: once for a half, 638 sixty-fourths of a time for a thousandth, 64 times for the
+// least rate, not at all for 3/2 and more, and a sixty-fourth of a time for the greatest rate below
+// one. No word holds the last two sizes.
 const SIZES: [(usize, u64, u64, Result<usize, FilterError>); 12] = [
     (1, 1, 2, Ok(64)),
     (1000, 1, 2, Ok(1448)),
@@ -65,7 +66,7 @@ const SIZES: [(usize, u64, u64, Result<usize, FilterError>); 12] = [
     (18446744073709551615, 1, 2, Err(FilterError::SizeOverflow)),
 ];
 
-// Whether so many items at the rate of a fraction have this size.
+// Whether this many items at the rate of a fraction have this size.
 fn has_size(items: usize, num: u64, den: u64, size: Result<usize, FilterError>) -> bool {
     match Rate::new(num, den) {
         Ok(rate) => optimal_size(items, rate) == size,

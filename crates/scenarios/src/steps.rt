@@ -56,8 +56,8 @@ const IN_MEMORY: [Driven; 6] = [
     (0, 6, Call::Insert(1), 2, Some(false), 1048577),
 ];
 
-// Such rows, each with how many steps are made. A look-up of hash 1 finds position 0 on and
-// position 20 off, so it ends after its second load.
+// Rows of driven calls, each with how many steps are made. A look-up of hash 1 finds position 0 on
+// and position 20 off, so it ends after its second load.
 const COUNTED: [(Driven, u64); 8] = [
     ((1, 0, Call::Contains(1), 3, Some(false), 1), 2),
     ((1048577, 0, Call::Contains(1), 2, Some(true), 1048577), 2),
@@ -77,7 +77,7 @@ fn is_driven(alloc: Global, row: &Driven) -> Result<bool, AllocError> {
     Ok((found == answer) & (store.words() == [after].as_slice()))
 }
 
-// The same over a store that counts the steps, which are as many as the row says.
+// Whether a call over a store that counts answers and leaves what its row says, in as many steps.
 fn is_counted(alloc: Global, row: &(Driven, u64)) -> Result<bool, AllocError> {
     let ((word, other, call, num_hashes, answer, after), steps) = *row;
     let mut tally = Tally::new(one_word(alloc, word, other)?);

@@ -30,7 +30,7 @@ const SHAPES: [(Asked, Outcome); 16] = [
     (Asked::Items(64, 0), Ok((64, 44))),
     (Asked::Items(1202, 4), Ok((1216, 211))),
     (Asked::Items(64, 500), Ok((64, 1))),
-    // A half has one halving, a thousandth nearly ten, 3/2 none.
+    // One is halved once to come to a half, nearly ten times to a thousandth, not at all to 3/2.
     (Asked::Rate(1, 2, 1000), Ok((1472, 1))),
     (Asked::Rate(1, 2, 0), Ok((64, 44))),
     (Asked::Rate(3, 2, 1000), Ok((64, 1))),

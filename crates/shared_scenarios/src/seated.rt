@@ -1,4 +1,5 @@
-//! Seated filters at values from outside, by one thread.
+//! Seated filters at values from outside, by one thread. In a seated filter a bit that was set
+//! stays set, and each thread calls it with a pass of its own.
 ghost use Rattle.std.specs.Prelude.{◌≡◌, IfOk};
 
 mod threads;
@@ -7,7 +8,8 @@ use fastbloom::{FilterError, Pass, SeatedBloomFilter};
 use std::alloc::Global;
 use std::test::Fail;
 
-// A filter of these words with one pass, where so many are asked for.
+// A filter of these words and its only pass. The number of passes asked for is 0 or 1: no passes
+// count as one.
 fn with_one(
     alloc: Global,
     words: &[u64],
@@ -92,8 +94,7 @@ fn given_words_are_there(alloc: Global) -> Result<bool, Fail> {
     Ok(given && !before && !inserted && after && is_closed)
 }
 
-// Whether a filter of these words, into which a hash goes, is closed with those. No passes count as
-// one.
+// Whether a filter of these words, into which one hash is inserted, is closed with those words.
 fn inserts_to(
     alloc: Global,
     words: &[u64],

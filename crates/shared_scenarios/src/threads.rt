@@ -16,8 +16,8 @@ use std::thread;
 use std::thread::{Promise, PromisedHandle, Threads};
 use tasks::{Task, work};
 
-// A filter that threads share, and how many stand at the line where so many threads wait for each
-// other, so that their calls overlap.
+// A filter that threads share, and the line at which `threads` of them wait for each other, so that
+// their calls overlap.
 #[derive(Drop)]
 struct Scene {
     alloc: Global,
@@ -38,7 +38,7 @@ impl Promise<u64> for Anything {
 
 type Child = PromisedHandle<u64, Anything>;
 
-// A filter in an `Arc`, for so many threads that wait for each other.
+// A filter in an `Arc`, for this many threads that wait for each other.
 fn share(alloc: Global, filter: AtomicBloomFilter, threads: u64) -> Result<Shared, Fail> {
     let scene = Scene {
         alloc,

@@ -1,5 +1,6 @@
-//! Tests that are run with one request for memory after the other refused: what is answered, and
-//! what stays. Each prints its call and how it ended, which bin/starve compares.
+//! Tests that are run again and again, each time with one request for memory refused: what a call
+//! answers then, and what it leaves. Each prints its call and how it ended, which bin/starve
+//! compares.
 #![tactic(auto)]
 
 #[cfg(test)]

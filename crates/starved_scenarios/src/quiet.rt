@@ -24,7 +24,7 @@ fn takes_items_shared(filter: &AtomicBloomFilter) -> bool {
     (2..7u64).all(|item| filter.contains(&item)) && filter.contains_hash(1)
 }
 
-// United and then intersected with the other, a filter equals it.
+// Whether a filter equals the other after a union and an intersection with it.
 fn meets(filter: &mut BloomFilter, other: &BloomFilter) -> bool {
     if !filter.same_shape(other) {
         return false;

@@ -5,13 +5,13 @@ use std::alloc::Global;
 // What SipHash-1-3 gives of the number 7 under the key of seed 42.
 const HASH_OF_7: u64 = 8161168851798007701;
 
-/// The words 5 and 6 under three hashes and seed 42.
+/// A plain filter of the words 5 and 6 under three hashes and seed 42.
 pub(crate) fn plain(alloc: Global) -> Result<BloomFilter, FilterError> {
     let words = [5, 6].to_vec(alloc)?;
     Ok(BloomFilter::from_vec(words)?.seed(&42).hashes(3))
 }
 
-/// The same, shared.
+/// A shared filter of the words 5 and 6 under three hashes and seed 42.
 pub(crate) fn shared(alloc: Global) -> Result<AtomicBloomFilter, FilterError> {
     let words = [5, 6].to_vec(alloc)?;
     let builder = AtomicBloomFilter::from_vec(words)?.seed(&42);
@@ -23,7 +23,7 @@ pub(crate) fn is_plain(filter: &BloomFilter, words: &[u64]) -> bool {
     filter.as_slice() == words && filter.num_hashes() == 3 && filter.source_hash(&7u64) == HASH_OF_7
 }
 
-/// The same of a shared filter.
+/// Whether a shared filter has these words, three hashes and the key of seed 42.
 pub(crate) fn is_shared(filter: &AtomicBloomFilter, words: &[u64]) -> bool {
     filter.iter().eq(words.iter().copied())
         && filter.num_hashes() == 3

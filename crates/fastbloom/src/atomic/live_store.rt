@@ -26,7 +26,7 @@ impl<'a> Model for LiveStore<'a> {
 impl<'a> LiveStore<'a> {
     ghost use Rattle.std.specs.Prelude.{◌≡◌};
 
-    // The store of these words, as many of both.
+    // The store that lends these two vectors, of equal length.
     pub(super) fn new(words: &'a AtomicBitVec, other: &'a AtomicBitVec) -> Self
         requires { other.now.count ≡ words.now.count }
         ensures words { result.words ≡ words.now }

@@ -1,5 +1,6 @@
 //! Many inserts into a filter that is larger than a cache. The words of sixteen hashes are loaded
-//! first, so that the memory brings them side by side: a step that changes a word waits for it.
+//! before the first is inserted, so that memory fetches them side by side: a step that changes a
+//! word waits for that word.
 ghost use Rattle.std.specs.Prelude.{◌<◌, All};
 ghost use Rattle.arrayvec.specs.ArrayVec.{array_vec_len};
 ghost use Rattle.std.specs.Iterator.{IsFiniteIterable};
@@ -30,8 +31,8 @@ impl<S> AtomicBloomFilter<S> {
         self.words.len() >= MANY_WORDS
     }
 
-    // Inserts hashes, in order, whose words are all loaded first.
-    fn insert_few(&self, hashes: &[u64])
+    // Loads the words of all these hashes, and then inserts the hashes, in order.
+    fn load_then_insert(&self, hashes: &[u64])
         ensures { All (WasInserted self.now) hashes.now }
     {
         'touches: for hash in hashes {
@@ -42,7 +43,7 @@ impl<S> AtomicBloomFilter<S> {
         }
     }
 
-    // Lets a hash wait, and inserts all that wait where they are sixteen.
+    // Lets a hash wait, and once sixteen wait inserts them all.
     #[inline(always)]
     fn insert_later(&self, waiting: &mut ArrayVec<u64, GROUP>, hash: u64)
         requires { array_vec_len waiting.old < 16 }
@@ -51,7 +52,7 @@ impl<S> AtomicBloomFilter<S> {
     {
         waiting.push(hash);
         if waiting.is_full() {
-            self.insert_few(waiting);
+            self.load_then_insert(waiting);
             waiting.clear();
         }
     }
@@ -71,6 +72,6 @@ impl<S: BuildHasher> AtomicBloomFilter<S> {
             let hash = self.source_hash(&item);
             self.insert_later(&mut waiting, hash);
         }
-        self.insert_few(&waiting);
+        self.load_then_insert(&waiting);
     }
 }

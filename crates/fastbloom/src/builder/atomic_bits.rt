@@ -39,7 +39,7 @@ impl<S> Model for AtomicBuilderWithBits<S> {
     ghost view = { λ b. b.plain };
 }
 
-// The filter whose words begin as these bits. No hashes count as one.
+// The filter whose words begin as these bits. `num_hashes` 0 counts as 1.
 fn filter_of<S: Drop>(
     alloc: Global,
     bits: &BitVec,

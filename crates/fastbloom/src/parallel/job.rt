@@ -12,7 +12,8 @@ use std::sync::Arc;
 use std::thread;
 use std::thread::{Promise, PromisedHandle, Threads};
 
-// What a worker promises: its filter has the shape, and on are the positions of its hashes.
+// What a worker promises: its filter has this shape, and exactly the positions of its hashes are
+// set.
 #[derive(Drop)]
 pub(super) struct FilledPart {
     pub(super) shape: Shape,

@@ -52,7 +52,7 @@ fn plain_is_alike(alloc: Global) -> Result<bool, FilterError> {
     Ok((hash == 0) & is_new & finds & stands & (filter.as_slice()[0] == 1))
 }
 
-// The same of a filter that threads share.
+// Whether a shared filter takes any item for the one that was inserted, and hashes it to 0.
 fn shared_is_alike(alloc: Global) -> Result<bool, FilterError> {
     let filter = shared(alloc)?;
     let stood_before = filter.insert(&1u64);

@@ -5,7 +5,7 @@ use std::alloc::{AllocError, Global};
 use std::hash::Hasher;
 
 // The answers of the crate siphasher 0.3.10 (`SipHasher13`) under the key bytes 0, 1, .., 15, each
-// for the message of so many bytes of which byte i is 3 + 7 * i modulo 256.
+// for the message of this many bytes of which byte i is 3 + 7 * i modulo 256.
 const COUNTING_KEY: [(usize, u64); 15] = [
     (0, 0xabac_0158_050f_c4dc),
     (1, 0x2f28_48bd_f070_e448),

@@ -1,6 +1,6 @@
 //! A store that counts the steps made on it.
 ghost use Rattle.std.specs.Prelude.{◌≡◌, length};
-ghost use Rattle.scenarios.specs.Tallies.{Counts};
+ghost use Rattle.scenarios.specs.Tallies.{CountsStep};
 
 use fastbloom::{MemoryStore, Step, WordStore};
 use std::marker::Model;
@@ -47,7 +47,7 @@ impl Tally {
 impl WordStore for Tally {
     ghost count = { λ t. length t.memory.words };
 
-    ghost moved = { Counts };
+    ghost moved = { CountsStep };
 
     fn num_words(&self) -> usize {
         self.memory.num_words()

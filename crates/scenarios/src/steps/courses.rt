@@ -1,4 +1,5 @@
-//! Runs of calls in an order that a schedule says: courses that were worked out by hand.
+//! Runs of calls whose steps come in the order of a schedule, with the courses that were worked out
+//! by hand. A course is what a run records: which call began, and each step with what it found.
 use super::tables::{Course, began, begin, did, go, go_given, is_taken};
 use fastbloom::{Call, End, Event, Record, Step};
 
@@ -28,8 +29,8 @@ const COURSES: [Course; 10] = [
         ],
         after: &[1048577],
     },
-    // The words were 1, 0 and 1048576, so positions 0 and 20 were never on together: the clear
-    // turned position 0 off within the look-up, which so is disturbed.
+    // The words were 1, 0 and 1048576, so positions 0 and 20 were never on together. The look-up is
+    // disturbed: between its first step and its last the clear turned off position 0 of its hash.
     Course {
         name: "a disturbed contains may be true at no moment",
         words: &[1],
@@ -149,7 +150,8 @@ const COURSES: [Course; 10] = [
         records: &[],
         after: &[9],
     },
-    // The look-up is undisturbed, and its hash isn't contained at the moment of its last load.
+    // The look-up is undisturbed, since no step turned off a position of its hash. At the moment of
+    // its last load its hash isn't contained.
     Course {
         name: "an undisturbed contains is false before the insert ends",
         words: &[0],

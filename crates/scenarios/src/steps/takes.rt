@@ -1,4 +1,4 @@
-//! Runs in which the words are taken out: courses that were worked out by hand.
+//! Runs in which the words are taken out, with the courses (what is recorded) worked out by hand.
 use super::tables::{Course, began, begin, did, go, is_taken};
 use fastbloom::{Call, End, Event, Record, Step};
 

@@ -13,7 +13,7 @@ fn plain_of(alloc: Global, bits: usize, seed: u128) -> Result<BloomFilter, Fail>
     Ok(filter)
 }
 
-// The same in a shared one.
+// The numbers 0 to 100 in a shared filter for 100 items.
 fn shared_of(alloc: Global, bits: usize, seed: u128) -> Result<AtomicBloomFilter, Fail> {
     let builder = AtomicBloomFilter::with_num_bits(alloc, bits)?.seed(&seed);
     let filter = builder.expected_items(alloc, 100)?;

@@ -32,7 +32,7 @@ fn take_often(
     Ok(())
 }
 
-// A plain filter of 64 words and 3 hashes with so many hashes in it.
+// A plain filter of 64 words and 3 hashes with this many hashes in it.
 fn by_one(alloc: Global, hashes: u64) -> Result<BloomFilter, Fail> {
     let mut filter = BloomFilter::with_num_bits(alloc, 4096)?.hashes(3);
     for i in 0..hashes {

@@ -12,7 +12,7 @@ pub(super) enum Task {
     /// Inserts the hashes from the first up to the end, which it leaves out, each with a look-up of
     /// another hash (the inserts that answered false).
     Inserts(u64, u64),
-    /// Asks so often, in turn, for the first hundred hashes (the answers that were false).
+    /// Looks up the first hundred hashes in turn, this many times (the answers that were false).
     Asks(u64),
     /// Inserts the items from the first up to the end, which it leaves out, at once (nothing).
     Extends(u64, u64),

@@ -1,6 +1,6 @@
 use Rattle.std.proofs.Common.{◌≡◌}
 use Rattle.bench.proofs.seated.contains_keys.Given as goal
 
--- the pass stays of its filter
+-- the pass still belongs to its filter
 abbrev pub invariant-keys : goal.invariant-keys
 invariant-keys l = l.pass.filter ≡ l.initial.pass.filter

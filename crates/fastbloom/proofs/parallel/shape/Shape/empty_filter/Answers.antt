@@ -5,7 +5,7 @@ use Rattle.fastbloom.specs.Fill.{words_of}
 use Rattle.fastbloom.proofs.FillLemmas.{filled-none}
 use Rattle.fastbloom.proofs.parallel.shape.Shape.empty_filter.Goals as goal
 
--- 64 times so many bits are so many words, and no hash is in them
+-- 64 bits for each word make this number of words, and no hash is in them
 pub returns-clause-empty : goal.returns-clause-empty
 returns-clause-empty c =
     let whole : words_for (64 * words_of c.args.self) ≡ words_of c.args.self =

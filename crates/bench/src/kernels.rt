@@ -1,4 +1,5 @@
-//! The passes over all words of a filter, at a few sizes, beside plain loops over as many words.
+//! The calls that go over all words of a filter, at a few sizes, beside plain loops over as many
+//! words. A kernel is such a call or such a loop.
 //!
 //! The loops go over slices, where the compiler takes several words at once.
 ghost use Rattle.std.specs.Prelude.{◌≡◌, length};
@@ -44,7 +45,7 @@ fn plain_equality(words: &Vec<u64>, other: &Vec<u64>) -> bool {
     *words == *other
 }
 
-// Two filters of so many words, and their words by themselves.
+// Two filters of one number of words, and two vectors of as many.
 #[derive(Drop)]
 struct Pair {
     filter: BloomFilter,
@@ -53,7 +54,7 @@ struct Pair {
     others: Vec<u64>,
 }
 
-// A filter of so many words.
+// A filter of this many words.
 fn filter_of(alloc: Global, words: usize) -> anyhow::Result<BloomFilter> {
     let words = vec![in alloc; 0u64; words]?;
     Ok(BloomFilter::from_vec(words)?.hashes(1))
@@ -68,9 +69,9 @@ fn pair_of(alloc: Global, words: usize) -> anyhow::Result<Pair> {
     })
 }
 
-// A pass over all words, by the filter's call or by the plain loop.
+// What goes over all words: a call of the filter, or a plain loop.
 #[derive(Clone, Copy)]
-enum Pass {
+enum Kernel {
     Union,
     PlainUnion,
     Intersect,
@@ -81,7 +82,7 @@ enum Pass {
     PlainClear,
 }
 
-// Unites the filters so often.
+// Unites the filters this many times.
 fn unite(pair: &mut Pair, times: u64) {
     for _ in 0..times {
         if !pair.filter.same_shape(&pair.other) {
@@ -152,42 +153,42 @@ fn clear_plainly(pair: &mut Pair, times: u64) {
     }
 }
 
-// Makes a pass so often, and counts what it answers.
+// Runs a kernel this many times, and counts what it answers.
 #[inline(never)]
-fn make(pair: &mut Pair, pass: Pass, times: u64) -> u64 {
-    match pass {
-        Pass::Union => unite(pair, times),
-        Pass::PlainUnion => unite_plainly(pair, times),
-        Pass::Intersect => intersect(pair, times),
-        Pass::PlainIntersect => intersect_plainly(pair, times),
-        Pass::Equality => return compare(pair, times),
-        Pass::PlainEquality => return compare_plainly(pair, times),
-        Pass::Clear => clear(pair, times),
-        Pass::PlainClear => clear_plainly(pair, times),
+fn make(pair: &mut Pair, kernel: Kernel, times: u64) -> u64 {
+    match kernel {
+        Kernel::Union => unite(pair, times),
+        Kernel::PlainUnion => unite_plainly(pair, times),
+        Kernel::Intersect => intersect(pair, times),
+        Kernel::PlainIntersect => intersect_plainly(pair, times),
+        Kernel::Equality => return compare(pair, times),
+        Kernel::PlainEquality => return compare_plainly(pair, times),
+        Kernel::Clear => clear(pair, times),
+        Kernel::PlainClear => clear_plainly(pair, times),
     }
     0
 }
 
-// A pass, the filters that it is made on, and how often a round makes it.
+// A kernel, the filters that it is run on, and how often a round runs it.
 #[derive(Drop)]
-struct Passes {
-    pass: Pass,
+struct Kernels {
+    kernel: Kernel,
     pair: Pair,
     times: u64,
 }
 
-impl Measured for Passes {
+impl Measured for Kernels {
     fn prepare(&mut self, _round: u32) -> anyhow::Result<()> {
         Ok(())
     }
 
     fn make(&mut self, _round: u32) -> anyhow::Result<Made> {
         let times = self.times;
-        Ok(Made::Answers(make(&mut self.pair, self.pass, times)))
+        Ok(Made::Answers(make(&mut self.pair, self.kernel, times)))
     }
 }
 
-// All passes over so many words. A round goes over 2^20 words.
+// The rows of all kernels over this many words. A round goes over 2^20 words.
 fn measure_size<R: Print + AllocGlobal + Clock>(
     rt: &R,
     plan: &Plan,
@@ -199,32 +200,32 @@ fn measure_size<R: Print + AllocGlobal + Clock>(
         (1 << 20) / u64::from(words.max(1))
     };
     let operations = times.wrapping_mul(u64::from(words));
-    let mut passes = Passes {
-        pass: Pass::Union,
+    let mut kernels = Kernels {
+        kernel: Kernel::Union,
         pair: pair_of(rt.alloc(), words as usize)?,
         times,
     };
-    'passes: for (pass, call) in [
-        (Pass::Union, "union, words:"),
-        (Pass::PlainUnion, "  plain union, words:"),
-        (Pass::Intersect, "intersect, words:"),
-        (Pass::PlainIntersect, "  plain intersect, words:"),
-        (Pass::Equality, "==, words:"),
-        (Pass::PlainEquality, "  plain ==, words:"),
-        (Pass::Clear, "clear, words:"),
-        (Pass::PlainClear, "  plain clear, words:"),
+    'kernels: for (kernel, call) in [
+        (Kernel::Union, "union, words:"),
+        (Kernel::PlainUnion, "  plain union, words:"),
+        (Kernel::Intersect, "intersect, words:"),
+        (Kernel::PlainIntersect, "  plain intersect, words:"),
+        (Kernel::Equality, "==, words:"),
+        (Kernel::PlainEquality, "  plain ==, words:"),
+        (Kernel::Clear, "clear, words:"),
+        (Kernel::PlainClear, "  plain clear, words:"),
     ] {
-        passes.pass = pass;
+        kernels.kernel = kernel;
         measure(
             rt,
             Row::new(plan, call, words, operations, "equal"),
-            &mut passes,
+            &mut kernels,
         )?;
     }
     Ok(())
 }
 
-/// The rows of whole passes over 15, 1,023 and 2^20 words, a word each. Where there are no keys
+/// The rows of all kernels over 15, 1,023 and 2^20 words, a word each. Where there are no keys
 /// nothing is measured.
 pub fn measure_all<R: Print + AllocGlobal + Clock>(rt: &R, plan: &Plan) -> anyhow::Result<()> {
     'sizes: for words in [15, 1023, 1 << 20] {

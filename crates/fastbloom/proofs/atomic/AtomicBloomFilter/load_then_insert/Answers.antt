@@ -2,7 +2,7 @@ use Rattle.std.proofs.Common.{subst, arith, take_all}
 use Rattle.std.specs.List.{All}
 use Rattle.std.proofs.lemmas.List.Elements.{All-more}
 use Rattle.fastbloom.specs.Shared.{WasInserted}
-use Rattle.fastbloom.proofs.atomic.AtomicBloomFilter.insert_few.Goals as goal
+use Rattle.fastbloom.proofs.atomic.AtomicBloomFilter.load_then_insert.Goals as goal
 
 pub inserts-preserved : goal.inserts-preserved
 inserts-preserved g c =

@@ -1,6 +1,6 @@
 use Rattle.std.proofs.Common.{All}
 use Rattle.bench.specs.Lists.{FitsEach}
-use Rattle.bench.proofs.whole.measure_lists.Given as goal
+use Rattle.bench.proofs.whole_filter.measure_lists.Given as goal
 
 -- the commands name no filter
 abbrev pub invariant-rounds : goal.invariant-rounds

@@ -27,7 +27,7 @@ fn command_on(key: u64) -> Command<'static, DefaultHasher>
     }
 }
 
-// The commands on so many keys.
+// The commands on this many keys.
 fn commands_on(alloc: Global, keys: u32) -> Result<Vec<Command<'static, DefaultHasher>>, AllocError>
     ensures { IfOk result (λ commands. All FitsEach commands.items) }
 {

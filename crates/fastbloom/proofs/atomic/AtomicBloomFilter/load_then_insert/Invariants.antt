@@ -1,7 +1,7 @@
 use Rattle.std.proofs.Common.{take}
 use Rattle.std.specs.List.{All}
 use Rattle.fastbloom.specs.Shared.{WasInserted}
-use Rattle.fastbloom.proofs.atomic.AtomicBloomFilter.insert_few.Given as goal
+use Rattle.fastbloom.proofs.atomic.AtomicBloomFilter.load_then_insert.Given as goal
 
 -- the hashes so far were inserted
 abbrev pub invariant-inserts : goal.invariant-inserts

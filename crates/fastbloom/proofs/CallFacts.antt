@@ -1,0 +1,106 @@
+-- What calls on shared filters tell, and which hashes wait: cases that hold, and cases that nearly
+-- do.
+use Rattle.std.proofs.Common.{◌≡◌, ◌∙◌, ◌↔◌, ℕ, ◌*◌, ◌/◌, ◌%◌, ◌^◌, ◌<◌, ◌≤◌, Bool, true, false, List, [], ◌∷◌, ◌++◌, length, sym, subst, ap, refl, arith, append-nil}
+use Rattle.std.specs.List.{All}
+use Rattle.std.proofs.lemmas.Option.{same_Some, slice_get_within}
+use Rattle.std.proofs.lemmas.List.{length-append}
+use Rattle.std.proofs.lemmas.List.Elements.{All-from_recursion}
+use Rattle.bloom_parts.specs.Content.{bit_is_on}
+use Rattle.bloom_parts.specs.Made.{FoundByOr}
+use Rattle.bloom_parts.specs.Places.{place}
+use Rattle.bloom_steps.specs.Scripts.{Any, answer_of_end}
+use Rattle.fastbloom.specs.Shared.{SharedFilter, IsMade, MakesInsert, WasInserted, QueuesInsert}
+use Rattle.fastbloom.proofs.SharedFacts.{insert-turns-on-each, member}
+use Rattle.fastbloom.proofs.SharedLemmas.{last-of}
+
+-- one step of an insert turned on this place, and found it on or off
+abbrev TurnsOn : {S : Type 0} → SharedFilter S → ℕ → Bool → Type 0
+TurnsOn f p was = (found : ℕ) × FoundByOr f.words (p / 64) (2 ^ (p % 64)) found
+    × (bit_is_on found p ≡ was)
+
+module _ {S : Type 0} (f : SharedFilter S) (hash : ℕ) where
+  -- a reply is false exactly if some step found its place off
+  reply-false : (reply : Bool) → 1 ≤ f.hashes → (calls : MakesInsert f hash reply)
+      → (reply ≡ false) ↔ Any calls.taken
+      (λ i t. bit_is_on t.found (place (64 * f.words.count) hash i) ≡ false)
+  reply-false reply some calls =
+      let last = last-of calls.taken (omega (arith, some, calls.script.count)) in
+      let end = calls.script.last last.index last.step last.stands last.is_last in
+      let same : reply ≡ end.0 =
+      same_Some reply end.0 (calls.answers ∙ last.answers ∙ ap answer_of_end end.1) in
+      (λ is. end.2.0 (sym same ∙ is), λ any. same ∙ end.2.1 any)
+
+  -- an insert that replies false turned on a place of its hash that it found off
+  insert-false : 1 ≤ f.hashes → MakesInsert f hash false
+      → (i : ℕ) × (i < f.hashes) × TurnsOn f (place (64 * f.words.count) hash i) false
+  insert-false some calls =
+      let off = (reply-false false some calls).0 refl in
+      let within = slice_get_within calls.taken off.0 off.1 off.2 in (
+        off.0,
+        omega (arith, within, calls.script.count),
+        (
+          off.1.found,
+          subst (λ step. IsMade f.words f.words step off.1.found)
+              (calls.script.steps off.0 off.1 off.2) (calls.made off.0 off.1 off.2),
+          off.3,
+        ),
+      )
+
+  -- an insert that replies true found each place of its hash on
+  insert-true : MakesInsert f hash true → (i : ℕ) → i < f.hashes
+      → TurnsOn f (place (64 * f.words.count) hash i) true
+  insert-true calls i within =
+      let p = place (64 * f.words.count) hash i in
+      let at = member calls.taken i (omega (arith, within, calls.script.count)) in (
+        at.0.found,
+        subst (λ step. IsMade f.words f.words step at.0.found)
+            (calls.script.steps i at.0 at.1) (calls.made i at.0 at.1),
+        otherwise (bit_is_on at.0.found p) (λ off.
+            let wrong : true ≡ false =
+            (reply-false true (omega (arith, within)) calls).1 (i, at.0, at.1, off) in
+            cc),
+      )
+    where
+      otherwise : (b : Bool) → (b ≡ false → ⊥) → b ≡ true
+      otherwise true never = refl
+      otherwise false never = absurd (never refl)
+
+  -- each place of a hash that was inserted was turned on
+  was-inserted : WasInserted f hash → (i : ℕ) → i < f.hashes
+      → let p = place (64 * f.words.count) hash i in
+      (found : ℕ) × FoundByOr f.words (p / 64) (2 ^ (p % 64)) found
+  was-inserted did i within = insert-turns-on-each f hash did.0 did.1 i within
+
+module _ (f : SharedFilter ℕ) where
+  -- a hash may join those that wait, in order
+  queues-waits : QueuesInsert f (1 ∷ []) 2 (1 ∷ 2 ∷ [])
+  queues-waits = record {
+    gone = [];
+    cut = refl;
+    did = λ k d within. absurd (omega (arith, within));
+  }
+
+  -- those that wait may all be inserted
+  queues-inserts : WasInserted f 1 → WasInserted f 2 → QueuesInsert f (1 ∷ []) 2 []
+  queues-inserts one two = record {
+    gone = 1 ∷ 2 ∷ [];
+    cut = refl;
+    did = All-from_recursion (WasInserted f) (1 ∷ 2 ∷ []) (one, (two, tt));
+  }
+
+  -- where none waits afterwards, each hash was inserted
+  queues-inserted : QueuesInsert f (1 ∷ []) 2 [] → WasInserted f 1 × WasInserted f 2
+  queues-inserted queues =
+      let gone : queues.gone ≡ 1 ∷ 2 ∷ [] = sym (queues.cut ∙ append-nil queues.gone) in
+      let did = subst (All (WasInserted f)) gone queues.did in
+      (did 0 0 (omega arith), did 1 0 (omega arith))
+
+  -- the hash that came isn't lost while an earlier one waits
+  queues-loses : QueuesInsert f (1 ∷ []) 2 (1 ∷ []) → ⊥
+  queues-loses queues = lost queues.gone queues.cut
+    where
+      lost : (gone : List ℕ) → 1 ∷ 2 ∷ [] ≡ gone ++ 1 ∷ [] → ⊥
+      lost [] cut = cc
+      lost (hash ∷ []) cut = cc
+      lost (hash ∷ (other ∷ gone)) cut =
+          omega (arith, ap length cut, length-append gone (1 ∷ []))
