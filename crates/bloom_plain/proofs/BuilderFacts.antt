@@ -53,6 +53,10 @@ bits_refusal-greatest = refl
 bits_refusal-many : bits_refusal 18446744073709551553 ≡ Some TooManyWords
 bits_refusal-many = refl
 
+-- the least size, which is one word, is not refused
+size_refusal-least : size_refusal 64 ≡ None
+size_refusal-least = refl
+
 -- a size of 2^64 - 64 bits is not refused
 size_refusal-greatest : size_refusal 18446744073709551552 ≡ None
 size_refusal-greatest = refl

@@ -21,6 +21,15 @@ record Shows (form : FilterData) (w n : ℕ) : Type 0 where
 no-words : (form : FilterData) → Shows form 0 4294967295 → data_refusal form ≡ Some EmptyWords
 no-words form shows = rw shows.words refl
 
+-- no words are refused, however few hashes there are
+no-words_few : (form : FilterData) → Shows form 0 0 → data_refusal form ≡ Some EmptyWords
+no-words_few form shows = rw shows.words refl
+
+-- too many words are refused, however few hashes there are
+too-many-words_few : (form : FilterData) → Shows form 288230376151711744 0
+    → data_refusal form ≡ Some TooManyWords
+too-many-words_few form shows = rw shows.words refl
+
 -- then too many words
 too-many-words : (form : FilterData) → Shows form 288230376151711744 4294967295
     → data_refusal form ≡ Some TooManyWords
@@ -83,6 +92,22 @@ five-key form f is of same =
     let key = ap (λ (k : ℕ × ℕ). k.0) same.key in
     omega (arith, is.low, low, key)
 
+-- a filter with another second word of the key isn't of the form
+five-high : (form : FilterData) (f : DefaultFilter) → IsFive form
+    → IsFilter f 5 2 0 3026418949592973313 → IsDataOf form f → ⊥
+five-high form f is of same =
+    let high = ap (λ (k : ℕ × ℕ). k.1) of.key in
+    let key = ap (λ (k : ℕ × ℕ). k.1) same.key in
+    omega (arith, is.high, high, key)
+
+-- a filter with another first word of the key isn't of the form
+five-low : (form : FilterData) (f : DefaultFilter) → IsFive form
+    → IsFilter f 5 2 1 3026418949592973312 → IsDataOf form f → ⊥
+five-low form f is of same =
+    let low = ap (λ (k : ℕ × ℕ). k.0) of.key in
+    let key = ap (λ (k : ℕ × ℕ). k.0) same.key in
+    omega (arith, is.low, low, key)
+
 -- a filter of these words and as many hashes, under a hasher
 abbrev filter : List ℕ → ℕ → CloneBuildHasher RandomDefaultHasher → DefaultFilter
 filter words hashes hasher = record { words = words; hashes = hashes; hasher = hasher }
@@ -103,11 +128,24 @@ alike-hashes : (hasher : CloneBuildHasher RandomDefaultHasher)
 unfolding content chain are_in
 alike-hashes hasher same = let found : false ≡ true = same.found 1 in cc
 
+-- filters of zero words that differ in their number of hashes don't answer alike, though neither
+-- finds a hash
+alike-hashes_zero : (hasher : CloneBuildHasher RandomDefaultHasher)
+    → AnswerAlike (filter (0 ∷ []) 1 hasher) (filter (0 ∷ []) 2 hasher) → ⊥
+alike-hashes_zero hasher same = let wrong : 2 ≡ 1 = same.hashes in omega (arith, wrong)
+
 -- nor where a position of hash 1 is on in one word and off in the other
 alike-word : (hasher : CloneBuildHasher RandomDefaultHasher)
     → AnswerAlike (filter (1048577 ∷ []) 2 hasher) (filter (1 ∷ []) 2 hasher) → ⊥
 unfolding content chain are_in
 alike-word hasher same = let found : false ≡ true = same.found 1 in cc
+
+-- words that differ from bit 64 on don't answer alike, though both have the same content
+alike-words_past : (hasher : CloneBuildHasher RandomDefaultHasher)
+    → AnswerAlike (filter (0 ∷ []) 2 hasher) (filter (18446744073709551616 ∷ []) 2 hasher) → ⊥
+alike-words_past hasher same =
+    let wrong : 18446744073709551616 ≡ 0 = ap (λ words. get_or words 0 0) same.words in
+    omega (arith, wrong)
 
 -- nor with other words, whatever is found
 alike-words : (hasher : CloneBuildHasher RandomDefaultHasher)
@@ -124,6 +162,16 @@ alike-key one other is is' same =
     let high' = ap (λ (k : ℕ × ℕ). k.1) is' in
     let wrong = ap (λ (k : ℕ × ℕ). k.1) same.key in
     omega (arith, high, high', wrong)
+
+-- filters under keys of different first words don't answer alike
+alike-key_low : (one other : CloneBuildHasher RandomDefaultHasher)
+    → key_of one ≡ (1, 0) → key_of other ≡ (2, 0)
+    → AnswerAlike (filter (1 ∷ []) 2 one) (filter (1 ∷ []) 2 other) → ⊥
+alike-key_low one other is is' same =
+    let low = ap (λ (k : ℕ × ℕ). k.0) is in
+    let low' = ap (λ (k : ℕ × ℕ). k.0) is' in
+    let wrong = ap (λ (k : ℕ × ℕ). k.0) same.key in
+    omega (arith, low, low', wrong)
 
 -- filters of the same data answer alike
 data-used : DataLaw → (form : FilterData) (f g : DefaultFilter) → IsFive form

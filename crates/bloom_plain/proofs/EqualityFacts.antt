@@ -3,9 +3,9 @@
 use Rattle.std.proofs.Common.{◌≡◌, ◌↔◌, ℕ, ◌*◌, ◌^◌, ◌<◌, [], ◌∷◌, get_or, refl, ap, arith, lit<}
 use Rattle.std.specs.Prelude.{IsTrue}
 use Rattle.std.proofs.lemmas.List.Elements.{All-from_recursion}
-use Rattle.bloom_parts.specs.Content.{content, AreWords}
+use Rattle.bloom_parts.specs.Content.{AreWords}
 use Rattle.bloom_parts.specs.Rates.{num_of, den_of}
-use Rattle.bloom_plain.specs.Builders.{Start, same_start, same_rate_start}
+use Rattle.bloom_plain.specs.Builders.{Start, RateStart, same_start, same_rate_start}
 use Rattle.bloom_plain.specs.Filter.{Filter, SameShape, contains, same_filter}
 use Rattle.bloom_plain.specs.Laws.{SameContent, Rebuilds, RebuiltLaw, EqualityLaw, EqualContentLaw, EqualStartsLaw, EqualRateStartsLaw}
 use Rattle.bloom_plain.proofs.BuilderFacts.{start}
@@ -78,7 +78,7 @@ equal_starts-used_hashers law = (law (start (5 ∷ []) 7) (start (5 ∷ []) 8)).
 equal_rate_starts-used : EqualRateStartsLaw ℕ → IsTrue (same_rate_start half quarters)
 equal_rate_starts-used law = (law half quarters).1 refl
 
--- and so their cross products are
-equal_rate_starts-used_back : EqualRateStartsLaw ℕ
-    → num_of half.rate * den_of quarters.rate ≡ num_of quarters.rate * den_of half.rate
-equal_rate_starts-used_back law = (law half quarters).0 refl
+-- a builder at one half equals another exactly if twice the other's upper part is its lower part
+equal_rate_starts-used_any : EqualRateStartsLaw ℕ → (b : RateStart ℕ)
+    → IsTrue (same_rate_start half b) ↔ (1 * den_of b.rate ≡ num_of b.rate * 2)
+equal_rate_starts-used_any law b = law half b

@@ -4,8 +4,8 @@
 use Rattle.std.proofs.Common.{◌≡◌, ℕ, true, false, List, [], ◌∷◌, refl, arith, lit<, lit≤}
 use Rattle.bloom_parts.specs.Chain.{chain}
 use Rattle.bloom_parts.specs.Content.{content}
-use Rattle.bloom_parts.specs.Places.{are_in}
-use Rattle.bloom_plain.specs.Filter.{Filter, IsShape, HasShape, SameShape, contains, same_filter}
+use Rattle.bloom_parts.specs.Places.{positions, are_in}
+use Rattle.bloom_plain.specs.Filter.{Filter, num_bits_of, IsShape, HasShape, SameShape, positions_of, contains, same_filter}
 
 -- a filter of these words, as many hashes, and a hasher that is told apart by a number
 abbrev pub filter : List ℕ → ℕ → ℕ → Filter ℕ
@@ -49,7 +49,11 @@ shape-many_hashes shape = omega (arith, shape.few_hashes)
 has_shape : HasShape (filter (0 ∷ 0 ∷ []) 3 7) ≡ IsShape 2 3
 has_shape = refl
 
--- words may differ, and hashers too
+-- two words have 128 bits
+num_bits_of-two : num_bits_of (filter (5 ∷ 6 ∷ []) 3 7) ≡ 128
+num_bits_of-two = refl
+
+-- filters of one shape may have different words and hashers
 same_shape-other : SameShape (filter (5 ∷ []) 2 7) (filter (6 ∷ []) 2 8)
 same_shape-other = record { words = refl; hashes = refl }
 
@@ -60,6 +64,21 @@ same_shape-words same = let words : 1 ≡ 2 = same.words in omega (arith, words)
 -- a hash more is another shape
 same_shape-hashes : SameShape (filter (5 ∷ []) 2 7) (filter (5 ∷ []) 3 7) → ⊥
 same_shape-hashes same = let hashes : 2 ≡ 3 = same.hashes in omega (arith, hashes)
+
+-- position 64 is the third of hash 1 among 128 bits
+positions_of-third : positions_of (filter (0 ∷ 0 ∷ []) 3 7) 1 64 ≡ true
+unfolding chain positions
+positions_of-third = refl
+
+-- position 64 is no position of hash 1 where there are two hashes
+positions_of-two : positions_of (filter (0 ∷ 0 ∷ []) 2 7) 1 64 ≡ false
+unfolding chain positions
+positions_of-two = refl
+
+-- position 20 is one of hash 1 among 64 bits, and none among 128
+positions_of-wide : positions_of (filter (0 ∷ 0 ∷ []) 3 7) 1 20 ≡ false
+unfolding chain positions
+positions_of-wide = refl
 
 -- hash 1 is in the word of its two positions
 contains-two : contains (filter (1048577 ∷ []) 2 7) 1 ≡ true

@@ -48,10 +48,16 @@ written held (bytes ∷ writes) =
 is_function-kept : IsFunctionOfBytes kept [] length
 is_function-kept writes = ap length (written [] writes)
 
--- counts its writes
+-- a hasher that counts its writes
 abbrev counts : hasher.Ghosts ℕ
 counts = record { write = λ held bytes. held + 1; finish = λ held. held }
 
--- its answer is none, of whatever function
+-- a hasher of which this holds answers two writes by all their bytes, in their order
+is_function-used : {H : Type 0} (h : hasher.Ghosts H) (fresh : H) (f : List ℕ → ℕ)
+    → IsFunctionOfBytes h fresh f
+    → hash_by h fresh ((8 ∷ 9 ∷ []) ∷ (7 ∷ []) ∷ []) ≡ f (8 ∷ 9 ∷ 7 ∷ [])
+is_function-used h fresh f is = is ((8 ∷ 9 ∷ []) ∷ (7 ∷ []) ∷ [])
+
+-- a count of writes is no function of the bytes written
 is_function-counts : (f : List ℕ → ℕ) → IsFunctionOfBytes counts 0 f → ⊥
 is_function-counts f is = let wrong : 0 ≡ 1 = is [] ∙ sym (is ([] ∷ [])) in omega (arith, wrong)

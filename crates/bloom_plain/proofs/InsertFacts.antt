@@ -53,6 +53,11 @@ inserts-reply : Inserts (filter (0 ∷ []) 2 7) 1 (filter (1048577 ∷ []) 2 7) 
 unfolding content chain are_in
 inserts-reply did = let wrong : true ≡ false = did.answers in cc
 
+-- an insert of a hash that was contained doesn't answer false
+inserts-reply_false : Inserts (filter (1048577 ∷ []) 2 7) 1 (filter (1048577 ∷ []) 2 7) false → ⊥
+unfolding content chain are_in
+inserts-reply_false did = let wrong : false ≡ true = did.answers in cc
+
 -- a position of the hash that stays off
 inserts-less : Inserts (filter (0 ∷ []) 2 7) 1 (filter (1 ∷ []) 2 7) false → ⊥
 unfolding content positions chain

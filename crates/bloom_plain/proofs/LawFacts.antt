@@ -1,6 +1,6 @@
 -- The laws on inserts, look-ups and lists, each used at filters, hashes and lists that differ where
 -- they may.
-use Rattle.std.proofs.Common.{◌≡◌, ℕ, Bool, true, false, ◌&&◌, [], ◌∷◌, map, All, refl, ap, lit<, lit≤}
+use Rattle.std.proofs.Common.{◌≡◌, ℕ, Bool, true, false, ◌&&◌, [], ◌∷◌, map, All, refl, sym, ap, lit<, lit≤}
 use Rattle.std.proofs.lemmas.Bool.{eqb-true}
 use Rattle.std.proofs.lemmas.List.Elements.{All-from_recursion}
 use Rattle.bloom_parts.specs.Chain.{chain}
@@ -14,8 +14,10 @@ use Rattle.bloom_plain.specs.Replies.{CarriesOut}
 use Rattle.bloom_plain.specs.declared.bloom.command.Command.TheVariants as command
 use Rattle.bloom_plain.proofs.FilterFacts.{filter}
 use Rattle.bloom_plain.proofs.InsertFacts.{inserts-rest, inserts-zero}
-use Rattle.bloom_plain.proofs.ListFacts.{with_others, carried_out-others, carried_out-clear, inserts_all, eight}
-use Rattle.bloom_plain.proofs.ReplyLemmas.{carries_out-insert}
+use Rattle.bloom_plain.proofs.InsertListFacts.{inserts_all}
+use Rattle.bloom_plain.proofs.ListFacts.{with_others, carried_out-others, carried_out-clear, eight}
+use Rattle.bloom_plain.proofs.ListLemmas.{carries_out-append}
+use Rattle.bloom_plain.proofs.ReplyLemmas.{carries_out-insert, carries_out-contains}
 use Rattle.bloom_plain.proofs.SetFacts.{clears, unites, unites-words, intersects}
 
 -- one word, two hashes, and hasher 7
@@ -116,14 +118,23 @@ union-used_other law =
 clear-used : ClearLaw ℕ → contains (one_word 0) 1 ≡ false
 clear-used law = law (one_word 5) (one_word 0) 1 (shape 5) clears
 
--- hash 0 is inserted, and then hash 1
-joined-used : JoinedListsLaw ℕ
-    → CarriesOut (one_word 0) (Insert 0 ∷ Insert 1 ∷ []) (one_word 1048577) (false ∷ false ∷ [])
-joined-used law =
-    law (one_word 0) (one_word 1) (one_word 1048577) (Insert 0 ∷ []) (Insert 1 ∷ [])
-    (false ∷ []) (false ∷ [])
-    (carries_out-insert (one_word 0) 0 (one_word 1) false inserts-zero)
+-- hash 0 is looked up, and then hash 1 is inserted
+look-insert : CarriesOut (one_word 1) (Contains 0 ∷ Insert 1 ∷ []) (one_word 1048577)
+    (true ∷ false ∷ [])
+look-insert =
+    carries_out-append (one_word 1) (one_word 1) (one_word 1048577) (Contains 0 ∷ [])
+    (Insert 1 ∷ []) (true ∷ []) (false ∷ [])
+    (carries_out-contains (one_word 1) 0 true (sym zero-found))
     (carries_out-insert (one_word 1) 1 (one_word 1048577) false inserts-rest)
+
+-- an insert of hash 0 comes before a list that looks hash 0 up and inserts hash 1
+joined-used : JoinedListsLaw ℕ
+    → CarriesOut (one_word 0) (Insert 0 ∷ Contains 0 ∷ Insert 1 ∷ []) (one_word 1048577)
+    (false ∷ true ∷ false ∷ [])
+joined-used law =
+    law (one_word 0) (one_word 1) (one_word 1048577) (Insert 0 ∷ []) (Contains 0 ∷ Insert 1 ∷ [])
+    (false ∷ []) (true ∷ false ∷ [])
+    (carries_out-insert (one_word 0) 0 (one_word 1) false inserts-zero) look-insert
 
 -- hash 0 is inserted after a clear, and a union comes later
 found-used : FoundLaw ℕ → contains (filter (9 ∷ []) 1 7) 0 ≡ true

@@ -1,6 +1,6 @@
 -- Lists of commands, at values from outside: cases that hold, and some that differ from one of them
 -- in one thing and don't. Among 64 bits hash 1 has the positions 0 and 20, and hash 0 has 0 alone.
-use Rattle.std.proofs.Common.{◌≡◌, ℕ, ◌-◌, ◌≤◌, true, false, List, [], ◌∷◌, map, Bor, All, refl, sym, ◌∙◌, arith, lit<}
+use Rattle.std.proofs.Common.{◌≡◌, ℕ, ◌≤◌, true, false, List, [], ◌∷◌, map, Bor, All, refl, sym, ◌∙◌, arith, lit<}
 use Rattle.std.proofs.lemmas.List.Elements.{All-from_recursion}
 use Rattle.bloom_parts.specs.Chain.{chain}
 use Rattle.bloom_parts.specs.Content.{content}
@@ -9,7 +9,7 @@ use Rattle.bloom_parts.specs.Operations as operation
 use Rattle.bloom_parts.specs.Operations.{Operation, state_after}
 use Rattle.bloom_plain.specs.CommandOf.{operation_of, Fits}
 use Rattle.bloom_plain.specs.Filter.{Filter}
-use Rattle.bloom_plain.specs.Replies.{replies, CarriesOut, InsertsAll, InsertsItems}
+use Rattle.bloom_plain.specs.Replies.{replies, CarriesOut}
 use Rattle.bloom_plain.specs.declared.bloom.command.Command.{Command}
 use Rattle.bloom_plain.specs.declared.bloom.command.Command.TheVariants.{Insert, Contains, Clear, Union, Intersect}
 use Rattle.bloom_plain.proofs.CaseLemmas.{content-case, content-past, positions-past}
@@ -160,38 +160,14 @@ fits-clear = tt
 fits-union : Fits (filter (5 ∷ []) 1 7) (Union (lent (filter (6 ∷ 0 ∷ []) 1 8))) → ⊥
 fits-union fits = let wrong : 1 ≡ 2 = fits.words in omega (arith, wrong)
 
+-- a union with a filter of a hash more doesn't fit
+fits-union_hashes : Fits (filter (5 ∷ []) 1 7) (Union (lent (filter (6 ∷ []) 2 8))) → ⊥
+fits-union_hashes fits = let wrong : 1 ≡ 2 = fits.hashes in omega (arith, wrong)
+
+-- an intersection with a filter of a word more doesn't fit
+fits-intersect_words : Fits (filter (5 ∷ []) 1 7) (Intersect (lent (filter (6 ∷ 0 ∷ []) 1 8))) → ⊥
+fits-intersect_words fits = let wrong : 1 ≡ 2 = fits.words in omega (arith, wrong)
+
 -- an intersection with a filter of a hash more doesn't fit
 fits-intersect : Fits (filter (5 ∷ []) 1 7) (Intersect (lent (filter (6 ∷ []) 2 8))) → ⊥
 fits-intersect fits = let wrong : 1 ≡ 2 = fits.hashes in omega (arith, wrong)
-
--- hashes 1 and 0 are inserted: the second finds its position on
-pub inserts_all : InsertsAll (filter (0 ∷ []) 2 7) (1 ∷ 0 ∷ []) (filter (1048577 ∷ []) 2 7)
-unfolding content positions chain are_in
-inserts_all = (
-  false ∷ true ∷ [],
-  record {
-    bits = content-case (1048577 ∷ [])
-        (state_after 64 2 (content (0 ∷ [])) (operation.Insert 1 ∷ operation.Insert 0 ∷ [])) refl
-        (λ p past. rw (positions-past 64 2 0 p (lit< tt) (lit< tt) past)
-        (rw (positions-past 64 2 1 p (lit< tt) (lit< tt) past) (content-past (0 ∷ []) p past)));
-    answers = refl;
-    shape = record { words = refl; hashes = refl };
-    hasher = refl;
-  },
-)
-
--- one of two hashes was left out
-inserts_all-less : InsertsAll (filter (0 ∷ []) 2 7) (0 ∷ 1 ∷ []) (filter (1 ∷ []) 2 7) → ⊥
-unfolding content positions chain
-inserts_all-less did = let wrong : false ≡ true = did.1.bits 20 in cc
-
--- an item is inserted by its hash under the hasher: here the item less the hasher's number
-pub inserts_items : InsertsItems (λ hasher item. item - hasher) (filter (0 ∷ []) 2 7) (8 ∷ 7 ∷ [])
-    (filter (1048577 ∷ []) 2 7)
-inserts_items = inserts_all
-
--- not by another hash
-inserts_items-hash : InsertsItems (λ hasher item. item - hasher) (filter (0 ∷ []) 2 8) (8 ∷ 7 ∷ [])
-    (filter (1048577 ∷ []) 2 8) → ⊥
-unfolding content positions chain
-inserts_items-hash did = let wrong : true ≡ false = did.1.bits 20 in cc

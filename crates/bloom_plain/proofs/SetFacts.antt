@@ -24,6 +24,10 @@ clears-less did = let wrong : true ≡ false = did.bits 2 in cc
 clears-words : Clears (filter (5 ∷ []) 2 7) (filter (0 ∷ 0 ∷ []) 2 7) → ⊥
 clears-words did = let wrong : 1 ≡ 2 = did.shape.words in omega (arith, wrong)
 
+-- a clear keeps the number of hashes
+clears-hashes : Clears (filter (5 ∷ []) 2 7) (filter (0 ∷ []) 3 7) → ⊥
+clears-hashes did = let wrong : 2 ≡ 3 = did.shape.hashes in omega (arith, wrong)
+
 -- another hasher
 clears-hasher : Clears (filter (5 ∷ []) 2 7) (filter (0 ∷ []) 2 8) → ⊥
 clears-hasher did = let wrong : 8 ≡ 7 = did.hasher in omega (arith, wrong)
@@ -56,6 +60,20 @@ unites-less did = let wrong : false ≡ true = did.bits 1 in cc
 unites-exclusive : Unites (filter (5 ∷ []) 2 7) (filter (6 ∷ []) 2 8) (filter (3 ∷ []) 2 7) → ⊥
 unfolding content
 unites-exclusive did = let wrong : false ≡ true = did.bits 2 in cc
+
+-- a union turns no position off that only the first filter has
+unites-off : Unites (filter (5 ∷ []) 2 7) (filter (6 ∷ []) 2 8) (filter (6 ∷ []) 2 7) → ⊥
+unfolding content
+unites-off did = let wrong : false ≡ true = did.bits 0 in cc
+
+-- a union turns no position on that neither filter has
+unites-more : Unites (filter (5 ∷ []) 2 7) (filter (6 ∷ []) 2 8) (filter (15 ∷ []) 2 7) → ⊥
+unfolding content
+unites-more did = let wrong : true ≡ false = did.bits 3 in cc
+
+-- a union adds no zero word
+unites-longer : Unites (filter (5 ∷ []) 2 7) (filter (6 ∷ []) 2 8) (filter (7 ∷ 0 ∷ []) 2 7) → ⊥
+unites-longer did = let wrong : 1 ≡ 2 = did.shape.words in omega (arith, wrong)
 
 -- another number of hashes
 unites-hashes : Unites (filter (5 ∷ []) 2 7) (filter (6 ∷ []) 2 8) (filter (7 ∷ []) 3 7) → ⊥
@@ -92,6 +110,16 @@ intersects-more did = let wrong : true ≡ false = did.bits 0 in cc
 intersects-less : Intersects (filter (5 ∷ []) 2 7) (filter (6 ∷ []) 2 8) (filter (0 ∷ []) 2 7) → ⊥
 unfolding content
 intersects-less did = let wrong : false ≡ true = did.bits 2 in cc
+
+-- an intersection turns no position on that only the other filter has
+intersects-other : Intersects (filter (5 ∷ []) 2 7) (filter (6 ∷ []) 2 8) (filter (6 ∷ []) 2 7) → ⊥
+unfolding content
+intersects-other did = let wrong : true ≡ false = did.bits 1 in cc
+
+-- an intersection adds no zero word
+intersects-longer : Intersects (filter (5 ∷ []) 2 7) (filter (6 ∷ []) 2 8) (filter (4 ∷ 0 ∷ []) 2 7)
+    → ⊥
+intersects-longer did = let wrong : 1 ≡ 2 = did.shape.words in omega (arith, wrong)
 
 -- another number of hashes
 intersects-hashes : Intersects (filter (5 ∷ []) 2 7) (filter (6 ∷ []) 2 8) (filter (4 ∷ []) 3 7) → ⊥

@@ -2,7 +2,7 @@
 use Rattle.std.proofs.Common.{◌≡◌, ◌∙◌, ℕ, Some, None, refl, ap, arith, lit<, lit≤}
 use Rattle.bloom_parts.specs.Roots.{IsRoot}
 use Rattle.bloom_parts.specs.Sizing.{IsHalvings, IsSizeFor, size_for}
-use Rattle.bloom_parts.specs.declared.error.FilterError.TheVariants.{ZeroRate, TooManyWords}
+use Rattle.bloom_parts.specs.declared.error.FilterError.TheVariants.{ZeroRate, TooManyWords, SizeOverflow}
 use Rattle.bloom_plain.specs.Builders.{size_refusal}
 use Rattle.fastbloom_c.specs.Plans.{IsRefusalFor, IsCodeFor, number_of}
 
@@ -56,3 +56,41 @@ code-above_refused (refusal, is, same) = refused (is.size refl)
         let word : bits ≡ 64 = size ∙ ap (size_for 1000) none in
         let zero : 5 ≡ 0 = same ∙ ap number_of (why ∙ ap size_refusal word) in
         omega (arith, zero)
+
+module _ (one : IsHalvings 1 2 64) where
+  -- 2^64 - 1 items at one half take 2^64 bits or more
+  refusal-large : IsRefusalFor 1 2 18446744073709551615 (Some SizeOverflow)
+  refusal-large = record {
+    rate = λ is. cc;
+    size = λ _. (size_for 18446744073709551615 64, (64, one, refl), refl);
+  }
+
+  -- a plan for 2^64 - 1 items at one half is refused by number 5
+  code-large : IsCodeFor 1 2 18446744073709551615 5
+  code-large = (Some SizeOverflow, refusal-large, refl)
+
+  -- a plan for 2^64 - 1 items at one half doesn't succeed
+  code-large_planned : IsCodeFor 1 2 18446744073709551615 0 → ⊥
+  code-large_planned (refusal, is, same) = planned (is.size refl)
+    where
+      planned : (bits : ℕ) × IsSizeFor 18446744073709551615 1 2 bits
+          × (refusal ≡ size_refusal bits) → ⊥
+      planned (bits, (parts, halvings, size), why) =
+          let few = halvings.least 64 one.enough in
+          let many = one.least parts halvings.enough in
+          let half : parts ≡ 64 = omega (arith, few, many) in
+          let large : bits ≡ size_for 18446744073709551615 64 =
+          size ∙ ap (size_for 18446744073709551615) half in
+          let five : 0 ≡ 5 = same ∙ ap number_of (why ∙ ap size_refusal large) in
+          omega (arith, five)
+
+  -- a plan for items that take 2^64 - 8 bits at one half is refused by number 3
+  code-words : IsCodeFor 1 2 12786308645202655224 3
+  code-words = (
+    Some TooManyWords,
+    record {
+      rate = λ is. cc;
+      size = λ _. (18446744073709551608, (64, one, refl), refl);
+    },
+    refl,
+  )
