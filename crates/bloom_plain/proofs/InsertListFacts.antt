@@ -1,6 +1,6 @@
--- Lists of inserts, and hashes that wait to be inserted, at values from outside: cases that hold,
--- and some that differ from one of them in one thing and don't. Among 64 bits hash 1 has the
--- positions 0 and 20, and hash 0 has 0 alone.
+-- Lists of inserts and hashes that wait, at values from outside: cases that hold, and cases that
+-- differ from one of these in one thing and don't hold. Among 64 bits and with two hashes, hash 0
+-- has position 0 alone, and hash 1 has the positions 0 and 20.
 use Rattle.std.proofs.Common.{◌≡◌, ◌-◌, true, false, [], ◌∷◌, ◌++◌, List, ℕ, get_or, refl, sym, ap, lit<, subst}
 use Rattle.bloom_parts.specs.Chain.{chain}
 use Rattle.bloom_parts.specs.Content.{content}
@@ -11,7 +11,7 @@ use Rattle.bloom_plain.specs.Replies.{InsertsAll, InsertsItems, Queues}
 use Rattle.bloom_plain.proofs.CaseLemmas.{content-case, content-past, positions-past}
 use Rattle.bloom_plain.proofs.FilterFacts.{filter}
 
--- hashes 1 and 0 are inserted: the second finds its position on
+-- hashes 1 and 0 are inserted into a zero word, and hash 0 is found
 pub inserts_all : InsertsAll (filter (0 ∷ []) 2 7) (1 ∷ 0 ∷ []) (filter (1048577 ∷ []) 2 7)
 unfolding content positions chain are_in
 inserts_all = (
@@ -27,17 +27,17 @@ inserts_all = (
   },
 )
 
--- one of two hashes was left out
+-- a list of inserts leaves out no hash
 inserts_all-less : InsertsAll (filter (0 ∷ []) 2 7) (0 ∷ 1 ∷ []) (filter (1 ∷ []) 2 7) → ⊥
 unfolding content positions chain
 inserts_all-less did = let wrong : false ≡ true = did.1.bits 20 in cc
 
--- an item is inserted by its hash under the hasher: here the item less the hasher's number
+-- items are inserted by their hashes under the hasher: here the item less the hasher's number
 pub inserts_items : InsertsItems (λ hasher item. item - hasher) (filter (0 ∷ []) 2 7) (8 ∷ 7 ∷ [])
     (filter (1048577 ∷ []) 2 7)
 inserts_items = inserts_all
 
--- not by another hash
+-- items are inserted by no other hashes than those under the filter's hasher
 inserts_items-hash : InsertsItems (λ hasher item. item - hasher) (filter (0 ∷ []) 2 8) (8 ∷ 7 ∷ [])
     (filter (1048577 ∷ []) 2 8) → ⊥
 unfolding content positions chain
@@ -55,15 +55,15 @@ inserts_none = (
   },
 )
 
--- hash 0 waits behind hash 1, and nothing is inserted
+-- hash 0 joins hash 1, and both wait
 queues-wait : Queues (filter (0 ∷ []) 2 7) (1 ∷ []) 0 (filter (0 ∷ []) 2 7) (1 ∷ 0 ∷ [])
 queues-wait = record { gone = []; cut = refl; did = inserts_none }
 
--- hash 1 that waited is inserted, and so is hash 0, and none waits
-queues-insert : Queues (filter (0 ∷ []) 2 7) (1 ∷ []) 0 (filter (1048577 ∷ []) 2 7) []
-queues-insert = record { gone = 1 ∷ 0 ∷ []; cut = refl; did = inserts_all }
+-- hash 0 joins hash 1, and both are inserted
+queues-all : Queues (filter (0 ∷ []) 2 7) (1 ∷ []) 0 (filter (1048577 ∷ []) 2 7) []
+queues-all = record { gone = 1 ∷ 0 ∷ []; cut = refl; did = inserts_all }
 
--- a hash that is neither inserted nor waits was lost
+-- a hash can't be lost, neither inserted nor waiting
 queues-lost : Queues (filter (0 ∷ []) 2 7) [] 1 (filter (0 ∷ []) 2 7) [] → ⊥
 unfolding content positions chain
 queues-lost did = lost did.gone did.cut did.did

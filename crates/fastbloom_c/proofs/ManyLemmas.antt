@@ -7,13 +7,13 @@ use Rattle.std.proofs.Math.Bool.{or-false, or_assoc}
 use Rattle.bloom_parts.specs.Places.{positions, are_in}
 use Rattle.bloom_parts.proofs.PublishedLemmas.{part-from}
 
--- what is on where it is part of a set adds nothing to it
+-- what is on only where a set is on adds nothing to it
 adds-nothing : (a b : Bool) → (b ≡ true → a ≡ true) → a ≡ (a || b)
 adds-nothing true b p = refl
 adds-nothing false true p = p refl
 adds-nothing false false p = refl
 
--- hashes that are all contained turn nothing on
+-- inserts of hashes that are all contained turn nothing on
 pub many-contained : (n k : ℕ) (A : ℕ → Bool) (p : ℕ) (hashes : List ℕ)
     → list_all (λ hash. are_in n k hash A) hashes ≡ true
     → A p ≡ (A p || list_any (λ hash. positions n k hash p) hashes)
@@ -25,7 +25,7 @@ many-contained n k A p (h ∷ hashes) all =
     ∙ ap (λ b. b || any) (adds-nothing (A p) (positions n k h p) (part-from n k h A parts.0 p))
     ∙ or_assoc (A p) (positions n k h p) any
 
--- two lists of hashes, one after the other
+-- two lists of hashes, inserted one after the other, turn on what one list of both does
 pub many-join : (n k : ℕ) (A B C : ℕ → Bool) (xs ys zs : List ℕ) → xs ++ ys ≡ zs
     → ((p : ℕ) → B p ≡ (A p || list_any (λ hash. positions n k hash p) xs))
     → ((p : ℕ) → C p ≡ (B p || list_any (λ hash. positions n k hash p) ys))

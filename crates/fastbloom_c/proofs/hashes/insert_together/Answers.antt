@@ -15,13 +15,13 @@ turns-preserved c =
     ≡ take (16 * (c.turns.turn + 1)) hashes =
     ap (λ n. take at hashes ++ take n (drop at hashes)) width
     ∙ sym (take-add at 16 hashes) ∙ ap (λ n. take n hashes) next in
-    let did = c.insert_few.ensures.content in
+    let did = c.insert_unless_present.ensures.content in
     record {
       content =
           many-join (64 * length c.args.words.now) c.args.num_hashes (content c.args.words.now)
           (content c.turns.words) _ _ _ _ cut c.turns.invariant.content
           (rw (← c.turns.invariant.shape) did);
-      shape = c.insert_few.ensures.shape ∙ c.turns.invariant.shape;
+      shape = c.insert_unless_present.ensures.shape ∙ c.turns.invariant.shape;
     }
 
 pub returns-clause-content : goal.returns-clause-content
@@ -36,4 +36,4 @@ returns-clause-content c =
     ∙ take-append-drop (16 * turns) hashes in
     many-join (64 * length c.args.words.now) c.args.num_hashes (content c.args.words.now)
     (content c.turns.words) _ _ _ _ cut c.turns.invariant.content
-    (rw (← c.turns.invariant.shape) c.insert_few-2.ensures.content)
+    (rw (← c.turns.invariant.shape) c.insert_unless_present-2.ensures.content)
