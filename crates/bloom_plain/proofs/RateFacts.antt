@@ -1,5 +1,6 @@
--- Builders of a rate, and the rate to expect, at values from outside. How many sixty-fourths of a
--- halving a rate has is a premise here; `bloom_parts` shows it of these rates.
+-- Builders of a rate, and the rate to expect, at values from outside. The halvings of a rate are
+-- how often one whole is halved to reach it, in sixty-fourths. Their number is a premise here;
+-- `bloom_parts` shows it of these rates.
 use Rattle.std.proofs.Common.{◌≡◌, ℕ, ◌*◌, ◌^◌, ◌<◌, ◌≤◌, true, false, [], ◌∷◌, length, get_or, replicate, refl, ap, ◌∙◌, arith, lit<, lit≤}
 use Rattle.std.proofs.Math.Nat.{le_refl}
 use Rattle.bloom_parts.specs.declared.math.bracket.Bracket.{Bracket}
@@ -36,7 +37,7 @@ same_start-den = refl
 same_start-upside_down : same_rate_start half (start 2 1 (lit< tt) (lit< tt) 7) ≡ false
 same_start-upside_down = refl
 
--- a rate of one or more has no halvings
+-- a rate of one or more is reached by no halving
 halvings-above : IsHalvings 3 2 0
 halvings-above =
     let root : IsRoot 0 4294967296 = record { at_most = lit≤ tt; greatest = lit< tt } in

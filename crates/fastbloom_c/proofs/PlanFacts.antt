@@ -37,7 +37,7 @@ code-zero_large : IsCodeFor 0 1 10 5 → ⊥
 code-zero_large (refusal, is, same) =
     let four : 5 ≡ 4 = same ∙ ap code_or_zero (is.rate refl) in omega (arith, four)
 
--- a rate above one has no halvings, so that one word is enough
+-- a rate above one is reached by no halving of one whole, so that one word is enough
 halvings-above : IsHalvings 3 2 0
 halvings-above =
     let root : IsRoot 0 4294967296 = record { at_most = lit≤ tt; greatest = lit< tt } in
