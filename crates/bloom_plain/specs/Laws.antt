@@ -42,8 +42,7 @@ KeptByListLaw S = (old new : Filter S) (operations : List Operation) (hash : ℕ
     → All (Spares (positions_of old hash)) operations
     → contains old hash ≡ true → contains new hash ≡ true
 
--- a hash that is contained stays contained under a list of inserts, as `insert_all` and `extend`
--- make them
+-- a hash that is contained stays contained under a list of inserts
 abbrev pub KeptByInsertsLaw : (S : Type 0) → Type 0
 KeptByInsertsLaw S = (old new : Filter S) (hashes : List ℕ) (hash : ℕ) → InsertsAll old hashes new
     → contains old hash ≡ true → contains new hash ≡ true
@@ -86,15 +85,13 @@ IsAssociative S M = (f g h fg fg_h gh f_gh : Filter S)
 abbrev pub IsIdempotent : (S : Type 0) → Combination S → Type 0
 IsIdempotent S M = (f made : Filter S) → M f f made → SameContent made f
 
--- a filter was made of the words, the number of hashes and the hasher of another, where 0 hashes
--- count as 1
+-- a filter was made of another's words, number of hashes (0 counts as 1) and hasher
 pub record Rebuilds {S : Type 0} (f made : Filter S) : Type 0 where
   pub words : made.words ≡ f.words
   pub hashes : made.hashes ≡ max 1 f.hashes
   pub hasher : made.hasher ≡ f.hasher
 
--- a filter that was made of another's parts equals it, since a filter has at least one hash, and it
--- answers every hash alike
+-- a filter that was made of another's parts equals it, and answers every hash alike
 abbrev pub RebuiltLaw : (S : Type 0) → Type 0
 RebuiltLaw S = (f made : Filter S) → HasShape f → Rebuilds f made
     → (made ≡ f) × ((hash : ℕ) → contains made hash ≡ contains f hash)

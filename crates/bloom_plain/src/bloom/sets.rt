@@ -76,7 +76,7 @@ impl<S: Clone> BloomFilter<S> {
         ensures words { IfOk result (λ copy. copy.words ≡ self.now.words) }
         ensures hashes { IfOk result (λ copy. copy.hashes ≡ self.now.hashes) }
         ensures hasher { IfOk result (λ copy. S.is_clone self.now.hasher copy.hasher) }
-        // The copy is the same filter where clones of hashers equal them, as for the default hasher.
+        // The copy is the same filter where clones equal their hashers, as the default hasher's do.
         ensures same { ((h clone : S) → S.is_clone h clone → clone ≡ h)
             → IfOk result (λ copy. copy ≡ self.now) }
         ensures refused { IsOkUnless result FilterError.Memory }
