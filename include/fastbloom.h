@@ -1,20 +1,21 @@
 /* Bloom filters over words that the caller owns: the library fastbloom_c.
  *
- * A filter is an array of num_words words of 64 bits and a number of hashes, from 1 to 2^32 - 1 (0
- * counts as 1). The caller makes the array, may map or store it, and frees it; zeros are the empty
- * filter. No call asks for memory, waits, keeps a pointer, or fails but as it says here.
+ * A filter is an array of num_words words of 64 bits, and a number of hashes from 1 to 2^32 - 1,
+ * where 0 counts as 1. The caller makes the array, may map or store it, and frees it. An array of
+ * zeros is the empty filter. No call allocates memory, waits, or keeps a pointer. A call fails only
+ * as it says here.
  *
  * No words are no filter: each call answers false for them, and changes nothing.
  *
- * What each call asks of its caller, since nothing checks it:
- *  - words, hashes, key, bytes and the out parameters are not NULL, even where a length is 0, and are
- *    aligned: words and hashes to 8, num_words to the alignment of size_t, num_hashes to 4;
- *  - they lie in memory of the lengths that are given, each at most 2^63 - 1 bytes, which stays in
- *    its place while the call runs;
- *  - what a call may write (a parameter that isn't const) overlaps with nothing else that the call
- *    is given;
- *  - no other thread or process touches words while a call runs that may write them, and none
- *    writes them while a call runs that reads them. Calls that read may run at once.
+ * The caller must keep these rules, which nothing checks:
+ *  - words, hashes, key, bytes and the out parameters are not NULL, even where a length is 0. They
+ *    are aligned: words and hashes to 8, num_words to the alignment of size_t, num_hashes to 4;
+ *  - each pointer is to memory of the length that is given, at most 2^63 - 1 bytes. This memory
+ *    stays in its place while the call runs;
+ *  - memory that a call may write (a parameter that isn't const) overlaps with nothing else that
+ *    the call is given;
+ *  - while a call runs that may write words, no other thread or process touches them. While a call
+ *    runs that reads words, none writes them. Calls that read may run at once.
  *
  * It is built for x86-64 with SSE4.2 (x86-64-v2).
  */
@@ -36,23 +37,24 @@ enum {
     FASTBLOOM_SIZE_OVERFLOW = 5   /* 2^64 bits or more */
 };
 
-/* The numbers of words and of hashes for so many items, where 0 counts as 1, at the rate num / den of
- * false positives. It answers 0, or why it is refused, and then writes neither number. */
+/* The numbers of words and of hashes for this many items, where 0 counts as 1, at the rate
+ * num / den of false positives. It answers 0, or why it is refused. A refusal writes neither. */
 uint8_t fastbloom_plan(uint64_t num, uint64_t den, size_t items, size_t *num_words,
                        uint32_t *num_hashes);
 
 /* 64 * num_words, or 0 where num_words is more than 2^58 - 1. */
 size_t fastbloom_num_bits(size_t num_words);
 
-/* SipHash-1-3 of just these bytes under the key, whose first eight bytes are the little-endian word
- * k0. The item `Text` of the Rattle library has the same hash. */
+/* SipHash-1-3 of exactly these bytes under the key. The key's first eight bytes are the
+ * little-endian word k0. The item `Text` of the Rattle library has the same hash. */
 uint64_t fastbloom_hash(const uint8_t key[16], const uint8_t *bytes, size_t len);
 
 /* Turns on all positions of a hash, and answers whether all were on just before. */
 bool fastbloom_insert_hash(uint64_t *words, size_t num_words, uint32_t num_hashes, uint64_t hash);
 
-/* Turns on all positions of each of so many hashes, and answers true. Many at once cost less than a
- * call for each; where the words are larger than a cache sixteen are looked up together. */
+/* Turns on all positions of each of count hashes, and answers true. One call for many hashes costs
+ * less than a call for each. Where the words are larger than a cache, sixteen hashes are looked up
+ * together. */
 bool fastbloom_insert_hashes(uint64_t *words, size_t num_words, uint32_t num_hashes,
                              const uint64_t *hashes, size_t count);
 
@@ -60,7 +62,7 @@ bool fastbloom_insert_hashes(uint64_t *words, size_t num_words, uint32_t num_has
 bool fastbloom_contains_hash(const uint64_t *words, size_t num_words, uint32_t num_hashes,
                              uint64_t hash);
 
-/* The same two at the hash of the bytes. */
+/* fastbloom_insert_hash and fastbloom_contains_hash at the hash of the bytes. */
 bool fastbloom_insert(uint64_t *words, size_t num_words, uint32_t num_hashes,
                       const uint8_t key[16], const uint8_t *bytes, size_t len);
 bool fastbloom_contains(const uint64_t *words, size_t num_words, uint32_t num_hashes,
@@ -69,14 +71,15 @@ bool fastbloom_contains(const uint64_t *words, size_t num_words, uint32_t num_ha
 /* Turns every position off. */
 bool fastbloom_clear(uint64_t *words, size_t num_words);
 
-/* Turns on what is on in the other filter, or turns off what is off in it, and answers true. Other
- * than as many words answer false and change nothing. That numbers of hashes and keys are equal too
- * is the caller's affair: else the words are those of no filter. */
+/* A union turns on every position that is on in the other filter, and an intersection turns off
+ * every position that is off in it. Both answer true. Where the numbers of words differ, they
+ * answer false and change nothing. The caller sees to it that the numbers of hashes are equal, and
+ * the keys: otherwise the words are those of no filter. */
 bool fastbloom_union(uint64_t *words, size_t num_words, const uint64_t *other, size_t num_other);
 bool fastbloom_intersect(uint64_t *words, size_t num_words, const uint64_t *other,
                          size_t num_other);
 
-/* Whether there are as many words, and each is equal. */
+/* Whether both filters have as many words, and equal ones. */
 bool fastbloom_equal(const uint64_t *words, size_t num_words, const uint64_t *other,
                      size_t num_other);
 

@@ -161,7 +161,7 @@ static void refused(void) {
     CHECK(!fastbloom_intersect(a, 8, b, 9) && !fastbloom_intersect(a, 9, b, 8));
     CHECK(!fastbloom_equal(a, 8, a, 9) && !fastbloom_equal(a, 9, a, 8));
     CHECK(memcmp(a, was, sizeof a) == 0);
-    /* no hashes count as one */
+    /* num_hashes 0 counts as 1 */
     uint64_t one[3] = {0}, none[3] = {0};
     CHECK(!fastbloom_insert_hash(one, 3, 1, 42) && !fastbloom_insert_hash(none, 3, 0, 42));
     CHECK(fastbloom_equal(one, 3, none, 3) && fastbloom_contains_hash(none, 3, 0, 42));

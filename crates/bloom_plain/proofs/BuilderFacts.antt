@@ -1,5 +1,5 @@
--- What builders make and refuse, at values from outside: cases that hold, and some that differ from
--- one of them in one thing and don't.
+-- What builders make and refuse, at values from outside: cases that hold, and cases that differ
+-- from one of these in one thing and don't hold.
 use Rattle.std.proofs.Common.{◌≡◌, ℕ, true, false, List, [], ◌∷◌, Some, None, refl}
 use Rattle.bloom_parts.specs.declared.error.FilterError.TheVariants.{ZeroBits, EmptyWords, TooManyWords, SizeOverflow, Memory}
 use Rattle.bloom_plain.specs.Builders.{Start, same_start, words_for, sized_filter, words_refusal, bits_refusal, size_refusal, RefusesAs}
@@ -13,11 +13,11 @@ words_for-none = refl
 words_for-one : words_for 1 ≡ 1
 words_for-one = refl
 
--- so do 64 bits
+-- 64 bits need one word
 words_for-word : words_for 64 ≡ 1
 words_for-word = refl
 
--- one bit more needs another
+-- 65 bits need two words
 words_for-more : words_for 65 ≡ 2
 words_for-more = refl
 
@@ -25,15 +25,15 @@ words_for-more = refl
 words_refusal-none : words_refusal 0 ≡ Some EmptyWords
 words_refusal-none = refl
 
--- one word is not
+-- one word is not refused
 words_refusal-one : words_refusal 1 ≡ None
 words_refusal-one = refl
 
--- nor are 2^58 - 1
+-- 2^58 - 1 words are not refused
 words_refusal-greatest : words_refusal 288230376151711743 ≡ None
 words_refusal-greatest = refl
 
--- one word more is
+-- 2^58 words are too many
 words_refusal-many : words_refusal 288230376151711744 ≡ Some TooManyWords
 words_refusal-many = refl
 
@@ -41,71 +41,75 @@ words_refusal-many = refl
 bits_refusal-none : bits_refusal 0 ≡ Some ZeroBits
 bits_refusal-none = refl
 
--- one bit is not
+-- one bit is not refused
 bits_refusal-one : bits_refusal 1 ≡ None
 bits_refusal-one = refl
 
--- nor are 2^64 - 64, which are 2^58 - 1 words
+-- 2^64 - 64 bits, which are 2^58 - 1 words, are not refused
 bits_refusal-greatest : bits_refusal 18446744073709551552 ≡ None
 bits_refusal-greatest = refl
 
--- one bit more is
+-- 2^64 - 63 bits need a word too many
 bits_refusal-many : bits_refusal 18446744073709551553 ≡ Some TooManyWords
 bits_refusal-many = refl
 
--- a size of 2^64 - 64 bits is not refused
+-- a size of 64 bits, which is the least, is not refused
+size_refusal-least : size_refusal 64 ≡ None
+size_refusal-least = refl
+
+-- a size of 2^64 - 64 bits, which are 2^58 - 1 words, is not refused
 size_refusal-greatest : size_refusal 18446744073709551552 ≡ None
 size_refusal-greatest = refl
 
--- one bit more makes a word too many
+-- a size of 2^64 - 63 bits needs a word too many
 size_refusal-many : size_refusal 18446744073709551553 ≡ Some TooManyWords
 size_refusal-many = refl
 
--- as does the last size below 2^64
+-- the last size below 2^64 needs a word too many
 size_refusal-last : size_refusal 18446744073709551615 ≡ Some TooManyWords
 size_refusal-last = refl
 
--- 2^64 bits are too many for a number of 64 bits
+-- a size of 2^64 bits is no number of 64 bits
 size_refusal-overflow : size_refusal 18446744073709551616 ≡ Some SizeOverflow
 size_refusal-overflow = refl
 
--- where a refusal is listed, the call refuses so
+-- a call may fail with the refusal that is listed for it
 refuses-listed : RefusesAs (Some ZeroBits) (Some ZeroBits)
 refuses-listed = refl
 
--- not for another reason
+-- a call can't be out of memory where a refusal is listed for it
 refuses-other : RefusesAs (Some ZeroBits) (Some Memory) → ⊥
 refuses-other refused = cc
 
--- and it can't succeed
+-- a call can't succeed where a refusal is listed for it
 refuses-nothing : RefusesAs (Some ZeroBits) None → ⊥
 refuses-nothing refused = cc
 
--- where none is listed, the call may succeed
+-- a call may succeed where no refusal is listed
 refuses-none : RefusesAs None None
 refuses-none = tt
 
--- or be refused for want of memory
+-- a call may be out of memory where no refusal is listed
 refuses-memory : RefusesAs None (Some Memory)
 refuses-memory = refl
 
--- for nothing else
+-- a call can't fail for another reason than memory where no refusal is listed
 refuses-unlisted : RefusesAs None (Some ZeroBits) → ⊥
 refuses-unlisted refused = cc
 
--- the words and the hasher of a builder
+-- a builder of these words, and of a hasher that is told apart by a number
 abbrev pub start : List ℕ → ℕ → Start ℕ
 start words hasher = record { words = words; hasher = hasher }
 
--- builders are equal whatever their hashers
+-- builders of equal words are equal whatever their hashers
 same_start-hasher : same_start (start (5 ∷ 6 ∷ []) 7) (start (5 ∷ 6 ∷ []) 8) ≡ true
 same_start-hasher = refl
 
--- a word may differ
+-- builders of which one word differs are not equal
 same_start-word : same_start (start (5 ∷ 6 ∷ []) 7) (start (5 ∷ 7 ∷ []) 7) ≡ false
 same_start-word = refl
 
--- the number of words may differ
+-- a builder of one word more is not equal
 same_start-words : same_start (start (5 ∷ []) 7) (start (5 ∷ 0 ∷ []) 7) ≡ false
 same_start-words = refl
 
@@ -113,10 +117,10 @@ same_start-words = refl
 sized_filter-one : sized_filter (start (5 ∷ []) 7) 1 ≡ filter (5 ∷ []) 44 7
 sized_filter-one = refl
 
--- no item counts as one
+-- 64 bits for 0 items have the hashes for one item
 sized_filter-none : sized_filter (start (5 ∷ []) 7) 0 ≡ filter (5 ∷ []) 44 7
 sized_filter-none = refl
 
--- 128 bits for 2 items have as many
+-- 128 bits for two items have 44 hashes, as 64 bits for one have
 sized_filter-two : sized_filter (start (5 ∷ 6 ∷ []) 7) 2 ≡ filter (5 ∷ 6 ∷ []) 44 7
 sized_filter-two = refl

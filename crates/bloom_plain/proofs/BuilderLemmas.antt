@@ -12,7 +12,8 @@ use Rattle.bloom_plain.specs.Filter.{Filter}
 use Rattle.bloom_plain.specs.Laws.{EqualStartsLaw, EqualRateStartsLaw}
 use Rattle.bloom_plain.specs.Replies.{InsertsItems}
 
--- what `insert_all` does with an iterator and a filter, it does with those that are equal to them
+-- what `insert_all` does with an iterator and a filter, it does with an iterator and a filter that
+-- are equal to them
 pub inserts_all-same : {S T I : Type 0} (hash_of : S → T → ℕ) (steps : I → Option T → I → Type 0)
     (it : I) (start made filter : Filter S) → start ≡ made
     → (same : I) × (same ≡ it)
@@ -22,7 +23,8 @@ inserts_all-same hash_of steps it start made filter is_made all =
     subst (λ f. WholeRun steps it (λ run. InsertsItems hash_of f run.items filter)) is_made
     (subst (λ i. WholeRun steps i (λ run. InsertsItems hash_of start run.items filter)) all.1 all.2)
 
--- the number of bits for a rate's builder is that for its rate and items, where none counts as one
+-- the number of bits for a rate and items is that for a builder of the rate, where 0 items count as
+-- 1
 size_of-rate : {S : Type 0} (inside start : RateStart S) (expected items bits : ℕ)
     → inside ≡ start → items ≡ max expected 1
     → IsSizeFor items (num_of inside.rate) (den_of inside.rate) bits → IsSizeOf start expected bits

@@ -36,7 +36,7 @@ content-past words p past =
     ap (λ word. bit_is_on word p) (get_or_past words (p / 64) 0 outside)
     ∙ ap (λ d. eqb d 1) (bit_at-zero (p % 64))
 
--- past the bits no hash has a position
+-- past the bits of a filter no hash has a position
 pub positions-past : (n k hash p : ℕ) → 0 < n → hash < 2 ^ 64 → n ≤ p → positions n k hash p ≡ false
 positions-past n k hash p some fits past =
     none (positions n k hash p)
@@ -46,7 +46,7 @@ positions-past n k hash p some fits past =
     none true never = absurd (never refl)
     none false never = refl
 
--- words have the content of a set, if they have below their bits and the set has nothing past them
+-- words have the content of a set, if both agree below the bits and the set has nothing past them
 pub content-case : (words : List ℕ) (A : ℕ → Bool)
     → alike_below (64 * length words) (content words) A ≡ true
     → ((p : ℕ) → 64 * length words ≤ p → A p ≡ false) → (p : ℕ) → content words p ≡ A p

@@ -7,7 +7,7 @@ use Rattle.bloom_parts.specs.declared.hasher.CloneBuildHasher.{CloneBuildHasher}
 use Rattle.bloom_parts.specs.declared.hasher.sip.RandomDefaultHasher.{RandomDefaultHasher}
 use Rattle.bloom_plain.specs.Data.{DataLaw, SameItemsLaw}
 
--- filters of the same data answer alike
+-- filters of the same data have equal parts
 pub data_law : DataLaw
 data_law f g form of made =
     let words = made.words ∙ sym of.words in
@@ -21,7 +21,7 @@ data_law f g form of made =
           ∙ ap (λ k. are_in (64 * length f.words) k hash (content f.words)) hashes;
     }
 
--- hashers of one key, under which an item has one hash, are alike to items
+-- an item has one hash under hashers of one key
 pub same_items_law : {T : Type 0} (hash_of : CloneBuildHasher RandomDefaultHasher → T → ℕ)
     (by_key : ℕ → ℕ → T → ℕ)
     → ((b : CloneBuildHasher RandomDefaultHasher) (k0 k1 : ℕ) (item : T) → HasKey b k0 k1

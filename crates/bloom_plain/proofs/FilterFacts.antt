@@ -1,17 +1,17 @@
--- Shapes, look-ups and equality of filters, at values from outside: cases that hold, and some that
--- differ from one of them in one thing and don't. Hash 1 has the positions 0, 20 and 32 among 64
--- bits, so that its first two make the word 1048577 and all three 4296015873.
+-- Shapes, look-ups and equality of filters, at values from outside: cases that hold, and cases that
+-- differ from one of these in one thing and don't hold. Hash 1 has the positions 0, 20 and 32 among
+-- 64 bits, so that its first two make the word 1048577 and all three 4296015873.
 use Rattle.std.proofs.Common.{◌≡◌, ℕ, true, false, List, [], ◌∷◌, refl, arith, lit<, lit≤}
 use Rattle.bloom_parts.specs.Chain.{chain}
 use Rattle.bloom_parts.specs.Content.{content}
-use Rattle.bloom_parts.specs.Places.{are_in}
-use Rattle.bloom_plain.specs.Filter.{Filter, IsShape, HasShape, SameShape, contains, same_filter}
+use Rattle.bloom_parts.specs.Places.{positions, are_in}
+use Rattle.bloom_plain.specs.Filter.{Filter, num_bits_of, IsShape, HasShape, SameShape, positions_of, contains, same_filter}
 
--- a filter of these words, as many hashes, and a hasher that is told apart by a number
+-- a filter of these words and hashes, and of a hasher that is told apart by a number
 abbrev pub filter : List ℕ → ℕ → ℕ → Filter ℕ
 filter words hashes hasher = record { words = words; hashes = hashes; hasher = hasher }
 
--- the least shape
+-- one word and one hash are the least shape
 shape-least : IsShape 1 1
 shape-least = record {
   some_words = lit≤ tt;
@@ -20,7 +20,7 @@ shape-least = record {
   few_hashes = lit< tt;
 }
 
--- the greatest shape
+-- 2^58 - 1 words and 2^32 - 1 hashes are the greatest shape
 shape-greatest : IsShape 288230376151711743 4294967295
 shape-greatest = record {
   some_words = lit≤ tt;
@@ -33,7 +33,7 @@ shape-greatest = record {
 shape-no_words : IsShape 0 1 → ⊥
 shape-no_words shape = omega (arith, shape.some_words)
 
--- a word too many is no shape
+-- 2^58 words are no shape
 shape-many_words : IsShape 288230376151711744 1 → ⊥
 shape-many_words shape = omega (arith, shape.few_words)
 
@@ -41,7 +41,7 @@ shape-many_words shape = omega (arith, shape.few_words)
 shape-no_hashes : IsShape 1 0 → ⊥
 shape-no_hashes shape = omega (arith, shape.some_hashes)
 
--- a hash too many is no shape
+-- 2^32 hashes are no shape
 shape-many_hashes : IsShape 1 4294967296 → ⊥
 shape-many_hashes shape = omega (arith, shape.few_hashes)
 
@@ -49,65 +49,84 @@ shape-many_hashes shape = omega (arith, shape.few_hashes)
 has_shape : HasShape (filter (0 ∷ 0 ∷ []) 3 7) ≡ IsShape 2 3
 has_shape = refl
 
--- words may differ, and hashers too
+-- two words have 128 bits
+num_bits_of-two : num_bits_of (filter (5 ∷ 6 ∷ []) 3 7) ≡ 128
+num_bits_of-two = refl
+
+-- filters of one shape may have different words and hashers
 same_shape-other : SameShape (filter (5 ∷ []) 2 7) (filter (6 ∷ []) 2 8)
 same_shape-other = record { words = refl; hashes = refl }
 
--- a word more is another shape
+-- a filter of one word more has another shape
 same_shape-words : SameShape (filter (5 ∷ []) 2 7) (filter (5 ∷ 0 ∷ []) 2 7) → ⊥
 same_shape-words same = let words : 1 ≡ 2 = same.words in omega (arith, words)
 
--- a hash more is another shape
+-- a filter of one hash more has another shape
 same_shape-hashes : SameShape (filter (5 ∷ []) 2 7) (filter (5 ∷ []) 3 7) → ⊥
 same_shape-hashes same = let hashes : 2 ≡ 3 = same.hashes in omega (arith, hashes)
 
--- hash 1 is in the word of its two positions
+-- position 64 is the third of hash 1 among 128 bits
+positions_of-third : positions_of (filter (0 ∷ 0 ∷ []) 3 7) 1 64 ≡ true
+unfolding chain positions
+positions_of-third = refl
+
+-- position 64 is no position of hash 1 where there are two hashes
+positions_of-two : positions_of (filter (0 ∷ 0 ∷ []) 2 7) 1 64 ≡ false
+unfolding chain positions
+positions_of-two = refl
+
+-- position 20 is one of hash 1 among 64 bits, and none among 128
+positions_of-wide : positions_of (filter (0 ∷ 0 ∷ []) 3 7) 1 20 ≡ false
+unfolding chain positions
+positions_of-wide = refl
+
+-- with two hashes, hash 1 is contained where its two positions are on
 contains-two : contains (filter (1048577 ∷ []) 2 7) 1 ≡ true
 unfolding content chain are_in
 contains-two = refl
 
--- not where the second is off
+-- hash 1 isn't contained where its second position is off
 contains-first_alone : contains (filter (1 ∷ []) 2 7) 1 ≡ false
 unfolding content chain are_in
 contains-first_alone = refl
 
--- not where the first is off
+-- hash 1 isn't contained where its first position is off
 contains-second_alone : contains (filter (1048576 ∷ []) 2 7) 1 ≡ false
 unfolding content chain are_in
 contains-second_alone = refl
 
--- of three hashes the third counts
+-- with three hashes, hash 1 isn't contained where its third position is off
 contains-three : contains (filter (1048577 ∷ []) 3 7) 1 ≡ false
 unfolding content chain are_in
 contains-three = refl
 
--- and is in the word of all three
+-- with three hashes, hash 1 is contained where its three positions are on
 contains-all : contains (filter (4296015873 ∷ []) 3 7) 1 ≡ true
 unfolding content chain are_in
 contains-all = refl
 
--- among 128 bits its positions are 0, 40 and 64
+-- among 128 bits, hash 1 is contained where the positions 0, 40 and 64 are on
 contains-wide : contains (filter (1099511627777 ∷ 1 ∷ []) 3 7) 1 ≡ true
 unfolding content chain are_in
 contains-wide = refl
 
--- 64 lies in the second word
+-- among 128 bits, hash 1 isn't contained where position 64, in the second word, is off
 contains-wide_off : contains (filter (1099511627777 ∷ 0 ∷ []) 3 7) 1 ≡ false
 unfolding content chain are_in
 contains-wide_off = refl
 
--- filters are equal whatever their hashers
+-- filters of equal words and hashes are equal whatever their hashers
 same_filter-hasher : same_filter (filter (5 ∷ 6 ∷ []) 2 7) (filter (5 ∷ 6 ∷ []) 2 8) ≡ true
 same_filter-hasher = refl
 
--- a word may differ
+-- filters of which one word differs are not equal
 same_filter-word : same_filter (filter (5 ∷ 6 ∷ []) 2 7) (filter (5 ∷ 7 ∷ []) 2 7) ≡ false
 same_filter-word = refl
 
--- the number of words may differ
+-- a filter of one word more is not equal
 same_filter-words : same_filter (filter (5 ∷ []) 2 7) (filter (5 ∷ 0 ∷ []) 2 7) ≡ false
 same_filter-words = refl
 
--- the number of hashes may differ
+-- a filter of one hash more is not equal
 same_filter-hashes : same_filter (filter (5 ∷ 6 ∷ []) 2 7) (filter (5 ∷ 6 ∷ []) 3 7) ≡ false
 same_filter-hashes = refl

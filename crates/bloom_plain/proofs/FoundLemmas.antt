@@ -1,4 +1,5 @@
--- A hash whose positions no later command turns off.
+-- A hash whose positions no later command turns off. A decision is what a list of commands makes of
+-- one position: on, off, or nothing.
 use Rattle.std.proofs.Common.{◌≡◌, ℕ, Bool, true, false, cond, List, [], ◌∷◌, ◌++◌, map, Option, Some, None, unwrap_or, All, refl, ◌∙◌, ap, subst}
 use Rattle.std.specs.Option.{option_or}
 use Rattle.std.proofs.lemmas.List.{map-append}
@@ -15,31 +16,31 @@ use Rattle.bloom_plain.specs.declared.bloom.command.Command.TheVariants as comma
 use Rattle.bloom_plain.proofs.LawLemmas.{contains-shape}
 use Rattle.bloom_parts.proofs.PublishedLemmas.{part-from, part-to}
 
--- whether what was on before a decision is on after it
+-- whether a position that was on before a decision is on after it
 unfoldable pub leaves_on : Option Bool → Bool
 leaves_on None = true
 leaves_on (Some b) = b
 
--- of two decisions the first counts, or else the second
+-- two decisions that leave a position on leave it on together
 leaves_on-or : (a b : Option Bool) → leaves_on a ≡ true → leaves_on b ≡ true
     → leaves_on (option_or a b) ≡ true
 unfolding leaves_on
 leaves_on-or None b p q = q
 leaves_on-or (Some x) b p q = p
 
--- what makes a set on turns nothing off
+-- a decision that makes a set on turns nothing off
 leaves_on-makes_on : (b : Bool) → leaves_on (cond b (Some true) None) ≡ true
 unfolding leaves_on
 leaves_on-makes_on true = refl
 leaves_on-makes_on false = refl
 
--- what is on stays on where nothing later makes it off
+-- a position that is on stays on where nothing later makes it off
 stays-on : (a : Option Bool) (b : Bool) → leaves_on a ≡ true → b ≡ true → unwrap_or a b ≡ true
 unfolding leaves_on
 stays-on None b p on = on
 stays-on (Some x) b p on = p
 
--- what is made on stays on where nothing later makes it off
+-- a position that is made on stays on where nothing later makes it off
 stays-made_on : (a : Option Bool) → leaves_on a ≡ true → option_or a (Some true) ≡ Some true
 unfolding leaves_on
 stays-made_on None p = refl
@@ -56,7 +57,7 @@ module _ (n k : ℕ) (A : ℕ → Bool) (p : ℕ) (is : A p ≡ true) where
   leaves_on-one (Intersect other) spare =
       ap (λ b. leaves_on (cond b None (Some false))) (spare p is)
 
-  -- nor by a list of such commands
+  -- a position of the set isn't made off by a list of commands that spare it
   pub leaves_on-list : (os : List Operation) → All (Spares A) os
       → leaves_on (last_decision (map (decides n k) os) p) ≡ true
   unfolding leaves_on
@@ -90,7 +91,7 @@ found_law S old new earlier later hash given did all =
     ∙ part-to n k hash (content new.words) (λ p is. did.bits p
     ∙ ap (λ o. unwrap_or o (content old.words p)) (made-on n k hash p is earlier later all))
 
--- what the commands say is a list of operations
+-- the commands of `replay` are a list of operations
 pub found_after_replay_law : (S : Type 0) → FoundAfterReplayLaw S
 found_after_replay_law S old new earlier later hash given did all =
     found_law S old new (map operation_of earlier) (map operation_of later) hash given

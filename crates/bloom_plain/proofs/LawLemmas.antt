@@ -8,20 +8,20 @@ use Rattle.bloom_plain.specs.Filter.{Filter, SameShape, num_bits_of, contains}
 use Rattle.bloom_plain.specs.Laws.{InsertLaw, KeptByInsertLaw, KeptByUnionLaw, IntersectionLaw, UnionLaw, ClearLaw, RebuiltLaw, EqualityLaw, EqualContentLaw}
 use Rattle.bloom_parts.proofs.PublishedLemmas.{part-from, part-to, are_in-off}
 
--- a look-up in a filter of the same shape
+-- a look-up in a filter of the same shape is the look-up with the first filter's numbers
 pub contains-shape : {S : Type 0} (old new : Filter S) (hash : ℕ) → SameShape old new
     → contains new hash ≡ are_in (num_bits_of old) old.hashes hash (content new.words)
 contains-shape old new hash same =
     ap (λ w. are_in (64 * w) new.hashes hash (content new.words)) (sym same.words)
     ∙ ap (λ k. are_in (num_bits_of old) k hash (content new.words)) (sym same.hashes)
 
--- what is in a set is in a greater one
+-- positions that are in a set are in a greater set
 pub are_in-greater : (n k hash : ℕ) (A B : ℕ → Bool) → IsPart A B
     → are_in n k hash A ≡ true → are_in n k hash B ≡ true
 are_in-greater n k hash A B part all =
     part-to n k hash B (λ p is. part p (part-from n k hash A all p is))
 
--- of filters of one shape, the greater contains what the other does
+-- the greater of two filters of one shape contains what the other does
 pub contains-greater : {S : Type 0} (old new : Filter S) (hash : ℕ) → SameShape old new
     → IsPart (content old.words) (content new.words)
     → contains old hash ≡ true → contains new hash ≡ true
@@ -30,7 +30,7 @@ contains-greater old new hash same part found =
     ∙ are_in-greater (num_bits_of old) old.hashes hash (content old.words) (content new.words)
     part found
 
--- the positions of the hash are on afterwards
+-- the positions of the hash are on after the insert
 pub insert_law : (S : Type 0) → InsertLaw S
 insert_law S old new hash reply did = (
   did.answers,
@@ -39,19 +39,19 @@ insert_law S old new hash reply did = (
       (λ p is. did.bits p ∙ or_right (content old.words p) _ is),
 )
 
--- the content afterwards is greater
+-- the content after an insert is greater
 pub kept_by_insert_law : (S : Type 0) → KeptByInsertLaw S
 kept_by_insert_law S old new inserted hash reply did =
     contains-greater old new hash did.shape
     (λ p on. did.bits p ∙ or_left (content old.words p) _ on)
 
--- the content afterwards is greater
+-- the content after a union is greater
 pub kept_by_union_law : (S : Type 0) → KeptByUnionLaw S
 kept_by_union_law S old other new hash did =
     contains-greater old new hash did.shape
     (λ p on. did.bits p ∙ or_left (content old.words p) _ on)
 
--- of four tests the two in the middle change places
+-- the two tests in the middle of four change places
 exchange : (a b c d : Bool) → ((a && b) && (c && d)) ≡ ((a && c) && (b && d))
 exchange true true c d = refl
 exchange true false true d = refl
@@ -78,7 +78,7 @@ intersection_law S old other new hash same did =
     ∙ are_in-both n k hash (content old.words) (content other.words)
     ∙ ap (λ b. contains old hash && b) (sym (contains-shape old other hash same))
 
--- the content afterwards is greater than either
+-- the content after a union is greater than either
 pub union_law : (S : Type 0) → UnionLaw S
 union_law S old other new hash same did either =
     elim (or_cases (contains old hash) (contains other hash) either) [
@@ -91,7 +91,7 @@ union_law S old other new hash same did either =
           (sym (contains-shape old other hash same) ∙ found)
     ]
 
--- the first position of the hash is off afterwards
+-- the first position of the hash is off after a clear
 pub clear_law : (S : Type 0) → ClearLaw S
 clear_law S old new hash shape did =
     let n = num_bits_of old in
@@ -99,7 +99,7 @@ clear_law S old new hash shape did =
     ∙ are_in-off n old.hashes hash (content new.words) 0 shape.some_hashes
     (did.bits (place n hash 0))
 
--- their parts are equal
+-- the parts of both filters are equal
 pub rebuilt_law : (S : Type 0) → RebuiltLaw S
 rebuilt_law S f made shape did =
     let same_hashes : made.hashes ≡ f.hashes = did.hashes ∙ omega arith in
@@ -119,7 +119,7 @@ equality_law S f g = (
       (eq-eqb f.hashes g.hashes same.1)),
 )
 
--- as many words of 64 bits are equal exactly if they have the same content
+-- filters of as many words of 64 bits have equal words exactly if they have the same content
 pub equal_content_law : (S : Type 0) → EqualWordsLaw → EqualContentLaw S
 equal_content_law S words_law f g fit fit' same =
     let words = words_law f.words g.words fit fit' same.words in

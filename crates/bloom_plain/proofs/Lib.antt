@@ -9,6 +9,7 @@ mod FilterFacts
 mod FoundLemmas
 mod HashFacts
 mod InsertFacts
+mod InsertListFacts
 mod LawFacts
 mod LawLemmas
 mod ListFacts

@@ -1,6 +1,7 @@
--- Lists of commands, at values from outside: cases that hold, and some that differ from one of them
--- in one thing and don't. Among 64 bits hash 1 has the positions 0 and 20, and hash 0 has 0 alone.
-use Rattle.std.proofs.Common.{◌≡◌, ℕ, ◌-◌, ◌≤◌, true, false, List, [], ◌∷◌, map, Bor, All, refl, sym, ◌∙◌, arith, lit<}
+-- Lists of commands, at values from outside: cases that hold, and cases that differ from one of
+-- these in one thing and don't hold. Among 64 bits and with two hashes, hash 0 has position 0
+-- alone, and hash 1 has the positions 0 and 20.
+use Rattle.std.proofs.Common.{◌≡◌, ℕ, ◌≤◌, true, false, List, [], ◌∷◌, map, Bor, All, refl, sym, ◌∙◌, arith, lit<}
 use Rattle.std.proofs.lemmas.List.Elements.{All-from_recursion}
 use Rattle.bloom_parts.specs.Chain.{chain}
 use Rattle.bloom_parts.specs.Content.{content}
@@ -9,13 +10,13 @@ use Rattle.bloom_parts.specs.Operations as operation
 use Rattle.bloom_parts.specs.Operations.{Operation, state_after}
 use Rattle.bloom_plain.specs.CommandOf.{operation_of, Fits}
 use Rattle.bloom_plain.specs.Filter.{Filter}
-use Rattle.bloom_plain.specs.Replies.{replies, CarriesOut, InsertsAll, InsertsItems}
+use Rattle.bloom_plain.specs.Replies.{replies, CarriesOut}
 use Rattle.bloom_plain.specs.declared.bloom.command.Command.{Command}
 use Rattle.bloom_plain.specs.declared.bloom.command.Command.TheVariants.{Insert, Contains, Clear, Union, Intersect}
 use Rattle.bloom_plain.proofs.CaseLemmas.{content-case, content-past, positions-past}
 use Rattle.bloom_plain.proofs.FilterFacts.{filter}
 
--- looked up, inserted twice, another looked up, cleared, and looked up
+-- a list looks hash 1 up, inserts it twice, looks hash 0 up, clears, and looks hash 1 up
 abbrev pub one_by_one : List Operation
 one_by_one =
     operation.Contains 1 ∷ operation.Insert 1 ∷ operation.Insert 1 ∷ operation.Contains 0
@@ -33,7 +34,7 @@ six = lent (filter (6 ∷ []) 1 8)
 abbrev pub eight : Bor (Filter ℕ)
 eight = lent (filter (8 ∷ []) 1 9)
 
--- intersected with 6, united with 8, looked up, and inserted
+-- a list intersects with 6, unites with 8, looks hash 0 up, and inserts it
 abbrev pub with_others : List (Command ℕ)
 with_others =
     Intersect six ∷ Union eight ∷ Contains 0 ∷ Insert 0 ∷ []
@@ -44,11 +45,11 @@ replies-one_by_one : replies 64 2 (content (0 ∷ [])) one_by_one
 unfolding content positions chain are_in
 replies-one_by_one = refl
 
--- no command, no reply
+-- a list of no command has no reply
 replies-none : replies 64 2 (content (0 ∷ [])) [] ≡ []
 replies-none = refl
 
--- the list is carried out in order, and leaves nothing on
+-- the list of single commands leaves nothing on, since it ends with a clear
 pub carried_out : CarriesOut (filter (0 ∷ []) 2 7) one_by_one (filter (0 ∷ []) 2 7)
     (false ∷ false ∷ true ∷ true ∷ false ∷ [])
 unfolding content
@@ -59,56 +60,56 @@ carried_out = record {
   hasher = refl;
 }
 
--- a wrong reply
+-- a list can't answer an insert of a hash that was contained by false
 carried_out-reply : CarriesOut (filter (0 ∷ []) 2 7) one_by_one (filter (0 ∷ []) 2 7)
     (false ∷ false ∷ false ∷ true ∷ false ∷ []) → ⊥
 carried_out-reply did = let wrong = did.answers ∙ replies-one_by_one in cc
 
--- a reply to a clear
+-- a list gives no reply to a clear
 carried_out-more : CarriesOut (filter (0 ∷ []) 2 7) one_by_one (filter (0 ∷ []) 2 7)
     (false ∷ false ∷ true ∷ true ∷ true ∷ false ∷ []) → ⊥
 carried_out-more did = let wrong = did.answers ∙ replies-one_by_one in cc
 
--- a position that stays on
+-- a list with a clear at its end leaves no position on
 carried_out-bit : CarriesOut (filter (0 ∷ []) 2 7) one_by_one (filter (1 ∷ []) 2 7)
     (false ∷ false ∷ true ∷ true ∷ false ∷ []) → ⊥
 unfolding content positions chain
 carried_out-bit did = let wrong : true ≡ false = did.bits 0 in cc
 
--- another number of words
+-- a list adds no zero word
 carried_out-words : CarriesOut (filter (0 ∷ []) 2 7) one_by_one (filter (0 ∷ 0 ∷ []) 2 7)
     (false ∷ false ∷ true ∷ true ∷ false ∷ []) → ⊥
 carried_out-words did = let wrong : 1 ≡ 2 = did.shape.words in omega (arith, wrong)
 
--- another number of hashes
+-- a list keeps the number of hashes
 carried_out-hashes : CarriesOut (filter (0 ∷ []) 2 7) one_by_one (filter (0 ∷ []) 3 7)
     (false ∷ false ∷ true ∷ true ∷ false ∷ []) → ⊥
 carried_out-hashes did = let wrong : 2 ≡ 3 = did.shape.hashes in omega (arith, wrong)
 
--- another hasher
+-- a list keeps the hasher
 carried_out-hasher : CarriesOut (filter (0 ∷ []) 2 7) one_by_one (filter (0 ∷ []) 2 8)
     (false ∷ false ∷ true ∷ true ∷ false ∷ []) → ⊥
 carried_out-hasher did = let wrong : 8 ≡ 7 = did.hasher in omega (arith, wrong)
 
--- a command that names no filter says what the operation of its name does
+-- a command that names no filter stands for the operation of its name
 operation_of-own : map (operation_of {S = ℕ}) (Insert 5 ∷ Contains 5 ∷ Clear ∷ [])
     ≡ operation.Insert 5 ∷ operation.Contains 5 ∷ operation.Clear ∷ []
 operation_of-own = refl
 
--- one that does counts by that filter's content
+-- a command that names a filter stands for the operation with that filter's content
 operation_of-other : map (operation_of {S = ℕ})
     (Union six ∷ Intersect six ∷ [])
     ≡ operation.Union (content (6 ∷ [])) ∷ operation.Intersect (content (6 ∷ [])) ∷ []
 operation_of-other = refl
 
--- past its bits the list leaves nothing on
+-- the list with other filters leaves nothing on past the filter's bits
 past_with_others : (p : ℕ) → 64 ≤ p
     → state_after 64 1 (content (5 ∷ [])) (map operation_of with_others) p ≡ false
 past_with_others p past =
     rw (positions-past 64 1 0 p (lit< tt) (lit< tt) past)
     (rw (content-past (8 ∷ []) p past) (rw (content-past (6 ∷ []) p past) refl))
 
--- 5 and 6 is 4, 4 or 8 is 12, and hash 0 turns position 0 on
+-- the list with other filters makes 4 of 5, then 12, and then turns on position 0
 pub carried_out-others : CarriesOut (filter (5 ∷ []) 1 7) (map operation_of with_others)
     (filter (13 ∷ []) 1 7) (false ∷ false ∷ [])
 unfolding content positions chain are_in
@@ -120,11 +121,11 @@ carried_out-others = record {
   hasher = refl;
 }
 
--- a clear, an insert of hash 0, and a union with 8
+-- a list clears, inserts hash 0, and unites with 8
 abbrev pub after_clear : List (Command ℕ)
 after_clear = Clear ∷ Insert 0 ∷ Union eight ∷ []
 
--- what was on before goes off, position 0 comes on, and 1 or 8 is 9
+-- the list after a clear makes 1 of 5, and then 9
 pub carried_out-clear : CarriesOut (filter (5 ∷ []) 1 7) (map operation_of after_clear)
     (filter (9 ∷ []) 1 7) (false ∷ [])
 unfolding content positions chain are_in
@@ -138,13 +139,14 @@ carried_out-clear = record {
   hasher = refl;
 }
 
--- in the other order 5 or 8 is 13, and 13 and 6 is 4
+-- a list isn't carried out in another order, in which 5 united with 8, intersected with 6, and with
+-- hash 0 inserted would be 5
 carried_out-order : CarriesOut (filter (5 ∷ []) 1 7) (map operation_of with_others)
     (filter (5 ∷ []) 1 7) (false ∷ false ∷ []) → ⊥
 unfolding content positions chain
 carried_out-order did = let wrong : false ≡ true = did.bits 3 in cc
 
--- each filter that the list names has one word and one hash
+-- the filters that the list with other filters names have one word and one hash, as this filter has
 pub others-fit : All (Fits (filter (5 ∷ []) 1 7)) with_others
 others-fit =
     All-from_recursion (Fits (filter (5 ∷ []) 1 7)) with_others (
@@ -160,38 +162,14 @@ fits-clear = tt
 fits-union : Fits (filter (5 ∷ []) 1 7) (Union (lent (filter (6 ∷ 0 ∷ []) 1 8))) → ⊥
 fits-union fits = let wrong : 1 ≡ 2 = fits.words in omega (arith, wrong)
 
+-- a union with a filter of a hash more doesn't fit
+fits-union_hashes : Fits (filter (5 ∷ []) 1 7) (Union (lent (filter (6 ∷ []) 2 8))) → ⊥
+fits-union_hashes fits = let wrong : 1 ≡ 2 = fits.hashes in omega (arith, wrong)
+
+-- an intersection with a filter of a word more doesn't fit
+fits-intersect_words : Fits (filter (5 ∷ []) 1 7) (Intersect (lent (filter (6 ∷ 0 ∷ []) 1 8))) → ⊥
+fits-intersect_words fits = let wrong : 1 ≡ 2 = fits.words in omega (arith, wrong)
+
 -- an intersection with a filter of a hash more doesn't fit
 fits-intersect : Fits (filter (5 ∷ []) 1 7) (Intersect (lent (filter (6 ∷ []) 2 8))) → ⊥
 fits-intersect fits = let wrong : 1 ≡ 2 = fits.hashes in omega (arith, wrong)
-
--- hashes 1 and 0 are inserted: the second finds its position on
-pub inserts_all : InsertsAll (filter (0 ∷ []) 2 7) (1 ∷ 0 ∷ []) (filter (1048577 ∷ []) 2 7)
-unfolding content positions chain are_in
-inserts_all = (
-  false ∷ true ∷ [],
-  record {
-    bits = content-case (1048577 ∷ [])
-        (state_after 64 2 (content (0 ∷ [])) (operation.Insert 1 ∷ operation.Insert 0 ∷ [])) refl
-        (λ p past. rw (positions-past 64 2 0 p (lit< tt) (lit< tt) past)
-        (rw (positions-past 64 2 1 p (lit< tt) (lit< tt) past) (content-past (0 ∷ []) p past)));
-    answers = refl;
-    shape = record { words = refl; hashes = refl };
-    hasher = refl;
-  },
-)
-
--- one of two hashes was left out
-inserts_all-less : InsertsAll (filter (0 ∷ []) 2 7) (0 ∷ 1 ∷ []) (filter (1 ∷ []) 2 7) → ⊥
-unfolding content positions chain
-inserts_all-less did = let wrong : false ≡ true = did.1.bits 20 in cc
-
--- an item is inserted by its hash under the hasher: here the item less the hasher's number
-pub inserts_items : InsertsItems (λ hasher item. item - hasher) (filter (0 ∷ []) 2 7) (8 ∷ 7 ∷ [])
-    (filter (1048577 ∷ []) 2 7)
-inserts_items = inserts_all
-
--- not by another hash
-inserts_items-hash : InsertsItems (λ hasher item. item - hasher) (filter (0 ∷ []) 2 8) (8 ∷ 7 ∷ [])
-    (filter (1048577 ∷ []) 2 8) → ⊥
-unfolding content positions chain
-inserts_items-hash did = let wrong : true ≡ false = did.1.bits 20 in cc

@@ -13,14 +13,14 @@ use Rattle.bloom_plain.specs.Filter.{Filter, SameShape, num_bits_of}
 use Rattle.bloom_plain.specs.Replies.{CarriesOut, InsertsItems, replies, replies_after}
 
 module _ (n k : ℕ) where
-  -- the set after two lists of commands
+  -- the set after two lists of commands is that after the second, from the set after the first
   pub state_after-append : (A : ℕ → Bool) (xs ys : List Operation)
       → state_after n k A (xs ++ ys) ≡ state_after n k (state_after n k A xs) ys
   state_after-append A xs ys = λ i p.
       (ap (λ ds. state A ds p) (map-append (decides n k) xs ys)
       ∙ state-append A (map (decides n k) xs) (map (decides n k) ys) p) i
 
-  -- commands that were carried out before may count as a set
+  -- commands that were carried out earlier may be taken into the set
   replies_after-start : (A : ℕ → Bool) (xs earlier ys : List Operation)
       → replies_after n k A (xs ++ earlier) ys
       ≡ replies_after n k (state_after n k A xs) earlier ys
@@ -32,7 +32,7 @@ module _ (n k : ℕ) where
       (ap (λ l. replies_after n k A l ys) (append_assoc xs earlier (y ∷ []))
       ∙ replies_after-start A xs (earlier ++ y ∷ []) ys)
 
-  -- the replies of two lists of commands that come after earlier ones
+  -- the replies of two lists after earlier commands are those of the first, and then of the second
   replies_after-append : (A : ℕ → Bool) (earlier xs ys : List Operation)
       → replies_after n k A earlier (xs ++ ys)
       ≡ replies_after n k A earlier xs ++ replies_after n k A (earlier ++ xs) ys
@@ -46,7 +46,8 @@ module _ (n k : ℕ) where
       ∙ ap (λ l. middle ++ replies_after n k A l ys) (append_assoc earlier (x ∷ []) xs))
       ∙ sym (append_assoc first middle (replies_after n k A (earlier ++ x ∷ xs) ys))
 
-  -- the replies of two lists of commands
+  -- the replies of two lists are those of the first, and then of the second from the set after the
+  -- first
   pub replies-append : (A : ℕ → Bool) (xs ys : List Operation)
       → replies n k A (xs ++ ys) ≡ replies n k A xs ++ replies n k (state_after n k A xs) ys
   replies-append A xs ys =
@@ -87,7 +88,7 @@ carries_out-append old mid new xs ys r s first second =
       hasher = second.hasher ∙ first.hasher;
     }
 
--- one more command, which the item at place i of a list says
+-- a list that was carried out up to place i is carried out to its next command
 pub carries_out-next : {S C : Type 0} (says : C → Operation) (old mid new : Filter S)
     (list : List C) (i : ℕ) (c : C) (r s given : List Bool) → i < length list → c ≡ get_or list i c
     → CarriesOut old (map says (take i list)) mid r → CarriesOut mid (says c ∷ []) new s
@@ -102,7 +103,7 @@ carries_out-next says old mid new list i c r s given within is first second all_
     (carries_out-append old mid new (map says (take i list)) (says c ∷ []) r s first second))
 
 module _ {S T : Type 0} (hash_of : S → T → ℕ) (old : Filter S) where
-  -- one more item: inserts keep the hasher, by which it is hashed
+  -- one more item is inserted by its hash under the hasher, which inserts keep
   pub inserts_items-next : (mid new : Filter S) (items : List T) (item : T) (reply : Bool)
       → InsertsItems hash_of old items mid
       → CarriesOut mid (Insert (hash_of mid.hasher item) ∷ []) new (reply ∷ [])
@@ -121,7 +122,7 @@ module _ {S T : Type 0} (hash_of : S → T → ℕ) (old : Filter S) where
             did.0 (reply ∷ []) did.1 next),
       )
 
-  -- when the iterator has ended, those were all its items
+  -- the items that were inserted when the iterator has ended are all of its items
   pub inserts_items-whole : {I : Type 0} (comes : I → Type 0) (steps : I → Option T → I → Type 0)
       (start last end : I) (items : List T) (new : Filter S) → comes start
       → Yields steps start items last → steps last None end → InsertsItems hash_of old items new

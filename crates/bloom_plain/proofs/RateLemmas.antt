@@ -5,7 +5,7 @@ use Rattle.std.proofs.Math.Nat.{mul-zero, one-le-pow, pow-suc, pow-zero}
 use Rattle.bloom_parts.specs.declared.math.bracket.Bracket.{Bracket}
 use Rattle.bloom_parts.specs.Brackets.{width_of, Holds, HoldsDensity, HoldsRate}
 
--- a power of a power
+-- a power of a power is the power of the product
 pow-pow : (a m n : ℕ) → (a ^ m) ^ n ≡ a ^ (m * n)
 pow-pow a m zero = rw (mul-zero, pow-zero a, pow-zero (a ^ m)) refl
 pow-pow a m (suc n) =
@@ -13,7 +13,7 @@ pow-pow a m (suc n) =
     pow-suc (a ^ m) n ∙ ap (λ v. v * a ^ m) (pow-pow a m n) ∙ sym (pow-add a (m * n) m)
     ∙ ap (λ v. a ^ v) next
 
--- a power of what holds the density holds the rate
+-- a power of a bracket that holds the density holds the rate
 pub rate-holds : (density rate : Bracket) (b t k : ℕ) → 0 < b → HoldsDensity density b t →
     ((p q : ℕ) → 0 < q → Holds density p q → Holds rate (p ^ k) (q ^ k)) → HoldsRate rate b t k
 rate-holds density rate b t k some is power =
@@ -22,13 +22,13 @@ rate-holds density rate b t k some is power =
       at_most = rw (← pow-pow b t k) held.at_most;
     }
 
--- with nothing turned on, the density is nothing
+-- the density is zero where nothing is turned on
 none-on : (density : Bracket) (b : ℕ) → HoldsDensity density b 0 → density.low ≡ 0
 none-on density b is =
     let none : density.low * b ^ 0 ≤ 2 ^ 63 * (b ^ 0 - (b - 1) ^ 0) = is.at_least in
     omega (arith, rw (pow-zero b, pow-zero (b - 1)) at none)
 
--- the width of the rate, from that of the density
+-- the width of the rate follows from that of the density
 pub rate-width : (density rate : Bracket) (b t k : ℕ) → HoldsDensity density b t →
     (0 < t → width_of density ≤ 2 * t - 1) → (t ≡ 0 → width_of density ≡ 0) →
     width_of rate ≤ k * (width_of density + 1) →

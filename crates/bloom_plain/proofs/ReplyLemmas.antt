@@ -1,11 +1,11 @@
--- A list of one command.
+-- Lists of one command.
 use Rattle.std.proofs.Common.{◌≡◌, ℕ, Bool, true, false, ◌||◌, cond, [], ◌∷◌, Some, None, refl, ap, ◌∙◌, unwrap_or}
 use Rattle.bloom_parts.specs.Content.{content}
 use Rattle.bloom_parts.specs.Operations.{Insert, Contains}
 use Rattle.bloom_plain.specs.Filter.{Filter, contains, Inserts}
 use Rattle.bloom_plain.specs.Replies.{CarriesOut}
 
--- what a set makes on is on besides what was
+-- a position is on after a set is made on, if it was on or is in the set
 or-makes_on : (a b : Bool) → (a || b) ≡ unwrap_or (cond b (Some true) None) a
 or-makes_on true true = refl
 or-makes_on true false = refl

@@ -1,12 +1,12 @@
--- Clear, union and intersection, at values from outside: for each a case that holds, and some that
--- differ from it in one thing and don't.
+-- Clear, union and intersection, at values from outside: for each a case that holds, and cases that
+-- differ from it in one thing and don't hold.
 use Rattle.std.proofs.Common.{◌≡◌, ℕ, true, false, ◌||◌, ◌&&◌, [], ◌∷◌, refl, ap, ◌∙◌, arith}
 use Rattle.bloom_parts.specs.Content.{content}
 use Rattle.bloom_plain.specs.Filter.{Clears, Unites, Intersects}
 use Rattle.bloom_plain.proofs.CaseLemmas.{alike_below, content-case, content-past}
 use Rattle.bloom_plain.proofs.FilterFacts.{filter}
 
--- a word is cleared
+-- a clear turns every position of a word off
 pub clears : Clears (filter (5 ∷ []) 2 7) (filter (0 ∷ []) 2 7)
 unfolding content
 clears = record {
@@ -15,20 +15,24 @@ clears = record {
   hasher = refl;
 }
 
--- a position that stays on
+-- a clear leaves no position on
 clears-less : Clears (filter (5 ∷ []) 2 7) (filter (4 ∷ []) 2 7) → ⊥
 unfolding content
 clears-less did = let wrong : true ≡ false = did.bits 2 in cc
 
--- another number of words
+-- a clear adds no zero word
 clears-words : Clears (filter (5 ∷ []) 2 7) (filter (0 ∷ 0 ∷ []) 2 7) → ⊥
 clears-words did = let wrong : 1 ≡ 2 = did.shape.words in omega (arith, wrong)
 
--- another hasher
+-- a clear keeps the number of hashes
+clears-hashes : Clears (filter (5 ∷ []) 2 7) (filter (0 ∷ []) 3 7) → ⊥
+clears-hashes did = let wrong : 2 ≡ 3 = did.shape.hashes in omega (arith, wrong)
+
+-- a clear keeps the hasher
 clears-hasher : Clears (filter (5 ∷ []) 2 7) (filter (0 ∷ []) 2 8) → ⊥
 clears-hasher did = let wrong : 8 ≡ 7 = did.hasher in omega (arith, wrong)
 
--- filters of one word are united, where the words are so bit by bit
+-- filters of one word are united, where the words agree bit by bit
 pub unites-words : (old other new hasher another : ℕ)
     → alike_below 64 (content (new ∷ [])) (λ p. content (old ∷ []) p || content (other ∷ []) p)
     ≡ true
@@ -42,30 +46,44 @@ unites-words old other new hasher another alike = record {
   hasher = refl;
 }
 
--- 5 or 6 is 7, whatever the hasher of the other
+-- the union of 5 and 6 is 7, whatever the hasher of the other
 pub unites : Unites (filter (5 ∷ []) 2 7) (filter (6 ∷ []) 2 8) (filter (7 ∷ []) 2 7)
 unfolding content
 unites = unites-words 5 6 7 7 8 refl
 
--- a position of the other that stays off
+-- a union leaves no position of the other filter off
 unites-less : Unites (filter (5 ∷ []) 2 7) (filter (6 ∷ []) 2 8) (filter (5 ∷ []) 2 7) → ⊥
 unfolding content
 unites-less did = let wrong : false ≡ true = did.bits 1 in cc
 
--- the exclusive or is no union
+-- an exclusive or, which turns off what is on in both, is no union
 unites-exclusive : Unites (filter (5 ∷ []) 2 7) (filter (6 ∷ []) 2 8) (filter (3 ∷ []) 2 7) → ⊥
 unfolding content
 unites-exclusive did = let wrong : false ≡ true = did.bits 2 in cc
 
--- another number of hashes
+-- a union turns no position off that only the first filter has
+unites-off : Unites (filter (5 ∷ []) 2 7) (filter (6 ∷ []) 2 8) (filter (6 ∷ []) 2 7) → ⊥
+unfolding content
+unites-off did = let wrong : false ≡ true = did.bits 0 in cc
+
+-- a union turns no position on that neither filter has
+unites-more : Unites (filter (5 ∷ []) 2 7) (filter (6 ∷ []) 2 8) (filter (15 ∷ []) 2 7) → ⊥
+unfolding content
+unites-more did = let wrong : true ≡ false = did.bits 3 in cc
+
+-- a union adds no zero word
+unites-longer : Unites (filter (5 ∷ []) 2 7) (filter (6 ∷ []) 2 8) (filter (7 ∷ 0 ∷ []) 2 7) → ⊥
+unites-longer did = let wrong : 1 ≡ 2 = did.shape.words in omega (arith, wrong)
+
+-- a union keeps the number of hashes
 unites-hashes : Unites (filter (5 ∷ []) 2 7) (filter (6 ∷ []) 2 8) (filter (7 ∷ []) 3 7) → ⊥
 unites-hashes did = let wrong : 2 ≡ 3 = did.shape.hashes in omega (arith, wrong)
 
--- the hasher of the other
+-- a union doesn't take the hasher of the other filter
 unites-hasher : Unites (filter (5 ∷ []) 2 7) (filter (6 ∷ []) 2 8) (filter (7 ∷ []) 2 8) → ⊥
 unites-hasher did = let wrong : 8 ≡ 7 = did.hasher in omega (arith, wrong)
 
--- filters of one word are intersected, where the words are so bit by bit
+-- filters of one word are intersected, where the words agree bit by bit
 pub intersects-words : (old other new hasher another : ℕ)
     → alike_below 64 (content (new ∷ [])) (λ p. content (old ∷ []) p && content (other ∷ []) p)
     ≡ true
@@ -78,25 +96,35 @@ intersects-words old other new hasher another alike = record {
   hasher = refl;
 }
 
--- 5 and 6 is 4, whatever the hasher of the other
+-- the intersection of 5 and 6 is 4, whatever the hasher of the other
 pub intersects : Intersects (filter (5 ∷ []) 2 7) (filter (6 ∷ []) 2 8) (filter (4 ∷ []) 2 7)
 unfolding content
 intersects = intersects-words 5 6 4 7 8 refl
 
--- a position that the other lacks stays on
+-- an intersection leaves no position on that the other filter lacks
 intersects-more : Intersects (filter (5 ∷ []) 2 7) (filter (6 ∷ []) 2 8) (filter (5 ∷ []) 2 7) → ⊥
 unfolding content
 intersects-more did = let wrong : true ≡ false = did.bits 0 in cc
 
--- a position of both goes off
+-- an intersection turns no position off that both filters have
 intersects-less : Intersects (filter (5 ∷ []) 2 7) (filter (6 ∷ []) 2 8) (filter (0 ∷ []) 2 7) → ⊥
 unfolding content
 intersects-less did = let wrong : false ≡ true = did.bits 2 in cc
 
--- another number of hashes
+-- an intersection turns no position on that only the other filter has
+intersects-other : Intersects (filter (5 ∷ []) 2 7) (filter (6 ∷ []) 2 8) (filter (6 ∷ []) 2 7) → ⊥
+unfolding content
+intersects-other did = let wrong : true ≡ false = did.bits 1 in cc
+
+-- an intersection adds no zero word
+intersects-longer : Intersects (filter (5 ∷ []) 2 7) (filter (6 ∷ []) 2 8) (filter (4 ∷ 0 ∷ []) 2 7)
+    → ⊥
+intersects-longer did = let wrong : 1 ≡ 2 = did.shape.words in omega (arith, wrong)
+
+-- an intersection keeps the number of hashes
 intersects-hashes : Intersects (filter (5 ∷ []) 2 7) (filter (6 ∷ []) 2 8) (filter (4 ∷ []) 3 7) → ⊥
 intersects-hashes did = let wrong : 2 ≡ 3 = did.shape.hashes in omega (arith, wrong)
 
--- the hasher of the other
+-- an intersection doesn't take the hasher of the other filter
 intersects-hasher : Intersects (filter (5 ∷ []) 2 7) (filter (6 ∷ []) 2 8) (filter (4 ∷ []) 2 8) → ⊥
 intersects-hasher did = let wrong : 8 ≡ 7 = did.hasher in omega (arith, wrong)

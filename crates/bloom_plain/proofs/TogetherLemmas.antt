@@ -1,4 +1,4 @@
--- Hashes that are inserted together.
+-- Hashes that are inserted together. A hash waits that was taken but not yet inserted.
 use Rattle.std.proofs.Common.{◌≡◌, ℕ, ◌<◌, Bool, true, false, ◌||◌, List, [], ◌∷◌, ◌++◌, length, map, arith, refl, sym, ◌∙◌, ap, subst, append-nil, append_assoc}
 use Rattle.std.proofs.lemmas.List.{map-append}
 use Rattle.std.proofs.lemmas.Bool.{and_parts}
@@ -11,7 +11,7 @@ use Rattle.bloom_plain.specs.Replies.{CarriesOut, InsertsAll, Queues}
 use Rattle.bloom_plain.proofs.ListLemmas.{carries_out-append}
 use Rattle.bloom_plain.proofs.ReplyLemmas.{carries_out-insert}
 
--- what is on where it is part of a set adds nothing to it
+-- what is on only where a set is on adds nothing to it
 adds-nothing : (a b : Bool) → (b ≡ true → a ≡ true) → a ≡ (a || b)
 adds-nothing true b p = refl
 adds-nothing false true p = p refl
@@ -28,7 +28,7 @@ module _ {S : Type 0} (old : Filter S) where
     hasher = refl;
   }
 
-  -- no hash
+  -- no hashes to insert change nothing
   pub inserts_all-none : InsertsAll old [] old
   inserts_all-none = (
     [],
@@ -40,7 +40,7 @@ module _ {S : Type 0} (old : Filter S) where
     },
   )
 
-  -- two lists of hashes, one after the other
+  -- two lists of inserts, one after the other, are one list
   pub inserts_all-join : (mid new : Filter S) (xs ys : List ℕ) → InsertsAll old xs mid
       → InsertsAll mid ys new → InsertsAll old (xs ++ ys) new
   inserts_all-join mid new xs ys first second = (
@@ -50,7 +50,7 @@ module _ {S : Type 0} (old : Filter S) where
         second.1),
   )
 
-  -- one hash more
+  -- a list of inserts and one more insert are a list
   pub inserts_all-next : (mid new : Filter S) (hashes : List ℕ) (hash : ℕ) (reply : Bool)
       → InsertsAll old hashes mid → CarriesOut mid (Insert hash ∷ []) new (reply ∷ [])
       → InsertsAll old (hashes ++ hash ∷ []) new
@@ -67,14 +67,14 @@ inserts_all-contained old (h ∷ hashes) all =
     (true ∷ [], carries_out-insert old h old true (contained-insert old h parts.0))
     (inserts_all-contained old hashes parts.1)
 
--- these hashes were inserted, but for those that wait
+-- the hashes of a list were inserted, but for those that wait
 pub record IsBehind {S : Type 0} (old : Filter S) (hashes waiting : List ℕ) (new : Filter S)
     : Type 0 where
   pub before : List ℕ
   pub cut : hashes ≡ before ++ waiting
   pub did : InsertsAll old before new
 
--- and fewer than sixteen wait
+-- the hashes of a list were inserted, but for those that wait, and fewer than sixteen wait
 abbrev pub AreQueued : {S : Type 0} → Filter S → List ℕ → List ℕ → Filter S → Type 0
 AreQueued old hashes waiting new =
     record { behind : IsBehind old hashes waiting new; room : length waiting < 16 }
@@ -90,14 +90,14 @@ module _ {S : Type 0} (old : Filter S) (waiting more : List ℕ) (hash : ℕ) wh
   }
 
 module _ {S : Type 0} {old : Filter S} where
-  -- no hash
+  -- no hashes are queued at first
   pub queued-none : {waiting : List ℕ} → waiting ≡ [] → AreQueued old [] waiting old
   queued-none none = record {
     behind = record { before = []; cut = sym none; did = inserts_all-none old };
     room = omega (arith, ap length none);
   }
 
-  -- one more joins those that wait
+  -- one more hash joins those that wait
   pub queued-next : {mid new : Filter S} {hashes waiting more : List ℕ} {hash : ℕ}
       → AreQueued old hashes waiting mid
       → record { queues : Queues mid waiting hash new more; room : length more < 16 }
@@ -118,7 +118,7 @@ module _ {S : Type 0} {old : Filter S} where
         room = next.room;
       }
 
-  -- where those that wait are inserted, all are
+  -- where those that wait are inserted, all hashes of the list are
   pub queued-all : {mid new : Filter S} {hashes waiting given : List ℕ}
       → AreQueued old hashes waiting mid → given ≡ waiting → InsertsAll mid given new
       → InsertsAll old hashes new
@@ -128,7 +128,7 @@ module _ {S : Type 0} {old : Filter S} where
       (inserts_all-join old mid new behind.before waiting behind.did
       (subst (λ l. InsertsAll mid l new) all did))
 
-  -- one more item: inserts keep the hasher, by which it is hashed
+  -- one more item joins those that wait by its hash under the hasher, which inserts keep
   pub queued-item : {T : Type 0} (hash_of : S → T → ℕ) {mid new : Filter S} (items : List T)
       (item : T) {waiting more : List ℕ} {hash : ℕ}
       → AreQueued old (map (hash_of old.hasher) items) waiting mid

@@ -12,7 +12,7 @@ use Rattle.bloom_plain.specs.Replies.{replies}
 use Rattle.bloom_plain.proofs.FoundLemmas.{leaves_on, leaves_on-list, all_spare}
 use Rattle.bloom_parts.proofs.PublishedLemmas.{last_decision-append}
 
--- two decisions of which neither turns off make on what either does
+-- two decisions that turn nothing off make on what either does
 either-made : (d e : Option Bool) (was : Bool) → leaves_on d ≡ true → leaves_on e ≡ true
     → unwrap_or (option_or e d) was ≡ (unwrap_or d was || unwrap_or e was)
 unfolding leaves_on

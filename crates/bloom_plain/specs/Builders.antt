@@ -11,18 +11,18 @@ use Rattle.bloom_parts.specs.Rates.{num_of, den_of, same_rate}
 use Rattle.bloom_parts.specs.Sizing.{IsSizeFor, hashes_for}
 use Rattle.bloom_plain.specs.Filter.{Filter}
 
--- the words and the hasher of the filter to be
+-- a builder that has the words of its filter: these words, and the hasher
 pub record Start (S : Type 0) : Type 0 where
   pub words : List ℕ
   pub hasher : S
 
--- a start is stored as its fields
+-- a builder that has words is stored as its fields
 abbrev pub start_code : {S : Type 0} → Coded S → Coded (Start S)
 start_code {S} code =
     code_by (List ℕ × S) (coded× (coded_list coded_ℕ) code)
     (λ b. (b.words, b.hasher)) (λ p. record { words = p.0; hasher = p.1 }) (λ _. refl)
 
--- the rate of false positives and the hasher of the filter to be
+-- a builder that has a rate: the rate of false positives of its filter, and the hasher
 pub record RateStart (S : Type 0) : Type 0 where
   pub rate : Rate
   pub hasher : S
@@ -39,8 +39,8 @@ same_rate_start a b = same_rate a.rate b.rate
 abbrev pub words_for : ℕ → ℕ
 words_for bits = div_ceil bits 64
 
--- the filter of a builder's words, with the number of hashes for its bits and these items, where
--- none counts as one
+-- the filter of a builder's words, with the number of hashes that suits its bits and this many
+-- items, where 0 items count as 1
 abbrev pub sized_filter : {S : Type 0} → Start S → ℕ → Filter S
 sized_filter start items = record {
   words = start.words;
@@ -48,15 +48,16 @@ sized_filter start items = record {
   hasher = start.hasher;
 }
 
--- zero words for this many bits, and the hasher of a rate's builder
+-- the builder of zero words for this many bits, under the hasher of a rate's builder
 abbrev pub empty_start : {S : Type 0} → RateStart S → ℕ → Start S
 empty_start start bits = record { words = replicate (words_for bits) 0; hasher = start.hasher }
 
--- the number of bits for these items at a builder's rate, where none counts as one
+-- this is the number of bits for this many items at a builder's rate, where 0 items count as 1
 abbrev pub IsSizeOf : {S : Type 0} → RateStart S → ℕ → ℕ → Type 0
 IsSizeOf start items bits = IsSizeFor (max 1 items) (num_of start.rate) (den_of start.rate) bits
 
--- the filter of zero words for these items at a builder's rate, with the number of hashes for them
+-- this is the filter of zero words for this many items at a builder's rate, with the number of
+-- hashes that suits them
 abbrev pub IsMadeFor : {S : Type 0} → RateStart S → ℕ → Filter S → Type 0
 IsMadeFor start items filter =
     (bits : ℕ) × IsSizeOf start items bits × (filter ≡ sized_filter (empty_start start bits) items)
@@ -82,7 +83,8 @@ size_refusal bits =
     else if nat_le (2 ^ 58) (words_for bits) then Some TooManyWords
     else None
 
--- a call's error, if any, is the refusal that is listed for it, or `Memory` where none is listed
+-- a call fails with exactly the refusal that is listed for it; where none is listed, it succeeds or
+-- is out of memory
 abbrev pub RefusesAs : Option FilterError → Option FilterError → Type 0
 RefusesAs None error = IfSome error (λ e. e ≡ Memory)
 RefusesAs (Some refusal) error = error ≡ Some refusal

@@ -1,5 +1,5 @@
--- A filter with the default hasher as plain data (the fields are those of fastbloom 0.17.0 with
--- serde; that the key stands as two words, and what is refused, is this project's choice).
+-- A filter with the default hasher as plain data. The fields are those of fastbloom 0.17.0 with
+-- serde. That the key stands as two words, and what is refused, is this project's choice.
 use Rattle.std.specs.Prelude.{◌≡◌, ℕ, ◌+◌, ◌-◌, ◌^◌, Option, Some, None, vec_len, nat_eq, nat_le, if◌then◌else◌}
 use Rattle.bloom_parts.specs.Keys.{HasKey, key_of}
 use Rattle.bloom_parts.specs.declared.error.FilterError.{FilterError}
@@ -13,7 +13,7 @@ use Rattle.bloom_plain.specs.Filter.{Filter, contains}
 abbrev pub DefaultFilter : Type 0
 DefaultFilter = Filter (CloneBuildHasher RandomDefaultHasher)
 
--- why data are refused, if they are, the first reason first
+-- why data are refused, if they are; of several reasons the first counts
 abbrev pub data_refusal : FilterData → Option FilterError
 data_refusal form =
     if nat_eq (vec_len form.bits.bits) 0 then Some EmptyWords
@@ -27,19 +27,20 @@ pub record IsDataOf (form : FilterData) (f : DefaultFilter) : Type 0 where
   pub hashes : f.hashes ≡ form.num_hashes_minus_one + 1
   pub key : key_of f.hasher ≡ (form.k0, form.k1)
 
--- filters of the same data have equal words, numbers of hashes and keys, and answer hashes alike
+-- two filters have equal words, numbers of hashes and keys, and answer every hash alike
 pub record AnswerAlike (f g : DefaultFilter) : Type 0 where
   pub words : g.words ≡ f.words
   pub hashes : g.hashes ≡ f.hashes
   pub key : key_of g.hasher ≡ key_of f.hasher
   pub found : (hash : ℕ) → contains g hash ≡ contains f hash
 
--- what is made of a filter's data is such a filter
+-- two filters of the same data answer alike
 abbrev pub DataLaw : Type 0
 DataLaw =
     (f g : DefaultFilter) (form : FilterData) → IsDataOf form f → IsDataOf form g → AnswerAlike f g
 
--- hashers with the keys of the same data are alike to items: each item has one source hash
+-- a hasher that has the key of a filter's data gives each item the source hash that the filter's
+-- hasher gives it
 abbrev pub SameItemsLaw :
     {T : Type 0} → (CloneBuildHasher RandomDefaultHasher → T → ℕ) → Type 0
 SameItemsLaw {T} hash_of =

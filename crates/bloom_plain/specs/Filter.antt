@@ -5,7 +5,7 @@ use Rattle.std.specs.Coded.{Coded, code_by, coded×, coded_ℕ, coded_list}
 use Rattle.bloom_parts.specs.Content.{content}
 use Rattle.bloom_parts.specs.Places.{positions, are_in}
 
--- the words, the number of hashes, and the hasher
+-- a filter: its words, its number of hashes, and its hasher
 pub record Filter (S : Type 0) : Type 0 where
   pub words : List ℕ
   pub hashes : ℕ
@@ -18,7 +18,7 @@ filter_code {S} code =
     (λ f. (f.words, (f.hashes, f.hasher)))
     (λ p. record { words = p.0; hashes = p.1.0; hasher = p.1.1 }) (λ _. refl)
 
--- the number of bits, 64 for each word
+-- the number of bits, which is 64 for each word
 abbrev pub num_bits_of : {S : Type 0} → Filter S → ℕ
 num_bits_of f = 64 * length f.words
 
@@ -30,16 +30,16 @@ pub record IsShape (words hashes : ℕ) : Type 0 where
   pub some_hashes : 1 ≤ hashes
   pub few_hashes : hashes < 2 ^ 32
 
--- a filter has a shape, which each call that reads one promises
+-- the filter has a shape, which each call that reads a filter promises
 abbrev pub HasShape : {S : Type 0} → Filter S → Type 0
 HasShape f = IsShape (length f.words) f.hashes
 
--- as many words and as many hashes
+-- two filters have as many words and as many hashes
 pub record SameShape {S : Type 0} (f g : Filter S) : Type 0 where
   pub words : length f.words ≡ length g.words
   pub hashes : f.hashes ≡ g.hashes
 
--- the positions of a hash
+-- the set of the positions of a hash
 abbrev pub positions_of : {S : Type 0} → Filter S → ℕ → ℕ → Bool
 positions_of f hash = positions (num_bits_of f) f.hashes hash
 
@@ -47,8 +47,8 @@ positions_of f hash = positions (num_bits_of f) f.hashes hash
 abbrev pub contains : {S : Type 0} → Filter S → ℕ → Bool
 contains f hash = are_in (num_bits_of f) f.hashes hash (content f.words)
 
--- from old to new the positions of a hash were turned on, and the reply is whether all were on
--- before
+-- an insert took the old filter to the new: the positions of a hash were turned on, and the reply
+-- is whether all were on before
 pub record Inserts {S : Type 0} (old : Filter S) (hash : ℕ) (new : Filter S) (reply : Bool)
     : Type 0 where
   pub answers : reply ≡ contains old hash
@@ -56,24 +56,25 @@ pub record Inserts {S : Type 0} (old : Filter S) (hash : ℕ) (new : Filter S) (
   pub shape : SameShape old new
   pub hasher : new.hasher ≡ old.hasher
 
--- from old to new every position was turned off
+-- a clear took the old filter to the new: every position was turned off
 pub record Clears {S : Type 0} (old new : Filter S) : Type 0 where
   pub bits : (p : ℕ) → content new.words p ≡ false
   pub shape : SameShape old new
   pub hasher : new.hasher ≡ old.hasher
 
--- from old to new the positions of the other were turned on
+-- a union took the old filter to the new: the positions that are on in the other were turned on
 pub record Unites {S : Type 0} (old other new : Filter S) : Type 0 where
   pub bits : (p : ℕ) → content new.words p ≡ (content old.words p || content other.words p)
   pub shape : SameShape old new
   pub hasher : new.hasher ≡ old.hasher
 
--- from old to new the positions that the other lacks were turned off
+-- an intersection took the old filter to the new: the positions that are off in the other were
+-- turned off
 pub record Intersects {S : Type 0} (old other new : Filter S) : Type 0 where
   pub bits : (p : ℕ) → content new.words p ≡ (content old.words p && content other.words p)
   pub shape : SameShape old new
   pub hasher : new.hasher ≡ old.hasher
 
--- whether words and hash counts are equal, which is equality of filters
+-- whether filters are equal: their words are, and their numbers of hashes
 abbrev pub same_filter : {S : Type 0} → Filter S → Filter S → Bool
 same_filter f g = pointwise nat_eq f.words g.words && nat_eq f.hashes g.hashes

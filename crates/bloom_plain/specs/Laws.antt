@@ -11,23 +11,23 @@ use Rattle.bloom_plain.specs.Replies.{CarriesOut, InsertsAll}
 use Rattle.bloom_plain.specs.declared.bloom.command.Command.{Command}
 use Rattle.bloom_plain.specs.declared.bloom.command.Command.TheVariants as command
 
--- an insert answers what a look-up would have, and afterwards the hash is contained
+-- an insert answers what a look-up just before it would have, and afterwards its hash is contained
 abbrev pub InsertLaw : (S : Type 0) → Type 0
 InsertLaw S = (old new : Filter S) (hash : ℕ) (reply : Bool) → Inserts old hash new reply
     → (reply ≡ contains old hash) × (contains new hash ≡ true)
 
--- what is contained stays so under an insert
+-- a hash that is contained stays contained under an insert of any hash
 abbrev pub KeptByInsertLaw : (S : Type 0) → Type 0
 KeptByInsertLaw S = (old new : Filter S) (inserted hash : ℕ) (reply : Bool)
     → Inserts old inserted new reply → contains old hash ≡ true → contains new hash ≡ true
 
--- what is contained stays so under a union
+-- a hash that is contained stays contained under a union
 abbrev pub KeptByUnionLaw : (S : Type 0) → Type 0
 KeptByUnionLaw S = (old other new : Filter S) (hash : ℕ) → Unites old other new
     → contains old hash ≡ true → contains new hash ≡ true
 
--- a command turns off no position of a set: it is no clear, and no intersection with what lacks one
--- of them
+-- a command turns off no position of a set: it is no clear, and no intersection with a set that
+-- lacks one of them
 abbrev pub Spares : (ℕ → Bool) → Operation → Type 0
 Spares A (Insert hash) = ⊤
 Spares A (Contains hash) = ⊤
@@ -35,14 +35,14 @@ Spares A Clear = ⊥
 Spares A (Union other) = ⊤
 Spares A (Intersect other) = IsPart A other
 
--- what is contained stays so under a list of commands that spare its positions
+-- a hash that is contained stays contained under a list of commands that spare its positions
 abbrev pub KeptByListLaw : (S : Type 0) → Type 0
 KeptByListLaw S = (old new : Filter S) (operations : List Operation) (hash : ℕ)
     (replies : List Bool) → CarriesOut old operations new replies
     → All (Spares (positions_of old hash)) operations
     → contains old hash ≡ true → contains new hash ≡ true
 
--- what is contained stays so under a list of inserts, as `insert_all` and `extend` make
+-- a hash that is contained stays contained under a list of inserts
 abbrev pub KeptByInsertsLaw : (S : Type 0) → Type 0
 KeptByInsertsLaw S = (old new : Filter S) (hashes : List ℕ) (hash : ℕ) → InsertsAll old hashes new
     → contains old hash ≡ true → contains new hash ≡ true
@@ -68,30 +68,30 @@ ClearLaw S = (old new : Filter S) (hash : ℕ) → HasShape old → Clears old n
 abbrev pub SameContent : {S : Type 0} → Filter S → Filter S → Type 0
 SameContent f g = (p : ℕ) → content f.words p ≡ content g.words p
 
--- a call that makes one filter of two, as the relation of both to what is made
+-- a way to combine two filters, as a relation of both to the filter that is made
 abbrev pub Combination : Type 0 → Type 1
 Combination S = Filter S → Filter S → Filter S → Type 0
 
--- it makes the same content either way round
+-- a combination makes the same content, whichever of two filters comes first
 abbrev pub IsCommutative : (S : Type 0) → Combination S → Type 0
 IsCommutative S M = (f g fg gf : Filter S) → M f g fg → M g f gf → SameContent fg gf
 
--- of three it makes the same content, whichever two come first
+-- a combination of three filters makes the same content, whichever two are combined first
 abbrev pub IsAssociative : (S : Type 0) → Combination S → Type 0
 IsAssociative S M = (f g h fg fg_h gh f_gh : Filter S)
     → M f g fg → M fg h fg_h → M g h gh → M f gh f_gh → SameContent fg_h f_gh
 
--- of a filter and itself it makes that filter's content
+-- a combination of a filter with itself has that filter's content
 abbrev pub IsIdempotent : (S : Type 0) → Combination S → Type 0
 IsIdempotent S M = (f made : Filter S) → M f f made → SameContent made f
 
--- a filter was made of the words, the number of hashes and the hasher of another
+-- a filter was made of another's words, number of hashes (0 counts as 1) and hasher
 pub record Rebuilds {S : Type 0} (f made : Filter S) : Type 0 where
   pub words : made.words ≡ f.words
   pub hashes : made.hashes ≡ max 1 f.hashes
   pub hasher : made.hasher ≡ f.hasher
 
--- the filter made equals the other, which has at least one hash, and so answers every hash alike
+-- a filter that was made of another's parts equals it, and answers every hash alike
 abbrev pub RebuiltLaw : (S : Type 0) → Type 0
 RebuiltLaw S = (f made : Filter S) → HasShape f → Rebuilds f made
     → (made ≡ f) × ((hash : ℕ) → contains made hash ≡ contains f hash)
@@ -115,7 +115,7 @@ abbrev pub EqualRateStartsLaw : (S : Type 0) → Type 0
 EqualRateStartsLaw S = (a b : RateStart S) → IsTrue (same_rate_start a b)
     ↔ (num_of a.rate * den_of b.rate ≡ num_of b.rate * den_of a.rate)
 
--- what two lists of commands do one after the other, one list of both does
+-- two lists of commands, carried out one after the other, do what one list of both does
 abbrev pub JoinedListsLaw : (S : Type 0) → Type 0
 JoinedListsLaw S = (old mid new : Filter S) (first second : List Operation)
     (replies more : List Bool) → CarriesOut old first mid replies → CarriesOut mid second new more
@@ -133,7 +133,7 @@ abbrev pub FoundAfterInsertsLaw : (S : Type 0) → Type 0
 FoundAfterInsertsLaw S = (old new : Filter S) (earlier later : List ℕ) (hash : ℕ)
     → InsertsAll old (earlier ++ hash ∷ later) new → contains new hash ≡ true
 
--- a hash is found after a list that `replay` was given, where it was inserted and later spared
+-- a hash is found after `replay` of a list of commands that insert it and later spare its positions
 abbrev pub FoundAfterReplayLaw : (S : Type 0) → Type 0
 FoundAfterReplayLaw S = (old new : Filter S) (earlier later : List (Command S))
     (hash : ℕ) (replies : List Bool)
@@ -141,8 +141,8 @@ FoundAfterReplayLaw S = (old new : Filter S) (earlier later : List (Command S))
     → All (λ c. Spares (positions_of old hash) (operation_of c)) later
     → contains new hash ≡ true
 
--- of a filter two were made by inserts of a list each, and united: that is the filter with all
--- hashes of both lists inserted
+-- the union of two filters, each made of one filter by a list of inserts, is what the inserts of
+-- both lists make of that filter
 abbrev pub UnitedInsertsLaw : (S : Type 0) → Type 0
 UnitedInsertsLaw S = (old one other new : Filter S) (hashes others : List ℕ)
     → InsertsAll old hashes one → InsertsAll old others other → Unites one other new

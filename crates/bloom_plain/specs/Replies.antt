@@ -4,7 +4,7 @@ use Rattle.bloom_parts.specs.Content.{content}
 use Rattle.bloom_parts.specs.Operations.{Operation, Insert, state_after, reply}
 use Rattle.bloom_plain.specs.Filter.{Filter, SameShape, num_bits_of}
 
--- the replies to commands that come after earlier ones
+-- the replies to commands that come after these earlier ones
 abbrev pub replies_after : ℕ → ℕ → (ℕ → Bool) → List Operation → List Operation → List Bool
 replies_after n k A earlier [] = []
 replies_after n k A earlier (operation ∷ later) =
@@ -32,8 +32,8 @@ InsertsAll old hashes new = (given : List Bool) × CarriesOut old (map Insert ha
 abbrev pub InsertsItems : {S T : Type 0} → (S → T → ℕ) → Filter S → List T → Filter S → Type 0
 InsertsItems hash_of old items new = InsertsAll old (map (hash_of old.hasher) items) new
 
--- from old to new a hash joined those that wait to be inserted: of all these the first were
--- inserted, and the others wait
+-- a hash joined those that wait to be inserted: from old to new the first of all these were
+-- inserted, and the others still wait
 pub record Queues {S : Type 0} (old : Filter S) (waiting : List ℕ) (hash : ℕ) (new : Filter S)
     (more : List ℕ) : Type 0 where
   pub gone : List ℕ

@@ -1,5 +1,5 @@
--- The hash that stands for an item (fastbloom 0.17.0, lib.rs). What a hasher does, and what builds
--- it, the ghost members of their traits tell. An item writes lists of bytes.
+-- The source hash, which stands for an item (fastbloom 0.17.0, lib.rs). The ghost members of the
+-- traits tell what a hasher does and what its builder builds. An item writes lists of bytes.
 use Rattle.std.specs.Prelude.{◌≡◌, ℕ, List, fold}
 use Rattle.std.specs.Borrow.{Bor}
 use Rattle.std.specs.List.{concat}
@@ -10,16 +10,17 @@ use Rattle.std.specs.declared.hash.Hasher as hasher
 abbrev pub hash_by : {H : Type 0} → hasher.Ghosts H → H → List (List ℕ) → ℕ
 hash_by h fresh writes = h.finish (fold h.write fresh writes)
 
--- the source hash of an item, by what it writes: that of a hasher that is built for it
+-- the source hash of an item: the answer of a hasher that was built for it, after what the item
+-- writes
 abbrev pub source_hash_of : {B H T : Type 0} → builder.Ghosts B H → hasher.Ghosts H
     → (T → List (List ℕ)) → B → T → ℕ
 source_hash_of b h input build item = hash_by h (b.build_hasher build) (input item)
 
--- the same of an item that is lent
+-- the source hash of an item that is lent
 abbrev pub lent_hash_of : {B H T : Type 0} → builder.Ghosts B H → hasher.Ghosts H
     → (T → List (List ℕ)) → B → Bor T → ℕ
 lent_hash_of b h input build item = source_hash_of b h input build item.now
 
--- the answer of a hasher is this function of the bytes written, joined
+-- a hasher answers by this function of the bytes written, joined
 abbrev pub IsFunctionOfBytes : {H : Type 0} → hasher.Ghosts H → H → (List ℕ → ℕ) → Type 0
 IsFunctionOfBytes h fresh f = (writes : List (List ℕ)) → hash_by h fresh writes ≡ f (concat writes)

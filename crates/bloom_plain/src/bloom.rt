@@ -1,4 +1,4 @@
-//! The plain Bloom filter, which its owner changes. Its constructors stand with the builders.
+//! The plain Bloom filter, which its owner changes. Its constructors are in `builder`.
 ghost use Rattle.std.specs.Prelude.{◌≡◌, ◌^◌, ◌<◌, ◌≤◌, ◌∷◌, [], length, max};
 ghost use Rattle.bloom_parts.specs.Operations as operation;
 ghost use Rattle.bloom_parts.specs.Content.{AreWords};
@@ -44,7 +44,7 @@ impl<S> Model for BloomFilter<S> {
 }
 
 impl<S> BloomFilter<S> {
-    // The filter of these parts. No hashes count as one.
+    // The filter of these parts. `num_hashes` 0 counts as 1.
     pub(crate) fn from_parts(bits: BitVec, num_hashes: u32, hasher: S) -> Self
         requires some { 1 ≤ length bits }
         requires few { length bits < 2 ^ 58 }
@@ -59,7 +59,7 @@ impl<S> BloomFilter<S> {
         }
     }
 
-    /// The number of hashes, and so of positions of each hash, which may coincide.
+    /// The number of hashes, which is the number of positions of each hash. Positions may coincide.
     pub fn num_hashes(&self) -> u32
         ensures value { result ≡ self.now.hashes }
         ensures least { 1 ≤ result }
@@ -77,8 +77,8 @@ impl<S> BloomFilter<S> {
         self.bits.num_bits()
     }
 
-    /// What builds the hashers of items. Two filters with the default hasher hash alike where the
-    /// keys of these are equal.
+    /// The builder of the hashers of items. Two filters with the default hasher give each item the
+    /// same hash if the keys of their builders are equal.
     pub fn hasher(&self) -> &S
         ensures value { result.now ≡ self.now.hasher }
     {
@@ -107,7 +107,7 @@ impl<S> BloomFilter<S> {
     #[inline(always)]
     pub fn insert_hash(&mut self, hash: u64) -> bool
         ensures inserts { Inserts self.old hash self.new result }
-        // The same, as a list of this one command.
+        // The insert as a list of this one command.
         ensures same { CarriesOut self.old (operation.Insert hash ∷ []) self.new (result ∷ []) }
     {
         self.bits.insert_positions(self.num_hashes, hash)
@@ -117,7 +117,7 @@ impl<S> BloomFilter<S> {
     #[inline(always)]
     pub fn contains_hash(&self, hash: u64) -> bool
         ensures found { result ≡ contains self.now hash }
-        // The same, as a list of this one command.
+        // The look-up as a list of this one command.
         ensures same { CarriesOut self.now (operation.Contains hash ∷ []) self.now (result ∷ []) }
     {
         self.bits.contains_positions(self.num_hashes, hash)

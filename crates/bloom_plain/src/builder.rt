@@ -1,4 +1,4 @@
-//! Builders of filters, and what those of filters that threads share take of them.
+//! Builders of filters, and the parts that builders of shared filters use too.
 ghost use Rattle.std.specs.Prelude.{◌≡◌, ◌<◌, ◌≤◌, ◌^◌, length, replicate, vec_len, IfOk, max};
 ghost use Rattle.std.specs.Result.{result_err};
 ghost use Rattle.std.specs.Int.{w128, to_be_bytes};
@@ -24,7 +24,7 @@ use std::alloc::Global;
 use std::hash::{BuildHasher, Hash};
 use std::marker::Model;
 
-/// A builder that has the words of the filter. Contracts see the words and the hasher.
+/// A builder that has the words of its filter. Contracts see the words and the hasher.
 #[derive(Debug, Drop)]
 pub struct BuilderWithBits<S = DefaultHasher> {
     bits: BitVec,
@@ -70,7 +70,7 @@ pub fn num_words_for(num_bits: usize) -> Result<usize, FilterError>
     Ok(num_words)
 }
 
-/// The number of hashes that suits this many bits and items, where no items count as one.
+/// The number of hashes that suits this many bits and items, where 0 items count as 1.
 pub fn num_hashes_for(num_bits: usize, expected_items: usize) -> u32
     ensures value { result ≡ hashes_for num_bits (max 1 expected_items) }
     ensures least { 1 ≤ result }
@@ -78,7 +78,7 @@ pub fn num_hashes_for(num_bits: usize, expected_items: usize) -> u32
     optimal_hashes(num_bits, expected_items.max(1))
 }
 
-// Zero words for this many bits, in one allocation.
+// Zero words for this many bits, which one allocation makes.
 fn zero_bits(alloc: Global, num_bits: usize) -> Result<BitVec, FilterError>
     requires { 0 < num_bits }
     ensures words { IfOk result (λ bits. bits ≡ replicate (words_for num_bits) 0) }
@@ -168,7 +168,7 @@ impl<S: Drop> BuilderWithBits<S> {
 }
 
 impl<S> BuilderWithBits<S> {
-    /// The filter with this many hashes, where 0 counts as 1. Its words are those of the builder.
+    /// The filter with this many hashes, where 0 counts as 1, and with the words of the builder.
     pub fn hashes(self, num_hashes: u32) -> BloomFilter<S>
         ensures words { result.words ≡ self.words }
         ensures hashes { result.hashes ≡ max 1 num_hashes }

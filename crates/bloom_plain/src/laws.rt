@@ -13,12 +13,12 @@ use bloom_parts::hasher::{DefaultHasher, RandomDefaultHasher};
 use bloom_parts::laws::{content_of_words, hash_of_pieces};
 use std::hash::{BuildHasher, Hash, Hasher};
 
-/// An insert answers what a look-up would have, and afterwards the hash is contained.
+/// An insert answers what a look-up would have, and afterwards its hash is contained.
 pub fn insert_answers_contains<S>()
     ensures { InsertLaw S }
 {}
 
-/// What is contained stays so under inserts, unions, and lists that spare it.
+/// A contained hash stays contained under inserts, unions, and lists that spare its positions.
 pub fn contained_stays<S>()
     ensures insert { KeptByInsertLaw S }
     ensures union { KeptByUnionLaw S }
@@ -26,24 +26,24 @@ pub fn contained_stays<S>()
     ensures inserts { KeptByInsertsLaw S }
 {}
 
-/// After an intersection exactly those hashes are contained that both filters contained.
+/// After an intersection exactly the hashes are contained that both filters contained.
 pub fn intersection_contains<S>()
     ensures { IntersectionLaw S }
 {}
 
-/// After a union every hash is contained that either filter contained. Others may be too.
+/// After a union every hash is contained that either filter contained. Other hashes may be too.
 pub fn union_contains<S>()
     ensures { UnionLaw S }
 {}
 
-/// Unions of contents commute, associate, and change nothing where both are the same.
+/// Unions commute and associate, and a union of a filter with itself changes nothing.
 pub fn union_of_contents<S>()
     ensures commutative { IsCommutative S Unites }
     ensures associative { IsAssociative S Unites }
     ensures idempotent { IsIdempotent S Unites }
 {}
 
-/// Intersections of contents commute, associate, and change nothing where both are the same.
+/// Intersections commute and associate, and one of a filter with itself changes nothing.
 pub fn intersection_of_contents<S>()
     ensures commutative { IsCommutative S Intersects }
     ensures associative { IsAssociative S Intersects }
@@ -75,7 +75,7 @@ pub fn equality_of_builders<S>()
     ensures rates { EqualRateStartsLaw S }
 {}
 
-/// Calls one after the other do what one list of them does, since each is a list of one command.
+/// Calls one after the other do what one list of them does. Each is a list of one command.
 pub fn lists_join<S>()
     ensures { JoinedListsLaw S }
 {}
@@ -108,8 +108,8 @@ pub fn source_hash_by_default<T: Hash>()
     hash_of_pieces();
 }
 
-/// What is made of a filter's data has its words, number of hashes and key, and answers every hash
-/// and every item alike.
+/// A filter that is made of another's data has its words, number of hashes and key, and answers
+/// every hash and every item alike.
 pub fn data_answer_alike<T: Hash>()
     ensures filters { DataLaw }
     // The left and right sides are what `source_hash` answers.

@@ -4,7 +4,7 @@ use Rattle.bloom_parts.specs.Content.{content}
 use Rattle.bloom_parts.specs.Places.{place, are_in}
 use Rattle.bloom_parts.proofs.PublishedLemmas.{are_in-off, content-past}
 
--- of no words no test of a hash holds, whatever the number of bits
+-- where there are no words no hash is contained, whatever the number of hashes
 pub are_in-no_words : (words : List ℕ) (k hash : ℕ) → length words ≡ 0
     → are_in (64 * length words) (max 1 k) hash (content words) ≡ false
 are_in-no_words words k hash none =

@@ -10,7 +10,7 @@ use bloom_parts::slices::{
 
 /// Turns on all positions of a hash, and answers whether all were on just before.
 ///
-/// No hashes count as one.
+/// `num_hashes` 0 counts as 1.
 #[inline(always)]
 #[unsafe(no_mangle)]
 pub extern "C" fn fastbloom_insert_hash(words: &mut [u64], num_hashes: u32, hash: u64) -> bool
@@ -29,7 +29,7 @@ pub extern "C" fn fastbloom_insert_hash(words: &mut [u64], num_hashes: u32, hash
 
 /// Whether all positions of a hash are on.
 ///
-/// No hashes count as one.
+/// `num_hashes` 0 counts as 1.
 #[inline(always)]
 #[unsafe(no_mangle)]
 pub extern "C" fn fastbloom_contains_hash(words: &[u64], num_hashes: u32, hash: u64) -> bool
@@ -44,8 +44,8 @@ pub extern "C" fn fastbloom_contains_hash(words: &[u64], num_hashes: u32, hash: 
     }
 }
 
-// Whether all positions of all of these hashes are on. It branches on no word, so that the memory
-// brings the words side by side.
+// Whether all positions of all of these hashes are on. The look-ups branch on no word, so that the
+// memory brings the words side by side.
 fn all_are_on(words: &[u64], num_hashes: u32, hashes: &[u64]) -> bool
     requires { 1 ≤ length words.now }
     ensures { result ≡ list_all (λ hash. are_in (64 * length words.now) num_hashes hash
@@ -70,8 +70,9 @@ fn insert_each(words: &mut [u64], num_hashes: u32, hashes: &[u64])
     }
 }
 
-// The same. All are looked up first, and where all are on nothing is written.
-fn insert_few(words: &mut [u64], num_hashes: u32, hashes: &[u64])
+// Turns on all positions of each of these hashes, unless all of them are on: then nothing is
+// written.
+fn insert_unless_present(words: &mut [u64], num_hashes: u32, hashes: &[u64])
     requires { 1 ≤ length words.old }
     ensures content { (p : ℕ) → content words.new p ≡ (content words.old p
         || list_any (λ hash. positions (64 * length words.old) num_hashes hash p) hashes.now) }
@@ -82,7 +83,7 @@ fn insert_few(words: &mut [u64], num_hashes: u32, hashes: &[u64])
     }
 }
 
-// The same, sixteen hashes at a time.
+// Turns on all positions of each of these hashes, sixteen hashes at a time.
 fn insert_together(words: &mut [u64], num_hashes: u32, hashes: &[u64])
     requires { 1 ≤ length words.old }
     ensures content { (p : ℕ) → content words.new p ≡ (content words.old p
@@ -92,15 +93,15 @@ fn insert_together(words: &mut [u64], num_hashes: u32, hashes: &[u64])
     let turns = hashes.len() / GROUP;
     'turns: for turn in 0..turns {
         let at = GROUP * turn;
-        insert_few(words, num_hashes, &hashes[at..at + GROUP]);
+        insert_unless_present(words, num_hashes, &hashes[at..at + GROUP]);
     }
-    insert_few(words, num_hashes, &hashes[GROUP * turns..]);
+    insert_unless_present(words, num_hashes, &hashes[GROUP * turns..]);
 }
 
 /// Turns on all positions of each of these hashes, and answers whether there are words.
 ///
-/// No hashes of a filter count as one. Where the words are larger than a cache, sixteen hashes are
-/// looked up before they are inserted.
+/// `num_hashes` 0 counts as 1. Where the words are larger than a cache, sixteen hashes are looked
+/// up before they are inserted.
 #[unsafe(no_mangle)]
 pub extern "C" fn fastbloom_insert_hashes(
     words: &mut [u64],

@@ -1,4 +1,4 @@
-//! How large a filter is to be.
+//! The size that a filter is to have.
 ghost use Rattle.std.specs.Prelude.{◌≡◌, ℕ, ◌*◌, ◌^◌, ◌<◌, ◌≤◌, max, IfOk};
 ghost use Rattle.std.specs.Result.{result_err};
 ghost use Rattle.bloom_parts.specs.Sizing.{IsSizeFor, hashes_for};
@@ -27,8 +27,8 @@ fn numbers(num: u64, den: u64, items: usize) -> Result<(usize, u32), FilterError
 /// The numbers of words and of hashes of a filter for these items, where 0 counts as 1, at the rate
 /// `num / den` of false positives.
 ///
-/// It answers 0, or the number of a refusal, and then changes neither: 4 for a zero part of the
-/// rate, 5 for 2^64 bits or more, 3 for more than 2^58 - 1 words.
+/// It answers 0, or the number of a refusal: 4 for a zero part of the rate, 5 for 2^64 bits or
+/// more, 3 for more than 2^58 - 1 words. A refusal changes neither number.
 #[unsafe(no_mangle)]
 pub extern "C" fn fastbloom_plan(
     num: u64,
@@ -41,9 +41,9 @@ pub extern "C" fn fastbloom_plan(
         × (num_words.new ≡ words_for bits) }
     ensures hashes { result ≡ 0
         → num_hashes.new ≡ hashes_for (64 * num_words.new) (max 1 items) }
-    // One number of bits alone is the size, so the answer is decided.
+    // Only one number of bits is the size, so the answer is decided.
     ensures code { IsCodeFor num den items result }
-    // A refusal changes neither.
+    // A refusal changes neither number.
     ensures words_stay { 0 < result → num_words.new ≡ num_words.old }
     ensures hashes_stay { 0 < result → num_hashes.new ≡ num_hashes.old }
 {
@@ -57,7 +57,7 @@ pub extern "C" fn fastbloom_plan(
     }
 }
 
-/// The number of bits of so many words, or 0 where they are more than 2^58 - 1.
+/// The number of bits of this many words, or 0 for more than 2^58 - 1 words.
 #[unsafe(no_mangle)]
 pub extern "C" fn fastbloom_num_bits(num_words: usize) -> usize
     ensures value { num_words < 2 ^ 58 → result ≡ 64 * num_words }

@@ -10,7 +10,7 @@ use bloom_parts::hasher::RandomDefaultHasher;
 use std::hash::Hasher;
 
 /// The hash of bytes: SipHash-1-3 of just these bytes under the key, with no length before them
-/// and no end after them, as the item `Text` has it.
+/// and no end after them. The item `Text` has the same hash.
 #[unsafe(no_mangle)]
 pub extern "C" fn fastbloom_hash(key: &[u8; 16], bytes: &[u8]) -> u64
     ensures { result ≡ sip (key_low key.now) (key_high key.now) bytes.now }
@@ -20,7 +20,7 @@ pub extern "C" fn fastbloom_hash(key: &[u8; 16], bytes: &[u8]) -> u64
     hasher.finish()
 }
 
-/// Inserts the hash of bytes.
+/// Inserts the hash of bytes, and answers whether it was contained just before.
 #[unsafe(no_mangle)]
 pub extern "C" fn fastbloom_insert(
     words: &mut [u64],

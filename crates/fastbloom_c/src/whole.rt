@@ -15,9 +15,9 @@ pub extern "C" fn fastbloom_clear(words: &mut [u64]) -> bool
     !words.is_empty()
 }
 
-/// Turns on what is on in the other filter, and answers whether it did.
+/// Turns on every position that is on in the other filter, and answers whether it did.
 ///
-/// No words, or other than as many, answer false, and nothing changes.
+/// It answers false, and changes nothing, where there are no words or the numbers of words differ.
 #[unsafe(no_mangle)]
 pub extern "C" fn fastbloom_union(words: &mut [u64], other: &[u64]) -> bool
     ensures done { IsTrue result
@@ -34,9 +34,9 @@ pub extern "C" fn fastbloom_union(words: &mut [u64], other: &[u64]) -> bool
     true
 }
 
-/// Turns off what is off in the other filter, and answers whether it did.
+/// Turns off every position that is off in the other filter, and answers whether it did.
 ///
-/// No words, or other than as many, answer false, and nothing changes.
+/// It answers false, and changes nothing, where there are no words or the numbers of words differ.
 #[unsafe(no_mangle)]
 pub extern "C" fn fastbloom_intersect(words: &mut [u64], other: &[u64]) -> bool
     ensures done { IsTrue result
@@ -53,7 +53,7 @@ pub extern "C" fn fastbloom_intersect(words: &mut [u64], other: &[u64]) -> bool
     true
 }
 
-/// Whether the words of two filters are equal. No words answer false.
+/// Whether the words of two filters are equal. It answers false where there are no words.
 #[unsafe(no_mangle)]
 pub extern "C" fn fastbloom_equal(words: &[u64], other: &[u64]) -> bool
     ensures { IsTrue result ↔ ((1 ≤ length words.now) × (words.now ≡ other.now)) }

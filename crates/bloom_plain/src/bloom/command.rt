@@ -22,7 +22,7 @@ pub enum Command<'a, S> {
     Intersect(&'a BloomFilter<S>),
 }
 
-// Adds the reply of a command, if it has one, for which there is room.
+// Adds the reply of a command, if it has one. There is room for it.
 fn add_reply(replies: &mut Vec<bool>, reply: Option<bool>)
     requires { vec_len replies.old < vec_capacity replies.old }
     ensures reply { replies.new.items ≡ replies.old.items ++ option_to_list reply }
@@ -36,7 +36,7 @@ fn add_reply(replies: &mut Vec<bool>, reply: Option<bool>)
 }
 
 impl<S> BloomFilter<S> {
-    // Carries out one command, and gives its reply if it has one.
+    // Carries out one command, and returns its reply if it has one.
     fn carry_out(&mut self, command: &Command<'_, S>) -> Option<bool>
         requires { Fits self.old command.now }
         ensures { CarriesOut self.old (operation_of command.now ∷ []) self.new
@@ -60,10 +60,10 @@ impl<S> BloomFilter<S> {
         }
     }
 
-    /// Carries out commands in order, and answers one reply for each `Insert` and `Contains`.
+    /// Carries out commands in order, and returns one reply for each `Insert` and `Contains`.
     ///
     /// # Errors
-    /// `Memory` where there is no room for the replies, which is made before anything else.
+    /// `Memory` where there is no room for the replies. It is made before the first command.
     pub fn replay(
         &mut self,
         alloc: Global,

@@ -26,7 +26,7 @@ pub struct FilterData {
     pub num_hashes_minus_one: u32,
     /// The first little-endian word of the key.
     pub k0: u64,
-    /// The second.
+    /// The second little-endian word of the key.
     pub k1: u64,
 }
 
@@ -62,7 +62,7 @@ impl BloomFilter {
     /// `Memory` where there is no room for the words.
     pub fn to_data(&self, alloc: Global) -> Result<FilterData, FilterError>
         ensures form { IfOk result (λ form. IsDataOf form self.now) }
-        // The data are never refused.
+        // `from_data` never refuses these data.
         ensures good { IfOk result (λ form. data_refusal form ≡ None) }
         ensures refused { IsOkUnless result FilterError.Memory }
     {

@@ -1,4 +1,4 @@
-//! The calls that take items: those of their source hashes.
+//! The calls that take items. Each is the call of the item's source hash.
 ghost use Rattle.std.specs.Prelude.{◌≡◌, ℕ, List, [], ◌∷◌, IsTrue};
 ghost use Rattle.std.specs.Iterator.{IsFiniteIterable};
 ghost use Rattle.std.specs.Iterator.Runs.{WholeRun};
@@ -17,11 +17,11 @@ impl<S: BuildHasher> BloomFilter<S> {
     pub fn source_hash<T: Hash>(&self, val: &T) -> u64
         ensures hash { result
             ≡ source_hash_of S.BuildHasher S.Hasher.Hasher T.hash_input self.now.hasher val.now }
-        // Where the hasher answers by a function of the bytes written, it is that of the item's.
+        // A hasher that answers by a function of the bytes gives that function of the item's bytes.
         ensures bytes { (f : List ℕ → ℕ)
             → IsFunctionOfBytes S.Hasher.Hasher (S.build_hasher self.now.hasher) f
             → result ≡ f (concat (T.hash_input val.now)) }
-        // An equal item has the same.
+        // An equal item has the same source hash.
         ensures alike { (other : T) → IsTrue (T.eq val.now other) → result
             ≡ source_hash_of S.BuildHasher S.Hasher.Hasher T.hash_input self.now.hasher other }
     {
@@ -35,7 +35,7 @@ impl<S: BuildHasher> BloomFilter<S> {
     pub fn insert<T: Hash>(&mut self, val: &T) -> bool
         ensures inserts { let hash = source_hash_of S.BuildHasher S.Hasher.Hasher T.hash_input in
             Inserts self.old (hash self.old.hasher val.now) self.new result }
-        // The same, as a list of this one command.
+        // The insert as a list of this one command.
         ensures same { let hash = source_hash_of S.BuildHasher S.Hasher.Hasher T.hash_input in
             CarriesOut self.old (operation.Insert (hash self.old.hasher val.now) ∷ [])
             self.new (result ∷ []) }
@@ -53,7 +53,7 @@ impl<S: BuildHasher> BloomFilter<S> {
     pub fn contains<T: Hash>(&self, val: &T) -> bool
         ensures found { let hash = source_hash_of S.BuildHasher S.Hasher.Hasher T.hash_input in
             result ≡ contains self.now (hash self.now.hasher val.now) }
-        // The same, as a list of this one command.
+        // The look-up as a list of this one command.
         ensures same { let hash = source_hash_of S.BuildHasher S.Hasher.Hasher T.hash_input in
             CarriesOut self.now (operation.Contains (hash self.now.hasher val.now) ∷ [])
             self.now (result ∷ []) }

@@ -6,7 +6,7 @@ ghost use Rattle.bloom_parts.specs.Brackets.{low_of, high_of, width_of, HoldsRat
 use super::BloomFilter;
 use bloom_parts::math::{Bracket, expected_density, expected_false_pos};
 
-/// The rate of false positives to expect of a filter of this many hashes and bits, once so many
+/// The rate of false positives to expect of a filter of this many hashes and bits, once this many
 /// items are in it.
 pub fn expected_rate(num_hashes: u32, num_bits: usize, num_items: usize) -> Bracket
     requires { 0 < num_bits }
@@ -24,7 +24,7 @@ impl<S> BloomFilter<S> {
     pub fn expected_false_pos(&self, num_items: usize) -> Bracket
         ensures holds { let k = self.now.hashes in
             HoldsRate result (num_bits_of self.now) (k * num_items) k }
-        // The ends are exact.
+        // The ends are exactly these.
         ensures low { let k = self.now.hashes in
             low_of result ≡ rate_low (num_bits_of self.now) (k * num_items) k }
         ensures high { let k = self.now.hashes in

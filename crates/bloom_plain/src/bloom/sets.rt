@@ -16,20 +16,20 @@ impl<S> BloomFilter<S> {
     /// Turns every position off.
     pub fn clear(&mut self)
         ensures clears { Clears self.old self.new }
-        // The same, as a list of this one command.
+        // The clear as a list of this one command.
         ensures same { CarriesOut self.old (operation.Clear ∷ []) self.new [] }
     {
         self.bits.clear();
     }
 
-    /// Whether numbers of words and of hashes are equal. The hashers aren't looked at.
+    /// Whether two filters have as many words and as many hashes. The hashers aren't looked at.
     pub fn same_shape(&self, other: &Self) -> bool
         ensures { IsTrue result ↔ SameShape self.now other.now }
     {
         self.bits.len() == other.bits.len() && self.num_hashes == other.num_hashes
     }
 
-    /// Turns on what is on in the other. The hashers aren't looked at.
+    /// Turns on every position that is on in the other. The hashers aren't looked at.
     ///
     /// ```
     /// bloom.insert_hash(1);
@@ -40,14 +40,14 @@ impl<S> BloomFilter<S> {
     pub fn union(&mut self, other: &Self)
         requires { SameShape self.old other.now }
         ensures unites { Unites self.old other.now self.new }
-        // The same, as a list of this one command.
+        // The union as a list of this one command.
         ensures same { CarriesOut self.old
             (operation.Union (content other.now.words) ∷ []) self.new [] }
     {
         self.bits.union(&other.bits);
     }
 
-    /// Turns off what is off in the other. The hashers aren't looked at.
+    /// Turns off every position that is off in the other. The hashers aren't looked at.
     ///
     /// ```
     /// bloom.insert_hash(1);
@@ -59,7 +59,7 @@ impl<S> BloomFilter<S> {
     pub fn intersect(&mut self, other: &Self)
         requires { SameShape self.old other.now }
         ensures intersects { Intersects self.old other.now self.new }
-        // The same, as a list of this one command.
+        // The intersection as a list of this one command.
         ensures same { CarriesOut self.old
             (operation.Intersect (content other.now.words) ∷ []) self.new [] }
     {
@@ -76,7 +76,7 @@ impl<S: Clone> BloomFilter<S> {
         ensures words { IfOk result (λ copy. copy.words ≡ self.now.words) }
         ensures hashes { IfOk result (λ copy. copy.hashes ≡ self.now.hashes) }
         ensures hasher { IfOk result (λ copy. S.is_clone self.now.hasher copy.hasher) }
-        // Where clones of hashers equal them, as the default hasher's do, it is the same filter.
+        // The copy is the same filter where clones equal their hashers, as the default hasher's do.
         ensures same { ((h clone : S) → S.is_clone h clone → clone ≡ h)
             → IfOk result (λ copy. copy ≡ self.now) }
         ensures refused { IsOkUnless result FilterError.Memory }

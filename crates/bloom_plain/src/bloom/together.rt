@@ -1,5 +1,5 @@
 //! Many inserts into a filter that is larger than a cache. The words of sixteen hashes are read
-//! first, so that the memory brings them side by side and not one after the other.
+//! before any is written, so that the memory brings them side by side.
 ghost use Rattle.std.specs.Prelude.{◌≡◌, ◌<◌};
 ghost use Rattle.arrayvec.specs.ArrayVec.{array_vec_len};
 ghost use Rattle.std.specs.List.{list_all};
@@ -20,31 +20,30 @@ impl<S> BloomFilter<S> {
         self.bits.len() >= MANY_WORDS
     }
 
-    // Whether all positions of a hash are on. It branches on no word.
+    // Whether a hash is contained. The look-up branches on no word.
     #[inline(always)]
-    fn counts_hash(&self, hash: u64) -> bool
+    fn contains_branchless(&self, hash: u64) -> bool
         ensures { result ≡ contains self.now hash }
     {
         self.bits.contains_by_count(self.num_hashes, hash)
     }
 
-    // Whether all of these hashes are contained. It branches on no word.
-    fn counts_hashes(&self, hashes: &[u64]) -> bool
+    // Whether all of these hashes are contained. The look-ups branch on no word.
+    fn contains_branchless_all(&self, hashes: &[u64]) -> bool
         ensures { result ≡ list_all (contains self.now) hashes.now }
     {
         let mut found: usize = 0;
         'looks: for hash in hashes {
-            found += usize::from(self.counts_hash(*hash));
+            found += usize::from(self.contains_branchless(*hash));
         }
         found == hashes.len()
     }
 
-    // Inserts hashes, in order. All are looked up first, and where all are contained nothing is
-    // written.
-    fn insert_few(&mut self, hashes: &[u64])
+    // Inserts hashes, in order, unless all of them are contained: then nothing is written.
+    fn insert_unless_present(&mut self, hashes: &[u64])
         ensures { InsertsAll self.old hashes.now self.new }
     {
-        if self.counts_hashes(hashes) {
+        if self.contains_branchless_all(hashes) {
             return;
         }
         'inserts: for hash in hashes {
@@ -52,7 +51,7 @@ impl<S> BloomFilter<S> {
         }
     }
 
-    // Lets a hash wait, and inserts all that wait where they are sixteen.
+    // Lets a hash wait, and inserts all that wait once they are sixteen.
     #[inline(always)]
     fn insert_later(&mut self, waiting: &mut ArrayVec<u64, GROUP>, hash: u64)
         requires { array_vec_len waiting.old < 16 }
@@ -61,7 +60,7 @@ impl<S> BloomFilter<S> {
     {
         waiting.push(hash);
         if waiting.is_full() {
-            self.insert_few(waiting);
+            self.insert_unless_present(waiting);
             waiting.clear();
         }
     }
@@ -85,7 +84,7 @@ impl<S: BuildHasher> BloomFilter<S> {
             let hash = self.source_hash(&item);
             self.insert_later(&mut waiting, hash);
         }
-        self.insert_few(&waiting);
+        self.insert_unless_present(&waiting);
     }
 }
 
@@ -97,7 +96,7 @@ fn insert_hashes_together<S>(filter: &mut BloomFilter<S>, hashes: &[u64])
     'hashes: for hash in hashes {
         filter.insert_later(&mut waiting, *hash);
     }
-    filter.insert_few(&waiting);
+    filter.insert_unless_present(&waiting);
 }
 
 /// Inserts hashes, in order.

@@ -21,7 +21,7 @@ use std::alloc::Global;
 use std::hash::{BuildHasher, Hash};
 use std::marker::Model;
 
-/// A builder that has the rate of the filter. Contracts see the rate and the hasher.
+/// A builder that has the rate of its filter. Contracts see the rate and the hasher.
 #[derive(Debug, Drop)]
 pub struct BuilderWithFalsePositiveRate<S = DefaultHasher> {
     rate: Rate,
@@ -91,7 +91,7 @@ impl<S: Drop> BuilderWithFalsePositiveRate<S> {
         expected_items: usize,
     ) -> Result<BloomFilter<S>, FilterError>
         ensures made { IfOk result (IsMadeFor self expected_items) }
-        // One number of bits alone is the size, as a law of `bloom_parts` says.
+        // Only one number of bits is the size, as a law of `bloom_parts` says.
         ensures refused { (bits : ℕ) × IsSizeOf self expected_items bits
             × RefusesAs (size_refusal bits) (result_err result) }
     {

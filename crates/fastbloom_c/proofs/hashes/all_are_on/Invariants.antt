@@ -4,7 +4,7 @@ use Rattle.bloom_parts.specs.Content.{content}
 use Rattle.bloom_parts.specs.Places.{are_in}
 use Rattle.fastbloom_c.proofs.hashes.all_are_on.Given as goal
 
--- as many are on as were looked up, exactly if these all are
+-- as many hashes were found as looked up exactly if all these are contained
 abbrev pub invariant-looks : goal.invariant-looks
 invariant-looks l = record {
   most : l.found ≤ l.hash-index;

@@ -16,4 +16,4 @@ returns g c =
     inserts_items-whole (source_hash_of g.S.BuildHasher g.S.Hasher.Hasher g.T.Hash.hash_input) _
     _ g.I.IntoIter.Iterator.next_gives _ _ _ c.given.yielded _
     c.into_iter-item-iterator.ensures.into_iter_gives c.given.yielded_by c.in-None.ensures.steps
-    (queued-all c.given.invariant c.deref.ensures.0 c.insert_few.ensures)
+    (queued-all c.given.invariant c.deref.ensures.0 c.insert_unless_present.ensures)

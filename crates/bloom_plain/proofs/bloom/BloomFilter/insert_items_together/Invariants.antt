@@ -3,7 +3,7 @@ use Rattle.bloom_plain.specs.SourceHash.{source_hash_of}
 use Rattle.bloom_plain.proofs.TogetherLemmas.{AreQueued}
 use Rattle.bloom_plain.proofs.bloom.BloomFilter.insert_items_together.Given as goal
 
--- the hashes of the items so far were inserted, but for those that wait, fewer than sixteen
+-- the hashes of the items so far were inserted, but for fewer than sixteen that wait
 abbrev pub invariant-given : goal.invariant-given
 invariant-given g l =
     let hash = source_hash_of g.S.BuildHasher g.S.Hasher.Hasher g.T.Hash.hash_input

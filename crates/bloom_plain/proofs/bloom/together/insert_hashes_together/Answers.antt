@@ -16,5 +16,5 @@ pub returns : goal.returns
 returns g c =
     let all = take_all c.hashes.hash-index c.args.hashes.now
     (omega (arith, c.hashes-test.false, c.hashes.auto.hash-index-end)) in
-    subst (λ l. InsertsAll c.args.filter.now l c.insert_few.new.self) all
-    (queued-all c.hashes.invariant c.deref.ensures.0 c.insert_few.ensures)
+    subst (λ l. InsertsAll c.args.filter.now l c.insert_unless_present.new.self) all
+    (queued-all c.hashes.invariant c.deref.ensures.0 c.insert_unless_present.ensures)

@@ -1,11 +1,12 @@
 use Rattle.std.proofs.Common.{sym, ◌∙◌}
 use Rattle.std.proofs.lemmas.List.{take_more}
 use Rattle.bloom_plain.proofs.TogetherLemmas.{inserts_all-contained, inserts_all-next}
-use Rattle.bloom_plain.proofs.bloom.BloomFilter.insert_few.Goals as goal
+use Rattle.bloom_plain.proofs.bloom.BloomFilter.insert_unless_present.Goals as goal
 
-pub returns-then-counts_hashes : goal.returns-then-counts_hashes
-returns-then-counts_hashes g c =
-    inserts_all-contained _ _ (sym c.counts_hashes.ensures ∙ c.if-counts_hashes.true)
+pub returns-then-contains_branchless_all : goal.returns-then-contains_branchless_all
+returns-then-contains_branchless_all g c =
+    inserts_all-contained _ _
+    (sym c.contains_branchless_all.ensures ∙ c.if-contains_branchless_all.true)
 
 pub inserts-preserved : goal.inserts-preserved
 inserts-preserved g c =

@@ -1,6 +1,6 @@
 use Rattle.std.proofs.Common.{take}
 use Rattle.bloom_plain.specs.Replies.{InsertsAll}
-use Rattle.bloom_plain.proofs.bloom.BloomFilter.insert_few.Given as goal
+use Rattle.bloom_plain.proofs.bloom.BloomFilter.insert_unless_present.Given as goal
 
 -- the hashes so far were inserted
 abbrev pub invariant-inserts : goal.invariant-inserts

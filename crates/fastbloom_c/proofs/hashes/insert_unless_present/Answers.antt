@@ -1,7 +1,7 @@
 use Rattle.std.proofs.Common.{◌*◌, length, sym, ◌∙◌}
 use Rattle.bloom_parts.specs.Content.{content}
 use Rattle.fastbloom_c.proofs.ManyLemmas.{many-contained}
-use Rattle.fastbloom_c.proofs.hashes.insert_few.Goals as goal
+use Rattle.fastbloom_c.proofs.hashes.insert_unless_present.Goals as goal
 
 pub returns-else-not-all_are_on-clause-content : goal.returns-else-not-all_are_on-clause-content
 returns-else-not-all_are_on-clause-content c = λ p.

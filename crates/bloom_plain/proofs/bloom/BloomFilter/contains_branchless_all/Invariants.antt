@@ -1,9 +1,9 @@
 use Rattle.std.proofs.Common.{◌≡◌, ◌≤◌, ◌==◌, take}
 use Rattle.std.specs.List.{list_all}
 use Rattle.bloom_plain.specs.Filter.{contains}
-use Rattle.bloom_plain.proofs.bloom.BloomFilter.counts_hashes.Given as goal
+use Rattle.bloom_plain.proofs.bloom.BloomFilter.contains_branchless_all.Given as goal
 
--- as many are contained as were looked up, exactly if these all are
+-- as many hashes were found as looked up exactly if all these are contained
 abbrev pub invariant-looks : goal.invariant-looks
 invariant-looks g l = record {
   most : l.found ≤ l.hash-index;
