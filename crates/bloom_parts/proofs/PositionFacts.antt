@@ -130,6 +130,16 @@ from_equality : EqualWordsLaw → (a b : ℕ) → AreWords (a ∷ []) → AreWor
     → ((p : ℕ) → content (a ∷ []) p ≡ content (b ∷ []) p) → a ∷ [] ≡ b ∷ []
 from_equality law a b a_is b_is same = (law (a ∷ []) (b ∷ []) a_is b_is refl).1 same
 
+-- words of two are equal too where their contents are
+from_equality-two : EqualWordsLaw → (a b c d : ℕ) → AreWords (a ∷ b ∷ []) → AreWords (c ∷ d ∷ [])
+    → ((p : ℕ) → content (a ∷ b ∷ []) p ≡ content (c ∷ d ∷ []) p) → a ∷ b ∷ [] ≡ c ∷ d ∷ []
+from_equality-two law a b c d first second same =
+    (law (a ∷ b ∷ []) (c ∷ d ∷ []) first second refl).1 same
+
+-- no position of one word is 64 or more
+from_bound-one : BoundLaw → (word p : ℕ) → content (word ∷ []) p ≡ true → p < 64
+from_bound-one law word p on = law (word ∷ []) p on
+
 from_bound : BoundLaw → (words : List ℕ) → content words 0 ≡ true → words ≡ [] → ⊥
 from_bound law words on none = omega (arith, law words 0 on, ap length none)
 
@@ -140,9 +150,27 @@ to_share : ShareLaw → IsOnly (positions 1 1 0xffff_ffff_ffff_ffff) 0
     → 0xffff_ffff_ffff_ffff < share_start 1 1
 to_share law only = ((law 1 0 0xffff_ffff_ffff_ffff (lit< tt) (lit< tt)).0 only).1
 
+-- a hash before the start of a share, and one at the start of the next, have other positions
+to_share-before : ShareLaw → IsOnly (positions 3 1 6148914691236517205) 1 → ⊥
+to_share-before law only =
+    omega (arith, ((law 3 1 6148914691236517205 (lit< tt) (lit< tt)).0 only).0)
+
+to_share-after : ShareLaw → IsOnly (positions 3 1 12297829382473034411) 1 → ⊥
+to_share-after law only =
+    omega (arith, ((law 3 1 12297829382473034411 (lit< tt) (lit< tt)).0 only).1)
+
+-- a single position has a share
+from_reached-one : ReachedLaw → (i : ℕ) → share_start 1 i < share_start 1 (i + 1)
+from_reached-one law i = law 1 i (lit< tt) (lit≤ tt)
+
 from_reached : ReachedLaw → (i : ℕ) → share_start (2 ^ 64) i < share_start (2 ^ 64) (i + 1)
 from_reached law i = law (2 ^ 64) i (lit< tt) (lit≤ tt)
 
 from_even : EvenLaw → (i j : ℕ) → share_start 1 (i + 1) - share_start 1 i
     ≤ share_start 1 (j + 1) - share_start 1 j + 1
 from_even law i j = law 1 i j (lit< tt)
+
+-- the shares of three positions are even too
+from_even-three : EvenLaw → (i j : ℕ) → share_start 3 (i + 1) - share_start 3 i
+    ≤ share_start 3 (j + 1) - share_start 3 j + 1
+from_even-three law i j = law 3 i j (lit< tt)

@@ -18,6 +18,9 @@ rate_refusal-num = refl
 rate_refusal-den : rate_refusal 1 0 ≡ Some ZeroRate
 rate_refusal-den = refl
 
+rate_refusal-both : rate_refusal 0 0 ≡ Some ZeroRate
+rate_refusal-both = refl
+
 rate_refusal-none : rate_refusal 1 1 ≡ None
 rate_refusal-none = refl
 

@@ -29,6 +29,11 @@ last-word : (name found : ℕ) → FoundByLoad (two name) 1 found
     → ReadsNext (at name 1) (Some found) (at name 2)
 last-word name found made = (refl, (made, omega arith, refl))
 
+-- a word that came was found by a load
+found-there : (name found : ℕ) → ReadsNext (at name 0) (Some found) (at name 1)
+    → FoundByLoad (two name) 0 found
+found-there name found reads = reads.1.0
+
 -- after the last word none comes
 no-more : (name : ℕ) → ReadsNext (at name 2) None (at name 2)
 no-more name = (refl, (omega arith, refl))

@@ -67,7 +67,7 @@ size-none : (k : ℕ) → size_for 0 k ≡ 64
 size-none k = omega arith
 
 -- the last size below 2^64, and the first that isn't
-pub size-last : IsSizeFor 12786308645202655226 1 2 18446744073709551608
+size-last : IsSizeFor 12786308645202655226 1 2 18446744073709551608
 size-last = (64, halvings-half, refl)
 
 pub size-first_too_large : IsSizeFor 12786308645202655227 1 2 18446744073709551616
