@@ -145,6 +145,12 @@ has_key-counting = hashed-counting
 has_key-swapped : HasKey builder 0x0f0e_0d0c_0b0a_0908 0x0706_0504_0302_0100 → ⊥
 has_key-swapped is = omega (arith, is.low)
 
+has_key-low : HasKey builder 0x0706_0504_0302_0101 0x0f0e_0d0c_0b0a_0908 → ⊥
+has_key-low is = omega (arith, is.low)
+
+has_key-high : HasKey builder 0x0706_0504_0302_0100 0x0f0e_0d0c_0b0a_0909 → ⊥
+has_key-high is = omega (arith, is.high)
+
 has_key-later : HasKey (record { hasher = after_one }) 0 0 → ⊥
 has_key-later is = omega (arith, is.count)
 

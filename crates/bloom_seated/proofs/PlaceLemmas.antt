@@ -1,11 +1,10 @@
 -- The places of a hash, one after the other.
-use Rattle.std.proofs.Common.{◌≡◌, ℕ, suc, ◌+◌, ◌*◌, ◌/◌, ◌<◌, Bool, true, false, ◌||◌, ◌&&◌, eqb, inl, inr, refl, sym, ap, ◌∙◌, subst, arith, le_refl}
-use Rattle.std.proofs.lemmas.Bool.{both_ways, cases_lt}
+use Rattle.std.proofs.Common.{◌≡◌, ℕ, suc, ◌+◌, ◌*◌, ◌/◌, Bool, true, false, ◌||◌, ◌&&◌, eqb, inl, inr, refl, sym, ap, ◌∙◌, subst, arith}
 use Rattle.bloom_parts.specs.Chain.{chain}
 use Rattle.bloom_parts.specs.Content.{index_of}
 use Rattle.bloom_parts.specs.Places.{place, positions}
 use Rattle.bloom_seated.specs.Loads.{LooksAt}
-use Rattle.bloom_seated.specs.Passes.{Sight, known_of, sure_of, Inserts, Looks, GrowsBeside, Finds}
+use Rattle.bloom_seated.specs.Passes.{Sight, Inserts, Looks, GrowsBeside}
 use Rattle.bloom_seated.proofs.PassLemmas.Inserting.{inserts-none, inserts-then, inserts-as}
 
 -- where the next hash of the chain lies among these bits is the next place

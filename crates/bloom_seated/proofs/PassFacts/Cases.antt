@@ -6,7 +6,7 @@ use Rattle.atomic_table.specs.Seated.{TableId}
 use Rattle.bloom_parts.specs.Content.{bit_is_on, content}
 use Rattle.bloom_parts.proofs.PublishedLemmas.{bit_is_on-mask, content-past}
 use Rattle.bloom_seated.specs.Sets.{set_of}
-use Rattle.bloom_seated.specs.Passes.{Sight, IsSamePass}
+use Rattle.bloom_seated.specs.Passes.{SeatedFilter, Sight, IsSamePass}
 use Rattle.bloom_seated.proofs.WordLemmas.{content-word}
 
 -- a table of so many words, told from others by its name
@@ -59,3 +59,7 @@ single-from q p small on = elim (cases_lt (p / 64) 1) [
 -- below one there is nothing but zero
 pub only-first : (i : ℕ) → i < 1 → i ≡ 0
 only-first i below = omega arith
+
+-- a filter of one word and two hashes
+abbrev pub filter : SeatedFilter
+filter = record { table = table 1 7; hashes = 2; passes = 2 }

@@ -1,6 +1,6 @@
 -- What contracts say of inserts, at a case that holds and at cases as near as can be that don't.
 -- Hash 1 has the positions 0 and 20 among 64 bits.
-use Rattle.std.proofs.Common.{◌≡◌, Bool, true, false, ◌||◌, eqb, [], ◌∷◌, inl, inr, refl, sym, ap, ◌∙◌, arith}
+use Rattle.std.proofs.Common.{◌≡◌, Bool, true, false, ◌||◌, eqb, [], ◌∷◌, slice_index, inl, inr, refl, sym, ap, ◌∙◌, arith}
 use Rattle.std.proofs.Math.Bool.{or-false}
 use Rattle.std.proofs.lemmas.Bool.{both_ways}
 use Rattle.atomic_table.specs.Seated.{TableId}
@@ -68,7 +68,16 @@ inserts-begun did = elim (did.gained 0 refl) [
   | inr fresh ↦ both_ways (sure_of (pass 1 [] []) 0) fresh.1 refl
 ]
 
--- nor what another hash turns on
+-- it can't gain what the pass knew
+inserts-known : Inserts (positions 64 1 1) (pass 0 (0 ∷ []) []) (pass 0 (0 ∷ []) (0 ∷ [])) false
+    → ⊥
+unfolding set_of positions chain content
+inserts-known did = elim (did.gained 0 refl) [
+  | inl was ↦ nothing 0 was
+  | inr fresh ↦ both_ways (sure_of (pass 0 (0 ∷ []) []) 0) fresh.1 refl
+]
+
+-- it can't gain what another hash turns on
 inserts-other : Inserts (positions 64 1 1) (pass 0 (5 ∷ []) []) (pass 0 (0 ∷ 5 ∷ []) (5 ∷ [])) false
     → ⊥
 unfolding set_of positions chain content
@@ -88,3 +97,7 @@ inserts-moved : (other : Sight) → other.filter ≡ table 1 8
 inserts-moved other is did =
     let names : 8 ≡ 7 = ap (λ (t : TableId). t.views_name) (sym is ∙ did.same.filter) in
     omega (arith, names)
+
+-- the words that its filter began with stay
+inserts-restarted : Inserts (positions 64 1 1) (pass 0 [] []) (pass 1 (0 ∷ []) (0 ∷ [])) false → ⊥
+inserts-restarted did = omega (arith, ap (λ words. slice_index words 0) did.same.start)

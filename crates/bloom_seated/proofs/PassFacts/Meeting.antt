@@ -1,6 +1,6 @@
 -- What contracts say of passes that meet, and of words in the end, at a case that holds and at
 -- cases as near as can be that don't.
-use Rattle.std.proofs.Common.{◌≡◌, ℕ, true, ◌||◌, List, [], ◌∷◌, inl, inr, refl, ap, lit<}
+use Rattle.std.proofs.Common.{◌≡◌, ℕ, true, ◌||◌, List, [], ◌∷◌, slice_index, inl, inr, refl, ap, arith, lit<}
 use Rattle.std.proofs.lemmas.Bool.{both_ways, or_cases}
 use Rattle.bloom_parts.specs.Content.{content}
 use Rattle.bloom_seated.specs.Sets.{set_of}
@@ -48,10 +48,37 @@ meets-blind : Meets (pass 1 [] []) (pass 1 [] []) (pass 1 [] []) (pass 1 (0 ∷ 
 unfolding content
 meets-blind met = nothing 0 (met.start_a 0 refl)
 
+meets-other_blind : Meets (pass 1 [] []) (pass 1 [] []) (pass 1 (0 ∷ []) []) (pass 1 [] []) → ⊥
+unfolding content
+meets-other_blind met = nothing 0 (met.start_b 0 refl)
+
+-- one that forgot what it knew
+meets-forgetting : Meets (pass 0 (5 ∷ []) []) (pass 0 [] []) (pass 0 [] []) (pass 0 (5 ∷ []) [])
+    → ⊥
+unfolding set_of
+meets-forgetting met = nothing 5 (met.known_a 5 refl)
+
+meets-other_forgetting : Meets (pass 0 [] []) (pass 0 (5 ∷ []) []) (pass 0 (5 ∷ []) [])
+    (pass 0 [] []) → ⊥
+unfolding set_of
+meets-other_forgetting met = nothing 5 (met.known_b 5 refl)
+
 -- one that took what the other gained
 meets-taking : Meets (pass 0 (5 ∷ []) []) (pass 0 (5 ∷ []) (5 ∷ [])) (pass 0 (5 ∷ []) (5 ∷ []))
     (pass 0 (5 ∷ []) (5 ∷ [])) → ⊥
 meets-taking met = let wrong : ◌≡◌ {A = List ℕ} (5 ∷ []) [] = met.gained_a in cc
+
+-- one that gave up what it gained
+meets-losing : Meets (pass 0 (5 ∷ []) []) (pass 0 (5 ∷ []) (5 ∷ [])) (pass 0 (5 ∷ []) [])
+    (pass 0 (5 ∷ []) []) → ⊥
+meets-losing met = let wrong : ◌≡◌ {A = List ℕ} [] (5 ∷ []) = met.gained_b in cc
+
+-- one of a filter that began with other words
+meets-elsewhere : Meets (pass 0 [] []) (pass 0 [] []) (pass 2 [] []) (pass 0 [] []) → ⊥
+meets-elsewhere met = omega (arith, ap (λ words. slice_index words 0) met.same_a.start)
+
+meets-other_elsewhere : Meets (pass 0 [] []) (pass 0 [] []) (pass 0 [] []) (pass 2 [] []) → ⊥
+meets-other_elsewhere met = omega (arith, ap (λ words. slice_index words 0) met.same_b.start)
 
 -- the words 1048577 have the bits 0, of the start, and 20, which was gained
 closes-both : Closes (pass 1 (20 ∷ []) (20 ∷ [])) (1048577 ∷ [])

@@ -6,7 +6,7 @@ use Rattle.bloom_parts.specs.Content.{bit_is_on, content}
 use Rattle.bloom_seated.specs.Sets.{set_of, on_in}
 use Rattle.bloom_seated.specs.Plays.{FilterSeat, sure_in, Shows, after_load}
 use Rattle.bloom_seated.specs.Loads.{LooksAt, Views}
-use Rattle.bloom_seated.specs.Passes.{Sight, sight_of}
+use Rattle.bloom_seated.specs.Passes.{sight_of}
 use Rattle.bloom_seated.specs.declared.rule.Sets.{Sets}
 use Rattle.bloom_seated.proofs.SetLemmas.{in-left, in-right, in-either, on-from, on-to}
 use Rattle.bloom_seated.proofs.PassLemmas.Positions.{seen, mask_of, tested}
