@@ -39,7 +39,7 @@ density_high-third : density_high 3 1 ≡ 3074457345618258603
 unfolding rounded_power
 density_high-third = refl
 
--- after none
+-- 64 bits after none: no share is on
 density_low-none : density_low 64 0 ≡ 0
 unfolding rounded_power
 density_low-none = refl
@@ -48,7 +48,7 @@ density_high-none : density_high 64 0 ≡ 0
 unfolding rounded_power
 density_high-none = refl
 
--- one bit after one
+-- one bit after one: all is on
 density_low-whole : density_low 1 1 ≡ 9223372036854775808
 unfolding rounded_power
 density_low-whole = refl

@@ -36,7 +36,7 @@ half-size items size (parts, is, same) =
     let whole : parts ≡ 64 = omega (arith, most, least) in
     same ∙ ap (size_for items) whole
 
--- a size beside the one that it is
+-- a size beside the right one isn't it
 size-byte_less : IsSizeFor 1000 1 2 1440 → ⊥
 size-byte_less is = omega (arith, half-size 1000 1440 is)
 
@@ -61,20 +61,21 @@ half_up-below = refl
 half_up-third : half_up 4 3 ≡ 1
 half_up-third = refl
 
--- the laws
+-- the law of rounding half up, at quotients by one
 from_half_up : HalfUpLaw → (x q : ℕ) → q ≤ half_up x 1 → 2 * q * 1 ≤ 2 * x + 1
 from_half_up law x q below = (law x 1 q (lit< tt)).0 below
 
 to_half_up : HalfUpLaw → (x q : ℕ) → 2 * q * 1 ≤ 2 * x + 1 → q ≤ half_up x 1
 to_half_up law x q below = (law x 1 q (lit< tt)).1 below
 
--- a law of quotients by three
+-- the law of rounding half up, at quotients by three
 from_half_up-third : HalfUpLaw → (x q : ℕ) → q ≤ half_up x 3 → 2 * q * 3 ≤ 2 * x + 3
 from_half_up-third law x q below = (law x 3 q (lit< tt)).0 below
 
 to_half_up-third : HalfUpLaw → (x q : ℕ) → 2 * q * 3 ≤ 2 * x + 3 → q ≤ half_up x 3
 to_half_up-third law x q below = (law x 3 q (lit< tt)).1 below
 
+-- the halvings of a half cover it
 from_cover : CoverLaw → 2 ^ 64 ≤ 2 ^ 64 * 1 ^ 64
 from_cover law = law 1 2 64 halvings-half
 
@@ -82,14 +83,18 @@ from_cover law = law 1 2 64 halvings-half
 from_cover-two_thirds : CoverLaw → (k : ℕ) → IsHalvings 2 3 k → 3 ^ 64 ≤ 2 ^ k * 2 ^ 64
 from_cover-two_thirds law k is = law 2 3 k is
 
+-- a rate above one has no halvings
 from_none-above : NoneLaw → (k : ℕ) → IsHalvings 3 2 k → k ≡ 0
 from_none-above law k is = law 3 2 k (lit≤ tt) is
 
+-- a rate of one has no halvings
 from_none : NoneLaw → (k : ℕ) → IsHalvings 3 3 k → k ≡ 0
 from_none law k is = law 3 3 k (lit≤ tt) is
 
+-- the least rate has at most 64 halvings
 from_most : MostLaw → (k : ℕ) → IsHalvings 1 (2 ^ 64 - 1) k → k ≤ 4096
 from_most law k is = law 1 (2 ^ 64 - 1) k (lit< tt) (lit< tt) is
 
+-- the size for a thousand items at the rate of a half is no other than 1448
 from_one_size : OneSizeLaw → (size : ℕ) → IsSizeFor 1000 1 2 size → size ≡ 1448
 from_one_size law size is = law 1000 1 2 size 1448 is size-half

@@ -13,7 +13,7 @@ use Rattle.bloom_parts.proofs.HashedLemmas.{takes, answers}
 abbrev pub fresh : SipState
 fresh = record { low = 0; high = 0; words = start 0 0; held = []; count = 0 }
 
--- the same after the byte 7
+-- the hasher of the key of zeros after the byte 7
 abbrev pub after_one : SipState
 after_one = record fresh { held = 7 ∷ []; count = 1 }
 
@@ -42,7 +42,7 @@ hashed-low is = omega (arith, is.low)
 hashed-high : Hashed fresh 0 1 [] → ⊥
 hashed-high is = omega (arith, is.high)
 
--- nor may the state, the bytes held or their number
+-- neither the state, the bytes held nor their number may be another
 hashed-words : Hashed (record fresh { words = start 0 1 }) 0 0 [] → ⊥
 unfolding start whole_words
 hashed-words is = omega (arith, ap (λ s. s.v1) is.words)
@@ -76,7 +76,7 @@ takes-one = takes fresh after_one (7 ∷ []) refl
 takes-two : Takes fresh after_one (7 ∷ 7 ∷ []) → ⊥
 takes-two taken = omega (arith, (taken 0 0 [] hashed-fresh).count)
 
--- nor another one
+-- the byte taken in is 7, and not 8
 takes-other : Takes fresh after_one (8 ∷ []) → ⊥
 unfolding rest
 takes-other taken = omega (arith, ap (λ held. first held) (taken 0 0 [] hashed-fresh).held)

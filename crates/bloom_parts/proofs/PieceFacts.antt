@@ -11,7 +11,7 @@ use Rattle.bloom_parts.proofs.HasherFacts.{fresh, after_one, hashed-fresh, takes
 abbrev after_two : SipState
 after_two = record fresh { held = 7 ∷ 8 ∷ []; count = 2 }
 
--- it was given two pieces, and not one
+-- the hasher after 7 and 8 was given two pieces, and not one
 takes_each-two : TakesEach fresh after_two ((7 ∷ []) ∷ (8 ∷ []) ∷ [])
 unfolding write whole_words rest
 takes_each-two = (after_one, takes-one, (after_two, takes after_one after_two (8 ∷ []) refl, refl))

@@ -12,15 +12,15 @@ two name = record { name = name; count = 2 }
 on-last : (name : ℕ) → IsOnWord (two name) 1 0xffff_ffff_ffff_ffff
 on-last name = (omega arith, lit< tt)
 
--- no word is past it
+-- no word is past the last
 on-past : (name : ℕ) → IsOnWord (two name) 2 0 → ⊥
 on-past name on = omega (arith, on.0)
 
--- and a word has 64 bits
+-- a word has 64 bits
 on-wide : (name : ℕ) → IsOnWord (two name) 1 (2 ^ 64) → ⊥
 on-wide name on = omega (arith, on.1)
 
--- a reading of it that comes to this word next
+-- a reading of the vector of two words that comes to this word next
 abbrev at : ℕ → ℕ → Reading
 at name i = record { vector = two name; next = i }
 
@@ -54,7 +54,7 @@ none-too-many name found reads = omega (arith, reads.1.1)
 none-skipped : (name found : ℕ) → ReadsNext (at name 0) (Some found) (at name 2) → ⊥
 none-skipped name found reads = omega (arith, reads.1.2)
 
--- and a reading stays with its vector
+-- a reading stays with its vector
 same-vector : (name other found : ℕ) → ReadsNext (at name 0) (Some found) (at other 1)
     → other ≡ name
 same-vector name other found reads = ap (λ (v : SharedWords). v.name) reads.0

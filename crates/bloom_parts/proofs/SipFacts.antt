@@ -4,7 +4,7 @@
 use Rattle.std.proofs.Common.{◌≡◌, ◌∷◌, [], refl}
 use Rattle.bloom_parts.specs.declared.hasher.sip.state.State.{State}
 use Rattle.bloom_parts.specs.Sip.{Words, sip, start, round, absorb, answer, whole_words, rest, last_word}
-use Rattle.bloom_parts.specs.States.{words_of, of_words}
+use Rattle.bloom_parts.specs.States.{state_words, of_words}
 
 -- no bytes, under the key bytes 0 to 15
 counting_key-0 : sip 0x0706_0504_0302_0100 0x0f0e_0d0c_0b0a_0908
@@ -108,8 +108,8 @@ state = record { v0 = 1; v1 = 2; v2 = 3; v3 = 4 }
 abbrev words : Words
 words = record { v0 = 1; v1 = 2; v2 = 3; v3 = 4 }
 
-words_of-state : words_of state ≡ words
-words_of-state = refl
+state_words-state : state_words state ≡ words
+state_words-state = refl
 
 of_words-words : of_words words ≡ state
 of_words-words = refl

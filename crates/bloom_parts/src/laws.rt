@@ -21,7 +21,8 @@ pub fn test_of_hash()
     ensures { SubsetLaw }
 {}
 
-/// As many words are equal exactly if their contents are, and no position lies past the bits.
+/// Two lists of words of equal length are equal exactly if their contents are, and no position lies
+/// past the bits.
 pub fn content_of_words()
     ensures equality { EqualWordsLaw }
     ensures range { BoundLaw }
