@@ -7,10 +7,10 @@ use Rattle.bloom_parts.specs.Deciders.{state}
 use Rattle.bloom_parts.specs.Places.{are_in}
 use Rattle.bloom_parts.proofs.PublishedLemmas.{part-from}
 use Rattle.bloom_seated.specs.Sets.{set_of}
-use Rattle.bloom_seated.specs.Passes.{Sight, known_of, sure_of, positions_of, Knows, IsSure, Inserts, Finds, Meets}
+use Rattle.bloom_seated.specs.Passes.{Sight, known_of, sure_of, seated_positions, Knows, IsSure, InsertsAs, Finds, Meets}
 use Rattle.bloom_seated.specs.Plays.{with_bits}
 use Rattle.bloom_seated.specs.Rule.{IsSeated}
-use Rattle.bloom_seated.specs.SeatedLaws.{FoundLaw, InsertedLaw, KnownLaw, StaysLaw, MetLaw, FewLaw, OrLaw, is_pass, or_decides}
+use Rattle.bloom_seated.specs.SeatedLaws.{SureFoundLaw, InsertedLaw, KnownLaw, StaysLaw, MetLaw, FewLaw, OrLaw, is_pass, or_decides}
 use Rattle.bloom_seated.specs.declared.rule.Role.TheVariants.{First, Pass, Note, Spent}
 use Rattle.bloom_seated.proofs.PassFacts.Cases.{filter, pass}
 use Rattle.bloom_seated.proofs.RuleFacts.Keeping.{view, at, alone}
@@ -59,23 +59,23 @@ abbrev unaware : Sight
 unaware = pass 0 [] []
 
 -- what a pass can be sure of is found
-from_found : FoundLaw → (new : Sight) (answer : Bool) → Finds 64 2 1 sure new answer
+from_found : SureFoundLaw → (new : Sight) (answer : Bool) → Finds 64 2 1 sure new answer
     → answer ≡ true
 from_found law new answer did = law filter sure new 1 answer is_sure did
 
 -- an insert of it answers true
 from_inserted : InsertedLaw → (new : Sight) (answer : Bool)
-    → Inserts (positions_of filter 1) sure new answer → answer ≡ true
+    → InsertsAs (seated_positions filter 1) sure new answer → answer ≡ true
 from_inserted law new answer did = law filter sure new 1 answer is_sure did
 
 -- what was inserted is known
 from_known : KnownLaw → (new : Sight) (answer : Bool)
-    → Inserts (positions_of filter 1) unaware new answer → Knows filter new 1
+    → InsertsAs (seated_positions filter 1) unaware new answer → Knows filter new 1
 from_known law new answer did = law filter unaware new 1 answer did
 
 -- what is known stays known after an insert of any positions
 from_stays-insert : StaysLaw → (P : ℕ → Bool) (new : Sight) (answer : Bool)
-    → Inserts P knowing new answer → Knows filter new 1
+    → InsertsAs P knowing new answer → Knows filter new 1
 from_stays-insert law P new answer did = law.insert filter P knowing new 1 answer is_known did
 
 -- what is known stays known after a look at any hash
@@ -104,7 +104,7 @@ from_met-found law a_new b_new later answer met did =
 
 -- what one pass knows, an insert by a pass that met it finds on
 from_met-inserted : MetLaw → (a_new b_new later : Sight) (answer : Bool)
-    → Meets knowing unaware a_new b_new → Inserts (positions_of filter 1) b_new later answer
+    → Meets knowing unaware a_new b_new → InsertsAs (seated_positions filter 1) b_new later answer
     → answer ≡ true
 from_met-inserted law a_new b_new later answer met did =
     law.inserted filter knowing unaware a_new b_new later 1 answer is_known met did

@@ -1,9 +1,9 @@
--- What sets of positions are, and how filters and passes stand to a table, each at a case that holds
--- and at cases as near as can be that don't.
+-- What sets of positions are, and how filters and passes stand to a table, each at a case that
+-- holds and at cases as near as can be that don't.
 use Rattle.std.proofs.Common.{◌≡◌, ℕ, ◌+◌, ◌^◌, true, false, [], ◌∷◌, length, refl, ap, ◌∙◌, sym, arith, lit<, lit≤}
 use Rattle.atomic_table.specs.Seated.{TableId}
 use Rattle.bloom_seated.specs.Sets.{set_of, picked, on_in, fresh_in}
-use Rattle.bloom_seated.specs.Passes.{sight_of, num_bits_of}
+use Rattle.bloom_seated.specs.Passes.{sight_of, seated_num_bits}
 use Rattle.bloom_seated.specs.Plays.{FilterSeat}
 use Rattle.bloom_seated.specs.Standing.{IsStanding, IsPassSeat}
 use Rattle.bloom_seated.specs.declared.rule.Size.{Size}
@@ -34,7 +34,7 @@ unfolding picked
 fresh_in-one = refl
 
 -- a filter of one word has 64 bits
-num_bits-one : num_bits_of filter ≡ 64
+num_bits-one : seated_num_bits filter ≡ 64
 num_bits-one = refl
 
 -- a seat is seen as the pass of its table, with what it carries, knows and gained

@@ -9,7 +9,7 @@ use Rattle.bloom_seated.specs.Sets.{set_of}
 use Rattle.bloom_seated.specs.Passes.{SeatedFilter, Sight, IsSamePass}
 use Rattle.bloom_seated.proofs.WordLemmas.{content-word}
 
--- a table of so many words, told from others by its name
+-- a table of this many words, told from others by its name
 abbrev pub table : ℕ → ℕ → TableId
 table words name = record {
   words = words;
@@ -30,11 +30,11 @@ pass start known gained = record {
   gained = gained;
 }
 
--- the same pass
+-- two passes of the table with the same start are the same pass
 pub same-pass : (start : ℕ) (a b c d : List ℕ) → IsSamePass (pass start a b) (pass start c d)
 same-pass start a b c d = record { filter = refl; start = refl }
 
--- nothing is in the set of no list
+-- nothing is in the set of the empty list
 pub nothing : (p : ℕ) → set_of [] p ≡ true → ⊥
 unfolding set_of
 nothing p is = both_ways false refl is

@@ -34,7 +34,7 @@ finds-first = record {
   );
 }
 
--- it can't be true of a position that isn't known then
+-- the answer can't be true of a position that isn't known then
 finds-unknown : Finds 64 2 1 (pass 0 [] []) (pass 0 (0 ∷ []) []) true → ⊥
 unfolding set_of chain
 finds-unknown did =
@@ -42,21 +42,21 @@ finds-unknown did =
     both_ways (known_of (pass 0 (0 ∷ []) []) (place 64 1 1)) refl
     (did.looks.found 1 (omega (arith, all)))
 
--- nor false where the pass can be sure of all
+-- the answer can't be false where the pass knows all
 finds-known : Finds 64 1 1 (pass 0 [] []) (pass 0 (0 ∷ []) []) false → ⊥
 unfolding set_of chain content
 finds-known did = let last = did.off refl in
     both_ways (sure_of (pass 0 (0 ∷ []) []) (place 64 1 did.on)) last.1
     (ap (λ j. sure_of (pass 0 (0 ∷ []) []) (place 64 1 j)) (only-first did.on last.0))
 
--- nor where the filter began with them
+-- the answer can't be false where the filter began with all
 finds-begun : Finds 64 1 1 (pass 1 [] []) (pass 1 [] []) false → ⊥
 unfolding set_of chain content
 finds-begun did = let last = did.off refl in
     both_ways (sure_of (pass 1 [] []) (place 64 1 did.on)) last.1
     (ap (λ j. sure_of (pass 1 [] []) (place 64 1 j)) (only-first did.on last.0))
 
--- it comes to know nothing of a word that it didn't load
+-- a look-up comes to know nothing of a word that it didn't load
 finds-elsewhere : Finds 128 1 1 (pass 0 [] []) (pass 0 (0 ∷ 64 ∷ []) []) true → ⊥
 unfolding set_of chain
 finds-elsewhere did = elim ((did.all refl).1 64 refl) [
@@ -67,7 +67,7 @@ finds-elsewhere did = elim ((did.all refl).1 64 refl) [
       omega (arith, wrong)
 ]
 
--- it gains nothing, and forgets nothing
+-- a look-up gains nothing, and forgets nothing
 finds-gains : Finds 64 1 1 (pass 0 [] []) (pass 0 (0 ∷ []) (0 ∷ [])) true → ⊥
 finds-gains did = let wrong : ◌≡◌ {A = List ℕ} (0 ∷ []) [] = did.looks.gained in cc
 
@@ -76,7 +76,7 @@ unfolding set_of
 finds-forgets did =
     both_ways (set_of (0 ∷ []) 5) refl (did.looks.kept 5 refl)
 
--- it stays of its filter
+-- a pass that looks up stays of its filter
 finds-moved : (other : Sight) → other.filter ≡ table 1 8
     → Finds 64 1 1 (pass 0 [] []) other true → ⊥
 finds-moved other is did =

@@ -10,7 +10,7 @@ use Rattle.bloom_seated.specs.Sets.{set_of}
 use Rattle.bloom_seated.specs.Passes.{sure_of, Knows, IsSure, gained_of, contains_known, IsSamePass, IsNewPass, HasGained}
 use Rattle.bloom_seated.proofs.PassFacts.Cases.{table, pass, nothing, filter}
 
--- a new pass, one of another filter, and one that knows something
+-- a new pass is of its filter, and knows nothing
 new_pass-fresh : IsNewPass (table 1 7) (5 ∷ []) (pass 5 [] [])
 new_pass-fresh = record { filter_is = refl; start_is = refl; known = refl; gained = refl }
 
@@ -21,7 +21,7 @@ new_pass-other new =
 new_pass-knowing : IsNewPass (table 1 7) (5 ∷ []) (pass 5 (0 ∷ []) []) → ⊥
 new_pass-knowing new = let wrong : ◌≡◌ {A = List ℕ} (0 ∷ []) [] = new.known in cc
 
--- a new pass of a filter that began with other words, and one that gained something
+-- a new pass is of a filter that began with its words, and gained nothing
 new_pass-other_start : IsNewPass (table 1 7) (4 ∷ []) (pass 5 [] []) → ⊥
 new_pass-other_start new = omega (arith, ap (λ words. slice_index words 0) new.start_is)
 
@@ -45,7 +45,7 @@ has_gained-before is =
 has_gained-lost : HasGained (pass 0 (5 ∷ []) (5 ∷ [])) (pass 0 (5 ∷ []) []) → ⊥
 has_gained-lost is = nothing is.position is.gained
 
--- what is known of hash 1, and what can be sure, at both positions and at one
+-- hash 1 is known, or sure, where both its positions are, and not where one is
 known-both : contains_known filter (pass 0 (20 ∷ 0 ∷ []) []) 1 ≡ true
 unfolding are_in set_of chain
 known-both = refl

@@ -53,18 +53,18 @@ unfolding set_of
 seated-note rule =
     let wrong : Note ≡ Pass = rule.gained_by 0 (view Note (20 ∷ [])) refl 20 refl in cc
 
--- there is no pass more than was asked for, and no word less
+-- the seats stand for no pass more than was asked for, and there is no word less
 seated-many : IsSeated 1 1 (at 1048577 (view Pass (20 ∷ []) ∷ view Pass [] ∷ [])) → ⊥
 seated-many rule = let wrong : 2 ≡ 1 = rule.few in omega (arith, wrong)
 
 seated-short : IsSeated 2 1 alone → ⊥
 seated-short rule = let wrong : 1 ≡ 2 = rule.count in omega (arith, wrong)
 
--- there is no pass fewer than the seats stand for
+-- the seats stand for no pass fewer than was asked for
 seated-few : IsSeated 1 2 alone → ⊥
 seated-few rule = let wrong : 1 ≡ 2 = rule.few in omega (arith, wrong)
 
--- what a seat knows and gained, where it carries these words and stands for so many passes
+-- what a seat knows and gained, where it carries these words and stands for this many passes
 abbrev seat_view : Role → List ℕ → List ℕ → List ℕ → ℕ → Sets
 seat_view role start known gained passes = record {
   role = role;

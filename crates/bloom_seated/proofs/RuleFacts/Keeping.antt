@@ -15,7 +15,7 @@ use Rattle.bloom_seated.proofs.PassFacts.Cases.{one-from, single-from}
 use Rattle.bloom_seated.proofs.RuleLemmas.Seats.{only-view}
 use Rattle.bloom_seated.proofs.WordLemmas.{content-with_bits}
 
--- what a seat knows that gained what it knows
+-- the view of a seat that gained all that it knows
 abbrev pub view : Role → List ℕ → Sets
 view role known = record {
   role = role;
@@ -25,7 +25,7 @@ view role known = record {
   passes = 1;
 }
 
--- a table of one word, and what each of its seats knows
+-- a table of one word, with the views of its seats
 abbrev pub at : ℕ → List Sets → Standing
 at word views = record { words = word ∷ []; homes = []; views = views }
 
@@ -33,7 +33,7 @@ at word views = record { words = word ∷ []; homes = []; views = views }
 abbrev pub alone : Standing
 alone = at 1048577 (view Pass (20 ∷ []) ∷ [])
 
--- what the seats of a table with one know
+-- what holds of the only seat's view holds of the view of every seat
 by-one : (w : Sets) (P : Sets → Type 0) → P w → (word seat : ℕ) (v : Sets)
     → Has (at word (w ∷ [])) seat v → P v
 by-one w P is word seat v there = subst P (only-view w v seat there) is
