@@ -131,7 +131,7 @@ impl BitVec {
         self.words[word] & mask > 0
     }
 
-    /// Turns a position on, and answers whether it was.
+    /// Turns a position on, and answers whether it was on before.
     pub fn set(&mut self, position: usize) -> bool
         requires { position < 64 * length self.old }
         ensures reply { result ≡ content self.old position }

@@ -76,12 +76,14 @@ module _ (f g : SeatedFilter) (a b new : Sight) (hash : ℕ) (answer : Bool) (sa
       → answer ≡ true
   find-true did sure =
       finds-sure (seated_num_bits g) g.hashes hash b new answer
-      (subst (λ (z : SeatedFilter × Sight). Finds (seated_num_bits z.0) z.0.hashes hash z.1 new answer)
+      (subst (λ (z : SeatedFilter × Sight).
+      Finds (seated_num_bits z.0) z.0.hashes hash z.1 new answer)
       (λ i. (same_filter i, same_pass i)) did) sure
 
   pub find-known : Finds (seated_num_bits f) f.hashes hash a new answer
       → answer ≡ contains_known g new hash
   find-known did =
       finds-known (seated_num_bits g) g.hashes hash b new answer
-      (subst (λ (z : SeatedFilter × Sight). Finds (seated_num_bits z.0) z.0.hashes hash z.1 new answer)
+      (subst (λ (z : SeatedFilter × Sight).
+      Finds (seated_num_bits z.0) z.0.hashes hash z.1 new answer)
       (λ i. (same_filter i, same_pass i)) did)

@@ -1,10 +1,10 @@
 -- What a pass knows of many hashes, at a case that holds and at cases as near as can be that don't:
 -- among 64 bits, with one hash, the hash 1 has the position 0 and the hash 2^63 has 32.
-use Rattle.std.proofs.Common.{◌≡◌, ℕ, ◌*◌, ◌^◌, ◌<◌, true, List, [], ◌∷◌, length, Contains, refl, sym, ap, ◌∙◌, arith, lit<}
+use Rattle.std.proofs.Common.{◌≡◌, ℕ, ◌*◌, ◌^◌, true, [], ◌∷◌, refl, sym, ap, ◌∙◌, arith, lit<}
 use Rattle.std.proofs.lemmas.Bool.{both_ways}
 use Rattle.bloom_parts.specs.Chain.{chain}
 use Rattle.bloom_parts.specs.Places.{positions}
-use Rattle.fastbloom.specs.Passes.{SeatedFilter, Sight, Knows}
+use Rattle.fastbloom.specs.Passes.{SeatedFilter, Sight}
 use Rattle.fastbloom.specs.Sets.{set_of}
 use Rattle.seated_scenarios.specs.Known.{KnowsAll}
 
