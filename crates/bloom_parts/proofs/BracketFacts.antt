@@ -3,7 +3,7 @@ use Rattle.std.proofs.Common.{◌≡◌, ◌^◌, refl}
 use Rattle.bloom_parts.specs.Powers.{rounded_power, lower_power_of, upper_power_of}
 use Rattle.bloom_parts.specs.Brackets.{density_low, density_high, rate_low, rate_high}
 
--- 64 bits after one: 1 / 64, exactly
+-- the density of 64 bits after one was turned on is exactly 1 / 64
 density_low-one : density_low 64 1 ≡ 144115188075855872
 unfolding rounded_power
 density_low-one = refl
@@ -21,7 +21,7 @@ upper_power-square : upper_power_of 144115188075855872 2 ≡ 2251799813685248
 unfolding rounded_power
 upper_power-square = refl
 
--- 64 bits after two
+-- the density of 64 bits after two were turned on
 density_low-two : density_low 64 2 ≡ 285978576338026496
 unfolding rounded_power
 density_low-two = refl
@@ -30,7 +30,7 @@ density_high-two : density_high 64 2 ≡ 285978576338026496
 unfolding rounded_power
 density_high-two = refl
 
--- three bits after one: a third lies between two units
+-- the density of three bits after one was turned on is a third, which lies between two units
 density_low-third : density_low 3 1 ≡ 3074457345618258602
 unfolding rounded_power
 density_low-third = refl
@@ -39,7 +39,7 @@ density_high-third : density_high 3 1 ≡ 3074457345618258603
 unfolding rounded_power
 density_high-third = refl
 
--- 64 bits after none: no share is on
+-- the density of 64 bits after none was turned on is 0
 density_low-none : density_low 64 0 ≡ 0
 unfolding rounded_power
 density_low-none = refl
@@ -48,7 +48,7 @@ density_high-none : density_high 64 0 ≡ 0
 unfolding rounded_power
 density_high-none = refl
 
--- one bit after one: all is on
+-- the density of a single bit after it was turned on is one whole
 density_low-whole : density_low 1 1 ≡ 9223372036854775808
 unfolding rounded_power
 density_low-whole = refl
@@ -57,7 +57,7 @@ density_high-whole : density_high 1 1 ≡ 9223372036854775808
 unfolding rounded_power
 density_high-whole = refl
 
--- the greatest number of bits after one: below one unit
+-- the density of the greatest number of bits after one was turned on is below one unit
 density_low-wide : density_low 18446744073709551615 1 ≡ 0
 unfolding rounded_power
 density_low-wide = refl
@@ -66,7 +66,7 @@ density_high-wide : density_high 18446744073709551615 1 ≡ 1
 unfolding rounded_power
 density_high-wide = refl
 
--- the power to no hashes is one whole
+-- the power to 0 is one whole
 lower_power-none : lower_power_of 0 0 ≡ 9223372036854775808
 unfolding rounded_power
 lower_power-none = refl
@@ -84,7 +84,7 @@ rate_high-one : rate_high 64 2 2 ≡ 8867011522199552
 unfolding rounded_power
 rate_high-one = refl
 
--- seven hashes among 1024 bits after a hundred items: other ways to round come out elsewhere
+-- seven hashes among 1024 bits after a hundred items, where other ways to round come out elsewhere
 density_low-many : density_low 1024 700 ≡ 4568972320092213995
 unfolding rounded_power
 density_low-many = refl

@@ -10,7 +10,7 @@ eight = 1 ∷ 2 ∷ 3 ∷ 4 ∷ 5 ∷ 6 ∷ 7 ∷ 8 ∷ []
 padded-three : padded (1 ∷ 2 ∷ 3 ∷ []) ≡ 1 ∷ 2 ∷ 3 ∷ 0 ∷ 0 ∷ 0 ∷ 0 ∷ 0 ∷ []
 padded-three = refl
 
--- eight bytes are followed by none
+-- eight bytes are followed by no zero
 padded-eight : padded eight ≡ eight
 padded-eight = refl
 
@@ -35,15 +35,15 @@ are_bytes-beyond are = omega (arith, are 1)
 is_padded-three : IsPadded (1 ∷ 2 ∷ 3 ∷ 0 ∷ 0 ∷ 0 ∷ 0 ∷ 0 ∷ []) 11
 is_padded-three = refl
 
--- no other byte follows them
+-- no byte but zero follows the bytes that count
 is_padded-four : IsPadded (1 ∷ 2 ∷ 3 ∷ 4 ∷ 0 ∷ 0 ∷ 0 ∷ 0 ∷ []) 11 → ⊥
 is_padded-four is = omega (arith, ap (λ buffer. slice_index buffer 3) is)
 
--- a hasher keeps such a buffer
+-- a hasher keeps a buffer where zeros follow the bytes that count
 is_kept-padding : IsKept (1 ∷ 2 ∷ 3 ∷ 4 ∷ 0 ∷ 0 ∷ 0 ∷ 0 ∷ []) 11 → ⊥
 is_kept-padding is = omega (arith, ap (λ buffer. slice_index buffer 3) is.padding)
 
--- the greatest number that it keeps is 255
+-- the greatest number of bytes that a hasher keeps is 255
 is_kept-greatest : IsKept (1 ∷ 2 ∷ 3 ∷ 4 ∷ 5 ∷ 6 ∷ 7 ∷ 0 ∷ []) 255
 is_kept-greatest = record { padding = refl; small = lit< tt }
 

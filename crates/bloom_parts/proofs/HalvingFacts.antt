@@ -6,7 +6,7 @@ use Rattle.bloom_parts.specs.Sizing.{IsEnough, IsHalvings, IsSizeFor, IsTooLarge
 use Rattle.bloom_parts.proofs.RootLemmas.{root-zero, one_root}
 use Rattle.bloom_parts.proofs.SizingFacts.{root-last, halvings-half, size-half, size-first_too_large}
 
--- no number beside a root is one
+-- no number next to a root is a root
 root-below : IsRoot 16 5107605666 → ⊥
 root-below is = omega (arith, is.greatest)
 
@@ -36,7 +36,7 @@ half-size items size (parts, is, same) =
     let whole : parts ≡ 64 = omega (arith, most, least) in
     same ∙ ap (size_for items) whole
 
--- a size beside the right one isn't it
+-- a byte less or more than the size isn't the size
 size-byte_less : IsSizeFor 1000 1 2 1440 → ⊥
 size-byte_less is = omega (arith, half-size 1000 1440 is)
 

@@ -54,7 +54,7 @@ hashed-held is = cc (is.held)
 hashed-count : Hashed (record fresh { count = 1 }) 0 0 [] → ⊥
 hashed-count is = omega (arith, is.count)
 
--- seven bytes and two more: a word, and one byte held
+-- seven bytes and two more make a word, and one byte that is held
 write-word : write
     (record fresh { held = 1 ∷ 2 ∷ 3 ∷ 4 ∷ 5 ∷ 6 ∷ 7 ∷ []; count = 255 }) (8 ∷ 9 ∷ [])
     ≡ record fresh { words = absorb (start 0 0) 0x0807_0605_0403_0201; held = 9 ∷ []; count = 1 }
@@ -68,7 +68,7 @@ write-two_words : write fresh
 unfolding write whole_words rest
 write-two_words = refl
 
--- one byte taken in, and not two
+-- a hasher that took in one byte didn't take in two
 pub takes-one : Takes fresh after_one (7 ∷ [])
 unfolding write whole_words rest
 takes-one = takes fresh after_one (7 ∷ []) refl
@@ -124,7 +124,7 @@ answers-one hash told =
     told 0 0 (7 ∷ [])
     (record { low = refl; high = refl; words = refl; held = refl; count = refl })
 
--- the words of the key bytes 0 to 15
+-- the two words of the key bytes 0 to 15
 key_low-counting : key_low
     (0 ∷ 1 ∷ 2 ∷ 3 ∷ 4 ∷ 5 ∷ 6 ∷ 7 ∷ 8 ∷ 9 ∷ 10 ∷ 11 ∷ 12 ∷ 13 ∷ 14 ∷ 15 ∷ [])
     ≡ 0x0706_0504_0302_0100
@@ -135,7 +135,7 @@ key_high-counting : key_high
     ≡ 0x0f0e_0d0c_0b0a_0908
 key_high-counting = refl
 
--- a builder of hashers with this key
+-- a builder of hashers with the key bytes 0 to 15
 abbrev builder : CloneBuildHasher RandomDefaultHasher
 builder = record { hasher = counting }
 

@@ -4,7 +4,7 @@ use Rattle.std.proofs.Common.{◌≡◌, ℕ, ◌^◌, ◌≤◌, refl, arith, l
 use Rattle.bloom_parts.specs.declared.math.bracket.Bracket.{Bracket}
 use Rattle.bloom_parts.specs.Brackets.{low_of, high_of, width_of, Holds, HoldsDensity, HoldsRate}
 
--- a third lies between two units, and on neither
+-- a third lies between two units of 2^-63, and on neither
 abbrev third : Bracket
 third = record {
   low = 3074457345618258602;
@@ -28,7 +28,8 @@ holds-below is = omega (arith, is.at_most)
 holds-above : Holds above_third 1 3 → ⊥
 holds-above is = omega (arith, is.at_least)
 
--- the bounds are sharp for fractions of several parts too: 2 / 3 lies above this, 3 / 5 below that
+-- the bounds are sharp for fractions of several parts too: 2 / 3 lies above the first bracket, and
+-- 3 / 5 below the second
 abbrev below_two_thirds : Bracket
 below_two_thirds = record {
   low = 0;
@@ -54,7 +55,7 @@ holds-three_fifths is = omega (arith, is.at_least)
 width-third : width_of third ≡ 1
 width-third = refl
 
--- a sixty-fourth of 64 bits is a number of units, and no other number is
+-- one bit of 64 is a number of units, and no other number is
 abbrev exactly : (units : ℕ) → units ≤ 2 ^ 63 → Bracket
 exactly units fits = record { low = units; high = units; ordered = omega arith; in_range = fits }
 
@@ -73,7 +74,7 @@ holds_density-above is = omega (arith, is.at_least)
 holds_density-below : HoldsDensity (exactly 144115188075855871 (lit≤ tt)) 64 1 → ⊥
 holds_density-below is = omega (arith, is.at_most)
 
--- after two the share is 127 / 4096
+-- the share of 64 bits after two were turned on is 127 / 4096
 holds_density-two : HoldsDensity (exactly 285978576338026496 (lit≤ tt)) 64 2
 holds_density-two = record { at_least = lit≤ tt; at_most = lit≤ tt }
 
@@ -83,14 +84,14 @@ holds_density-two_above is = omega (arith, is.at_least)
 holds_density-two_below : HoldsDensity (exactly 285978576338026495 (lit≤ tt)) 64 2 → ⊥
 holds_density-two_below is = omega (arith, is.at_most)
 
--- after none no bit is on
+-- the share of 64 bits after none was turned on is 0
 holds_density-none : HoldsDensity (exactly 0 (lit≤ tt)) 64 0
 holds_density-none = record { at_least = lit≤ tt; at_most = lit≤ tt }
 
 holds_density-unit : HoldsDensity (exactly 1 (lit≤ tt)) 64 0 → ⊥
 holds_density-unit is = omega (arith, is.at_least)
 
--- two hashes after one item, which turns on two: the rate is the square of 127 / 4096
+-- the rate of two hashes after one item, which turns on two bits, is the square of 127 / 4096
 holds_rate-one : HoldsRate (exactly 8867011522199552 (lit≤ tt)) 64 2 2
 holds_rate-one = record { at_least = lit≤ tt; at_most = lit≤ tt }
 
@@ -100,7 +101,7 @@ holds_rate-above is = omega (arith, is.at_least)
 holds_rate-below : HoldsRate (exactly 8867011522199551 (lit≤ tt)) 64 2 2 → ⊥
 holds_rate-below is = omega (arith, is.at_most)
 
--- two hashes where one bit of 64 was turned on: the rate is the square of 1 / 64
+-- the rate of two hashes where one bit of 64 was turned on is the square of 1 / 64
 holds_rate-single : HoldsRate (exactly 2251799813685248 (lit≤ tt)) 64 1 2
 holds_rate-single = record { at_least = lit≤ tt; at_most = lit≤ tt }
 

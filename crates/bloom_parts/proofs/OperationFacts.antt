@@ -33,7 +33,7 @@ after_contains : state_after 64 1 three (operation.Contains (2 ^ 63) ∷ []) 32 
 unfolding positions chain
 after_contains = refl
 
--- a clear turns off what was on, and not what comes later
+-- a clear turns off what was on, and not what is turned on later
 after_clear : state_after 64 1 three (operation.Clear ∷ []) 3 ≡ false
 after_clear = refl
 

@@ -78,7 +78,7 @@ is_part-two : IsPart (positions 64 3 1) (content (1048577 ∷ [])) → ⊥
 unfolding content
 is_part-two part = both_ways (content (1048577 ∷ []) 32) refl (part 32 positions-third)
 
--- a word below 2^64, and one that isn't
+-- a word is below 2^64
 are_words-greatest : AreWords (0xffff_ffff_ffff_ffff ∷ 0 ∷ [])
 are_words-greatest zero other below = lit< tt
 are_words-greatest (suc zero) other below = lit< tt
@@ -97,7 +97,7 @@ is_only-four only = both_ways (eqb 4 3) refl ((only 4).1 refl)
 is_only-one_of_two : IsOnly (λ p. ltb p 2) 0 → ⊥
 is_only-one_of_two only = omega (arith, (only 1).0 refl)
 
--- a third of the hashes, and a sixty-fourth
+-- the shares of three positions start at thirds of the hashes, and those of 64 at sixty-fourths
 share_start-third : share_start 3 1 ≡ 6148914691236517206
 share_start-third = refl
 

@@ -27,7 +27,7 @@ rate_refusal-none = refl
 rate_refusal-above : rate_refusal 3 2 ≡ None
 rate_refusal-above = refl
 
--- a half, as two fractions, and two fifths
+-- the rates 1 / 2 and 2 / 4, which are equal, and 2 / 5
 abbrev half : Rate
 half = record { num = 1; den = 2; num_above = lit< tt; den_above = lit< tt }
 

@@ -8,11 +8,11 @@ use Rattle.bloom_parts.specs.Reading.{Reading, ReadsNext}
 abbrev two : ℕ → SharedWords
 two name = record { name = name; count = 2 }
 
--- the greatest word is on its last index
+-- the greatest word may be at the last index
 on-last : (name : ℕ) → IsOnWord (two name) 1 0xffff_ffff_ffff_ffff
 on-last name = (omega arith, lit< tt)
 
--- no word is past the last
+-- no word is past the last index
 on-past : (name : ℕ) → IsOnWord (two name) 2 0 → ⊥
 on-past name on = omega (arith, on.0)
 
@@ -34,15 +34,15 @@ found-there : (name found : ℕ) → ReadsNext (at name 0) (Some found) (at name
     → FoundByLoad (two name) 0 found
 found-there name found reads = reads.1.0
 
--- after the last word none comes
+-- after the last word no word comes
 no-more : (name : ℕ) → ReadsNext (at name 2) None (at name 2)
 no-more name = (refl, (omega arith, refl))
 
--- none comes while a word is left
+-- the reading doesn't end while a word is left
 none-too-early : (name : ℕ) → ReadsNext (at name 1) None (at name 1) → ⊥
 none-too-early name reads = omega (arith, reads.1.0)
 
--- where none comes, the reading stays where it is
+-- where no word comes, the reading stays where it is
 none-back : (name : ℕ) → ReadsNext (at name 2) None (at name 0) → ⊥
 none-back name reads = omega (arith, reads.1.1)
 

@@ -5,7 +5,7 @@ use Rattle.std.specs.Prelude.{ℕ, Bool, List, Option, Some, None, map, option_m
 use Rattle.bloom_parts.specs.Places.{positions, are_in}
 use Rattle.bloom_parts.specs.Deciders.{Decider, decides_nothing, makes_on, makes_all_off, makes_off_outside, state}
 
--- a command, as what it says of a set of positions
+-- a command on a set of positions
 pub data Operation : Type 0 where
   Insert : ℕ → Operation
   Contains : ℕ → Operation

@@ -47,7 +47,7 @@ pub fn halvings_of_rate()
     ensures most { MostLaw }
 {}
 
-/// One number alone is the size for items and a rate, so what is answered and refused is decided.
+/// At most one number is the size for items and a rate, so no two answers are right.
 pub fn size_of_rate()
     ensures { OneSizeLaw }
 {}

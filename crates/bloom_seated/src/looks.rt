@@ -17,7 +17,7 @@ use std::alloc::Global;
 /// The table of a filter.
 pub(crate) type FilterTable = Table<(), Sets, Size, SeatedRule, Global>;
 
-// Turns a position on, and answers whether it was.
+// Turns a position on, and answers whether it was on before.
 fn turn_on_position(shared: &SharedWords, seat: &mut FilterSeat, position: usize) -> bool
     requires at { SitsAt seat.old shared.now.table_id shared.now.key }
     requires within { position < 64 * shared.now.table_id.words }
@@ -42,7 +42,7 @@ fn look_at_position(shared: &SharedWords, seat: &mut FilterSeat, position: usize
     load(shared, seat, word) & mask > 0
 }
 
-/// Turns on the positions of a hash, and answers whether all were on.
+/// Turns on the positions of a hash, and answers whether each was found on.
 pub(crate) fn insert_positions(
     table: &FilterTable,
     seat: &mut FilterSeat,

@@ -13,7 +13,7 @@ mod writes;
 use state::State;
 use std::marker::Model;
 
-/// SipHash-1-3 of the bytes written, under a key. It may go on after an answer.
+/// SipHash-1-3 of the bytes written, under a key. More bytes may be written after an answer.
 ///
 /// It keeps the key, four words, at most seven bytes of a buffer of eight, and a length modulo 256.
 #[derive(Clone, Copy, Debug)]

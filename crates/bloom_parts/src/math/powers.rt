@@ -5,7 +5,7 @@ ghost use Rattle.bloom_parts.specs.Powers.{down_of, up_of, power_of};
 // One whole.
 pub(super) const UNIT: u64 = 1 << 63;
 
-// What multiplies fractions with one rounding, and counts the products.
+// A way to multiply fractions and round the product, which counts the products.
 pub(super) trait Multiply {
     ghost product: { ℕ → ℕ → ℕ };
 
