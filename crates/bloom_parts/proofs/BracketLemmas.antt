@@ -40,7 +40,7 @@ missing-below u high whole part fits small above =
     let two : u * whole ≡ u * ((whole - part) + part) = ap (λ v. u * v) (omega (arith, small)) in
     omega (arith, one, two, above)
 
--- and what is missing from a whole that is held from below
+-- what is missing from a whole that is held from below
 missing-above : (u low whole part : ℕ) → low ≤ u → part ≤ whole → low * whole ≤ u * part →
     u * (whole - part) ≤ (u - low) * whole
 missing-above u low whole part fits small below =
@@ -48,7 +48,7 @@ missing-above u low whole part fits small below =
     let two : u * whole ≡ u * ((whole - part) + part) = ap (λ v. u * v) (omega (arith, small)) in
     omega (arith, one, two, below)
 
--- so many hashes of so many items fit in 128 bits
+-- the number of hashes times the number of items fits in 128 bits
 pub sets-fit : (hashes items : ℕ) → hashes < 2 ^ 32 → items < 2 ^ 64 → hashes * items < 2 ^ 128
 sets-fit hashes items hashes_fit items_fit =
     let few : hashes ≤ 2 ^ 32 = omega (arith, hashes_fit) in

@@ -83,6 +83,6 @@ pub cleared-two : (xs : List ℕ) → length xs ≡ 2
     → put_chunk 0 xs (0 ∷ 0 ∷ []) ≡ replicate (length xs) 0
 cleared-two xs long = cleared-front 2 xs ∙ cleared-all 2 xs (omega arith)
 
--- and one by itself
+-- one word is cleared by itself
 pub cleared-one : (xs : List ℕ) → length xs ≡ 1 → set xs 0 0 ≡ replicate (length xs) 0
 cleared-one xs long = cleared-next 0 1 xs refl ∙ cleared-all 1 xs (omega arith)

@@ -2,7 +2,7 @@
 use Rattle.std.proofs.Common.{◌≡◌, ℕ, Bool, true, false, eqb, List, [], ◌∷◌, Some, None, refl}
 use Rattle.bloom_parts.specs.Deciders.{Decider, decides_nothing, makes_on, makes_all_off, makes_off_outside, last_decision, state}
 
--- 1 is turned on, then all is turned off, then 2 is turned on
+-- deciders that turn 1 on, then all off, then 2 on
 abbrev deciders : List Decider
 deciders = makes_on (λ p. eqb p 1) ∷ makes_all_off ∷ makes_on (λ p. eqb p 2) ∷ []
 
@@ -36,7 +36,7 @@ state-inside = refl
 state-outside : state three (makes_on (λ p. eqb p 4) ∷ makes_off_outside three ∷ []) 4 ≡ false
 state-outside = refl
 
--- an inside position isn't turned on by that
+-- a position of the set that was off isn't turned on as the others are turned off
 state-not_on : state (λ p. false) (makes_off_outside three ∷ []) 3 ≡ false
 state-not_on = refl
 

@@ -3,7 +3,7 @@ use Rattle.std.proofs.Common.{◌≡◌, ◌++◌, ◌∷◌, [], ℕ, Bool, Lis
 use Rattle.std.specs.Option.{option_or}
 use Rattle.bloom_parts.specs.Deciders.{Decider, last_decision, state}
 
--- of three decisions, whichever two come first
+-- three decisions come to one, whichever two are joined first
 pub option_or-assoc : {X : Type 0} (a b c : Option X)
     → option_or (option_or a b) c ≡ option_or a (option_or b c)
 option_or-assoc None b c = refl

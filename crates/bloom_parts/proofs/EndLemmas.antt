@@ -33,7 +33,7 @@ lower-holds base e p q fits bound =
     power-bound (λ r P Q. r * Q ≤ 2 ^ 63 * P) (2 ^ 63) down_of (lit≤ tt)
     (product-below (2 ^ 63) (lit< tt) down_of (λ x y. omega arith)) base p q bound 128 e fits
 
--- and a power rounded up is an upper bound
+-- a power rounded up is an upper bound of the power of each fraction that its base is one of
 pub upper-holds : (base e p q : ℕ) → e < 2 ^ 128 → 2 ^ 63 * p ≤ base * q →
     2 ^ 63 * p ^ e ≤ upper_power_of base e * q ^ e
 upper-holds base e p q fits bound =

@@ -74,7 +74,7 @@ module _ (old h : SipState) (view : h ≡ old) (size : length h.held ≡ h.count
   -- where they are fewer than eight, a buffer with the number's bytes is these bytes, and zeros
   module _ (other : h.count % 8 + length bytes ≢ 8) (after : List ℕ)
       (stored : after ≡ to_le_bytes w64 word) where
-    -- so they are
+    -- the buffer is these bytes, and zeros
     few : length (h.held ++ bytes) < 8
     few = omega (arith, other, room, joined, size, ap (λ x. length x.held) view)
 
@@ -83,7 +83,7 @@ module _ (old h : SipState) (view : h ≡ old) (size : length h.held ≡ h.count
         stores after (count_after h bytes) (h.held ++ bytes) word is.bytes few
         (omega (arith, few, joined)) is.value stored
 
-    -- so the hasher has taken them in
+    -- the hasher has taken these bytes in
     pub filled-few : record h {
       held = held_in after (count_after h bytes);
       count = count_after h bytes;

@@ -8,7 +8,7 @@ use Rattle.bloom_parts.specs.Sizing.{IsEnough, IsHalvings, CoverLaw, NoneLaw, Mo
 use Rattle.bloom_parts.proofs.PowerBounds.{pow-pow}
 use Rattle.bloom_parts.proofs.RootLemmas.{root-zero, root-least, root-below, root-mono, one_root}
 
--- the test of the code at so many parts, with n and d read from the rate and t from the table
+-- the test of the code at this many parts, with n and d read from the rate and t from the table
 pub record IsTest (num den parts n d t : ℕ) : Type 0 where
   pub fits : n * 2 ^ (parts / 64) % 2 ^ 128 * t < 2 ^ 128
   pub decides : (d * 2 ^ 32 % 2 ^ 128 ≤ n * 2 ^ (parts / 64) % 2 ^ 128 * t) ↔ IsEnough num den parts
@@ -39,7 +39,7 @@ module _ (num den parts t : ℕ) (num_fits : num < 2 ^ 64) (den_fits : den < 2 ^
       few (parts - 64) (omega (arith, large))
       (t, subst (λ j. IsRoot j t) place root, omega (arith, scaled, den_fits))
 
-  -- so the shifted rate has at most 65 digits
+  -- the shifted rate has at most 65 digits
   shifted-fits : num * 2 ^ (parts / 64) < 2 ^ 65
   shifted-fits = elim (cases_lt parts 64) [
     | inl small ↦
@@ -57,11 +57,11 @@ module _ (num den parts t : ℕ) (num_fits : num < 2 ^ 64) (den_fits : den < 2 ^
     num-shifted : n * 2 ^ (parts / 64) % 2 ^ 128 ≡ num * 2 ^ (parts / 64)
     num-shifted = rw same_num (shl_whole num 64 (parts / 64) 128 num_fits (omega (arith, within)))
 
-    -- nor of the lower one
+    -- the code loses no digit of the lower part
     den-shifted : d * 2 ^ 32 % 2 ^ 128 ≡ den * 2 ^ 32
     den-shifted = omega (arith, same_den, den_fits)
 
-    -- nor does the product with the root overflow
+    -- the product with the root doesn't overflow
     product-fits : n * 2 ^ (parts / 64) % 2 ^ 128 * t < 2 ^ 128
     product-fits =
         let product : num * 2 ^ (parts / 64) * t ≤ 2 ^ 65 * 2 ^ 33 =
@@ -70,7 +70,7 @@ module _ (num den parts t : ℕ) (num_fits : num < 2 ^ 64) (den_fits : den < 2 ^
         (omega (arith, root-below (parts % 64) t (omega arith) root)) in
         rw num-shifted (omega (arith, product))
 
-    -- so the code compares the numbers of the definition
+    -- the code compares the numbers of the definition
     decides : (d * 2 ^ 32 % 2 ^ 128 ≤ n * 2 ^ (parts / 64) % 2 ^ 128 * t) ↔ IsEnough num den parts
     decides = (
       (λ is. (t, root, rw (den-shifted, num-shifted) at is)),
@@ -79,7 +79,7 @@ module _ (num den parts t : ℕ) (num_fits : num < 2 ^ 64) (den_fits : den < 2 ^
           rw (den-shifted, num-shifted) (rw same at enough)),
     )
 
-    -- both in one
+    -- the test of the code is that of the definition, and its product fits
     pub test-halvings : IsTest num den parts n d t
     test-halvings = record { fits = product-fits; decides = decides }
 

@@ -8,7 +8,7 @@ use Rattle.std.specs.Int.{w64, from_le_bytes}
 use Rattle.bloom_parts.specs.Sip.{start, absorb, answer, whole_words, rest, last_word, sip}
 use Rattle.bloom_parts.specs.Hashed.{SipState, write, finish, Hashed, Takes, Answers}
 use Rattle.bloom_parts.specs.Laws.{TakesEach, HashesPieces, CuttingLaw, JoiningLaw}
-use Rattle.bloom_parts.proofs.SipLemmas.{AreWords, IsShort, short, GoesOn, goes_on, whole_words-concat, length-concat, length-rest, empty}
+use Rattle.bloom_parts.proofs.SipLemmas.{AreEights, IsShort, short, Continues, continues, whole_words-concat, length-concat, length-rest, empty}
 
 -- bytes and then more
 pub write-append : (h : SipState) (bytes more : List ℕ)
@@ -17,7 +17,7 @@ unfolding write
 write-append h bytes more =
     let joined : (h.held ++ bytes) ++ more ≡ h.held ++ (bytes ++ more) =
     append_assoc h.held bytes more in
-    let further : GoesOn (h.held ++ bytes) more = goes_on (h.held ++ bytes) more in
+    let further : Continues (h.held ++ bytes) more = continues (h.held ++ bytes) more in
     let words : fold absorb (fold absorb h.words (whole_words (h.held ++ bytes)))
     (whole_words (rest (h.held ++ bytes) ++ more))
     ≡ fold absorb h.words (whole_words (h.held ++ (bytes ++ more))) =
@@ -49,7 +49,7 @@ write-few h bytes few =
     }
 
 -- bytes that fill words, and no more
-pub write-words : (h : SipState) (bytes : List ℕ) (words : List (List ℕ)) → AreWords words
+pub write-words : (h : SipState) (bytes : List ℕ) (words : List (List ℕ)) → AreEights words
     → h.held ++ bytes ≡ concat words
     → write h bytes
     ≡ record h {
@@ -77,7 +77,7 @@ pub write-full : (h : SipState) (bytes : List ℕ) (word : ℕ) → length (h.he
     → write h bytes
     ≡ record h { words = absorb h.words word; held = []; count = (h.count + length bytes) % 256 }
 write-full h bytes word eight is =
-    let one : AreWords ((h.held ++ bytes) ∷ []) =
+    let one : AreEights ((h.held ++ bytes) ∷ []) =
     λ i below. let first : i ≡ 0 = omega arith in
     ap (λ j. length (get_or ((h.held ++ bytes) ∷ []) j [])) first ∙ eight in
     write-words h bytes ((h.held ++ bytes) ∷ []) one (sym (append-nil (h.held ++ bytes)))
@@ -91,7 +91,7 @@ write-full h bytes word eight is =
 written : (h : SipState) (bytes : List ℕ) → Takes h (write h bytes) bytes
 unfolding write
 written h bytes k0 k1 before is =
-    let further : GoesOn before bytes = goes_on before bytes in
+    let further : Continues before bytes = continues before bytes in
     let held : h.held ++ bytes ≡ rest before ++ bytes = ap (λ held. held ++ bytes) is.held in
     record {
       low = is.low;
@@ -106,7 +106,7 @@ written h bytes k0 k1 before is =
           omega (arith, length-append before bytes);
     }
 
--- so it is wherever more bytes were written
+-- wherever more bytes were written, the hasher has taken them in
 pub takes : (old new : SipState) (bytes : List ℕ) → new ≡ write old bytes → Takes old new bytes
 takes old new bytes is k0 k1 before stands =
     let P : SipState → Type 0 = λ h. Hashed h k0 k1 (before ++ bytes) in

@@ -1,4 +1,4 @@
--- How many turns a pass over words takes, eight words at a time.
+-- How many turns a loop over words takes, eight words at a time.
 use Rattle.std.proofs.Common.{◌≡◌, refl, arith}
 use Rattle.bloom_parts.specs.Lanes.{turns_of}
 
@@ -6,14 +6,14 @@ use Rattle.bloom_parts.specs.Lanes.{turns_of}
 turns-few : turns_of 7 ≡ 7
 turns-few = refl
 
--- eight are one
+-- eight words are one turn
 turns-group : turns_of 8 ≡ 1
 turns-group = refl
 
--- and one more is another
+-- two groups and one more word are three turns
 turns-rest : turns_of 17 ≡ 3
 turns-rest = refl
 
--- not one for each word
+-- seventeen words don't take a turn each
 turns-each : turns_of 17 ≡ 17 → ⊥
 turns-each same = omega (arith, same)

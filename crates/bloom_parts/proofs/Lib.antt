@@ -1,5 +1,6 @@
 mod BracketFacts
 mod BracketLemmas
+mod BufferFacts
 mod BufferLemmas
 mod ClearLemmas
 mod ContentLemmas
@@ -11,11 +12,13 @@ mod HalvingFacts
 mod HalvingLemmas
 mod HashedLemmas
 mod HasherFacts
+mod HoldsFacts
 mod LaneFacts
 mod LookLemmas
 mod MergeLemmas
 mod NumberLemmas
 mod OperationFacts
+mod PieceFacts
 mod PlaceLemmas
 mod PositionFacts
 mod PowerBounds

@@ -8,8 +8,8 @@ use Rattle.bloom_parts.specs.Chain.{IsAt}
 use Rattle.bloom_parts.specs.Content.{content}
 use Rattle.bloom_parts.specs.Places.{are_in}
 use Rattle.bloom_parts.specs.declared.hasher.chain.DoubleHasher.{DoubleHasher}
-use Rattle.bloom_parts.specs.Stretches.{are_on, GoesOn, TellsNext}
-use Rattle.bloom_parts.proofs.TurnLemmas.{goes_on-then}
+use Rattle.bloom_parts.specs.Stretches.{are_on, Advances, TellsNext}
+use Rattle.bloom_parts.proofs.TurnLemmas.{advances-then}
 use Rattle.bloom_parts.proofs.StretchLemmas.{are_in_from-zero, are_in_from-start, are_in_from-append}
 
 -- two stretches are looked at one after the other
@@ -24,7 +24,7 @@ tells_next-none chain words hash i at =
 
 -- the next places of a chain are looked at, and then those after them
 pub tells_next-then : (a b count : ℕ) (x y : DoubleHasher) (words : List ℕ) (r s : Bool)
-    → a + b ≡ count → GoesOn a x y → TellsNext a x words r → TellsNext b y words s
+    → a + b ≡ count → Advances a x y → TellsNext a x words r → TellsNext b y words s
     → TellsNext count x words (r && s)
 tells_next-then a b count x y words r s all moved one two hash i at =
     ap (λ c. c && s) (one hash i at)
@@ -33,7 +33,7 @@ tells_next-then a b count x y words r s all moved one two hash i at =
 
 -- the first places are on, and then the next one
 pub tells_next-on : (places : ℕ) (x y : DoubleHasher) (words : List ℕ) (r : Bool)
-    → GoesOn places x y → TellsNext places x words true → r ≡ true → TellsNext 1 y words r
+    → Advances places x y → TellsNext places x words true → r ≡ true → TellsNext 1 y words r
     → TellsNext (places + 1) x words true
 tells_next-on places x y words r moved before is next =
     tells_next-then places 1 (places + 1) x y words true true refl moved before
@@ -54,7 +54,7 @@ tells_next-off a count chain words fewer off hash i at =
 
 -- where the first places are on and the next one is off, more of them aren't all on
 pub tells_next-stops : (places count : ℕ) (x y : DoubleHasher) (words : List ℕ) (r : Bool)
-    → places + 1 ≤ count → GoesOn places x y → TellsNext places x words true → r ≡ false
+    → places + 1 ≤ count → Advances places x y → TellsNext places x words true → r ≡ false
     → TellsNext 1 y words r → TellsNext count x words false
 tells_next-stops places count x y words r fewer moved before is next =
     tells_next-off (places + 1) count x words fewer
@@ -73,9 +73,9 @@ module _ {hash : ℕ} {chain : DoubleHasher} (k : ℕ) (words : List ℕ) (at : 
   tells-off a fewer off =
       tells-all false (tells_next-off a k chain words (omega (arith, fewer)) off)
 
-  -- the first places are on, and of the others the last ones, so many at most, are looked at last
+  -- the first places are on, and of the others the last ones are looked at last
   module _ (a : ℕ) (next : DoubleHasher)
-      (first : record { found : TellsNext a chain words true; moved : GoesOn a chain next })
+      (first : record { found : TellsNext a chain words true; moved : Advances a chain next })
       (fewer : a + 1 ≤ k) (last most : ℕ) (is : last ≡ min (k - a) most) where
     -- those and the ones between are on as the ones between are
     both : (r : Bool) → TellsNext (k - a - last) next words r
@@ -95,12 +95,12 @@ module _ {hash : ℕ} {chain : DoubleHasher} (k : ℕ) (words : List ℕ) (at : 
     pub tells-last : (end : DoubleHasher) (t : Bool)
         → record {
           found : TellsNext (k - a - last) next words true;
-          moved : IsTrue true → GoesOn (k - a - last) next end;
+          moved : IsTrue true → Advances (k - a - last) next end;
         } → TellsNext last end words t → t ≡ are_in (64 * length words) k hash (content words)
     tells-last end t then rest =
         tells-all t (tells_next-then (a + (k - a - last)) last k chain end words true t
         (omega (arith, fewer, is))
-        (goes_on-then a (k - a - last) chain next end first.moved (then.moved refl))
+        (advances-then a (k - a - last) chain next end first.moved (then.moved refl))
         (both true then.found) rest)
 
 -- a digit is 1 at most
@@ -108,7 +108,7 @@ pub digit-most : (b : Bool) → bool_byte b ≤ 1
 digit-most true = omega arith
 digit-most false = omega arith
 
--- so many of one place more are on: all are, exactly if all before were and this is
+-- all of one place more are on exactly if all before are and this one is
 pub one-more : (on places : ℕ) (b : Bool) → on ≤ places
     → eqb (on + bool_byte b) (places + 1) ≡ (eqb on places && b)
 one-more on places true most = elim (cases_eq on places) [
@@ -125,7 +125,7 @@ one-more on places false most =
 
 -- the next place is looked at, and its digit is counted
 pub tells_next-count : (on places digit : ℕ) (x y : DoubleHasher) (words : List ℕ) (r : Bool)
-    → digit ≡ bool_byte r → on ≤ places → GoesOn places x y
+    → digit ≡ bool_byte r → on ≤ places → Advances places x y
     → TellsNext places x words (eqb on places) → TellsNext 1 y words r
     → TellsNext (places + 1) x words (eqb (on + digit) (places + 1))
 tells_next-count on places digit x y words r is most moved before next =
@@ -147,12 +147,12 @@ three-of-three false false false = refl
 
 -- three places are looked at one after the other, and their digits are added up
 pub tells_next-three : (x y z : DoubleHasher) (words : List ℕ) (r s t : Bool) (d e f : ℕ)
-    → d ≡ bool_byte r → e ≡ bool_byte s → f ≡ bool_byte t → GoesOn 1 x y → GoesOn 1 y z
+    → d ≡ bool_byte r → e ≡ bool_byte s → f ≡ bool_byte t → Advances 1 x y → Advances 1 y z
     → TellsNext 1 x words r → TellsNext 1 y words s → TellsNext 1 z words t
     → TellsNext 3 x words (eqb (d + e + f) 3)
 tells_next-three x y z words r s t d e f is_d is_e is_f to_y to_z one two three =
     let digits : (r && s && t) ≡ eqb (d + e + f) 3 =
     sym (three-of-three r s t) ∙ rw (is_d, is_e, is_f) refl in
     tells_next-as 3 x words (r && s && t) (eqb (d + e + f) 3) digits
-    (tells_next-then 2 1 3 x z words (r && s) t refl (goes_on-then 1 1 x y z to_y to_z)
+    (tells_next-then 2 1 3 x z words (r && s) t refl (advances-then 1 1 x y z to_y to_z)
     (tells_next-then 1 1 2 x y words r s refl to_y one two) three)

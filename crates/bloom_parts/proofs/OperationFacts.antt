@@ -1,6 +1,6 @@
 -- What commands to a filter of 64 bits decide and reply, case by case. The hash 2^63 lies at
 -- position 32, and 3 * 2^58 at position 3.
-use Rattle.std.proofs.Common.{◌≡◌, ℕ, ◌*◌, ◌^◌, Bool, true, false, eqb, [], ◌∷◌, Some, None, refl}
+use Rattle.std.proofs.Common.{◌≡◌, ℕ, ◌*◌, ◌^◌, Bool, true, false, ◌||◌, eqb, [], ◌∷◌, Some, None, refl}
 use Rattle.bloom_parts.specs.Chain.{chain}
 use Rattle.bloom_parts.specs.Places.{positions, are_in}
 use Rattle.bloom_parts.specs.Operations as operation
@@ -19,12 +19,21 @@ after_insert-other : state_after 64 1 three (operation.Insert (2 ^ 63) ∷ []) 3
 unfolding positions chain
 after_insert-other = refl
 
+-- an insert turns all its positions on: with two hashes those of 1 among 128 are 0 and 40
+after_insert-first : state_after 128 2 three (operation.Insert 1 ∷ []) 0 ≡ true
+unfolding positions chain
+after_insert-first = refl
+
+after_insert-second : state_after 128 2 three (operation.Insert 1 ∷ []) 40 ≡ true
+unfolding positions chain
+after_insert-second = refl
+
 -- a look-up turns nothing on
 after_contains : state_after 64 1 three (operation.Contains (2 ^ 63) ∷ []) 32 ≡ false
 unfolding positions chain
 after_contains = refl
 
--- a clear turns off what was on, and not what comes later
+-- a clear turns off what was on, and not what is turned on later
 after_clear : state_after 64 1 three (operation.Clear ∷ []) 3 ≡ false
 after_clear = refl
 
@@ -60,3 +69,15 @@ reply-clear = refl
 
 reply-union : reply 64 1 three (operation.Union three) ≡ None
 reply-union = refl
+
+reply-intersect : reply 64 1 three (operation.Intersect three) ≡ None
+reply-intersect = refl
+
+-- the reply is true only if all positions are on: 0 and 40 among 128 bits with two hashes
+reply-both : reply 128 2 (λ p. eqb p 0 || eqb p 40) (operation.Contains 1) ≡ Some true
+unfolding are_in chain
+reply-both = refl
+
+reply-first : reply 128 2 (λ p. eqb p 0) (operation.Contains 1) ≡ Some false
+unfolding are_in chain
+reply-first = refl

@@ -18,7 +18,7 @@ position-from n (suc k) hash p is =
           record { index = k; below = omega arith; here = sym (eqb-true p (place n hash k) here) }
     ]
 
--- and each place is a position
+-- each place is a position
 pub position-to : (n k hash p : ℕ) → IsPosition n k hash p → positions n k hash p ≡ true
 unfolding positions
 position-to n zero hash p found = absurd (omega (arith, found.below))
@@ -53,7 +53,7 @@ part-from n (suc k) hash A all p is =
       | inr here ↦ ap A (eqb-true p (place n hash k) here) ∙ parts.1
     ]
 
--- and where their positions are a part of a set, all are in it
+-- where the positions of a hash are a part of a set, all its places are in it
 pub part-to : (n k hash : ℕ) (A : ℕ → Bool) → IsPart (positions n k hash) A
     → are_in n k hash A ≡ true
 unfolding positions are_in

@@ -62,7 +62,7 @@ no_place (suc (suc (suc i))) below is = omega (arith, below)
 is_position-fourth : IsPosition 64 3 1 29 → ⊥
 is_position-fourth found = no_place found.index found.below found.here
 
--- they are in a word with the bits 0, 20 and 32, and not in one without the last
+-- the positions are in a word with the bits 0, 20 and 32, and not in one without the last
 are_in-all : are_in 64 3 1 (content (4296015873 ∷ [])) ≡ true
 unfolding are_in content chain
 are_in-all = refl
@@ -78,7 +78,7 @@ is_part-two : IsPart (positions 64 3 1) (content (1048577 ∷ [])) → ⊥
 unfolding content
 is_part-two part = both_ways (content (1048577 ∷ []) 32) refl (part 32 positions-third)
 
--- a word below 2^64, and one that isn't
+-- a word is below 2^64
 are_words-greatest : AreWords (0xffff_ffff_ffff_ffff ∷ 0 ∷ [])
 are_words-greatest zero other below = lit< tt
 are_words-greatest (suc zero) other below = lit< tt
@@ -97,7 +97,7 @@ is_only-four only = both_ways (eqb 4 3) refl ((only 4).1 refl)
 is_only-one_of_two : IsOnly (λ p. ltb p 2) 0 → ⊥
 is_only-one_of_two only = omega (arith, (only 1).0 refl)
 
--- a third of the hashes, and a sixty-fourth
+-- the shares of three positions start at thirds of the hashes, and those of 64 at sixty-fourths
 share_start-third : share_start 3 1 ≡ 6148914691236517206
 share_start-third = refl
 
@@ -110,39 +110,77 @@ share_start-end = refl
 share_start-twentieth : share_start 64 20 ≡ 5764607523034234880
 share_start-twentieth = refl
 
--- the laws at the edges of their ranges
+-- what is in the set of positions is a position
 from_positions : PositionsLaw → IsPosition 64 3 1 32
 from_positions law = (law 64 3 1 32).0 positions-third
 
+-- a position is in the set of positions
 to_positions : PositionsLaw → positions 64 3 1 32 ≡ true
 to_positions law = (law 64 3 1 32).1 is_position-third
 
+-- where the test holds, the positions are a part of the set
 from_subset : SubsetLaw → IsPart (positions 64 3 1) (content (4296015873 ∷ []))
 from_subset law = (law 64 3 1 (content (4296015873 ∷ []))).0 are_in-all
 
+-- where the positions are a part of the set, the test holds
 to_subset : SubsetLaw → are_in 64 3 1 (content (4296015873 ∷ [])) ≡ true
 to_subset law = (law 64 3 1 (content (4296015873 ∷ []))).1 is_part-all
 
+-- the greatest hash lies within a single bit too
 from_range : RangeLaw → (p : ℕ) → positions 1 2 0xffff_ffff_ffff_ffff p ≡ true → p < 1
 from_range law p is = law 1 2 0xffff_ffff_ffff_ffff p (lit< tt) (lit< tt) is
 
+-- single words are equal where their contents are
 from_equality : EqualWordsLaw → (a b : ℕ) → AreWords (a ∷ []) → AreWords (b ∷ [])
     → ((p : ℕ) → content (a ∷ []) p ≡ content (b ∷ []) p) → a ∷ [] ≡ b ∷ []
 from_equality law a b a_is b_is same = (law (a ∷ []) (b ∷ []) a_is b_is refl).1 same
 
+-- lists of two words are equal where their contents are
+from_equality-two : EqualWordsLaw → (a b c d : ℕ) → AreWords (a ∷ b ∷ []) → AreWords (c ∷ d ∷ [])
+    → ((p : ℕ) → content (a ∷ b ∷ []) p ≡ content (c ∷ d ∷ []) p) → a ∷ b ∷ [] ≡ c ∷ d ∷ []
+from_equality-two law a b c d first second same =
+    (law (a ∷ b ∷ []) (c ∷ d ∷ []) first second refl).1 same
+
+-- no position of one word is 64 or more
+from_bound-one : BoundLaw → (word p : ℕ) → content (word ∷ []) p ≡ true → p < 64
+from_bound-one law word p on = law (word ∷ []) p on
+
+-- no position is on in no words
 from_bound : BoundLaw → (words : List ℕ) → content words 0 ≡ true → words ≡ [] → ⊥
 from_bound law words on none = omega (arith, law words 0 on, ap length none)
 
+-- the hash at the start of a share has its position alone
 from_share : ShareLaw → IsOnly (positions 3 1 6148914691236517206) 1
 from_share law = (law 3 1 6148914691236517206 (lit< tt) (lit< tt)).1 (lit≤ tt, lit< tt)
 
+-- the greatest hash is before the end of the last share
 to_share : ShareLaw → IsOnly (positions 1 1 0xffff_ffff_ffff_ffff) 0
     → 0xffff_ffff_ffff_ffff < share_start 1 1
 to_share law only = ((law 1 0 0xffff_ffff_ffff_ffff (lit< tt) (lit< tt)).0 only).1
 
+-- a hash before the start of a share, and one at the start of the next, have other positions
+to_share-before : ShareLaw → IsOnly (positions 3 1 6148914691236517205) 1 → ⊥
+to_share-before law only =
+    omega (arith, ((law 3 1 6148914691236517205 (lit< tt) (lit< tt)).0 only).0)
+
+to_share-after : ShareLaw → IsOnly (positions 3 1 12297829382473034411) 1 → ⊥
+to_share-after law only =
+    omega (arith, ((law 3 1 12297829382473034411 (lit< tt) (lit< tt)).0 only).1)
+
+-- a single position has a share
+from_reached-one : ReachedLaw → (i : ℕ) → share_start 1 i < share_start 1 (i + 1)
+from_reached-one law i = law 1 i (lit< tt) (lit≤ tt)
+
+-- each of 2^64 positions has a share
 from_reached : ReachedLaw → (i : ℕ) → share_start (2 ^ 64) i < share_start (2 ^ 64) (i + 1)
 from_reached law i = law (2 ^ 64) i (lit< tt) (lit≤ tt)
 
+-- the shares of a single position are even
 from_even : EvenLaw → (i j : ℕ) → share_start 1 (i + 1) - share_start 1 i
     ≤ share_start 1 (j + 1) - share_start 1 j + 1
 from_even law i j = law 1 i j (lit< tt)
+
+-- the shares of three positions are even too
+from_even-three : EvenLaw → (i j : ℕ) → share_start 3 (i + 1) - share_start 3 i
+    ≤ share_start 3 (j + 1) - share_start 3 j + 1
+from_even-three law i j = law 3 i j (lit< tt)

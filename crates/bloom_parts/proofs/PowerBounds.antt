@@ -27,7 +27,7 @@ module _ (Bound : ℕ → ℕ → ℕ → Type 0) (whole : ℕ) (product : ℕ �
   square-bound power h is =
       rw (pow-add p h h, pow-add q h h) (times power power (p ^ h) (p ^ h) (q ^ h) (q ^ h) is is)
 
-  -- and of what the next digit makes of the power
+  -- the fact holds of what the next digit makes of the power
   next-bound : (power h digit : ℕ) → digit < 2 → Bound power (p ^ h) (q ^ h) →
       Bound (next_power product base power digit) (p ^ (h + h + digit)) (q ^ (h + h + digit))
   next-bound power h zero small is = rw add-zero (square-bound power h is)
@@ -37,7 +37,7 @@ module _ (Bound : ℕ → ℕ → ℕ → Type 0) (whole : ℕ) (product : ℕ �
       (times (product power power) base (p ^ (h + h)) p (q ^ (h + h)) q square bound)
   next-bound power h (suc (suc digit)) small is = absurd (omega arith)
 
-  -- so it holds of the power to any exponent of so many digits
+  -- the fact holds of the power to any exponent of this many digits
   pub power-bound : (digits e : ℕ) → e < 2 ^ digits →
       Bound (rounded_power whole product base digits e) (p ^ e) (q ^ e)
   unfolding rounded_power
@@ -63,7 +63,7 @@ module _ (u : ℕ) (some : 0 < u) (product : ℕ → ℕ → ℕ) where
       let all : (product r s * (Q * q)) * u ≤ (u * (P * p)) * u = omega (arith, rounded, exact) in
       le_of_mul-le-mul_right all some
 
-  -- and products rounded up keep upper bounds
+  -- products rounded up keep upper bounds
   pub product-above : ((x y : ℕ) → x * y ≤ product x y * u) → (r s P p Q q : ℕ) →
       u * P ≤ r * Q → u * p ≤ s * q → u * (P * p) ≤ product r s * (Q * q)
   product-above up r s P p Q q first second =

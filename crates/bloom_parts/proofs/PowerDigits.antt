@@ -37,7 +37,7 @@ abbrev power_down_to : ℕ → (ℕ → ℕ → ℕ) → ℕ → ℕ → ℕ →
 power_down_to whole product base e i =
     rounded_power whole product base (digits_of e - i) (e / 2 ^ i)
 
--- that power, made with so many products
+-- the power to the highest digits, made with this many products
 pub record IsSoFar (whole : ℕ) (product : ℕ → ℕ → ℕ) (base e i power count : ℕ) : Type 0 where
   pub value : power ≡ power_down_to whole product base e i
   pub products : count ≤ 2 * (digits_of e - i)

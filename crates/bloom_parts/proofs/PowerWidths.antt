@@ -99,7 +99,7 @@ module _ (u : ℕ) (above : 0 < u) (lower upper : ℕ → ℕ → ℕ) (down : R
       rw add-one (times-apart (lower low low) (upper high high) (h + h) square)
   next-apart low high h (suc (suc digit)) small are = absurd (omega arith)
 
-  -- so how far the powers to any exponent are apart
+  -- how far the powers to any exponent are apart
   pub power-apart : (digits e : ℕ) → e < 2 ^ digits →
       AreApart u d (rounded_power u lower a digits e) (rounded_power u upper b digits e) e
   unfolding rounded_power

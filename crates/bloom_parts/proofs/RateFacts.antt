@@ -18,13 +18,16 @@ rate_refusal-num = refl
 rate_refusal-den : rate_refusal 1 0 ≡ Some ZeroRate
 rate_refusal-den = refl
 
+rate_refusal-both : rate_refusal 0 0 ≡ Some ZeroRate
+rate_refusal-both = refl
+
 rate_refusal-none : rate_refusal 1 1 ≡ None
 rate_refusal-none = refl
 
 rate_refusal-above : rate_refusal 3 2 ≡ None
 rate_refusal-above = refl
 
--- a half, as two fractions, and two fifths
+-- the rates 1 / 2 and 2 / 4, which are equal, and 2 / 5
 abbrev half : Rate
 half = record { num = 1; den = 2; num_above = lit< tt; den_above = lit< tt }
 

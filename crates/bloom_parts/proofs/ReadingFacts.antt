@@ -8,19 +8,19 @@ use Rattle.bloom_parts.specs.Reading.{Reading, ReadsNext}
 abbrev two : ℕ → SharedWords
 two name = record { name = name; count = 2 }
 
--- the greatest word is on its last index
+-- the greatest word may be at the last index
 on-last : (name : ℕ) → IsOnWord (two name) 1 0xffff_ffff_ffff_ffff
 on-last name = (omega arith, lit< tt)
 
--- no word is past it
+-- no word is past the last index
 on-past : (name : ℕ) → IsOnWord (two name) 2 0 → ⊥
 on-past name on = omega (arith, on.0)
 
--- and a word has 64 bits
+-- a word has 64 bits
 on-wide : (name : ℕ) → IsOnWord (two name) 1 (2 ^ 64) → ⊥
 on-wide name on = omega (arith, on.1)
 
--- a reading of it that comes to this word next
+-- a reading of the vector of two words that comes to this word next
 abbrev at : ℕ → ℕ → Reading
 at name i = record { vector = two name; next = i }
 
@@ -29,15 +29,20 @@ last-word : (name found : ℕ) → FoundByLoad (two name) 1 found
     → ReadsNext (at name 1) (Some found) (at name 2)
 last-word name found made = (refl, (made, omega arith, refl))
 
--- after the last word none comes
+-- a word that came was found by a load
+found-there : (name found : ℕ) → ReadsNext (at name 0) (Some found) (at name 1)
+    → FoundByLoad (two name) 0 found
+found-there name found reads = reads.1.0
+
+-- after the last word no word comes
 no-more : (name : ℕ) → ReadsNext (at name 2) None (at name 2)
 no-more name = (refl, (omega arith, refl))
 
--- none comes while a word is left
+-- the reading doesn't end while a word is left
 none-too-early : (name : ℕ) → ReadsNext (at name 1) None (at name 1) → ⊥
 none-too-early name reads = omega (arith, reads.1.0)
 
--- where none comes, the reading stays where it is
+-- where no word comes, the reading stays where it is
 none-back : (name : ℕ) → ReadsNext (at name 2) None (at name 0) → ⊥
 none-back name reads = omega (arith, reads.1.1)
 
@@ -49,7 +54,7 @@ none-too-many name found reads = omega (arith, reads.1.1)
 none-skipped : (name found : ℕ) → ReadsNext (at name 0) (Some found) (at name 2) → ⊥
 none-skipped name found reads = omega (arith, reads.1.2)
 
--- and a reading stays with its vector
+-- a reading stays with its vector
 same-vector : (name other found : ℕ) → ReadsNext (at name 0) (Some found) (at other 1)
     → other ≡ name
 same-vector name other found reads = ap (λ (v : SharedWords). v.name) reads.0

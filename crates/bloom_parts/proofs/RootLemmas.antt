@@ -32,7 +32,7 @@ roots-from j (t ∷ ts) are (suc i) within =
     let here : j + 1 + i ≡ j + suc i = omega arith in
     subst (λ (x : ℕ). IsRoot x (get_or ts i 0)) here (roots-from (j + 1) ts parts.2 i (omega arith))
 
--- so does a table that passes it from root 0 on
+-- a table that passes the test from root 0 on has each root at its place
 pub root-in : (ts : List ℕ) (j : ℕ) → are_roots 0 ts ≡ true → j < length ts →
     IsRoot j (get_or ts j 0)
 root-in ts j are within =
@@ -47,7 +47,7 @@ root-zero = record { at_most = lit≤ tt; greatest = lit< tt }
 power-64 : (a b : ℕ) → a < b → (a + 1) ^ 64 ≤ b ^ 64
 power-64 a b less = let next : a + 1 ≤ b = omega arith in pow-le-pow_left next 64
 
--- so do powers of two
+-- powers of two keep the order of their exponents
 power-of_two : (i j : ℕ) → i ≤ j → 2 ^ (2048 + i) ≤ 2 ^ (2048 + j)
 power-of_two i j before =
     let later : 2048 + i ≤ 2048 + j = omega arith in pow-le-pow_right (lit< tt) later
@@ -67,7 +67,7 @@ module _ (j t u : ℕ) (root : IsRoot j t) where
     | inr enough ↦ enough
   ]
 
-  -- and a number whose successor's power is above that of the root is at least the root
+  -- a number whose successor's power is above that of the root is at least the root
   pub at_least-root : 2 ^ (2048 + j) < (u + 1) ^ 64 → t ≤ u
   at_least-root high = elim (cases_lt u t) [
     | inl less ↦
@@ -81,7 +81,7 @@ pub root-least : (j t : ℕ) → IsRoot j t → 2 ^ 32 ≤ t
 root-least j t root =
     at_most-root j t (2 ^ 32) root (power-of_two 0 j (omega arith))
 
--- below, up to root 63
+-- the roots up to root 63 are below 2^33
 pub root-below : (j t : ℕ) → j < 64 → IsRoot j t → t < 2 ^ 33
 root-below j t within root =
     let less : 2 ^ (2048 + j) < (8589934591 + 1) ^ 64 =

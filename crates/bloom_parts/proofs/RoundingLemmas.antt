@@ -13,7 +13,7 @@ div_ceil-le x y q above enough =
     let below : div_ceil x y < q + 1 = lt_of_mul-lt-mul_right y near in
     omega (arith, below)
 
--- and only there
+-- where a quotient rounded up is at most q, q times the divisor is enough
 pub le-div_ceil : (x y q : ℕ) → 0 < y → div_ceil x y ≤ q → x ≤ q * y
 le-div_ceil x y q above small =
     let more : div_ceil x y * y ≤ q * y = mul-le (div_ceil x y) y q y small (omega arith) in

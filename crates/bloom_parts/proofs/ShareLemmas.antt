@@ -21,7 +21,7 @@ only-here n hash i here q = (
   (λ same. positions-one n hash q ∙ eq-eqb q (index_of n hash) (same ∙ sym here)),
 )
 
--- and a hash that has one position alone lies there
+-- a hash that has one position alone lies there
 here-only : (n hash i : ℕ) → IsOnly (positions n 1 hash) i → index_of n hash ≡ i
 here-only n hash i only =
     let here = index_of n hash in
@@ -33,7 +33,7 @@ module _ (n hash : ℕ) (above : 0 < n) where
   start-reached : (i : ℕ) → share_start n i ≤ hash → i * 2 ^ 64 ≤ hash * n
   start-reached i from = le-div_ceil (i * 2 ^ 64) n hash above from
 
-  -- before it
+  -- before the start of a share
   start-missed : (i : ℕ) → hash < share_start n i → hash * n < i * 2 ^ 64
   start-missed i before = elim (cases_lt (hash * n) (i * 2 ^ 64)) [
     | inl less ↦ less
@@ -51,7 +51,7 @@ module _ (n hash : ℕ) (above : 0 < n) where
     ],
   )
 
-  -- and a hash in the share of a position lies there
+  -- a hash in the share of a position lies there
   share-from : (i : ℕ) → (share_start n i ≤ hash) × (hash < share_start n (i + 1)) →
       index_of n hash ≡ i
   share-from i (from, before) = omega (arith, start-reached i from, start-missed (i + 1) before)

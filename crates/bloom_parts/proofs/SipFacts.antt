@@ -2,7 +2,9 @@
 -- by the crate siphasher 0.3.10 (`SipHasher13`), under the key bytes 0, 1, .., 15 and under keys
 -- that were drawn.
 use Rattle.std.proofs.Common.{◌≡◌, ◌∷◌, [], refl}
-use Rattle.bloom_parts.specs.Sip.{sip, start, round, absorb, answer, whole_words, rest}
+use Rattle.bloom_parts.specs.declared.hasher.sip.state.State.{State}
+use Rattle.bloom_parts.specs.Sip.{Words, sip, start, round, absorb, answer, whole_words, rest, last_word}
+use Rattle.bloom_parts.specs.States.{state_words, of_words}
 
 -- no bytes, under the key bytes 0 to 15
 counting_key-0 : sip 0x0706_0504_0302_0100 0x0f0e_0d0c_0b0a_0908
@@ -94,3 +96,20 @@ drawn_key-16 : sip 0x13e9_af8a_fe6d_2007 0x6c0f_6b9c_16d8_bb7a
     ≡ 0x15c6_f4e8_996a_1aa9
 unfolding sip start round absorb answer whole_words rest
 drawn_key-16 = refl
+
+-- the last word has the length modulo 256 as its top byte
+last_word-long : last_word (7 ∷ []) 513 ≡ 0x0100_0000_0000_0007
+last_word-long = refl
+
+-- a state has the four words of SipHash in their order
+abbrev state : State
+state = record { v0 = 1; v1 = 2; v2 = 3; v3 = 4 }
+
+abbrev words : Words
+words = record { v0 = 1; v1 = 2; v2 = 3; v3 = 4 }
+
+state_words-state : state_words state ≡ words
+state_words-state = refl
+
+of_words-words : of_words words ≡ state
+of_words-words = refl

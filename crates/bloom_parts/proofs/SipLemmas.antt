@@ -40,27 +40,27 @@ short (a ∷ b ∷ c ∷ d ∷ e ∷ f ∷ []) few = record { words = refl; rema
 short (a ∷ b ∷ c ∷ d ∷ e ∷ f ∷ g ∷ []) few = record { words = refl; remain = refl }
 
 -- behind a list, more bytes go on from what remained of it
-pub record GoesOn (bytes more : List ℕ) : Type 0 where
+pub record Continues (bytes more : List ℕ) : Type 0 where
   pub words : whole_words (bytes ++ more) ≡ whole_words bytes ++ whole_words (rest bytes ++ more)
   pub remain : rest (bytes ++ more) ≡ rest (rest bytes ++ more)
 
 -- how a list goes on
-pub goes_on : (bytes more : List ℕ) → GoesOn bytes more
+pub continues : (bytes more : List ℕ) → Continues bytes more
 unfolding whole_words rest
-goes_on (a ∷ b ∷ c ∷ d ∷ e ∷ f ∷ g ∷ h ∷ bytes) more =
-    let further = goes_on bytes more in
+continues (a ∷ b ∷ c ∷ d ∷ e ∷ f ∷ g ∷ h ∷ bytes) more =
+    let further = continues bytes more in
     record {
       words = ap (λ ws. from_le_bytes w64 (a ∷ b ∷ c ∷ d ∷ e ∷ f ∷ g ∷ h ∷ []) ∷ ws) further.words;
       remain = further.remain;
     }
-goes_on [] more = record { words = refl; remain = refl }
-goes_on (a ∷ []) more = record { words = refl; remain = refl }
-goes_on (a ∷ b ∷ []) more = record { words = refl; remain = refl }
-goes_on (a ∷ b ∷ c ∷ []) more = record { words = refl; remain = refl }
-goes_on (a ∷ b ∷ c ∷ d ∷ []) more = record { words = refl; remain = refl }
-goes_on (a ∷ b ∷ c ∷ d ∷ e ∷ []) more = record { words = refl; remain = refl }
-goes_on (a ∷ b ∷ c ∷ d ∷ e ∷ f ∷ []) more = record { words = refl; remain = refl }
-goes_on (a ∷ b ∷ c ∷ d ∷ e ∷ f ∷ g ∷ []) more = record { words = refl; remain = refl }
+continues [] more = record { words = refl; remain = refl }
+continues (a ∷ []) more = record { words = refl; remain = refl }
+continues (a ∷ b ∷ []) more = record { words = refl; remain = refl }
+continues (a ∷ b ∷ c ∷ []) more = record { words = refl; remain = refl }
+continues (a ∷ b ∷ c ∷ d ∷ []) more = record { words = refl; remain = refl }
+continues (a ∷ b ∷ c ∷ d ∷ e ∷ []) more = record { words = refl; remain = refl }
+continues (a ∷ b ∷ c ∷ d ∷ e ∷ f ∷ []) more = record { words = refl; remain = refl }
+continues (a ∷ b ∷ c ∷ d ∷ e ∷ f ∷ g ∷ []) more = record { words = refl; remain = refl }
 
 -- eight bytes are one word, in front of what follows
 word-first : (word bytes : List ℕ) → length word ≡ 8
@@ -78,11 +78,11 @@ word-first (a ∷ b ∷ c ∷ d ∷ e ∷ f ∷ []) bytes eight = absurd (omega 
 word-first (a ∷ b ∷ c ∷ d ∷ e ∷ f ∷ g ∷ []) bytes eight = absurd (omega arith)
 
 -- each has eight bytes
-abbrev pub AreWords : List (List ℕ) → Type 0
-AreWords words = (i : ℕ) → i < length words → length (get_or words i []) ≡ 8
+abbrev pub AreEights : List (List ℕ) → Type 0
+AreEights words = (i : ℕ) → i < length words → length (get_or words i []) ≡ 8
 
 -- words joined and cut again are these words
-pub whole_words-concat : (words : List (List ℕ)) → AreWords words
+pub whole_words-concat : (words : List (List ℕ)) → AreEights words
     → whole_words (concat words) ≡ map (from_le_bytes w64) words
 unfolding whole_words
 whole_words-concat [] each = refl
@@ -92,7 +92,7 @@ whole_words-concat (word ∷ words) each =
     (whole_words-concat words (λ i below. each (suc i) (omega arith)))
 
 -- words joined have eight bytes each
-pub length-concat : (words : List (List ℕ)) → AreWords words
+pub length-concat : (words : List (List ℕ)) → AreEights words
     → length (concat words) ≡ 8 * length words
 length-concat [] each = refl
 length-concat (word ∷ words) each =

@@ -21,30 +21,30 @@ root-late = record { at_most = lit≤ tt; greatest = lit< tt }
 pub root-last : IsRoot 63 8497403929
 root-last = record { at_most = lit≤ tt; greatest = lit< tt }
 
--- a half has one halving
+-- the rate of a half has one halving
 pub halvings-half : IsHalvings 1 2 64
 halvings-half =
     next-halvings 1 2 0 63 8497403929 root-last (lit< tt) (lit< tt) (2 ^ 32, root-zero, lit≤ tt)
 
--- a thousandth has nearly ten
+-- the rate of a thousandth has nearly ten halvings
 halvings-thousandth : IsHalvings 1 1000 638
 halvings-thousandth =
     let before : IsRoot 61 8315322086 = record { at_most = lit≤ tt; greatest = lit< tt } in
     let root : IsRoot 62 8405870006 = record { at_most = lit≤ tt; greatest = lit< tt } in
     next-halvings 1 1000 9 61 8315322086 before (lit< tt) (lit< tt) (8405870006, root, lit≤ tt)
 
--- the least rate has 64
+-- the least rate has 64 halvings
 halvings-least : IsHalvings 1 18446744073709551615 4096
 halvings-least =
     next-halvings 1 18446744073709551615 63 63 8497403929 root-last (lit< tt) (lit< tt)
     (2 ^ 32, root-zero, lit≤ tt)
 
--- a rate above one has none
+-- a rate above one has no halvings
 halvings-above : IsHalvings 3 2 0
 halvings-above =
     least-halvings 3 2 0 (none-enough 3 2 (lit≤ tt)) (λ fewer below. absurd (omega arith))
 
--- sizes for these rates
+-- sizes for the rates of a half, the least rate, a thousandth and three halves
 pub size-half : IsSizeFor 1000 1 2 1448
 size-half = (64, halvings-half, refl)
 
@@ -67,13 +67,13 @@ size-none : (k : ℕ) → size_for 0 k ≡ 64
 size-none k = omega arith
 
 -- the last size below 2^64, and the first that isn't
-pub size-last : IsSizeFor 12786308645202655226 1 2 18446744073709551608
+size-last : IsSizeFor 12786308645202655226 1 2 18446744073709551608
 size-last = (64, halvings-half, refl)
 
 pub size-first_too_large : IsSizeFor 12786308645202655227 1 2 18446744073709551616
 size-first_too_large = (64, halvings-half, refl)
 
--- counts of hashes
+-- the numbers of hashes for bits and items
 hashes-many : hashes_for 1024 2 ≡ 355
 hashes-many = refl
 
@@ -98,6 +98,6 @@ hashes-least = refl
 hashes-greatest : hashes_for 18446744073709551615 1 ≡ 4294967295
 hashes-greatest = refl
 
--- a true half is rounded up
+-- a quotient of exactly two and a half is rounded up
 hashes-half : hashes_for 22517998136852480 6243314768165359 ≡ 3
 hashes-half = refl

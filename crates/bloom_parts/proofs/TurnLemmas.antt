@@ -8,7 +8,7 @@ use Rattle.bloom_parts.specs.Chain.{IsAt}
 use Rattle.bloom_parts.specs.Content.{content}
 use Rattle.bloom_parts.specs.Places.{positions, are_in}
 use Rattle.bloom_parts.specs.declared.hasher.chain.DoubleHasher.{DoubleHasher}
-use Rattle.bloom_parts.specs.Stretches.{positions_from, are_in_from, TurnsOn, GoesOn, TurnsOnNext, HasTurnedOn}
+use Rattle.bloom_parts.specs.Stretches.{positions_from, are_in_from, TurnsOn, Advances, TurnsOnNext, HasTurnedOn}
 use Rattle.bloom_parts.proofs.StretchLemmas.{positions_from-zero, are_in_from-zero, positions_from-start, are_in_from-start, positions_from-append, test-after}
 
 -- the `|` of two words is 0 exactly if both are
@@ -61,19 +61,19 @@ turns_on-none i h words = record {
 }
 
 -- a chain goes on twice
-pub goes_on-then : (a b : ℕ) (x y z : DoubleHasher) → GoesOn a x y → GoesOn b y z
-    → GoesOn (a + b) x z
-goes_on-then a b x y z one two hash i at =
+pub advances-then : (a b : ℕ) (x y z : DoubleHasher) → Advances a x y → Advances b y z
+    → Advances (a + b) x z
+advances-then a b x y z one two hash i at =
     let same : i + a + b ≡ i + (a + b) = omega arith in
     subst (λ m. IsAt hash m z) same (two hash (i + a) (one hash i at))
 
 -- a chain stays where it is
-pub goes_on-none : (x : DoubleHasher) → GoesOn 0 x x
-goes_on-none x hash i at = let same : i ≡ i + 0 = omega arith in subst (λ m. IsAt hash m x) same at
+pub advances-none : (x : DoubleHasher) → Advances 0 x x
+advances-none x hash i at = let same : i ≡ i + 0 = omega arith in subst (λ m. IsAt hash m x) same at
 
 -- the next places of a chain are turned on, and then those after them
 pub turns_on_next-then : (a b : ℕ) (x y : DoubleHasher) (old mid new : List ℕ) (v w : ℕ)
-    → GoesOn a x y → TurnsOnNext a x old mid v → TurnsOnNext b y mid new w
+    → Advances a x y → TurnsOnNext a x old mid v → TurnsOnNext b y mid new w
     → TurnsOnNext (a + b) x old new (bit_or v w)
 turns_on_next-then a b x y old mid new v w moved one two hash i at =
     turns_on-both i a b hash old mid new v w (one hash i at) (two hash (i + a) (moved hash i at))
@@ -85,7 +85,8 @@ turned_on-none hash words chain at = record { stands = at; turned = turns_on-non
 
 -- at the start of a chain one call turns them on
 pub turned_on-once : {hash count : ℕ} {old new : List ℕ} {x y : DoubleHasher} {w : ℕ}
-    → IsAt hash 0 x → record { turns_on : TurnsOnNext count x old new w; moved : GoesOn count x y }
+    → IsAt hash 0 x
+    → record { turns_on : TurnsOnNext count x old new w; moved : Advances count x y }
     → HasTurnedOn hash count old new y w
 turned_on-once {hash} {count} {old} {new} {x} {y} {w} at next =
     let all : 0 + count ≡ count = omega arith in
@@ -97,7 +98,7 @@ turned_on-once {hash} {count} {old} {new} {x} {y} {w} at next =
 -- some more are turned on by one call
 pub turned_on-add : {hash a count : ℕ} {old mid new : List ℕ} {x y : DoubleHasher} {v : ℕ}
     (b w : ℕ) → a + b ≡ count → HasTurnedOn hash a old mid x v
-    → record { turns_on : TurnsOnNext b x mid new w; moved : GoesOn b x y }
+    → record { turns_on : TurnsOnNext b x mid new w; moved : Advances b x y }
     → HasTurnedOn hash count old new y (bit_or v w)
 turned_on-add {hash} {a} {count} {old} {mid} {new} {x} {y} {v} b w all done next =
     let start : a ≡ 0 + a = omega arith in

@@ -7,7 +7,7 @@ use Rattle.bloom_parts.specs.Buffers.{padded, held_in, IsKept}
 use Rattle.bloom_parts.specs.Hashed.{SipState, write, finish, Takes}
 use Rattle.bloom_parts.specs.Sip.{Words, absorb, answer, last_word}
 use Rattle.bloom_parts.proofs.BufferLemmas.{topped, length-held_in}
-use Rattle.bloom_parts.proofs.SipLemmas.{AreWords, IsCut, empty, length-concat}
+use Rattle.bloom_parts.proofs.SipLemmas.{AreEights, IsCut, empty, length-concat}
 use Rattle.bloom_parts.proofs.HashedLemmas.{takes, write-append, write-words, length-held}
 
 -- where no byte is held, whole words leave none, and what remains of the bytes may follow
@@ -30,7 +30,7 @@ module _ (h : SipState) (none : h.held ≡ []) (bytes : List ℕ) (words : List 
 
 -- whole words taken in, with their number counted in 64 bits
 module _ (h : SipState) (none : h.held ≡ []) (buffer : List ℕ)
-    (held : h.held ≡ take (h.count % 8) buffer) (words : List (List ℕ)) (each : AreWords words)
+    (held : h.held ≡ take (h.count % 8) buffer) (words : List (List ℕ)) (each : AreEights words)
     (after : Words) (taken : after ≡ fold absorb h.words (map (from_le_bytes w64) words)) where
   -- the number of bytes taken in, as the code counts it
   abbrev pub counted : ℕ

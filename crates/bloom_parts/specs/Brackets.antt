@@ -1,5 +1,6 @@
 -- Brackets of the density of a filter and of its rate of false positives, where positions fall on
--- each bit alike (B. H. Bloom, 1970). The unit of 2^-63 and the exact ends are this project's own.
+-- each bit alike (B. H. Bloom, 1970). A bracket is two bounds of a fraction. The unit of 2^-63 and
+-- the exact ends are this project's own.
 use Rattle.std.specs.Prelude.{ℕ, ◌-◌, ◌*◌, ◌/◌, ◌^◌, ◌≤◌}
 use Rattle.std.specs.Int.{div_ceil}
 use Rattle.bloom_parts.specs.Powers.{lower_power_of, upper_power_of}

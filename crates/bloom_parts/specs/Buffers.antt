@@ -1,5 +1,5 @@
--- A buffer of eight bytes, in which a hasher holds fewer. That zeros follow them is the project's
--- own choice.
+-- A buffer of eight bytes, which holds fewer bytes of a hasher. That zeros follow them is the
+-- project's own choice.
 use Rattle.std.specs.Prelude.{◌≡◌, ℕ, ◌-◌, ◌%◌, ◌<◌, List, ◌++◌, length, slice_index, take, replicate}
 
 -- the items are bytes

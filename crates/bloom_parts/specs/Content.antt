@@ -21,7 +21,7 @@ index_of n hash = hash * n / 2 ^ 64
 abbrev pub AreWords : List ℕ → Type 0
 AreWords words = All (λ word. word < 2 ^ 64) words
 
--- as many words are equal exactly if they have the same content
+-- two lists of words of equal length are equal exactly if they have the same content
 abbrev pub EqualWordsLaw : Type 0
 EqualWordsLaw = (a b : List ℕ) → AreWords a → AreWords b → length a ≡ length b
     → (a ≡ b ↔ ((p : ℕ) → content a p ≡ content b p))

@@ -1,9 +1,10 @@
--- What a list of deciders makes of a set of positions. Plain commands and word steps are deciders
--- alike. This way to look back through a list is the project's own.
+-- What a list of deciders makes of a set of positions. A decider says of each position whether it
+-- turns it on, turns it off, or leaves it; plain commands and the steps of threads on words are
+-- deciders alike. The word, and this way to look back through a list, are the project's own.
 use Rattle.std.specs.Prelude.{ℕ, Bool, true, false, if◌then◌else◌, List, [], ◌∷◌, Option, Some, None, unwrap_or}
 use Rattle.std.specs.Option.{option_or}
 
--- what it makes of each position: Some true is on, Some false is off, None leaves it undecided
+-- a decider, by position: Some true turns it on, Some false turns it off, None leaves it undecided
 abbrev pub Decider : Type 0
 Decider = ℕ → Option Bool
 
@@ -11,15 +12,15 @@ Decider = ℕ → Option Bool
 abbrev pub decides_nothing : Decider
 decides_nothing p = None
 
--- makes the positions of a set on
+-- turns on the positions of a set
 abbrev pub makes_on : (ℕ → Bool) → Decider
 makes_on A p = if A p then Some true else None
 
--- makes every position off
+-- turns every position off
 abbrev pub makes_all_off : Decider
 makes_all_off p = Some false
 
--- makes every position off that isn't in a set
+-- turns off every position that isn't in a set
 abbrev pub makes_off_outside : (ℕ → Bool) → Decider
 makes_off_outside A p = if A p then None else Some false
 

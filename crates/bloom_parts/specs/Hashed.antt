@@ -3,7 +3,8 @@
 use Rattle.std.specs.Prelude.{◌≡◌, ℕ, ◌+◌, ◌%◌, List, ◌++◌, length, fold}
 use Rattle.bloom_parts.specs.Sip.{Words, start, absorb, answer, whole_words, rest, last_word, sip}
 
--- its key, its state, the bytes since the last whole word, and how many it took modulo 256
+-- a hasher: its key, its state, the bytes since the last whole word, and how many bytes it took in,
+-- modulo 256
 pub record SipState : Type 0 where
   pub low : ℕ
   pub high : ℕ
@@ -19,7 +20,7 @@ write h bytes = record h {
   count = (h.count + length bytes) % 256;
 }
 
--- what it answers
+-- what the hasher answers
 unfoldable pub finish : SipState → ℕ
 finish h = answer (absorb h.words (last_word h.held h.count))
 

@@ -10,14 +10,14 @@ use Rattle.bloom_parts.specs.Hashed.{Hashed}
 abbrev pub key_low : List ℕ → ℕ
 key_low seed = from_le_bytes w64 (take 8 seed)
 
--- the word of the other eight
+-- the word of the last eight bytes
 abbrev pub key_high : List ℕ → ℕ
 key_high seed = from_le_bytes w64 (drop 8 seed)
 
--- each hasher that it builds has this key and has taken in nothing
+-- each hasher that the builder builds has this key and has taken in nothing
 abbrev pub HasKey : CloneBuildHasher RandomDefaultHasher → ℕ → ℕ → Type 0
 HasKey builder k0 k1 = Hashed builder.hasher k0 k1 []
 
--- the key of the hashers that it builds, as two words
+-- the key of the hashers that the builder builds, as two words
 abbrev pub key_of : CloneBuildHasher RandomDefaultHasher → ℕ × ℕ
 key_of builder = (builder.hasher.low, builder.hasher.high)

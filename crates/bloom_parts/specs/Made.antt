@@ -1,7 +1,7 @@
--- That a step was made on a word of a vector that threads share, and what it found there; and with
--- which words a vector began. Outside of this file nothing unfolds these facts: a proof has one only
--- where the step itself handed it out. The lemmas that make them are cited by the proofs of those
--- steps alone, as the full check sees. This project's own.
+-- Facts of the steps of threads on a vector that they share: that a step was made on a word, what
+-- it found there, and the words that the vector began with. Nothing outside this file unfolds them,
+-- so a proof has such a fact only where the step itself handed it out. Only the proofs of those
+-- steps cite the lemmas that make the facts, as the full check sees. This project's own.
 use Rattle.std.specs.Prelude.{◌≡◌, ℕ, ◌<◌, ◌^◌, List, length}
 
 -- a vector that threads share: a name that tells it from others, and how many words it has

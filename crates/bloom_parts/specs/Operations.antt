@@ -1,11 +1,11 @@
 -- What a command to a filter of n bits and k hashes decides, and replies. The other filter of a
--- union or an intersection counts by its content, so that plain commands and calls made of word
--- steps share one text.
+-- union or an intersection counts by its content, so that plain commands and the calls that threads
+-- make step by step share one text.
 use Rattle.std.specs.Prelude.{ℕ, Bool, List, Option, Some, None, map, option_map}
 use Rattle.bloom_parts.specs.Places.{positions, are_in}
 use Rattle.bloom_parts.specs.Deciders.{Decider, decides_nothing, makes_on, makes_all_off, makes_off_outside, state}
 
--- a command, as what it says of a set of positions
+-- a command on a set of positions
 pub data Operation : Type 0 where
   Insert : ℕ → Operation
   Contains : ℕ → Operation

@@ -27,11 +27,11 @@ pub record IsPosition (n k hash p : ℕ) : Type 0 where
 abbrev pub IsPart : (ℕ → Bool) → (ℕ → Bool) → Type 0
 IsPart A B = (p : ℕ) → A p ≡ true → B p ≡ true
 
--- `positions` is the set of the positions
+-- `positions` has exactly the positions of a hash
 abbrev pub PositionsLaw : Type 0
 PositionsLaw = (n k hash p : ℕ) → (positions n k hash p ≡ true) ↔ IsPosition n k hash p
 
--- `are_in` is the subset test
+-- `are_in` tells whether the positions of a hash are a part of a set
 abbrev pub SubsetLaw : Type 0
 SubsetLaw =
     (n k hash : ℕ) (A : ℕ → Bool) → (are_in n k hash A ≡ true) ↔ IsPart (positions n k hash) A

@@ -1,5 +1,6 @@
--- Which hashes have a position, where a filter has one hash: a run of them, and nearly as many for
--- each position (D. Lemire, "Fast random integer generation in an interval", 2019).
+-- The share of a position, where a filter has one hash: the hashes that lie there. They are a run,
+-- and any two runs are nearly of equal length (D. Lemire, "Fast random integer generation in an
+-- interval", 2019).
 use Rattle.std.specs.Prelude.{◌≡◌, ◌↔◌, ℕ, ◌+◌, ◌-◌, ◌*◌, ◌^◌, ◌<◌, ◌≤◌, Bool, true}
 use Rattle.std.specs.Int.{div_ceil}
 use Rattle.bloom_parts.specs.Places.{positions}

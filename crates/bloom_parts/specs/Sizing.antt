@@ -20,13 +20,14 @@ hashes_for bits items =
     if nat_eq items 0 then (if nat_eq bits 0 then 1 else 2 ^ 32 - 1)
     else min (2 ^ 32 - 1) (max 1 (half_up (bits * ln_two) (items * 2 ^ 53)))
 
--- so many sixty-fourth parts of a halving take one whole to the rate num / den or below it: whole
--- halvings, and the root of those that remain
+-- this many sixty-fourth parts of a halving take one whole to the rate num / den or below it: whole
+-- halvings, and the root of the parts that remain
 abbrev pub IsEnough : ℕ → ℕ → ℕ → Type 0
 IsEnough num den parts =
     (t : ℕ) × IsRoot (parts % 64) t × (den * 2 ^ 32 ≤ num * 2 ^ (parts / 64) * t)
 
--- the halvings of the rate num / den: the least number of sixty-fourth parts that is enough
+-- the halvings of the rate num / den, in sixty-fourth parts of a halving (the project's own word):
+-- the least number that is enough
 pub record IsHalvings (num den parts : ℕ) : Type 0 where
   pub enough : IsEnough num den parts
   pub least : (other : ℕ) → IsEnough num den other → parts ≤ other

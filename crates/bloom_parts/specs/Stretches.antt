@@ -29,9 +29,9 @@ pub record TurnsOn (i count hash : ℕ) (old new : List ℕ) (reply : Bool) : Ty
       ≡ (content old p || positions_from (64 * length old) i count hash p)
   pub shape : length new ≡ length old
 
--- from old to new the chain of a hash went on by so many places
-abbrev pub GoesOn : ℕ → DoubleHasher → DoubleHasher → Type 0
-GoesOn count old new = (hash i : ℕ) → IsAt hash i old → IsAt hash (i + count) new
+-- from old to new the chain of a hash moved on by this many places
+abbrev pub Advances : ℕ → DoubleHasher → DoubleHasher → Type 0
+Advances count old new = (hash i : ℕ) → IsAt hash i old → IsAt hash (i + count) new
 
 -- from old to new the next places of a chain's hash were turned on, and the word is 0 exactly if
 -- all were on before

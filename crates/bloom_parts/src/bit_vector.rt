@@ -40,7 +40,7 @@ pub fn word_and_mask(position: usize) -> (usize, u64)
     (position / 64, 1 << (position % 64))
 }
 
-// The same words, which a slice that was read from a field doesn't tell to be of 64 bits each.
+// The same words, with the fact that each has 64 bits: a slice that was read from a field lacks it.
 fn with_range(words: &[u64]) -> &[u64]
     ensures value { result.now ≡ words.now }
     ensures range { AreWords words.now }
@@ -65,7 +65,7 @@ impl Model for BitVec {
 }
 
 impl BitVec {
-    /// The words as they are. It takes no memory.
+    /// A vector of these words, which takes no memory.
     pub fn from_vec(words: Vec<u64>) -> Self
         requires some { 1 ≤ length words.items }
         requires few { length words.items < 2 ^ 58 }
@@ -131,7 +131,7 @@ impl BitVec {
         self.words[word] & mask > 0
     }
 
-    /// Turns a position on, and answers whether it was.
+    /// Turns a position on, and answers whether it was on before.
     pub fn set(&mut self, position: usize) -> bool
         requires { position < 64 * length self.old }
         ensures reply { result ≡ content self.old position }

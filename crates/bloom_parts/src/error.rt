@@ -23,7 +23,7 @@ pub enum FilterError {
     /// A size is 2^64 bits or more.
     #[error("size too large")]
     SizeOverflow,
-    /// A growth was refused.
+    /// Out of memory.
     #[error("no memory")]
     Memory,
     /// A stored hash count is 2^32 - 1.

@@ -26,7 +26,7 @@ impl<H: Hasher + Copy> BuildHasher for CloneBuildHasher<H> {
     }
 }
 
-/// What builds the hashers of a filter that was given no other. Its default has a key of zeros.
+/// The builder of hashers of a filter that was given no other. Its default has a key of zeros.
 pub type DefaultHasher = CloneBuildHasher<RandomDefaultHasher>;
 
 impl CloneBuildHasher<RandomDefaultHasher> {

@@ -21,7 +21,8 @@ pub fn test_of_hash()
     ensures { SubsetLaw }
 {}
 
-/// As many words are equal exactly if their contents are, and no position lies past the bits.
+/// Two lists of words of equal length are equal exactly if their contents are, and no position lies
+/// past the bits.
 pub fn content_of_words()
     ensures equality { EqualWordsLaw }
     ensures range { BoundLaw }
@@ -46,7 +47,7 @@ pub fn halvings_of_rate()
     ensures most { MostLaw }
 {}
 
-/// One number alone is the size for items and a rate, so what is answered and refused is decided.
+/// At most one number is the size for items and a rate, so no two answers are right.
 pub fn size_of_rate()
     ensures { OneSizeLaw }
 {}

@@ -1,7 +1,7 @@
 //! The calls of a filter over words that lie anywhere: in a vector, or in memory that a caller from
 //! another language owns.
 //!
-//! `BitVec` and the library for C stand on these. Each word is of 64 bits, word 0 first.
+//! `BitVec` and the library for C are made of these. Each word has 64 bits, and word 0 is first.
 ghost use Rattle.std.specs.Prelude.{◌≡◌, ℕ, ◌||◌, ◌&&◌, ◌↔◌, false, IsTrue, length};
 ghost use Rattle.bloom_parts.specs.Content.{content};
 
@@ -49,7 +49,7 @@ pub fn intersect(words: &mut [u64], other: &[u64])
     and_words(words, other, &mut turns);
 }
 
-/// Whether there are as many words, and each is equal.
+/// Whether the two lists of words are of equal length, and each word is equal.
 pub fn are_equal(words: &[u64], other: &[u64]) -> bool
     ensures { IsTrue result ↔ (words.now ≡ other.now) }
 {

@@ -4,9 +4,9 @@ use Rattle.std.proofs.lemmas.Bool.{both_ways, cases_Bool, or_cases, or_left, or_
 use Rattle.bloom_parts.specs.Content.{content}
 use Rattle.bloom_parts.specs.Places.{IsPart, place, positions, are_in}
 use Rattle.bloom_parts.proofs.PublishedLemmas.{position-from, position-to, place-position, part-to, are_in-off}
-use Rattle.bloom_seated.specs.Passes.{Sight, SeatedFilter, known_of, gained_of, sure_of, num_bits_of, positions_of, contains_known, IsSure, IsSamePass, Inserts, Finds}
+use Rattle.bloom_seated.specs.Passes.{Sight, SeatedFilter, known_of, gained_of, sure_of, seated_num_bits, seated_positions, contains_known, IsSure, IsSamePass, InsertsAs, Finds}
 
--- what a pass can be sure of stays so as it comes to know more
+-- a pass stays sure of what it was sure of as it comes to know more
 pub sure-kept : (old new : Sight) → IsSamePass old new → IsPart (known_of old) (known_of new)
     → IsPart (sure_of old) (sure_of new)
 sure-kept old new same kept p sure =
@@ -18,7 +18,7 @@ sure-kept old new same kept p sure =
     ]
 
 -- an insert of positions that the pass could be sure of answers true
-pub inserts-sure : (P : ℕ → Bool) (old new : Sight) (answer : Bool) → Inserts P old new answer
+pub inserts-sure : (P : ℕ → Bool) (old new : Sight) (answer : Bool) → InsertsAs P old new answer
     → IsPart P (sure_of old) → answer ≡ true
 inserts-sure P old new answer did sure = true_from_ne_false answer (λ off.
     let more = did.grew off in
@@ -27,7 +27,7 @@ inserts-sure P old new answer did sure = true_from_ne_false answer (λ off.
       | inr fresh ↦ both_ways (sure_of old more.position) fresh.1 (sure more.position fresh.0)
     ])
 
--- what is known can be relied on
+-- a pass can be sure of what it knows
 pub known-sure : (P : ℕ → Bool) (pass : Sight) → IsPart P (known_of pass) → IsPart P (sure_of pass)
 known-sure P pass known p is = or_right (content pass.start p) (known_of pass p) (known p is)
 
@@ -62,25 +62,28 @@ finds-known n k hash old new answer did = elim (cases_Bool answer) [
     unknown true b is = absurd (both_ways true is refl)
     unknown false b is = is
 
--- the same of a filter and a pass as contracts see them
+-- what calls answer, of a filter and a pass as contracts see them
 module _ (f g : SeatedFilter) (a b new : Sight) (hash : ℕ) (answer : Bool) (same_filter : f ≡ g)
     (same_pass : a ≡ b) where
-  pub insert-true : Inserts (positions_of f hash) a new answer → IsSure g b hash → answer ≡ true
+  pub insert-true : InsertsAs (seated_positions f hash) a new answer → IsSure g b hash
+      → answer ≡ true
   insert-true did sure =
-      inserts-sure (positions_of g hash) b new answer
-      (subst (λ (z : SeatedFilter × Sight). Inserts (positions_of z.0 hash) z.1 new answer)
+      inserts-sure (seated_positions g hash) b new answer
+      (subst (λ (z : SeatedFilter × Sight). InsertsAs (seated_positions z.0 hash) z.1 new answer)
       (λ i. (same_filter i, same_pass i)) did) sure
 
-  pub find-true : Finds (num_bits_of f) f.hashes hash a new answer → IsSure g b hash
+  pub find-true : Finds (seated_num_bits f) f.hashes hash a new answer → IsSure g b hash
       → answer ≡ true
   find-true did sure =
-      finds-sure (num_bits_of g) g.hashes hash b new answer
-      (subst (λ (z : SeatedFilter × Sight). Finds (num_bits_of z.0) z.0.hashes hash z.1 new answer)
+      finds-sure (seated_num_bits g) g.hashes hash b new answer
+      (subst (λ (z : SeatedFilter × Sight).
+      Finds (seated_num_bits z.0) z.0.hashes hash z.1 new answer)
       (λ i. (same_filter i, same_pass i)) did) sure
 
-  pub find-known : Finds (num_bits_of f) f.hashes hash a new answer
+  pub find-known : Finds (seated_num_bits f) f.hashes hash a new answer
       → answer ≡ contains_known g new hash
   find-known did =
-      finds-known (num_bits_of g) g.hashes hash b new answer
-      (subst (λ (z : SeatedFilter × Sight). Finds (num_bits_of z.0) z.0.hashes hash z.1 new answer)
+      finds-known (seated_num_bits g) g.hashes hash b new answer
+      (subst (λ (z : SeatedFilter × Sight).
+      Finds (seated_num_bits z.0) z.0.hashes hash z.1 new answer)
       (λ i. (same_filter i, same_pass i)) did)

@@ -25,7 +25,7 @@ low-on value bit on =
     ∙ ap (λ z. z * 2 ^ bit + value % 2 ^ bit) (sym on)
     ∙ sym (low-more value bit)
 
--- and where it is off nothing is done
+-- where the next bit is off nothing is done
 low-off : (value bit : ℕ) → bit_at value bit ≢ 1 → value % 2 ^ bit ≡ value % 2 ^ (bit + 1)
 low-off value bit off =
     let digit = bit_at-lt value bit in
@@ -76,7 +76,7 @@ fills-on a b c d start i value bit mask within first second is is_mask on =
           ∙ word-on start b.me.0.start i value bit mask within first.start_is is_mask on;
     }
 
--- or leaves it, where it is off
+-- a seat that put in the low bits of a word leaves the next, which is off
 pub fills-off : (a b c : FilterSeat) (start : List ℕ) (i value bit : ℕ)
     → Fills a b (set start i (value % 2 ^ bit)) → c ≡ b → bit_at value bit ≢ 1
     → Fills a c (set start i (value % 2 ^ (bit + 1)))

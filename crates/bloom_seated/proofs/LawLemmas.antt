@@ -6,23 +6,23 @@ use Rattle.std.proofs.lemmas.Bool.{or_left, or_right}
 use Rattle.std.proofs.lemmas.List.Sums.{sum_by-cons}
 use Rattle.bloom_parts.specs.Content.{bit_is_on, content}
 use Rattle.bloom_parts.specs.Places.{IsPart}
-use Rattle.bloom_seated.specs.Passes.{Sight, known_of, num_bits_of, positions_of, Inserts}
+use Rattle.bloom_seated.specs.Passes.{Sight, known_of, seated_num_bits, seated_positions, InsertsAs}
 use Rattle.bloom_seated.specs.Rule.{passes_of}
-use Rattle.bloom_seated.specs.SeatedLaws.{FoundLaw, InsertedLaw, KnownLaw, StaysLaw, MetLaw, FewLaw, OrLaw, is_pass, is_pass_role}
+use Rattle.bloom_seated.specs.SeatedLaws.{SureFoundLaw, InsertedLaw, KnownLaw, StaysLaw, MetLaw, FewLaw, OrLaw, is_pass, is_pass_role}
 use Rattle.bloom_seated.specs.declared.rule.Role.{Role}
 use Rattle.bloom_seated.specs.declared.rule.Role.TheVariants.{First, Pass, Note, Spent}
 use Rattle.bloom_seated.specs.declared.rule.Sets.{Sets}
 use Rattle.bloom_seated.proofs.CallLemmas.{finds-sure, inserts-sure, known-sure}
 use Rattle.bloom_seated.proofs.WordLemmas.{content-with_bits}
 
--- what can be relied on is found
-pub found_law : FoundLaw
+-- the laws on what a pass can be sure of
+pub found_law : SureFoundLaw
 found_law f old new hash answer sure did =
-    finds-sure (num_bits_of f) f.hashes hash old new answer did sure
+    finds-sure (seated_num_bits f) f.hashes hash old new answer did sure
 
 pub inserted_law : InsertedLaw
 inserted_law f old new hash answer sure did =
-    inserts-sure (positions_of f hash) old new answer did sure
+    inserts-sure (seated_positions f hash) old new answer did sure
 
 -- a part of what was known is a part of more
 more-known : (P : ℕ → Bool) (old new : Sight) → IsPart P (known_of old)
@@ -30,22 +30,22 @@ more-known : (P : ℕ → Bool) (old new : Sight) → IsPart P (known_of old)
 more-known P old new known kept p is = kept p (known p is)
 
 -- an insert keeps what was known
-insert-keeps : (P : ℕ → Bool) (old new : Sight) (answer : Bool) → Inserts P old new answer
+insert-keeps : (P : ℕ → Bool) (old new : Sight) (answer : Bool) → InsertsAs P old new answer
     → IsPart (known_of old) (known_of new)
 insert-keeps P old new answer did p is = did.known p ∙ or_left (known_of old p) (P p) is
 
--- an insert is known
+-- the law that what was inserted is known
 pub known_law : KnownLaw
 known_law f old new hash answer did p is =
-    did.known p ∙ or_right (known_of old p) (positions_of f hash p) is
+    did.known p ∙ or_right (known_of old p) (seated_positions f hash p) is
 
--- and stays so
+-- the law that what is known stays known
 pub stays_law : StaysLaw
 stays_law = record {
   insert = λ f P old new hash answer known did.
-      more-known (positions_of f hash) old new known (insert-keeps P old new answer did);
+      more-known (seated_positions f hash) old new known (insert-keeps P old new answer did);
   look = λ f n k other old new hash answer known did.
-      more-known (positions_of f hash) old new known did.looks.kept;
+      more-known (seated_positions f hash) old new known did.looks.kept;
   meeting = λ f a b a_new b_new hash known met. elim known [
     | inl mine ↦ (
       (λ p is. met.known_a p (or_left (known_of a p) (known_of b p) (mine p is))),
@@ -58,16 +58,16 @@ stays_law = record {
   ];
 }
 
--- passes that met
+-- the law on passes that met
 pub met_law : MetLaw
 met_law = record {
   found = λ f a b a_new b_new later hash answer known met did.
       found_law f b_new later hash answer
-      (known-sure (positions_of f hash) b_new
+      (known-sure (seated_positions f hash) b_new
       (stays_law.meeting f a b a_new b_new hash (inl known) met).1) did;
   inserted = λ f a b a_new b_new later hash answer known met did.
       inserted_law f b_new later hash answer
-      (known-sure (positions_of f hash) b_new
+      (known-sure (seated_positions f hash) b_new
       (stays_law.meeting f a b a_new b_new hash (inl known) met).1) did;
 }
 

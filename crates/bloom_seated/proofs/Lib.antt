@@ -1,5 +1,6 @@
 mod CallLemmas
 mod FillLemmas
+mod LawFacts
 mod LawLemmas
 mod MeetLemmas
 mod OpeningLemmas
@@ -9,5 +10,6 @@ mod PlaceLemmas
 mod RuleFacts
 mod RuleLemmas
 mod SetLemmas
+mod StandingFacts
 mod StepLemmas
 mod WordLemmas

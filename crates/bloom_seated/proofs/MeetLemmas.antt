@@ -18,7 +18,7 @@ use Rattle.bloom_seated.specs.declared.rule.Sets.{Sets}
 use Rattle.bloom_seated.proofs.SetLemmas.{in-left, in-right}
 use Rattle.bloom_seated.proofs.StepLemmas.Passes.{pass-not_spent}
 
--- who looked at every word knows all that the filter began with
+-- a pass that looked at every word knows all that the filter began with
 start-known : (old new : Sight) (words : ℕ) → Views words old new → length old.start ≡ words
     → IsPart (content old.start) (known_of new)
 start-known old new words views whole p begun = elim (cases_lt (p / 64) words) [
@@ -99,7 +99,7 @@ closes count passes seat_id seat words slots pass final =
           (rule.gained_new seat_id seat.me.0 at p gained);
     }
 
--- the words so far, and one more
+-- the words of the table read so far, and one more
 found-at : (l : List ℕ) (i a : ℕ) → get_elem? l i ≡ some a → (i < length l) × (get_or l i 0 ≡ a)
 found-at [] i a at = absurd (some-ne-none a (sym at))
 found-at (x ∷ xs) zero a at = (omega arith, some-injective x a at)
@@ -115,12 +115,12 @@ take-next l m k i a at is more =
     more ∙ ap (λ z. z ++ a ∷ []) is ∙ ap (λ z. take i l ++ z ∷ []) (sym there.1)
     ∙ sym (take_more l i 0 there.0)
 
--- and all of them
+-- all words of the table, read one after the other
 take-whole : (l k : List ℕ) (i n : ℕ) → k ≡ take i l → i ≡ n → n ≡ length l → k ≡ l
 take-whole l k i n is at count =
     is ∙ ap (λ m. take m l) (at ∙ count) ∙ take_all (length l) l (le_refl (length l))
 
--- the same of words that were taken out one by one
+-- the last words, where they were taken out one by one
 pub closes-taken : (count passes seat_id : ℕ) (seat : FilterSeat) (words taken : List ℕ)
     (slots : List (Unit {0})) (i n : ℕ) → IsPassSeat seat
     → Final (Seen (IsSeated count passes) seat_id seat.me.0) words slots → taken ≡ take i words

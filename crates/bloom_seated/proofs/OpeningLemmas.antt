@@ -50,7 +50,7 @@ module _ (s : Standing) (w : Sets) (one : s.views ≡ w ∷ []) (same : s.words 
     );
   }
 
--- the rule of these numbers
+-- the rule of one number of words and passes is that of equal numbers
 pub of-size : {a b c d : ℕ} {s : Standing} → a ≡ b → c ≡ d → IsSeated a c s → IsSeated b d s
 of-size {a} {b} {c} {d} {s} words passes rule =
     subst (λ n. IsSeated n d s) words (subst (λ n. IsSeated a n s) passes rule)
@@ -65,7 +65,7 @@ only-set l seat v w one at =
     at-first zero there = refl
     at-first (suc j) there = absurd (some-ne-none v (sym there))
 
--- as many passes as the only seat stands for
+-- the number of passes is the one that the only seat stands for
 only-passes : {count passes : ℕ} (s : Standing) → IsSeated count passes s → (v : Sets)
     → s.views ≡ v ∷ [] → v.passes ≡ passes
 only-passes s rule v one = let there = ap (sum_by passes_of) one in omega (arith, there, rule.few)
@@ -115,7 +115,7 @@ settles count passes slots seat me i first s rule sized at fits =
       refl,
     )
 
--- it knows and gained nothing then
+-- the seat that became a pass knows and gained nothing
 pub settles-fresh : (v w : Sets) → IsFirst v → w ≡ record v { role = Pass } → IsFresh w
 settles-fresh v w was is = record {
   role = ap (λ (u : Sets). u.role) is;

@@ -1,11 +1,10 @@
 -- The places of a hash, one after the other.
-use Rattle.std.proofs.Common.{◌≡◌, ℕ, suc, ◌+◌, ◌*◌, ◌/◌, ◌<◌, Bool, true, false, ◌||◌, ◌&&◌, eqb, inl, inr, refl, sym, ap, ◌∙◌, subst, arith, le_refl}
-use Rattle.std.proofs.lemmas.Bool.{both_ways, cases_lt}
+use Rattle.std.proofs.Common.{◌≡◌, ℕ, suc, ◌+◌, ◌*◌, ◌/◌, Bool, true, false, ◌||◌, ◌&&◌, eqb, inl, inr, refl, sym, ap, ◌∙◌, subst, arith}
 use Rattle.bloom_parts.specs.Chain.{chain}
 use Rattle.bloom_parts.specs.Content.{index_of}
 use Rattle.bloom_parts.specs.Places.{place, positions}
 use Rattle.bloom_seated.specs.Loads.{LooksAt}
-use Rattle.bloom_seated.specs.Passes.{Sight, known_of, sure_of, Inserts, Looks, GrowsBeside, Finds}
+use Rattle.bloom_seated.specs.Passes.{Sight, InsertsAs, Looks, GrowsBeside}
 use Rattle.bloom_seated.proofs.PassLemmas.Inserting.{inserts-none, inserts-then, inserts-as}
 
 -- where the next hash of the chain lies among these bits is the next place
@@ -24,17 +23,17 @@ positions-next n hash i q is p =
     ap (λ r. positions n i hash p || eqb p r) is ∙ ap (λ j. positions n j hash p) next
 
 -- no place was turned on yet
-pub inserts-begin : (n hash : ℕ) (old : Sight) → Inserts (positions n 0 hash) old old true
+pub inserts-begin : (n hash : ℕ) (old : Sight) → InsertsAs (positions n 0 hash) old old true
 unfolding positions
 inserts-begin n hash old =
     inserts-as (λ p. false) (positions n 0 hash) old old true (λ p. refl) (inserts-none old)
 
 -- the next place is turned on
 pub inserts-next : (n hash i q : ℕ) (old mid new : Sight) (a b both : Bool) → q ≡ place n hash i
-    → both ≡ (a && b) → Inserts (positions n i hash) old mid a
-    → Inserts (λ p. eqb p q) mid new b → Inserts (positions n (i + 1) hash) old new both
+    → both ≡ (a && b) → InsertsAs (positions n i hash) old mid a
+    → InsertsAs (λ p. eqb p q) mid new b → InsertsAs (positions n (i + 1) hash) old new both
 inserts-next n hash i q old mid new a b both is both_is first second =
-    subst (Inserts (positions n (i + 1) hash) old new) (sym both_is)
+    subst (InsertsAs (positions n (i + 1) hash) old new) (sym both_is)
     (inserts-as (λ p. positions n i hash p || eqb p q) (positions n (i + 1) hash) old new (a && b)
     (positions-next n hash i q is)
     (inserts-then (positions n i hash) (λ p. eqb p q) old mid new a b first second))
@@ -55,7 +54,7 @@ module _ (n hash i q : ℕ) (old mid new : Sight) (answer : Bool) (is : q ≡ pl
     found = λ j below. second.kept (place n hash j) (first.found j below);
   }
 
-  -- and what is new lies in a word that was loaded
+  -- what is new lies in a word that was loaded
   pub grows-next : GrowsBeside n hash (i + 1) old new
   grows-next p known = elim (second.grown p known) [
     | inl was ↦ elim (beside p was) [

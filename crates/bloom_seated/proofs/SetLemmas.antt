@@ -4,7 +4,7 @@ use Rattle.std.proofs.lemmas.Bool.{both_ways, or_cases, or_left, or_right, and_p
 use Rattle.bloom_parts.specs.Content.{bit_is_on}
 use Rattle.bloom_seated.specs.Sets.{set_of, picked, on_in, fresh_in}
 
--- nothing is in no list
+-- nothing is in the set of the empty list
 pub in-none : (p : ℕ) → set_of [] p ≡ true → ⊥
 unfolding set_of
 in-none p is = both_ways false refl is
@@ -23,7 +23,7 @@ unfolding set_of
 in-right [] ys p is = is
 in-right (x ∷ xs) ys p is = or_right (eqb p x) (set_of (xs ++ ys) p) (in-right xs ys p is)
 
--- and what is in both together is in one of them
+-- what is in two lists together is in one of them
 pub in-either : (xs ys : List ℕ) (p : ℕ) → set_of (xs ++ ys) p ≡ true
     → (set_of xs p ≡ true) ⊎ (set_of ys p ≡ true)
 unfolding set_of
@@ -42,7 +42,7 @@ same-tests true b to from = sym (to refl)
 same-tests false true to from = from refl
 same-tests false false to from = refl
 
--- the set of both together
+-- the set of two lists together
 pub set_of-append : (xs ys : List ℕ) (p : ℕ) → set_of (xs ++ ys) p ≡ (set_of xs p || set_of ys p)
 set_of-append xs ys p =
     same-tests (set_of (xs ++ ys) p) (set_of xs p || set_of ys p)
@@ -89,7 +89,7 @@ picked-from i test (suc n) p is =
           (found.0, omega (arith, found.1), found.2)
     ]
 
--- and a position that lies there is picked
+-- a position of the word that passes the test is picked
 picked-to : (i : ℕ) (test : ℕ → Bool) (n bit : ℕ) → bit < n → test (64 * i + bit) ≡ true
     → set_of (picked i test n) (64 * i + bit) ≡ true
 unfolding picked
@@ -129,7 +129,7 @@ on-from i word p is = whole-from i (bit_is_on word) p is
 pub on-to : (i word p : ℕ) → p / 64 ≡ i → bit_is_on word p ≡ true → set_of (on_in i word) p ≡ true
 on-to i word p here is = whole-to i (bit_is_on word) p here is
 
--- those that are on in a mask and off in the word found
+-- the positions that are on in a mask and off in the word found
 module _ (i mask found : ℕ) where
   pub fresh-from : (p : ℕ) → set_of (fresh_in i mask found) p ≡ true
       → (p / 64 ≡ i) × (bit_is_on mask p ≡ true) × (bit_is_on found p ≡ false)

@@ -20,7 +20,7 @@ content-here words i word p within here =
     content-word (set words i word) i p here
     ∙ ap (λ x. bit_is_on x p) (get_or-set_same words i word 0 within)
 
--- and of another word
+-- a position of another word than the one that was set
 pub content-else : (words : List ℕ) (i word p : ℕ) → p / 64 ≢ i
     → content (set words i word) p ≡ content words p
 unfolding content

@@ -1,5 +1,7 @@
--- A seated filter and its passes as callers see them, and what calls do to a pass. What a pass
--- knows, and what it gained, are this project's own.
+-- A seated filter and its passes as callers see them, and what calls do to a pass. A seated filter
+-- is one whose words threads share at a table, where each thread has a seat. A pass is a thread's
+-- seat as callers see it. It knows the positions that its steps found or turned on and those that
+-- it was told of, and it gained those that its steps turned on. These words are this project's own.
 use Rattle.std.specs.Prelude.{◌≡◌, ◌+◌, ◌*◌, ◌/◌, ◌<◌, ◌≤◌, ◌⊎◌, ◌||◌, ℕ, Bool, true, false, List, []}
 use Rattle.atomic_table.specs.Seated.{TableId}
 use Rattle.atomic_table.specs.declared.shared.Seat.{Seat}
@@ -8,7 +10,7 @@ use Rattle.bloom_parts.specs.Places.{IsPart, place, positions, are_in}
 use Rattle.bloom_seated.specs.Sets.{set_of}
 use Rattle.bloom_seated.specs.declared.rule.Sets.{Sets}
 
--- which filter it is (with its number of words), the number of hashes, and of passes at most
+-- a seated filter: its table, which has its number of words, how many hashes, and passes at most
 pub record SeatedFilter : Type 0 where
   pub table : TableId
   pub hashes : ℕ
@@ -42,25 +44,25 @@ gained_of pass = set_of pass.gained
 abbrev pub sure_of : Sight → ℕ → Bool
 sure_of pass p = content pass.start p || known_of pass p
 
--- the number of bits
-abbrev pub num_bits_of : SeatedFilter → ℕ
-num_bits_of f = 64 * f.table.words
+-- the number of bits of a seated filter
+abbrev pub seated_num_bits : SeatedFilter → ℕ
+seated_num_bits f = 64 * f.table.words
 
--- the positions of a hash
-abbrev pub positions_of : SeatedFilter → ℕ → ℕ → Bool
-positions_of f hash = positions (num_bits_of f) f.hashes hash
+-- the positions of a hash in a seated filter
+abbrev pub seated_positions : SeatedFilter → ℕ → ℕ → Bool
+seated_positions f hash = positions (seated_num_bits f) f.hashes hash
 
 -- a pass knows all positions of a hash
 abbrev pub Knows : SeatedFilter → Sight → ℕ → Type 0
-Knows f pass hash = IsPart (positions_of f hash) (known_of pass)
+Knows f pass hash = IsPart (seated_positions f hash) (known_of pass)
 
 -- a pass can be sure of all positions of a hash
 abbrev pub IsSure : SeatedFilter → Sight → ℕ → Type 0
-IsSure f pass hash = IsPart (positions_of f hash) (sure_of pass)
+IsSure f pass hash = IsPart (seated_positions f hash) (sure_of pass)
 
 -- whether a pass knows all positions of a hash
 abbrev pub contains_known : SeatedFilter → Sight → ℕ → Bool
-contains_known f pass hash = are_in (num_bits_of f) f.hashes hash (known_of pass)
+contains_known f pass hash = are_in (seated_num_bits f) f.hashes hash (known_of pass)
 
 -- the pass is of the same filter, which began with the same words
 pub record IsSamePass (old new : Sight) : Type 0 where
@@ -81,15 +83,15 @@ pub record HasGained (old new : Sight) : Type 0 where
   pub before : gained_of old position ≡ false
 
 -- from old to new a pass turned on a set of positions by its own steps
-pub record Inserts (P : ℕ → Bool) (old new : Sight) (answer : Bool) : Type 0 where
+pub record InsertsAs (P : ℕ → Bool) (old new : Sight) (answer : Bool) : Type 0 where
   pub same : IsSamePass old new
-  -- it knows just these more
+  -- the pass knows exactly these more
   pub known : (p : ℕ) → known_of new p ≡ (known_of old p || P p)
-  -- what it gained is of them, and it could not have been sure of it
+  -- what the pass gained is of them, and it could not have been sure of it
   pub kept : IsPart (gained_of old) (gained_of new)
   pub gained : (p : ℕ) → gained_of new p ≡ true
       → (gained_of old p ≡ true) ⊎ ((P p ≡ true) × (sure_of old p ≡ false))
-  -- the answer is false exactly if it gained
+  -- the answer is false exactly if the pass gained
   pub grew : answer ≡ false → HasGained old new
   pub stayed : answer ≡ true → IsPart (gained_of new) (gained_of old)
 
@@ -99,21 +101,21 @@ pub record IsBeside (n hash places p : ℕ) : Type 0 where
   pub below : index < places
   pub word : p / 64 ≡ place n hash index / 64
 
--- from old to new a pass found some first places of a hash on
+-- from old to new a pass found this many first places of a hash on
 pub record Looks (n hash places : ℕ) (old new : Sight) : Type 0 where
   pub same : IsSamePass old new
   pub gained : new.gained ≡ old.gained
   pub kept : IsPart (known_of old) (known_of new)
   pub found : (i : ℕ) → i < places → known_of new (place n hash i) ≡ true
 
--- what it knows more was found by so many loads
+-- what a pass knows more lies in the words of this many first places, which it loaded
 abbrev pub GrowsBeside : ℕ → ℕ → ℕ → Sight → Sight → Type 0
 GrowsBeside n hash loads old new =
     (p : ℕ) → known_of new p ≡ true → (known_of old p ≡ true) ⊎ IsBeside n hash loads p
 
 -- from old to new a pass looked at the places of a hash in order, up to the first that is off
 pub record Finds (n k hash : ℕ) (old new : Sight) (answer : Bool) : Type 0 where
-  -- so many first places were found on, and then no more were looked at than one that is off
+  -- how many first places were found on; no place was looked at after the first that is off
   pub on : ℕ
   pub most : on ≤ k
   pub looks : Looks n hash on old new
@@ -136,7 +138,8 @@ pub record Meets (a b a_new b_new : Sight) : Type 0 where
   pub start_a : IsPart (content a.start) (known_of a_new)
   pub start_b : IsPart (content b.start) (known_of b_new)
 
--- the words in the end: all is on that the pass was sure of, and it gained nothing of the start
+-- the words in the end: all is on that the pass was sure of, and nothing that it gained was on at
+-- the start
 pub record Closes (pass : Sight) (words : List ℕ) : Type 0 where
   pub start : IsPart (content pass.start) (content words)
   pub known : IsPart (known_of pass) (content words)

@@ -19,7 +19,7 @@ Sat = Me (Unit {0}) Sets
 abbrev pub FilterSeat : Type 0
 FilterSeat = Seat (Unit {0}) Sets
 
--- the seat is at this table, whose rule is of so many words
+-- the seat is at this table, whose rule has this number of words
 pub record SitsAt (seat : FilterSeat) (table : TableId) (size : Size) : Type 0 where
   pub here : seat.table_id ≡ table
   pub words : table.words ≡ size.words
@@ -36,7 +36,7 @@ Shows v i found = (p : ℕ) → p / 64 ≡ i → sure_in v p ≡ true → bit_is
 abbrev pub after_load : Sets → ℕ → ℕ → Sets
 after_load v i found = record v { known = v.known ++ on_in i found }
 
--- after an `|` it knows the positions of the mask, and gained those that were off
+-- after an `|` the seat knows the positions of the mask, and gained those that were off
 abbrev pub after_or : Sets → ℕ → ℕ → ℕ → Sets
 after_or v i mask found = record v {
   known = v.known ++ on_in i mask;
@@ -95,11 +95,11 @@ less_one v = record v { passes = v.passes - 1 }
 abbrev pub one_of : Sets → Sets
 one_of v = record v { passes = 1 }
 
--- a note has what a pass knows; it is no pass
+-- a note has what a pass knows, and is no pass
 abbrev pub note_of : Sets → Sets
 note_of v = record v { role = Note; gained = []; passes = 0 }
 
--- who joins a note knows also what is in it
+-- a seat that a note joins knows also what is in the note
 abbrev pub told : Sets → Sets → Sets
 told v w = record v { known = v.known ++ w.known }
 

@@ -1,5 +1,6 @@
--- The rule that the words of a seated filter keep between any two steps, whatever threads do.
--- It is this project's own.
+-- The rule that the words of a seated filter keep between any two steps, whatever threads do. A
+-- seat is what one user of the words knows of them, and its view is that knowledge. The rule is
+-- this project's own.
 use Rattle.std.specs.Prelude.{◌≡◌, ◌≢◌, ◌≤◌, ◌⊎◌, ℕ, true, false, List, [], ◌∷◌, length, replicate, sum_by}
 use mathlib.Core.Option.{some}
 use lib.ListN.{get_elem?}
@@ -14,7 +15,7 @@ use Rattle.bloom_seated.specs.declared.rule.Role.TheVariants.{First, Pass, Spent
 abbrev pub Standing : Type 0
 Standing = State (Unit {0}) Sets
 
--- a seat knows this
+-- a seat has this view
 abbrev pub Has : Standing → ℕ → Sets → Type 0
 Has s seat v = get_elem? s.views seat ≡ some v
 
@@ -29,22 +30,24 @@ pub record IsGained (s : Standing) (p : ℕ) : Type 0 where
 abbrev pub passes_of : Sets → ℕ
 passes_of v = v.passes
 
--- the rule of a table of so many words and passes; `start` is the words that the filter began with
+-- the rule of a table of this many words and passes; `start` is the words that the filter began
+-- with
 pub record IsSeated (words passes : ℕ) (s : Standing) : Type 0 where
   pub count : length s.words ≡ words
   pub start : List ℕ
-  -- every seat that isn't spent carries it, and all of it is on
+  -- every seat that isn't spent carries the start, and all of it is on
   pub same_start : (seat : ℕ) (v : Sets) → Has s seat v → v.role ≢ Spent → v.start ≡ start
   pub start_on : IsPart (content start) (content s.words)
   -- all that is known is on
   pub known_on : (seat : ℕ) (v : Sets) → Has s seat v → IsPart (set_of v.known) (content s.words)
-  -- what is gained is known, was off at the start, and was gained by no other
-  pub gained_known : (seat : ℕ) (v : Sets) → Has s seat v → IsPart (set_of v.gained) (set_of v.known)
+  -- what is gained is known, was off at the start, and was gained by no other seat
+  pub gained_known : (seat : ℕ) (v : Sets) → Has s seat v
+      → IsPart (set_of v.gained) (set_of v.known)
   pub gained_new : (seat : ℕ) (v : Sets) → Has s seat v
       → (p : ℕ) → set_of v.gained p ≡ true → content start p ≡ false
   pub gained_once : (seat other : ℕ) (v w : Sets) → Has s seat v → Has s other w → seat ≢ other
       → (p : ℕ) → set_of v.gained p ≡ true → set_of w.gained p ≡ false
-  -- only passes gain, and they are as many as were asked for at most
+  -- only passes gain, each stands for itself at least, and together for as many as were asked for
   pub gained_by : (seat : ℕ) (v : Sets) → Has s seat v
       → (p : ℕ) → set_of v.gained p ≡ true → v.role ≡ Pass
   pub one_each : (seat : ℕ) (v : Sets) → Has s seat v → v.role ≡ Pass → 1 ≤ v.passes

@@ -1,5 +1,5 @@
--- Sets of positions as lists, since a view at a table holds plain data. Which bit a position has is
--- told by `Content`.
+-- Sets of positions as lists, since a view at a table holds plain data. `Content` of `bloom_parts`
+-- says which bit a position has.
 use Rattle.std.specs.Prelude.{◌+◌, ◌*◌, ◌==◌, ◌||◌, ◌&&◌, not, ℕ, zero, suc, Bool, false, List, [], ◌∷◌, if◌then◌else◌}
 use Rattle.bloom_parts.specs.Content.{bit_is_on}
 

@@ -1,4 +1,4 @@
--- How a seated filter and its passes stand to the table.
+-- How a seated filter and its passes stand to the table that has the words.
 use Rattle.std.specs.Prelude.{◌≡◌, ◌<◌, ◌≤◌, ◌^◌, ℕ, length}
 use Rattle.atomic_table.specs.Seated.{TableId}
 use Rattle.atomic_table.specs.declared.shared.Seat.{Seat}
@@ -6,7 +6,7 @@ use Rattle.bloom_seated.specs.declared.rule.Sets.{Sets}
 use Rattle.bloom_seated.specs.declared.rule.Size.{Size}
 use Rattle.bloom_seated.specs.declared.rule.Role.TheVariants.{Pass}
 
--- a table of as many words as its rule says, within the limits, and no slots
+-- a table with the number of words that its rule says, within the limits, and no slots
 pub record IsStanding (table : TableId) (size : Size) (hashes : ℕ) : Type 0 where
   pub some_words : 1 ≤ table.words
   pub few_words : table.words < 2 ^ 58
@@ -14,7 +14,7 @@ pub record IsStanding (table : TableId) (size : Size) (hashes : ℕ) : Type 0 wh
   pub words : table.words ≡ size.words
   pub no_slots : table.slots ≡ 0
 
--- the seat of a pass, which carries as many words as the table has
+-- the seat of a pass, whose start has the number of words of the table
 pub record IsPassSeat (seat : Seat (Unit {0}) Sets) : Type 0 where
   pub role : seat.me.0.role ≡ Pass
   pub whole : length seat.me.0.start ≡ seat.table_id.words

@@ -1,4 +1,4 @@
-//! How a filter ends: its words, as the last pass knows them.
+//! How a filter ends: its words are handed out, with all that the last pass knows.
 ghost use Rattle.std.specs.Prelude.{◌≡◌, IfOk, IsOkUnless, vec_len};
 ghost use Rattle.bloom_seated.specs.Passes.{Closes, sight_of};
 ghost use Rattle.bloom_seated.specs.Standing.{IsPassSeat};

@@ -1,7 +1,7 @@
 //! The filter that threads share under a rule.
 ghost use Rattle.std.specs.Prelude.{◌≡◌, ◌<◌, ◌≤◌, ◌^◌, All, IfOk, IsOkUnless, Some, max, true, vec_len};
 ghost use Rattle.std.specs.Result.{result_err};
-ghost use Rattle.bloom_seated.specs.Passes.{Closes, Finds, Inserts, IsNewPass, IsSamePass, IsSure, Meets, contains_known, num_bits_of, positions_of};
+ghost use Rattle.bloom_seated.specs.Passes.{Closes, Finds, InsertsAs, IsNewPass, IsSamePass, IsSure, Meets, contains_known, seated_num_bits, seated_positions};
 
 use crate::closing::close_table;
 use crate::looks::{FilterTable, find_positions, insert_positions};
@@ -15,7 +15,7 @@ use bloom_parts::error::FilterError;
 use std::alloc::Global;
 use std::marker::Model;
 
-/// A Bloom filter whose bits only grow, which threads share: what a thread knows stays on.
+/// A Bloom filter that threads share, whose bits never turn off: what a thread knows stays on.
 ///
 /// Each thread has a `Pass` of the filter. Contracts see which filter it is, with its number of
 /// words, the number of hashes, and how many passes there are at most. Between any two steps of any
@@ -42,12 +42,12 @@ impl Model for SeatedBloomFilter {
 }
 
 impl SeatedBloomFilter {
-    /// A filter of these words, and its passes, which are all that there will be. Zero hashes and
-    /// zero passes count as 1.
+    /// A filter of these words, and all the passes that it will have. Zero hashes and zero passes
+    /// count as 1.
     ///
     /// # Errors
     /// `EmptyWords` for no words, `TooManyWords` for more than 2^58 - 1, and else `Memory` where
-    /// there is no room for the words that threads share, or for the passes.
+    /// there is no room for the shared words or for the passes.
     pub fn new(
         alloc: Global,
         words: Vec<u64>,
@@ -57,7 +57,7 @@ impl SeatedBloomFilter {
         ensures words { IfOk result (λ made. made.0.table.words ≡ vec_len words) }
         ensures hashes { IfOk result (λ made. made.0.hashes ≡ max 1 num_hashes) }
         ensures most { IfOk result (λ made. made.0.passes ≡ max 1 passes) }
-        // As many passes as were asked for, each of this filter and new.
+        // There are as many passes as were asked for, and each is new and of this filter.
         ensures count { IfOk result (λ made. vec_len made.1 ≡ max 1 passes) }
         ensures passes { IfOk result (λ made.
             All (IsNewPass made.0.table words.items) made.1.items) }
@@ -90,13 +90,13 @@ impl SeatedBloomFilter {
         Ok((filter, all))
     }
 
-    /// Turns on the positions of a hash by steps of this pass, and answers whether they found all
-    /// of them on: false exactly if the pass gained.
+    /// Turns on the positions of a hash by steps of this pass, and answers whether these found all
+    /// of them on. The answer is false exactly if the pass gained a position.
     pub fn insert_hash_as(&self, pass: &mut Pass, hash: u64) -> bool
         requires { pass.old.filter ≡ self.now.table }
         ensures same { IsSamePass pass.old pass.new }
-        ensures inserts { Inserts (positions_of self.now hash) pass.old pass.new result }
-        // True where the pass could be sure of all of them.
+        ensures inserts { InsertsAs (seated_positions self.now hash) pass.old pass.new result }
+        // The answer is true where the pass could be sure of all of them.
         ensures sure { IsSure self.now pass.old hash → result ≡ true }
     {
         insert_positions(&self.table, &mut pass.seat, self.num_hashes, hash)
@@ -106,18 +106,18 @@ impl SeatedBloomFilter {
     pub fn contains_hash_as(&self, pass: &mut Pass, hash: u64) -> bool
         requires { pass.old.filter ≡ self.now.table }
         ensures same { IsSamePass pass.old pass.new }
-        ensures finds { Finds (num_bits_of self.now) self.now.hashes hash
+        ensures finds { Finds (seated_num_bits self.now) self.now.hashes hash
             pass.old pass.new result }
         // The answer is whether the pass knows all of them then.
         ensures found { result ≡ contains_known self.now pass.new hash }
-        // True where the pass could be sure of all of them.
+        // The answer is true where the pass could be sure of all of them.
         ensures sure { IsSure self.now pass.old hash → result ≡ true }
         ensures gained { pass.new.gained ≡ pass.old.gained }
     {
         find_positions(&self.table, &mut pass.seat, self.num_hashes, hash)
     }
 
-    /// Hands each of two passes what the other knows, and lets each see every word.
+    /// Hands each of two passes what the other knows, and loads every word for each.
     ///
     /// Both then know all that either knew, and all that the filter began with.
     pub fn meet(&self, a: &mut Pass, b: &mut Pass)
@@ -128,7 +128,7 @@ impl SeatedBloomFilter {
         meet_seats(&self.table, &mut a.seat, &mut b.seat)
     }
 
-    /// The words, in which all is on that the filter began with or the pass knows.
+    /// The words: every bit is on that the filter began with or that the pass knows.
     ///
     /// # Errors
     /// `Memory` where there is no room for them; the filter is gone then too.

@@ -1,9 +1,9 @@
 //! Laws of seated filters. These functions do nothing: their contracts are the laws.
-ghost use Rattle.bloom_seated.specs.SeatedLaws.{FewLaw, FoundLaw, InsertedLaw, KnownLaw, MetLaw, OrLaw, StaysLaw};
+ghost use Rattle.bloom_seated.specs.SeatedLaws.{FewLaw, SureFoundLaw, InsertedLaw, KnownLaw, MetLaw, OrLaw, StaysLaw};
 
-/// What a pass can be sure of, it finds, and an insert of its own answers true of it.
+/// A look-up by a pass finds what the pass can be sure of, and an insert answers true of it.
 pub fn sure_is_found()
-    ensures found { FoundLaw }
+    ensures found { SureFoundLaw }
     ensures inserted { InsertedLaw }
 {}
 
@@ -13,7 +13,7 @@ pub fn inserted_stays_known()
     ensures stays { StaysLaw }
 {}
 
-/// What one pass knows, another that met it finds, and inserts answer true of it.
+/// What one pass knows, a look-up by another that met it finds, and an insert answers true of it.
 pub fn met_is_found()
     ensures { MetLaw }
 {}
@@ -23,7 +23,7 @@ pub fn passes_are_few()
     ensures { FewLaw }
 {}
 
-/// What a step of the rule's two kinds does to the words is what it decides.
+/// The words after an `|` are what it decides of them.
 pub fn steps_of_words()
     ensures { OrLaw }
 {}

@@ -2,7 +2,7 @@
 ghost use Rattle.std.specs.Prelude.{◌≡◌, ◌*◌, ◌<◌, ◌==◌};
 ghost use Rattle.bloom_parts.specs.Places.{positions};
 ghost use Rattle.bloom_seated.specs.Loads.{LooksAt};
-ghost use Rattle.bloom_seated.specs.Passes.{Finds, Inserts, sight_of};
+ghost use Rattle.bloom_seated.specs.Passes.{Finds, InsertsAs, sight_of};
 ghost use Rattle.bloom_seated.specs.Plays.{SitsAt};
 ghost use Rattle.bloom_seated.specs.Standing.{IsStanding};
 ghost use Rattle.bloom_seated.specs.declared.rule.Role.TheVariants.{Pass};
@@ -17,13 +17,13 @@ use std::alloc::Global;
 /// The table of a filter.
 pub(crate) type FilterTable = Table<(), Sets, Size, SeatedRule, Global>;
 
-// Turns a position on, and answers whether it was.
+// Turns a position on, and answers whether it was on before.
 fn turn_on_position(shared: &SharedWords, seat: &mut FilterSeat, position: usize) -> bool
     requires at { SitsAt seat.old shared.now.table_id shared.now.key }
     requires within { position < 64 * shared.now.table_id.words }
     requires pass { seat.old.me.0.role ≡ Pass }
     ensures role { seat.new.me.0.role ≡ Pass }
-    ensures inserts { Inserts (λ p. p == position)
+    ensures inserts { InsertsAs (λ p. p == position)
         (sight_of seat.old) (sight_of seat.new) result }
 {
     let (word, mask) = word_and_mask(position);
@@ -42,7 +42,7 @@ fn look_at_position(shared: &SharedWords, seat: &mut FilterSeat, position: usize
     load(shared, seat, word) & mask > 0
 }
 
-/// Turns on the positions of a hash, and answers whether all were on.
+/// Turns on the positions of a hash, and answers whether each was found on.
 pub(crate) fn insert_positions(
     table: &FilterTable,
     seat: &mut FilterSeat,
@@ -53,7 +53,7 @@ pub(crate) fn insert_positions(
     requires at { seat.old.table_id ≡ table.now.shared.table_id }
     requires pass { seat.old.me.0.role ≡ Pass }
     ensures role { seat.new.me.0.role ≡ Pass }
-    ensures inserts { Inserts (positions (64 * table.now.shared.table_id.words) num_hashes hash)
+    ensures inserts { InsertsAs (positions (64 * table.now.shared.table_id.words) num_hashes hash)
         (sight_of seat.old) (sight_of seat.new) result }
 {
     let num_bits = table.word_count() * 64;
@@ -66,7 +66,7 @@ pub(crate) fn insert_positions(
     all_on
 }
 
-/// Looks at the positions of a hash, up to the first that is off.
+/// Looks at the positions of a hash up to the first that is off, and answers whether all are on.
 pub(crate) fn find_positions(
     table: &FilterTable,
     seat: &mut FilterSeat,

@@ -1,4 +1,4 @@
-//! How passes meet: what one knows goes to the other as a note, and both look at every word.
+//! How passes meet: each is handed what the other knows, as a note, and then loads every word.
 ghost use Rattle.std.specs.Prelude.{◌≡◌, ◌<◌};
 ghost use Rattle.bloom_seated.specs.Loads.{Views};
 ghost use Rattle.bloom_seated.specs.Passes.{Meets, sight_of};
@@ -11,7 +11,7 @@ use crate::rule::Sets;
 use crate::steps::{FilterSeat, SharedWords, load};
 use atomic_table::{Join, Split};
 
-// A note of what a pass knows, which stays as it is.
+// How a note of what a pass knows is split off. The pass stays as it is.
 struct Notes;
 
 impl Split<Sets> for Notes {
@@ -20,7 +20,7 @@ impl Split<Sets> for Notes {
     ghost right = { note_of };
 }
 
-// A note that arrives, and is spent.
+// How a pass takes in a note, which is spent.
 struct Hears;
 
 impl Join<Sets> for Hears {
@@ -45,7 +45,7 @@ fn tell(shared: &SharedWords, from: &mut FilterSeat, to: &mut FilterSeat)
     shared.join_seat::<Hears>(to, note);
 }
 
-// A pass looks at every word.
+// A pass loads every word.
 fn view_words(table: &FilterTable, seat: &mut FilterSeat)
     requires at { SitsAt seat.old table.now.shared.table_id table.now.shared.key }
     requires pass { seat.old.me.0.role ≡ Pass }
@@ -58,7 +58,7 @@ fn view_words(table: &FilterTable, seat: &mut FilterSeat)
     }
 }
 
-/// Both learn what either knows, and then each looks at every word.
+/// Both learn what either knows, and then each loads every word.
 pub(crate) fn meet_seats(table: &FilterTable, a: &mut FilterSeat, b: &mut FilterSeat)
     requires some { 0 < table.now.shared.table_id.words }
     requires words { table.now.shared.table_id.words ≡ table.now.shared.key.words }

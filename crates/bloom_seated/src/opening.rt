@@ -1,4 +1,4 @@
-//! How the words of a filter are put in: by steps, before the first seat is split.
+//! How the words of a filter are put in: the first seat does it by steps, before it is split.
 ghost use Rattle.std.specs.Prelude.{◌≡◌, ◌<◌, length, replicate, slice_index, slice_set};
 ghost use Rattle.bloom_seated.specs.Plays.{SitsAt, IsFirst, IsFresh, Fills, with_bits, put_in, settled};
 

@@ -1,4 +1,4 @@
-//! Passes: what one user of a filter knows of it.
+//! Passes: each is what one user of a filter knows of it.
 ghost use Rattle.std.specs.Prelude.{◌≡◌, ◌<◌, ◌≤◌, All, IfOk, IsOkUnless, length, vec_len};
 ghost use Rattle.bloom_seated.specs.Plays.{SitsAt, IsFresh, less_one, one_of};
 ghost use Rattle.bloom_seated.specs.Passes.{IsNewPass, sight_of};
@@ -30,7 +30,7 @@ impl Model for Pass {
     ghost invariant = { λ p. IsPassSeat p.seat };
 }
 
-// A seat that stands for one pass less, and that pass.
+// How a seat is split into one that stands for one pass less, and that pass.
 struct Parts;
 
 impl Split<Sets> for Parts {
@@ -55,7 +55,7 @@ fn split_pass(shared: &SharedWords, seat: &mut FilterSeat) -> Pass
     }
 }
 
-/// As many passes as the seat stands for, each of which knows nothing.
+/// The passes that the seat stands for, each of which knows nothing.
 pub(crate) fn split_passes(
     alloc: Global,
     shared: &SharedWords,

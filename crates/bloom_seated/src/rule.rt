@@ -1,9 +1,9 @@
-//! The rule of the words that threads share.
+//! The rule of the words that threads share. A seat at their table is what one user knows of them.
 ghost use Rattle.bloom_seated.specs.Rule.{IsSeated, first_view};
 
 use atomic_table::TableRule;
 
-/// What kind of seat it is. No value of it is made.
+/// The kind of a seat. Only contracts have values of it.
 pub enum Role {
     /// The first, while it puts the words in.
     First,
@@ -15,7 +15,7 @@ pub enum Role {
     Spent,
 }
 
-/// What a seat at the table knows. No value of it is made; a clause reads an array as a list.
+/// What a seat at the table knows. Only contracts have values of it; they read an array as a list.
 pub struct Sets {
     pub role: Role,
     /// The words that the filter began with.

@@ -14,7 +14,7 @@ pub(crate) type SharedWords = Shared<(), Sets, Size, SeatedRule>;
 /// A seat of a filter. It has no bytes.
 pub(crate) type FilterSeat = Seat<(), Sets>;
 
-// A load makes known what it finds on.
+// A load makes the positions known that it finds on.
 struct Loads;
 
 impl Play<(), Sets> for Loads {

@@ -1,27 +1,27 @@
 -- What a pass knows of many hashes, one after the other.
-use Rattle.std.proofs.Common.{◌≡◌, ℕ, ◌+◌, ◌<◌, ◌⊎◌, Bool, List, [], length, take, get_or, Contains, inl, inr, sym, ap, ◌∙◌, subst, arith, le_refl}
+use Rattle.std.proofs.Common.{◌≡◌, ℕ, ◌+◌, ◌<◌, ◌⊎◌, Bool, List, length, take, get_or, Contains, inl, inr, sym, ap, ◌∙◌, subst, le_refl}
 use Rattle.std.proofs.lemmas.Bool.{or_left, or_right}
 use Rattle.std.proofs.lemmas.List.{take_more, take_all}
 use Rattle.std.proofs.lemmas.List.Elements.{Contains-push_cases}
 use Rattle.bloom_parts.specs.Content.{content}
-use Rattle.fastbloom.specs.Passes.{SeatedFilter, Sight, Knows, IsSure, known_of, positions_of, Inserts, Meets}
+use Rattle.fastbloom.specs.Passes.{SeatedFilter, Sight, Knows, IsSure, known_of, seated_positions, InsertsAs, Meets}
 use Rattle.seated_scenarios.specs.Known.{KnowsAll}
 
 -- a pass knows what it inserts, and what it knew
 insert-known : (f : SeatedFilter) (old new : Sight) (hash : ℕ) (answer : Bool)
-    → Inserts (positions_of f hash) old new answer → Knows f new hash
+    → InsertsAs (seated_positions f hash) old new answer → Knows f new hash
 insert-known f old new hash answer did p is =
-    did.known p ∙ or_right (known_of old p) (positions_of f hash p) is
+    did.known p ∙ or_right (known_of old p) (seated_positions f hash p) is
 
 insert-keeps : (f : SeatedFilter) (old new : Sight) (hash other : ℕ) (answer : Bool)
-    → Inserts (positions_of f hash) old new answer → Knows f old other → Knows f new other
+    → InsertsAs (seated_positions f hash) old new answer → Knows f old other → Knows f new other
 insert-keeps f old new hash other answer did known p is =
-    did.known p ∙ or_left (known_of old p) (positions_of f hash p) (known p is)
+    did.known p ∙ or_left (known_of old p) (seated_positions f hash p) (known p is)
 
--- the next hash is inserted
+-- a pass that inserts the next hash knows one more
 pub known-next : (f : SeatedFilter) (old new : Sight) (hashes : List ℕ) (i hash : ℕ)
     (answer : Bool) → i < length hashes → hash ≡ get_or hashes i 0
-    → KnowsAll f old (take i hashes) → Inserts (positions_of f hash) old new answer
+    → KnowsAll f old (take i hashes) → InsertsAs (seated_positions f hash) old new answer
     → KnowsAll f new (take (i + 1) hashes)
 known-next f old new hashes i hash answer within is known did other there =
     elim (Contains-push_cases (take i hashes) (get_or hashes i 0) other
@@ -30,7 +30,7 @@ known-next f old new hashes i hash answer within is known did other there =
       | inr here ↦ subst (Knows f new) (is ∙ here) (insert-known f old new hash answer did)
     ]
 
--- all of them
+-- a pass that knows the first hashes up to the last knows all
 pub known-all : (f : SeatedFilter) (pass : Sight) (hashes : List ℕ) (i : ℕ) → i ≡ length hashes
     → KnowsAll f pass (take i hashes) → KnowsAll f pass hashes
 known-all f pass hashes i end known =
@@ -62,7 +62,7 @@ both-sure f a b a_new b_new left right asked known_a known_b met there = elim th
   )
 ]
 
--- the same of the filter as two calls name it
+-- after two passes met, both can be sure of what either knew, of the filter as two calls name it
 pub sure-after : (f g h : SeatedFilter) (a b a_new b_new : Sight) (left right : List ℕ)
     (asked : ℕ) → KnowsAll f a left → KnowsAll f b right → Meets a b a_new b_new → g ≡ f → h ≡ f
     → Contains left asked ⊎ Contains right asked → IsSure g a_new asked × IsSure h b_new asked

@@ -1,1 +1,2 @@
+mod KnownFacts
 mod KnownLemmas

@@ -11,7 +11,7 @@ use std::sync::Arc;
 use std::thread;
 use std::thread::{Promise, PromisedHandle, Threads};
 
-// What a thread promises of the pass that it gives back: it is of the filter, and knows the hashes.
+// What a thread promises of the pass that it gives back: it is of the filter and knows the hashes.
 #[derive(Drop)]
 struct KnowsHashes {
     filter: Snapshot<SeatedBloomFilter>,
@@ -61,8 +61,8 @@ fn start<R: Threads>(
     }
 }
 
-/// Whether a hash is found by the first of two passes, and found on by an insert of the second,
-/// after two threads inserted hashes by them and both were joined and met.
+/// Two threads insert hashes by two passes, which meet after both threads were joined. Answers
+/// whether the first pass then finds a hash, and whether an insert by the second finds it on.
 ///
 /// # Errors
 /// Those of `SeatedBloomFilter::new`, `Memory`, and `Worker` where a thread can't be started.

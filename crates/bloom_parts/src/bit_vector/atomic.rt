@@ -114,7 +114,7 @@ impl AtomicBitVec {
         self.words[word].fetch_and(mask, Ordering::SeqCst)
     }
 
-    /// Turns off all of a word.
+    /// Turns off every bit of a word.
     #[tactic(auto, using(crate::specs::Made::made_by_zero))]
     pub fn store_zero(&self, word: usize)
         requires { word < self.now.count }
@@ -123,7 +123,7 @@ impl AtomicBitVec {
         self.words[word].store(0, Ordering::SeqCst);
     }
 
-    /// Turns off all of a word, and answers the word as it was.
+    /// Turns off every bit of a word, and answers the word as it was.
     #[tactic(auto, using(crate::specs::Made::made_by_swap))]
     pub fn swap_zero(&self, word: usize) -> u64
         requires { word < self.now.count }

@@ -1,4 +1,4 @@
-//! Items in a vector that is refused where their room is.
+//! Items gathered in a vector, with an error where their room is refused.
 ghost use Rattle.std.specs.Prelude.{◌≡◌, length, vec_len, IfOk};
 ghost use Rattle.std.specs.Iterator.{IsFinite};
 ghost use Rattle.std.specs.Iterator.Runs.{WholeRun};
@@ -6,7 +6,7 @@ ghost use Rattle.std.specs.Iterator.Runs.{WholeRun};
 use std::alloc::{AllocError, Global};
 
 // The items of an iterator. The room for the least number that it tells is asked for at once, and
-// its refusal is an error: the library's own vectors would then grow item by item.
+// an error where that is refused. The library's own `collect` would then grow item by item.
 #[derive(Drop)]
 struct Gathered<T> {
     items: Vec<T>,

@@ -40,7 +40,7 @@ impl<'a> Loads<'a> {
 }
 
 impl AtomicBitVec {
-    /// The words, to be loaded alone.
+    /// The words, to be loaded and never changed.
     #[inline]
     pub fn loads(&self) -> Loads<'_>
         ensures { result ≡ self.now }

@@ -13,7 +13,7 @@ mod writes;
 use state::State;
 use std::marker::Model;
 
-/// SipHash-1-3 of the bytes written, under a key. It may go on after an answer.
+/// SipHash-1-3 of the bytes written, under a key. More bytes may be written after an answer.
 ///
 /// It keeps the key, four words, at most seven bytes of a buffer of eight, and a length modulo 256.
 #[derive(Clone, Copy, Debug)]
@@ -30,14 +30,14 @@ impl Model for RandomDefaultHasher {
     ghost use Rattle.std.proofs.Common.{ap, sym};
     ghost use Rattle.bloom_parts.specs.Hashed.{SipState};
     ghost use Rattle.bloom_parts.specs.Buffers.{padded, held_in, IsKept};
-    ghost use Rattle.bloom_parts.specs.States.{words_of, of_words};
+    ghost use Rattle.bloom_parts.specs.States.{state_words, of_words};
 
     ghost Value = { SipState };
 
     ghost view = { λ h. record {
       low = h.k0;
       high = h.k1;
-      words = words_of h.state;
+      words = state_words h.state;
       held = held_in h.rest h.length;
       count = h.length;
     } };

@@ -27,7 +27,7 @@ pub fn expected_density(hashes: u32, bits: usize, items: usize) -> Bracket
     Bracket::new(UNIT - kept_high, UNIT - kept_low)
 }
 
-/// The chance that all of `hashes` positions are on by themselves, where each is by this density.
+/// The chance that `hashes` positions, each of which is on with the chance `density`, are all on.
 pub fn expected_false_pos(hashes: u32, density: Bracket) -> Bracket
     ensures holds { (p q : ℕ) → 0 < q → Holds density p q → Holds result (p ^ hashes) (q ^ hashes) }
     // The ends are exact.

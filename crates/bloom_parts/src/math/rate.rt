@@ -3,7 +3,7 @@ ghost use Rattle.std.specs.Prelude.{◌<◌};
 
 use crate::error::FilterError;
 
-/// A fraction above zero, with the parts that it was given.
+/// A rate of false positives: a fraction above zero, with the parts that it was given.
 #[derive(Clone, Copy, Debug)]
 pub struct Rate {
     num: u64,

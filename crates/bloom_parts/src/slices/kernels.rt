@@ -1,4 +1,4 @@
-//! The passes over all words of a vector: eight words at a time, and then what is left.
+//! The loops over all words of a vector: eight words at a time, and then what is left.
 //!
 //! Each counts its turns, a group of eight or one word of the rest. The compiler drops a count that
 //! isn't read.
@@ -46,7 +46,7 @@ pub(super) fn and_words(words: &mut [u64], other: &[u64], turns: &mut u64)
     and_rest(&mut words[8 * groups..], &other[8 * groups..], turns);
 }
 
-// At most one group and the rest become 0, with no loop that the compiler could make a call of.
+// At most one group and the rest become 0, with no loop that the compiler could turn into a call.
 #[inline(always)]
 fn clear_few(words: &mut [u64], turns: &mut u64)
     requires few { length words.old < 16 }

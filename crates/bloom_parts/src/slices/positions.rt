@@ -3,7 +3,7 @@
 ghost use Rattle.std.specs.Prelude.{◌≡◌, ℕ, ◌*◌, ◌<◌, ◌≤◌, ◌||◌, length, IsTrue};
 ghost use Rattle.bloom_parts.specs.Content.{content};
 ghost use Rattle.bloom_parts.specs.Places.{positions, are_in};
-ghost use Rattle.bloom_parts.specs.Stretches.{GoesOn, TurnsOnNext, TellsNext};
+ghost use Rattle.bloom_parts.specs.Stretches.{Advances, TurnsOnNext, TellsNext};
 
 use super::by_hash::{check_hash, turn_on_hash};
 use crate::hasher::DoubleHasher;
@@ -12,7 +12,7 @@ use crate::hasher::DoubleHasher;
 fn turn_on_next(words: &mut [u64], chain: &mut DoubleHasher) -> u64
     requires { 1 ≤ length words.old }
     ensures turns_on { TurnsOnNext 1 chain.old words.old words.new result }
-    ensures moved { GoesOn 1 chain.old chain.new }
+    ensures moved { Advances 1 chain.old chain.new }
 {
     turn_on_hash(words, chain.next())
 }
@@ -21,7 +21,7 @@ fn turn_on_next(words: &mut [u64], chain: &mut DoubleHasher) -> u64
 fn turn_on_four(words: &mut [u64], chain: &mut DoubleHasher) -> u64
     requires { 1 ≤ length words.old }
     ensures turns_on { TurnsOnNext 4 chain.old words.old words.new result }
-    ensures moved { GoesOn 4 chain.old chain.new }
+    ensures moved { Advances 4 chain.old chain.new }
 {
     let first = turn_on_next(words, chain);
     let second = turn_on_next(words, chain);
@@ -31,13 +31,13 @@ fn turn_on_four(words: &mut [u64], chain: &mut DoubleHasher) -> u64
 }
 
 // Turns on the next places of a hash, at most three. The answer is 0 exactly if all were on just
-// before. So few go by tests alone: a loop costs as much as the places.
+// before. Tests alone do it: for three places a loop costs as much as the places.
 #[inline(always)]
 fn turn_on_few(words: &mut [u64], chain: &mut DoubleHasher, count: u32) -> u64
     requires words { 1 ≤ length words.old }
     requires few { count < 4 }
     ensures turns_on { TurnsOnNext count chain.old words.old words.new result }
-    ensures moved { GoesOn count chain.old chain.new }
+    ensures moved { Advances count chain.old chain.new }
 {
     if count == 0 {
         return 0;
@@ -56,8 +56,7 @@ fn turn_on_few(words: &mut [u64], chain: &mut DoubleHasher, count: u32) -> u64
 
 /// Turns on all positions of a hash, and answers whether all were on just before.
 ///
-/// Of more than three it takes four in a turn and then the rest, and gathers in one word what was
-/// off.
+/// More than three are taken four in a turn, and then the rest. One word gathers what was off.
 #[inline(always)]
 pub fn insert_positions(words: &mut [u64], num_hashes: u32, hash: u64) -> bool
     requires { 1 ≤ length words.old }
@@ -84,7 +83,7 @@ pub fn insert_positions(words: &mut [u64], num_hashes: u32, hash: u64) -> bool
 fn next_is_on(words: &[u64], chain: &mut DoubleHasher) -> bool
     requires { 1 ≤ length words.now }
     ensures found { TellsNext 1 chain.old words.now result }
-    ensures moved { GoesOn 1 chain.old chain.new }
+    ensures moved { Advances 1 chain.old chain.new }
 {
     check_hash(words, chain.next())
 }
@@ -93,7 +92,7 @@ fn next_is_on(words: &[u64], chain: &mut DoubleHasher) -> bool
 fn three_are_on(words: &[u64], chain: &mut DoubleHasher) -> bool
     requires { 1 ≤ length words.now }
     ensures found { TellsNext 3 chain.old words.now result }
-    ensures moved { GoesOn 3 chain.old chain.new }
+    ensures moved { Advances 3 chain.old chain.new }
 {
     let first = next_is_on(words, chain);
     let second = next_is_on(words, chain);
@@ -117,7 +116,7 @@ fn all_are_on(words: &[u64], chain: &mut DoubleHasher, count: u32) -> bool
 fn each_is_on(words: &[u64], chain: &mut DoubleHasher, count: u32) -> bool
     requires { 1 ≤ length words.now }
     ensures found { TellsNext count chain.old words.now result }
-    ensures moved { IsTrue result → GoesOn count chain.old chain.new }
+    ensures moved { IsTrue result → Advances count chain.old chain.new }
 {
     'places: for _place in 0..count {
         if !next_is_on(words, chain) {
@@ -129,9 +128,9 @@ fn each_is_on(words: &[u64], chain: &mut DoubleHasher, count: u32) -> bool
 
 /// Whether all positions of a hash are on.
 ///
-/// Up to three are taken together. Of more, the first three are, which tell most hashes apart that
-/// were never inserted; then it stops at the first that is off, and takes the last four, or as many
-/// as are left, together.
+/// Up to three are taken together. Of more, the first three are, which tell apart most hashes that
+/// were never inserted. It then stops at the first that is off, and takes the last four together,
+/// or all that are left.
 #[inline(always)]
 pub fn contains_positions(words: &[u64], num_hashes: u32, hash: u64) -> bool
     requires { 1 ≤ length words.now }

@@ -6,10 +6,10 @@ use Rattle.atomic_table.specs.Seated.{TableId}
 use Rattle.bloom_parts.specs.Content.{bit_is_on, content}
 use Rattle.bloom_parts.proofs.PublishedLemmas.{bit_is_on-mask, content-past}
 use Rattle.bloom_seated.specs.Sets.{set_of}
-use Rattle.bloom_seated.specs.Passes.{Sight, IsSamePass}
+use Rattle.bloom_seated.specs.Passes.{SeatedFilter, Sight, IsSamePass}
 use Rattle.bloom_seated.proofs.WordLemmas.{content-word}
 
--- a table of so many words, told from others by its name
+-- a table of this many words, told from others by its name
 abbrev pub table : ℕ → ℕ → TableId
 table words name = record {
   words = words;
@@ -30,11 +30,11 @@ pass start known gained = record {
   gained = gained;
 }
 
--- the same pass
+-- two passes of the table with the same start are the same pass
 pub same-pass : (start : ℕ) (a b c d : List ℕ) → IsSamePass (pass start a b) (pass start c d)
 same-pass start a b c d = record { filter = refl; start = refl }
 
--- nothing is in the set of no list
+-- nothing is in the set of the empty list
 pub nothing : (p : ℕ) → set_of [] p ≡ true → ⊥
 unfolding set_of
 nothing p is = both_ways false refl is
@@ -59,3 +59,7 @@ single-from q p small on = elim (cases_lt (p / 64) 1) [
 -- below one there is nothing but zero
 pub only-first : (i : ℕ) → i < 1 → i ≡ 0
 only-first i below = omega arith
+
+-- a filter of one word and two hashes
+abbrev pub filter : SeatedFilter
+filter = record { table = table 1 7; hashes = 2; passes = 2 }

@@ -2,10 +2,10 @@
 use Rattle.std.proofs.Common.{◌≡◌, ℕ, Bool, true, false, ◌||◌, ◌&&◌, inl, inr, refl, ap, ◌∙◌, subst}
 use Rattle.std.proofs.lemmas.Bool.{both_ways, or_cases, or_left, or_right, false_from_ne_true, and_parts}
 use Rattle.bloom_parts.specs.Content.{content}
-use Rattle.bloom_seated.specs.Passes.{Sight, known_of, gained_of, sure_of, HasGained, Inserts}
+use Rattle.bloom_seated.specs.Passes.{Sight, known_of, gained_of, sure_of, HasGained, InsertsAs}
 
--- no step
-pub inserts-none : (old : Sight) → Inserts (λ p. false) old old true
+-- no step turns on no position
+pub inserts-none : (old : Sight) → InsertsAs (λ p. false) old old true
 inserts-none old = record {
   same = record { filter = refl; start = refl };
   known = λ p. or-none (known_of old p);
@@ -20,9 +20,9 @@ inserts-none old = record {
     or-none false = refl
 
 -- steps one after the other turn on the positions of both
-module _ (P Q : ℕ → Bool) (old mid new : Sight) (a b : Bool) (first : Inserts P old mid a)
-    (second : Inserts Q mid new b) where
-  -- what could not be sure after the first could not be before it
+module _ (P Q : ℕ → Bool) (old mid new : Sight) (a b : Bool) (first : InsertsAs P old mid a)
+    (second : InsertsAs Q mid new b) where
+  -- what a pass can't be sure of after the first step it couldn't be sure of before
   unsure-before : (p : ℕ) → sure_of mid p ≡ false → sure_of old p ≡ false
   unsure-before p off = false_from_ne_true (sure_of old p) (λ sure.
       elim (or_cases (content old.start p) (known_of old p) sure) [
@@ -39,7 +39,7 @@ module _ (P Q : ℕ → Bool) (old mid new : Sight) (a b : Bool) (first : Insert
   or-three true y z = refl
   or-three false y z = refl
 
-  pub inserts-then : Inserts (λ p. P p || Q p) old new (a && b)
+  pub inserts-then : InsertsAs (λ p. P p || Q p) old new (a && b)
   inserts-then = record {
     same = record {
       filter = second.same.filter ∙ first.same.filter;
@@ -60,7 +60,7 @@ module _ (P Q : ℕ → Bool) (old mid new : Sight) (a b : Bool) (first : Insert
         let both = and_parts a b yes in first.stayed both.0 p (second.stayed both.1 p is);
   }
     where
-      grew-by : (x y : Bool) → Inserts P old mid x → Inserts Q mid new y → (x && y) ≡ false
+      grew-by : (x y : Bool) → InsertsAs P old mid x → InsertsAs Q mid new y → (x && y) ≡ false
           → HasGained old new
       grew-by true y one two off =
           let more = two.grew off in
@@ -79,8 +79,8 @@ module _ (P Q : ℕ → Bool) (old mid new : Sight) (a b : Bool) (first : Insert
             before = more.before;
           }
 
--- the same positions, said otherwise
+-- a set of the same positions may stand for the set
 pub inserts-as : (P Q : ℕ → Bool) (old new : Sight) (a : Bool) → ((p : ℕ) → P p ≡ Q p)
-    → Inserts P old new a → Inserts Q old new a
+    → InsertsAs P old new a → InsertsAs Q old new a
 inserts-as P Q old new a same did =
-    subst (λ (F : ℕ → Bool). Inserts F old new a) (λ i. λ p. same p i) did
+    subst (λ (F : ℕ → Bool). InsertsAs F old new a) (λ i. λ p. same p i) did

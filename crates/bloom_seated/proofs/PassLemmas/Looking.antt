@@ -6,7 +6,7 @@ use Rattle.bloom_parts.specs.Content.{bit_is_on, content}
 use Rattle.bloom_seated.specs.Sets.{set_of, on_in}
 use Rattle.bloom_seated.specs.Plays.{FilterSeat, sure_in, Shows, after_load}
 use Rattle.bloom_seated.specs.Loads.{LooksAt, Views}
-use Rattle.bloom_seated.specs.Passes.{Sight, sight_of}
+use Rattle.bloom_seated.specs.Passes.{sight_of}
 use Rattle.bloom_seated.specs.declared.rule.Sets.{Sets}
 use Rattle.bloom_seated.proofs.SetLemmas.{in-left, in-right, in-either, on-from, on-to}
 use Rattle.bloom_seated.proofs.PassLemmas.Positions.{seen, mask_of, tested}
@@ -16,7 +16,7 @@ module _ (table : TableId) (v : Sets) (q found : ℕ) (shown : Shows v (q / 64) 
   abbrev after : Sets
   after = after_load v (q / 64) found
 
-  -- what it found off it can't be sure of
+  -- the pass can't be sure of what the load found off
   off-after : bit_is_on found q ≡ false → sure_in after q ≡ false
   off-after off = false_from_ne_true (sure_in after q) (λ sure.
       elim (or_cases (content v.start q) (set_of after.known q) sure) [

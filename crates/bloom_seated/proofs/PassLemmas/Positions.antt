@@ -15,15 +15,15 @@ seen table v = record { filter = table; start = v.start; known = v.known; gained
 
 -- a position by its word and its bit
 module _ (q found : ℕ) where
-  -- its mask
+  -- the mask of the position
   abbrev pub mask_of : ℕ
   mask_of = 2 ^ (q % 64)
 
-  -- the test of the code
+  -- the test that the code makes of the position
   pub tested : ltb 0 (bit_and found mask_of) ≡ bit_is_on found q
   tested = test-bit found (q % 64)
 
-  -- the positions that are on in its mask: it alone
+  -- the position alone is on in its mask
   pub mask-alone : (p : ℕ) → set_of (on_in (q / 64) mask_of) p ≡ eqb p q
   mask-alone p =
       same-tests (set_of (on_in (q / 64) mask_of) p) (eqb p q)

@@ -7,7 +7,7 @@ use Rattle.bloom_parts.specs.Places.{IsPart}
 use Rattle.bloom_parts.proofs.PublishedLemmas.{bit_is_on-mask}
 use Rattle.bloom_seated.specs.Sets.{set_of, on_in, fresh_in}
 use Rattle.bloom_seated.specs.Plays.{FilterSeat, sure_in, Shows, after_or}
-use Rattle.bloom_seated.specs.Passes.{sight_of, Inserts}
+use Rattle.bloom_seated.specs.Passes.{sight_of, InsertsAs}
 use Rattle.bloom_seated.specs.declared.rule.Sets.{Sets}
 use Rattle.bloom_seated.proofs.SetLemmas.{in-left, in-right, in-either, set_of-append, fresh-from, fresh-to}
 use Rattle.bloom_seated.proofs.PassLemmas.Positions.{seen, mask_of, tested, mask-alone}
@@ -23,7 +23,7 @@ module _ (table : TableId) (v : Sets) (q found : ℕ) (shown : Shows v (q / 64) 
   unsure off = false_from_ne_true (sure_in v q)
       (λ sure. both_ways (bit_is_on found q) off (shown q refl sure))
 
-  -- what it gains
+  -- what the step gains
   gain-from : (p : ℕ) → set_of (fresh_in (q / 64) (mask_of q found) found) p ≡ true
       → (p ≡ q) × (bit_is_on found q ≡ false)
   gain-from p is =
@@ -39,7 +39,7 @@ module _ (table : TableId) (v : Sets) (q found : ℕ) (shown : Shows v (q / 64) 
       (bit_is_on-mask q q refl ∙ eq-eqb q q refl) off
 
   pub inserts-one : (answer : Bool) → answer ≡ bit_is_on found q
-      → Inserts (λ p. eqb p q) (seen table v) (seen table turned) answer
+      → InsertsAs (λ p. eqb p q) (seen table v) (seen table turned) answer
   inserts-one answer is = record {
     same = record { filter = refl; start = refl };
     known = λ p.
@@ -73,13 +73,13 @@ pub by-turn : (old new : FilterSeat) (q word mask found : ℕ) → word ≡ q / 
     → new.table_id ≡ old.table_id
     → (new.me.0 ≡ after_or old.me.0 word mask found) × Shows old.me.0 word found
     × IsPart (set_of old.me.0.gained) (set_of old.me.0.known)
-    → Inserts (λ p. eqb p q) (sight_of old) (sight_of new) (ltb 0 (bit_and found mask))
+    → InsertsAs (λ p. eqb p q) (sight_of old) (sight_of new) (ltb 0 (bit_and found mask))
 by-turn old new q word mask found is_word is_mask table told =
     subst (λ (z : ℕ × ℕ). (new.me.0 ≡ after_or old.me.0 z.0 z.1 found) × Shows old.me.0 z.0 found
     × IsPart (set_of old.me.0.gained) (set_of old.me.0.known)
-    → Inserts (λ p. eqb p q) (sight_of old) (sight_of new) (ltb 0 (bit_and found z.1)))
+    → InsertsAs (λ p. eqb p q) (sight_of old) (sight_of new) (ltb 0 (bit_and found z.1)))
     (λ i. (sym is_word i, sym is_mask i))
-    (λ t. subst (λ (z : TableId × Sets). Inserts (λ p. eqb p q) (sight_of old) (seen z.0 z.1)
+    (λ t. subst (λ (z : TableId × Sets). InsertsAs (λ p. eqb p q) (sight_of old) (seen z.0 z.1)
     (ltb 0 (bit_and found (mask_of q found)))) (λ i. (sym table i, sym t.0 i))
     (inserts-one old.table_id old.me.0 q found t.1 t.2 (ltb 0 (bit_and found (mask_of q found)))
     (tested q found))) told

@@ -13,7 +13,7 @@ seat-within [] seat v at = absurd (some-ne-none v (sym at))
 seat-within (x ∷ xs) zero v at = omega arith
 seat-within (x ∷ xs) (suc seat) v at = let below = seat-within xs seat v at in omega arith
 
--- and the list reads it there
+-- the list reads a seat's view at the seat
 pub seat-read : (l : List Sets) (seat : ℕ) (v : Sets) → get_elem? l seat ≡ some v
     → get_or l seat v ≡ v
 seat-read [] seat v at = refl
@@ -33,6 +33,6 @@ passes-set l seat v w at =
     ap (λ (u : Sets). sum_by passes_of (set l seat w) + u.passes) (sym (seat-read l seat v at))
     ∙ more
 
--- a rule of as many passes
+-- a rule of one number of passes is one of an equal number
 pub as-many : {words a b : ℕ} {s : Standing} → a ≡ b → IsSeated words a s → IsSeated words b s
 as-many {words} {a} {b} {s} same rule = subst (λ n. IsSeated words n s) same rule

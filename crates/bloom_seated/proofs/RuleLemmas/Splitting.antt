@@ -24,7 +24,7 @@ module _ {count passes : ℕ} (s : Standing) (rule : IsSeated count passes s) (s
   abbrev longer : Standing
   longer = record { words = s.words; homes = s.homes; views = s.views ++ u ∷ [] }
 
-  -- it has gained nothing
+  -- the new seat has gained nothing
   nothing : (p : ℕ) → set_of u.gained p ≡ true → ⊥
   nothing p is = in-none p (subst (λ l. set_of l p ≡ true) none_gained is)
 
@@ -56,7 +56,7 @@ module _ {count passes : ℕ} (s : Standing) (rule : IsSeated count passes s) (s
       settled.0 (ap (λ (y : Sets). y.role)
       (sym (only-view z v seat (subst (λ l. get_elem? l seat ≡ some v) alone.0 at))) ∙ first))
 
-  -- what was gained stays so
+  -- what was gained stays gained
   pub kept-by-split : IsSeated count (passes + u.passes) longer
   kept-by-split = record {
     count = rule.count;

@@ -56,7 +56,7 @@ module _ {count passes : ℕ} (s : Standing) (rule : IsSeated count passes s) (s
         (rule.known_on j u there p (rule.gained_known j u there p theirs))
   ]
 
-  -- nor is what two seats gained
+  -- what one of two seats gained isn't the other's
   apart : (i j : ℕ) (u z : Sets) → Has after i u → Has after j z → i ≢ j
       → (p : ℕ) → set_of u.gained p ≡ true → set_of z.gained p ≡ true → ⊥
   apart i j u z at_i at_j other p a b = elim (at_set s.views seat i w u at_i) [
@@ -76,7 +76,7 @@ module _ {count passes : ℕ} (s : Standing) (rule : IsSeated count passes s) (s
     ]
   ]
 
-  -- what was gained stays so
+  -- what was gained stays gained
   still : (p : ℕ) → IsGained s p → IsGained after p
   still p was = elim (cases_eq was.seat seat) [
     | inl here ↦

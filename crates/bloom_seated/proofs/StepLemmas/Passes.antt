@@ -18,7 +18,7 @@ pass-not_first v is first = let bad : Pass ≡ First = sym is ∙ first in cc
 pub pass-not_spent : (v : Sets) → v.role ≡ Pass → v.role ≢ Spent
 pass-not_spent v is spent = let bad : Pass ≡ Spent = sym is ∙ spent in cc
 
--- a view of as many passes keeps their number
+-- a view that stands for the same number of passes keeps their number
 pub same-passes : {count passes : ℕ} (s : Standing) → IsSeated count passes s → (seat : ℕ)
     (v w : Sets) → Has s seat v → w.passes ≡ v.passes
     → sum_by passes_of (set s.views seat w) ≡ passes

@@ -95,7 +95,7 @@ hears count passes seat v other u me pass is_note s rule at else there =
     (λ p is. absurd (in-none p is)) (λ p is. absurd (in-none p is)) (sym empty)
     (λ p is. absurd (in-none p is)) (λ is. let bad : Spent ≡ Pass = is in cc)))
 
--- who joined a note knows what the note was made of
+-- the pass that a note joined knows what the note was made of
 pub told-note : (v u : Sets) (now note : Sat) (slots : List (ℕ × Unit {0}))
     → now ≡ (told v note.0, slots) → note ≡ (note_of u, []) → now.0 ≡ told v (note_of u)
 told-note v u now note slots joined made =

@@ -1,6 +1,6 @@
 //! The four words of SipHash, and what its rounds make of them.
 ghost use Rattle.std.specs.Prelude.{◌≡◌};
-ghost use Rattle.bloom_parts.specs.States.{words_of};
+ghost use Rattle.bloom_parts.specs.States.{state_words};
 ghost use Rattle.bloom_parts.specs.Sip as sip;
 
 // The internal state of SipHash.
@@ -17,7 +17,7 @@ impl State {
     #[inline]
     #[tactic(auto, unfolding(crate::specs::Sip::start))]
     pub(super) fn new(k0: u64, k1: u64) -> Self
-        ensures { words_of result ≡ sip.start k0 k1 }
+        ensures { state_words result ≡ sip.start k0 k1 }
     {
         State {
             v0: k0 ^ 0x736f_6d65_7073_6575,
@@ -31,7 +31,7 @@ impl State {
     #[inline(always)]
     #[tactic(auto, unfolding(crate::specs::Sip::round))]
     fn round(self) -> Self
-        ensures { words_of result ≡ sip.round (words_of self) }
+        ensures { state_words result ≡ sip.round (state_words self) }
     {
         let mut next = self;
         next.v0 = next.v0.wrapping_add(next.v1);
@@ -51,7 +51,7 @@ impl State {
     #[inline(always)]
     #[tactic(auto, unfolding(crate::specs::Sip::absorb))]
     pub(super) fn absorb(&mut self, word: u64)
-        ensures { words_of self.new ≡ sip.absorb (words_of self.old) word }
+        ensures { state_words self.new ≡ sip.absorb (state_words self.old) word }
     {
         self.v3 ^= word;
         *self = self.round();
@@ -62,7 +62,7 @@ impl State {
     #[inline]
     #[tactic(auto, unfolding(crate::specs::Sip::answer))]
     pub(super) fn answer(self) -> u64
-        ensures { result ≡ sip.answer (words_of self) }
+        ensures { result ≡ sip.answer (state_words self) }
     {
         let mut last = self;
         last.v2 ^= 0xff;

@@ -9,8 +9,8 @@ use super::RandomDefaultHasher;
 use std::hash::Hasher;
 
 impl RandomDefaultHasher {
-    // Takes in bytes as `write` does. It isn't copied into its callers, where it would slow down
-    // what they mostly do.
+    // Takes in bytes as `write` does. It isn't inlined, since it would slow down the common path of
+    // its callers.
     #[inline(never)]
     fn write_apart(&mut self, bytes: &[u8])
         ensures state { self.new ≡ hashed.write self.old bytes.now }
@@ -60,7 +60,7 @@ impl Hasher for RandomDefaultHasher {
         ensures state { self.new ≡ fold hashed.write self.old (fed.u8 i) }
         ensures taken { Takes self.old self.new (to_le_bytes w8 i) }
     {
-        // So a byte never goes past the end of a word.
+        // A byte never goes past the end of a word.
         prove!(self.length % 8 < 8);
         self.fill(&u8::to_le_bytes(i));
     }

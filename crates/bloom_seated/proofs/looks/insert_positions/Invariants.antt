@@ -1,7 +1,7 @@
 use Rattle.std.proofs.Common.{◌≡◌, ◌*◌}
 use Rattle.bloom_parts.specs.Chain.{IsAt}
 use Rattle.bloom_parts.specs.Places.{positions}
-use Rattle.bloom_seated.specs.Passes.{Inserts, sight_of}
+use Rattle.bloom_seated.specs.Passes.{InsertsAs, sight_of}
 use Rattle.bloom_seated.specs.declared.rule.Role.TheVariants.{Pass}
 use Rattle.bloom_seated.proofs.looks.insert_positions.Given as goal
 
@@ -9,5 +9,5 @@ use Rattle.bloom_seated.proofs.looks.insert_positions.Given as goal
 abbrev pub invariant-places : goal.invariant-places
 invariant-places l = IsAt l.fn.hash l.counter l.chain
     × (l.seat.me.0.role ≡ Pass)
-    × Inserts (positions (64 * l.table.shared.table_id.words) l.counter l.fn.hash)
+    × InsertsAs (positions (64 * l.table.shared.table_id.words) l.counter l.fn.hash)
     (sight_of l.initial.seat) (sight_of l.seat) l.all_on

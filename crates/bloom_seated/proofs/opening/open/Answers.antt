@@ -10,6 +10,6 @@ load-requires c = (
   settles _ _ _ _ _ _ c.put_words.ensures.first,
 )
 
--- and makes the seat a pass that knows nothing
+-- the last step makes the seat a pass that knows nothing
 pub returns-clause-fresh : goal.returns-clause-fresh
 returns-clause-fresh c = settles-fresh _ _ c.put_words.ensures.first c.load.ensures.2

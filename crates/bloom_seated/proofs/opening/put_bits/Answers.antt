@@ -10,6 +10,6 @@ fetch_or-requires c = (
   puts_in _ _ _ _ _ _ _ c.requires.first,
 )
 
--- and adds to the start alone
+-- the step adds to the start alone
 pub returns : goal.returns
 returns c = fills-by _ _ _ c.requires.first c.fetch_or.ensures.0 c.fetch_or.ensures.2

@@ -13,7 +13,7 @@ hashes-preserved c =
           _ _ (omega arith) is c.hashes.invariant.1 c.insert_hash_as.ensures.inserts,
     )
 
--- and in the end all are
+-- in the end all hashes are known
 pub returns-clause-known : goal.returns-clause-known
 returns-clause-known c =
     known-all c.args.filter.now c.hashes.pass c.args.hashes.items c.hashes.i (omega arith)

@@ -9,7 +9,7 @@ new-requires-clause-ordered c =
     (rw c.low.ensures at c.power-low.ensures.value)
     (rw c.high.ensures at c.power-high.ensures.value)
 
--- and their bracket is the power's
+-- the bracket of both powers is the power's
 pub returns : goal.returns
 returns c =
     is-power c.args.density c.args.hashes (omega arith) c.new.result (search rules) (search rules)

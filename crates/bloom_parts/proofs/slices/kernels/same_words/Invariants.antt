@@ -8,7 +8,7 @@ invariant-groups l = record {
   turns : l.turns ≡ l.group;
 }
 
--- and so are the words of the rest
+-- the words of the rest so far are equal too
 abbrev pub invariant-rest : goal.invariant-rest
 invariant-rest l = record {
   front : take l.place l.words ≡ take l.place l.other;

@@ -1,14 +1,14 @@
 use Rattle.std.proofs.Common.{arith}
-use Rattle.bloom_parts.proofs.TurnLemmas.{goes_on-none, goes_on-then}
+use Rattle.bloom_parts.proofs.TurnLemmas.{advances-none, advances-then}
 use Rattle.bloom_parts.proofs.LookLemmas.{tells_next-none, tells_next-on, tells_next-stops}
 use Rattle.bloom_parts.proofs.slices.positions.each_is_on.Goals as goal
 
 pub places-init : goal.places-init
-places-init c = record { chain = goes_on-none _; on = tells_next-none _ _ }
+places-init c = record { chain = advances-none _; on = tells_next-none _ _ }
 
 pub places-preserved : goal.places-preserved
 places-preserved c = record {
-  chain = goes_on-then c.places._place 1 _ _ _ c.places.invariant.chain c.next_is_on.ensures.moved;
+  chain = advances-then c.places._place 1 _ _ _ c.places.invariant.chain c.next_is_on.ensures.moved;
   on = tells_next-on _ _ _ _ _ c.places.invariant.chain c.places.invariant.on
       c.if-not-next_is_on.false c.next_is_on.ensures.found;
 }

@@ -1,10 +1,10 @@
 use Rattle.std.proofs.Common.{true}
-use Rattle.bloom_parts.specs.Stretches.{GoesOn, TellsNext}
+use Rattle.bloom_parts.specs.Stretches.{Advances, TellsNext}
 use Rattle.bloom_parts.proofs.slices.positions.each_is_on.Given as goal
 
 -- the places so far are on
 abbrev pub invariant-places : goal.invariant-places
 invariant-places l = record {
-  chain : GoesOn l._place l.fn.chain l.chain;
+  chain : Advances l._place l.fn.chain l.chain;
   on : TellsNext l._place l.fn.chain l.words true;
 }

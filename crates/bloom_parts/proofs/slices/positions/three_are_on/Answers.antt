@@ -1,4 +1,4 @@
-use Rattle.bloom_parts.proofs.TurnLemmas.{goes_on-then}
+use Rattle.bloom_parts.proofs.TurnLemmas.{advances-then}
 use Rattle.bloom_parts.proofs.LookLemmas.{tells_next-three}
 use Rattle.bloom_parts.proofs.slices.positions.three_are_on.Goals as goal
 
@@ -11,5 +11,5 @@ returns-clause-found c =
 
 pub returns-clause-moved : goal.returns-clause-moved
 returns-clause-moved c =
-    goes_on-then 2 1 _ _ _ (goes_on-then 1 1 _ _ _ c.next_is_on-first.ensures.moved
+    advances-then 2 1 _ _ _ (advances-then 1 1 _ _ _ c.next_is_on-first.ensures.moved
     c.next_is_on-second.ensures.moved) c.next_is_on-third.ensures.moved

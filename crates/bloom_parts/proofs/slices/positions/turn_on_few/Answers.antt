@@ -1,5 +1,5 @@
 use Rattle.std.proofs.Common.{◌≡◌, arith}
-use Rattle.bloom_parts.proofs.TurnLemmas.{goes_on-then, turns_on-none, turns_on_next-then}
+use Rattle.bloom_parts.proofs.TurnLemmas.{advances-then, turns_on-none, turns_on_next-then}
 use Rattle.bloom_parts.proofs.slices.positions.turn_on_few.Goals as goal
 
 pub returns-then-count-eq0-clause-turns_on : goal.returns-then-count-eq0-clause-turns_on
@@ -21,6 +21,6 @@ returns-clause-turns_on c =
     let two = c.turn_on_next-second.ensures in
     let count : c.args.count ≡ 3 = omega arith in
     rw count
-    (turns_on_next-then 2 1 _ _ _ _ _ _ _ (goes_on-then 1 1 _ _ _ one.moved two.moved)
+    (turns_on_next-then 2 1 _ _ _ _ _ _ _ (advances-then 1 1 _ _ _ one.moved two.moved)
     (turns_on_next-then 1 1 _ _ _ _ _ _ _ one.moved one.turns_on two.turns_on)
     c.turn_on_next-third.ensures.turns_on)
