@@ -2,6 +2,7 @@
 use Rattle.std.proofs.Common.{◌≡◌, ◌≢◌, ◌%◌, ◌==◌, ◌∷◌, [], true, false, not, ◌&&◌, count_by, refl, arith, sym}
 use Rattle.bloom_parts.specs.Content.{content}
 use Rattle.bloom_steps.specs.declared.steps.vocabulary.Step.TheVariants.{Load, Or, And, Zero, Other}
+use Rattle.bloom_steps.specs.declared.steps.vocabulary.Step.TheVariants as step
 use Rattle.bloom_steps.specs.declared.steps.vocabulary.Call.{Call}
 use Rattle.bloom_steps.specs.declared.steps.vocabulary.Call.TheVariants.{Insert, Clear, Union, Intersect, Take}
 use Rattle.bloom_steps.specs.declared.steps.vocabulary.End.TheVariants.{Running}
@@ -47,6 +48,10 @@ zero-off = refl
 -- a read of the other filter
 other-off : found_off (Did 0 (Other 0) 0 Running) ≡ false
 other-off = refl
+
+-- a take of a word, which turns nothing on
+take-off : found_off (Did 0 (step.Take 0) 0 Running) ≡ false
+take-off = refl
 
 -- a beginning
 began-off : found_off (Began 0 Clear) ≡ false

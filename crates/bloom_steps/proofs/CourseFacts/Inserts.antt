@@ -1,5 +1,5 @@
 -- What the theorem on the answers of inserts says of the worked courses.
-use Rattle.std.proofs.Common.{◌≡◌, ℕ, Bool, true, false, not, ◌&&◌, refl, arith, subst}
+use Rattle.std.proofs.Common.{◌≡◌, ℕ, Bool, Some, slice_get, true, false, not, ◌&&◌, refl, arith, subst}
 use Rattle.std.proofs.lemmas.Bool.{both_ways}
 use Rattle.bloom_parts.specs.Content.{content}
 use Rattle.bloom_steps.specs.declared.steps.vocabulary.Step.TheVariants.{Load, Or}
@@ -9,7 +9,7 @@ use Rattle.bloom_steps.specs.declared.steps.vocabulary.End.TheVariants.{Running,
 use Rattle.bloom_steps.specs.declared.steps.vocabulary.Record.TheVariants.{Did}
 use Rattle.bloom_steps.specs.Interleavings.{InsertsTell, TurnsOneOn}
 use Rattle.bloom_steps.specs.Moments.{moment, turns_on}
-use Rattle.bloom_steps.proofs.CourseFacts.Courses.{twins, twins_answering, idle_insert}
+use Rattle.bloom_steps.proofs.CourseFacts.Courses.{insert_in_clear, twins, twins_answering, idle_insert}
 use Rattle.bloom_steps.specs.declared.steps.vocabulary.Step.{Step}
 use Rattle.bloom_steps.proofs.StepFacts.Members.{each-member}
 use Rattle.bloom_steps.proofs.CourseFacts.Finished.{finished, step_at}
@@ -91,3 +91,26 @@ idle-untold tell =
     finished idle_insert 0 (Insert 0) 0 1 (Answer false) refl (omega arith) (Load 0) 0 refl
     (λ e. cc) refl in
     idle-on ((tell 0 0 0 1 false is).0 refl)
+
+-- the first record after an insert's beginning counts, and so does its last step
+just-on : TurnsOneOn insert_in_clear 1 2 3
+unfolding content
+just-on = record {
+  m = 3;
+  p = 0;
+  ended = Running;
+  later = omega arith;
+  upto = omega arith;
+  own = step_at (Or 0 1) 0 refl;
+  on = refl;
+}
+
+-- a step later than the last record doesn't count
+none-yet : TurnsOneOn twins 0 0 1 → ⊥
+none-yet one =
+    let here : one.m ≡ 1 = omega (arith, one.later, one.upto) in
+    let own =
+    subst
+    (λ m. slice_get twins.records m ≡ Some (Did 0 one.own.step one.own.found one.ended)) here
+    one.own.here in
+    cc

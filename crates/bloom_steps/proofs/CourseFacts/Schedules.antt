@@ -36,7 +36,7 @@ two-records =
     (next_event _ (Go 0 0) _ [] _ (inr (record { idle = refl; same = refl })) (no_event _))))))
 
 -- a beginning is recorded
-begin-dropped : Gives 1 [] (Begin 0 Clear) [] → ⊥
+pub begin-dropped : Gives 1 [] (Begin 0 Clear) [] → ⊥
 unfolding records_of
 begin-dropped gives = elim gives [
   | inl is ↦ let same = is.same in cc
@@ -123,7 +123,7 @@ unasked : FollowsFrom 1 [] [] (Began 0 Clear ∷ []) → ⊥
 unasked follows = let none = eventless [] _ [] refl follows in cc
 
 -- the events of a schedule are followed in order
-one-event : (before after : List Record) (events : List Event) (event : Event)
+pub one-event : (before after : List Record) (events : List Event) (event : Event)
     → events ≡ event ∷ [] → FollowsFrom 1 before events after → Gives 1 before event after
 one-event before _ _ event e (no_event _) = absurd (cc)
 one-event before _ _ event e (next_event _ given events added later gives rest) =

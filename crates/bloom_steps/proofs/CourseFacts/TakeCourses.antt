@@ -2,6 +2,7 @@
 use Rattle.std.proofs.Common.{◌≡◌, ◌∷◌, [], ℕ, refl, arith, inl, count_by}
 use Rattle.std.specs.Prelude.{sum_by}
 use Rattle.bloom_parts.specs.Content.{content}
+use Rattle.bloom_steps.specs.declared.steps.vocabulary.Step.TheVariants.{Load, Or, And, Zero, Other}
 use Rattle.bloom_steps.specs.declared.steps.vocabulary.Step.TheVariants as step
 use Rattle.bloom_steps.specs.declared.steps.vocabulary.Call.TheVariants.{Take}
 use Rattle.bloom_steps.specs.declared.steps.vocabulary.End.TheVariants.{Running, Done}
@@ -15,6 +16,19 @@ use Rattle.bloom_steps.specs.Moments.{bits_of}
 five-bits : bits_on 5 ≡ 2
 unfolding bits_on
 five-bits = refl
+
+-- the highest bit of a word counts
+highest-bit : bits_on 9223372036854775808 ≡ 1
+unfolding bits_on
+highest-bit = refl
+
+-- a take alone tells how many bits were on in the word that it found
+taken-bits : (bits_taken (Did 0 (step.Take 0) 5 Done) ≡ 2) × (bits_taken (Began 0 Take) ≡ 0)
+    × (bits_taken (Did 0 (Load 0) 5 Running) ≡ 0) × (bits_taken (Did 0 (Or 0 5) 5 Running) ≡ 0)
+    × (bits_taken (Did 0 (And 0 5) 5 Running) ≡ 0) × (bits_taken (Did 0 (Zero 0) 5 Done) ≡ 0)
+    × (bits_taken (Did 0 (Other 0) 5 Running) ≡ 0)
+unfolding bits_on
+taken-bits = (refl, refl, refl, refl, refl, refl, refl)
 
 -- the four numbers of a course: on at the start, turned on, taken, left
 pub record HasCounts (run : Course) (start gained taken left : ℕ) : Type 0 where

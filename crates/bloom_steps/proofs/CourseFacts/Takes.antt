@@ -10,7 +10,7 @@ use Rattle.bloom_steps.specs.Courses.{MayFind}
 use Rattle.bloom_steps.specs.Memories.{Moves}
 use Rattle.bloom_steps.specs.Plans.{plan_of}
 use Rattle.bloom_steps.specs.Scripts.{HasCount, IsScript, Taken}
-use Rattle.bloom_steps.specs.Sequences.{command_of}
+use Rattle.bloom_steps.specs.Sequences.{command_of, other_words}
 use Rattle.bloom_steps.proofs.CourseFacts.Finding.{finds, set}
 use Rattle.bloom_steps.proofs.StepFacts.Members.{each-member, took}
 use Rattle.bloom_steps.proofs.StepFacts.Stores.{memory}
@@ -65,3 +65,7 @@ take-idle m = let words = m.writes in cc
 -- where one call goes at a time it is a clear
 take-command : (other : ℕ → Bool) → command_of Take other ≡ operation.Clear
 take-command other = refl
+
+-- a take reads no word of the other filter
+take-reads_none : other_words (took (step.Take 0) 5 Done ∷ []) ≡ []
+take-reads_none = refl

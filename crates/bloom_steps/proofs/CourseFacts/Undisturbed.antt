@@ -1,10 +1,15 @@
 -- Which look-ups of the worked courses are undisturbed, and which not.
-use Rattle.std.proofs.Common.{◌≡◌, ◌<◌, ◌≤◌, zero, suc, true, false, Bool, ℕ, not, ◌&&◌, refl, arith, subst, sym, ◌∙◌, ap}
+use Rattle.std.proofs.Common.{◌≡◌, ◌∷◌, [], ◌<◌, ◌≤◌, zero, suc, true, false, Bool, ℕ, not, ◌&&◌, refl, arith, subst, sym, ◌∙◌, ap}
 use Rattle.std.proofs.lemmas.Bool.{both_ways}
 use Rattle.bloom_parts.specs.Chain.{chain}
 use Rattle.bloom_parts.specs.Content.{content}
 use Rattle.bloom_parts.specs.Places.{place, IsPosition}
 use Rattle.bloom_parts.proofs.PublishedLemmas.{place-position}
+use Rattle.bloom_steps.specs.declared.steps.vocabulary.Step.TheVariants.{Load, Zero}
+use Rattle.bloom_steps.specs.declared.steps.vocabulary.Call.TheVariants.{Contains, Clear}
+use Rattle.bloom_steps.specs.declared.steps.vocabulary.End.TheVariants.{Done, Answer}
+use Rattle.bloom_steps.specs.declared.steps.vocabulary.Record.TheVariants.{Began, Did}
+use Rattle.bloom_steps.specs.Courses.{Course}
 use Rattle.bloom_steps.specs.Moments.{moment, turns_off, IsUndisturbed, NoneTurnedOff}
 use Rattle.bloom_steps.proofs.CourseFacts.Courses.{disturbed, last_load_alone, between_clears, clear_elsewhere}
 
@@ -79,3 +84,21 @@ elsewhere m p a b x = subst (λ q. turns_off clear_elsewhere m q ≡ false) (sym
 elsewhere-off : turns_off clear_elsewhere 2 2 ≡ true
 unfolding content
 elsewhere-off = refl
+
+-- a look-up within a clear, whose step comes just after the look-up's beginning
+abbrev within_clear : Course
+within_clear = record {
+  start = 1 ∷ [];
+  records =
+      Began 1 Clear ∷ Began 0 (Contains 0) ∷ Did 1 (Zero 0) 0 Done
+      ∷ Did 0 (Load 0) 0 (Answer false) ∷ [];
+  words = 0 ∷ [];
+}
+
+-- the first record after a look-up's beginning disturbs it, and so does the last up to its end
+just-after : IsUndisturbed 1 within_clear 0 1 2 → ⊥
+unfolding content chain
+just-after h =
+    let on : turns_off within_clear 2 0 ≡ true = refl in
+    both_ways (turns_off within_clear 2 0)
+    (h 2 0 (omega arith) (omega arith) (place-position 64 1 0 0 (omega arith))) on

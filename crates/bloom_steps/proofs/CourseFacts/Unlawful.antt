@@ -36,6 +36,14 @@ old-word : IsLawful 1
 unfolding content
 old-word is = let bit = (is.finds 3 1 (Load 0) 4 (Answer true) refl).bits 0 refl in cc
 
+-- an insert that finds its word as it left it
+new-word : IsLawful 1
+    (with_records
+    (Began 0 (Insert 0) ∷ Did 0 (Or 0 1) 5 (Answer true) ∷ Began 1 (Contains 0)
+    ∷ Did 1 (Load 0) 5 (Answer true) ∷ Began 0 Union ∷ Did 0 (Other 0) 9 Running ∷ [])) → ⊥
+unfolding content
+new-word is = let bit = (is.finds 1 0 (Or 0 1) 5 (Answer true) refl).bits 0 refl in cc
+
 -- a word of the other filter of more than 64 bits
 wide-word : IsLawful 1
     (with_records

@@ -12,6 +12,10 @@ insert-count = refl
 insert-count_less : HasCount 2 3 (plan_of (Insert 1)) 2 → ⊥
 insert-count_less h = omega (arith, h)
 
+-- an insert makes none more than a step for each hash
+insert-count_more : HasCount 2 3 (plan_of (Insert 1)) 4 → ⊥
+insert-count_more h = omega (arith, h)
+
 -- a look-up may end at its first step
 contains-count_one : HasCount 2 3 (plan_of (Contains 1)) 1
 contains-count_one = (omega arith, omega arith)
@@ -36,6 +40,10 @@ clear-count = refl
 clear-count_hashes : HasCount 2 3 (plan_of Clear) 3 → ⊥
 clear-count_hashes h = omega (arith, h)
 
+-- a clear makes none fewer than a step for each word
+clear-count_less : HasCount 2 3 (plan_of Clear) 1 → ⊥
+clear-count_less h = omega (arith, h)
+
 -- a union makes two for each word
 union-count : HasCount 2 3 (plan_of Union) 4
 union-count = refl
@@ -43,6 +51,14 @@ union-count = refl
 -- not one
 union-count_half : HasCount 2 3 (plan_of Union) 2 → ⊥
 union-count_half h = omega (arith, h)
+
+-- a union makes none more than two for each word
+union-count_more : HasCount 2 3 (plan_of Union) 5 → ⊥
+union-count_more h = omega (arith, h)
+
+-- a union makes none fewer than two for each word
+union-count_less : HasCount 2 3 (plan_of Union) 3 → ⊥
+union-count_less h = omega (arith, h)
 
 -- an intersection makes two for each word
 intersect-count : HasCount 2 3 (plan_of Intersect) 4

@@ -21,7 +21,7 @@ use Rattle.bloom_steps.proofs.StepFacts.Beginnings.{begun-none, begun-one, next-
 use Rattle.bloom_steps.proofs.StepFacts.Scripts.{insert, insert-script}
 
 -- an insert of hash 1 in one word with two hashes, at its beginning
-abbrev begun : Machine
+abbrev pub begun : Machine
 begun = record {
   call = Insert 1;
   num_words = 1;
@@ -40,7 +40,7 @@ begun = record {
 }
 
 -- after a step that found its bit on
-abbrev further : Machine
+abbrev pub further : Machine
 further = record begun {
   turn = 1;
   chain = record { newest = 0x8114_f89c_0b63_613f; added = 0x517c_c1b7_2722_0a95 };
