@@ -14,7 +14,7 @@ use Rattle.bloom_steps.specs.Courses.{CallAfterCall, no_call, begun_call, whole_
 use Rattle.bloom_steps.proofs.StepFacts.Members.{took}
 use Rattle.bloom_steps.proofs.StepFacts.Pairs.{intersect, intersect-script, union-script}
 
--- an intersection, and a union that has read
+-- an intersection, and a union that has read, are call after call
 whole-and-begun : CallAfterCall 1 2 0
     (Began 0 Intersect ∷ Did 0 (Other 0) 5 Running ∷ Did 0 (And 0 5) 6 Done ∷ Began 0 Union
     ∷ Did 0 (Other 0) 5 Running ∷ [])
@@ -23,18 +23,18 @@ whole-and-begun =
     (begun_call Union (took (Other 0) 5 Running ∷ [])
     (record { next = _; rest = _; script = union-script }))
 
--- the first record is a beginning
+-- the first record of a party is a beginning
 pub first-begins : (w k p : ℕ) (all : List Record) → CallAfterCall w k p all
     → (r : Record) (rs : List Record) → all ≡ r ∷ rs → (call : Call) × (r ≡ Began p call)
 first-begins w k p _ no_call r rs e = absurd (cc)
 first-begins w k p _ (begun_call call s b) r rs e = (call, cc)
 first-begins w k p _ (whole_call call s later is more) r rs e = (call, cc)
 
--- a step that no call makes
+-- a step that no call makes is no call
 unbegun : CallAfterCall 1 2 0 (Did 0 (Zero 0) 0 Done ∷ []) → ⊥
 unbegun calls = let first = first-begins 1 2 0 _ calls _ _ refl in let is = first.1 in cc
 
--- the beginning of another party
+-- the beginning of another party is no call of this one
 another-party : CallAfterCall 1 2 0 (Began 1 Clear ∷ []) → ⊥
 another-party calls = let first = first-begins 1 2 0 _ calls _ _ refl in let is = first.1 in cc
 
@@ -55,7 +55,7 @@ one-step w k p _ (whole_call c (t ∷ []) later is more) call next step found e 
 one-step w k p _ (whole_call c (t ∷ (u ∷ s)) later is more) call next step found e rs same =
     absurd (cc)
 
--- an intersection that another call cut short
+-- an intersection that another call cut short is not whole
 cut-short : CallAfterCall 1 2 0
     (Began 0 Intersect ∷ Did 0 (Other 0) 5 Running ∷ Began 0 Clear ∷ Did 0 (Zero 0) 0 Done ∷ [])
     → ⊥

@@ -30,7 +30,7 @@ inserted words = record {
   position = record { index = 1; below = omega arith; here = refl };
 }
 
--- position 1 was not
+-- position 1 was not inserted
 uninserted : (words : List ℕ) → IsInserted 2 (record twins { words = words }) 1 → ⊥
 unfolding chain
 uninserted words is =
@@ -56,7 +56,7 @@ looked-up is =
 found : (words : List ℕ) → IsFoundInOther (record in_turn { words = words }) 2
 found words = record { m = 1; party = 0; found = 5; ended = Running; reads = refl; on = refl }
 
--- position 1 was not
+-- position 1 was not found on in the other filter
 unfound : IsFoundInOther in_turn 1 → ⊥
 unfound is =
     let word =
@@ -71,7 +71,7 @@ unfound-elsewhere is =
     each-member (λ m r. r ≡ Did is.party (Other 1) is.found is.ended → ⊥) in_turn.records
     ((λ e. cc), ((λ e. cc), ((λ e. cc), ((λ e. cc), ((λ e. cc), tt))))) is.m _ is.reads refl
 
--- the twins found nothing there
+-- the twins found nothing on in the other filter
 none_found : (words : List ℕ) (p : ℕ) → IsFoundInOther (record twins { words = words }) p → ⊥
 none_found words p is =
     each-member
@@ -86,7 +86,7 @@ ended zero = refl
 ended (suc zero) = refl
 ended (suc (suc party)) = idle-past 2 (suc (suc party)) twins.records 6 refl (omega arith)
 
--- the theorem holds of them
+-- the theorem on growing runs holds of the twins
 ends : EndsWithAll 2 twins
 ends = ends_with_all 2 twins lawful-twins
 
@@ -98,7 +98,7 @@ ends-short ends =
     (inr (inl (inserted (1 ∷ [])))) in
     cc
 
--- nor one on that was not
+-- a position that was on nowhere and not inserted may not be on in the end
 ends-long : EndsWithAll 2 (record twins { words = 1048579 ∷ [] }) → ⊥
 unfolding content chain
 ends-long ends =

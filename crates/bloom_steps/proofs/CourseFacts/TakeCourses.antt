@@ -12,7 +12,7 @@ use Rattle.bloom_steps.specs.Courses.{Course, Follows, next_event, no_event, rec
 use Rattle.bloom_steps.specs.Interleavings.{IsBalanced, bits_on, bits_taken, count_below, found_off}
 use Rattle.bloom_steps.specs.Moments.{bits_of}
 
--- bits that are on in a word
+-- the word 5 has two bits on
 five-bits : bits_on 5 ≡ 2
 unfolding bits_on
 five-bits = refl
@@ -45,7 +45,7 @@ one = record {
   words = 0 ∷ 0 ∷ [];
 }
 
--- it follows its schedule
+-- the take of the words 5 and 2 follows its schedule
 one-follows : Follows 1 (5 ∷ 2 ∷ []) (Begin 0 Take ∷ Go 0 0 ∷ Go 0 0 ∷ []) one
 unfolding records_of
 one-follows = record {
@@ -73,12 +73,12 @@ one-follows = record {
       })) (no_event _)));
 }
 
--- 3 + 0 = (2 + 1) + 0
+-- the numbers of the take of the words 5 and 2: 3 + 0 = (2 + 1) + 0
 one-counts : HasCounts one 3 0 3 0
 unfolding content bits_on
 one-counts = record { at_start = refl; turned_on = refl; found = refl; at_end = refl }
 
--- after its first step: 3 + 0 = 2 + 1
+-- after its first step the take of the words 5 and 2 is balanced: 3 + 0 = 2 + 1
 one-balanced : IsBalanced one 2
 unfolding content bits_on
 one-balanced = refl
@@ -92,7 +92,7 @@ both = record {
   words = 0 ∷ [];
 }
 
--- 3 + 0 = (3 + 0) + 0
+-- the numbers of the two takes: 3 + 0 = (3 + 0) + 0
 both-counts : HasCounts both 3 0 3 0
 unfolding content bits_on
 both-counts = record { at_start = refl; turned_on = refl; found = refl; at_end = refl }

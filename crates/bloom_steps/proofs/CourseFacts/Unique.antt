@@ -17,7 +17,7 @@ use Rattle.bloom_steps.proofs.CourseFacts.Schedules.{cleared, follows-words, sch
 abbrev zeroed : List Taken
 zeroed = took (Zero 0) 0 Done ∷ []
 
--- it is a whole clear
+-- the one step is a whole clear
 zeroed-script : IsScript 1 1 Clear zeroed
 zeroed-script = record {
   count = refl;
@@ -27,7 +27,7 @@ zeroed-script = record {
   last = each-member _ zeroed ((λ l. refl), tt);
 }
 
--- the calls of each party
+-- the calls of each party of a clear of one word
 calls : (party : ℕ) → CallAfterCall 1 1 party (records_of party (cleared (9 ∷ [])).records)
 unfolding records_of
 calls zero = whole_call Clear zeroed [] zeroed-script no_call
@@ -41,7 +41,7 @@ lawful =
     carried 1 (cleared (9 ∷ [])) (omega arith, refl, lit< tt, tt) refl refl
     (one-word 0 (lit< tt)) calls
 
--- and it is the only one
+-- the course that follows the schedule is the only lawful one
 only : AtMostOne → (other : Course) → IsLawful 1 other → Follows 1 (9 ∷ []) schedule other
     → other ≡ cleared (9 ∷ [])
 only law other is follows =
@@ -51,7 +51,7 @@ only law other is follows =
 abbrev nothing : Course
 nothing = record { start = []; records = []; words = [] }
 
--- it is lawful, also without hashes
+-- a course without parties, words and events is lawful, also without hashes
 lawful-nothing : IsLawful 0 nothing
 unfolding records_of
 lawful-nothing = record {

@@ -2,7 +2,7 @@
 use Rattle.std.proofs.Common.{◌≡◌, ◌∷◌, [], List, ℕ, refl, arith, ap, ◌∙◌, slice_index}
 use Rattle.bloom_steps.specs.declared.steps.vocabulary.Step.TheVariants.{Load, Or, And, Zero, Other, Take}
 use Rattle.bloom_steps.specs.declared.steps.vocabulary.End.TheVariants.{Running, Done}
-use Rattle.bloom_steps.specs.Memories.{Makes, Memory, MemoryLaw, Moves, found_in, words_after}
+use Rattle.bloom_steps.specs.Memories.{Makes, Memory, MemoryLaw, Moves, found_in, words_after_step}
 use Rattle.bloom_steps.specs.Scripts.{Linked, Taken}
 use Rattle.bloom_steps.proofs.StepFacts.Members.{took}
 use Rattle.bloom_steps.proofs.StepFacts.Stores.{memory}
@@ -18,27 +18,27 @@ found : (found_in two 5 (Load 1) ≡ 12) × (found_in two 5 (Or 1 3) ≡ 12)
 found = (refl, refl, refl, refl, refl, refl)
 
 -- a load leaves the words
-load-leaves : words_after two (Load 1) ≡ 9 ∷ 12 ∷ []
+load-leaves : words_after_step two (Load 1) ≡ 9 ∷ 12 ∷ []
 load-leaves = refl
 
 -- an or turns on the bits of its mask in its own word
-or-leaves : words_after two (Or 1 3) ≡ 9 ∷ 15 ∷ []
+or-leaves : words_after_step two (Or 1 3) ≡ 9 ∷ 15 ∷ []
 or-leaves = refl
 
 -- an and keeps the bits of its mask in its own word
-and-leaves : words_after two (And 1 6) ≡ 9 ∷ 4 ∷ []
+and-leaves : words_after_step two (And 1 6) ≡ 9 ∷ 4 ∷ []
 and-leaves = refl
 
 -- a zero turns its own word off
-zero-leaves : words_after two (Zero 1) ≡ 9 ∷ 0 ∷ []
+zero-leaves : words_after_step two (Zero 1) ≡ 9 ∷ 0 ∷ []
 zero-leaves = refl
 
 -- a read of the other filter leaves the words
-other-leaves : words_after two (Other 1) ≡ 9 ∷ 12 ∷ []
+other-leaves : words_after_step two (Other 1) ≡ 9 ∷ 12 ∷ []
 other-leaves = refl
 
 -- a take turns its own word off
-take-leaves : words_after two (Take 1) ≡ 9 ∷ 0 ∷ []
+take-leaves : words_after_step two (Take 1) ≡ 9 ∷ 0 ∷ []
 take-leaves = refl
 
 -- two words, and two of the other filter
