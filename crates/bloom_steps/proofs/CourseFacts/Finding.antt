@@ -29,6 +29,11 @@ load-another : MayFind set (Load 1) 5 → ⊥
 unfolding content
 load-another may = let bit = may.bits 66 refl in cc
 
+-- a load finds no word that differs in its highest bit alone
+load-highest : MayFind set (Load 1) 9223372036854775817 → ⊥
+unfolding content
+load-highest may = let bit = may.bits 127 refl in cc
+
 -- a load finds no word with the same bits and further ones
 load-past : MayFind set (Load 1) 18446744073709551625 → ⊥
 load-past may = past 18446744073709551625 (lit≤ tt) may.fits

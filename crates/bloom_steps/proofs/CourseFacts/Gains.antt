@@ -112,3 +112,18 @@ few-gained = refl
 ungained : CountsGains one_gained → ⊥
 ungained counts =
     let two = counts twins-by_hash in omega (arith, sym twins-off, two, few-gained)
+
+-- the twins with three positions in the end
+abbrev three_gained : Course
+three_gained = record twins { words = 1048579 ∷ [] }
+
+-- the twins with three positions in the end gained three
+many-gained :
+    count_below 64 (λ p. content three_gained.words p && not (content three_gained.start p)) ≡ 3
+unfolding content
+many-gained = refl
+
+-- the theorem on gains fails of the twins with three positions in the end
+over-gained : CountsGains three_gained → ⊥
+over-gained counts =
+    let two = counts twins-by_hash in omega (arith, sym twins-off, two, many-gained)

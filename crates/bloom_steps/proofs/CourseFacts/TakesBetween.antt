@@ -117,6 +117,23 @@ lost-then : TakesLoseNothing (between 0) → ⊥
 unfolding content bits_on
 lost-then keeps = let even = (keeps (each-between 0)).always 4 (omega arith) in cc
 
+-- the numbers where the take tells a bit that was off: 0 + 2 against 2 + 1
+invented-counts : HasCounts (between 3) 0 2 2 1
+unfolding content bits_on
+invented-counts = record { at_start = refl; turned_on = refl; found = refl; at_end = refl }
+
+-- the theorem on takes fails of a take that tells a bit that was off
+invented : TakesLoseNothing (between 3) → ⊥
+invented keeps =
+    let even = (keeps (each-between 3)).whole in
+    let c = invented-counts in
+    omega (arith, even, c.at_start, c.turned_on, c.found, c.at_end)
+
+-- the theorem on takes fails just after a take that tells a bit that was off already
+invented-then : TakesLoseNothing (between 3) → ⊥
+unfolding content bits_on
+invented-then keeps = let even = (keeps (each-between 3)).always 4 (omega arith) in cc
+
 -- with a clear in the take's place a bit is lost, 0 + 2 against 0 + 1, so the premise is needed
 abbrev cleared : Course
 cleared = record {

@@ -1,9 +1,9 @@
 -- Copies of a lawful course with one thing wrong in each: none is lawful.
 use Rattle.std.proofs.Common.{◌∷◌, [], List, true, false, refl, arith, lit≤}
 use Rattle.bloom_parts.specs.Content.{content}
-use Rattle.bloom_steps.specs.declared.steps.vocabulary.Step.TheVariants.{Load, Or, Other}
-use Rattle.bloom_steps.specs.declared.steps.vocabulary.Call.TheVariants.{Insert, Contains, Union}
-use Rattle.bloom_steps.specs.declared.steps.vocabulary.End.TheVariants.{Running, Answer}
+use Rattle.bloom_steps.specs.declared.steps.vocabulary.Step.TheVariants.{Load, Or, Zero, Other}
+use Rattle.bloom_steps.specs.declared.steps.vocabulary.Call.TheVariants.{Insert, Contains, Clear, Union}
+use Rattle.bloom_steps.specs.declared.steps.vocabulary.End.TheVariants.{Running, Done, Answer}
 use Rattle.bloom_steps.specs.declared.steps.vocabulary.Record.{Record}
 use Rattle.bloom_steps.specs.declared.steps.vocabulary.Record.TheVariants.{Began, Did}
 use Rattle.bloom_steps.specs.Courses.{Course, IsLawful, records_of}
@@ -19,6 +19,18 @@ another-end is = let bit = is.bits 0 in cc
 -- no lawful course has a word too many in the end
 longer-end : IsLawful 1 (record insert_then_contains { words = 5 ∷ 0 ∷ [] }) → ⊥
 longer-end is = omega (arith, is.count)
+
+-- a clear of one word, after which no word is left
+abbrev wordless : Course
+wordless = record {
+  start = 9 ∷ [];
+  records = Began 0 Clear ∷ Did 0 (Zero 0) 0 Done ∷ [];
+  words = [];
+}
+
+-- no lawful course has a word too few in the end, though its content is the same
+shorter-end : IsLawful 1 wordless → ⊥
+shorter-end is = omega (arith, is.count)
 
 -- no lawful course has a word of more than 64 bits in the end, though its content is the same
 wide-end : IsLawful 1 (record insert_then_contains { words = 18446744073709551621 ∷ [] }) → ⊥

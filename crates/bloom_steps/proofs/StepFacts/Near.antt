@@ -4,8 +4,8 @@ use Rattle.std.proofs.Common.{◌≡◌, ◌∷◌, [], List, None, Some, true, 
 use Rattle.bloom_parts.specs.Chain.{chain}
 use Rattle.bloom_parts.specs.Content.{bit_is_on}
 use Rattle.bloom_parts.specs.Places.{place}
-use Rattle.bloom_steps.specs.declared.steps.vocabulary.Step.TheVariants.{Load, Or, Other}
-use Rattle.bloom_steps.specs.declared.steps.vocabulary.Call.TheVariants.{Insert, Contains, Union}
+use Rattle.bloom_steps.specs.declared.steps.vocabulary.Step.TheVariants.{Load, Or, Zero, Other}
+use Rattle.bloom_steps.specs.declared.steps.vocabulary.Call.TheVariants.{Insert, Contains, Clear, Union}
 use Rattle.bloom_steps.specs.declared.steps.vocabulary.End.TheVariants.{Running, Done, Answer}
 use Rattle.bloom_steps.specs.Scripts.{IsScript, Taken, answer_of, answer_of_end}
 use Rattle.bloom_steps.proofs.StepFacts.Members.{each-member, took}
@@ -58,6 +58,10 @@ contains_done : IsScript 1 2 (Contains 1)
     (took (Load 0) 1 Running ∷ took (Load 0) 1048577 Done ∷ []) → ⊥
 unfolding chain
 contains_done is = let last = is.last 1 _ refl refl 1 _ refl refl in cc
+
+-- a clear turns off each word once
+clear_again : IsScript 2 2 Clear (took (Zero 0) 0 Running ∷ took (Zero 0) 0 Done ∷ []) → ⊥
+clear_again is = let step = is.steps 1 _ refl in cc
 
 -- the second pair of a union reads word 1
 union_reads_again : IsScript 2 2 Union
