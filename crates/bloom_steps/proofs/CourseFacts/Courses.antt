@@ -1,5 +1,5 @@
--- Worked courses, of which the facts beside speak. Hash 1 has the positions 0 and 20 of 64 bits,
--- and 0, 40 and 64 of 128. Hash 0 has position 0 alone.
+-- Worked courses, of which the facts beside speak. Hash 0 has position 0 alone. Hash 1 has the
+-- positions 0 and 20 of 64 bits, and 0, 40 and 64 of 128.
 use Rattle.std.proofs.Common.{◌∷◌, [], Bool, true, false}
 use Rattle.bloom_steps.specs.declared.steps.vocabulary.Step.TheVariants.{Load, Or, Zero, Other}
 use Rattle.bloom_steps.specs.declared.steps.vocabulary.Call.TheVariants.{Insert, Contains, Clear, Union}

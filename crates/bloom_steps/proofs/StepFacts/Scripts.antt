@@ -1,5 +1,5 @@
--- What is a script of a call, and steps near one that are none. Hash 1 has the positions 0 and 20
--- of 64 bits.
+-- What is a script of a call, and steps near one that are none. Of 64 bits hash 1 has the
+-- positions 0 and 20.
 use Rattle.std.proofs.Common.{◌∷◌, [], List, true, false, refl, arith}
 use Rattle.bloom_parts.specs.Chain.{chain}
 use Rattle.bloom_steps.specs.declared.steps.vocabulary.Step.TheVariants.{Load, Or, Zero}
