@@ -13,10 +13,12 @@ pub mod LookUps
 pub mod Moments
 pub mod Parties
 pub mod Premises
+pub mod Records
 pub mod Schedules
 pub mod TakeCourses
 pub mod TakesBetween
 pub mod Takes
+pub mod Unfollowed
 pub mod Unique
 pub mod Unlawful
 pub mod Undisturbed

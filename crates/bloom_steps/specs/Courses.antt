@@ -1,4 +1,4 @@
--- Finished records of a run: lawful, and following a schedule. The rules are this project's own.
+-- Courses of finished runs: lawful, and following a schedule. The rules are this project's own.
 use Rattle.std.specs.Prelude.{ℕ, ◌/◌, ◌^◌, ◌<◌, ◌≡◌, ◌⊎◌, ◌==◌, Bool, true, false, List, [], ◌∷◌, ◌++◌, length, Some, slice_get, take, if◌then◌else◌}
 use Rattle.bloom_parts.specs.Content.{AreWords, bit_is_on, content}
 use Rattle.bloom_steps.specs.declared.steps.vocabulary.Step.{Step}
@@ -13,7 +13,7 @@ use Rattle.bloom_steps.specs.declared.steps.vocabulary.Record.TheVariants.{Began
 use Rattle.bloom_steps.specs.Steps.{after_records}
 use Rattle.bloom_steps.specs.Scripts.{Taken, IsScript, IsBeginning}
 
--- the words before a run, its records in order, and the words after it
+-- a course, what a run leaves: the words before it, its records in order, and the words after it
 pub record Course : Type 0 where
   pub start : List ℕ
   pub records : List Record
@@ -24,7 +24,7 @@ pub record IsWordOf (A : ℕ → Bool) (i word : ℕ) : Type 0 where
   pub fits : word < 2 ^ 64
   pub bits : (p : ℕ) → p / 64 ≡ i → bit_is_on word p ≡ A p
 
--- the word that a step may find in a set: another filter's word may be any
+-- the word that a step may find in a set: another filter's word may be any of 64 bits
 abbrev pub MayFind : (ℕ → Bool) → Step → ℕ → Type 0
 MayFind A (Load i) found = IsWordOf A i found
 MayFind A (Or i mask) found = IsWordOf A i found
@@ -33,14 +33,14 @@ MayFind A (Zero i) found = found ≡ 0
 MayFind A (Other i) found = found < 2 ^ 64
 MayFind A (Take i) found = IsWordOf A i found
 
--- each word found has the bits that the last deciders of the records before left
+-- each step finds the bits that the last deciders before it left
 abbrev pub FindsWhatIsThere : (ℕ → Bool) → List Record → Type 0
 FindsWhatIsThere A records =
     (m party : ℕ) (step : Step) (found : ℕ) (ended : End)
     → slice_get records m ≡ Some (Did party step found ended)
     → MayFind (after_records A (take m records)) step found
 
--- the party of a record
+-- the party of a record: a party makes one call after the other, as a thread does
 abbrev pub party_of : Record → ℕ
 party_of (Began party call) = party
 party_of (Did party step found ended) = party
@@ -69,7 +69,7 @@ pub data CallAfterCall (w k party : ℕ) : List Record → Type 0 where
       → CallAfterCall w k party later
       → CallAfterCall w k party (call_records party call s ++ later)
 
--- a lawful course, of k hashes
+-- a lawful course, of k hashes: parties made whole calls, and each step found what was there
 pub record IsLawful (k : ℕ) (run : Course) : Type 0 where
   pub finds : FindsWhatIsThere (content run.start) run.records
   pub calls : (party : ℕ) → CallAfterCall (length run.start) k party (records_of party run.records)
@@ -90,7 +90,7 @@ last_leaves_running [] = false
 last_leaves_running (r ∷ []) = leaves_running r
 last_leaves_running (r ∷ (s ∷ rest)) = last_leaves_running (s ∷ rest)
 
--- whether a party runs a call after some records: its newest record there leaves one running
+-- whether a party runs a call after some records: its newest record leaves one running
 abbrev pub runs : ℕ → List Record → Bool
 runs party records = last_leaves_running (records_of party records)
 
@@ -101,7 +101,7 @@ pub record BeginsCall (parties : ℕ) (before : List Record) (party : ℕ) (call
   pub idle : runs party before ≡ false
   pub same : added ≡ Began party call ∷ []
 
--- any other party begins none
+-- a party that is none of the run's, or that runs a call, begins none
 pub record BeginsNoCall (parties : ℕ) (before : List Record) (party : ℕ)
     (added : List Record) : Type 0 where
   pub busy : party < parties → runs party before ≡ true
@@ -116,7 +116,7 @@ pub record TakesStep (before : List Record) (party given : ℕ) (added : List Re
   pub same : added ≡ Did party step found ended ∷ []
   pub reads : (i : ℕ) → step ≡ Other i → found ≡ given
 
--- a party that runs none makes none
+-- a party that runs no call makes no step
 pub record TakesNoStep (before : List Record) (party : ℕ) (added : List Record) : Type 0 where
   pub idle : runs party before ≡ false
   pub same : added ≡ []
@@ -136,7 +136,7 @@ pub data FollowsFrom (parties : ℕ) : List Record → List Event → List Recor
       → Gives parties before event added → FollowsFrom parties (before ++ added) events later
       → FollowsFrom parties before (event ∷ events) (added ++ later)
 
--- a course that follows a schedule from given words
+-- a course that follows a schedule, a list of events, from given words
 pub record Follows
     (parties : ℕ) (words : List ℕ) (schedule : List Event) (run : Course) : Type 0 where
   pub begins : run.start ≡ words

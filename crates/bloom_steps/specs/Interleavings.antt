@@ -1,5 +1,5 @@
--- What every interleaving of word steps gives, said of the finished course of a run. The theorems
--- are this project's own.
+-- What every interleaving of word steps gives, that is every order of the steps of calls that
+-- overlap. It is said of the finished course of a run. The theorems are this project's own.
 use Rattle.std.specs.Prelude.{ℕ, zero, suc, ◌+◌, ◌/◌, ◌≤◌, ◌<◌, ◌≡◌, ◌↔◌, ◌⊎◌, ◌&&◌, ◌==◌, Bool, true, false, not, Some, slice_get, bit_and, count_by, sum_by, take, length, if◌then◌else◌}
 use Rattle.bloom_parts.specs.Content.{bit_is_on, content}
 use Rattle.bloom_parts.specs.Places.{are_in, IsPosition}
@@ -137,7 +137,7 @@ pub record LosesNothing (run : Course) : Type 0 where
   pub whole : count_below (bits_of run) (content run.start) + count_by found_off run.records
       ≡ sum_by bits_taken run.records + count_below (bits_of run) (content run.words)
 
--- it does where each call is an insert, a look-up or a take
+-- taking loses nothing where each call is an insert, a look-up or a take
 abbrev pub TakesLoseNothing : Course → Type 0
 TakesLoseNothing run =
     ((m party : ℕ) (call : Call) → slice_get run.records m ≡ Some (Began party call)

@@ -22,32 +22,32 @@ found_in words given (Other i) = given
 found_in words given (Take i) = slice_index words i
 
 -- the words after a step
-abbrev pub words_after : List ℕ → Step → List ℕ
-words_after words (Load i) = words
-words_after words (Or i mask) = slice_set words i (bit_or (slice_index words i) mask)
-words_after words (And i mask) = slice_set words i (bit_and (slice_index words i) mask)
-words_after words (Zero i) = slice_set words i 0
-words_after words (Other i) = words
-words_after words (Take i) = slice_set words i 0
+abbrev pub words_after_step : List ℕ → Step → List ℕ
+words_after_step words (Load i) = words
+words_after_step words (Or i mask) = slice_set words i (bit_or (slice_index words i) mask)
+words_after_step words (And i mask) = slice_set words i (bit_and (slice_index words i) mask)
+words_after_step words (Zero i) = slice_set words i 0
+words_after_step words (Other i) = words
+words_after_step words (Take i) = slice_set words i 0
 
--- from a memory to a memory by one step, as the table says
+-- one step leads from one memory to the other, as the table says
 pub record Moves (before : Memory) (step : Step) (found : ℕ) (after : Memory) : Type 0 where
   pub within : word_index step < length before.words
   pub finds : found ≡ found_in before.words (slice_index before.other (word_index step)) step
-  pub writes : after.words ≡ words_after before.words step
+  pub writes : after.words ≡ words_after_step before.words step
   pub kept : after.other ≡ before.other
 
 -- the set after steps
 abbrev pub after_steps : (ℕ → Bool) → List Taken → ℕ → Bool
 after_steps A taken = state A (map (λ (t : Taken). step_decides t.step) taken)
 
--- what steps in memory do, one after the other: the last that decides a position makes it
+-- what steps in memory do, one after the other: the last that decides a position says what it is
 pub record Makes (before : Memory) (taken : List Taken) (after : Memory) : Type 0 where
   pub set : (p : ℕ) → content after.words p ≡ after_steps (content before.words) taken p
   pub count : length after.words ≡ length before.words
   pub other_stays : after.other ≡ before.other
 
--- steps in memory that are linked make what the last of them says
+-- linked steps in memory make each position what the last that decides it says
 abbrev pub MemoryLaw : Type 0
 MemoryLaw =
     (before after : Memory)

@@ -1,5 +1,7 @@
--- Moments of a run, the spans of its calls, and what a record turns on and off. All of this is said
--- of the finished course, and is this project's own.
+-- Moments of a run, the spans of its calls, and what a record turns on and off. Moment m is the set
+-- after the first m records; the span of a call goes from just after its beginning to just after
+-- its last step. A look-up is undisturbed if nothing of its hash is turned off in its span. All of
+-- this is said of the finished course, and is this project's own.
 use Rattle.std.specs.Prelude.{ℕ, ◌+◌, ◌*◌, ◌≤◌, ◌<◌, ◌≡◌, ◌≢◌, ◌&&◌, Bool, true, false, not, List, length, Some, slice_get, take}
 use Rattle.bloom_parts.specs.Content.{content}
 use Rattle.bloom_parts.specs.Places.{IsPosition}

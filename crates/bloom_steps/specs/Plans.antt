@@ -1,6 +1,6 @@
--- How a call goes through the words of a filter. A call of a new kind is a line of `plan_of`, and
--- of what its steps decide. Which plans there are, and which call has which, is this project's
--- choice.
+-- The plan of a call says how it goes through the words of a filter. A call of a new kind is a new
+-- line of `plan_of`, and of what its steps decide. Which plans there are, and which call has which,
+-- is this project's choice.
 use Rattle.std.specs.Prelude.{ℕ, ◌*◌, Bool, true, false}
 use Rattle.bloom_steps.specs.declared.steps.vocabulary.Step.{Step}
 use Rattle.bloom_steps.specs.declared.steps.vocabulary.Step.TheVariants.{Or, And, Zero}

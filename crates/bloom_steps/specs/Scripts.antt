@@ -1,5 +1,6 @@
--- The scripts of a call: the steps that it makes, whatever words they find. Which steps make up a
--- call is this project's choice; the places of a hash are those of the crate fastbloom 0.17.0.
+-- The scripts of a call. A script is a whole list of word steps that the call may make, with the
+-- word that each found and how the call stood after it. Which steps make up a call is this
+-- project's choice; the places of a hash are those of the crate fastbloom 0.17.0.
 use Rattle.std.specs.Prelude.{ℕ, ◌+◌, ◌*◌, ◌≤◌, ◌<◌, ◌≡◌, ◌↔◌, Bool, true, false, List, [], ◌∷◌, ◌++◌, length, Option, Some, None, slice_get}
 use Rattle.bloom_parts.specs.Content.{bit_is_on}
 use Rattle.bloom_parts.specs.Places.{place}
@@ -47,7 +48,7 @@ pub record ArePairs (operation : ℕ → ℕ → Step) (s : List Taken) : Type 0
       → slice_get s (2 * i + 1) ≡ Some u
       → u.step ≡ operation i t.found
 
--- which step stands at each index
+-- the step at each index is the plan's
 abbrev pub AreStepsOf : ℕ → Plan → List Taken → Type 0
 AreStepsOf w (TurnsOn hash) s = Each s (λ i t. t.step ≡ or_at (place (64 * w) hash i))
 AreStepsOf w (LooksAt hash) s = Each s (λ i t. t.step ≡ load_at (place (64 * w) hash i))
@@ -98,7 +99,7 @@ pub record IsBeginning (w k : ℕ) (call : Call) (s : List Taken) : Type 0 where
   pub rest : List Taken
   pub script : IsScript w k call (s ++ next ∷ rest)
 
--- the step with which every script of the call that begins so goes on
+-- the step with which every script of the call that begins with these steps goes on
 abbrev pub IsNext : ℕ → ℕ → Call → List Taken → Step → Type 0
 IsNext w k call s step =
     (t : Taken) (rest : List Taken) → IsScript w k call (s ++ t ∷ rest) → t.step ≡ step
@@ -115,13 +116,13 @@ answer_of [] = None
 answer_of (t ∷ []) = answer_of_end t.ended
 answer_of (t ∷ (u ∷ rest)) = answer_of (u ∷ rest)
 
--- from a store to a store by steps, each linked to the next
+-- steps lead from one store to another, each from where the one before left it
 abbrev pub Linked : {S : Type 0} → (S → Step → ℕ → S → Type 0) → S → List Taken → S → Type 0
 Linked {S} moved before [] after = after ≡ before
 Linked {S} moved before (t ∷ ts) after =
     (mid : S) × moved before t.step t.found mid × Linked moved mid ts after
 
--- from a store to a store a whole script of the call was made, and the script's answer given
+-- a whole script of the call leads from one store to the other, and its answer was given
 pub record Drives
     {S : Type 0} (moved : S → Step → ℕ → S → Type 0) (w k : ℕ) (call : Call) (before after : S)
     (reply : Option Bool) : Type 0 where

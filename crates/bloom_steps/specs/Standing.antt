@@ -1,6 +1,6 @@
--- How a machine's fields stand to a call and the steps made so far, and what a reply changes in
--- them. No steps are stored. A private field of a machine is named here alone: what public clauses
--- say of machines stands in Machines. The machine is this project's own.
+-- How the fields of a machine, a call under way, stand to the steps made so far, and what a reply
+-- changes in them. No steps are stored. A private field of a machine is named here alone: what
+-- public clauses say of machines stands in Machines. The machine is this project's own.
 use Rattle.std.specs.Prelude.{ℕ, ◌+◌, ◌-◌, ◌*◌, ◌/◌, ◌%◌, ◌<◌, ◌≡◌, ◌↔◌, Bool, true, false, not, ◌&&◌, ◌||◌, ◌==◌, List, length, Option, Some, None, slice_get, if◌then◌else◌}
 use Rattle.bloom_parts.specs.Chain.{IsAt}
 use Rattle.bloom_parts.specs.Content.{bit_is_on}
@@ -120,19 +120,19 @@ ends_with (LooksAt hash) m found = not (bit_is_on found m.place) || m.turn + 1 =
 ends_with (EachWord operation) m found = m.turn + 1 == m.num_words
 ends_with (EachPair operation on) m found = m.turn + 1 == 2 * m.num_words
 
--- at a reply a machine goes one place on along the chain
+-- at a reply a machine at place i of a hash goes to place i + 1
 abbrev pub GoesToNextPlace : ℕ → Machine → Machine → Type 0
 GoesToNextPlace hash m n =
     (w i : ℕ) → m.num_words ≡ w → IsAtPlace w hash i m → IsAtPlace w hash (i + 1) n
 
--- a plan of a hash does
+-- at a reply a plan of a hash moves its machine one place on
 abbrev pub MovesOn : Plan → Machine → Machine → Type 0
 MovesOn (TurnsOn hash) m n = GoesToNextPlace hash m n
 MovesOn (LooksAt hash) m n = GoesToNextPlace hash m n
 MovesOn (EachWord operation) m n = Unit {0}
 MovesOn (EachPair operation on) m n = Unit {0}
 
--- from a machine to a machine by one reply
+-- one reply leads from one machine to the other
 pub record Replied (m : Machine) (found : ℕ) (n : Machine) : Type 0 where
   pub same_call : n.call ≡ m.call
   pub same_words : n.num_words ≡ m.num_words

@@ -1,5 +1,7 @@
--- What one step on one word decides. That a call is made of such steps, and which kinds there are,
--- is this project's choice; a bit lies where it does in the crate fastbloom 0.17.0.
+-- Word steps. A word step is one operation on one word of a filter, and a call is made of such
+-- steps. What a step does is said by a decider: it makes each position on or off, or leaves it
+-- undecided. Which kinds of steps there are is this project's choice; a bit lies where it does in
+-- the crate fastbloom 0.17.0.
 use Rattle.std.specs.Prelude.{ℕ, ◌/◌, ◌%◌, ◌^◌, Bool, true, false, not, ◌&&◌, List, Some, None, map, ◌==◌, if◌then◌else◌}
 use Rattle.bloom_parts.specs.Content.{bit_is_on}
 use Rattle.bloom_parts.specs.Deciders.{Decider, decides_nothing, state}
@@ -34,7 +36,7 @@ step_decides (Zero i) p = if p / 64 == i then Some false else None
 step_decides (Other i) p = None
 step_decides (Take i) p = if p / 64 == i then Some false else None
 
--- what a record decides: what its step does, and the beginning of a call nothing
+-- what a record decides: what its step decides; the beginning of a call decides nothing
 abbrev pub record_decides : Record → Decider
 record_decides (Began party call) = decides_nothing
 record_decides (Did party step found ended) = step_decides step

@@ -44,13 +44,13 @@ pub record IsWorld
       → PartyAt (length start) k party (slice_index_or machines party None)
       (records_of party records)
 
--- the same of the runner's world
+-- the same, for the runner's world
 abbrev pub IsWorldOf : ℕ → World → Type 0
 IsWorldOf k world =
     IsWorld k world.start.items world.words.items world.machines.items world.records.items
 
 -- the records grow by what an event gives
-pub record Grows (parties : ℕ) (event : Event) (before after : List Record) : Type 0 where
+pub record RecordsGrow (parties : ℕ) (event : Event) (before after : List Record) : Type 0 where
   pub added : List Record
   pub same : after ≡ before ++ added
   pub gives : Gives parties before event added
@@ -65,4 +65,4 @@ pub record Happens (k : ℕ) (event : Event) (old new : World) : Type 0 where
   pub keeps : IsWorldOf k new
   pub start : new.start.items ≡ old.start.items
   pub parties : length new.machines.items ≡ length old.machines.items
-  pub grows : Grows (length old.machines.items) event old.records.items new.records.items
+  pub grows : RecordsGrow (length old.machines.items) event old.records.items new.records.items

@@ -4,7 +4,7 @@ use Rattle.std.proofs.lemmas.Option.{none-some, same_Some}
 use Rattle.bloom_parts.specs.Content.{AreWords, content}
 use Rattle.bloom_steps.specs.declared.steps.vocabulary.Record.{Record}
 use Rattle.bloom_steps.specs.declared.steps.vocabulary.Record.TheVariants.{Began, Did}
-use Rattle.bloom_steps.specs.Memories.{found_in, words_after}
+use Rattle.bloom_steps.specs.Memories.{found_in, words_after_step}
 use Rattle.bloom_steps.specs.Steps.{after_records, record_decides, step_decides, word_index}
 use Rattle.bloom_steps.specs.Courses.{CallAfterCall, Course, FindsWhatIsThere, IsLawful, MayFind, records_of}
 use Rattle.bloom_steps.proofs.RunLemmas.Worlds.{may_find-read}
@@ -15,7 +15,7 @@ use Rattle.bloom_steps.proofs.StepLemmas.Writing.{content-step}
 abbrev pub words_by : List ℕ → List Record → List ℕ
 words_by words [] = words
 words_by words (Began party call ∷ rs) = words_by words rs
-words_by words (Did party step found e ∷ rs) = words_by (words_after words step) rs
+words_by words (Did party step found e ∷ rs) = words_by (words_after_step words step) rs
 
 -- each step is on one of the words, and finds what is there
 abbrev pub FindsIn : List ℕ → List Record → Type 0
@@ -23,7 +23,7 @@ FindsIn words [] = Unit {0}
 FindsIn words (Began party call ∷ rs) = FindsIn words rs
 FindsIn words (Did party step found e ∷ rs) =
     (word_index step < length words) × (found ≡ found_in words found step) × (found < 2 ^ 64)
-    × FindsIn (words_after words step) rs
+    × FindsIn (words_after_step words step) rs
 
 -- the set after one record
 abbrev after_one : (ℕ → Bool) → Record → ℕ → Bool
@@ -50,11 +50,11 @@ finds-in A words (Did q s f e ∷ rs) same all zero party step found d g =
     (subst (λ x. MayFind A s x) (let t : f ≡ found = cc in t) may)
 finds-in A words (Did q s f e ∷ rs) same all (suc m) party step found d g =
     subst (λ B. MayFind B step found) (first-in A (Did q s f e) (take m rs))
-    (finds-in (after_one A (Did q s f e)) (words_after words s) rs
+    (finds-in (after_one A (Did q s f e)) (words_after_step words s) rs
     (λ p. content-step words s p all.0 ∙ ap (unwrap_or (step_decides s p)) (same p))
     all.3 m party step found d g)
 
--- and leave the set after the records
+-- carried out on words of the set's content, the steps leave the set after the records
 pub words-by : (A : ℕ → Bool) (words : List ℕ) (rs : List Record)
     → ((p : ℕ) → content words p ≡ A p) → FindsIn words rs
     → (p : ℕ) → content (words_by words rs) p ≡ after_records A rs p
@@ -63,7 +63,7 @@ words-by A words (Began q call ∷ rs) same all p =
     words-by (after_one A (Began q call)) words rs same all p
     ∙ ap (λ B. B p) (first-in A (Began q call) rs)
 words-by A words (Did q s f e ∷ rs) same all p =
-    words-by (after_one A (Did q s f e)) (words_after words s) rs
+    words-by (after_one A (Did q s f e)) (words_after_step words s) rs
     (λ q. content-step words s q all.0 ∙ ap (unwrap_or (step_decides s q)) (same q)) all.3 p
     ∙ ap (λ B. B p) (first-in A (Did q s f e) rs)
 

@@ -16,7 +16,7 @@ use Rattle.bloom_steps.proofs.CourseFacts.Lawful.{lawful-in_turn}
 use Rattle.bloom_steps.proofs.CourseFacts.Parties.{ended-in_turn, one-in_turn}
 use Rattle.bloom_steps.proofs.RunLemmas.Commands.{acts_as_commands}
 
--- a call with its steps, in order
+-- a union and an insert with this answer, each with its steps
 abbrev united : Bool → List MadeCall
 united answer =
     record {
@@ -25,7 +25,7 @@ united answer =
     }
     ∷ record { call = Insert 0; taken = took (Or 0 1) 5 (Answer answer) ∷ [] } ∷ []
 
--- records cut at their beginnings
+-- the records of the union and the insert, cut at their beginnings
 cut-in_turn : cut in_turn.records ≡ record { ahead = []; calls = united true }
 cut-in_turn = refl
 
@@ -44,20 +44,20 @@ words-read : other_words
     ≡ 5 ∷ 6 ∷ []
 words-read = refl
 
--- the calls as commands
+-- the union and the insert as commands
 commands-in_turn : commands_of (cut in_turn.records).calls
     ≡ operation.Union (content (5 ∷ [])) ∷ operation.Insert 0 ∷ []
 commands-in_turn = refl
 
--- a look-up of the same hash
+-- a look-up as a command has the same hash
 command-contains : command_of (Contains 3) (content (5 ∷ [])) ≡ operation.Contains 3
 command-contains = refl
 
--- a clear, whatever the other filter
+-- a clear as a command is a clear, whatever the other filter
 command-clear : command_of Clear (content (5 ∷ [])) ≡ operation.Clear
 command-clear = refl
 
--- an intersection with the other filter's content
+-- an intersection as a command has the other filter's content
 command-intersect : command_of Intersect (content (5 ∷ [])) ≡ operation.Intersect (content (5 ∷ []))
 command-intersect = refl
 
@@ -65,21 +65,21 @@ command-intersect = refl
 acts : ActsAsCommands 1 in_turn
 acts = acts_as_commands 1 in_turn lawful-in_turn (omega arith) (omega arith)
 
--- and its premises hold of them
+-- the union and the insert act as their commands
 acts-so : ActsAs 1 in_turn (united true)
 acts-so = acts (one-in_turn true) (ended-in_turn true)
 
--- not with other words in the end
+-- with other words in the end the union and the insert don't act as their commands
 another-end : ActsAs 1 (record in_turn { words = 4 ∷ [] }) (united true) → ⊥
 unfolding content positions chain
 another-end acts = let bit = acts.bits 0 in cc
 
--- nor another answer
+-- with another answer the union and the insert don't act as their commands
 another-answer : ActsAs 1 (in_turn_answering false) (united false) → ⊥
 unfolding content positions chain are_in
 another-answer acts = let answer = acts.answers 1 _ refl in cc
 
--- nor with the calls the other way round
+-- the union and the insert don't act as their commands the other way round
 another-order : ActsAs 1 in_turn
     (record { call = Insert 0; taken = took (Or 0 1) 5 (Answer true) ∷ [] }
     ∷ record {
@@ -89,6 +89,6 @@ another-order : ActsAs 1 in_turn
 unfolding content positions chain are_in
 another-order acts = let answer = acts.answers 0 _ refl in cc
 
--- the theorem speaks of both premises: this course breaks it
+-- the theorem on commands fails of the insert with another answer, for which both premises hold
 broken : ActsAsCommands 1 (in_turn_answering false) → ⊥
 broken act = another-answer (act (one-in_turn false) (ended-in_turn false))

@@ -1,5 +1,5 @@
--- Worked courses, of which the facts beside speak. Hash 1 has the positions 0 and 20 of 64 bits,
--- and 0, 40 and 64 of 128. Hash 0 has position 0 alone.
+-- Worked courses, of which the facts beside speak. Hash 0 has position 0 alone. Hash 1 has the
+-- positions 0 and 20 of 64 bits, and 0, 40 and 64 of 128.
 use Rattle.std.proofs.Common.{◌∷◌, [], Bool, true, false}
 use Rattle.bloom_steps.specs.declared.steps.vocabulary.Step.TheVariants.{Load, Or, Zero, Other}
 use Rattle.bloom_steps.specs.declared.steps.vocabulary.Call.TheVariants.{Insert, Contains, Clear, Union}
@@ -7,7 +7,7 @@ use Rattle.bloom_steps.specs.declared.steps.vocabulary.End.TheVariants.{Running,
 use Rattle.bloom_steps.specs.declared.steps.vocabulary.Record.TheVariants.{Began, Did}
 use Rattle.bloom_steps.specs.Courses.{Course}
 
--- two inserts of one fresh hash, of which the first answers so
+-- two inserts of one fresh hash, of which the first gives this answer
 abbrev pub twins_answering : Bool → Course
 twins_answering answer = record {
   start = 0 ∷ [];
@@ -55,7 +55,7 @@ insert_in_clear = record {
   words = 1099511627777 ∷ 0 ∷ [];
 }
 
--- a union, and then an insert that answers so: one call at a time, with one hash
+-- a union, and then an insert with this answer: one call at a time, with one hash
 abbrev pub in_turn_answering : Bool → Course
 in_turn_answering answer = record {
   start = 0 ∷ [];
@@ -65,11 +65,11 @@ in_turn_answering answer = record {
   words = 5 ∷ [];
 }
 
--- the insert found its bit on, so it answers true
+-- a union, and then an insert that answers true, since it found its bit on
 abbrev pub in_turn : Course
 in_turn = in_turn_answering true
 
--- an insert, then a look-up of its hash that answers so, and a union that isn't finished
+-- an insert, then a look-up of its hash with this answer, and a union that isn't finished
 abbrev pub insert_then_contains_answering : Bool → Course
 insert_then_contains_answering answer = record {
   start = 4 ∷ [];
@@ -132,7 +132,7 @@ off_and_on = record {
   words = 1 ∷ [];
 }
 
--- an insert and a look-up of its hash that answers so, with clears just before the first record of
+-- an insert and a look-up of its hash with this answer, with clears just before the first record of
 -- both and just after the last, with one hash
 abbrev pub found_between_clears_answering : Bool → Course
 found_between_clears_answering answer = record {

@@ -1,5 +1,6 @@
 -- What the theorem on growing runs says of the worked courses.
 use Rattle.std.proofs.Common.{◌≡◌, ◌<◌, ◌∷◌, [], List, zero, suc, ℕ, true, refl, arith, inl, inr, ◌/◌, subst}
+use Rattle.std.proofs.lemmas.Option.{none-some}
 use Rattle.bloom_parts.specs.Chain.{chain}
 use Rattle.bloom_parts.specs.Content.{bit_is_on, content}
 use Rattle.bloom_parts.specs.Places.{place}
@@ -9,12 +10,13 @@ use Rattle.bloom_steps.specs.declared.steps.vocabulary.End.TheVariants.{Running}
 use Rattle.bloom_steps.specs.declared.steps.vocabulary.Record.TheVariants.{Began, Did}
 use Rattle.bloom_steps.specs.Interleavings.{EndsWithAll, IsFoundInOther, IsInserted}
 use Rattle.bloom_steps.specs.Moments.{EveryCallEnded}
-use Rattle.bloom_steps.specs.Courses.{records_of}
+use Rattle.bloom_steps.specs.Courses.{Course, records_of}
 use Rattle.bloom_steps.proofs.StepFacts.Members.{each-member}
-use Rattle.bloom_steps.proofs.CourseFacts.Courses.{in_turn, twins}
+use Rattle.bloom_steps.proofs.CourseFacts.Courses.{in_turn, last_load_alone, twins}
 use Rattle.bloom_steps.proofs.CourseFacts.Gains.{twins-grow}
 use Rattle.bloom_steps.proofs.CourseFacts.Lawful.{lawful-twins}
-use Rattle.bloom_steps.proofs.CourseFacts.Parties.{idle-past}
+use Rattle.bloom_steps.proofs.CourseFacts.Parties.{ended-in_turn, idle-past}
+use Rattle.bloom_steps.proofs.CourseFacts.Premises.{union-grows}
 use Rattle.bloom_steps.proofs.RunLemmas.Grows.{ends_with_all}
 
 -- position 20 was inserted, whatever the words in the end
@@ -28,7 +30,7 @@ inserted words = record {
   position = record { index = 1; below = omega arith; here = refl };
 }
 
--- position 1 was not
+-- position 1 was not inserted
 uninserted : (words : List ℕ) → IsInserted 2 (record twins { words = words }) 1 → ⊥
 unfolding chain
 uninserted words is =
@@ -44,11 +46,17 @@ uninserted words is =
     none (suc zero) below e = omega (arith, e)
     none (suc (suc i)) below e = omega (arith, below)
 
--- position 2 was found on in the other filter
-found : IsFoundInOther in_turn 2
-found = record { m = 1; party = 0; found = 5; ended = Running; reads = refl; on = refl }
+-- a hash that is only looked up is not inserted
+looked-up : IsInserted 2 last_load_alone 0 → ⊥
+looked-up is =
+    each-member (λ m r. r ≡ Began is.party (Insert is.hash) → ⊥) last_load_alone.records
+    ((λ e. cc), ((λ e. cc), ((λ e. cc), tt))) is.m _ is.begins refl
 
--- position 1 was not
+-- position 2 was found on in the other filter, whatever the words in the end
+found : (words : List ℕ) → IsFoundInOther (record in_turn { words = words }) 2
+found words = record { m = 1; party = 0; found = 5; ended = Running; reads = refl; on = refl }
+
+-- position 1 was not found on in the other filter
 unfound : IsFoundInOther in_turn 1 → ⊥
 unfound is =
     let word =
@@ -57,7 +65,13 @@ unfound is =
     let on = subst (λ x. bit_is_on x 1 ≡ true) word is.on in
     cc
 
--- the twins found nothing there
+-- word 0 of the other filter tells nothing of position 66, the same bit of word 1
+unfound-elsewhere : IsFoundInOther in_turn 66 → ⊥
+unfound-elsewhere is =
+    each-member (λ m r. r ≡ Did is.party (Other 1) is.found is.ended → ⊥) in_turn.records
+    ((λ e. cc), ((λ e. cc), ((λ e. cc), ((λ e. cc), ((λ e. cc), tt))))) is.m _ is.reads refl
+
+-- the twins found nothing on in the other filter
 none_found : (words : List ℕ) (p : ℕ) → IsFoundInOther (record twins { words = words }) p → ⊥
 none_found words p is =
     each-member
@@ -72,7 +86,7 @@ ended zero = refl
 ended (suc zero) = refl
 ended (suc (suc party)) = idle-past 2 (suc (suc party)) twins.records 6 refl (omega arith)
 
--- the theorem holds of them
+-- the theorem on growing runs holds of the twins
 ends : EndsWithAll 2 twins
 ends = ends_with_all 2 twins lawful-twins
 
@@ -84,7 +98,7 @@ ends-short ends =
     (inr (inl (inserted (1 ∷ [])))) in
     cc
 
--- nor one on that was not
+-- a position that was on nowhere and not inserted may not be on in the end
 ends-long : EndsWithAll 2 (record twins { words = 1048579 ∷ [] }) → ⊥
 unfolding content chain
 ends-long ends =
@@ -95,3 +109,21 @@ ends-long ends =
         | inr is ↦ none_found _ 1 is
       ]
     ]
+
+-- a position that was found on in the other filter may not be off in the end
+ends-unfound : EndsWithAll 1 (record in_turn { words = 1 ∷ [] }) → ⊥
+unfolding content chain
+ends-unfound ends =
+    let on = (ends union-grows (ended-in_turn true) 2).1 (inr (inr (found (1 ∷ [])))) in
+    cc
+
+-- a course in which nothing happens, and a position is lost
+abbrev forgotten : Course
+forgotten = record { start = 4 ∷ []; records = []; words = 0 ∷ [] }
+
+-- a position that was on at the start may not be off in the end
+ends-forgotten : EndsWithAll 1 forgotten → ⊥
+unfolding content chain records_of
+ends-forgotten ends =
+    let on = (ends (λ m party call g. absurd (none-some _ g)) (λ party. refl) 2).1 (inl refl) in
+    cc

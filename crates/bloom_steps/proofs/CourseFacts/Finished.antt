@@ -25,12 +25,12 @@ leaves party (Did other step found (Answer reply)) = not (other == party)
 abbrev leaves_between : ℕ → ℕ → ℕ → ℕ → Record → Bool
 leaves_between party began last m r = not (ltb began m && ltb m last) || leaves party r
 
--- a record that leaves it so is no beginning of the party's
+-- a record that leaves a party's call going on is no beginning of the party's
 no_beginning : (party : ℕ) (call : Call) → leaves party (Began party call) ≡ true → ⊥
 no_beginning party call e =
     both_ways (not (party == party)) (ap not (eq-eqb party party refl)) e
 
--- and each step of the party's that leaves it so leaves it running
+-- a step of a party that leaves its call going on leaves it running
 runs_on : (party : ℕ) (step : Step) (found : ℕ) (e : End)
     → leaves party (Did party step found e) ≡ true → e ≡ Running
 runs_on party step found Running is = refl
@@ -39,7 +39,7 @@ runs_on party step found Done is =
 runs_on party step found (Answer reply) is =
     absurd (no_beginning party Clear is)
 
--- between the two
+-- a record between the two leaves a party's call going on
 between : (party began last m : ℕ) (r : Record) → began < m → m < last
     → leaves_between party began last m r ≡ true → leaves party r ≡ true
 between party began last m r a b is =
@@ -72,58 +72,58 @@ finished run party call began last e begins order step found here over all =
           runs_on party s.step s.found e (between party began last m r a b (on m r s.here));
     }
 
--- a look-up of two loads
+-- a look-up of two loads is finished at its second
 pub finished-contains : IsFinished last_load_alone 0 (Contains 1) 0 2 (Answer true)
 finished-contains =
     finished last_load_alone 0 (Contains 1) 0 2 (Answer true) refl (omega arith)
     (Load 0) 1048576 refl (λ e. cc) refl
 
--- not at its first load
+-- a look-up of two loads isn't finished at its first
 unfinished-contains : IsFinished last_load_alone 0 (Contains 1) 0 1 Running → ⊥
 unfinished-contains is = is.over refl
 
--- not with another answer
+-- a look-up isn't finished with another answer than it gave
 another-answer : IsFinished last_load_alone 0 (Contains 1) 0 2 (Answer false) → ⊥
 another-answer is = let ends = is.ends.here in cc
 
--- nor as another call
+-- a look-up of one hash isn't finished as that of another
 another-call : IsFinished last_load_alone 0 (Contains 2) 0 2 (Answer true) → ⊥
 another-call is = let begins = is.begins in cc
 
--- a look-up, while others begin and end calls
+-- a look-up is finished, while others begin and end calls
 pub finished-disturbed : IsFinished disturbed 0 (Contains 1) 0 7 (Answer true)
 finished-disturbed =
     finished disturbed 0 (Contains 1) 0 7 (Answer true) refl (omega arith) (Load 0) 1048576 refl
     (λ e. cc) refl
 
--- its last step is its own
+-- a call isn't finished by a step of another party
 another-party : IsFinished disturbed 0 (Contains 1) 0 6 Done → ⊥
 another-party is = let ends = is.ends.here in cc
 
--- the twins
+-- the first of the twins is finished at the last record
 pub finished-first : IsFinished twins 0 (Insert 1) 0 5 (Answer false)
 finished-first =
     finished twins 0 (Insert 1) 0 5 (Answer false) refl (omega arith)
     (Or 0 1048576) 1048577 refl (λ e. cc) refl
 
--- the second, in the first's span
+-- the second of the twins is finished in the first's span
 pub finished-second : IsFinished twins 1 (Insert 1) 1 4 (Answer false)
 finished-second =
     finished twins 1 (Insert 1) 1 4 (Answer false) refl (omega arith) (Or 0 1048576) 1 refl
     (λ e. cc) refl
 
--- an insert, and then a look-up by the same party
+-- an insert is finished, and its party goes on with a look-up
 pub finished-insert : IsFinished insert_in_clear 1 (Insert 1) 2 5 (Answer false)
 finished-insert =
     finished insert_in_clear 1 (Insert 1) 2 5 (Answer false) refl (omega arith)
     (Or 1 1) 0 refl (λ e. cc) refl
 
--- the insert isn't finished where the look-up is
+-- an insert isn't finished where the next call of its party is
 finished-by_next : IsFinished insert_in_clear 1 (Insert 1) 2 10 (Answer false) → ⊥
 finished-by_next is =
     is.no_other 7 (Contains 1) (omega arith) (omega arith) refl
 
--- a call that the party left for another isn't finished by it
+-- a course in which a party leaves a call for another
 abbrev left_for_another : Course
 left_for_another = record {
   start = 0 ∷ [];
@@ -131,11 +131,11 @@ left_for_another = record {
   words = 1 ∷ [];
 }
 
--- though the other has ended
+-- a call that its party left for another isn't finished by the end of the other
 left-unfinished : IsFinished left_for_another 0 Clear 0 2 (Answer false) → ⊥
 left-unfinished is = is.no_other 1 (Insert 0) (omega arith) (omega arith) refl
 
--- a call that has ended isn't finished again
+-- a course in which a call ends twice
 abbrev ended_twice : Course
 ended_twice = record {
   start = 0 ∷ [];
@@ -143,17 +143,17 @@ ended_twice = record {
   words = 0 ∷ [];
 }
 
--- it is finished at its first end
+-- a call that ends twice is finished at its first end
 ended-first : IsFinished ended_twice 0 Clear 0 1 Done
 ended-first =
     finished ended_twice 0 Clear 0 1 Done refl (omega arith) (Zero 0) 0 refl (λ e. cc) refl
 
--- not at another
+-- a call that ends twice isn't finished at its second end
 ended-second : IsFinished ended_twice 0 Clear 0 2 Done → ⊥
 ended-second is =
     let runs = is.still 1 Done (omega arith) (omega arith) (step_at (Zero 0) 0 refl) in cc
 
--- a call doesn't end before it begins
+-- a course in which the end of a call comes before its beginning
 abbrev ended_before : Course
 ended_before = record {
   start = 0 ∷ [];
@@ -161,6 +161,6 @@ ended_before = record {
   words = 0 ∷ [];
 }
 
--- though both records are there
+-- a call isn't finished by an end before its beginning
 ended-early : IsFinished ended_before 0 Clear 1 0 Done → ⊥
 ended-early is = omega (arith, is.order)

@@ -15,7 +15,7 @@ use Rattle.bloom_steps.proofs.CourseFacts.Courses.{found_between_clears_answerin
 use Rattle.bloom_steps.proofs.CourseFacts.Finished.{finished}
 use Rattle.bloom_steps.proofs.CourseFacts.Undisturbed.{only}
 
--- the look-up answers false
+-- the course whose look-up answers false
 abbrev run : Course
 run = found_between_clears_answering false
 
@@ -33,7 +33,7 @@ kept m p a b x = subst (λ q. turns_off run m q ≡ false) (sym (only p x)) (at 
     at (suc (suc (suc (suc (suc zero))))) a b = refl
     at (suc (suc (suc (suc (suc (suc m)))))) a b = absurd (omega (arith, b))
 
--- a record earlier something is
+-- a record before the insert's beginning turns a position of the hash off
 off-before : NoneTurnedOff 1 run 0 1 5 → ⊥
 unfolding content chain
 off-before none =
@@ -41,7 +41,7 @@ off-before none =
     both_ways (turns_off run 1 0)
     (none 1 0 (omega arith) (omega arith) (place-position 64 1 0 0 (omega arith))) on
 
--- and two records later
+-- two records after the look-up's last step a position of the hash is turned off
 off-after : NoneTurnedOff 1 run 0 2 7 → ⊥
 unfolding content chain
 off-after none =
@@ -49,7 +49,7 @@ off-after none =
     both_ways (turns_off run 7 0)
     (none 7 0 (omega arith) (omega arith) (place-position 64 1 0 0 (omega arith))) on
 
--- so false is no answer here either
+-- the theorem on finished inserts fails where the look-up between clears answers false
 unfound : FindsInserted 1 run → ⊥
 unfound finds =
     let inserted =

@@ -2,6 +2,7 @@
 use Rattle.std.proofs.Common.{◌≡◌, ◌≢◌, ◌%◌, ◌==◌, ◌∷◌, [], true, false, not, ◌&&◌, count_by, refl, arith, sym}
 use Rattle.bloom_parts.specs.Content.{content}
 use Rattle.bloom_steps.specs.declared.steps.vocabulary.Step.TheVariants.{Load, Or, And, Zero, Other}
+use Rattle.bloom_steps.specs.declared.steps.vocabulary.Step.TheVariants as step
 use Rattle.bloom_steps.specs.declared.steps.vocabulary.Call.{Call}
 use Rattle.bloom_steps.specs.declared.steps.vocabulary.Call.TheVariants.{Insert, Clear, Union, Intersect, Take}
 use Rattle.bloom_steps.specs.declared.steps.vocabulary.End.TheVariants.{Running}
@@ -16,39 +17,43 @@ use Rattle.bloom_steps.proofs.CourseFacts.Courses.{twins}
 use Rattle.bloom_steps.proofs.CourseFacts.Lawful.{lawful-twins}
 use Rattle.bloom_steps.proofs.RunLemmas.Gained.{counts_gains}
 
--- numbers below a bound
+-- three numbers below 5 are even
 even-below : count_below 5 (λ n. n % 2 == 0) ≡ 3
 even-below = refl
 
--- the bound itself doesn't count
+-- the bound itself doesn't count: two numbers below 4 are even
 even-below_one : count_below 4 (λ n. n % 2 == 0) ≡ 2
 even-below_one = refl
 
--- a step that turns on a bit that was off
+-- an or whose mask was off found its bit off
 or-off : found_off (Did 0 (Or 0 2) 5 Running) ≡ true
 or-off = refl
 
--- one that found its bit on is none
+-- an or whose mask was on didn't find its bit off
 or-on : found_off (Did 0 (Or 0 1) 5 Running) ≡ false
 or-on = refl
 
--- a load
+-- a load doesn't count as a step that found its bit off
 load-off : found_off (Did 0 (Load 0) 0 Running) ≡ false
 load-off = refl
 
--- a step that turns bits off
+-- an and doesn't count as a step that found its bit off
 and-off : found_off (Did 0 (And 0 2) 5 Running) ≡ false
 and-off = refl
 
--- a step that turns a word off
+-- a zero doesn't count as a step that found its bit off
 zero-off : found_off (Did 0 (Zero 0) 0 Running) ≡ false
 zero-off = refl
 
--- a read of the other filter
+-- a read of the other filter doesn't count as a step that found its bit off
 other-off : found_off (Did 0 (Other 0) 0 Running) ≡ false
 other-off = refl
 
--- a beginning
+-- a take doesn't count as a step that found its bit off
+take-off : found_off (Did 0 (step.Take 0) 0 Running) ≡ false
+take-off = refl
+
+-- a beginning doesn't count as a step that found its bit off
 began-off : found_off (Began 0 Clear) ≡ false
 began-off = refl
 
@@ -56,12 +61,12 @@ began-off = refl
 twins-off : count_by found_off twins.records ≡ 2
 twins-off = refl
 
--- and two positions were gained
+-- the twins gained two positions
 twins-gained : count_below 64 (λ p. content twins.words p && not (content twins.start p)) ≡ 2
 unfolding content
 twins-gained = refl
 
--- the theorem holds of them
+-- the theorem on gains holds of the twins
 gained : CountsGains twins
 gained = counts_gains 2 twins lawful-twins
 
@@ -77,7 +82,7 @@ only-insert call other m party g =
     )
     m (Began party call) g refl
 
--- so they go by hashes
+-- each call of the twins goes by a hash
 twins-by_hash : EveryCall goes_by_hash twins.records
 twins-by_hash =
     (by_hash twins.records).1 (
@@ -87,23 +92,38 @@ twins-by_hash =
       only-insert Take (λ e. cc),
     )
 
--- and turn nothing off
+-- no call of the twins turns anything off
 pub twins-grow : EveryCall turns_none_off twins.records
 twins-grow =
     (growing twins.records).1
     (only-insert Clear (λ e. cc), only-insert Intersect (λ e. cc), only-insert Take (λ e. cc))
 
--- one position gained is too few
+-- the twins with one position in the end
 abbrev one_gained : Course
 one_gained = record twins { words = 1 ∷ [] }
 
--- counted as one
+-- the twins with one position in the end gained one
 few-gained :
     count_below 64 (λ p. content one_gained.words p && not (content one_gained.start p)) ≡ 1
 unfolding content
 few-gained = refl
 
--- the theorem fails of it
+-- the theorem on gains fails of the twins with one position in the end
 ungained : CountsGains one_gained → ⊥
 ungained counts =
     let two = counts twins-by_hash in omega (arith, sym twins-off, two, few-gained)
+
+-- the twins with three positions in the end
+abbrev three_gained : Course
+three_gained = record twins { words = 1048579 ∷ [] }
+
+-- the twins with three positions in the end gained three
+many-gained :
+    count_below 64 (λ p. content three_gained.words p && not (content three_gained.start p)) ≡ 3
+unfolding content
+many-gained = refl
+
+-- the theorem on gains fails of the twins with three positions in the end
+over-gained : CountsGains three_gained → ⊥
+over-gained counts =
+    let two = counts twins-by_hash in omega (arith, sym twins-off, two, many-gained)

@@ -1,5 +1,5 @@
 -- What the theorem on the answers of inserts says of the worked courses.
-use Rattle.std.proofs.Common.{◌≡◌, ℕ, Bool, true, false, not, ◌&&◌, refl, arith, subst}
+use Rattle.std.proofs.Common.{◌≡◌, ℕ, Bool, Some, slice_get, true, false, not, ◌&&◌, refl, arith, subst}
 use Rattle.std.proofs.lemmas.Bool.{both_ways}
 use Rattle.bloom_parts.specs.Content.{content}
 use Rattle.bloom_steps.specs.declared.steps.vocabulary.Step.TheVariants.{Load, Or}
@@ -9,14 +9,14 @@ use Rattle.bloom_steps.specs.declared.steps.vocabulary.End.TheVariants.{Running,
 use Rattle.bloom_steps.specs.declared.steps.vocabulary.Record.TheVariants.{Did}
 use Rattle.bloom_steps.specs.Interleavings.{InsertsTell, TurnsOneOn}
 use Rattle.bloom_steps.specs.Moments.{moment, turns_on}
-use Rattle.bloom_steps.proofs.CourseFacts.Courses.{twins, twins_answering, idle_insert}
+use Rattle.bloom_steps.proofs.CourseFacts.Courses.{insert_in_clear, twins, twins_answering, idle_insert}
 use Rattle.bloom_steps.specs.declared.steps.vocabulary.Step.{Step}
 use Rattle.bloom_steps.proofs.StepFacts.Members.{each-member}
 use Rattle.bloom_steps.proofs.CourseFacts.Finished.{finished, step_at}
 use Rattle.bloom_steps.proofs.CourseFacts.Lawful.{lawful-twins}
 use Rattle.bloom_steps.proofs.RunLemmas.Inserts.{inserts_tell}
 
--- each of the twins turns a position on
+-- the first of the twins turns position 0 on
 first-on : (answer : Bool) → TurnsOneOn (twins_answering answer) 0 0 5
 unfolding content
 first-on answer = record {
@@ -29,7 +29,7 @@ first-on answer = record {
   on = refl;
 }
 
--- the second, position 20
+-- the second of the twins turns position 20 on
 second-on : TurnsOneOn twins 1 1 4
 unfolding content
 second-on = record {
@@ -42,11 +42,11 @@ second-on = record {
   on = refl;
 }
 
--- no record later than the last
+-- no step later than the last record turns a position on
 none-later : TurnsOneOn twins 0 5 5 → ⊥
 none-later one = omega (arith, one.later, one.upto)
 
--- nor of a party that made none
+-- a party that made no step turns no position on
 none-of_another : TurnsOneOn twins 7 0 5 → ⊥
 none-of_another one =
     each-member
@@ -59,11 +59,11 @@ none-of_another one =
     )
     one.m _ one.own.here one.own.step one.own.found one.ended refl
 
--- the theorem holds of the twins, which answer false
+-- the theorem on inserts holds of the twins, which answer false
 told : InsertsTell twins
 told = inserts_tell 2 twins lawful-twins (omega arith) (omega arith)
 
--- the first may not answer true
+-- the theorem on inserts fails where the first of the twins answers true
 untold : InsertsTell (twins_answering true) → ⊥
 untold tell =
     let is =
@@ -72,7 +72,7 @@ untold tell =
     let wrong = (tell 0 1 0 5 true is).1 (first-on true) in
     cc
 
--- an insert that turns nothing on may not answer false
+-- an insert of loads alone turns no position on
 idle-on : TurnsOneOn idle_insert 0 0 1 → ⊥
 unfolding content
 idle-on one =
@@ -84,10 +84,33 @@ idle-on one =
     never true = refl
     never false = refl
 
--- the theorem fails of it
+-- the theorem on inserts fails of an insert of loads alone that answers false
 idle-untold : InsertsTell idle_insert → ⊥
 idle-untold tell =
     let is =
     finished idle_insert 0 (Insert 0) 0 1 (Answer false) refl (omega arith) (Load 0) 0 refl
     (λ e. cc) refl in
     idle-on ((tell 0 0 0 1 false is).0 refl)
+
+-- the first record after an insert's beginning counts, and so does its last step
+just-on : TurnsOneOn insert_in_clear 1 2 3
+unfolding content
+just-on = record {
+  m = 3;
+  p = 0;
+  ended = Running;
+  later = omega arith;
+  upto = omega arith;
+  own = step_at (Or 0 1) 0 refl;
+  on = refl;
+}
+
+-- a step later than the last record doesn't count
+none-yet : TurnsOneOn twins 0 0 1 → ⊥
+none-yet one =
+    let here : one.m ≡ 1 = omega (arith, one.later, one.upto) in
+    let own =
+    subst
+    (λ m. slice_get twins.records m ≡ Some (Did 0 one.own.step one.own.found one.ended)) here
+    one.own.here in
+    cc

@@ -25,7 +25,7 @@ one-word word fits = All-cons (λ w. w < 2 ^ 64) word [] fits (All-nil (λ w. w 
 abbrev inserted : List Taken
 inserted = took (Or 0 1) 4 (Answer false) ∷ []
 
--- it is a whole insert
+-- an or that found its bit off is a whole insert of one hash
 pub inserted-script : IsScript 1 1 (Insert 0) inserted
 unfolding chain
 inserted-script = record {
@@ -40,7 +40,7 @@ inserted-script = record {
 abbrev found : List Taken
 found = took (Load 0) 5 (Answer true) ∷ []
 
--- it is a whole look-up
+-- a load that found its bit on is a whole look-up of one hash
 found-script : IsScript 1 1 (Contains 0) found
 unfolding chain
 found-script = record {
@@ -58,7 +58,7 @@ found-script = record {
 abbrev read_write : ℕ → List Taken
 read_write other = took (Other 0) other Running ∷ took (Or 0 other) 0 Done ∷ []
 
--- it is a whole union
+-- a read and a write are a whole union of one word
 read_write-script : (other : ℕ) → IsScript 1 1 Union (read_write other)
 read_write-script other = record {
   count = refl;
@@ -68,7 +68,7 @@ read_write-script other = record {
   last = each-member _ (read_write other) ((λ l. absurd (omega (arith, l))), ((λ l. refl), tt));
 }
 
--- the calls of each party
+-- the calls of each party of the insert, the look-up and the union
 calls : (party : ℕ) → CallAfterCall 1 1 party (records_of party insert_then_contains.records)
 unfolding records_of
 calls zero =
@@ -80,7 +80,7 @@ calls (suc (suc party)) =
     subst (CallAfterCall 1 1 (suc (suc party)))
     (sym (none-past 2 (suc (suc party)) insert_then_contains.records 6 refl (omega arith))) no_call
 
--- an insert, then a look-up of its hash, and a union that isn't finished
+-- an insert, then a look-up of its hash, and a union that isn't finished, are lawful
 pub lawful-insert_then_contains : IsLawful 1 insert_then_contains
 lawful-insert_then_contains =
     carried 1 insert_then_contains
@@ -91,7 +91,7 @@ lawful-insert_then_contains =
 abbrev first : List Taken
 first = took (Or 0 1) 0 Running ∷ took (Or 0 1048576) 1048577 (Answer false) ∷ []
 
--- they are a whole insert
+-- the steps of the first of the twins are a whole insert
 first-script : IsScript 1 2 (Insert 1) first
 unfolding chain
 first-script = record {
@@ -113,7 +113,7 @@ calls-twins (suc (suc party)) =
     subst (CallAfterCall 1 2 (suc (suc party)))
     (sym (none-past 2 (suc (suc party)) twins.records 6 refl (omega arith))) no_call
 
--- two inserts of one fresh hash
+-- two inserts of one fresh hash are lawful
 pub lawful-twins : IsLawful 2 twins
 lawful-twins =
     carried 2 twins (
@@ -133,7 +133,7 @@ lawful-twins =
 abbrev known : List Taken
 known = took (Or 0 1) 5 (Answer true) ∷ []
 
--- it is a whole insert
+-- an or that found its bit on is a whole insert of one hash
 known-script : IsScript 1 1 (Insert 0) known
 unfolding chain
 known-script = record {
@@ -150,7 +150,7 @@ known-script = record {
         each-member (λ j u. bit_is_on u.found (place 64 0 j) ≡ true) known (refl, tt) i t here in
         sym on ∙ is
 
--- the calls of a union, and then an insert
+-- the calls of each party of a union, and then an insert
 calls-in_turn : (party : ℕ) → CallAfterCall 1 1 party (records_of party in_turn.records)
 unfolding records_of
 calls-in_turn zero = whole_call Union (read_write 5) [] (read_write-script 5) no_call
@@ -159,7 +159,7 @@ calls-in_turn (suc (suc party)) =
     subst (CallAfterCall 1 1 (suc (suc party)))
     (sym (none-past 2 (suc (suc party)) in_turn.records 5 refl (omega arith))) no_call
 
--- one call at a time
+-- a union, and then an insert, are lawful
 pub lawful-in_turn : IsLawful 1 in_turn
 lawful-in_turn =
     carried 1 in_turn

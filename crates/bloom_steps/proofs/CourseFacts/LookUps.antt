@@ -17,27 +17,27 @@ use Rattle.bloom_steps.proofs.CourseFacts.Undisturbed.{alone, only}
 use Rattle.bloom_steps.proofs.RunLemmas.Contains.{contains_tell}
 use Rattle.bloom_steps.proofs.RunLemmas.Found.{finds_inserted}
 
--- at no moment of its span was the disturbed look-up's hash contained
+-- just after its beginning the disturbed look-up's hash is not contained
 disturbed-first : are_in 64 2 1 (moment disturbed 1) ≡ false
 unfolding content chain are_in
 disturbed-first = refl
 
--- nor after the clear
+-- just after the clear the disturbed look-up's hash is not contained
 disturbed-cleared : are_in 64 2 1 (moment disturbed 4) ≡ false
 unfolding content chain are_in
 disturbed-cleared = refl
 
--- nor after the union
+-- just after the union the disturbed look-up's hash is not contained
 disturbed-united : are_in 64 2 1 (moment disturbed 7) ≡ false
 unfolding content chain are_in
 disturbed-united = refl
 
--- nor in the end
+-- in the end the disturbed look-up's hash is not contained
 disturbed-last : are_in 64 2 1 (moment disturbed 8) ≡ false
 unfolding content chain are_in
 disturbed-last = refl
 
--- it is finished with true, and right at its last load for all that the theorem says
+-- the disturbed look-up answers true, and is right at its last load for all that the theorem says
 disturbed-right : IsRightAt 2 disturbed 1 0 7 7 true
 unfolding content chain
 disturbed-right = record {
@@ -49,31 +49,31 @@ disturbed-right = record {
   off = λ e. absurd (cc);
 }
 
--- a moment outside of the span is not right
+-- a look-up is not right at a moment outside of its span
 disturbed-before : IsRightAt 2 disturbed 1 0 7 0 true → ⊥
 disturbed-before right = omega (arith, right.within.after)
 
--- a look-up that counts its last load alone breaks the theorem
+-- the hash of a look-up that counts its last load alone is not contained at that load
 last-load : are_in 64 2 1 (moment last_load_alone 2) ≡ false
 unfolding content chain are_in
 last-load = refl
 
--- for it is undisturbed, and answers true
+-- the theorem on look-ups fails of one that counts its last load alone: it is undisturbed
 last-load_alone : ContainsTell 2 last_load_alone → ⊥
 last-load_alone tell =
     let right = tell 0 1 0 2 true finished-contains in
     both_ways (are_in 64 2 1 (moment last_load_alone 2)) last-load (sym (right.undisturbed alone))
 
--- disturbed or not, it may not answer false where its hash is contained at its last load
+-- the hash of a look-up across a clear and an insert is contained at its last load
 contained-late : are_in 64 1 0 (moment off_and_on 5) ≡ true
 unfolding content chain are_in
 contained-late = refl
 
--- so it isn't right there
+-- a look-up that answers false isn't right at a moment at which its hash is contained
 off-late : IsRightAt 1 off_and_on 0 0 5 5 false → ⊥
 off-late right = both_ways (are_in 64 1 0 (moment off_and_on 5)) (right.off refl) contained-late
 
--- just after the clear it would have been right
+-- a look-up across a clear and an insert would have been right just after the clear
 off-then : IsRightAt 1 off_and_on 0 0 5 3 false
 unfolding content chain are_in
 off-then = record {
@@ -85,7 +85,7 @@ off-then = record {
   off = λ e. refl;
 }
 
--- but the theorem speaks of its last load
+-- the theorem on look-ups fails of one that was right only before its last load
 off-late_told : ContainsTell 1 off_and_on → ⊥
 off-late_told tell =
     off-late
@@ -93,16 +93,16 @@ off-late_told tell =
     (finished off_and_on 0 (Contains 0) 0 5 (Answer false) refl (omega arith) (Load 0) 1 refl
     (λ e. cc) refl))
 
--- both theorems hold of a look-up after a finished insert of its hash: it is right
+-- the theorem on look-ups holds of one after a finished insert of its hash
 told : ContainsTell 1 insert_then_contains
 told = contains_tell 1 insert_then_contains lawful-insert_then_contains (omega arith) (omega arith)
 
--- and so it answers true
+-- the theorem on finished inserts holds of a look-up after a finished insert of its hash
 found : FindsInserted 1 insert_then_contains
 found =
     finds_inserted 1 insert_then_contains lawful-insert_then_contains (omega arith) (omega arith)
 
--- where the look-up answers false neither does; the insert is finished
+-- the insert is finished, whatever the look-up answers
 finished-insert : (answer : Bool)
     → IsFinished (insert_then_contains_answering answer) 0 (Insert 0) 0 1 (Answer false)
 finished-insert answer =
@@ -116,19 +116,19 @@ finished-look_up answer =
     finished (insert_then_contains_answering answer) 1 (Contains 0) 2 3 (Answer answer) refl
     (omega arith) (Load 0) 5 refl (λ e. cc) refl
 
--- at its last load the hash is contained
+-- at the last load of the look-up after an insert the hash is contained
 contained : are_in 64 1 0 (moment (insert_then_contains_answering false) 3) ≡ true
 unfolding content chain are_in
 contained = refl
 
--- so false isn't right
+-- the theorem on look-ups fails where the look-up after an insert answers false
 untold : ContainsTell 1 (insert_then_contains_answering false) → ⊥
 untold tell =
     let right = tell 1 0 2 3 false (finished-look_up false) in
     both_ways (are_in 64 1 0 (moment (insert_then_contains_answering false) 3)) (right.off refl)
     contained
 
--- nothing is turned off
+-- nothing is turned off where a look-up follows an insert
 kept : NoneTurnedOff 1 (insert_then_contains_answering false) 0 0 3
 unfolding content
 kept m p a b x =
@@ -142,7 +142,7 @@ kept m p a b x =
     at (suc (suc (suc zero))) b = refl
     at (suc (suc (suc (suc m)))) b = absurd (omega (arith, b))
 
--- so false is no answer after the insert
+-- the theorem on finished inserts fails where the look-up after an insert answers false
 unfound : FindsInserted 1 (insert_then_contains_answering false) → ⊥
 unfound finds =
     let answer =
@@ -158,7 +158,7 @@ between none =
     both_ways (turns_off insert_in_clear 6 64)
     (none 6 64 (omega arith) (omega arith) (place-position 128 3 1 2 (omega arith))) on
 
--- and the look-up found that bit off
+-- the look-up after an insert within a clear found position 64 off
 between-off : are_in 128 3 1 (moment insert_in_clear 10) ≡ false
 unfolding content chain are_in
 between-off = refl

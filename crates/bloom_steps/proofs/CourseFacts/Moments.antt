@@ -4,7 +4,7 @@ use Rattle.bloom_parts.specs.Content.{content}
 use Rattle.bloom_steps.specs.Moments.{bits_of, moment, turns_on, turns_off, IsInSpan}
 use Rattle.bloom_steps.proofs.CourseFacts.Courses.{twins, disturbed, union_of_itself, insert_in_clear}
 
--- 64 bits a word
+-- two words have 128 bits
 bits-two : bits_of insert_in_clear ≡ 128
 bits-two = refl
 
@@ -18,12 +18,12 @@ on-union : turns_on disturbed 6 20 ≡ true
 unfolding content
 on-union = refl
 
--- it turns off nothing that was off
+-- the clear turns nothing off that was off
 off-other : turns_off disturbed 3 20 ≡ false
 unfolding content
 off-other = refl
 
--- and the union's read turns on nothing
+-- the union's read turns nothing on
 on-read : turns_on disturbed 5 20 ≡ false
 unfolding content
 on-read = refl
@@ -33,17 +33,17 @@ twins-on : turns_on twins 2 0 ≡ true
 unfolding content
 twins-on = refl
 
--- the second no more
+-- the second of the twins doesn't turn position 0 on again
 twins-on_again : turns_on twins 3 0 ≡ false
 unfolding content
 twins-on_again = refl
 
--- then the second turns on position 20
+-- the second of the twins turns on position 20
 twins-on_second : turns_on twins 4 20 ≡ true
 unfolding content
 twins-on_second = refl
 
--- and nothing is turned off
+-- the twins turn nothing off
 twins-off : turns_off twins 3 0 ≡ false
 unfolding content
 twins-off = refl
@@ -67,14 +67,14 @@ at_start = refl
 span-first : IsInSpan 2 5 3
 span-first = record { after = omega arith; upto = omega arith }
 
--- it ends just after its last step
+-- a span ends just after the call's last step
 span-last : IsInSpan 2 5 6
 span-last = record { after = omega arith; upto = omega arith }
 
--- the moment of its beginning is before it
+-- the moment of a call's beginning is before its span
 span-before : IsInSpan 2 5 2 → ⊥
 span-before h = omega (arith, h.after)
 
--- and one further on is after it
+-- a moment further than just after the last step is after the span
 span-after : IsInSpan 2 5 7 → ⊥
 span-after h = omega (arith, h.upto)

@@ -7,12 +7,12 @@ use Rattle.bloom_steps.proofs.StepFacts.Members.{all_pass}
 use Rattle.bloom_steps.specs.Moments.{EveryCallEnded, OneAtATime}
 use Rattle.bloom_steps.proofs.CourseFacts.Courses.{twins, in_turn, in_turn_answering, insert_in_clear}
 
--- the clear runs until its last step
+-- the party of a clear runs a call up to the clear's last step
 runs-clear : runs 0 (take 6 insert_in_clear.records) ≡ true
 unfolding records_of
 runs-clear = refl
 
--- and then no more
+-- after the clear's last step its party runs no call
 over-clear : runs 0 (take 7 insert_in_clear.records) ≡ false
 unfolding records_of
 over-clear = refl
@@ -33,14 +33,14 @@ none-past bound party (r ∷ rs) (suc m) all past =
     (ne_eqb (party_of r) party apart)
     ∙ none-past bound party rs m parts.1 past
 
--- and so runs no call
+-- a party past all of some records' parties runs no call
 pub idle-past : (bound party : ℕ) (rs : List Record) (m : ℕ)
     → all_pass (λ i r. ltb (party_of r) bound) rs ≡ true → bound ≤ party
     → runs party (take m rs) ≡ false
 idle-past bound party rs m all past =
     ap last_leaves_running (none-past bound party rs m all past)
 
--- each call has ended
+-- each call of the union and the insert has ended
 pub ended-in_turn : (answer : Bool) → EveryCallEnded (in_turn_answering answer).records
 unfolding records_of
 ended-in_turn answer zero = refl
@@ -48,7 +48,7 @@ ended-in_turn answer (suc zero) = refl
 ended-in_turn answer (suc (suc party)) =
     idle-past 2 (suc (suc party)) (in_turn_answering answer).records 5 refl (omega arith)
 
--- not a record earlier
+-- a record earlier the insert has not ended
 unended-in_turn : EveryCallEnded (take 4 in_turn.records) → ⊥
 unfolding records_of
 unended-in_turn ended = both_ways (runs 1 (take 4 in_turn.records)) (ended 1) refl
@@ -77,11 +77,11 @@ runner answer (suc (suc (suc (suc (suc zero))))) (suc zero) is = absurd (both_wa
 runner answer (suc (suc (suc (suc (suc (suc m)))))) zero is = absurd (both_ways false refl is)
 runner answer (suc (suc (suc (suc (suc (suc m)))))) (suc zero) is = absurd (both_ways false refl is)
 
--- the calls are made one at a time
+-- the union and the insert are made one at a time
 pub one-in_turn : (answer : Bool) → OneAtATime (in_turn_answering answer).records
 one-in_turn answer m p q a b = runner answer m p a ∙ sym (runner answer m q b)
 
--- the twins aren't
+-- the twins are not made one at a time
 both-twins : OneAtATime twins.records → ⊥
 unfolding records_of
 both-twins one = let same : 0 ≡ 1 = one 2 0 1 refl refl in omega (arith, same)

@@ -72,8 +72,8 @@ clear-there all = both_ways false refl (all 2 1 Clear refl)
 union-there : EveryCall goes_by_hash in_turn.records → ⊥
 union-there all = both_ways false refl (all 0 0 Union refl)
 
--- though it only grows
-union-grows : EveryCall turns_none_off in_turn.records
+-- a run with a union and an insert only grows
+pub union-grows : EveryCall turns_none_off in_turn.records
 union-grows =
     (growing in_turn.records).1 (
       (λ m party g.

@@ -14,7 +14,7 @@ abbrev pub schedule : List Event
 schedule =
     Go 0 0 ∷ Begin 7 Clear ∷ Begin 0 Clear ∷ Begin 0 (Insert 0) ∷ Go 0 0 ∷ Go 0 0 ∷ []
 
--- they leave two records
+-- two events that make sense leave two records
 pub two-records : FollowsFrom 1 [] schedule (Began 0 Clear ∷ Did 0 (Zero 0) 0 Done ∷ [])
 unfolding records_of
 two-records =
@@ -36,35 +36,35 @@ two-records =
     (next_event _ (Go 0 0) _ [] _ (inr (record { idle = refl; same = refl })) (no_event _))))))
 
 -- a beginning is recorded
-begin-dropped : Gives 1 [] (Begin 0 Clear) [] → ⊥
+pub begin-dropped : Gives 1 [] (Begin 0 Clear) [] → ⊥
 unfolding records_of
 begin-dropped gives = elim gives [
   | inl is ↦ let same = is.same in cc
   | inr is ↦ let runs = is.busy (omega arith) in cc
 ]
 
--- as what it is
+-- a beginning is recorded as that of its own call
 begin-another : Gives 1 [] (Begin 0 Clear) (Began 0 Union ∷ []) → ⊥
 begin-another gives = elim gives [
   | inl is ↦ let same = is.same in cc
   | inr is ↦ let same = is.same in cc
 ]
 
--- not twice
+-- a beginning is not recorded twice
 begin-twice : Gives 1 [] (Begin 0 Clear) (Began 0 Clear ∷ Began 0 Clear ∷ []) → ⊥
 begin-twice gives = elim gives [
   | inl is ↦ let same = is.same in cc
   | inr is ↦ let same = is.same in cc
 ]
 
--- not of a party past the run's
+-- the beginning of a party past the run's is not recorded
 begin-past : Gives 1 [] (Begin 1 Clear) (Began 1 Clear ∷ []) → ⊥
 begin-past gives = elim gives [
   | inl is ↦ omega (arith, is.within)
   | inr is ↦ let same = is.same in cc
 ]
 
--- not of a party that runs a call
+-- the beginning of a party that runs a call is not recorded
 begin-busy : Gives 1 (Began 0 Union ∷ []) (Begin 0 Clear) (Began 0 Clear ∷ []) → ⊥
 unfolding records_of
 begin-busy gives = elim gives [
@@ -85,7 +85,7 @@ go-union =
       reads = λ i e. refl;
     })
 
--- which is recorded
+-- the step of a party that runs a call is recorded
 go-dropped : Gives 1 (Began 0 Union ∷ []) (Go 0 7) [] → ⊥
 unfolding records_of
 go-dropped gives = elim gives [
@@ -93,7 +93,7 @@ go-dropped gives = elim gives [
   | inr is ↦ let idle = is.idle in cc
 ]
 
--- which finds the word given, where it reads the other filter
+-- a step that reads the other filter finds the word given
 go-another_word : Gives 1 (Began 0 Union ∷ []) (Go 0 7) (Did 0 (Other 0) 8 Running ∷ []) → ⊥
 go-another_word gives = elim gives [
   | inl is ↦
@@ -104,7 +104,7 @@ go-another_word gives = elim gives [
   | inr is ↦ let same = is.same in cc
 ]
 
--- a party that runs none makes none
+-- a party that runs no call makes no step
 go-idle : Gives 1 [] (Go 0 0) (Did 0 (Zero 0) 0 Done ∷ []) → ⊥
 unfolding records_of
 go-idle gives = elim gives [
@@ -123,7 +123,7 @@ unasked : FollowsFrom 1 [] [] (Began 0 Clear ∷ []) → ⊥
 unasked follows = let none = eventless [] _ [] refl follows in cc
 
 -- the events of a schedule are followed in order
-one-event : (before after : List Record) (events : List Event) (event : Event)
+pub one-event : (before after : List Record) (events : List Event) (event : Event)
     → events ≡ event ∷ [] → FollowsFrom 1 before events after → Gives 1 before event after
 one-event before _ _ event e (no_event _) = absurd (cc)
 one-event before _ _ event e (next_event _ given events added later gives rest) =
@@ -137,7 +137,7 @@ one-event before _ _ event e (next_event _ given events added later gives rest) 
 unfollowed : FollowsFrom 1 [] (Begin 0 Clear ∷ []) [] → ⊥
 unfollowed follows = begin-dropped (one-event [] [] _ (Begin 0 Clear) refl follows)
 
--- a course begins with the words given
+-- a clear of one word that begins with these words
 abbrev pub cleared : List ℕ → Course
 cleared start = record {
   start = start;
@@ -145,10 +145,10 @@ cleared start = record {
   words = 0 ∷ [];
 }
 
--- and follows the schedule
+-- the course that begins with the words given follows the schedule
 pub follows-words : Follows 1 (9 ∷ []) schedule (cleared (9 ∷ []))
 follows-words = record { begins = refl; events = two-records }
 
--- with other words it doesn't
+-- a course that begins with other words doesn't follow the schedule
 follows-other_words : Follows 1 (9 ∷ []) schedule (cleared (8 ∷ [])) → ⊥
 follows-other_words follows = let begins = follows.begins in cc

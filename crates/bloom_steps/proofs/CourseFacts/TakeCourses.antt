@@ -2,6 +2,7 @@
 use Rattle.std.proofs.Common.{◌≡◌, ◌∷◌, [], ℕ, refl, arith, inl, count_by}
 use Rattle.std.specs.Prelude.{sum_by}
 use Rattle.bloom_parts.specs.Content.{content}
+use Rattle.bloom_steps.specs.declared.steps.vocabulary.Step.TheVariants.{Load, Or, And, Zero, Other}
 use Rattle.bloom_steps.specs.declared.steps.vocabulary.Step.TheVariants as step
 use Rattle.bloom_steps.specs.declared.steps.vocabulary.Call.TheVariants.{Take}
 use Rattle.bloom_steps.specs.declared.steps.vocabulary.End.TheVariants.{Running, Done}
@@ -11,10 +12,23 @@ use Rattle.bloom_steps.specs.Courses.{Course, Follows, next_event, no_event, rec
 use Rattle.bloom_steps.specs.Interleavings.{IsBalanced, bits_on, bits_taken, count_below, found_off}
 use Rattle.bloom_steps.specs.Moments.{bits_of}
 
--- bits that are on in a word
+-- the word 5 has two bits on
 five-bits : bits_on 5 ≡ 2
 unfolding bits_on
 five-bits = refl
+
+-- the highest bit of a word counts
+highest-bit : bits_on 9223372036854775808 ≡ 1
+unfolding bits_on
+highest-bit = refl
+
+-- a take alone tells how many bits were on in the word that it found
+taken-bits : (bits_taken (Did 0 (step.Take 0) 5 Done) ≡ 2) × (bits_taken (Began 0 Take) ≡ 0)
+    × (bits_taken (Did 0 (Load 0) 5 Running) ≡ 0) × (bits_taken (Did 0 (Or 0 5) 5 Running) ≡ 0)
+    × (bits_taken (Did 0 (And 0 5) 5 Running) ≡ 0) × (bits_taken (Did 0 (Zero 0) 5 Done) ≡ 0)
+    × (bits_taken (Did 0 (Other 0) 5 Running) ≡ 0)
+unfolding bits_on
+taken-bits = (refl, refl, refl, refl, refl, refl, refl)
 
 -- the four numbers of a course: on at the start, turned on, taken, left
 pub record HasCounts (run : Course) (start gained taken left : ℕ) : Type 0 where
@@ -31,7 +45,7 @@ one = record {
   words = 0 ∷ 0 ∷ [];
 }
 
--- it follows its schedule
+-- the take of the words 5 and 2 follows its schedule
 one-follows : Follows 1 (5 ∷ 2 ∷ []) (Begin 0 Take ∷ Go 0 0 ∷ Go 0 0 ∷ []) one
 unfolding records_of
 one-follows = record {
@@ -59,12 +73,12 @@ one-follows = record {
       })) (no_event _)));
 }
 
--- 3 + 0 = (2 + 1) + 0
+-- the numbers of the take of the words 5 and 2: 3 + 0 = (2 + 1) + 0
 one-counts : HasCounts one 3 0 3 0
 unfolding content bits_on
 one-counts = record { at_start = refl; turned_on = refl; found = refl; at_end = refl }
 
--- after its first step: 3 + 0 = 2 + 1
+-- after its first step the take of the words 5 and 2 is balanced: 3 + 0 = 2 + 1
 one-balanced : IsBalanced one 2
 unfolding content bits_on
 one-balanced = refl
@@ -78,7 +92,7 @@ both = record {
   words = 0 ∷ [];
 }
 
--- 3 + 0 = (3 + 0) + 0
+-- the numbers of the two takes: 3 + 0 = (3 + 0) + 0
 both-counts : HasCounts both 3 0 3 0
 unfolding content bits_on
 both-counts = record { at_start = refl; turned_on = refl; found = refl; at_end = refl }

@@ -31,7 +31,7 @@ between found = record {
 abbrev inserted : List Taken
 inserted = took (Or 0 1) 0 Running ∷ took (Or 0 1048576) 0 (Answer false) ∷ []
 
--- they are a whole insert
+-- the two steps are a whole insert
 inserted-script : IsScript 1 2 (Insert 1) inserted
 unfolding chain
 inserted-script = record {
@@ -50,7 +50,7 @@ inserted-script = record {
 abbrev taken : List Taken
 taken = took (step.Take 0) 1 Done ∷ []
 
--- it is a whole take
+-- the one step is a whole take
 taken-script : IsScript 1 2 Take taken
 taken-script = record {
   count = refl;
@@ -60,7 +60,7 @@ taken-script = record {
   last = each-member _ taken ((λ l. refl), tt);
 }
 
--- the calls of each party
+-- the calls of each party are call after call
 calls : (party : ℕ) → CallAfterCall 1 2 party (records_of party (between 1).records)
 unfolding records_of
 calls zero = whole_call (Insert 1) inserted [] inserted-script no_call
@@ -69,14 +69,14 @@ calls (suc (suc party)) =
     subst (CallAfterCall 1 2 (suc (suc party)))
     (sym (none-past 2 (suc (suc party)) (between 1).records 5 refl (omega arith))) no_call
 
--- it finds the first bit and leaves the second
+-- the course is lawful: the take finds the first bit and leaves the second
 lawful-between : IsLawful 2 (between 1)
 lawful-between =
     carried 2 (between 1)
     (omega arith, refl, lit< tt, (omega arith, refl, lit< tt, (omega arith, refl, lit< tt, tt)))
     refl refl (one-word 1048576 (lit< tt)) calls
 
--- each of its calls adds or takes
+-- each call of the course adds or takes
 each-between : (found m party : ℕ) (call : Call)
     → slice_get (between found).records m ≡ Some (Began party call) → adds_or_takes call ≡ true
 each-between found m party call g =
@@ -91,31 +91,48 @@ each-between found m party call g =
       ),
     ) m (Began party call) g refl
 
--- so it loses nothing
+-- the course with a take that finds the bit loses nothing
 between-kept : LosesNothing (between 1)
 between-kept = takes_lose_nothing 2 (between 1) lawful-between (each-between 1)
 
--- 0 + 2 = 1 + 1
+-- the numbers of the course with the take: 0 + 2 = 1 + 1
 between-counts : HasCounts (between 1) 0 2 1 1
 unfolding content bits_on
 between-counts = record { at_start = refl; turned_on = refl; found = refl; at_end = refl }
 
--- a take that turns the word off and doesn't tell the bit: 0 + 2 against 0 + 1
+-- the numbers where the take doesn't tell the bit that it turned off: 0 + 2 against 0 + 1
 lost-counts : HasCounts (between 0) 0 2 0 1
 unfolding content bits_on
 lost-counts = record { at_start = refl; turned_on = refl; found = refl; at_end = refl }
 
--- the theorem refuses it
+-- the theorem on takes fails of a take that doesn't tell the bit
 lost : TakesLoseNothing (between 0) → ⊥
 lost keeps =
     let even = (keeps (each-between 0)).whole in
     let c = lost-counts in
     omega (arith, even, c.at_start, c.turned_on, c.found, c.at_end)
 
--- at the moment just after the take already
+-- the theorem on takes fails just after a take that doesn't tell the bit already
 lost-then : TakesLoseNothing (between 0) → ⊥
 unfolding content bits_on
 lost-then keeps = let even = (keeps (each-between 0)).always 4 (omega arith) in cc
+
+-- the numbers where the take tells a bit that was off: 0 + 2 against 2 + 1
+invented-counts : HasCounts (between 3) 0 2 2 1
+unfolding content bits_on
+invented-counts = record { at_start = refl; turned_on = refl; found = refl; at_end = refl }
+
+-- the theorem on takes fails of a take that tells a bit that was off
+invented : TakesLoseNothing (between 3) → ⊥
+invented keeps =
+    let even = (keeps (each-between 3)).whole in
+    let c = invented-counts in
+    omega (arith, even, c.at_start, c.turned_on, c.found, c.at_end)
+
+-- the theorem on takes fails just after a take that tells a bit that was off already
+invented-then : TakesLoseNothing (between 3) → ⊥
+unfolding content bits_on
+invented-then keeps = let even = (keeps (each-between 3)).always 4 (omega arith) in cc
 
 -- with a clear in the take's place a bit is lost, 0 + 2 against 0 + 1, so the premise is needed
 abbrev cleared : Course
@@ -126,12 +143,12 @@ cleared = record {
   words = 1048576 ∷ [];
 }
 
--- its numbers
+-- the numbers with a clear in the take's place
 cleared-counts : HasCounts cleared 0 2 0 1
 unfolding content bits_on
 cleared-counts = record { at_start = refl; turned_on = refl; found = refl; at_end = refl }
 
--- the calls of which the theorem speaks
+-- inserts, look-ups and takes add or take; clears, unions and intersections don't
 adds-or-takes : (adds_or_takes (Insert 1) ≡ true) × (adds_or_takes (Contains 1) ≡ true)
     × (adds_or_takes Take ≡ true) × (adds_or_takes Clear ≡ false)
     × (adds_or_takes Union ≡ false) × (adds_or_takes Intersect ≡ false)

@@ -1,14 +1,19 @@
 -- Which look-ups of the worked courses are undisturbed, and which not.
-use Rattle.std.proofs.Common.{◌≡◌, ◌<◌, ◌≤◌, zero, suc, true, false, Bool, ℕ, not, ◌&&◌, refl, arith, subst, sym, ◌∙◌, ap}
+use Rattle.std.proofs.Common.{◌≡◌, ◌∷◌, [], ◌<◌, ◌≤◌, zero, suc, true, false, Bool, ℕ, not, ◌&&◌, refl, arith, subst, sym, ◌∙◌, ap}
 use Rattle.std.proofs.lemmas.Bool.{both_ways}
 use Rattle.bloom_parts.specs.Chain.{chain}
 use Rattle.bloom_parts.specs.Content.{content}
 use Rattle.bloom_parts.specs.Places.{place, IsPosition}
 use Rattle.bloom_parts.proofs.PublishedLemmas.{place-position}
+use Rattle.bloom_steps.specs.declared.steps.vocabulary.Step.TheVariants.{Load, Zero}
+use Rattle.bloom_steps.specs.declared.steps.vocabulary.Call.TheVariants.{Contains, Clear}
+use Rattle.bloom_steps.specs.declared.steps.vocabulary.End.TheVariants.{Done, Answer}
+use Rattle.bloom_steps.specs.declared.steps.vocabulary.Record.TheVariants.{Began, Did}
+use Rattle.bloom_steps.specs.Courses.{Course}
 use Rattle.bloom_steps.specs.Moments.{moment, turns_off, IsUndisturbed, NoneTurnedOff}
 use Rattle.bloom_steps.proofs.CourseFacts.Courses.{disturbed, last_load_alone, between_clears, clear_elsewhere}
 
--- what stays as it is isn't turned off
+-- a bit that stays as it is isn't turned off
 never : (b : Bool) → (b && not b) ≡ false
 never true = refl
 never false = refl
@@ -47,7 +52,7 @@ between-clears m p a b x =
     let here : 6 ≡ m = omega (arith, a, b) in
     subst (λ n. turns_off between_clears n p ≡ false) here (never (moment between_clears 6 p))
 
--- a record earlier, and a record later, there is one
+-- the clear before the look-up between clears turns a position off
 before-clears : NoneTurnedOff 1 between_clears 0 1 6 → ⊥
 unfolding content chain
 before-clears h =
@@ -55,7 +60,7 @@ before-clears h =
     both_ways (turns_off between_clears 1 0)
     (h 1 0 (omega arith) (omega arith) (place-position 64 1 0 0 (omega arith))) on
 
--- a record later there is another
+-- the clear after the look-up between clears turns a position off
 after-clears : NoneTurnedOff 1 between_clears 0 6 7 → ⊥
 unfolding content chain
 after-clears h =
@@ -63,7 +68,7 @@ after-clears h =
     both_ways (turns_off between_clears 7 0)
     (h 7 0 (omega arith) (omega arith) (place-position 64 1 0 0 (omega arith))) on
 
--- what is turned off elsewhere doesn't disturb
+-- what is turned off at another position doesn't disturb a look-up
 elsewhere : IsUndisturbed 1 clear_elsewhere 0 0 3
 unfolding content
 elsewhere m p a b x = subst (λ q. turns_off clear_elsewhere m q ≡ false) (sym (only p x)) (at m a b)
@@ -75,7 +80,25 @@ elsewhere m p a b x = subst (λ q. turns_off clear_elsewhere m q ≡ false) (sym
     at (suc (suc (suc zero))) a b = refl
     at (suc (suc (suc (suc m)))) a b = absurd (omega (arith, b))
 
--- though the clear does turn a position off
+-- the clear across the look-up of another position does turn a position off
 elsewhere-off : turns_off clear_elsewhere 2 2 ≡ true
 unfolding content
 elsewhere-off = refl
+
+-- a look-up within a clear, whose step comes just after the look-up's beginning
+abbrev within_clear : Course
+within_clear = record {
+  start = 1 ∷ [];
+  records =
+      Began 1 Clear ∷ Began 0 (Contains 0) ∷ Did 1 (Zero 0) 0 Done
+      ∷ Did 0 (Load 0) 0 (Answer false) ∷ [];
+  words = 0 ∷ [];
+}
+
+-- the first record after a look-up's beginning disturbs it, and so does the last up to its end
+just-after : IsUndisturbed 1 within_clear 0 1 2 → ⊥
+unfolding content chain
+just-after h =
+    let on : turns_off within_clear 2 0 ≡ true = refl in
+    both_ways (turns_off within_clear 2 0)
+    (h 2 0 (omega arith) (omega arith) (place-position 64 1 0 0 (omega arith))) on

@@ -1,10 +1,12 @@
 -- What the law on one course says of a schedule.
-use Rattle.std.proofs.Common.{◌≡◌, ◌∷◌, [], List, ℕ, zero, suc, refl, arith, lit<, sym, subst}
+use Rattle.std.proofs.Common.{◌≡◌, ◌<◌, ◌^◌, ◌∷◌, [], List, ℕ, zero, suc, refl, arith, lit<, sym, subst}
+use Rattle.std.proofs.lemmas.List.Elements.{All-nil}
+use Rattle.std.proofs.lemmas.Option.{none-some}
 use Rattle.bloom_steps.specs.declared.steps.vocabulary.Step.TheVariants.{Zero}
 use Rattle.bloom_steps.specs.declared.steps.vocabulary.Call.TheVariants.{Clear}
 use Rattle.bloom_steps.specs.declared.steps.vocabulary.End.TheVariants.{Done}
 use Rattle.bloom_steps.specs.Scripts.{IsScript, Taken}
-use Rattle.bloom_steps.specs.Courses.{AtMostOne, CallAfterCall, Course, Follows, IsLawful, no_call, records_of, whole_call}
+use Rattle.bloom_steps.specs.Courses.{AtMostOne, CallAfterCall, Course, Follows, IsLawful, no_call, no_event, records_of, whole_call}
 use Rattle.bloom_steps.proofs.StepFacts.Members.{each-member, took}
 use Rattle.bloom_steps.proofs.CourseFacts.Carrying.{carried}
 use Rattle.bloom_steps.proofs.CourseFacts.Lawful.{one-word}
@@ -15,7 +17,7 @@ use Rattle.bloom_steps.proofs.CourseFacts.Schedules.{cleared, follows-words, sch
 abbrev zeroed : List Taken
 zeroed = took (Zero 0) 0 Done ∷ []
 
--- it is a whole clear
+-- the one step is a whole clear
 zeroed-script : IsScript 1 1 Clear zeroed
 zeroed-script = record {
   count = refl;
@@ -25,7 +27,7 @@ zeroed-script = record {
   last = each-member _ zeroed ((λ l. refl), tt);
 }
 
--- the calls of each party
+-- the calls of each party of a clear of one word
 calls : (party : ℕ) → CallAfterCall 1 1 party (records_of party (cleared (9 ∷ [])).records)
 unfolding records_of
 calls zero = whole_call Clear zeroed [] zeroed-script no_call
@@ -39,8 +41,30 @@ lawful =
     carried 1 (cleared (9 ∷ [])) (omega arith, refl, lit< tt, tt) refl refl
     (one-word 0 (lit< tt)) calls
 
--- and it is the only one
+-- the course that follows the schedule is the only lawful one
 only : AtMostOne → (other : Course) → IsLawful 1 other → Follows 1 (9 ∷ []) schedule other
     → other ≡ cleared (9 ∷ [])
 only law other is follows =
     law 1 1 (9 ∷ []) schedule other (cleared (9 ∷ [])) is follows lawful follows-words
+
+-- a course without parties, words and events
+abbrev nothing : Course
+nothing = record { start = []; records = []; words = [] }
+
+-- a course without parties, words and events is lawful, also without hashes
+lawful-nothing : IsLawful 0 nothing
+unfolding records_of
+lawful-nothing = record {
+  finds = λ m party step found ended g. absurd (none-some _ g);
+  calls = λ party. no_call;
+  count = refl;
+  bits = λ p. refl;
+  fit = All-nil (λ w. w < 2 ^ 64);
+}
+
+-- the law holds where no party has anything to do
+only-nothing : AtMostOne → (other : Course) → IsLawful 0 other → Follows 0 [] [] other
+    → other ≡ nothing
+only-nothing law other is follows =
+    law 0 0 [] [] other nothing is follows lawful-nothing
+    (record { begins = refl; events = no_event [] })

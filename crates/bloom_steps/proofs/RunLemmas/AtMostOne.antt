@@ -58,7 +58,7 @@ module _ (w k : ℕ) (A : ℕ → Bool) where
       (records_of-append p before (r ∷ later)
       ∙ ap (λ l. records_of p before ++ l) (records_of-mine p r later refl))
 
-  -- and finds what the records before it left
+  -- a step finds what the records before it left
   found_at : (before later : List Record) (p : ℕ) (t : Taken)
       → AreLawful w k A (before ++ Did p t.step t.found t.ended ∷ later)
       → MayFind (after_records A before) t.step t.found
@@ -109,7 +109,7 @@ module _ (w k : ℕ) (A : ℕ → Bool) where
     ]
   ]
 
-  -- and so are the records of events
+  -- what the events of a schedule add is one
   follows-same : (parties : ℕ) (before : List Record) (es : List Event) (a b : List Record)
       → FollowsFrom parties before es a
       → FollowsFrom parties before es b → AreLawful w k A (before ++ a)
@@ -129,11 +129,11 @@ module _ (parties k : ℕ) (words : List ℕ) (schedule : List Event) (one other
     (lawful : IsLawful k one) (lawful2 : IsLawful k other)
     (follows : Follows parties words schedule one)
     (follows2 : Follows parties words schedule other) where
-  -- begin alike
+  -- both begin with the same words
   begins-same : one.start ≡ other.start
   begins-same = follows.begins ∙ sym follows2.begins
 
-  -- record alike
+  -- both have the same records
   records-same : one.records ≡ other.records
   records-same =
       let finds =
@@ -146,13 +146,13 @@ module _ (parties k : ℕ) (words : List ℕ) (schedule : List Event) (one other
       (record { finds = lawful.finds; calls = lawful.calls })
       (record { finds = finds; calls = calls })
 
-  -- leave the same bits
+  -- both leave the same bits
   bits-same : (p : ℕ) → content one.words p ≡ content other.words p
   bits-same p =
       lawful.bits p ∙ ap (λ l. after_records (content l) one.records p) begins-same
       ∙ ap (λ rs. after_records (content other.start) rs p) records-same ∙ sym (lawful2.bits p)
 
-  -- and the same words, since words are fixed by their content
+  -- both leave the same words, since words are fixed by their content
   words-same : EqualWordsLaw → one.words ≡ other.words
   words-same equal_words =
       let count = lawful.count ∙ ap length begins-same ∙ sym lawful2.count in

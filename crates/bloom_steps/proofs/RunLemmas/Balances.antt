@@ -120,7 +120,7 @@ module _ (k : ℕ) (run : Course) (lawful : IsLawful k run) where
   -- a run of inserts, look-ups and takes
   module _ (each : (m p : ℕ) (call : Call) → slice_get run.records m ≡ Some (Began p call)
       → adds_or_takes call ≡ true) where
-    -- each of its records
+    -- each record of the run keeps the balance
     pub balances : (m : ℕ) (r : Record) → slice_get run.records m ≡ Some r → m < length run.records
         → Balances run m r
     balances m (Began p call) g inside =

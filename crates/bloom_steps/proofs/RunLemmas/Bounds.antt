@@ -70,7 +70,7 @@ NoneMakesOff run q =
     (Did p step found e)
     → DecidesOnly (Some true) q step
 
--- then no record turns it off
+-- where no step makes a position off, no record turns it off
 pub none_off : (run : Course) (q : ℕ) → NoneMakesOff run q → (m : ℕ) → m < length run.records
     → TurnsOff run m q → ⊥
 none_off run q all m below off = let there = some_member run.records m below in at there.0 there.1

@@ -54,7 +54,7 @@ module _ (w k p : ℕ) (s : List Taken) (A : ℕ → Bool) (fits : Fits w A (did
       (may_find_at i t g)).bits
       (place (64 * w) h i) refl
 
-  -- what those of a look-up find is the set before
+  -- what the steps of a look-up find is the set before
   contains_found : (h i : ℕ) (t : Taken) → IsScript w k (Contains h) s → slice_get s i ≡ Some t
       → bit_is_on t.found (place (64 * w) h i) ≡ A (place (64 * w) h i)
   contains_found h i t is g =
@@ -99,7 +99,7 @@ module _ (w k p : ℕ) (s : List Taken) (A : ℕ → Bool) (fits : Fits w A (did
       insert_found h i t.0 is t.1 ∙ stays_off h (place n h i) i is off all (omega arith) in
       both_ways (bit_is_on t.0.found (place n h i)) was (all i t.0 t.1)))
 
-  -- and where one found its bit off, one of them wasn't
+  -- where a step of an insert found its bit off, one of its positions wasn't in the set before
   insert_some : (h : ℕ) → IsScript w k (Insert h) s
       → Any s (λ i t. bit_is_on t.found (place (64 * w) h i) ≡ false)
       → are_in (64 * w) k h A ≡ false
@@ -162,7 +162,7 @@ module _ (w k p : ℕ) (s : List Taken) (A : ℕ → Bool) (fits : Fits w A (did
             ap (λ j. A (place n h j)) (sym same) ∙ sym (contains_found h m last is g) ∙ hit
       ])
 
-  -- a look-up answers whether they were
+  -- a look-up answers whether its positions were in the set before
   contains-answer : (h : ℕ) → IsScript w k (Contains h) s
       → answer_of s ≡ Some (are_in (64 * w) k h A)
   contains-answer h is =

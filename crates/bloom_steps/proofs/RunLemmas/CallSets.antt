@@ -40,7 +40,7 @@ module _ (w k p : ℕ) (s : List Taken) (A : ℕ → Bool) where
     | inr other ↦ inl (ap (λ x. step_decides x q) (is.steps i t g) ∙ other.1)
   ]
 
-  -- and those of a look-up nothing
+  -- the steps of a look-up decide nothing
   pub contains-all : (h q : ℕ) → IsScript w k (Contains h) s → AllDecide s q None
   contains-all h q is i t g = inl (ap (λ x. step_decides x q) (is.steps i t g))
 

@@ -49,7 +49,7 @@ fits-front w A xs ys f =
           ∙ f.within m q (omega arith) past;
     }
 
--- and the second, over what the first makes of the set
+-- the second part of records that fit, over what the first makes of the set
 pub fits-back : (w : ℕ) (A : ℕ → Bool) (xs ys : List Record) → Fits w A (xs ++ ys)
     → Fits w (after_records A xs) ys
 fits-back w A xs ys f =
@@ -82,12 +82,12 @@ or_only : (l x d : Option Bool) → (x ≡ None) ⊎ (x ≡ d) → (l ≡ None) 
 or_only None x d a b = a
 or_only (Some c) x d a b = b
 
--- and is this where the first is
+-- two decisions, each nothing or this, are this where the first is
 or_here : (l x d : Option Bool) → x ≡ d → (l ≡ None) ⊎ (l ≡ d) → option_or l x ≡ d
 or_here None x d a b = a
 or_here (Some c) x d a b = elim b [ inl n ↦ absurd (none-some _ (sym n)) | inr y ↦ y ]
 
--- or where the later is
+-- two decisions, each nothing or this, are this where the later is
 or_there : (l x d : Option Bool) → (x ≡ None) ⊎ (x ≡ d) → l ≡ d → option_or l x ≡ d
 or_there None x d a b = elim a [ inl n ↦ n ∙ b | inr y ↦ y ]
 or_there (Some c) x d a b = b
@@ -100,7 +100,7 @@ decision-all p (t ∷ s) q d all =
     or_only (decision p s q) (step_decides t.step q) d (all 0 t refl)
     (decision-all p s q d (λ i u g. all (suc i) u g))
 
--- and this where one of them does
+-- where each step decides nothing or this, all together decide this if one of them does
 decision-some : (p : ℕ) (s : List Taken) (q : ℕ) (d : Option Bool) → AllDecide s q d
     → (i : ℕ) (t : Taken) → slice_get s i ≡ Some t
     → step_decides t.step q ≡ d → decision p s q ≡ d
@@ -119,7 +119,7 @@ pub steps-none : (p : ℕ) (s : List Taken) (A : ℕ → Bool) (q : ℕ) → All
 steps-none p s A q all =
     ap (λ o. unwrap_or o (A q)) (elim (decision-all p s q None all) [ inl n ↦ n | inr n ↦ n ])
 
--- one that some step decides, and each that does so alike, has what they decide
+-- a position that some step decides, and each that decides it alike, is what they decide
 pub steps-some : (p : ℕ) (s : List Taken) (A : ℕ → Bool) (q : ℕ) (d : Option Bool) → AllDecide s q d
     → (i : ℕ) (t : Taken)
     → slice_get s i ≡ Some t → step_decides t.step q ≡ d

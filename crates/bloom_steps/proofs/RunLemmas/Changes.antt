@@ -20,7 +20,7 @@ use Rattle.bloom_steps.proofs.StepLemmas.Members.{take-more}
 own_mask : (q : ℕ) → bit_is_on (2 ^ (q % 64)) q ≡ true
 own_mask q = ap (λ b. nat_eq b 1) (bit_at-pow_same (q % 64))
 
--- and no other bit of its word
+-- the mask of a position has no other bit of its word
 mask_alone : (q j : ℕ) → bit_is_on (2 ^ (q % 64)) j ≡ true → j % 64 ≡ q % 64
 mask_alone q j on = elim (eqb_tells (j % 64) (q % 64)) [
   | inl same ↦ same.1
@@ -43,7 +43,7 @@ or_at-own q =
     (eq-eqb (q / 64) (q / 64) refl)
     ∙ ap (λ b. if b then Some true else None) (own_mask q)
 
--- the step that turns a position on makes it so, and leaves the others
+-- the step that turns a position on makes it on, and leaves the others
 pub or_at-decides : (q j : ℕ)
     → ((j ≡ q) × (step_decides (or_at q) j ≡ Some true))
     ⊎ ((j ≢ q) × (step_decides (or_at q) j ≡ None))
@@ -96,7 +96,7 @@ module _ (run : Course) where
       was true e = absurd (both_ways false refl e)
       was false e = refl
 
-  -- and the other way round
+  -- a position that was off before a record and is on after was turned on by it
   pub turning_on : (m p : ℕ) → moment run m p ≡ false → moment run (m + 1) p ≡ true
       → turns_on run m p ≡ true
   turning_on m p off on = and_from (not (moment run m p)) (moment run (m + 1) p) (ap not off) on
@@ -133,7 +133,7 @@ module _ (k : ℕ) (run : Course) (lawful : IsLawful k run) (m party q : ℕ) (t
       let finds = lawful.finds m party t.step t.found t.ended at in
       (subst (λ x. MayFind (moment run m) x t.found) step finds).bits q refl
 
-  -- and so did one that reads its word
+  -- a step that reads the word of a position found its bit as it was
   pub found-load : t.step ≡ load_at q → bit_is_on t.found q ≡ moment run m q
   found-load step =
       let finds = lawful.finds m party t.step t.found t.ended at in
@@ -146,7 +146,7 @@ module _ (k : ℕ) (run : Course) (lawful : IsLawful k run) (m party q : ℕ) (t
       moment-more run m (Did party t.step t.found t.ended) j at
       ∙ ap (λ x. unwrap_or (step_decides x j) (moment run m j)) step
 
-  -- it makes its own on
+  -- a step that turns a position on makes it on
   pub on-or : t.step ≡ or_at q → moment run (m + 1) q ≡ true
   on-or step = moment-or q step ∙ ap (λ o. unwrap_or o (moment run m q)) (or_at-own q)
 

@@ -25,14 +25,14 @@ module _ (k : ℕ) (run : Course) (lawful : IsLawful k run) (party hash began la
   abbrev pub place_of_last : ℕ
   place_of_last = place (bits_of run) hash own.index
 
-  -- it answers the last bit that it looked at
+  -- a look-up answers the last bit that it looked at
   last_bit : answer ≡ bit_is_on own.final.found place_of_last
   last_bit =
       let says = own.is.last own.index own.final own.is_final own.closes in
       same-answer answer _
       (sym own.final_ended ∙ says own.index own.final own.is_final own.closes)
 
-  -- as it stood before its last load
+  -- a look-up answers its last bit as it stood before its last load
   pub last_look : answer ≡ moment run last place_of_last
   last_look =
       last_bit
@@ -76,7 +76,7 @@ module _ (k : ℕ) (run : Course) (lawful : IsLawful k run) (party hash began la
     | inr l ↦ l
   ]
 
-  -- undisturbed, a bit that it found on is on at its last load
+  -- where a look-up is undisturbed, a bit that it found on is on at its last load
   still_on : IsUndisturbed k run hash began last → (i : ℕ) (t : Taken) → i < k
       → slice_get own.s i ≡ Some t → bit_is_on t.found (place (bits_of run) hash i) ≡ true
       → moment run last (place (bits_of run) hash i) ≡ true
@@ -91,7 +91,7 @@ module _ (k : ℕ) (run : Course) (lawful : IsLawful k run) (party hash began la
       (λ j l u turns.
       not_turned_off run j q (calm j q (omega arith) (omega arith) here) turns)
 
-  -- undisturbed, a look-up that hits is right
+  -- a look-up that is undisturbed and hits is right
   hits : IsUndisturbed k run hash began last → answer ≡ true
       → are_in (bits_of run) k hash (moment run last) ≡ true
   hits calm hit =
@@ -101,7 +101,7 @@ module _ (k : ℕ) (run : Course) (lawful : IsLawful k run) (party hash began la
       let (t, got) = some_member own.s i (omega arith) in
       still_on calm i t below got (found_on hit i t got))
 
-  -- it is right at its last load
+  -- a look-up is right at its last load
   pub right : IsFinished run party (Contains hash) began last (Answer answer)
       → IsRightAt k run hash began last last answer
   right fin =

@@ -22,7 +22,7 @@ count_below-none (suc n) f none =
     ap (λ b. if b then count_below n f + 1 else count_below n f) (none n (omega arith))
     ∙ count_below-none n f (λ i l. none i (omega arith))
 
--- one number more
+-- one number more below the bound
 pub count_below-more : (n at : ℕ) (f g : ℕ → Bool) → ((i : ℕ) → i ≢ at → f i ≡ g i) → f at ≡ false
     → g at ≡ true
     → at < n → count_below n g ≡ count_below n f + 1
@@ -46,7 +46,7 @@ count_below-more (suc n) at f g same off on l = elim (eqb_tells n at) [
     go true c = refl
     go false c = refl
 
--- of a part, and of the rest
+-- the numbers that pass are those of a part and those of the rest
 pub count_below-part : (n : ℕ) (f g : ℕ → Bool) → ((i : ℕ) → f i ≡ true → g i ≡ true)
     → count_below n g ≡ count_below n f + count_below n (λ i. g i && not (f i))
 count_below-part zero f g part = refl
@@ -62,7 +62,7 @@ count_below-part (suc n) f g part =
     go false true p q x y z e = omega (arith, e)
     go false false p q x y z e = e
 
--- below a number, and above it
+-- the numbers that pass are those below a number and those from it on
 count_below-split : (b a n : ℕ) (f : ℕ → Bool) → n ≡ b + a
     → count_below n f ≡ count_below a f + count_below b (λ j. f (j + a))
 count_below-split zero a n f e =
@@ -83,7 +83,7 @@ count_below-split (suc b) a (suc n) f e =
     go true x y z e = omega (arith, e)
     go false x y z e = e
 
--- where n numbers from a place on are taken away, it is those less
+-- where n numbers from a place on are taken away, the count is less by them
 count_below-less : (all rest n at : ℕ) (f g h : ℕ → Bool) → all ≡ rest + (n + at)
     → ((j : ℕ) → j < n → (h j ≡ f (j + at)) × (g (j + at) ≡ false))
     → ((p : ℕ) → (p < at) ⊎ (n + at ≤ p) → f p ≡ g p)
@@ -101,7 +101,7 @@ count_below-less all rest n at f g h e part same =
     (λ j l. same (j + (n + at)) (inr (omega arith))) in
     omega (arith, f-all, f-low, g-all, g-low, low, mid, gone, high)
 
--- where a word is taken away, it is the word's bits less
+-- where a word is taken away, the count is less by the word's bits
 pub count_below-word : (w i word : ℕ) (f g : ℕ → Bool) → i < w
     → ((p : ℕ) → p / 64 ≡ i → (bit_is_on word p ≡ f p) × (g p ≡ false))
     → ((p : ℕ) → p / 64 ≢ i → f p ≡ g p)

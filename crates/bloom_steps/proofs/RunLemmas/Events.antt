@@ -12,18 +12,19 @@ use Rattle.bloom_steps.specs.declared.steps.vocabulary.Record.TheVariants.{Began
 use Rattle.bloom_steps.specs.declared.steps.vocabulary.Step.{Step}
 use Rattle.bloom_steps.specs.Courses.{Gives, runs}
 use Rattle.bloom_steps.specs.Memories.{found_in}
-use Rattle.bloom_steps.specs.Worlds.{Grows, IsWorldOf, slot_runs}
+use Rattle.bloom_steps.specs.Worlds.{RecordsGrow, IsWorldOf, slot_runs}
 use Rattle.bloom_steps.proofs.RunLemmas.Worlds.{runs-slot}
 
 -- records grow by nothing
 pub grows-none : (parties : ℕ) (e : Event) (before : List Record) → Gives parties before e []
-    → Grows parties e before before
+    → RecordsGrow parties e before before
 grows-none parties e before gives =
     record { added = []; same = sym (append-nil before); gives = gives }
 
--- or by one
+-- records grow by one
 pub grows-one : (parties : ℕ) (e : Event) (before after : List Record) (r : Record)
-    → after ≡ before ++ r ∷ [] → Gives parties before e (r ∷ []) → Grows parties e before after
+    → after ≡ before ++ r ∷ [] → Gives parties before e (r ∷ [])
+    → RecordsGrow parties e before after
 grows-one parties e before after r same gives =
     record { added = r ∷ []; same = same; gives = gives }
 
@@ -31,28 +32,28 @@ grows-one parties e before after r same gives =
 module _ (k : ℕ) (world : World) (is : IsWorldOf k world) (p : ℕ)
     (within : p < length world.machines.items) (slot : Option Machine)
     (at : slice_index_or world.machines.items p None ≡ slot) where
-  -- whether it runs a call is whether its machine does
+  -- the party runs a call exactly if its machine does
   runs-so : runs p world.records.items ≡ slot_runs slot
   runs-so = runs-slot k _ _ _ _ is p within slot at
 
-  -- where it runs a call it begins none
+  -- a party that runs a call begins none
   pub gives-busy : (call : Call) → slot_runs slot ≡ true
       → Gives (length world.machines.items) world.records.items (Begin p call) []
   gives-busy call running = inr (record { busy = λ _. runs-so ∙ running; same = refl })
 
-  -- and else it begins one
+  -- a party that runs no call begins one
   pub gives-begun : (call : Call) → slot_runs slot ≡ false
       → Gives (length world.machines.items) world.records.items (Begin p call)
       (Began p call ∷ [])
   gives-begun call idle =
       inl (record { within = within; idle = runs-so ∙ idle; same = refl })
 
-  -- where it runs none it makes no step
+  -- a party that runs no call makes no step
   pub gives-idle : (given : ℕ) → slot_runs slot ≡ false
       → Gives (length world.machines.items) world.records.items (Go p given) []
   gives-idle given idle = inr (record { idle = runs-so ∙ idle; same = refl })
 
-  -- and else it makes one, which finds the word given where it reads the other filter
+  -- a party that runs a call makes a step, which finds the word given if it reads the other filter
   pub gives-step : (given : ℕ) (step : Step) (found : ℕ) (e : End) → slot_runs slot ≡ true
       → found ≡ found_in world.words.items given step
       → Gives (length world.machines.items) world.records.items (Go p given)

@@ -7,7 +7,7 @@ use Rattle.std.specs.Prelude.{slice_index_or}
 use Rattle.bloom_steps.specs.declared.steps.vocabulary.Event.{Event}
 use Rattle.bloom_steps.specs.declared.steps.vocabulary.Record.{Record}
 use Rattle.bloom_steps.specs.Courses.{FollowsFrom, Gives, next_event, no_event}
-use Rattle.bloom_steps.specs.Worlds.{Grows, IsWorldOf, Happens}
+use Rattle.bloom_steps.specs.Worlds.{RecordsGrow, IsWorldOf, Happens}
 use Rattle.bloom_steps.proofs.StepLemmas.Members.{take-more}
 
 -- one event more
@@ -37,11 +37,11 @@ take-read xs i d within = take-more xs i (slice_index_or xs i d) (slice_get-get_
 pub follows-next :
     (count parties : ℕ) (schedule : List Event) (i : ℕ) (d : Event) (before after : List Record)
     → count ≡ parties → i < length schedule → FollowsFrom parties [] (take i schedule) before
-    → Grows count (slice_index_or schedule i d) before after
+    → RecordsGrow count (slice_index_or schedule i d) before after
     → FollowsFrom parties [] (take (i + 1) schedule) after
 follows-next count parties schedule i d before after all within so grows =
     let event = slice_index_or schedule i d in
-    let g = subst (λ n. Grows n event before after) all grows in
+    let g = subst (λ n. RecordsGrow n event before after) all grows in
     subst (λ es. FollowsFrom parties [] es after) (sym (take-read schedule i d within))
     (subst (λ rs. FollowsFrom parties [] (take i schedule ++ event ∷ []) rs) (sym g.same)
     (follows-more parties [] (take i schedule) before event g.added so g.gives))
@@ -57,7 +57,7 @@ pub record HasRun
   pub recorded : vec_len now.records ≤ i
   pub room : length schedule ≤ vec_capacity now.records
 
--- before the first event it has run
+-- the run before the first event
 pub run-first : (k parties : ℕ) (words : List ℕ) (schedule : List Event) (world : World)
     → IsWorldOf k world → length world.machines.items ≡ parties → world.start.items ≡ words
     → world.records.items ≡ [] → vec_len world.records ≡ 0
@@ -79,7 +79,7 @@ HappensInRoom k event old new = record {
   count : vec_len new.records ≤ vec_len old.records + 1;
 }
 
--- and after each event
+-- the run after one event more
 pub run-next : (k parties : ℕ) (words : List ℕ) (schedule : List Event) (i : ℕ) (d : Event)
     (old new : World)
     → i < length schedule → HasRun k parties words schedule i old

@@ -13,7 +13,7 @@ use Rattle.bloom_steps.proofs.RunLemmas.RunningCalls.{OneEnd, newest-call, one_e
 use Rattle.bloom_steps.proofs.RunLemmas.PartyRecords.{mine_or_not, records_of-mine, records_of-none, records_of-other}
 use Rattle.bloom_steps.proofs.StepLemmas.Whole.{script_some}
 
--- calls made one at a time are so in later records too
+-- calls made one at a time are made so in later records too
 pub one_later : (xs ys : List Record) → OneAtATime (xs ++ ys) → OneAtATime ys
 one_later xs ys one m p q a b = one (length xs + m) p q (more p a) (more q b)
   where
@@ -61,7 +61,7 @@ record Front (p : ℕ) (s : List Taken) (later rest : List Record) : Type 0 wher
   pub own : records_of p after ≡ later
   pub others : (q : ℕ) → q ≢ p → records_of q after ≡ records_of q rest
 
--- one step more in front
+-- one step more of the call in front
 front-more : (p : ℕ) (t : Taken) (s : List Taken) (later : List Record) (r : Record)
     (rest : List Record) → r ≡ Did p t.step t.found t.ended
     → ((q : ℕ) → q ≢ p → records_of q (r ∷ rest) ≡ records_of q rest) → Front p s later rest

@@ -51,7 +51,7 @@ paired op on w q s j t does is pairs count g e bit =
 -- a lawful run of calls that turn nothing off
 module _ (k : ℕ) (run : Course) (lawful : IsLawful k run)
     (none_off : EveryCall turns_none_off run.records) where
-  -- after a step that makes a position on it is so to the end
+  -- a position that a step makes on stays on to the end
   stays : (q m p : ℕ) (step : Step) (found : ℕ) (e : End)
       → slice_get run.records m ≡ Some (Did p step found e)
       → step_decides step q ≡ Some true → content run.words q ≡ true
@@ -63,7 +63,7 @@ module _ (k : ℕ) (run : Course) (lawful : IsLawful k run)
 
   -- where every call has ended
   module _ (ended : EveryCallEnded run.records) where
-    -- then each call of a record is whole
+    -- where every call has ended each call of a record is whole
     is_whole : (p : ℕ) (call : Call) (s : List Taken)
         → IsScript
         (length run.start) k call s ⊎ (IsBeginning
@@ -97,7 +97,7 @@ module _ (k : ℕ) (run : Course) (lawful : IsLawful k run)
           | inr of ↦ absurd (let e = of.3 in cc)
         ]
 
-    -- and what a call found in the other filter
+    -- what the step after a read makes on is on at the end
     made_on : (q p : ℕ) (plan : Plan) (s : List Taken) (j : ℕ) (t : Taken) → PlanDecides plan
         → turns_none_off plan ≡ true → HasSteps run p s
         → Fulfils (length run.start) k plan s → IsPlacedAt (length run.start) k plan s j t
@@ -113,7 +113,7 @@ module _ (k : ℕ) (run : Course) (lawful : IsLawful k run)
         let n = steps u.0 u.1 u.2 in
         stays q n.0 p u.1.step u.1.found u.1.ended n.1 u.3
 
-    -- so what was found on there is on
+    -- what was found on in the other filter is on at the end
     found_there : (q : ℕ) → IsFoundInOther run q → content run.words q ≡ true
     found_there q x =
         let h = step_held k run lawful x.m x.party (Other (q / 64)) x.found x.ended x.reads in
@@ -124,7 +124,8 @@ module _ (k : ℕ) (run : Course) (lawful : IsLawful k run)
         (is_whole x.party call h.of.s h.of.kind) h.at h.here h.same_step
         (ap (λ f. bit_is_on f q) h.same_found ∙ x.on)
 
-    -- what is on at the end was on at the start, inserted, or found there; and the other way round
+    -- what is on at the end was on at the start, inserted, or found in the other filter; each of
+    -- those is on
     pub on_at_end : (q : ℕ) → (content run.words q ≡ true)
         ↔ ((content run.start q ≡ true) ⊎ (IsInserted k run q ⊎ IsFoundInOther run q))
     on_at_end q = (

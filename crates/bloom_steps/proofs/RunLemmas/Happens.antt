@@ -12,7 +12,7 @@ use Rattle.bloom_steps.specs.declared.steps.vocabulary.Record.TheVariants.{Began
 use Rattle.bloom_steps.specs.declared.steps.vocabulary.Step.{Step}
 use Rattle.bloom_steps.specs.Courses.{Gives}
 use Rattle.bloom_steps.specs.Machines.{AsksRight, StandsFurther}
-use Rattle.bloom_steps.specs.Memories.{found_in, words_after}
+use Rattle.bloom_steps.specs.Memories.{found_in, words_after_step}
 use Rattle.bloom_steps.specs.Standing.{StandsAt, asks, end_of}
 use Rattle.bloom_steps.specs.Steps.{word_index}
 use Rattle.bloom_steps.specs.Worlds.{Happens, IsWorld, IsWorldOf, slot_runs}
@@ -32,7 +32,7 @@ record Writes (old new : World) (p : ℕ) (words : List ℕ) (m : Machine) (r : 
 module _ (k : ℕ) (world : World) (is : IsWorldOf k world) (p : ℕ)
     (within : p < length world.machines.items) (slot : Option Machine)
     (read : slot ≡ slice_index_or world.machines.items p slot) where
-  -- its slot
+  -- the party's slot is what was read
   at : slice_index_or world.machines.items p None ≡ slot
   at = slot-read world.machines.items p slot within read
 
@@ -50,7 +50,7 @@ module _ (k : ℕ) (world : World) (is : IsWorldOf k world) (p : ℕ)
     grows = grows-one _ _ _ _ r writes.records gives;
   }
 
-  -- where it runs a call it begins none
+  -- a party that runs a call begins none
   pub happens-busy : (call : Call) → slot_runs slot ≡ true → Happens k (Begin p call) world world
   happens-busy call running = record {
     keeps = is;
@@ -59,7 +59,7 @@ module _ (k : ℕ) (world : World) (is : IsWorldOf k world) (p : ℕ)
     grows = grows-none _ _ _ (gives-busy k world is p within slot at call running);
   }
 
-  -- and else it begins one
+  -- a party that runs no call begins one
   pub happens-begun : (call : Call) (m : Machine) (new : World) (count : ℕ)
       → slot_runs slot ≡ false → count ≡ vec_len world.words → StandsAt m count k call []
       → new.start.items ≡ world.start.items → new.words.items ≡ world.words.items
@@ -73,14 +73,14 @@ module _ (k : ℕ) (world : World) (is : IsWorldOf k world) (p : ℕ)
       (begin_keeps k _ _ _ _ is p within call m count all (ap slot_runs at ∙ idle) stands)
       (gives-begun k world is p within slot at call idle)
 
-  -- where it has a machine
+  -- a party that has a machine
   module _ (m : Machine) (here : slot ≡ Some m) where
     -- the step asked for is on one of the words
     pub step-within : (step : Step) → AsksRight m (Some step)
         → word_index step < length world.words.items
     step-within step asks_right = step_inside k _ _ _ _ is p within m step (at ∙ here) asks_right
 
-    -- where that asks for no step, none is made, and the machine is written back
+    -- a machine that asks for no step makes none, and is written back
     pub happens-idle : (given : ℕ) → asks m ≡ None
         → Happens k (Go p given) world
         (record world { machines = with_item world.machines p (Some m) })
@@ -93,12 +93,12 @@ module _ (k : ℕ) (world : World) (is : IsWorldOf k world) (p : ℕ)
           (gives-idle k world is p within slot at given (ap slot_runs here ∙ asks-over m over));
     }
 
-    -- and else it makes one
+    -- a machine that asks for a step makes it
     pub happens-step : (given word : ℕ) (step : Step) (n : Machine) (ended : End) (new : World)
         → asks m ≡ Some step → AsksRight m (Some step) → StandsFurther m word n → ended ≡ end_of n
         → record {
           found : word ≡ found_in world.words.items given step;
-          words : new.words.items ≡ words_after world.words.items step;
+          words : new.words.items ≡ words_after_step world.words.items step;
           fits : word < 2 ^ 64;
         }
         → new.start.items ≡ world.start.items
@@ -106,7 +106,7 @@ module _ (k : ℕ) (world : World) (is : IsWorldOf k world) (p : ℕ)
         → new.records.items ≡ world.records.items ++ Did p step word ended ∷ []
         → Happens k (Go p given) world new
     happens-step given word step n ended new asked right further is_end made start machines more =
-        happens-written new (Go p given) (words_after world.words.items step) n
+        happens-written new (Go p given) (words_after_step world.words.items step) n
         (Did p step word (end_of n))
         (record {
           start = start;

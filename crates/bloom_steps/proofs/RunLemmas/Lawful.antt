@@ -10,7 +10,7 @@ use Rattle.bloom_steps.specs.Worlds.{IsWorld, PartyAt}
 use Rattle.bloom_steps.proofs.RunLemmas.PartyCalls.{calls-party}
 use Rattle.bloom_steps.proofs.RunLemmas.PartyRecords.{records_of-none}
 
--- before the first event
+-- the world before the first event
 pub first_world : (k : ℕ) (start words : List ℕ) (machines : List (Option Machine))
     → 1 ≤ length start
     → length start < 2 ^ 58 → 1 ≤ k → words ≡ start

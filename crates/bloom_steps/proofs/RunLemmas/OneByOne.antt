@@ -60,7 +60,7 @@ module _ (w k : ℕ) (some_words : 1 ≤ w) (some_hashes : 1 ≤ k) where
       (ended_after w k r rest first ended) in
       (record { call = first.call; taken = first.s } ∷ made, with_first w k r rest first made more)
 
-  -- so are all
+  -- all records are whole calls, one after the other
   pub one_by_one : (rs : List Record) → ((q : ℕ) → CallAfterCall w k q (records_of q rs))
       → OneAtATime rs → EveryCallEnded rs
       → (made : List MadeCall) × OneByOne w k rs made

@@ -68,19 +68,19 @@ is_last s one i t g over =
 module _ (k : ℕ) (run : Course) (lawful : IsLawful k run) (some_words : 1 ≤ length run.start)
     (some_hashes : 1 ≤ k) (p : ℕ) (call : Call) (began last : ℕ) (ended : End)
     (fin : IsFinished run p call began last ended) where
-  -- the records after its beginning
+  -- the records after the call's beginning
   abbrev mid : List Record
   mid = drop (suc began) run.records
 
-  -- the number of those before its last one
+  -- the number of records between the call's beginning and its last record
   abbrev n : ℕ
   n = last - suc began
 
-  -- its last step
+  -- the call's last step
   abbrev final : Taken
   final = record { step = fin.ends.step; found = fin.ends.found; ended = ended }
 
-  -- its party's records
+  -- the records of the call's party
   own : records_of p run.records ≡ records_of p
       (take began run.records) ++ Began p call ∷ records_of p mid
   own =
@@ -89,21 +89,21 @@ module _ (k : ℕ) (run : Course) (lawful : IsLawful k run) (some_words : 1 ≤ 
       ∙ ap (λ l. records_of p (take began run.records) ++ l)
       (records_of-mine p (Began p call) mid refl)
 
-  -- what its party's later records begin with
+  -- what the later records of the call's party begin with
   seg : Segment (length run.start) k p call (records_of p mid)
   seg =
       segment (length run.start) k p (records_of p run.records)
       (records_of p (take began run.records)) (records_of p mid) call (lawful.calls p) own
 
-  -- a record after its beginning
+  -- a record after the call's beginning
   at : (m q : ℕ) → q ≡ suc began + m → slice_get mid m ≡ slice_get run.records q
   at = member-drop run.records (suc began)
 
-  -- its last record
+  -- the call's last record
   there : slice_get mid n ≡ Some (Did p final.step final.found final.ended)
   there = let order = fin.order in at n last (omega arith) ∙ fin.ends.here
 
-  -- its last record ends it
+  -- the call's last record ends it
   ends : EndsAt mid p n final
   ends = record {
     here = there;
@@ -126,7 +126,7 @@ module _ (k : ℕ) (run : Course) (lawful : IsLawful k run) (some_words : 1 ≤ 
       did-got p s its.0 p final (sym (ap (λ l. slice_get l its.0) same) ∙ its.1) in
       fin.over (beginning_runs (length run.start) k call s its.0 final begins member)
 
-  -- its records are those of a script
+  -- the call's records are those of a script
   module _ (s : List Taken) (is : IsScript (length run.start) k call s)
       (front : records_of p (take (suc n) mid) ≡ did p s) where
     -- a step of the script has a record
@@ -157,7 +157,7 @@ module _ (k : ℕ) (run : Course) (lawful : IsLawful k run) (some_words : 1 ≤ 
         (member-take mid (suc n) (m - suc began) r (omega arith) here) refl in
         (i, did-got p s i p t (sym (ap (λ l. slice_get l i) front) ∙ own_at))
 
-    -- the script has them, and its last step ends the call
+    -- the script has the records of the call, and its last step ends the call
     with_records : OneEnd s → OwnScript k run p call began last ended
     with_records one =
         let order = fin.order in

@@ -69,7 +69,7 @@ words-at op j _ plain (one_pair _ t u rest load write more) (suc i) v g =
     ap (λ l. slice_get l (suc i)) (words-pair op j t u rest (plain j t.found u.found) load write)
     ∙ words-at op (j + 1) rest plain more i v (sym (ap (slice_get (t ∷ (u ∷ rest))) twice) ∙ g)
 
--- there is a word for each pair
+-- each two steps find one word of the other filter
 words-length : (op : ℕ → ℕ → Step) (j : ℕ) (s : List Taken)
     → ReadsNoOther op → PairsFrom op j s
     → 2 * length (other_words s) ≡ length s
@@ -83,7 +83,7 @@ words-length op j _ plain (one_pair _ t u rest load write more) =
 -- a whole list of pairs
 module _ (op : ℕ → ℕ → Step) (on : Bool) (by : TurnsBy op on) (plain : ReadsNoOther op)
     (w : ℕ) (s : List Taken) (pairs : ArePairs op s) (l : length s ≡ 2 * w) where
-  -- they are pairs from word 0 on
+  -- the steps are pairs from word 0 on
   from_start : PairsFrom op 0 s
   from_start =
       let none : (i : ℕ) → i ≡ 0 + i = λ i. omega arith in
@@ -134,7 +134,7 @@ module _ (op : ℕ → ℕ → Step) (on : Bool) (by : TurnsBy op on) (plain : R
         ]
   ]
 
-  -- and within the words the pair of its word does decide it
+  -- within the words the pair of a position's word does decide it
   pub pairs-steps : (p : ℕ) (A : ℕ → Bool) (q : ℕ) → q / 64 < w
       → after_records A (did p s) q ≡ unwrap_or (made on (content (other_words s) q)) (A q)
   pairs-steps p A q inside =

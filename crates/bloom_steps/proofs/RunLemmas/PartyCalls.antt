@@ -21,7 +21,7 @@ use Rattle.bloom_steps.proofs.StepLemmas.Driving.{asked-within}
 
 -- a party among w words and k hashes
 module _ (w k p : ℕ) where
-  -- it runs a call where its machine does
+  -- the party runs a call exactly if its machine does
   pub runs-party : (slot : Option Machine) (rs : List Record) → PartyAt w k p slot rs
       → last_leaves_running rs ≡ slot_runs slot
   runs-party None rs at = ap last_leaves_running at
@@ -29,7 +29,7 @@ module _ (w k p : ℕ) where
       ap last_leaves_running at.same ∙ newest-append at.earlier (did p at.taken) (Began p at.call)
       ∙ newest-call p at.call at.taken ∙ still_runs-machine m w k at.call at.taken at.stands
 
-  -- its records are call after call
+  -- the party's records are call after call
   pub calls-party : (slot : Option Machine) (rs : List Record) → PartyAt w k p slot rs
       → CallAfterCall w k p rs
   calls-party None rs at = subst (CallAfterCall w k p) (sym at) no_call
@@ -60,14 +60,14 @@ module _ (w k p : ℕ) where
       over true e = refl
       over false e = absurd (both_ways true e refl)
 
-  -- a step that its machine asks for is on one of the words
+  -- a step that the party's machine asks for is on one of the words
   pub step-within : (m : Machine) (rs : List Record) (step : Step) → HasCalled w k p m rs
       → AsksRight m (Some step)
       → word_index step < w
   step-within m rs step at asks_right =
       asked-within w k at.call at.taken step (asks_right w k at.call at.taken at.stands)
 
-  -- a step more of its call
+  -- a step more of the party's call
   pub step-party : (m n : Machine) (rs : List Record) (step : Step) (found : ℕ)
       → HasCalled w k p m rs
       → StandsFurther m found n → asks m ≡ Some step

@@ -8,14 +8,14 @@ use Rattle.bloom_steps.specs.declared.steps.vocabulary.Record.TheVariants.{Began
 use Rattle.bloom_steps.specs.Scripts.{Taken}
 use Rattle.bloom_steps.specs.Courses.{did, party_of, records_of}
 
--- its own record stays, another's goes
+-- a record of the party's own stays
 pub records_of-mine : (p : ℕ) (r : Record) (rs : List Record) → party_of r ≡ p
     → records_of p (r ∷ rs) ≡ r ∷ records_of p rs
 unfolding records_of
 records_of-mine p r rs e =
     ap (λ b. if b then r ∷ records_of p rs else records_of p rs) (eq-eqb _ _ e)
 
--- another's record goes
+-- a record of another party goes
 pub records_of-other : (p : ℕ) (r : Record) (rs : List Record) → party_of r ≢ p
     → records_of p (r ∷ rs) ≡ records_of p rs
 unfolding records_of
@@ -25,7 +25,7 @@ records_of-other p r rs ne =
       | inr n ↦ ap (λ b. if b then r ∷ records_of p rs else records_of p rs) n.0
     ]
 
--- of no records none is its own
+-- a party has none of no records
 pub records_of-none : (p : ℕ) → records_of p [] ≡ []
 unfolding records_of
 records_of-none p = refl
@@ -34,7 +34,7 @@ records_of-none p = refl
 pub mine_or_not : (p : ℕ) (r : Record) → (party_of r ≡ p) ⊎ (party_of r ≢ p)
 mine_or_not p r = elim (eqb_tells (party_of r) p) [ inl y ↦ inl y.1 | inr n ↦ inr n.1 ]
 
--- its own of two lists, one after the other
+-- a party's own records of two lists, one after the other
 pub records_of-append : (p : ℕ) (xs ys : List Record)
     → records_of p (xs ++ ys) ≡ records_of p xs ++ records_of p ys
 records_of-append p [] ys = ap (λ l. l ++ records_of p ys) (sym (records_of-none p))
@@ -55,7 +55,7 @@ own_at : (p : ℕ) (x : Record) (xs : List Record) (i : ℕ) (r : Record)
 own_at p x xs zero r rec f = (0, f)
 own_at p x xs (suc j) r rec f = let rest = rec j f in (suc rest.0, rest.1)
 
--- its own record stands among all
+-- a party's own record stands among all
 pub record_of_own : (p : ℕ) (xs : List Record) (i : ℕ) (r : Record)
     → slice_get (records_of p xs) i ≡ Some r → (m : ℕ) × (slice_get xs m ≡ Some r)
 record_of_own p [] i r e =
@@ -72,7 +72,7 @@ record_of_own p (x ∷ xs) i r e =
           (suc rest.0, rest.1)
     ]
 
--- and a record of the party among its own
+-- a record of the party stands among its own
 pub own_of_record : (p : ℕ) (xs : List Record) (m : ℕ) (r : Record) → slice_get xs m ≡ Some r
     → party_of r ≡ p → (i : ℕ) × (slice_get (records_of p xs) i ≡ Some r)
 own_of_record p [] m r e y = absurd (none-some r e)
@@ -92,7 +92,7 @@ own_of_record p (x ∷ xs) (suc m) r e y =
       )
     ]
 
--- one more record of its own
+-- one more record of the party's own
 pub records_of-more : (p : ℕ) (rs : List Record) (r : Record) → party_of r ≡ p
     → records_of p (rs ++ r ∷ []) ≡ records_of p rs ++ r ∷ []
 records_of-more p rs r e =
@@ -100,7 +100,7 @@ records_of-more p rs r e =
     ∙ ap (λ l. records_of p rs ++ l)
     (records_of-mine p r [] e ∙ ap (λ l. r ∷ l) (records_of-none p))
 
--- one more record of another's
+-- one more record of another party
 pub records_of-same : (p : ℕ) (rs : List Record) (r : Record) → party_of r ≢ p
     → records_of p (rs ++ r ∷ []) ≡ records_of p rs
 records_of-same p rs r e =
@@ -145,7 +145,7 @@ did-take p zero s = refl
 did-take p (suc n) [] = refl
 did-take p (suc n) (t ∷ s) = ap (λ l. Did p t.step t.found t.ended ∷ l) (did-take p n s)
 
--- the same records are of the same steps
+-- equal records are of equal steps
 pub did-same : (p : ℕ) (s u : List Taken) → did p s ≡ did p u → s ≡ u
 did-same p [] [] e = refl
 did-same p [] (t ∷ u) e = absurd (cc)

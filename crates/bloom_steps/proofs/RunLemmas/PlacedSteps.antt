@@ -49,7 +49,7 @@ pub record IsFront (w k : ℕ) (call : Call) (s : List Taken) : Type 0 where
   pub is : IsScript w k call full
   pub front : (i : ℕ) (t : Taken) → slice_get s i ≡ Some t → slice_get full i ≡ Some t
 
--- a call that a record is of is such a front
+-- the steps of a call that a record is of are a script, or the front of one
 pub front_of :
     (w k p : ℕ) (rs : List Record) (going : Bool) (r : Record) (h : Holds w k p rs going r)
     → IsFront w k h.call h.s
@@ -108,7 +108,7 @@ placed_in w k (EachWord op) s full count steps front j t g =
 placed_in w k (EachPair op on) s full count steps front j t g =
     pair-placed w op s full j t steps count front g
 
--- so does each step of a call
+-- each step of a call stands where its plan has it
 pub placed : (w k : ℕ) (call : Call) (s : List Taken) → IsFront w k call s → (j : ℕ) (t : Taken)
     → slice_get s j ≡ Some t
     → IsPlacedAt w k (plan_of call) s j t

@@ -26,7 +26,7 @@ which_of p call s (suc i) r g = inr (step s i g)
     step (t ∷ s) zero g = (0, t, refl, sym (same_Some _ _ g))
     step (t ∷ s) (suc i) g = let rest = step s i g in (suc rest.0, rest.1, rest.2, rest.3)
 
--- among the records of its party
+-- the call of a record, among the records of its party
 held_in : (w k p : ℕ) (rs : List Record) (i : ℕ) (r : Record) → CallAfterCall w k p rs
     → slice_get rs i ≡ Some r
     → Holds w k p rs (last_leaves_running rs) r
@@ -70,7 +70,7 @@ held_in w k p _ i r (whole_call call s later is more) g =
           }
     ]
 
--- the call of a step, and its place there
+-- the call of a step, and the step's place in it
 pub record HoldsStep
     (w k p : ℕ) (rs : List Record) (going : Bool) (r : Record) (step : Step)
     (found : ℕ) : Type 0 where

@@ -35,7 +35,7 @@ pub record OneEnd (s : List Taken) : Type 0 where
   pub running : Each s (λ i t. i + 1 < length s → t.ended ≡ Running)
   pub ended : Each s (λ i t. i + 1 ≡ length s → t.ended ≢ Running)
 
--- so it is after the first step
+-- steps that have one end have one after the first step too
 pub one_end-later : (t u : Taken) (s : List Taken) → OneEnd (t ∷ (u ∷ s)) → OneEnd (u ∷ s)
 one_end-later t u s one = record {
   some = omega arith;
@@ -66,7 +66,7 @@ leaves-did p step found Running = refl
 leaves-did p step found Done = refl
 leaves-did p step found (Answer b) = refl
 
--- records of steps leave it running as the last does
+-- records of steps leave a call running as the last does
 newest-did : (p : ℕ) (t : Taken) (s : List Taken)
     → last_leaves_running (did p (t ∷ s)) ≡ still_runs (t ∷ s)
 newest-did p t [] = leaves-did p t.step t.found t.ended
@@ -92,7 +92,7 @@ runs_after p xs ys e =
     ap last_leaves_running (records_of-append p xs ys)
     ∙ newest_kept (records_of p xs) (records_of p ys) e
 
--- where each step leaves the call running it goes on
+-- where each step leaves the call running the call goes on
 still_runs-all : (s : List Taken) → Each s (λ i t. t.ended ≡ Running) → still_runs s ≡ true
 still_runs-all [] all = refl
 still_runs-all (t ∷ []) all = ap is_running (all 0 t refl)
@@ -104,7 +104,7 @@ pub still_runs-beginning : (w k : ℕ) (call : Call) (s : List Taken) → IsBegi
 still_runs-beginning w k call s begun =
     still_runs-all s (λ i t g. beginning_runs w k call s i t begun g)
 
--- whether it goes on is what the last step says
+-- whether a call goes on is what the last step says
 still_runs-last : (s : List Taken) (i : ℕ) (t : Taken) → slice_get s i ≡ Some t → i + 1 ≡ length s
     → still_runs s ≡ is_running t.ended
 still_runs-last [] i t g l = absurd (none-some t g)

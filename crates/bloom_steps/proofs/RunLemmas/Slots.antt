@@ -28,7 +28,7 @@ asks-going m step e = go m.ended e
     go true f = absurd (none-some _ f)
     go false f = refl
 
--- and where it asks for none it has ended
+-- where a machine asks for no step its call has ended
 pub asks-over : (m : Machine) → asks m ≡ None → not m.ended ≡ false
 asks-over m e = go m.ended e
   where

@@ -20,7 +20,8 @@ use Rattle.bloom_steps.proofs.StepLemmas.Members.{some_member}
 module _ (k : ℕ) (run : Course) (lawful : IsLawful k run)
     (each : (m p : ℕ) (call : Call) → slice_get run.records m ≡ Some (Began p call)
     → adds_or_takes call ≡ true) where
-  -- at each moment, what was on and what was turned on since is what was taken and what is on
+  -- at each moment, the positions of the start and those turned on since are those taken and those
+  -- on
   balance : (m : ℕ) → m ≤ length run.records → IsBalanced run m
   balance zero l = omega arith
   balance (suc m) l =

@@ -12,7 +12,7 @@ use Rattle.bloom_steps.specs.declared.steps.vocabulary.Step.{Step}
 use Rattle.bloom_steps.specs.declared.steps.vocabulary.Step.TheVariants.{And, Load, Or, Other, Take, Zero}
 use Rattle.bloom_steps.specs.declared.steps.machine.Machine.{Machine}
 use Rattle.bloom_steps.specs.Standing.{StandsAt, asks, end_of}
-use Rattle.bloom_steps.specs.Memories.{found_in, words_after}
+use Rattle.bloom_steps.specs.Memories.{found_in, words_after_step}
 use Rattle.bloom_steps.specs.Steps.{after_records, step_decides, word_index}
 use Rattle.bloom_steps.specs.Courses.{FindsWhatIsThere, IsWordOf, MayFind, records_of, runs}
 use Rattle.bloom_steps.specs.Machines.{AsksRight, StandsFurther}
@@ -22,7 +22,7 @@ use Rattle.bloom_steps.proofs.StepLemmas.Deciding.{records-more}
 use Rattle.bloom_steps.proofs.StepLemmas.Members.{member_of_more}
 use Rattle.bloom_steps.proofs.StepLemmas.Writing.{content-step, content-word, length-step}
 
--- one more record, which finds what is there
+-- records find what is there, also with one more that does
 finds-more : (A : ℕ → Bool) (rs : List Record) (r : Record) → FindsWhatIsThere A rs
     → ((party : ℕ) (step : Step) (found : ℕ) (e : End) → r ≡ Did party step found e
     → MayFind (after_records A rs) step found)
@@ -109,13 +109,13 @@ module _ (k : ℕ) (start words : List ℕ) (machines : List (Option Machine)) (
       subst (λ n. word_index step < n) (sym world.count)
       (step-within (length start) k p m (records_of p rs) step (called m slot) asks_right)
 
-  -- a step that it makes
+  -- a step that the party makes
   pub go_keeps : (given found : ℕ) (step : Step) (m n : Machine)
       → slice_index_or machines p None ≡ Some m
       → AsksRight m (Some step) → asks m ≡ Some step → found ≡ found_in words given step
       → found < 2 ^ 64
       → StandsFurther m found n
-      → IsWorld k start (words_after words step) (slice_set machines p (Some n))
+      → IsWorld k start (words_after_step words step) (slice_set machines p (Some n))
       (rs ++ Did p step found (end_of n) ∷ [])
   go_keeps given found step m n slot asks_right asked is fits further =
       let r = Did p step found (end_of n) in
@@ -144,7 +144,7 @@ module _ (k : ℕ) (start words : List ℕ) (machines : List (Option Machine)) (
           (may_find-read
           (after_records (content start) rs) words given found step world.bits is fits))
 
-  -- whether it runs a call is whether its machine does
+  -- the party runs a call exactly if its machine does
   pub runs-slot : (o : Option Machine) → slice_index_or machines p None ≡ o
       → runs p rs ≡ slot_runs o
   runs-slot o slot =

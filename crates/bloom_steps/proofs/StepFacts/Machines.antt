@@ -1,4 +1,4 @@
--- Where a machine stands, what it asks and answers, and what is near that and isn't so.
+-- Where a machine stands, what it asks and answers, and what is near that and doesn't hold.
 use Rattle.std.proofs.Common.{◌≡◌, ◌∷◌, [], ℕ, None, Some, true, false, refl, arith, inl, lit<, ◌+◌, ◌*◌, ◌/◌, ◌%◌, ◌^◌, ◌∙◌, ◌<◌, ap, sym, subst, add-one}
 use Rattle.std.specs.Int.{rotate_left, w64}
 use Rattle.bloom_parts.specs.Places.{place}
@@ -21,7 +21,7 @@ use Rattle.bloom_steps.proofs.StepFacts.Beginnings.{begun-none, begun-one, next-
 use Rattle.bloom_steps.proofs.StepFacts.Scripts.{insert, insert-script}
 
 -- an insert of hash 1 in one word with two hashes, at its beginning
-abbrev begun : Machine
+abbrev pub begun : Machine
 begun = record {
   call = Insert 1;
   num_words = 1;
@@ -39,8 +39,8 @@ begun = record {
   room = λ e. omega arith;
 }
 
--- after a step that found its bit on
-abbrev further : Machine
+-- an insert of hash 1 after a step that found its bit on
+abbrev pub further : Machine
 further = record begun {
   turn = 1;
   chain = record { newest = 0x8114_f89c_0b63_613f; added = 0x517c_c1b7_2722_0a95 };
@@ -49,7 +49,7 @@ further = record begun {
   room = λ e. omega arith;
 }
 
--- a machine stands at its beginning
+-- a new machine stands at the beginning of its call
 stands : StandsAt begun 1 2 (Insert 1) []
 unfolding chain
 stands = record {
@@ -69,19 +69,19 @@ stands = record {
   said = refl;
 }
 
--- not at that of another call
+-- a new machine doesn't stand at the beginning of another call
 stands-another : StandsAt begun 1 2 (Insert 2) [] → ⊥
 stands-another st = let call = st.is_call in cc
 
--- nor of a call on another filter
+-- a new machine doesn't stand at the beginning of a call with another number of hashes
 stands-elsewhere : StandsAt begun 1 3 (Insert 1) [] → ⊥
 stands-elsewhere st = omega (arith, st.hashes)
 
--- nor further on
+-- a new machine doesn't stand after a step
 stands-further : StandsAt begun 1 2 (Insert 1) (took (Or 0 1) 1 Running ∷ []) → ⊥
 stands-further st = omega (arith, st.turns)
 
--- after a step it stands one step further on
+-- after a step a machine stands one step further on
 replied : StandsFurther begun 1 further
 unfolding chain
 replied w k call s step asked st = stands-more begun further w k 1 call s step asked next st
@@ -108,18 +108,18 @@ replied w k call s step asked st = stands-more begun further w k 1 call s step a
       };
     }
 
--- not where it stood
+-- after a step a machine doesn't stand where it stood
 replied-nothing : StandsFurther begun 1 begun → ⊥
 replied-nothing next = omega (arith, (next 1 2 (Insert 1) [] (Or 0 1) refl stands).turns)
 
--- wherever it stands it asks for the bit of its place
+-- wherever the machine stands it asks for the bit of its place
 asks : AsksRight begun (Some (Or 0 1))
 asks w k call s st = asks_after begun w k call s (Some (Or 0 1)) refl within st
   where
     within : (step : Step) → Standing.asks begun ≡ Some step → word_index step < 1
     within step e = subst (λ x. word_index x < 1) (same_Some (Or 0 1) step e) (omega arith)
 
--- not for a load
+-- an insert doesn't ask for a load
 asks-load : AsksRight begun (Some (Load 0)) → ⊥
 unfolding chain
 asks-load asks =
@@ -128,15 +128,15 @@ asks-load asks =
     let asked = comes.asks_it in
     cc
 
--- it answers nothing yet
+-- a new machine answers nothing yet
 answers : AnswersRight begun None
 answers w k call s st = record { says = sym st.said; begun = λ b. refl }
 
--- not that all was on
+-- a new machine doesn't answer that all was on
 answers-true_early : AnswersRight begun (Some true) → ⊥
 answers-true_early answers = let says = (answers 1 2 (Insert 1) [] stands).says in cc
 
--- an insert asks for the bit of its first place
+-- to ask for the bit of an insert's first place is right at its beginning
 asks-first : AsksAfter 1 2 (Insert 1) [] (Some (Or 0 1))
 asks-first = record {
   either = inl begun-none;
@@ -144,11 +144,11 @@ asks-first = record {
   over = λ is. absurd (omega (arith, is.count));
 }
 
--- it asks for something
+-- to ask for nothing is wrong at the beginning of an insert
 asks-none : AsksAfter 1 2 (Insert 1) [] None → ⊥
 asks-none asks = let next = (asks.begun begun-none).asks_it in cc
 
--- not for another bit
+-- to ask for another bit is wrong at the beginning of an insert
 asks-another : AsksAfter 1 2 (Insert 1) [] (Some (Or 0 2)) → ⊥
 unfolding chain
 asks-another asks =
@@ -157,22 +157,22 @@ asks-another asks =
     let asked = comes.asks_it in
     cc
 
--- a call that has ended asks for nothing
+-- to ask for anything is wrong after a whole script
 asks-over : AsksAfter 1 2 (Insert 1) insert (Some (Or 0 1)) → ⊥
 asks-over asks = let none = asks.over insert-script in cc
 
--- and answers what its script does
+-- after a whole script the answer is what the script says
 answers-false : AnswersAfter 1 2 (Insert 1) insert (Some false)
 answers-false = record { says = refl; begun = λ b. absurd (omega (arith, b.script.count)) }
 
--- nothing else
+-- after a whole script no other answer is right
 answers-true : AnswersAfter 1 2 (Insert 1) insert (Some true) → ⊥
 answers-true answers = let says = answers.says in cc
 
--- before its end it answers nothing
+-- at the beginning of a call no answer is right
 answers-early : AnswersAfter 1 2 (Insert 1) [] (Some true) → ⊥
 answers-early answers = let says = answers.says in cc
 
--- nor while it runs
+-- while a call runs no answer is right
 answers-running : AnswersAfter 1 2 (Insert 1) (took (Or 0 1) 1 Running ∷ []) (Some false) → ⊥
 answers-running answers = let none = answers.begun begun-one in cc

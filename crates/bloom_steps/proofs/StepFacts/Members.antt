@@ -27,7 +27,7 @@ abbrev pub all_pass : {A : Type 0} → (ℕ → A → Bool) → List A → Bool
 all_pass test [] = true
 all_pass test (x ∷ xs) = test zero x && all_pass (λ i. test (suc i)) xs
 
--- where all do, each does
+-- where all members pass a test, each does
 pub each-passes : {A : Type 0} (test : ℕ → A → Bool) (xs : List A) → all_pass test xs ≡ true
     → (i : ℕ) (x : A) → slice_get xs i ≡ Some x → test i x ≡ true
 each-passes test [] all i x g = absurd (none-some x g)

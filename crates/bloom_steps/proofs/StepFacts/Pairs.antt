@@ -1,4 +1,4 @@
--- Scripts of calls that take the other filter's words in turn, and what is near one and isn't.
+-- Scripts of calls that take the other filter's words in turn, and steps near one that are none.
 use Rattle.std.proofs.Common.{ap, ◌∙◌, ◌≡◌, ◌+◌, ◌*◌, ◌∷◌, [], List, ℕ, Some, slice_get, true, refl, arith, sym, subst}
 use Rattle.std.proofs.lemmas.Option.{same_Some}
 use Rattle.bloom_steps.specs.declared.steps.vocabulary.Step.{Step}
@@ -8,7 +8,7 @@ use Rattle.bloom_steps.specs.declared.steps.vocabulary.End.TheVariants.{Running,
 use Rattle.bloom_steps.specs.Scripts.{Taken, ArePairs, IsScript}
 use Rattle.bloom_steps.proofs.StepFacts.Members.{each-member, took}
 
--- one pair
+-- a read of the other filter and the operation with what it found are pairs
 pub one-pair : (operation : ℕ → ℕ → Step) (found other : ℕ)
     → ArePairs operation (took (Other 0) other Running ∷ took (operation 0 other) found Done ∷ [])
 one-pair operation found other = record {
@@ -47,7 +47,7 @@ one-pair operation found other = record {
 abbrev pub union : List Taken
 union = took (Other 0) 5 Running ∷ took (Or 0 5) 0 Done ∷ []
 
--- it is a whole union
+-- these two steps are a whole union
 pub union-script : IsScript 1 2 Union union
 union-script = record {
   count = refl;
@@ -57,16 +57,16 @@ union-script = record {
   last = each-member _ union ((λ l. absurd (omega (arith, l))), ((λ l. refl), tt));
 }
 
--- its mask is the word that it read
+-- the mask of a union's write is the word that it read
 union_another_mask : IsScript 1 2 Union
     (took (Other 0) 5 Running ∷ took (Or 0 4) 0 Done ∷ []) → ⊥
 union_another_mask is = let step = is.steps.writes 0 _ _ refl refl in cc
 
--- it reads the other filter's word, not its own
+-- a union reads the other filter's word, not its own
 union_own_word : IsScript 1 2 Union (took (Load 0) 5 Running ∷ took (Or 0 5) 0 Done ∷ []) → ⊥
 union_own_word is = let step = is.steps.loads 0 _ refl in cc
 
--- it turns nothing off
+-- a union turns nothing off
 union_intersects : IsScript 1 2 Union (took (Other 0) 5 Running ∷ took (And 0 5) 0 Done ∷ []) → ⊥
 union_intersects is = let step = is.steps.writes 0 _ _ refl refl in cc
 
@@ -74,7 +74,7 @@ union_intersects is = let step = is.steps.writes 0 _ _ refl refl in cc
 abbrev pub intersect : List Taken
 intersect = took (Other 0) 5 Running ∷ took (And 0 5) 6 Done ∷ []
 
--- it is a whole intersection
+-- these two steps are a whole intersection
 pub intersect-script : IsScript 1 2 Intersect intersect
 intersect-script = record {
   count = refl;
@@ -84,12 +84,12 @@ intersect-script = record {
   last = each-member _ intersect ((λ l. absurd (omega (arith, l))), ((λ l. refl), tt));
 }
 
--- it turns nothing on
+-- an intersection turns nothing on
 intersect_unites : IsScript 1 2 Intersect
     (took (Other 0) 5 Running ∷ took (Or 0 5) 6 Done ∷ []) → ⊥
 intersect_unites is = let step = is.steps.writes 0 _ _ refl refl in cc
 
--- it answers nothing
+-- an intersection answers nothing
 intersect_answers : IsScript 1 2 Intersect
     (took (Other 0) 5 Running ∷ took (And 0 5) 6 (Answer true) ∷ []) → ⊥
 intersect_answers is = let last = is.last 1 _ refl refl in cc

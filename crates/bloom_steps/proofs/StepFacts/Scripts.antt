@@ -1,5 +1,5 @@
--- What is a script of a call, and what is near one and isn't. Hash 1 has the positions 0 and 20 of
--- 64 bits.
+-- What is a script of a call, and steps near one that are none. Of 64 bits hash 1 has the
+-- positions 0 and 20.
 use Rattle.std.proofs.Common.{◌∷◌, [], List, true, false, refl, arith}
 use Rattle.bloom_parts.specs.Chain.{chain}
 use Rattle.bloom_steps.specs.declared.steps.vocabulary.Step.TheVariants.{Load, Or, Zero}
@@ -13,7 +13,7 @@ use Rattle.bloom_steps.proofs.StepLemmas.Finding.{ends-off}
 abbrev pub insert : List Taken
 insert = took (Or 0 1) 1 Running ∷ took (Or 0 1048576) 1 (Answer false) ∷ []
 
--- it is a whole insert
+-- these two steps are a whole insert
 pub insert-script : IsScript 1 2 (Insert 1) insert
 unfolding chain
 insert-script = record {
@@ -26,7 +26,7 @@ insert-script = record {
       ((λ l. absurd (omega (arith, l))), ((λ l. ends-off 1 1 insert 1 _ refl refl), tt));
 }
 
--- it doesn't answer true
+-- an insert that found a bit off doesn't answer true
 insert_true : IsScript 1 2 (Insert 1)
     (took (Or 0 1) 1 Running ∷ took (Or 0 1048576) 1 (Answer true) ∷ []) → ⊥
 unfolding chain
@@ -34,17 +34,17 @@ insert_true is =
     let last = is.last 1 _ refl refl in
     let off = last.2.1 (1, took (Or 0 1048576) 1 (Answer true), refl, refl) in cc
 
--- it makes a step for each hash, though it turned a bit on
+-- an insert makes a step for each hash, though it turned a bit on
 insert_short : IsScript 1 2 (Insert 1) (took (Or 0 1) 0 (Answer false) ∷ []) → ⊥
 insert_short is = omega (arith, is.count)
 
--- each step turns on the bit of its own place
+-- each step of an insert turns on the bit of its own place
 insert_another_bit : IsScript 1 2 (Insert 1)
     (took (Or 0 1) 1 Running ∷ took (Or 0 1) 1 (Answer true) ∷ []) → ⊥
 unfolding chain
 insert_another_bit is = let step = is.steps 1 _ refl in cc
 
--- it runs on until its last step
+-- an insert runs on until its last step
 insert_ended_twice : IsScript 1 2 (Insert 1)
     (took (Or 0 1) 1 Done ∷ took (Or 0 1048576) 1 (Answer false) ∷ []) → ⊥
 insert_ended_twice is = let runs = is.running 0 _ refl (omega arith) in cc
@@ -53,7 +53,7 @@ insert_ended_twice is = let runs = is.running 0 _ refl (omega arith) in cc
 abbrev pub contains : List Taken
 contains = took (Load 0) 1 Running ∷ took (Load 0) 1048577 (Answer true) ∷ []
 
--- it is a whole look-up
+-- these two loads are a whole look-up
 pub contains-script : IsScript 1 2 (Contains 1) contains
 unfolding chain
 contains-script = record {
@@ -76,11 +76,11 @@ contains-script = record {
       );
 }
 
--- a look-up ends where it finds a bit off
+-- a look-up that ends where it finds a bit off
 abbrev contains_off : List Taken
 contains_off = took (Load 0) 1048576 (Answer false) ∷ []
 
--- it is a whole look-up
+-- one load that found its bit off is a whole look-up
 contains_off-script : IsScript 1 2 (Contains 1) contains_off
 unfolding chain
 contains_off-script = record {
@@ -94,18 +94,18 @@ contains_off-script = record {
   last = each-member _ contains_off ((λ l. each-member _ contains_off ((λ m. refl), tt)), tt);
 }
 
--- it doesn't go on past a bit that is off
+-- a look-up doesn't go on past a bit that is off
 contains_past_off : IsScript 1 2 (Contains 1)
     (took (Load 0) 1048576 Running ∷ took (Load 0) 1048576 (Answer true) ∷ []) → ⊥
 unfolding chain
 contains_past_off is = let on = is.stops.earlier 0 _ refl (omega arith) in cc
 
--- nor does it end early where the bit is on
+-- a look-up doesn't end early where the bit is on
 contains_early : IsScript 1 2 (Contains 1) (took (Load 0) 1 (Answer true) ∷ []) → ⊥
 unfolding chain
 contains_early is = let off = is.stops.early 0 _ refl refl (omega arith) in cc
 
--- its answer is what its last step found
+-- a look-up that found its last bit off doesn't answer true
 contains_true : IsScript 1 2 (Contains 1) (took (Load 0) 1048576 (Answer true) ∷ []) → ⊥
 unfolding chain
 contains_true is = let last = is.last 0 _ refl refl 0 _ refl refl in cc
@@ -114,7 +114,7 @@ contains_true is = let last = is.last 0 _ refl refl 0 _ refl refl in cc
 abbrev pub clear : List Taken
 clear = took (Zero 0) 0 Running ∷ took (Zero 1) 0 Done ∷ []
 
--- it is a whole clear
+-- these two steps are a whole clear
 pub clear-script : IsScript 2 2 Clear clear
 clear-script = record {
   count = refl;
@@ -124,11 +124,11 @@ clear-script = record {
   last = each-member _ clear ((λ l. absurd (omega (arith, l))), ((λ l. refl), tt));
 }
 
--- it takes the words in order
+-- a clear takes the words in order
 clear_backwards : IsScript 2 2 Clear (took (Zero 1) 0 Running ∷ took (Zero 0) 0 Done ∷ []) → ⊥
 clear_backwards is = let step = is.steps 0 _ refl in cc
 
--- and answers nothing
+-- a clear answers nothing
 clear_answers : IsScript 2 2 Clear
     (took (Zero 0) 0 Running ∷ took (Zero 1) 0 (Answer true) ∷ []) → ⊥
 clear_answers is = let last = is.last 1 _ refl refl in cc

@@ -1,10 +1,10 @@
--- What a step finds and does in memory, and what is near that and isn't so.
+-- What a step finds and does in memory, and what is near that and doesn't hold.
 use Rattle.std.proofs.Common.{◌≡◌, ◌∷◌, [], List, ℕ, None, Some, true, refl, arith, ap, sym, length, slice_get, ◌∙◌}
 use Rattle.bloom_parts.specs.Content.{content}
 use Rattle.bloom_steps.specs.declared.steps.vocabulary.Step.TheVariants.{Load, Or, And, Zero, Other}
 use Rattle.bloom_steps.specs.declared.steps.vocabulary.Call.TheVariants.{Clear, Union}
 use Rattle.bloom_steps.specs.declared.steps.vocabulary.End.TheVariants.{Done}
-use Rattle.bloom_steps.specs.Memories.{Memory, Moves, Makes, MemoryLaw, words_after}
+use Rattle.bloom_steps.specs.Memories.{Memory, Moves, Makes, MemoryLaw, words_after_step}
 use Rattle.bloom_steps.specs.Scripts.{Taken, Linked, Drives}
 use Rattle.bloom_steps.proofs.StepFacts.Members.{each-member, took}
 use Rattle.bloom_steps.proofs.StepFacts.Pairs.{union, union-script}
@@ -19,15 +19,15 @@ memory word = record { words = word ∷ []; other = 5 ∷ [] }
 load-moves : Moves (memory 9) (Load 0) 9 (memory 9)
 load-moves = record { within = omega arith; finds = refl; writes = refl; kept = refl }
 
--- it finds no other word
+-- a load finds no other word than its own
 load-another : Moves (memory 9) (Load 0) 8 (memory 9) → ⊥
 load-another m = omega (arith, m.finds)
 
--- it finds a word that is there
+-- a load stays within the words
 load-past : Moves (memory 9) (Load 1) 0 (memory 9) → ⊥
 load-past m = omega (arith, m.within)
 
--- it writes nothing
+-- a load writes nothing
 load-writes : Moves (memory 9) (Load 0) 9 (memory 8) → ⊥
 load-writes m = let words = m.writes in cc
 
@@ -35,11 +35,11 @@ load-writes m = let words = m.writes in cc
 or-moves : Moves (memory 9) (Or 0 3) 9 (memory 11)
 or-moves = record { within = omega arith; finds = refl; writes = refl; kept = refl }
 
--- it doesn't find the word as it is
+-- an or doesn't find the word as it leaves it
 or-late : Moves (memory 9) (Or 0 3) 11 (memory 11) → ⊥
 or-late m = omega (arith, m.finds)
 
--- nor leaves only the mask
+-- an or keeps the bits that were on
 or-mask : Moves (memory 9) (Or 0 3) 9 (memory 3) → ⊥
 or-mask m = let words = m.writes in cc
 
@@ -47,7 +47,7 @@ or-mask m = let words = m.writes in cc
 and-moves : Moves (memory 9) (And 0 3) 9 (memory 1)
 and-moves = record { within = omega arith; finds = refl; writes = refl; kept = refl }
 
--- not what it has
+-- an and doesn't turn off what its mask has
 and-without : Moves (memory 9) (And 0 3) 9 (memory 8) → ⊥
 and-without m = let words = m.writes in cc
 
@@ -55,15 +55,15 @@ and-without m = let words = m.writes in cc
 zero-moves : Moves (memory 9) (Zero 0) 0 (memory 0)
 zero-moves = record { within = omega arith; finds = refl; writes = refl; kept = refl }
 
--- the word isn't found
+-- a zero doesn't find the word as it was
 zero-finds : Moves (memory 9) (Zero 0) 9 (memory 0) → ⊥
 zero-finds m = omega (arith, m.finds)
 
--- the other filter's word is found
+-- a read of the other filter finds its word
 other-moves : Moves (memory 9) (Other 0) 5 (memory 9)
 other-moves = record { within = omega arith; finds = refl; writes = refl; kept = refl }
 
--- not this one's
+-- a read of the other filter doesn't find this filter's word
 other-own : Moves (memory 9) (Other 0) 9 (memory 9) → ⊥
 other-own m = omega (arith, m.finds)
 
@@ -83,7 +83,7 @@ union-linked = (
   ),
 )
 
--- they don't leave the words as they were
+-- the steps of a union don't leave the words as they were
 union-unlinked : Linked Moves (memory 0) union (memory 0) → ⊥
 union-unlinked link =
     let first = link.1.writes in
@@ -91,21 +91,21 @@ union-unlinked link =
     let last = link.2.2 in
     cc
 
--- what the law on steps in memory says of them
+-- what the law on steps in memory says of a union
 union-made : MemoryLaw → Makes (memory 0) union (memory 5)
 union-made law = law (memory 0) (memory 5) union union-linked
 
--- a position that their last decider makes on isn't off
+-- a position that the last decider of a union makes on isn't off
 union-unmade : Makes (memory 0) union (memory 4) → ⊥
 unfolding content
 union-unmade made = let off = made.set 0 in cc
 
--- no word is added
+-- a union adds no word
 union-longer :
     Makes (memory 0) union (record { words = 5 ∷ 0 ∷ []; other = 5 ∷ [] }) → ⊥
 union-longer made = omega (arith, made.count)
 
--- the other filter's words stay
+-- a union leaves the other filter's words
 union-other : Makes (memory 0) union (record { words = 5 ∷ []; other = 0 ∷ [] }) → ⊥
 union-other made = let words = made.other_stays in cc
 
@@ -118,7 +118,7 @@ union-drives = record {
   answers = refl;
 }
 
--- it answers nothing
+-- a union answers nothing
 union-answers : Drives Moves 1 2 Union (memory 0) (memory 5) (Some true) → ⊥
 union-answers d =
     let count = d.script.count in
@@ -143,7 +143,7 @@ clear-drives = record {
   answers = refl;
 }
 
--- it makes the steps
+-- a drive of a clear makes its steps
 clear-idle : Drives Moves 1 2 Clear (memory 9) (memory 9) None → ⊥
 clear-idle d = made d.taken d.script.count (λ t g. d.script.steps 0 t g) d.linked
   where
@@ -153,7 +153,7 @@ clear-idle d = made d.taken d.script.count (λ t g. d.script.steps 0 t g) d.link
     made [] count steps link = omega (arith, count)
     made (t ∷ []) count steps link =
         let step = steps t refl in
-        let writes = link.1.writes ∙ ap (words_after (9 ∷ [])) step in
+        let writes = link.1.writes ∙ ap (words_after_step (9 ∷ [])) step in
         let last = link.2 in
         cc
     made (t ∷ (u ∷ s)) count steps link = omega (arith, count)

@@ -19,7 +19,7 @@ use Rattle.bloom_steps.proofs.StepLemmas.Whole.{not_both}
 half-even : (n i : ℕ) → n ≡ 2 * i → (n % 2 ≡ 0) × (n / 2 ≡ i)
 half-even n i e = (omega arith, omega arith)
 
--- the same of an odd number
+-- whether a number is odd, and its half
 half-odd : (n i : ℕ) → n ≡ 2 * i + 1 → (n % 2 ≡ 1) × (n / 2 ≡ i)
 half-odd n i e = (omega arith, omega arith)
 

@@ -22,7 +22,7 @@ record CanEnd (w k : ℕ) (plan : Plan) (s : List Taken) : Type 0 where
   rest : List Taken
   whole : Fulfils w k plan (s ++ next ∷ rest)
 
--- so can those before them
+-- steps before ones that can be brought to an end can be brought to one
 after : (w k : ℕ) (plan : Plan) (s : List Taken) (t : Taken) → CanEnd w k plan (s ++ t ∷ [])
     → CanEnd w k plan s
 after w k plan s t b = record {
@@ -64,7 +64,7 @@ ends_now w k plan s g step fits e ends =
       whole = script-more w k plan s (record { step = step; found = 0; ended = e }) g fits ends;
     }
 
--- a plan that goes on can be brought to its end in so many steps
+-- a plan that goes on can be brought to its end in this many steps
 finish_in : (w k : ℕ) (plan : Plan) (n : ℕ) (s : List Taken)
     → length s + suc n ≡ most_steps w k plan → GoesOn w k plan s → CanEnd w k plan s
 finish_in w k plan zero s e g =

@@ -45,7 +45,7 @@ module _ {S : Type 0} (count : S → ℕ) (moved : S → Step → ℕ → S → 
         (asked-within (count before) k call made.taken step
         (asks_right _ _ _ made.taken made.stands))
 
-    -- it was made too, and the machine was told what it found
+    -- the step asked for was made too, and the machine was told what it found
     pub made-more : (before now after : S) (m n : Machine) → HasMade before now m
         → (step : Step) (found : ℕ) → asks m ≡ Some step → StandsFurther m found n
         → record { moved : moved now step found after; words : count after ≡ count now }

@@ -9,7 +9,7 @@ use Rattle.bloom_steps.specs.Scripts.{ArePairs, IsNext, IsScript, Taken, AreStep
 use Rattle.bloom_steps.proofs.StepLemmas.Growing.{FitsNext, IsNextOfPairs}
 use Rattle.bloom_steps.proofs.StepLemmas.Members.{member-front, member-seam, some_member}
 
--- the step after some of pairs comes next of them
+-- the step that comes next in a list of pairs
 pairs_next : (op : ℕ → ℕ → Step) (s rest : List Taken) (t : Taken) → ArePairs op (s ++ t ∷ rest)
     → IsNextOfPairs op s t.step
 pairs_next op s rest t all = (
@@ -19,7 +19,7 @@ pairs_next op s rest t all = (
       (subst (λ n. slice_get (s ++ t ∷ rest) n ≡ Some t) e (member-seam s rest t))),
 )
 
--- the step after these fits them
+-- a step that fits a plan after these steps
 steps_next : (w : ℕ) (plan : Plan) (s rest : List Taken) (t : Taken)
     → AreStepsOf w plan (s ++ t ∷ rest) → FitsNext w plan s t.step
 steps_next w (TurnsOn h) s rest t all = all (length s) t (member-seam s rest t)
@@ -41,7 +41,7 @@ parity (suc n) =
       | inr q ↦ inl (q.0 + 1, omega (arith, q.1))
     ]
 
--- some step comes next of pairs
+-- some step comes next in a list of pairs
 pair_step : (op : ℕ → ℕ → Step) (s : List Taken) → (step : Step) × IsNextOfPairs op s step
 pair_step op s =
     elim (parity (length s)) [
@@ -67,14 +67,14 @@ pair_step op s =
       )
     ]
 
--- some step fits
+-- some step fits a plan after these steps
 pub some_step : (w : ℕ) (plan : Plan) (s : List Taken) → (step : Step) × FitsNext w plan s step
 some_step w (TurnsOn h) s = (_, refl)
 some_step w (LooksAt h) s = (_, refl)
 some_step w (EachWord op) s = (_, refl)
 some_step w (EachPair op on) s = pair_step op s
 
--- one step alone comes next of pairs
+-- one step alone comes next in a list of pairs
 pairs_one : (op : ℕ → ℕ → Step) (s : List Taken) (a b : Step) → IsNextOfPairs op s a
     → IsNextOfPairs op s b → a ≡ b
 pairs_one op s a b p q =
@@ -85,7 +85,7 @@ pairs_one op s a b p q =
           p.1 e.0 there.0 e.1 there.1 ∙ sym (q.1 e.0 there.0 e.1 there.1)
     ]
 
--- and no other
+-- one step alone fits a plan after these steps
 pub fits_one : (w : ℕ) (plan : Plan) (s : List Taken) (a b : Step) → FitsNext w plan s a
     → FitsNext w plan s b → a ≡ b
 fits_one w (TurnsOn h) s a b p q = p ∙ sym q

@@ -12,7 +12,7 @@ use Rattle.bloom_steps.specs.Scripts.{ArePairs, AreStepsOf, Each, HasCount, IsLa
 use Rattle.bloom_steps.specs.Steps.{load_at, or_at}
 use Rattle.bloom_steps.proofs.StepLemmas.Members.{member_of_more}
 
--- the step that comes next of pairs
+-- the step that comes next in a list of pairs
 abbrev pub IsNextOfPairs : (ℕ → ℕ → Step) → List Taken → Step → Type 0
 IsNextOfPairs op s step =
     ((i : ℕ) → length s ≡ 2 * i → step ≡ Other i)
@@ -26,7 +26,7 @@ FitsNext w (LooksAt h) s step = step ≡ load_at (place (64 * w) h (length s))
 FitsNext w (EachWord op) s step = step ≡ op (length s)
 FitsNext w (EachPair op on) s step = IsNextOfPairs op s step
 
--- one step more
+-- one step more makes the steps longer by one
 pub length-more : (s : List Taken) (t : Taken) → length (s ++ t ∷ []) ≡ length s + 1
 length-more s t = length-append s (t ∷ [])
 
@@ -85,7 +85,7 @@ keeps_on-more w (LooksAt h) s t all on =
 keeps_on-more w (EachWord op) s t all on = tt
 keeps_on-more w (EachPair op way) s t all on = tt
 
--- after such a step that fits, the plan goes on
+-- after a step that fits and doesn't end the plan, the plan goes on
 pub goes_on-more : (w k : ℕ) (plan : Plan) (s : List Taken) (t : Taken) → GoesOn w k plan s
     → FitsNext w plan s t.step → t.ended ≡ Running → length s + 1 < most_steps w k plan
     → KeepsOnAt w plan s t → GoesOn w k plan (s ++ t ∷ [])
@@ -96,7 +96,7 @@ goes_on-more w k plan s t g fits running room on = record {
   running = each-more s t (λ i t. t.ended ≡ Running) g.running running;
 }
 
--- it ends at a step
+-- the plan ends at a step
 abbrev pub EndsNext : ℕ → ℕ → Plan → List Taken → Taken → Type 0
 EndsNext w k (TurnsOn h) s t = (length s + 1 ≡ k) × IsLastEnd w (TurnsOn h) (s ++ t ∷ []) t.ended
 EndsNext w k (LooksAt h) s t =
@@ -114,7 +114,7 @@ count-more w k (LooksAt h) s t room e =
 count-more w k (EachWord op) s t room e = length-more s t ∙ e.0
 count-more w k (EachPair op on) s t room e = length-more s t ∙ e.0
 
--- it stops where it has to
+-- a plan that ends stops where it has to
 stops-more : (w k : ℕ) (plan : Plan) (s : List Taken) (t : Taken) → KeepsOn w plan s
     → EndsNext w k plan s t → StopsRight w k plan (s ++ t ∷ [])
 stops-more w k (TurnsOn h) s t on e = tt
@@ -141,7 +141,7 @@ stops-more w k (LooksAt h) s t on e =
 stops-more w k (EachWord op) s t on e = tt
 stops-more w k (EachPair op way) s t on e = tt
 
--- and its last step says how it ended
+-- the last step of a plan says how it ended
 last-more : (w k : ℕ) (plan : Plan) (s : List Taken) (t : Taken) → EndsNext w k plan s t
     → IsLastEnd w plan (s ++ t ∷ []) t.ended
 last-more w k (TurnsOn h) s t e = e.1
@@ -160,7 +160,7 @@ last-more w k (LooksAt h) s t e = λ i u g last.
 last-more w k (EachWord op) s t e = e.1
 last-more w k (EachPair op on) s t e = e.1
 
--- so the steps up to there carry it out
+-- the steps up to the end of a plan carry it out
 pub script-more : (w k : ℕ) (plan : Plan) (s : List Taken) (t : Taken) → GoesOn w k plan s
     → FitsNext w plan s t.step → EndsNext w k plan s t → Fulfils w k plan (s ++ t ∷ [])
 script-more w k plan s t g fits ends =

@@ -43,7 +43,7 @@ member_of_take (x ∷ xs) (suc n) zero r e = (omega arith, e)
 member_of_take (x ∷ xs) (suc n) (suc i) r e =
     let rest = member_of_take xs n i r e in (omega (arith, rest.0), rest.1)
 
--- and the other way round
+-- a member of all whose index is below a number is one of the first ones
 pub member-take : {X : Type 0} (xs : List X) (n i : ℕ) (r : X) → i < n → slice_get xs i ≡ Some r
     → slice_get (take n xs) i ≡ Some r
 member-take xs zero i r l e = absurd (omega arith)
@@ -51,7 +51,7 @@ member-take [] (suc n) i r l e = absurd (none-some r e)
 member-take (x ∷ xs) (suc n) zero r l e = e
 member-take (x ∷ xs) (suc n) (suc i) r l e = member-take xs n i r (omega arith) e
 
--- one more of the first ones
+-- the first m members and the next are the first m + 1
 pub take-more : {X : Type 0} (xs : List X) (m : ℕ) (r : X) → slice_get xs m ≡ Some r
     → take (m + 1) xs ≡ take m xs ++ r ∷ []
 take-more {X} xs m r e = ap (λ n. take n xs) (add-one m) ∙ go xs m e

@@ -46,7 +46,7 @@ by-or i x q = go (nat_eq (q / 64) i) (bit_is_on x q)
     go true b = refl
     go false b = refl
 
--- and another off what it lacks
+-- an and turns off what its mask lacks
 by-and : TurnsBy And false
 by-and i x q = go (nat_eq (q / 64) i) (bit_is_on x q)
   where
@@ -56,7 +56,7 @@ by-and i x q = go (nat_eq (q / 64) i) (bit_is_on x q)
     go true false = refl
     go false b = refl
 
--- so do those of each call
+-- the operations of each call decide as its plan says
 pub plan_decides : (call : Call) → PlanDecides (plan_of call)
 plan_decides (Insert h) = tt
 plan_decides (Contains h) = tt
@@ -83,7 +83,7 @@ on-only op on by is i x q =
     go true false = inl refl
     go false b = inl refl
 
--- it turns on a position of its word that its word has
+-- an operation that turns bits on turns on a position of its word that the word given has
 pub on-tells : (op : ℕ → ℕ → Step) (on : Bool) → TurnsBy op on → on ≡ true → (i x q : ℕ)
     → step_decides (op i x) q ≡ Some true → (q / 64 ≡ i) × (bit_is_on x q ≡ true)
 on-tells op on by is i x q e =
@@ -97,7 +97,7 @@ on-tells op on by is i x q e =
     go true false f = absurd (none-some true f)
     go false b f = absurd (none-some true f)
 
--- and each such position
+-- an operation that turns bits on turns on each position of its word that the word given has
 pub on-does : (op : ℕ → ℕ → Step) (on : Bool) → TurnsBy op on → on ≡ true → (i x q : ℕ)
     → q / 64 ≡ i → bit_is_on x q ≡ true → step_decides (op i x) q ≡ Some true
 on-does op on by is i x q at bit =

@@ -57,9 +57,9 @@ record Stood (m : Machine) (w k : ℕ) (plan : Plan) (s : List Taken) : Type 0 w
   pub placed : IsPlaced w plan m (length s)
   pub keeps : Keeps w plan m s
 
--- a machine and the same after a reply
+-- a machine before a reply, and the machine after it
 module _ (m n : Machine) (w k : ℕ) where
-  -- it is at the next place
+  -- after a reply the machine is at the next place
   placed-more : (plan : Plan) (s : List Taken) (t : Taken) → Stood m w k plan s
       → MovesOn plan m n
       → IsPlaced w plan n (length (s ++ t ∷ []))
@@ -70,7 +70,7 @@ module _ (m n : Machine) (w k : ℕ) where
   placed-more (EachWord op) s t st on = tt
   placed-more (EachPair op way) s t st on = tt
 
-  -- it keeps what was found
+  -- after a reply the machine keeps what was found
   keeps-more : (plan : Plan) (s : List Taken) (t : Taken) → Stood m w k plan s
       → Learns plan m t.found n
       → Keeps w plan n (s ++ t ∷ [])
@@ -109,7 +109,7 @@ module _ (m n : Machine) (w k : ℕ) where
       let not_last = not_yet _ _ (sym e ∙ going) in
       let turns = st.turns in let words = st.words in (omega arith, tt)
 
-  -- where it ends, it ends as its script does
+  -- where the machine ends, it ends as its script does
   ends : (plan : Plan) (s : List Taken) (t : Taken) → Stood m w k plan s
       → Learns plan m t.found n → n.ended ≡ ends_with plan m t.found
       → n.ended ≡ true → t.ended ≡ end_by (answer_by plan n.all_on) → EndsNext w k plan s t

@@ -14,7 +14,7 @@ count_some w k count (LooksAt h) some_words some_hashes (some, most) = some
 count_some w k count (EachWord op) some_words some_hashes is = omega (arith, is)
 count_some w k count (EachPair op on) some_words some_hashes is = omega (arith, is)
 
--- so a whole script has one
+-- a whole script has a step
 pub script_some : (w k : ℕ) (call : Call) (s : List Taken) → 1 ≤ w → 1 ≤ k → IsScript w k call s
     → 1 ≤ length s
 script_some w k call s some_words some_hashes is =

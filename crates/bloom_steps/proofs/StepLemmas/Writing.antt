@@ -6,7 +6,7 @@ use Rattle.bloom_parts.specs.Content.{bit_is_on, content}
 use Rattle.bloom_parts.proofs.PublishedLemmas.{bit_is_on-and, bit_is_on-or, bit_is_on-zero}
 use Rattle.bloom_steps.specs.declared.steps.vocabulary.Step.{Step}
 use Rattle.bloom_steps.specs.declared.steps.vocabulary.Step.TheVariants.{And, Load, Or, Other, Take, Zero}
-use Rattle.bloom_steps.specs.Memories.{Memory, MemoryLaw, words_after}
+use Rattle.bloom_steps.specs.Memories.{Memory, MemoryLaw, words_after_step}
 use Rattle.bloom_steps.specs.Scripts.{Taken}
 use Rattle.bloom_steps.specs.Steps.{step_decides, word_index}
 use Rattle.bloom_steps.proofs.StepLemmas.Deciding.{state-first, state-same}
@@ -54,7 +54,7 @@ joined false b o = refl
 
 -- the words after a step hold what the step decides
 pub content-step : (words : List ℕ) (step : Step) (p : ℕ) → word_index step < length words
-    → content (words_after words step) p ≡ unwrap_or (step_decides step p) (content words p)
+    → content (words_after_step words step) p ≡ unwrap_or (step_decides step p) (content words p)
 content-step words (Load i) p within = refl
 content-step words (Or i mask) p within =
     content-set words i (bit_or (slice_index words i) mask) p (nat_eq (p / 64) i)
@@ -78,7 +78,8 @@ content-step words (Take i) p within =
     content-set words i 0 p (nat_eq (p / 64) i) (Some false) within refl (bit_is_on-zero p)
 
 -- a step keeps the number of words
-pub length-step : (words : List ℕ) (step : Step) → length (words_after words step) ≡ length words
+pub length-step : (words : List ℕ) (step : Step)
+    → length (words_after_step words step) ≡ length words
 length-step words (Load i) = refl
 length-step words (Or i mask) = length-set words i _
 length-step words (And i mask) = length-set words i _

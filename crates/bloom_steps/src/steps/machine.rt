@@ -1,4 +1,4 @@
-//! What step of a call comes next.
+//! Which step of a call comes next.
 ghost use Rattle.std.specs.Prelude.{◌≡◌, ◌+◌, ◌*◌, ◌^◌, ◌<◌, ◌≤◌, false};
 ghost use Rattle.bloom_parts.specs.Content.{bit_is_on};
 ghost use Rattle.bloom_steps.specs.Plans.{hash_of, most_steps, plan_of};
@@ -60,7 +60,7 @@ impl Machine {
     ghost use Rattle.bloom_steps.specs.Standing.{StandsAt, Replied, asks, answers, end_of, left};
     ghost use Rattle.bloom_steps.specs.Steps.{word_index};
 
-    /// A call at its beginning, on a filter of so many words and hashes.
+    /// A call at its beginning, on a filter of this many words and hashes.
     pub fn new(call: Call, num_words: usize, num_hashes: u32) -> Machine
         requires some_words { 1 ≤ num_words }
         requires few_words { num_words < 2 ^ 58 }
@@ -87,11 +87,11 @@ impl Machine {
         ensures value { result ≡ asks self.now }
         ensures next { AsksRight self.now result }
     {
-        self.asked()
+        self.next_step()
     }
 
     // The step that comes next, which is on one of the words.
-    fn asked(&self) -> Option<Step>
+    fn next_step(&self) -> Option<Step>
         ensures value { result ≡ asks self.now }
         ensures within { (step : Step) → asks self.now ≡ Some step
             → word_index step < self.now.num_words }
@@ -110,7 +110,7 @@ impl Machine {
         })
     }
 
-    // Of a pair of steps the read of the other filter's word, or else the write.
+    // The next step of a pair: the read of the other filter's word, or else this write.
     fn read_or(&self, write: Step) -> Step
         ensures { result ≡ if self.now.turn % 2 == 0 then Other (self.now.turn / 2) else write }
     {
@@ -127,11 +127,11 @@ impl Machine {
         ensures next { StandsFurther self.old found self.new }
         ensures left { left self.new < left self.old }
     {
-        self.advance(found);
+        self.take_found(found);
     }
 
     // Takes the word found, and goes on to the next turn.
-    fn advance(&mut self, found: u64)
+    fn take_found(&mut self, found: u64)
         requires { IsSome (asks self.old) }
         ensures fields { Replied self.old found self.new }
         ensures left { left self.new < left self.old }
@@ -171,11 +171,11 @@ impl Machine {
         ensures value { result ≡ answers self.now }
         ensures said { AnswersRight self.now result }
     {
-        self.answered()
+        self.reply_of()
     }
 
     // The answer of a call that has ended.
-    fn answered(&self) -> Option<bool>
+    fn reply_of(&self) -> Option<bool>
         ensures { result ≡ answers self.now }
     {
         if !self.ended {
@@ -198,7 +198,7 @@ impl Machine {
         if !self.ended {
             return End::Running;
         }
-        match self.answered() {
+        match self.reply_of() {
             Some(reply) => End::Answer(reply),
             None => End::Done,
         }

@@ -1,7 +1,7 @@
 //! Steps over words in memory.
 ghost use Rattle.std.specs.Prelude.{◌≡◌, ℕ, ◌^◌, ◌<◌, ◌≤◌, length, slice_index};
 ghost use Rattle.bloom_steps.specs.declared.steps.vocabulary.Step.TheVariants.{Other};
-ghost use Rattle.bloom_steps.specs.Memories.{Moves, found_in, words_after};
+ghost use Rattle.bloom_steps.specs.Memories.{Moves, found_in, words_after_step};
 ghost use Rattle.bloom_steps.specs.Steps.{word_index};
 
 use super::store::WordStore;
@@ -29,7 +29,7 @@ impl Model for MemoryStore {
 }
 
 impl MemoryStore {
-    /// The store of these words, as many of both. It takes no memory.
+    /// The store of these words, in two lists of equal length. It takes no memory.
     pub fn new(words: Vec<u64>, other: Vec<u64>) -> MemoryStore
         requires some { 1 ≤ length words.items }
         requires few { length words.items < 2 ^ 58 }
@@ -78,7 +78,7 @@ fn word_given(other: &Vec<u64>, step: Step) -> u64
 pub(super) fn make_step(words: &mut Vec<u64>, given: u64, step: Step) -> u64
     requires { word_index step < length words.old.items }
     ensures found { result ≡ found_in words.old.items given step }
-    ensures words { words.new.items ≡ words_after words.old.items step }
+    ensures words { words.new.items ≡ words_after_step words.old.items step }
     ensures fits { result < 2 ^ 64 }
 {
     match step {

@@ -29,7 +29,7 @@ struct World {
 /// party turns bits off may answer true though its hash was contained at no moment.
 ///
 /// # Errors
-/// `Memory` where a growth was refused. All room is made before the first event.
+/// `Memory` where memory was refused. All room is made before the first event.
 pub fn run(
     alloc: Global,
     words: &[u64],

@@ -10,7 +10,7 @@ pub trait WordStore {
     // How many words the store has.
     ghost count: { Self → ℕ };
 
-    // From the store before by a step that found a word to the store after.
+    // A step that found this word leads from one store to the other.
     ghost moved: { Self → Step → ℕ → Self → Type 0 };
 
     /// The number of words, which no step changes.
@@ -19,7 +19,7 @@ pub trait WordStore {
         ensures least { 1 ≤ result }
         ensures most { result < 2 ^ 58 };
 
-    /// Carries out one step, and answers the word that it found.
+    /// Carries out one step, and gives the word that it found.
     fn step(&mut self, step: Step) -> u64
         requires within { word_index step < count self.old }
         ensures moved { moved self.old step result self.new }

@@ -8,7 +8,7 @@ returns-then-runs_call-clause-happens c =
     happens-busy _ _ c.requires.world c.args.party (omega (arith, c.len.ensures)) _ c.index.ensures
     c.args.call (sym c.runs_call.ensures ∙ c.if-runs_call.true)
 
--- and else it begins one
+-- a party that runs no call begins one
 pub returns-clause-happens : goal.returns-clause-happens
 returns-clause-happens c =
     happens-begun _ _ c.requires.world c.args.party (omega (arith, c.len.ensures)) _ c.index.ensures

@@ -1,7 +1,7 @@
 use Rattle.std.proofs.Common.{◌≡◌, ◌≤◌, ℕ, None, slice_index_or, length, vec_len, vec_capacity}
 use Rattle.bloom_steps.proofs.steps.runner.prepare.Given as goal
 
--- so many parties have a slot, and none has a machine
+-- this many parties have a slot, and none has a machine
 abbrev pub invariant-parties : goal.invariant-parties
 invariant-parties l = record {
   count : length l.machines.items ≡ l._party;
