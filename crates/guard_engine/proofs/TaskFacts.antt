@@ -9,7 +9,7 @@ use Rattle.guard_engine.specs.Guarded.{Entries}
 use Rattle.guard_engine.specs.Loaded.{GainsMany, HasTab, Loads, key_in, value_in}
 use Rattle.guard_engine.specs.declared.commands.Answer.TheVariants as answers
 use Rattle.guard_engine.specs.declared.task.Task.TheVariants as tasks
-use Rattle.guard_engine.specs.Answers.{Answers, IsLoaded}
+use Rattle.guard_engine.specs.Answers.{IsAnswerTo, IsLoaded}
 use Rattle.guard_engine.proofs.AnswerFacts.{none, one, counts, loaded, same-one, put-added, found-none, found-spared}
 
 -- a reference to a text
@@ -109,67 +109,67 @@ loaded-other is = elim (is.loads.others (1 ∷ []) (3 ∷ []) (refl, refl)) [
 -- ---- answers
 
 -- a put is answered by what became of the entry
-answers-put : Answers (tasks.Put (lent (1 ∷ [])) (lent (2 ∷ []))) [] none one (answers.Put Added)
+answers-put : IsAnswerTo (tasks.Put (lent (1 ∷ [])) (lent (2 ∷ []))) [] none one (answers.Put Added)
 answers-put = (Added, refl, put-added)
 
 -- a look-up is answered by what was found
-answers-get : Answers (tasks.Get (lent (3 ∷ []))) [] one one (answers.Found Spared)
+answers-get : IsAnswerTo (tasks.Get (lent (3 ∷ []))) [] one one (answers.Found Spared)
 answers-get = (Spared, refl, found-spared, same-one)
 
 -- a load is answered by its sums and the counts
-answers-load : Answers (tasks.Load (lent [])) text none one
+answers-load : IsAnswerTo (tasks.Load (lent [])) text none one
     (answers.Loaded (loaded 1 0) (counts 1 0 0))
 answers-load = (loaded 1 0, counts 1 0 0, refl, is_loaded)
 
 -- look-ups of many keys are answered by the counts
-answers-stats : Answers tasks.Stats text one one (answers.Counted (counts 1 0 0))
+answers-stats : IsAnswerTo tasks.Stats text one one (answers.Counted (counts 1 0 0))
 answers-stats = (counts 1 0 0, refl, same-one)
 
 -- a put isn't answered by counts
-put-counted : Answers (tasks.Put (lent (1 ∷ [])) (lent (2 ∷ []))) [] none one
+put-counted : IsAnswerTo (tasks.Put (lent (1 ∷ [])) (lent (2 ∷ []))) [] none one
     (answers.Counted (counts 0 0 0)) → ⊥
 put-counted (put, same, is) = let e = same in cc
 
 -- a look-up isn't answered as a put
-get-put : Answers (tasks.Get (lent (1 ∷ []))) [] one one (answers.Put Taken) → ⊥
+get-put : IsAnswerTo (tasks.Get (lent (1 ∷ []))) [] one one (answers.Put Taken) → ⊥
 get-put (found, same, is, stays) = let e = same in cc
 
 -- a load isn't answered by counts alone
-load-counted : Answers (tasks.Load (lent [])) [] one one (answers.Counted (counts 0 0 0)) → ⊥
+load-counted : IsAnswerTo (tasks.Load (lent [])) [] one one (answers.Counted (counts 0 0 0)) → ⊥
 load-counted (sum, told, same, is) = let e = same in cc
 
 -- look-ups of many keys aren't answered as a load
-stats-loaded : Answers tasks.Stats [] one one (answers.Loaded (loaded 0 0) (counts 0 0 0)) → ⊥
+stats-loaded : IsAnswerTo tasks.Stats [] one one (answers.Loaded (loaded 0 0) (counts 0 0 0)) → ⊥
 stats-loaded (told, same, is) = let e = same in cc
 
 -- key and value of a put aren't swapped
-put-swapped : Answers (tasks.Put (lent (2 ∷ [])) (lent (1 ∷ []))) [] none one
+put-swapped : IsAnswerTo (tasks.Put (lent (2 ∷ [])) (lent (1 ∷ []))) [] none one
     (answers.Put Added) → ⊥
 put-swapped (Added, same, is) = let swapped = is.1.here.0 in cc
 put-swapped (Taken, same, is) = is.0.1
 
 -- a look-up puts nothing
-get-gains : Answers (tasks.Get (lent (3 ∷ []))) [] none one (answers.Found Spared) → ⊥
+get-gains : IsAnswerTo (tasks.Get (lent (3 ∷ []))) [] none one (answers.Found Spared) → ⊥
 get-gains (found, same, is, stays) = (stays (1 ∷ []) (2 ∷ [])).0 (refl, refl)
 
 -- look-ups of many keys put nothing
-stats-gains : Answers tasks.Stats [] none one (answers.Counted (counts 0 0 0)) → ⊥
+stats-gains : IsAnswerTo tasks.Stats [] none one (answers.Counted (counts 0 0 0)) → ⊥
 stats-gains (told, same, stays) = (stays (1 ∷ []) (2 ∷ [])).0 (refl, refl)
 
 -- an entry that came isn't called taken
-put-told_taken : Answers (tasks.Put (lent (1 ∷ [])) (lent (2 ∷ []))) [] none one
+put-told_taken : IsAnswerTo (tasks.Put (lent (1 ∷ [])) (lent (2 ∷ []))) [] none one
     (answers.Put Taken) → ⊥
 put-told_taken (Added, same, is) = let e = same in cc
 put-told_taken (Taken, same, is) = is.0.1
 
 -- a key that has a value isn't called absent
-get-absent : Answers (tasks.Get (lent (1 ∷ []))) [] one one (answers.Found Spared) → ⊥
+get-absent : IsAnswerTo (tasks.Get (lent (1 ∷ []))) [] one one (answers.Found Spared) → ⊥
 get-absent (Spared, same, is, stays) = found-none is
 get-absent (FalseAlarm, same, is, stays) = let e = same in cc
 get-absent (Value text, same, is, stays) = let e = same in cc
 
 -- a line whose entry came isn't called taken
-load-told_taken : Answers (tasks.Load (lent [])) text none one
+load-told_taken : IsAnswerTo (tasks.Load (lent [])) text none one
     (answers.Loaded (loaded 0 1) (counts 1 0 0)) → ⊥
 load-told_taken (sum, told, same, is) =
     let sums : sum ≡ loaded 0 1 = cc in

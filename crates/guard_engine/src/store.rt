@@ -2,7 +2,7 @@
 ghost use Rattle.std.specs.Prelude.{ℕ, List, map, string_bytes, vec_items, IfOk, OnOk, OnErr, MatchOption, ◌⊎◌};
 ghost use Rattle.guard_engine.specs.Guarded.{Gains, Lacks, Lists, Stays};
 
-/// A store of texts by keys, whose medium may lie or fail.
+/// A store of texts by keys, whose medium may fail, or return what wasn't written.
 ///
 /// What a call says of entries holds where the store was ready before it and is known after it.
 pub trait Store {
@@ -11,7 +11,7 @@ pub trait Store {
     /// What the store has: which values at which keys.
     ghost has: { Self → List ℕ → List ℕ → Type 0 };
 
-    /// The medium has told no lie, and the store is open.
+    /// So far the medium has returned what was written, and the store is open.
     ghost is_known: { Self → Type 0 };
 
     /// The store has the form that these calls are for.

@@ -7,7 +7,7 @@ use Rattle.sqlite.specs.Schema.{Schema}
 use Rattle.sqlite.specs.State.{State}
 use Rattle.sqlite_trees.specs.View.{doubt}
 use Rattle.guard_store.proofs.EntryFacts.{both}
-use Rattle.guard_store.specs.Entry.{IsKnown, IsReady, Keeps, entry_schema, no_schema}
+use Rattle.guard_store.specs.Entry.{IsKnown, IsReady, StaysReady, entry_schema, no_schema}
 
 -- each tree has these rows
 abbrev pub database : Schema → List Row → Database
@@ -66,14 +66,14 @@ known-shut : IsKnown (at entries entries false false true) → ⊥
 known-shut is = let same = is.1 in cc
 
 -- a connection that stays as it is keeps all
-keeps : Keeps (at entries entries false true true) (at entries entries false true true)
+keeps : StaysReady (at entries entries false true true) (at entries entries false true true)
 keeps = (refl, ready)
 
 -- a connection that lost an entry didn't keep all
-keeps-less : Keeps (at entries entries false true true)
+keeps-less : StaysReady (at entries entries false true true)
     (at (database entry_schema []) (database entry_schema []) false true true) → ⊥
 keeps-less is = let same = ap (λ d. d.trees 0) is.0 in cc
 
 -- a connection in a transaction that was in none didn't stay ready
-keeps-within : Keeps (at entries entries false true true) (at entries entries true true true) → ⊥
+keeps-within : StaysReady (at entries entries false true true) (at entries entries true true true) → ⊥
 keeps-within is = ready-within is.1
