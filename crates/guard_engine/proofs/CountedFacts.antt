@@ -1,6 +1,6 @@
--- How look-ups are counted, of three keys: the first has a value, the second isn't in the filter,
--- and the third is, and has none. Cases that hold, and near ones that don't. A key is hashed to the
--- sum of its bytes; the filter is that of hash 1.
+-- How look-ups are counted, of three keys: the first has a value, the second isn't in the
+-- filter, and the third is, and has none. Cases that hold, and near ones that don't. A key is
+-- hashed to the sum of its bytes; the filter is that of hash 1.
 use Rattle.std.proofs.Common.{◌≡◌, inl, inr, ℕ, ◌-◌, ◌^◌, List, [], ◌∷◌, sum, refl, subst, arith}
 use Rattle.bloom_parts.specs.Chain.{chain}
 use Rattle.bloom_parts.specs.Content.{content}
@@ -69,7 +69,7 @@ absent-both (inl (gone, rest)) = gone (2 ∷ []) (refl, refl)
 absent-both (inr (had, inl (gone, (others, more, rest)))) = absurd (omega (arith, more, rest))
 absent-both (inr (had, inr ((value, has), rest))) = lacks value has
 
--- of three look-ups one is spared, two are asked, and one of these for nothing
+-- three look-ups come to one spared and two asked, one of these for nothing
 tallies : Tallies by_sum (filter 1048577) (Unit {0}) one keys (counts 0 0 0) (counts 1 2 1)
 unfolding are_in chain content
 tallies = record {

@@ -1,5 +1,5 @@
--- How many keys got a value, and that no two of a list are the same: cases that hold, and near ones
--- that don't.
+-- How many keys got a value, and that no two of a list are the same: cases that hold, and near
+-- ones that don't.
 use Rattle.std.proofs.Common.{◌≡◌, ◌<◌, inl, inr, ℕ, zero, suc, List, [], ◌∷◌, length, get_or, Contains, refl, sym, ◌∙◌, arith}
 use Rattle.guard_engine.specs.declared.guard.Put.TheVariants.{Added, Taken}
 use Rattle.guard_engine.specs.Loaded.{AreDistinct, GainsMany, added_by}

@@ -77,7 +77,7 @@ loads-less is = is.kept (1 ∷ []) (2 ∷ []) (refl, refl)
 loads-none : Loads [] one one
 loads-none = Loads-nil one
 
--- of two lines with one key the first wins
+-- the first of two lines with one key wins
 loads-first : Loads (line ∷ (1 ∷ 9 ∷ 3 ∷ []) ∷ []) none one
 loads-first = Loads-more (line ∷ []) ((1 ∷ 9 ∷ 3 ∷ []) ∷ []) none one one loads
     (Loads-taken (1 ∷ 9 ∷ 3 ∷ []) one one (omega arith) (2 ∷ [], (refl, refl))
@@ -96,7 +96,7 @@ every key value = ⊤
 loads-untabbed : Loads ((1 ∷ 2 ∷ []) ∷ []) every every → ⊥
 loads-untabbed is = tab-none (is.found (1 ∷ 2 ∷ []) (0, omega arith, refl)).0
 
--- of two lines with one key the last doesn't win
+-- the last of two lines with one key doesn't win
 loads-last : Loads ((1 ∷ 9 ∷ 3 ∷ []) ∷ line ∷ []) none one → ⊥
 loads-last is =
     let put = is.first [] (line ∷ []) (1 ∷ 9 ∷ 3 ∷ []) refl

@@ -1,5 +1,5 @@
--- Why there is no filter for a store's keys and the room for more: cases that hold, and near ones
--- that don't. The room is for three keys, and the store has the key 1 or none.
+-- Why there is no filter for a store's keys and the room for more: cases that hold, and near
+-- ones that don't. The room is for three keys, and the store has the key 1 or none.
 use Rattle.std.proofs.Common.{◌≡◌, ℕ, ◌+◌, ◌-◌, ◌^◌, true, false, List, [], ◌∷◌, length, refl, sym, subst, arith}
 use Rattle.std.specs.Prelude.{Bool, Contains, None, Option, Some, if◌then◌else◌, min, nat_le, ⊤}
 use Rattle.bloom_parts.specs.declared.error.FilterError.{FilterError}

@@ -5,12 +5,12 @@ use Rattle.guard_engine.specs.Loaded.{HasTab, Loads, LoadsFirst, StopsAt, key_in
 use Rattle.guard_engine.proofs.GuardedFacts.{none, one}
 use Rattle.guard_engine.proofs.LoadedFacts.{line, loads, tab, tab-none}
 
--- of two lines the first was put
+-- the first of two lines was put
 loads_first : LoadsFirst (line ∷ (3 ∷ 9 ∷ 4 ∷ []) ∷ []) none one
 loads_first =
     record { first = line ∷ []; rest = (3 ∷ 9 ∷ 4 ∷ []) ∷ []; are = refl; loads = loads }
 
--- of two lines the second isn't put alone
+-- the second of two lines isn't put alone
 loads_first-second : LoadsFirst ((3 ∷ 9 ∷ 4 ∷ []) ∷ line ∷ []) none one → ⊥
 loads_first-second is = of is.first is.are is.loads
   where

@@ -1,6 +1,6 @@
--- How look-ups are counted, in a store behind a filter. The store is spared a look-up of a key that
--- the filter lacks, and is asked for each other key. A false alarm is a key that it was asked for
--- and lacks.
+-- How look-ups are counted, in a store behind a filter. The store is spared a look-up of a
+-- key that the filter lacks, and is asked for each other key. A false alarm is a key that it
+-- was asked for and lacks.
 use Rattle.std.specs.Prelude.{◌≡◌, ◌≤◌, ◌⊎◌, ◌+◌, ◌-◌, ◌^◌, ℕ, not, min, List, [], ◌∷◌, length, filter}
 use Rattle.bloom_plain.specs.Filter.{Filter, contains}
 use Rattle.guard_engine.specs.declared.counts.Counts.{Counts}

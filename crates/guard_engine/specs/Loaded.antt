@@ -64,7 +64,7 @@ abbrev pub added_by : Put → ℕ
 added_by Added = 1
 added_by Taken = 0
 
--- from old to new the first of these lines were put, and no other
+-- from old to new the first lines of these, some or none, were put, and no other
 pub record LoadsFirst (lines : List (List ℕ)) (old new : Entries) : Type 0 where
   pub first : List (List ℕ)
   pub rest : List (List ℕ)

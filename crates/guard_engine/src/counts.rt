@@ -2,7 +2,7 @@
 ghost use Rattle.std.specs.Prelude.{◌≡◌, ◌<◌, ◌^◌};
 ghost use Rattle.guard_engine.specs.Counted.{one_more};
 
-/// How many look-ups the filter spared the store, how many the store was asked, and how many of
+/// How many look-ups the filter spared the store, how many the store was asked for, and how many of
 /// those for nothing. Each stops at the greatest number.
 #[derive(Clone, Copy, Debug, PartialEq, Eq)]
 pub struct Counts {

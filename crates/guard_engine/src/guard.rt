@@ -39,7 +39,7 @@ pub enum Found {
 /// What became of an entry that was to be put.
 #[derive(Clone, Copy, Debug, PartialEq, Eq)]
 pub enum Put {
-    /// It is in the store.
+    /// The entry came into the store.
     Added,
     /// The key had a value, which stays.
     Taken,
@@ -145,7 +145,7 @@ impl<T: Store + Drop, B: BuildHasher + Drop> Guard<T, B> {
         }
     }
 
-    /// The store, without its guard.
+    /// Gives the store back, without its guard.
     pub fn into_store(self) -> T
         ensures { result ≡ self.store }
     {

@@ -1,5 +1,5 @@
-//! A guard before a store: a filter of its keys, which is asked first. And the tasks that a guard
-//! carries out.
+//! A guard stands before a store. It asks a filter of the store's keys first, and carries tasks
+//! out.
 #![tactic(auto)]
 
 mod commands;

@@ -50,7 +50,7 @@ pub enum Stop<E> {
 /// Puts the entries of a text: each line has a key, a tab, and a value.
 ///
 /// # Errors
-/// `Line` and `Store`, with the entries of the lines before put.
+/// `Line` and `Store`; the entries of the lines before are put.
 pub fn load<T: Store + Drop, B: BuildHasher + Drop>(
     guard: &mut Guard<T, B>,
     text: &str,

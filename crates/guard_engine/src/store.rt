@@ -17,7 +17,7 @@ pub trait Store {
     /// The store has the form that these calls are for.
     ghost is_ready: { Self → Type 0 };
 
-    /// Every key.
+    /// Lists every key.
     fn keys(&mut self) -> Result<Vec<String>, Self::Error>
         ensures known { is_known self.new → is_known self.old }
         ensures ready { is_ready self.old → is_known self.new → is_ready self.new }
@@ -26,7 +26,7 @@ pub trait Store {
         ensures stays { is_ready self.old → is_known self.new
             → Stays (has self.old) (has self.new) };
 
-    /// A value of the key, if it has one.
+    /// Finds a value of the key, if it has one.
     fn value_of(&mut self, key: &str) -> Result<Option<String>, Self::Error>
         ensures known { is_known self.new → is_known self.old }
         ensures ready { is_ready self.old → is_known self.new → is_ready self.new }

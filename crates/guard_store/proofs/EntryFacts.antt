@@ -1,4 +1,5 @@
--- What a table of entries has, and what its queries show: cases that hold, and near ones that don't.
+-- What a table of entries has, and what its queries show: cases that hold, and near ones that
+-- don't.
 use Rattle.std.proofs.Common.{◌≡◌, inl, inr, pos, List, [], ◌∷◌, None, Some, refl, ap, ◌∙◌, sym, arith, Contains}
 use Rattle.sqlite.specs.declared.types.Value.TheVariants.{Null, Text}
 use Rattle.sqlite.specs.Order.{Row, column}
@@ -44,7 +45,7 @@ names a_row there = elim (to_in both a_row there) [
   ]
 ]
 
--- not each name is shown where one is left out
+-- where a name is left out, not each name is shown
 names-less : AreNames both ((Text (5 ∷ []) ∷ []) ∷ []) → ⊥
 names-less are = elim (to_in ((Text (5 ∷ []) ∷ []) ∷ []) (Text (7 ∷ []) ∷ [])
     (are second (1, omega arith, refl))) [

@@ -1,5 +1,5 @@
--- Which connection is a store, why another isn't, what the statement that makes the table makes,
--- and why it fails: cases that hold, and near ones that don't.
+-- Which connection is a store, why another isn't, what the statement that makes the table
+-- makes, and why it fails: cases that hold, and near ones that don't.
 use Rattle.std.proofs.Common.{true, false, [], refl, ap, arith}
 use Rattle.sqlite.specs.Effect.{Database}
 use Rattle.sqlite.specs.State.{State}

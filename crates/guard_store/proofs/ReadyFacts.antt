@@ -75,5 +75,6 @@ keeps-less : StaysReady (at entries entries false true true)
 keeps-less is = let same = ap (λ d. d.trees 0) is.0 in cc
 
 -- a connection in a transaction that was in none didn't stay ready
-keeps-within : StaysReady (at entries entries false true true) (at entries entries true true true) → ⊥
+keeps-within : StaysReady (at entries entries false true true)
+    (at entries entries true true true) → ⊥
 keeps-within is = ready-within is.1

@@ -46,7 +46,8 @@ not_run sql params old new e ready is_open (inr h) = rolled_back old new ready i
 
 -- a command that failed
 pub command_failed : (sql : List ℕ) (c : _) (params : Row) (old new : State) (e : Error)
-    → IsReady old → IsTrue new.is_open → RunsCommand old new sql c params (Err e) → StaysReady old new
+    → IsReady old → IsTrue new.is_open → RunsCommand old new sql c params (Err e)
+    → StaysReady old new
 command_failed sql c params old new e ready is_open (inl h) = unchanged old new ready h.1
 command_failed sql c params old new e ready is_open (inr h) = rolled_back old new ready is_open h.3
 

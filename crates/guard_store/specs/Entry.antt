@@ -1,5 +1,5 @@
--- The table of a guard's store, as SQLite understands it (lang_createtable.html), and the entries
--- that it has.
+-- The table of a guard's store, as SQLite understands it (lang_createtable.html), and the
+-- entries that it has.
 use Rattle.std.specs.Prelude.{◌≡◌, ℕ, ℤ, true, false, List, [], ◌∷◌, Some, codes, Contains, IsTrue}
 use Rattle.sqlite.specs.Collation.TheVariants.{Binary}
 use Rattle.sqlite.specs.declared.types.Value.TheVariants.{Null, Int, Text as Words}
@@ -98,7 +98,7 @@ pub record IsReady (s : State) : Type 0 where
   pub autocommit : s.in_transaction ≡ false
   pub settled : s.committed ≡ s.now
 
--- so far the disk has returned what was written, and the connection is open
+-- the disk has returned what was written so far, and the connection is open
 abbrev pub IsKnown : State → Type 0
 IsKnown s = HasCleanDisk s × IsTrue s.is_open
 

@@ -48,7 +48,7 @@ pub fn value_rows<S: Alter>(conn: &mut Connection<S>, name: &str) -> Result<Vec<
     conn.query_all("SELECT value FROM entry WHERE name = ?1", params![name])
 }
 
-/// Adds an entry. After an error nothing changed, as where the name has a value already.
+/// Adds an entry. A name that has a value already is an error. After an error nothing changed.
 pub fn add_row<S: Alter>(conn: &mut Connection<S>, name: &str, value: &str) -> Result<usize, Error>
     ensures ok { IsReady (state S.Store conn.old) → IsKnown (state S.Store conn.new)
         → OnOk result (Gains (HasEntry ((state S.Store conn.old).now.trees 0)) name.now value.now
