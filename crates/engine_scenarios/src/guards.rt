@@ -1,7 +1,7 @@
 //! Guards before a store that may fail: what each task prints, and what it leaves.
 use crate::shelf::{Medium, Shelf};
 use bloom_plain::{BloomFilter, Rate};
-use guard_engine::{Guard, Refusal, Store, Task, carry_out, guarded};
+use guard_engine::{Guard, Refusal, Store, Task, carry_out, open_guard};
 use std::alloc::Global;
 use std::io::ErrorKind;
 use std::test::Fail;
@@ -270,7 +270,7 @@ fn told(
 fn tasks_print_and_leave_this(rt: HostRuntime) -> Result<(), Fail> {
     for (entries, steps, last) in SCRIPTS {
         let shelf = shelf_of(rt.alloc(), entries, WORKS)?;
-        let mut guard = guarded(rt.alloc(), shelf, Rate::new(1, 1000)?, 100)?;
+        let mut guard = open_guard(rt.alloc(), shelf, Rate::new(1, 1000)?, 100)?;
         for (medium, task, text, printed, is_no) in steps {
             guard.store.medium = *medium;
             let (got, no) = told(rt.alloc(), &mut guard, *task, text)?;
@@ -286,7 +286,7 @@ fn tasks_print_and_leave_this(rt: HostRuntime) -> Result<(), Fail> {
 fn a_store_that_is_not_read_has_no_guard(rt: HostRuntime) -> Result<(), Fail> {
     let rate = Rate::new(1, 1000)?;
     let shelf = shelf_of(rt.alloc(), &[], Medium::Unread)?;
-    match guarded(rt.alloc(), shelf, rate, 10) {
+    match open_guard(rt.alloc(), shelf, rate, 10) {
         Ok(_) => assert!(rt; false, "it has one"),
         Err(error) => {
             let text = error.to_string(rt.alloc())?;

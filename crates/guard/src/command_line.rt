@@ -77,7 +77,7 @@ fn command<'a>(alloc: Global) -> Result<Command<'a>, Error> {
     )
 }
 
-// The rate that a text like 1/1000 is, if it lies between 0 and 1.
+// The rate that a text such as 1/1000 tells, if it lies between 0 and 1.
 fn rate_of(text: &str) -> Option<Rate> {
     let (num, den) = text.split_once('/')?;
     let num = num.parse::<u64>().ok()?;

@@ -5,14 +5,14 @@ mod command_line;
 
 use anyhow::{Context, bail};
 use command_line::{Options, arguments};
-use guard_engine::{Answer, Store, Task, carry_out, guarded};
+use guard_engine::{Answer, Store, Task, carry_out, open_guard};
 use guard_store::EntryTable;
 use sqlite::{Alter, Connection, Error, FileFrom, FileStore, Start, Wary};
 use std::alloc::Global;
 use std::process::ExitCode;
 use std::rt::Files;
 
-// The entries or keys that the task is about.
+// Reads the entries or keys that the task is about.
 fn text_for<R: Files + Input + AllocGlobal>(rt: &R, task: Task) -> anyhow::Result<String> {
     match task {
         Task::Load(file) => std::fs::read_to_string(rt, file).context(format_args!(
@@ -54,7 +54,7 @@ fn serve<T: Store<Error = Error> + Drop>(
     text: &str,
 ) -> anyhow::Result<(T, anyhow::Result<Answer>)> {
     let room = room_for(options.task, text);
-    let mut guard = guarded(alloc, store, options.rate, room)?;
+    let mut guard = open_guard(alloc, store, options.rate, room)?;
     let answer = carry_out(&mut guard, options.task, text);
     Ok((guard.into_store(), answer))
 }
@@ -71,8 +71,8 @@ fn serve_over<D: Alter + Drop>(
     Ok((table.into_connection(), answer))
 }
 
-// The connection to a file, which is made where there is none.
-fn opened<S: Start>(
+// Opens a connection to a file, which is made where there is none.
+fn open_store<S: Start>(
     rt: &HostRuntime,
     path: &str,
     start: S,
@@ -84,7 +84,7 @@ fn opened<S: Start>(
 }
 
 // Copies the log into the file, and closes both.
-fn closed<S: Start>(conn: Connection<FileStore<FileFrom<S>>>) -> anyhow::Result<()> {
+fn close_store<S: Start>(conn: Connection<FileStore<FileFrom<S>>>) -> anyhow::Result<()> {
     conn.close().context("it can't be closed")
 }
 
@@ -95,15 +95,15 @@ fn run<S: Start>(
     text: &str,
     start: S,
 ) -> anyhow::Result<Answer> {
-    let conn = opened(rt, options.store, start)?;
+    let conn = open_store(rt, options.store, start)?;
     let (conn, answer) = serve_over(rt.alloc(), conn, options, text)?;
-    let ended = closed(conn);
+    let ended = close_store(conn);
     let answer = answer?;
     ended?;
     Ok(answer)
 }
 
-// Prints the answer: that a key has no value on standard error, and all else on standard output.
+// Prints the answer: an absence on standard error, and all else on standard output.
 fn tell(rt: &HostRuntime, answer: &Answer) -> std::io::Result<()> {
     if answer.is_absence() {
         eprintln!(rt; "{answer}")

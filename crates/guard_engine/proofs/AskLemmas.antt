@@ -26,7 +26,7 @@ pub record IsAsking {B S : Type 0} (hash_of : B → List ℕ → ℕ) (has : S �
       → Guards hash_of last (is_ready new) (has new)
   pub known : is_known new → is_known old
 
--- no key yet
+-- before the first key
 pub asking-none : {B S : Type 0} {hash_of : B → List ℕ → ℕ} {has : S → Entries}
     {is_ready is_known : S → Type 0} {f : Filter B} {old : S} (start : Counts)
     → start.spared < 2 ^ 64 → start.asked < 2 ^ 64 → start.false_alarms < 2 ^ 64
@@ -42,7 +42,7 @@ asking-none {hash_of = hash_of} {has = has} {is_ready = is_ready} {is_known = is
       known = λ known. known;
     }
 
--- what a look-up found is this
+-- a look-up found a value, a false alarm, or was spared
 abbrev Came : Type 0 → Found → Found → Type 0
 Came E found what = ◌≡◌ {A = Result Found E} (Ok found) (Ok what)
 
@@ -50,7 +50,7 @@ module _ {B S : Type 0} {hash_of : B → List ℕ → ℕ} {has : S → Entries}
     {is_ready is_known : S → Type 0} {f mid_f : Filter B} {old mid : S} {start before : Counts}
     {taken : List (Bor (List ℕ))}
     (so_far : IsAsking hash_of has is_ready is_known f old start taken mid_f mid before) where
-  -- nothing came or went, nor by a call that changes nothing
+  -- where nothing came or went, a call that changes nothing leaves it so
   pub asking-stays : {new : S} → (is_known new → is_known mid)
       → (is_ready mid → is_known new → Stays (has mid) (has new))
       → is_ready old → is_known new → Stays (has old) (has new)
@@ -58,7 +58,7 @@ module _ {B S : Type 0} {hash_of : B → List ℕ → ℕ} {has : S → Entries}
       Stays-after (has old) (has mid) (has new) (so_far.stays ready (known told))
       (stays (so_far.ready ready (known told)) told)
 
-  -- one key more
+  -- after one key more
   pub asking-more : {E : Type 0} {found : Found} {last : Filter B} {new : S} {after : Counts}
       (key : Bor (List ℕ))
       → (Came E found Spared ↔ (contains mid_f (hash_of mid_f.hasher key.now) ≡ false))
@@ -104,7 +104,7 @@ module _ {B S : Type 0} {hash_of : B → List ℕ → ℕ} {has : S → Entries}
         known = λ told. so_far.known (known told);
       }
 
-  -- the keys were the lines of the text
+  -- at the end the keys are the lines of the text
   pub asking-all : {begin from end last : _} {text : List ℕ} → begin ≡ from
       → lines_rest from ≡ text → Yields lines_steps begin taken last → lines_steps last None end
       → Tallies hash_of f (is_ready old × is_known mid) (has old) (lines text) start before

@@ -8,15 +8,15 @@ use Rattle.guard_engine.specs.declared.guard.Found.TheVariants.{Spared, FalseAla
 use Rattle.guard_engine.specs.Counted.{AreAbsent, Tallies, asked_keys, more_by, one_more, spared_keys}
 use Rattle.guard_engine.specs.Guarded.{Entries, Lacks, Stays}
 
--- one more after so many, up to a greatest number
+-- one more after this many, up to a greatest number
 one_after : (n many most : ℕ) → min (min (n + many) most + 1) most ≡ min (n + (many + 1)) most
 one_after n many most = omega arith
 
--- none more
+-- none more, up to a greatest number
 none_after : (n most : ℕ) → n ≤ most → min (n + 0) most ≡ n
 none_after n most fits = omega (arith, fits)
 
--- one more absent key
+-- one more key that has no value
 AreAbsent-absent : (entries : Entries) (keys : List (List ℕ)) (key : List ℕ) (many : ℕ)
     → AreAbsent entries keys many → Lacks entries key
     → AreAbsent entries (keys ++ key ∷ []) (many + 1)
@@ -27,7 +27,7 @@ AreAbsent-absent entries (first ∷ rest) key many (inl (gone, (others, more, so
 AreAbsent-absent entries (first ∷ rest) key many (inr (had, so_far)) lacks =
     inr (had, AreAbsent-absent entries rest key many so_far lacks)
 
--- one more key with a value
+-- one more key that has a value
 AreAbsent-present : (entries : Entries) (keys : List (List ℕ)) (key : List ℕ) (many : ℕ)
     → AreAbsent entries keys many → ((value : List ℕ) × entries key value)
     → AreAbsent entries (keys ++ key ∷ []) many
@@ -42,7 +42,7 @@ not_false : (b : Bool) → (b ≡ false → ⊥) → b ≡ true
 not_false true isnt = refl
 not_false false isnt = absurd (isnt refl)
 
--- what stays from old to mid and from there to new
+-- what stays from old to mid, and from mid to new, stays from old to new
 pub Stays-after : (old mid new : Entries) → Stays old mid → Stays mid new → Stays old new
 Stays-after old mid new first after key value = (
   (λ has. (first key value).0 ((after key value).0 has)),
@@ -52,21 +52,21 @@ Stays-after old mid new first after key value = (
 -- ---- the keys of which a filter says yes, or no
 
 module _ {X : Type 0} (p : X → Bool) (xs : List X) (x : X) where
-  -- one more that passes
+  -- one more key of which the filter says yes is kept
   filter-kept : p x ≡ true → filter p (xs ++ x ∷ []) ≡ filter p xs ++ x ∷ []
   filter-kept passes = rw (filter-append p xs (x ∷ []), passes) refl
 
-  -- one more that doesn't
+  -- one more key of which the filter says no is dropped
   filter-dropped : p x ≡ false → filter p (xs ++ x ∷ []) ≡ filter p xs
   filter-dropped fails = rw (filter-append p xs (x ∷ []), fails) (append-nil (filter p xs))
 
-  -- one more that passes counts
+  -- one more key of which the filter says yes counts as one
   length-kept : p x ≡ true → length (filter p (xs ++ x ∷ [])) ≡ length (filter p xs) + 1
   length-kept passes = ap length (filter-kept passes) ∙ length-append (filter p xs) (x ∷ [])
 
 -- ---- look-ups
 
--- of no keys
+-- no look-up leaves the counts as they were
 pub Tallies-none : {B : Type 0} (hash_of : B → List ℕ → ℕ) (f : Filter B) (is_told : Type 0)
     (entries : Entries) (counts : Counts) → counts.spared < 2 ^ 64 → counts.asked < 2 ^ 64
     → counts.false_alarms < 2 ^ 64 → Tallies hash_of f is_told entries [] counts counts
@@ -79,11 +79,11 @@ Tallies-none hash_of f is_told entries counts spared asked false_alarms = record
   absent = λ told. refl;
 }
 
--- of some keys, and of one more
+-- after some look-ups, one more
 module _ {B : Type 0} (hash_of : B → List ℕ → ℕ) (f : Filter B) (entries : Entries)
     (keys : List (List ℕ)) (key : List ℕ) (old mid new : Counts) (was_told is_told : Type 0)
     (was : Tallies hash_of f was_told entries keys old mid) (before : is_told → was_told) where
-  -- it is one that the filter lacks
+  -- one more key that the filter lacks is spared
   Tallies-spared : contains f (hash_of f.hasher key) ≡ false
       → new ≡ record mid { spared = one_more mid.spared }
       → Tallies hash_of f is_told entries (keys ++ key ∷ []) old new
@@ -114,23 +114,23 @@ module _ {B : Type 0} (hash_of : B → List ℕ → ℕ) (f : Filter B) (entries
     none_spared counted = counted ∙ was.spared ∙ ap (λ l. more_by old.spared (length l))
         (sym (filter-dropped (λ k. not (contains f (hash_of f.hasher k))) keys key (ap not has)))
 
-    -- and one more is asked
+    -- where the filter may have it, one more is asked
     one_longer : length (asked_keys hash_of f (keys ++ key ∷ []))
         ≡ length (asked_keys hash_of f keys) + 1
     one_longer = length-kept (λ k. contains f (hash_of f.hasher k)) keys key has
 
-    -- which is counted
+    -- one more look-up is counted as asked
     one_asked : new.asked ≡ one_more mid.asked
         → new.asked ≡ more_by old.asked (length (asked_keys hash_of f (keys ++ key ∷ [])))
     one_asked counted = counted ∙ ap one_more was.asked
         ∙ one_after old.asked (length (asked_keys hash_of f keys)) (2 ^ 64 - 1)
         ∙ ap (more_by old.asked) (sym one_longer)
 
-    -- and is the last of those
+    -- the key is the last of those that are asked
     asked_all : asked_keys hash_of f (keys ++ key ∷ []) ≡ asked_keys hash_of f keys ++ key ∷ []
     asked_all = filter-kept (λ k. contains f (hash_of f.hasher k)) keys key has
 
-    -- it is one that the filter may have, and has no value
+    -- one more key that the filter may have and the store lacks is a false alarm
     Tallies-alarm : (is_told → Lacks entries key)
         → new ≡ record mid { asked = one_more mid.asked; false_alarms = one_more mid.false_alarms }
         → Tallies hash_of f is_told entries (keys ++ key ∷ []) old new
@@ -146,7 +146,7 @@ module _ {B : Type 0} (hash_of : B → List ℕ → ℕ) (f : Filter B) (entries
           (was.absent (before told)) (lacks told));
     }
 
-    -- it is one that the filter may have, and has a value
+    -- one more key that has a value is asked, and no false alarm
     Tallies-value : (is_told → (value : List ℕ) × entries key value)
         → new ≡ record mid { asked = one_more mid.asked }
         → Tallies hash_of f is_told entries (keys ++ key ∷ []) old new
@@ -161,7 +161,7 @@ module _ {B : Type 0} (hash_of : B → List ℕ → ℕ) (f : Filter B) (entries
           (was.absent (before told)) (found told));
     }
 
-  -- it was looked up, whatever came of it
+  -- one more key was looked up, whatever that came to
   pub Tallies-more : {E : Type 0} (r : Result Found E)
       → (r ≡ Ok Spared) ↔ (contains f (hash_of f.hasher key) ≡ false)
       → (is_told → r ≡ Ok FalseAlarm → Lacks entries key)

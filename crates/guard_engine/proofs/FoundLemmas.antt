@@ -6,7 +6,7 @@ use Rattle.std.proofs.Math.Seq.{get_or-append_seam}
 use Rattle.bloom_plain.specs.Filter.{Filter, contains}
 use Rattle.guard_engine.specs.Guarded.{HoldsKeys}
 
--- what holds for some keys holds for one more
+-- a filter that has some keys, and gets one more, has all of them
 HoldsKeys-more : {B : Type 0} (hash_of : B → List ℕ → ℕ) (old new : Filter B)
     (keys : List (List ℕ)) (last : List ℕ) → HoldsKeys hash_of old keys
     → new.hasher ≡ old.hasher
@@ -24,7 +24,7 @@ HoldsKeys-more hash_of old new keys last so_far hasher stays here key (k, within
         ∙ get_or-append_seam keys last [] key in
         ap (λ x. contains new (hash_of old.hasher x)) same ∙ here
 
--- of the first items of a list, by their bytes, and of the item after them
+-- the same, for the first items of a list, by their bytes, and the item after them
 pub HoldsKeys-next : {B X : Type 0} (hash_of : B → List ℕ → ℕ) (old new : Filter B)
     (bytes : X → List ℕ) (items : List X) (i : ℕ) (item : X) → i < length items
     → item ≡ get_or items i item → HoldsKeys hash_of old (map bytes (take i items))

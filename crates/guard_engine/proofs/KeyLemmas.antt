@@ -1,4 +1,4 @@
--- Keys that get values, by one put and by one after the other.
+-- Keys that get values, by one put, and by puts one after the other.
 use Rattle.std.proofs.Common.{◌≡◌, ◌+◌, ℕ, inl, inr, List, [], ◌∷◌, ◌++◌, length-append, Ok, Err, Result, IfOk, Contains, refl, sym, subst, arith}
 use Rattle.std.proofs.lemmas.List.Elements.{Contains-append_left, Contains-append_right, Contains-append_cases}
 use Rattle.guard_engine.specs.declared.guard.Put.{Put}
@@ -7,7 +7,7 @@ use Rattle.guard_engine.specs.Guarded.{Entries, Gains, Lacks, Stays}
 use Rattle.guard_engine.specs.Loaded.{AreDistinct, GainsMany, added_by}
 use Rattle.guard_engine.proofs.LoadLemmas.{only}
 
--- two lists with no element in common
+-- two lists of different elements, with no element in common, make one list of different elements
 AreDistinct-append : {X : Type 0} (xs ys : List X) → AreDistinct xs → AreDistinct ys
     → ((x : X) → Contains xs x → ¬ Contains ys x) → AreDistinct (xs ++ ys)
 AreDistinct-append [] ys of_first of_rest apart = of_rest
@@ -20,7 +20,7 @@ AreDistinct-append (x ∷ xs) ys of_first of_rest apart = (
       (λ y there. apart y (Contains-append_right (x ∷ []) xs y there)),
 )
 
--- none, where all stays
+-- where all stays, no key got a value
 pub GainsMany-none : (old new : Entries) → Stays old new → GainsMany old new 0
 GainsMany-none old new stays = record {
   keys = [];
@@ -33,7 +33,7 @@ GainsMany-none old new stays = record {
   };
 }
 
--- one, where an entry came
+-- where an entry came, one key got a value
 pub GainsMany-one : (key value : List ℕ) (old new : Entries) → Lacks old key
     → Gains old key value new → GainsMany old new 1
 GainsMany-one key value old new lacks gains = record {
@@ -51,7 +51,7 @@ GainsMany-one key value old new lacks gains = record {
   };
 }
 
--- some, and then more: what got a value had none still, and what had one keeps it
+-- where some keys got a value, and then more, their numbers add up
 pub GainsMany-more : (old mid new : Entries) (some more : ℕ)
     → ((key value : List ℕ) → old key value → mid key value)
     → ((key value : List ℕ) → mid key value → new key value)
@@ -82,7 +82,7 @@ GainsMany-more old mid new some more early late first after = record {
   };
 }
 
--- a put of an entry, whatever it answers
+-- a put counts as many keys as it adds, whatever it answers
 pub put_gains : {E : Type 0} (key value : List ℕ) (old new : Entries) (r : Result Put E)
     → (r ≡ Ok Added → Lacks old key × Gains old key value new)
     → (r ≡ Ok Taken → ((other : List ℕ) × old key other) × Stays old new)

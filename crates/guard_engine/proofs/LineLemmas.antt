@@ -3,12 +3,12 @@ use Rattle.std.proofs.Common.{ℕ, ◌+◌, ◌≤◌, ◌==◌, if◌then◌els
 use Rattle.std.specs.List.{slice_split, onto_first}
 use Rattle.std.specs.Str.Lines.{lines, lines_of_parts}
 
--- a part is a line or none
+-- a part makes one line or none
 one_line : (is_empty : Bool) (part : List ℕ) → length (if is_empty then [] else part ∷ []) ≤ 1
 one_line true part = omega arith
 one_line false part = omega arith
 
--- a byte before the parts ends one, or is in the first: there is at most one line more
+-- with one more byte before the parts there is at most one line more
 more_lines : (is_end : Bool) (byte : ℕ) (parts : List (List ℕ))
     → length (lines_of_parts (if is_end then [] ∷ parts else onto_first byte parts))
     ≤ length (lines_of_parts parts) + 1

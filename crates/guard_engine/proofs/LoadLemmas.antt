@@ -47,7 +47,7 @@ cut_at (y ∷ xs) ys (b ∷ before) after x e =
       | inr (mid, is, more) ↦ inr (mid, rw (same, is) refl, more)
     ]
 
--- of no lines, where all stays
+-- no line was put where all stays
 pub Loads-stays : (old new : Entries) → Stays old new → Loads [] old new
 Loads-stays old new stays = record {
   kept = λ key value had. (stays key value).1 had;
@@ -56,11 +56,11 @@ Loads-stays old new stays = record {
   first = λ before after line is. absurd (no_element before after line is);
 }
 
--- of no lines
+-- no line was put where nothing happened
 pub Loads-nil : (entries : Entries) → Loads [] entries entries
 Loads-nil entries = Loads-stays entries entries (λ key value. (λ had. had, λ had. had))
 
--- of a line whose entry came
+-- a line was put where its entry came
 pub Loads-added : (line : List ℕ) (old new : Entries) → HasTab line
     → Gains old (key_in line) (value_in line) new → Loads (line ∷ []) old new
 Loads-added line old new tab gains = record {
@@ -78,7 +78,7 @@ Loads-added line old new tab gains = record {
     came key value (inr same) =
         inr (line, (0, omega arith, refl), record { tab = tab; key_is = same.0; value_is = same.1 })
 
--- of a line whose key had a value
+-- a line was put where its key had a value
 pub Loads-taken : (line : List ℕ) (old new : Entries) → HasTab line
     → ((other : List ℕ) × old (key_in line) other) → Stays old new → Loads (line ∷ []) old new
 Loads-taken line old new tab had stays = record {
@@ -91,7 +91,7 @@ Loads-taken line old new tab had stays = record {
       absurd (lacks had.0 (subst (λ l. old (key_in l) had.0) same had.1));
 }
 
--- of some lines and of more
+-- some lines were put, and then more
 pub Loads-more : (lines more : List (List ℕ)) (old mid new : Entries)
     → Loads lines old mid → Loads more mid new → Loads (lines ++ more) old new
 Loads-more lines more old mid new first after = record {
@@ -144,14 +144,14 @@ Loads-more lines more old mid new first after = record {
 
 -- ---- the lines that a loop took
 
--- they are the lines of the text
+-- at the end the lines that were taken are those of the text
 pub lines_read : (start last end : _) (text : List ℕ) (taken : List (Bor (List ℕ)))
     → lines_rest start ≡ text → Yields lines_steps start taken last → lines_steps last None end
     → map (λ line. line.now) taken ≡ lines text
 lines_read start last end text taken rest came ended =
     items_from_drains taken (last, came, λ _. (end, ended)) (YieldsList-from_lines text rest)
 
--- and so far they are the first of them, before the one that came last
+-- half-way the lines that were taken are the first of the text, before the one that came last
 pub lines_before : (start last next : _) (text : List ℕ) (taken : List (Bor (List ℕ)))
     (line : Bor (List ℕ)) → lines_rest start ≡ text → Yields lines_steps start taken last
     → lines_steps last (Some line) next
@@ -169,21 +169,21 @@ lines_before start last next text taken line rest came stepped =
 
 -- ---- one line
 
--- what a cut at the tab gives
+-- a cut at the tab gives the entry of a line
 pub cut : (line : List ℕ) (r : Option (Bor (List ℕ) × Bor (List ℕ))) → IsSplitOnceResult 9 line r
     → IfSome r (λ entry. IsEntryIn line entry.0.now entry.1.now)
 cut line None h = tt
 cut line (Some x) h = let at = split_once_first 9 line (Some x) h (omega arith) in
     record { tab = at.0; key_is = at.1; value_is = at.2 }
 
--- where there is none
+-- where there is no cut, the line has no tab
 pub uncut : (line : List ℕ) (r : Option (Bor (List ℕ) × Bor (List ℕ))) → IsSplitOnceResult 9 line r
     → r ≡ None → ¬ HasTab line
 uncut line None h is tab =
     let none = split_once_first 9 line None h (omega arith) in absurd (omega (arith, none, tab))
 uncut line (Some x) h is tab = cc
 
--- a put of its entry, whatever it answers
+-- a put of the entry of a line puts the line, whatever it answers
 pub put_loads : {E : Type 0} (line key value : List ℕ) (old new : Entries) (r : Result Put E)
     → IsEntryIn line key value
     → (r ≡ Ok Added → Lacks old key × Gains old key value new)

@@ -7,13 +7,13 @@ use Rattle.guard_engine.specs.Guarded.{Entries, Guards, HoldsKeys, LacksFilter, 
 use Rattle.guard_engine.specs.declared.guard.Refusal.{Refusal}
 use Rattle.guard_engine.specs.declared.guard.Refusal.TheVariants as refusal
 
--- refusals that are the same have the same error of a filter
+-- two refusals of a filter that are the same have the same error
 pub filter-injective : {G E : Type 0} (error other : FilterError)
     → ◌≡◌ {A = Result G (Refusal E)} (Err (refusal.Filter error)) (Err (refusal.Filter other))
     → error ≡ other
 filter-injective error other is = cc
 
--- a filter for so many keys and the room is refused
+-- a filter for this many keys and the room is refused
 pub lacks-filter : {B T : Type 0} (start : RateStart B) (room many sum : ℕ) (is_ready : Type 0)
     (is_known : T → Type 0) (entries : Entries) (left : T) (keys : List (List ℕ))
     (error : FilterError) → (is_ready → is_known left → Lists keys entries) → many ≡ length keys

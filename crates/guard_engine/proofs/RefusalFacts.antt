@@ -14,7 +14,7 @@ use Rattle.guard_engine.specs.Refusals.{RefusesGuard, RefusesTask, SaysLine, lin
 use Rattle.guard_engine.proofs.AnswerFacts.{none, one}
 use Rattle.guard_engine.proofs.TaskFacts.{line, loads, tab}
 
--- an error that says no says no other text
+-- an error whose text is "no" says no other text
 says-no : (text : List ℕ) (said : Error) → error_message said ≡ codes "no"
     → (codes "no" ≡ text → ⊥) → HasMessage (Some text) said → ⊥
 says-no text said told other (inl same) = other (sym told ∙ same)
@@ -24,14 +24,21 @@ says-no text said told other (inr dots) =
 
 -- ---- no guard
 
--- the store failed
+-- there is no guard where the store failed, which is said over its error
 guard-store : {E F : Type 0} (store : E → Option (List ℕ)) (filter : F → Option (List ℕ))
     (error : E) (said : Error)
     → IsContextOn (IsMadeOf (store error)) (Some (codes "the store's keys can't be read")) said
     → RefusesGuard store filter said
 guard-store store filter error said over = inl (error, over)
 
--- for no reason there is one
+-- there is no guard where there is no filter, which is said over the filter's error
+guard-filter : {E F : Type 0} (store : E → Option (List ℕ)) (filter : F → Option (List ℕ))
+    (error : F) (said : Error)
+    → IsContextOn (IsMadeOf (filter error)) (Some (codes "no filter for so many keys")) said
+    → RefusesGuard store filter said
+guard-filter store filter error said over = inr (error, over)
+
+-- there is always one of two reasons why there is no guard
 guard-no : {E F : Type 0} (store : E → Option (List ℕ)) (filter : F → Option (List ℕ))
     (said : Error) → error_message said ≡ codes "no" → RefusesGuard store filter said → ⊥
 guard-no store filter said told (inl over) =
@@ -41,19 +48,39 @@ guard-no store filter said told (inr over) =
 
 -- ---- no answer
 
--- the store failed at a look-up
+-- a put isn't carried out where the store failed
+put-store : {E : Type 0} (store : E → Option (List ℕ)) (key value : Bor (List ℕ)) (error : E)
+    (said : Error)
+    → IsContextOn (IsMadeOf (store error)) (Some (codes "the value can't be put")) said
+    → RefusesTask store (tasks.Put key value) [] one one said
+put-store store key value error said over = (error, over)
+
+-- a load isn't carried out where the store failed at one of its lines
+load-store : {E : Type 0} (store : E → Option (List ℕ)) (file : Bor (List ℕ)) (error : E)
+    (said : Error)
+    → IsContextOn (IsMadeOf (store error)) (Some (codes "a value can't be put")) said
+    → RefusesTask store (tasks.Load file) [] one one said
+load-store store file error said over = inr (error, over)
+
+-- look-ups of many keys aren't carried out where the store failed at one of them
+stats-store : {E : Type 0} (store : E → Option (List ℕ)) (error : E) (said : Error)
+    → IsContextOn (IsMadeOf (store error)) (Some (codes "a key can't be looked up")) said
+    → RefusesTask store tasks.Stats [] one one said
+stats-store store error said over = (error, over)
+
+-- a look-up isn't carried out where the store failed
 get-store : {E : Type 0} (store : E → Option (List ℕ)) (key : Bor (List ℕ)) (error : E)
     (said : Error)
     → IsContextOn (IsMadeOf (store error)) (Some (codes "the key can't be looked up")) said
     → RefusesTask store (tasks.Get key) [] one one said
 get-store store key error said over = (error, over)
 
--- where no error can come a look-up isn't refused
+-- a look-up is carried out where the store can't fail
 get-none : (store : ⊥ → Option (List ℕ)) (key : Bor (List ℕ)) (said : Error)
     → RefusesTask store (tasks.Get key) [] one one said → ⊥
 get-none store key said over = over.0
 
--- no task is refused for no reason
+-- there is always one of these reasons why a task isn't carried out
 task-no : {E : Type 0} (store : E → Option (List ℕ)) (task : Task) (text : List ℕ)
     (old new : Entries) (said : Error) → error_message said ≡ codes "no"
     → RefusesTask store task text old new said → ⊥
@@ -70,11 +97,11 @@ task-no store tasks.Stats text old new said told over =
 
 -- ---- a line without a tab
 
--- a line with a tab, and one without
+-- a text of a line with a tab, and of one without
 abbrev two : List ℕ
 two = 1 ∷ 9 ∷ 2 ∷ 10 ∷ 1 ∷ 2 ∷ []
 
--- the second has none, and the first was put
+-- a load of the two lines puts the first, and stops at the second
 stops : StopsAt (lines two) none one 2
 stops = record {
   before = line ∷ [];
@@ -86,7 +113,7 @@ stops = record {
   loads = loads;
 }
 
--- its number is said
+-- a load of the two lines says the number of the second
 says-second : (said : Error) → IsMadeOf (Some (codes "line 2 has no tab")) said
     → SaysLine (lines two) none one said
 says-second said made =
@@ -97,7 +124,7 @@ says-second said made =
           (sym digits) made;
     }
 
--- only the second has none
+-- a load of the two lines stops at no other line than the second
 is-second : (old new : Entries) (number : ℕ) → StopsAt (lines two) old new number → number ≡ 2
 is-second old new number at = of at.before at.number_is at.are
   where
@@ -109,7 +136,7 @@ is-second old new number at = of at.before at.number_is at.are
         let later : [] ≡ before ++ at.line ∷ at.after = cc in
         absurd (omega (arith, ap length later, length-append before (at.line ∷ at.after)))
 
--- and not the first one's
+-- a load of the two lines doesn't say the number of the first
 says-first : (said : Error) → error_message said ≡ codes "line 1 has no tab"
     → SaysLine (lines two) none one said → ⊥
 says-first said first at = of at.says.message

@@ -10,7 +10,7 @@ use Rattle.guard_engine.specs.declared.task.Task.{Task}
 use Rattle.guard_engine.specs.declared.task.Task.TheVariants as tasks
 use Rattle.guard_engine.specs.Refusals.{RefusesTask, line_text}
 
--- a line has no tab
+-- a load is refused where a line has no tab
 pub RefusesTask-line : {E : Type 0} (told : E → Option (List ℕ)) (task : Task)
     (file : Bor (List ℕ)) (text : List ℕ) (old new : Entries) (number : ℕ) (said : Error)
     → task ≡ tasks.Load file → StopsAt (lines text) old new number
@@ -19,7 +19,7 @@ RefusesTask-line told task file text old new number said is stops says =
     subst (λ t. RefusesTask told t text old new said) (sym is)
     (inl (record { number = number; stops = stops; says = says }))
 
--- the store failed
+-- a load is refused where the store failed
 pub RefusesTask-store : {T E : Type 0} (F : Type 0) (H : T → Type 0) (told : E → Option (List ℕ))
     (task : Task) (file : Bor (List ℕ)) (text : List ℕ) (old new : Entries) (error : E)
     (result : Result T Error) → task ≡ tasks.Load file

@@ -29,7 +29,7 @@ pub record IsLoading {B S : Type 0} (hash_of : B → List ℕ → ℕ) (has : S 
       → IsSingle (has old) → IsSingle (has new)
   pub known : is_known new → is_known old
 
--- no line yet
+-- before the first line
 pub loading-none : {B S : Type 0} {hash_of : B → List ℕ → ℕ} {has : S → Entries}
     {is_ready is_known : S → Type 0} {f : Filter B} {old : S}
     → IsLoading hash_of has is_ready is_known f old [] (record { added = 0; taken = 0 }) 0 f old
@@ -48,7 +48,7 @@ module _ {B S : Type 0} {hash_of : B → List ℕ → ℕ} {has : S → Entries}
     {is_ready is_known : S → Type 0} {f mid_f : Filter B} {old mid : S}
     {taken : List (Bor (List ℕ))} {before : Loaded} {number : ℕ}
     (so_far : IsLoading hash_of has is_ready is_known f old taken before number mid_f mid) where
-  -- one line more
+  -- after one line more
   pub loading-more : {last : Filter B} {new : S} {after : Loaded} {next : ℕ} (line : Bor (List ℕ))
       (put : Put)
       → (Guards hash_of mid_f (is_ready mid) (has mid) → is_known new
@@ -110,21 +110,21 @@ module _ {B S : Type 0} {hash_of : B → List ℕ → ℕ} {has : S → Entries}
   module _ {start from last end : _} {text : List ℕ} (given : start ≡ from)
       (rest : lines_rest from ≡ text) (came : Yields lines_steps start taken last)
       (ended : lines_steps last None end) where
-    -- the lines were those of the text
+    -- at the end the lines are those of the text
     all_lines : map (λ line. line.now) taken ≡ lines text
     all_lines = lines_read start last end text taken (ap lines_rest given ∙ rest) came ended
 
-    -- and are as many
+    -- there are as many lines as the text has
     many : length taken ≡ length (lines text)
     many = sym (length-map taken (λ line. line.now)) ∙ ap length all_lines
 
-    -- and all were put
+    -- each line of the text was put
     pub loaded-all : Guards hash_of f (is_ready old) (has old) → is_known mid
         → Loads (lines text) (has old) (has mid)
     loaded-all guards known =
         subst (λ all. Loads all (has old) (has mid)) all_lines (so_far.loads guards known)
 
-    -- and counted
+    -- each line of the text was counted
     pub counted-all : length (lines text) < 2 ^ 64
         → before.added + before.taken ≡ length (lines text)
     counted-all fits = so_far.counts (omega (arith, many, fits)) ∙ many
@@ -142,7 +142,7 @@ module _ {B S : Type 0} {hash_of : B → List ℕ → ℕ} {has : S → Entries}
     here : (more : List (List ℕ)) × (lines text ≡ map (λ l. l.now) taken ++ line.now ∷ more)
     here = lines_before start last next text taken line (ap lines_rest given ∙ rest) came stepped
 
-    -- at an error the first of them are put
+    -- at an error the first lines are put
     pub first-put : {new : S} → (is_known new → is_known mid)
         → (Guards hash_of mid_f (is_ready mid) (has mid) → is_known new
         → LoadsFirst (line.now ∷ []) (has mid) (has new))
@@ -153,7 +153,7 @@ module _ {B S : Type 0} {hash_of : B → List ℕ → ℕ} {has : S → Entries}
         (has new) here.1 (so_far.loads guards (known told))
         (one (so_far.guards guards (known told)) told)
 
-    -- and just those before a line without a tab, whose number is told
+    -- the lines before the one without a tab are put, and its number is told
     pub stops-at : {new : S} (at counted : ℕ) → (is_known new → is_known mid)
         → counted ≡ min (number + 1) (2 ^ 64 - 1)
         → (at ≡ counted) × (¬ HasTab line.now) × (new ≡ mid)

@@ -5,12 +5,12 @@ use Rattle.guard_engine.specs.Guarded.{Entries, Gains, Stays}
 use Rattle.guard_engine.specs.Loaded.{HasTab, IsEntryIn, Loads, LoadsFirst, StopsAt}
 use Rattle.guard_engine.proofs.LoadLemmas.{Loads-added, Loads-more, Loads-nil, Loads-stays}
 
--- a line of which nothing was put
+-- where all stays, none of one line was put
 pub LoadsFirst-none : (line : List ℕ) (entries : Entries) → LoadsFirst (line ∷ []) entries entries
 LoadsFirst-none line entries =
     record { first = []; rest = line ∷ []; are = refl; loads = Loads-nil entries }
 
--- a line whose put failed: its entry came, or nothing did
+-- where the put of a line failed, its entry came or nothing did
 pub LoadsFirst-one : (line key value : List ℕ) (old new : Entries) → IsEntryIn line key value
     → Stays old new ⊎ Gains old key value new → LoadsFirst (line ∷ []) old new
 LoadsFirst-one line key value old new is (inl stays) =
@@ -24,7 +24,7 @@ LoadsFirst-one line key value old new is (inr gains) = record {
 
 module _ (lines put rest : List (List ℕ)) (line : List ℕ) (old mid new : Entries)
     (are : lines ≡ put ++ line ∷ rest) (before : Loads put old mid) where
-  -- some lines were put, and of the next one this
+  -- after some lines, what became of the next one
   pub LoadsFirst-after : LoadsFirst (line ∷ []) mid new → LoadsFirst lines old new
   LoadsFirst-after one = record {
     first = put ++ one.first;
@@ -35,7 +35,7 @@ module _ (lines put rest : List (List ℕ)) (line : List ℕ) (old mid new : Ent
     loads = Loads-more put one.first old mid new before one.loads;
   }
 
-  -- the next line has no tab
+  -- after some lines, the next one has no tab
   pub StopsAt-after : (number : ℕ) → number ≡ length put + 1 → ¬ HasTab line
       → StopsAt lines old mid number
   StopsAt-after number number_is no_tab = record {

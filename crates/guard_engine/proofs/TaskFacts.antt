@@ -1,15 +1,16 @@
 -- What the answers to tasks say, of a store with the key 1 and the value 2: cases that hold, and
 -- near ones that don't. Byte 9 is the tab.
-use Rattle.std.proofs.Common.{◌≡◌, inl, inr, ℕ, List, [], ◌∷◌, Bor, Contains, length, length-append, refl, sym, ap, subst, arith}
+use Rattle.std.proofs.Common.{◌≡◌, inl, inr, ℕ, List, [], ◌∷◌, Bor, Contains, refl, sym, subst, arith}
 use Rattle.std.proofs.lemmas.List.Elements.{Contains-append_right}
 use Rattle.std.specs.Str.Lines.{lines}
-use Rattle.guard_engine.specs.declared.guard.Found.TheVariants.{Spared}
+use Rattle.guard_engine.specs.declared.guard.Found.TheVariants.{Spared, FalseAlarm, Value}
 use Rattle.guard_engine.specs.declared.guard.Put.TheVariants.{Added, Taken}
+use Rattle.guard_engine.specs.Guarded.{Entries}
 use Rattle.guard_engine.specs.Loaded.{GainsMany, HasTab, Loads, key_in, value_in}
 use Rattle.guard_engine.specs.declared.commands.Answer.TheVariants as answers
 use Rattle.guard_engine.specs.declared.task.Task.TheVariants as tasks
-use Rattle.guard_engine.specs.Answers.{Answers, IsLoaded, Leaves, TellsCounts}
-use Rattle.guard_engine.proofs.AnswerFacts.{none, one, counts, loaded, gains, same-one, put-added, found-spared}
+use Rattle.guard_engine.specs.Answers.{IsAnswerTo, IsLoaded}
+use Rattle.guard_engine.proofs.AnswerFacts.{none, one, counts, loaded, same-one, put-added, found-none, found-spared}
 
 -- a reference to a text
 abbrev pub lent : List ℕ → Bor (List ℕ)
@@ -17,23 +18,23 @@ lent text = record { ref_ptr = (0, 0); now = text }
 
 -- ---- a load
 
--- the key 1, a tab, the value 2
+-- a line with the key 1, a tab, and the value 2
 abbrev pub line : List ℕ
 line = 1 ∷ 9 ∷ 2 ∷ []
 
 -- the text of this line
-abbrev text : List ℕ
+abbrev pub text : List ℕ
 text = 1 ∷ 9 ∷ 2 ∷ 10 ∷ []
 
--- it has a tab
+-- the line has a tab
 pub tab : HasTab line
 tab = omega arith
 
--- the only one
+-- a list of one element has no other
 of_one : (only other : List ℕ) → Contains (only ∷ []) other → other ≡ only
 of_one only other (k, within, is) = let at : k ≡ 0 = omega (arith, within) in sym (rw at at is)
 
--- the line was put
+-- the line was put where its entry came
 pub loads : Loads (lines text) none one
 loads = record {
   kept = λ key value had. absurd had;
@@ -69,131 +70,107 @@ gained = record {
   };
 }
 
--- and counts as added
+-- a line whose entry came counts as added
 is_loaded : IsLoaded (lines text) none one (loaded 1 0)
 is_loaded = record { loads = loads; counts = refl; gains = gained }
 
--- not as taken
+-- a line whose entry came doesn't count as taken
 loaded-taken : IsLoaded (lines text) none one (loaded 0 1) → ⊥
 loaded-taken is = elim (is.gains.gains.others (1 ∷ []) (2 ∷ []) (refl, refl)) [
   | inl was ↦ was.1
   | inr there ↦ absurd (omega (arith, is.gains.counted, there.1))
 ]
 
--- not as none
+-- a line that was put counts
 loaded-none : IsLoaded (lines text) none one (loaded 0 0) → ⊥
 loaded-none is = let sum = is.counts in cc
 
--- nor twice
+-- a line that was put doesn't count twice
 loaded-twice : IsLoaded (lines text) none one (loaded 1 1) → ⊥
 loaded-twice is = let sum = is.counts in cc
 
--- nor where nothing came
+-- a line whose entry didn't come wasn't put
 loaded-nothing : IsLoaded (lines text) none none (loaded 1 0) → ⊥
 loaded-nothing is = let put = is.loads.found line (0, omega arith, refl) in put.1.1
 
+-- the key 1 with the value 3
+abbrev three : Entries
+three key value = (key ≡ 1 ∷ []) × (value ≡ 3 ∷ [])
+
+-- a line wasn't put where its key got another value
+loaded-other : IsLoaded (lines text) none three (loaded 1 0) → ⊥
+loaded-other is = elim (is.loads.others (1 ∷ []) (3 ∷ []) (refl, refl)) [
+  | inl had ↦ had
+  | inr (other, there, entry) ↦
+      let value : ◌≡◌ {A = List ℕ} (3 ∷ []) (2 ∷ []) =
+      subst (λ l. 3 ∷ [] ≡ value_in l) (of_one line other there) entry.value_is in cc
+]
+
 -- ---- answers
 
--- each task has its own
-answers-put : Answers (tasks.Put (lent (1 ∷ [])) (lent (2 ∷ []))) [] none one (answers.Put Added)
+-- a put is answered by what became of the entry
+answers-put : IsAnswerTo (tasks.Put (lent (1 ∷ [])) (lent (2 ∷ []))) [] none one (answers.Put Added)
 answers-put = (Added, refl, put-added)
 
-answers-get : Answers (tasks.Get (lent (3 ∷ []))) [] one one (answers.Found Spared)
+-- a look-up is answered by what was found
+answers-get : IsAnswerTo (tasks.Get (lent (3 ∷ []))) [] one one (answers.Found Spared)
 answers-get = (Spared, refl, found-spared, same-one)
 
-answers-load : Answers (tasks.Load (lent [])) text none one
+-- a load is answered by its sums and the counts
+answers-load : IsAnswerTo (tasks.Load (lent [])) text none one
     (answers.Loaded (loaded 1 0) (counts 1 0 0))
 answers-load = (loaded 1 0, counts 1 0 0, refl, is_loaded)
 
-answers-stats : Answers tasks.Stats text one one (answers.Counted (counts 1 0 0))
+-- look-ups of many keys are answered by the counts
+answers-stats : IsAnswerTo tasks.Stats text one one (answers.Counted (counts 1 0 0))
 answers-stats = (counts 1 0 0, refl, same-one)
 
--- and not that of another
-put-counted : Answers (tasks.Put (lent (1 ∷ [])) (lent (2 ∷ []))) [] none one
+-- a put isn't answered by counts
+put-counted : IsAnswerTo (tasks.Put (lent (1 ∷ [])) (lent (2 ∷ []))) [] none one
     (answers.Counted (counts 0 0 0)) → ⊥
 put-counted (put, same, is) = let e = same in cc
 
-get-put : Answers (tasks.Get (lent (1 ∷ []))) [] one one (answers.Put Taken) → ⊥
+-- a look-up isn't answered as a put
+get-put : IsAnswerTo (tasks.Get (lent (1 ∷ []))) [] one one (answers.Put Taken) → ⊥
 get-put (found, same, is, stays) = let e = same in cc
 
-load-counted : Answers (tasks.Load (lent [])) [] one one (answers.Counted (counts 0 0 0)) → ⊥
+-- a load isn't answered by counts alone
+load-counted : IsAnswerTo (tasks.Load (lent [])) [] one one (answers.Counted (counts 0 0 0)) → ⊥
 load-counted (sum, told, same, is) = let e = same in cc
 
-stats-loaded : Answers tasks.Stats [] one one (answers.Loaded (loaded 0 0) (counts 0 0 0)) → ⊥
+-- look-ups of many keys aren't answered as a load
+stats-loaded : IsAnswerTo tasks.Stats [] one one (answers.Loaded (loaded 0 0) (counts 0 0 0)) → ⊥
 stats-loaded (told, same, is) = let e = same in cc
 
--- key and value aren't swapped
-put-swapped : Answers (tasks.Put (lent (2 ∷ [])) (lent (1 ∷ []))) [] none one
+-- key and value of a put aren't swapped
+put-swapped : IsAnswerTo (tasks.Put (lent (2 ∷ [])) (lent (1 ∷ []))) [] none one
     (answers.Put Added) → ⊥
 put-swapped (Added, same, is) = let swapped = is.1.here.0 in cc
 put-swapped (Taken, same, is) = is.0.1
 
 -- a look-up puts nothing
-get-gains : Answers (tasks.Get (lent (3 ∷ []))) [] none one (answers.Found Spared) → ⊥
+get-gains : IsAnswerTo (tasks.Get (lent (3 ∷ []))) [] none one (answers.Found Spared) → ⊥
 get-gains (found, same, is, stays) = (stays (1 ∷ []) (2 ∷ [])).0 (refl, refl)
 
-stats-gains : Answers tasks.Stats [] none one (answers.Counted (counts 0 0 0)) → ⊥
+-- look-ups of many keys put nothing
+stats-gains : IsAnswerTo tasks.Stats [] none one (answers.Counted (counts 0 0 0)) → ⊥
 stats-gains (told, same, stays) = (stays (1 ∷ []) (2 ∷ [])).0 (refl, refl)
 
--- ---- what an error leaves
+-- an entry that came isn't called taken
+put-told_taken : IsAnswerTo (tasks.Put (lent (1 ∷ [])) (lent (2 ∷ []))) [] none one
+    (answers.Put Taken) → ⊥
+put-told_taken (Added, same, is) = let e = same in cc
+put-told_taken (Taken, same, is) = is.0.1
 
--- of an entry all or nothing
-leaves-none : Leaves (tasks.Put (lent (1 ∷ [])) (lent (3 ∷ []))) [] one one
-leaves-none = inl same-one
+-- a key that has a value isn't called absent
+get-absent : IsAnswerTo (tasks.Get (lent (1 ∷ []))) [] one one (answers.Found Spared) → ⊥
+get-absent (Spared, same, is, stays) = found-none is
+get-absent (FalseAlarm, same, is, stays) = let e = same in cc
+get-absent (Value text, same, is, stays) = let e = same in cc
 
-leaves-all : Leaves (tasks.Put (lent (1 ∷ [])) (lent (2 ∷ []))) [] none one
-leaves-all = inr gains
-
--- not another entry
-leaves-other : Leaves (tasks.Put (lent (1 ∷ [])) (lent (3 ∷ []))) [] none one → ⊥
-leaves-other (inl stays) = (stays (1 ∷ []) (2 ∷ [])).0 (refl, refl)
-leaves-other (inr is) = let same = is.here.1 in cc
-
--- of a look-up all as it was
-leaves-get : Leaves (tasks.Get (lent (1 ∷ []))) [] none one → ⊥
-leaves-get stays = (stays (1 ∷ []) (2 ∷ [])).0 (refl, refl)
-
-leaves-stats : Leaves tasks.Stats text none one → ⊥
-leaves-stats stays = (stays (1 ∷ []) (2 ∷ [])).0 (refl, refl)
-
--- of a load its first lines, of which there may be none
-leaves-load : Leaves (tasks.Load (lent [])) text none one
-leaves-load = record { first = line ∷ []; rest = []; are = refl; loads = loads }
-
-leaves-load-none : Leaves (tasks.Load (lent [])) text one one
-leaves-load-none = record {
-  first = [];
-  rest = line ∷ [];
-  are = refl;
-  loads = record {
-    kept = λ key value had. had;
-    others = λ key value has. inl has;
-    found = λ other there. absurd (omega (arith, there.1));
-    first = λ before after other is.
-        absurd (omega (arith, ap length is, length-append before (other ∷ after)));
-  };
-}
-
--- and nothing that isn't in the text
-leaves-load-other : Leaves (tasks.Load (lent [])) [] none one → ⊥
-leaves-load-other is = elim (is.loads.others (1 ∷ []) (2 ∷ []) (refl, refl)) [
-  | inl had ↦ had
-  | inr (other, there, entry) ↦
-      absurd (omega (arith, ap length is.are, length-append is.first is.rest, there.1))
-]
-
--- ---- counts
-
--- those that a load and look-ups tell
-tells-loaded : TellsCounts (answers.Loaded (loaded 1 0) (counts 1 2 1)) (counts 1 2 1)
-tells-loaded = refl
-
-tells-counted : TellsCounts (answers.Counted (counts 1 2 1)) (counts 1 2 1)
-tells-counted = refl
-
--- and no others
-tells-before : TellsCounts (answers.Counted (counts 0 0 0)) (counts 1 2 1) → ⊥
-tells-before same = let asked = ap (λ counts. counts.asked) same in cc
-
-tells-before-load : TellsCounts (answers.Loaded (loaded 1 0) (counts 0 0 0)) (counts 1 2 1) → ⊥
-tells-before-load same = let asked = ap (λ counts. counts.asked) same in cc
+-- a line whose entry came isn't called taken
+load-told_taken : IsAnswerTo (tasks.Load (lent [])) text none one
+    (answers.Loaded (loaded 0 1) (counts 1 0 0)) → ⊥
+load-told_taken (sum, told, same, is) =
+    let sums : sum ≡ loaded 0 1 = cc in
+    loaded-taken (subst (λ sum. IsLoaded (lines text) none one sum) sums is)

@@ -1,10 +1,12 @@
--- How look-ups are counted: what many of them come to, in a store behind a filter.
+-- How look-ups are counted, in a store behind a filter. The store is spared a look-up of a
+-- key that the filter lacks, and is asked for each other key. A false alarm is a key that it
+-- was asked for and lacks.
 use Rattle.std.specs.Prelude.{◌≡◌, ◌≤◌, ◌⊎◌, ◌+◌, ◌-◌, ◌^◌, ℕ, not, min, List, [], ◌∷◌, length, filter}
 use Rattle.bloom_plain.specs.Filter.{Filter, contains}
 use Rattle.guard_engine.specs.declared.counts.Counts.{Counts}
 use Rattle.guard_engine.specs.Guarded.{Entries, Lacks}
 
--- so many more, up to the greatest number of 64 bits
+-- this many more, up to the greatest number of 64 bits
 abbrev pub more_by : ℕ → ℕ → ℕ
 more_by n many = min (n + many) (2 ^ 64 - 1)
 
@@ -22,7 +24,7 @@ abbrev pub spared_keys :
     {B : Type 0} → (B → List ℕ → ℕ) → Filter B → List (List ℕ) → List (List ℕ)
 spared_keys hash_of f keys = filter (λ key. not (contains f (hash_of f.hasher key))) keys
 
--- so many of the keys have no value, each counted as often as it stands there
+-- this many of the keys have no value, each counted as often as it stands there
 abbrev pub AreAbsent : Entries → List (List ℕ) → ℕ → Type 0
 AreAbsent entries [] many = many ≡ 0
 AreAbsent entries (key ∷ rest) many =
@@ -30,8 +32,8 @@ AreAbsent entries (key ∷ rest) many =
     ⊎ (((value : List ℕ) × entries key value) × AreAbsent entries rest many)
 
 -- from old to new each of these keys was looked up once: those that the filter lacks count as
--- spared, the others as asked, and some of the others as false alarms; where the store told what it
--- has, as many as have no value
+-- spared, the others as asked, and some of the others as false alarms. Where the store told what it
+-- has, the false alarms are those with no value
 pub record Tallies {B : Type 0} (hash_of : B → List ℕ → ℕ) (f : Filter B) (is_told : Type 0)
     (entries : Entries) (keys : List (List ℕ)) (old new : Counts) : Type 0 where
   pub spared : new.spared ≡ more_by old.spared (length (spared_keys hash_of f keys))

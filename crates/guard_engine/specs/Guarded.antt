@@ -1,5 +1,5 @@
--- What a store has, and what a guard before it keeps true: that its filter (B. H. Bloom, 1970) has
--- each key of the store.
+-- What a store has, and what a guard before it keeps true: the guard's filter (B. H. Bloom, 1970)
+-- has each key of the store.
 use Rattle.std.specs.Prelude.{◌≡◌, ◌⊎◌, ◌↔◌, ℕ, ◌+◌, ◌-◌, ◌^◌, min, true, List, [], ◌∷◌, Contains, Some, length}
 use Rattle.std.specs.declared.hash.BuildHasher as builder
 use Rattle.std.specs.declared.hash.Hasher as hasher
@@ -54,8 +54,9 @@ pub record Guards {B : Type 0} (hash_of : B → List ℕ → ℕ) (filter : Filt
   pub ready : is_ready
   pub covers : Covers hash_of filter entries
 
--- why a guard has no filter. Its store is gone, so this is of some that was left: if its medium told
--- no lie, the keys were these; a filter for as many and for the room is refused so
+-- why there is no filter: one for this many keys and the room is refused with this error. The store
+-- is gone by then, so a store that was left is meant; provided its medium returned what was
+-- written, each key of the store is one of these
 pub record LacksFilter {B T : Type 0} (start : RateStart B) (room : ℕ) (is_ready : Type 0)
     (is_known : T → Type 0) (entries : Entries) (error : FilterError) : Type 0 where
   pub left : T

@@ -1,5 +1,5 @@
--- What a text of entries says, one a line, and what a store has once each was put. The lines are
--- those of `str::lines`: one ends before byte 10, or before bytes 13 and 10.
+-- What a text with an entry on each line says, and what a store has once each was put. The lines
+-- are those of `str::lines`: a line ends before byte 10, or before bytes 13 and 10.
 use Rattle.std.specs.Prelude.{◌≡◌, ◌⊎◌, ◌==◌, ◌<◌, ◌+◌, ℕ, List, [], ◌∷◌, ◌++◌, Bool, length, Contains, ⊤}
 use Rattle.std.specs.List.{after_first, before_first, position_or_len}
 use Rattle.guard_engine.specs.declared.guard.Put.{Put}
@@ -22,7 +22,7 @@ key_in line = before_first is_tab line
 abbrev pub value_in : List ℕ → List ℕ
 value_in line = after_first is_tab line
 
--- the entry of a line
+-- the line has a tab, and this key and value
 pub record IsEntryIn (line key value : List ℕ) : Type 0 where
   pub tab : HasTab line
   pub key_is : key ≡ key_in line
@@ -52,7 +52,7 @@ pub record GainsKeys (keys : List (List ℕ)) (old new : Entries) : Type 0 where
   pub others : (key value : List ℕ) → new key value
       → ((was : List ℕ) × old key was) ⊎ Contains keys key
 
--- from old to new so many keys got a value that had none
+-- from old to new this many keys got a value that had none
 pub record GainsMany (old new : Entries) (many : ℕ) : Type 0 where
   pub keys : List (List ℕ)
   pub counted : many ≡ length keys
@@ -64,7 +64,7 @@ abbrev pub added_by : Put → ℕ
 added_by Added = 1
 added_by Taken = 0
 
--- from old to new the first of these lines were put, and no other
+-- from old to new the first lines of these, some or none, were put, and no other
 pub record LoadsFirst (lines : List (List ℕ)) (old new : Entries) : Type 0 where
   pub first : List (List ℕ)
   pub rest : List (List ℕ)

@@ -1,5 +1,5 @@
--- Why there is no guard, and why a task isn't carried out: what is said, and of which error. That is
--- this project's own.
+-- Why there is no guard, and why a task isn't carried out: what is said, and over which error. The
+-- texts are this project's own.
 use Rattle.std.specs.Prelude.{◌⊎◌, ℕ, codes, decimal, List, ◌++◌, Option, Some}
 use Rattle.std.specs.Str.Lines.{lines}
 use Rattle.anyhow.specs.Error.{IsContextOn, IsMadeOf}
@@ -9,7 +9,7 @@ use Rattle.guard_engine.specs.Loaded.{StopsAt}
 use Rattle.guard_engine.specs.declared.task.Task.{Task}
 use Rattle.guard_engine.specs.declared.task.Task.TheVariants as tasks
 
--- the text is said over an error, which tells itself so
+-- the text is said over an error, whose own text is kept as its cause
 abbrev pub IsSaidOver : {E : Type 0} → (E → Option (List ℕ)) → List ℕ → Error → Type 0
 IsSaidOver {E} told text said = (error : E) × IsContextOn (IsMadeOf (told error)) (Some text) said
 
@@ -23,7 +23,7 @@ RefusesGuard store filter said = IsSaidOver store (codes "the store's keys can't
 abbrev pub line_text : ℕ → List ℕ
 line_text number = codes "line " ++ (decimal number ++ codes " has no tab")
 
--- a load stops at a line without a tab, and its number is said
+-- a load stops at a line without a tab, and says its number
 pub record SaysLine (lines : List (List ℕ)) (old new : Entries) (said : Error) : Type 0 where
   pub number : ℕ
   pub stops : StopsAt lines old new number

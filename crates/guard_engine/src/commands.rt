@@ -1,9 +1,9 @@
-//! What each task does, over any store.
+//! Tasks and their answers, over any store.
 ghost use Rattle.std.specs.Prelude.{◌≡◌, ◌↔◌, IfErr, IfOk, OnErr, IsTrue};
 ghost use Rattle.std.specs.Str.Lines.{lines};
 ghost use Rattle.guard_engine.specs.Counted.{Tallies};
 ghost use Rattle.guard_engine.specs.Guarded.{Guards, IsSingle, Stays, key_hash};
-ghost use Rattle.guard_engine.specs.Answers.{Answers, IsAbsence, IsNo, Leaves, TellsCounts};
+ghost use Rattle.guard_engine.specs.Answers.{IsAnswerTo, IsAbsence, IsNo, Leaves, TellsCounts};
 ghost use Rattle.guard_engine.specs.Refusals.{RefusesGuard, RefusesTask};
 
 use crate::counts::Counts;
@@ -87,11 +87,11 @@ impl fmt::Display for Answer {
     }
 }
 
-/// A guard before a store, by a filter of this rate under the zero key, with room for more keys.
+/// Opens a guard before a store: a filter of this rate under the zero key, with room for more keys.
 ///
 /// # Errors
 /// Where the store's keys can't be read, and where there is no such filter.
-pub fn guarded<T: Store<Error = E> + Drop, E: Error>(
+pub fn open_guard<T: Store<Error = E> + Drop, E: Error>(
     alloc: Global,
     store: T,
     rate: Rate,
@@ -104,7 +104,7 @@ pub fn guarded<T: Store<Error = E> + Drop, E: Error>(
         → Guards hash guard.filter (T.is_ready guard.store) (T.has guard.store)) }
     ensures stays { T.is_ready store → IfOk result (λ guard. T.is_known guard.store
         → Stays (T.has store) (T.has guard.store)) }
-    // Why there is none.
+    // Why there is no guard.
     ensures refused { IfErr result
         (RefusesGuard E.Display.output ⟦<FilterError as fmt::Display>⟧.output) }
 {
@@ -124,34 +124,34 @@ pub fn carry_out<T: Store<Error = E> + Drop, E: Error, B: BuildHasher + Drop>(
     task: Task,
     text: &str,
 ) -> anyhow::Result<Answer>
-    // The answer is so.
-    ensures so { let hash = key_hash B.BuildHasher B.Hasher.Hasher in
+    // The answer is true of the store.
+    ensures holds { let hash = key_hash B.BuildHasher B.Hasher.Hasher in
         Guards hash guard.old.filter (T.is_ready guard.old.store) (T.has guard.old.store)
         → T.is_known guard.new.store → IfOk result (λ answer.
-        Answers task.entry text.now (T.has guard.old.store) (T.has guard.new.store) answer) }
-    // What it says of counts is what the guard has counted.
+        IsAnswerTo task.entry text.now (T.has guard.old.store) (T.has guard.new.store) answer) }
+    // The counts that an answer tells are those of the guard.
     ensures counts { IfOk result (λ answer. TellsCounts answer guard.new.counts) }
     ensures tallies { let hash = key_hash B.BuildHasher B.Hasher.Hasher in
         task.entry ≡ Task.Stats → IfOk result (λ _.
         Tallies hash guard.old.filter (T.is_ready guard.old.store × T.is_known guard.new.store)
         (T.has guard.old.store) (lines text.now) guard.old.counts guard.new.counts) }
-    // What an error leaves.
+    // What an error leaves of the store.
     ensures err { let hash = key_hash B.BuildHasher B.Hasher.Hasher in
         Guards hash guard.old.filter (T.is_ready guard.old.store) (T.has guard.old.store)
         → T.is_known guard.new.store
         → OnErr result
         (Leaves task.entry text.now (T.has guard.old.store) (T.has guard.new.store)) }
-    // Why it is one.
+    // Why a task isn't carried out.
     ensures refused { let hash = key_hash B.BuildHasher B.Hasher.Hasher in
         Guards hash guard.old.filter (T.is_ready guard.old.store) (T.has guard.old.store)
         → T.is_known guard.new.store → IfErr result (RefusesTask E.Display.output
         task.entry text.now (T.has guard.old.store) (T.has guard.new.store)) }
-    // A key is put once: where no key had two values, none has after, also after an error.
+    // Where no key had two values, none has two afterwards, also after an error.
     ensures once { let hash = key_hash B.BuildHasher B.Hasher.Hasher in
         Guards hash guard.old.filter (T.is_ready guard.old.store) (T.has guard.old.store)
         → T.is_known guard.new.store
         → IsSingle (T.has guard.old.store) → IsSingle (T.has guard.new.store) }
-    // It is a guard as before, also after an error.
+    // The filter still has each key of the store, also after an error.
     ensures guards { let hash = key_hash B.BuildHasher B.Hasher.Hasher in
         Guards hash guard.old.filter (T.is_ready guard.old.store) (T.has guard.old.store)
         → T.is_known guard.new.store
@@ -168,7 +168,7 @@ pub fn carry_out<T: Store<Error = E> + Drop, E: Error, B: BuildHasher + Drop>(
             Ok(Answer::Found(found))
         }
         Task::Load(_) => {
-            // So its lines can be counted.
+            // A text of this length has fewer lines than a count can hold.
             prove!(text.len() <= usize::MAX);
             match load(guard, text) {
                 Ok(loaded) => Ok(Answer::Loaded(loaded, guard.counts)),

@@ -2,7 +2,7 @@
 ghost use Rattle.std.specs.Prelude.{◌≡◌, ◌<◌, ◌^◌};
 ghost use Rattle.guard_engine.specs.Counted.{one_more};
 
-/// How many look-ups the filter spared the store, how many the store was asked, and how many of
+/// How many look-ups the filter spared the store, how many the store was asked for, and how many of
 /// those for nothing. Each stops at the greatest number.
 #[derive(Clone, Copy, Debug, PartialEq, Eq)]
 pub struct Counts {
@@ -30,21 +30,21 @@ impl Counts {
         ensures false_alarms { self.false_alarms < 2 ^ 64 }
     {}
 
-    // The store was spared.
+    // Counts a look-up that the store was spared.
     pub(crate) fn spare(&mut self)
         ensures { self.new ≡ record self.old { spared = one_more self.old.spared } }
     {
         self.spared = self.spared.saturating_add(1);
     }
 
-    // The store is asked.
+    // Counts a look-up that the store is asked for.
     pub(crate) fn ask(&mut self)
         ensures { self.new ≡ record self.old { asked = one_more self.old.asked } }
     {
         self.asked = self.asked.saturating_add(1);
     }
 
-    // The store was asked for nothing.
+    // Counts a look-up that the store was asked for nothing.
     pub(crate) fn alarm(&mut self)
         ensures { self.new ≡ record self.old { false_alarms = one_more self.old.false_alarms } }
     {

@@ -16,8 +16,8 @@ use std::hash::BuildHasher;
 
 /// A store behind a filter of its keys.
 ///
-/// The promise is of calls through the guard: what else is put into the store is unknown to the
-/// filter.
+/// The promise is of calls through the guard: the filter doesn't know what is put into the store
+/// past it.
 #[derive(Debug, Drop)]
 pub struct Guard<T, B = DefaultHasher> {
     pub store: T,
@@ -39,7 +39,7 @@ pub enum Found {
 /// What became of an entry that was to be put.
 #[derive(Clone, Copy, Debug, PartialEq, Eq)]
 pub enum Put {
-    /// It is in the store.
+    /// The entry came into the store.
     Added,
     /// The key had a value, which stays.
     Taken,
@@ -53,7 +53,7 @@ pub enum Refusal<E> {
 }
 
 impl<T: Store + Drop, B: BuildHasher + Drop> Guard<T, B> {
-    /// A guard before a store, by a filter of all keys that it has, with room for more.
+    /// Opens a guard before a store, with a filter of all its keys and room for more.
     ///
     /// # Errors
     /// `Store` where the keys couldn't be read, and `Filter` where there is no such filter.
@@ -101,7 +101,7 @@ impl<T: Store + Drop, B: BuildHasher + Drop> Guard<T, B> {
             ↔ (contains self.old.filter (hash self.old.filter.hasher key.now) ≡ false) }
         ensures unasked { result ≡ Ok Found.Spared → self.new.store ≡ self.old.store }
         ensures filter { self.new.filter ≡ self.old.filter }
-        // What it answers is so.
+        // The answer is true of the store.
         ensures spared { let hash = key_hash B.BuildHasher B.Hasher.Hasher in
             Guards hash self.old.filter (T.is_ready self.old.store) (T.has self.old.store)
             → result ≡ Ok Found.Spared → Lacks (T.has self.old.store) key.now }
@@ -110,7 +110,7 @@ impl<T: Store + Drop, B: BuildHasher + Drop> Guard<T, B> {
         ensures value { T.is_ready self.old.store → T.is_known self.new.store
             → (value : _) → result ≡ Ok (Found.Value value)
             → T.has self.old.store key.now (string_bytes value) }
-        // It is a guard as before, also after an error.
+        // The filter still has each key of the store, also after an error.
         ensures guards { let hash = key_hash B.BuildHasher B.Hasher.Hasher in
             Guards hash self.old.filter (T.is_ready self.old.store) (T.has self.old.store)
             → T.is_known self.new.store
@@ -120,7 +120,7 @@ impl<T: Store + Drop, B: BuildHasher + Drop> Guard<T, B> {
         ensures ready { T.is_ready self.old.store → T.is_known self.new.store
             → T.is_ready self.new.store }
         ensures known { T.is_known self.new.store → T.is_known self.old.store }
-        // What it counts.
+        // What is counted.
         ensures count_spared { result ≡ Ok Found.Spared → self.new.counts
             ≡ record self.old.counts { spared = one_more self.old.counts.spared } }
         ensures count_alarm { result ≡ Ok Found.FalseAlarm → self.new.counts
@@ -145,7 +145,7 @@ impl<T: Store + Drop, B: BuildHasher + Drop> Guard<T, B> {
         }
     }
 
-    /// The store, without its guard.
+    /// Gives the store back, without its guard.
     pub fn into_store(self) -> T
         ensures { result ≡ self.store }
     {
@@ -175,7 +175,8 @@ impl<T: Store + Drop, B: BuildHasher + Drop> Guard<T, B> {
 
     /// Puts an entry whose key has no value yet, into the filter before the store.
     ///
-    /// After an error of the store the entry is there or nothing changed, and the guard holds on.
+    /// After an error of the store the entry is there or nothing changed, and the filter has each
+    /// key.
     pub fn put(&mut self, key: &str, value: &str) -> Result<Put, T::Error>
         ensures added { let hash = key_hash B.BuildHasher B.Hasher.Hasher in
             Guards hash self.old.filter (T.is_ready self.old.store) (T.has self.old.store)
@@ -192,12 +193,12 @@ impl<T: Store + Drop, B: BuildHasher + Drop> Guard<T, B> {
             → T.is_known self.new.store
             → OnErr result (Stays (T.has self.old.store) (T.has self.new.store)
             ⊎ Gains (T.has self.old.store) key.now value.now (T.has self.new.store)) }
-        // A key is put once: where no key had two values, none has after, also after an error.
+        // Where no key had two values, none has two afterwards, also after an error.
         ensures once { let hash = key_hash B.BuildHasher B.Hasher.Hasher in
             Guards hash self.old.filter (T.is_ready self.old.store) (T.has self.old.store)
             → T.is_known self.new.store
             → IsSingle (T.has self.old.store) → IsSingle (T.has self.new.store) }
-        // It is a guard as before, also after an error.
+        // The filter still has each key of the store, also after an error.
         ensures guards { let hash = key_hash B.BuildHasher B.Hasher.Hasher in
             Guards hash self.old.filter (T.is_ready self.old.store) (T.has self.old.store)
             → T.is_known self.new.store

@@ -1,4 +1,5 @@
-//! A guard before a store: a filter of its keys, which is asked first, and what it is asked to do.
+//! A guard stands before a store. It asks a filter of the store's keys first, and carries tasks
+//! out.
 #![tactic(auto)]
 
 mod commands;
@@ -8,7 +9,7 @@ mod runs;
 mod store;
 mod task;
 
-pub use commands::{Answer, carry_out, guarded};
+pub use commands::{Answer, carry_out, open_guard};
 pub use counts::Counts;
 pub use guard::{Found, Guard, Put, Refusal};
 pub use runs::{Loaded, Stop, ask, load};

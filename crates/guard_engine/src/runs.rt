@@ -20,7 +20,7 @@ pub struct Loaded {
 }
 
 impl Loaded {
-    // One more entry.
+    // Counts one more entry.
     fn after(self, put: Put) -> Self
         ensures sum { self.added + self.taken + 1 < 2 ^ 64
             → result.added + result.taken ≡ self.added + self.taken + 1 }
@@ -50,7 +50,7 @@ pub enum Stop<E> {
 /// Puts the entries of a text: each line has a key, a tab, and a value.
 ///
 /// # Errors
-/// `Line` and `Store`, with the entries of the lines before put.
+/// `Line` and `Store`; the entries of the lines before are put.
 pub fn load<T: Store + Drop, B: BuildHasher + Drop>(
     guard: &mut Guard<T, B>,
     text: &str,
@@ -62,7 +62,7 @@ pub fn load<T: Store + Drop, B: BuildHasher + Drop>(
         Loads (lines text.now) (T.has guard.old.store) (T.has guard.new.store)) }
     ensures counts { length (lines text.now) < 2 ^ 64 → IfOk result (λ loaded.
         loaded.added + loaded.taken ≡ length (lines text.now)) }
-    // As added count just the keys that got a value.
+    // The number added is that of the keys that got a value.
     ensures added { let hash = key_hash B.BuildHasher B.Hasher.Hasher in
         Guards hash guard.old.filter (T.is_ready guard.old.store) (T.has guard.old.store)
         → T.is_known guard.new.store → length (lines text.now) < 2 ^ 64 → IfOk result (λ loaded.
@@ -81,7 +81,7 @@ pub fn load<T: Store + Drop, B: BuildHasher + Drop>(
         Guards hash guard.old.filter (T.is_ready guard.old.store) (T.has guard.old.store)
         → T.is_known guard.new.store
         → Guards hash guard.new.filter (T.is_ready guard.new.store) (T.has guard.new.store) }
-    // Each key is put once.
+    // Where no key had two values, none has two afterwards, also after an error.
     ensures once { let hash = key_hash B.BuildHasher B.Hasher.Hasher in
         Guards hash guard.old.filter (T.is_ready guard.old.store) (T.has guard.old.store)
         → T.is_known guard.new.store
@@ -98,16 +98,16 @@ pub fn load<T: Store + Drop, B: BuildHasher + Drop>(
     Ok(loaded)
 }
 
-/// Looks up each line of a text as a key; the guard counts what it came to.
+/// Looks up each line of a text as a key; the guard counts what the look-ups came to.
 pub fn ask<T: Store + Drop, B: BuildHasher + Drop>(
     guard: &mut Guard<T, B>,
     text: &str,
 ) -> Result<(), T::Error>
-    // Each line was looked up once, and counts as what that came to.
+    // Each line was looked up once, and counts as spared, as asked, or as a false alarm.
     ensures counts { let hash = key_hash B.BuildHasher B.Hasher.Hasher in IfOk result (λ _.
         Tallies hash guard.old.filter (T.is_ready guard.old.store × T.is_known guard.new.store)
         (T.has guard.old.store) (lines text.now) guard.old.counts guard.new.counts) }
-    // Filter and entries stay as they were, and it is a guard as before, also after an error.
+    // Filter and entries stay as they were, also after an error.
     ensures filter { guard.new.filter ≡ guard.old.filter }
     ensures stays { T.is_ready guard.old.store → T.is_known guard.new.store
         → Stays (T.has guard.old.store) (T.has guard.new.store) }

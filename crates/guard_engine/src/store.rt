@@ -2,7 +2,7 @@
 ghost use Rattle.std.specs.Prelude.{ℕ, List, map, string_bytes, vec_items, IfOk, OnOk, OnErr, MatchOption, ◌⊎◌};
 ghost use Rattle.guard_engine.specs.Guarded.{Gains, Lacks, Lists, Stays};
 
-/// A store of texts by keys, whose medium may lie or fail.
+/// A store of texts by keys, whose medium may fail, or return what wasn't written.
 ///
 /// What a call says of entries holds where the store was ready before it and is known after it.
 pub trait Store {
@@ -11,13 +11,13 @@ pub trait Store {
     /// What the store has: which values at which keys.
     ghost has: { Self → List ℕ → List ℕ → Type 0 };
 
-    /// The medium has told no lie, and the store is open.
+    /// So far the medium has returned what was written, and the store is open.
     ghost is_known: { Self → Type 0 };
 
     /// The store has the form that these calls are for.
     ghost is_ready: { Self → Type 0 };
 
-    /// Every key.
+    /// Lists every key.
     fn keys(&mut self) -> Result<Vec<String>, Self::Error>
         ensures known { is_known self.new → is_known self.old }
         ensures ready { is_ready self.old → is_known self.new → is_ready self.new }
@@ -26,7 +26,7 @@ pub trait Store {
         ensures stays { is_ready self.old → is_known self.new
             → Stays (has self.old) (has self.new) };
 
-    /// A value of the key, if it has one.
+    /// Finds a value of the key, if it has one.
     fn value_of(&mut self, key: &str) -> Result<Option<String>, Self::Error>
         ensures known { is_known self.new → is_known self.old }
         ensures ready { is_ready self.old → is_known self.new → is_ready self.new }

@@ -1,4 +1,4 @@
-//! Tasks.
+//! What a guard may be asked to do.
 
 /// What is to be done with a store.
 #[derive(Clone, Copy, Debug, PartialEq, Eq)]

@@ -10,12 +10,12 @@ use std::test::Fail;
 const TABLE: &str = "CREATE TABLE entry (id INTEGER PRIMARY KEY, name TEXT NOT NULL UNIQUE, \
      value TEXT NOT NULL) STRICT";
 
-// The calls, which no test needs a clause of.
+// The calls of a store. No test needs a clause of one.
 fn run(conn: &mut Connection<MemStore>, sql: &str) -> Result<usize, Error> {
     conn.execute(sql, &[])
 }
 
-fn made(alloc: Global, conn: Connection<MemStore>) -> Result<EntryTable<MemStore>, Unfit> {
+fn make_store(alloc: Global, conn: Connection<MemStore>) -> Result<EntryTable<MemStore>, Unfit> {
     EntryTable::over(alloc, conn)
 }
 
@@ -31,8 +31,8 @@ fn add(table: &mut EntryTable<MemStore>, key: &str, value: &str) -> Result<(), E
     table.add(key, value)
 }
 
-// A connection in memory over which these statements ran.
-fn after(alloc: Global, statements: &[&str]) -> Result<Connection<MemStore>, Error> {
+// Opens a connection in memory, and runs these statements.
+fn open_after(alloc: Global, statements: &[&str]) -> Result<Connection<MemStore>, Error> {
     let mut conn = Connection::open_in_memory(alloc)?;
     for sql in statements {
         run(&mut conn, sql)?;
@@ -50,8 +50,8 @@ fn has(table: &mut EntryTable<MemStore>, key: &str, value: &str) -> Result<bool,
 
 #[test]
 fn a_table_is_made_where_there_is_none(rt: HostRuntime) -> Result<(), Fail> {
-    let conn = after(rt.alloc(), &[])?;
-    let Ok(mut table) = made(rt.alloc(), conn) else {
+    let conn = open_after(rt.alloc(), &[])?;
+    let Ok(mut table) = make_store(rt.alloc(), conn) else {
         return Err(Fail::from("an empty connection was refused"));
     };
     add(&mut table, "crab", "10")?;
@@ -66,8 +66,8 @@ fn a_table_is_made_where_there_is_none(rt: HostRuntime) -> Result<(), Fail> {
 #[test]
 fn what_a_table_had_is_found(rt: HostRuntime) -> Result<(), Fail> {
     let entry = "INSERT INTO entry (name, value) VALUES ('crab', '10')";
-    let conn = after(rt.alloc(), &[TABLE, entry])?;
-    let Ok(mut table) = made(rt.alloc(), conn) else {
+    let conn = open_after(rt.alloc(), &[TABLE, entry])?;
+    let Ok(mut table) = make_store(rt.alloc(), conn) else {
         return Err(Fail::from("the table was refused"));
     };
     assert!(rt; has(&mut table, "crab", "10")?);
@@ -125,9 +125,9 @@ const OTHERS: [&[&str]; 12] = [
 #[test]
 fn another_schema_is_refused(rt: HostRuntime) -> Result<(), Fail> {
     for statements in OTHERS {
-        let conn = after(rt.alloc(), statements)?;
+        let conn = open_after(rt.alloc(), statements)?;
         assert!(rt;
-            matches!(made(rt.alloc(), conn), Err(Unfit::Schema)),
+            matches!(make_store(rt.alloc(), conn), Err(Unfit::Schema)),
             "after {statements:?}"
         );
     }
@@ -136,8 +136,8 @@ fn another_schema_is_refused(rt: HostRuntime) -> Result<(), Fail> {
 
 #[test]
 fn an_open_transaction_is_refused(rt: HostRuntime) -> Result<(), Fail> {
-    let conn = after(rt.alloc(), &[TABLE, "BEGIN"])?;
-    assert!(rt; matches!(made(rt.alloc(), conn), Err(Unfit::Transaction)));
+    let conn = open_after(rt.alloc(), &[TABLE, "BEGIN"])?;
+    assert!(rt; matches!(make_store(rt.alloc(), conn), Err(Unfit::Transaction)));
     Ok(())
 }
 

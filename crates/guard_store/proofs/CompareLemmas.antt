@@ -20,7 +20,7 @@ holds_when : (b : Bool) → is_true (from_truth (Some b)) ≡ b
 holds_when true = refl
 holds_when false = refl
 
--- of orderings one alone is equal
+-- one ordering alone is equal
 equal_only : (o : Ordering) → is_eq o ≡ true → o ≡ Equal
 equal_only Less h = absurd cc
 equal_only Equal h = refl

@@ -39,7 +39,7 @@ is_create : IsCreate (understood no_schema create_text)
 unfolding understood everything
 is_create = (refl, refl, refl, refl, refl, refl)
 
--- so it is understood by a connection with no schema
+-- a connection with no schema understands the statement
 understands : {s : Schema} {r : Result Compiled CompileError} → s ≡ no_schema
     → understood s create_text ≡ r → IsCreate r
 understands none is = subst IsCreate (ap (λ s. understood s create_text) (sym none) ∙ is) is_create
@@ -51,11 +51,11 @@ defined : table_defined_by create_text ≡ Ok entry
 unfolding everything
 defined = refl
 
--- and no other
+-- the text defines no other table
 only_entry : (table : Table) → table_defined_by create_text ≡ Ok table → table ≡ entry
 only_entry table is = let both : Ok table ≡ Ok entry = sym is ∙ defined in cc
 
--- its name and the text are texts
+-- the table's name and the statement are texts
 name_text : IsUtf8 (codes "entry")
 unfolding encode
 name_text = (codes "entry", (refl, refl))
@@ -71,12 +71,12 @@ false_is e = absurd cc
 true_is : {A : Type 0} → true ≡ false → A
 true_is e = absurd cc
 
--- its places are low
+-- no place in a key of the table is too high
 low_key : (key : List ℕ) → Has entry.uniques key → 2 ^ 64 ≤ index_reals (table_reals entry) key → ⊥
 low_key key (inl e) many = absurd (omega (arith, rw e at many))
 low_key key (inr none) many = none
 
--- there is no reason to refuse it
+-- there is no reason to refuse the table
 refused : (reason : Refusal) → RefusesTable no_schema create_text reason → ⊥
 unfolding fits_kind is_free_name same_name begins value_cmp everything lib.Ieee.is_nan lib.Ieee.lt
 refused (Invalid e) is = let both = sym is ∙ defined in cc
@@ -93,7 +93,7 @@ refused BadKey (table, is, form) = true_is (rw (only_entry table is) at form)
 refused BadText (table, is, fit) = true_is (rw (only_entry table is) at fit)
 refused (Violates rule) is = is
 
--- so the statement isn't refused
+-- the statement isn't refused
 unmade : (db : Database) (stop : Option Error) → db.schema ≡ no_schema
     → Makes create_text db (Err stop) → ⊥
 unmade db None none (table, is, long) = absurd (omega (arith, rw (only_entry table is) at long))
@@ -101,7 +101,7 @@ unmade db (Some e) none (inl (no_text, why)) = no_text whole_text
 unmade db (Some e) none (inr (reason, refuses, why)) =
     refused reason (subst (λ s. RefusesTable s create_text reason) none refuses)
 
--- and ends with the table, where it doesn't fail
+-- a statement that ends makes the table
 unrefused : (limit : Option ℕ) (mode : Mode) (params : Row) (db : Database) (stop : Option Error)
     → db.schema ≡ no_schema → Does limit mode params db create_text None CreateTable (Err stop) → ⊥
 unrefused limit mode params db stop none (inl (other, inl (another, refuses, e), f)) =
@@ -164,7 +164,7 @@ make_failure old new e none (inr (c, it, alone)) =
     let hidden : shows_rows false c ≡ false = rw (is.0, is.1) refl in
     failed old new e _ c none is (rw hidden at alone)
 
--- the same of each answer
+-- the same, for each answer
 pub make_fault : (old new : State) (r : Result ℕ Error) → old.now.schema ≡ no_schema
     → Executes create_text [] old new r → IfErr r (IsFault old new)
 make_fault old new (Ok count) none h = tt

@@ -1,17 +1,17 @@
--- Which connection is a store, why another isn't, what the statement that makes the table makes,
--- and why it fails: cases that hold, and near ones that don't.
+-- Which connection is a store, why another isn't, what the statement that makes the table
+-- makes, and why it fails: cases that hold, and near ones that don't.
 use Rattle.std.proofs.Common.{true, false, [], refl, ap, arith}
 use Rattle.sqlite.specs.Effect.{Database}
 use Rattle.sqlite.specs.State.{State}
 use Rattle.sqlite.specs.declared.error.Error.TheVariants.{SqliteFailure, InvalidQuery}
 use Rattle.sqlite.specs.declared.error.ErrorCode.TheVariants as code
 use Rattle.sqlite_trees.specs.declared.error.StoreError.TheVariants.{OutOfMemory, Io, Corrupt, Full, Broken, Unstorable}
-use Rattle.guard_store.proofs.EntryFacts.{at, database, entries}
+use Rattle.guard_store.proofs.ReadyFacts.{at, database, entries}
 use Rattle.guard_store.specs.Entry.{IsFault, MakesTable, entry_schema, no_schema}
 use Rattle.guard_store.specs.Fit.{IsFit, IsUnfit, IsUnmade}
 use Rattle.guard_store.specs.declared.entry_table.Unfit.TheVariants as why
 
--- nothing at all, with no row
+-- a database with no table and no row
 abbrev nothing : Database
 nothing = database no_schema []
 
@@ -19,76 +19,78 @@ nothing = database no_schema []
 abbrev made : Database
 made = database entry_schema []
 
--- connections to these, in no transaction and in one
+-- a connection with no table, in no transaction
 abbrev bare : State
 bare = at nothing nothing false true true
 
+-- a connection with no table, in a transaction
 abbrev bare_within : State
 bare_within = at nothing nothing true true true
 
+-- a connection that made the table in a transaction, not committed yet
 abbrev made_within : State
 made_within = at made nothing true true true
 
--- the table and no transaction
+-- a connection with the table, in no transaction, can be a store
 fit : IsFit (at entries entries false true true)
 fit = (refl, refl)
 
--- not another schema
+-- a connection with no table can't be a store
 fit-other : IsFit bare → ⊥
 fit-other is = let same = ap (λ s. s.tables) is.0 in cc
 
--- nor in a transaction
+-- a connection in a transaction can't be a store
 fit-within : IsFit (at entries entries true true true) → ⊥
 fit-within is = let same = is.1 in cc
 
--- another schema is no store, also in a transaction
+-- another schema is the reason, also in a transaction
 unfit-schema : IsUnfit bare_within why.Schema
 unfit-schema same = let tables = ap (λ s. s.tables) same in cc
 
--- not the table
+-- the schema isn't the reason where there is the table
 unfit-schema-same : IsUnfit (at entries entries true true true) why.Schema → ⊥
 unfit-schema-same is = is refl
 
--- nor is the table in a transaction
+-- the transaction is the reason where there is the table
 unfit-within : IsUnfit (at entries entries true true true) why.Transaction
 unfit-within = (refl, refl)
 
--- not in none
+-- the transaction isn't the reason where there is none
 unfit-within-none : IsUnfit (at entries entries false true true) why.Transaction → ⊥
 unfit-within-none is = let same = is.1 in cc
 
--- nor another schema in a transaction
+-- the transaction isn't the reason where there is another schema
 unfit-within-other : IsUnfit bare_within why.Transaction → ⊥
 unfit-within-other is = let same = ap (λ s. s.tables) is.0 in cc
 
--- no statement is refused where there is a schema
+-- no statement failed where there is a schema
 unfit-sql : IsUnfit (at entries entries false true true) (why.Sql InvalidQuery) → ⊥
 unfit-sql is = is
 
--- the table was made, in a transaction too
+-- the table was made, also in a transaction
 makes : MakesTable bare_within made_within
 makes = record { schema = refl; empty = refl; mode = refl }
 
--- not with an entry
+-- a table with an entry wasn't just made
 makes-full : MakesTable bare_within (at entries nothing true true true) → ⊥
 makes-full is = let rows = is.empty in cc
 
--- nor nothing
+-- no table was made where there is none
 makes-nothing : MakesTable bare_within bare_within → ⊥
 makes-nothing is = let same = ap (λ s. s.tables) is.schema in cc
 
--- nor where it ended the transaction
+-- the statement that makes the table doesn't end the transaction
 makes-and-ends : MakesTable bare_within (at made made false true true) → ⊥
 makes-and-ends is = let same = is.mode in cc
 
 -- ---- failures
 
--- there was no memory
+-- out of memory may be the fault at any time
 fault : IsFault bare bare
     (SqliteFailure code.OutOfMemory)
 fault = (OutOfMemory, refl, tt)
 
--- not a fault of a disk that had none
+-- a disk that had no fault isn't the reason
 fault-none : IsFault bare bare
     (SqliteFailure code.SystemIoFailure) → ⊥
 fault-none (OutOfMemory, is, h) = cc
@@ -98,7 +100,7 @@ fault-none (Full, is, more) = cc
 fault-none (Broken, is, shut) = cc
 fault-none (Unstorable, is, big) = big
 
--- nor a connection that was open
+-- a connection that was open didn't fail since it was shut
 fault-open : IsFault bare bare
     (SqliteFailure code.Closed) → ⊥
 fault-open (OutOfMemory, is, h) = cc
@@ -108,12 +110,22 @@ fault-open (Full, is, more) = cc
 fault-open (Broken, is, shut) = cc
 fault-open (Unstorable, is, big) = big
 
--- a connection with no schema is refused for a failure
+-- the table is never too big
+fault-big : IsFault bare bare
+    (SqliteFailure code.TooBig) → ⊥
+fault-big (OutOfMemory, is, h) = cc
+fault-big (Io, is, more) = cc
+fault-big (Corrupt, is, more) = cc
+fault-big (Full, is, more) = cc
+fault-big (Broken, is, shut) = cc
+fault-big (Unstorable, is, big) = big
+
+-- a connection with no schema is refused where it is out of memory
 unmade-sql : IsUnmade bare bare
     (why.Sql (SqliteFailure code.OutOfMemory))
 unmade-sql = (OutOfMemory, refl, tt)
 
--- not for another error
+-- a wrong query is never the reason why no table was made
 unmade-sql-other : IsUnmade bare bare
     (why.Sql InvalidQuery) → ⊥
 unmade-sql-other (OutOfMemory, is, h) = cc
@@ -123,14 +135,14 @@ unmade-sql-other (Full, is, more) = cc
 unmade-sql-other (Broken, is, shut) = cc
 unmade-sql-other (Unstorable, is, big) = big
 
--- nor for its schema
+-- the schema is never the reason where the table was made
 unmade-schema : IsUnmade bare_within made_within why.Schema → ⊥
 unmade-schema is = is
 
--- but in a transaction
+-- the transaction is the reason where there was one before
 unmade-within : IsUnmade bare_within made_within why.Transaction
 unmade-within = refl
 
--- not in none
+-- the transaction isn't the reason where there was none
 unmade-within-none : IsUnmade bare (at made made false true true) why.Transaction → ⊥
 unmade-within-none is = let same = is in cc

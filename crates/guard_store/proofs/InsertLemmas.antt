@@ -71,7 +71,7 @@ record Added (old new : State) (row : Row) : Type 0 where
   shown : Shows old new new.now (if old.in_transaction then old.committed else new.now)
       old.in_transaction
 
--- it leaves the row of the next id
+-- an INSERT that was carried out leaves the row of the next id
 adds : (old new : State) (name value : List ℕ) (count : ℕ) → old.now.schema ≡ entry_schema
     → Executes insert_text (Text name ∷ Text value ∷ []) old new (Ok count)
     → Added old new (stored (next_rowid (old.now.trees 0)) name value)

@@ -8,6 +8,7 @@ mod ListLemmas
 mod PutLemmas
 mod QueryLemmas
 mod ReadLemmas
+mod ReadyFacts
 mod SelectLemmas
 mod StateLemmas
 mod TextLemmas

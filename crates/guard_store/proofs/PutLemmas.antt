@@ -12,7 +12,7 @@ use Rattle.guard_store.proofs.ListLemmas.{In}
 abbrev placed : Ordering → Row → Row → List Row → List Row
 placed o new r rs = match_ordering o (r ∷ put_row new rs) (new ∷ rs) (new ∷ r ∷ rs)
 
--- it is one of them
+-- the row that is put is one of the rows
 pub put_here : (new : Row) (rows : List Row) → In (put_row new rows) new
 put_here new [] = inl refl
 put_here new (r ∷ rs) = by_order (value_cmp (rowid r) (rowid new)) (put_here new rs)
@@ -22,7 +22,7 @@ put_here new (r ∷ rs) = by_order (value_cmp (rowid r) (rowid new)) (put_here n
     by_order Equal later = inl refl
     by_order Greater later = inl refl
 
--- and the others were there
+-- the other rows were there
 pub put_others : (new : Row) (rows : List Row) (x : Row) → In (put_row new rows) x
     → In rows x ⊎ (x ≡ new)
 put_others new [] x (inl e) = inr (sym e)
@@ -43,7 +43,7 @@ put_others new (r ∷ rs) x h =
     by_order Greater later (inl e) = inr (sym e)
     by_order Greater later (inr more) = inl more
 
--- and stay, where the id is fresh
+-- the other rows stay, where the id is fresh
 pub put_kept : (new : Row) (rows : List Row) (x : Row) → is_taken rows new ≡ false → In rows x
     → In (put_row new rows) x
 put_kept new [] x fresh h = absurd h

@@ -11,7 +11,7 @@ use Rattle.guard_store.proofs.ReadLemmas.{names_text, values_text}
 use Rattle.guard_store.proofs.SelectLemmas.{names_answer, values_answer}
 use Rattle.guard_store.proofs.StateLemmas.{query_failed, query_failed_open, shown_keeps, shown_open}
 use Rattle.guard_store.specs.Answers.{AreNames, AreValues}
-use Rattle.guard_store.specs.Entry.{IsKnown, IsReady, Keeps, entry_schema}
+use Rattle.guard_store.specs.Entry.{IsKnown, IsReady, StaysReady, entry_schema}
 
 module _ {V : Type 0} (items : V → List Row) (old new : State) where
   -- the names, where they came
@@ -32,7 +32,7 @@ module _ {V : Type 0} (items : V → List Row) (old new : State) where
   pub keeps_result : (sql : List ℕ) (params : Row) (r : Result V Error) → IsReady old
       → IsPlain (understood entry_schema sql) → IsKnown new
       → IfOk r (λ v. Shown sql params old new (items v))
-      → IfErr r (FailsToQuery sql params old new) → Keeps old new
+      → IfErr r (FailsToQuery sql params old new) → StaysReady old new
   keeps_result sql params (Ok v) ready plain known ok err =
       shown_keeps sql params old new (items v) ready plain ok
   keeps_result sql params (Err e) ready plain known ok err =

@@ -69,7 +69,7 @@ abbrev step : List ℕ → Row → List Env
 step name a_row =
     if list_all (holds (seen name a_row)) values_query.filter then seen name a_row ∷ [] else []
 
--- it keeps the row where that has the name
+-- WHERE keeps a row that has the name
 step_is : (name : List ℕ) (a_row : Row) (b : Bool) → named name a_row ≡ b
     → step name a_row ≡ (if b && true then seen name a_row ∷ [] else [])
 step_is name a_row b e = ap (λ (t : Bool). if t && true then seen name a_row ∷ [] else []) e

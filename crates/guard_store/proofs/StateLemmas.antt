@@ -10,10 +10,10 @@ use Rattle.sqlite.specs.Listing.{understood}
 use Rattle.sqlite.specs.Order.{Row}
 use Rattle.sqlite.specs.declared.error.Error.{Error}
 use Rattle.sqlite.specs.State.{State, Executes, ExecutesIn, ReleasesAt, Runs, Fails, FailsToQuery, FailsToShow, IsNotRun, IsRolledBack, IsUnchanged, RunsCommand, Shown, ShowsRows, shows_rows}
-use Rattle.guard_store.specs.Entry.{IsReady, Keeps, entry_schema}
+use Rattle.guard_store.specs.Entry.{IsReady, StaysReady, entry_schema}
 
 -- a statement that changed nothing
-pub unchanged : (old new : State) → IsReady old → IsUnchanged old new → Keeps old new
+pub unchanged : (old new : State) → IsReady old → IsUnchanged old new → StaysReady old new
 unchanged old new ready h = (
   h.0.now_is,
   record {
@@ -25,7 +25,7 @@ unchanged old new ready h = (
 
 -- a transaction of one statement, taken back
 pub rolled_back : (old new : State) → IsReady old → IsTrue new.is_open → IsRolledBack old new
-    → Keeps old new
+    → StaysReady old new
 rolled_back old new ready is_open h =
     let undone = h.undone is_open in
     let now : new.now ≡ old.now = undone.0 ∙ ready.settled in (
@@ -39,20 +39,21 @@ rolled_back old new ready is_open h =
 
 -- a statement that was not run
 pub not_run : (sql : List ℕ) (params : Row) (old new : State) (e : Error) → IsReady old
-    → IsTrue new.is_open → IsNotRun old new sql params e → Keeps old new
+    → IsTrue new.is_open → IsNotRun old new sql params e → StaysReady old new
 unfolding IsNotRun
 not_run sql params old new e ready is_open (inl h) = unchanged old new ready h.1
 not_run sql params old new e ready is_open (inr h) = rolled_back old new ready is_open h.3
 
 -- a command that failed
 pub command_failed : (sql : List ℕ) (c : _) (params : Row) (old new : State) (e : Error)
-    → IsReady old → IsTrue new.is_open → RunsCommand old new sql c params (Err e) → Keeps old new
+    → IsReady old → IsTrue new.is_open → RunsCommand old new sql c params (Err e)
+    → StaysReady old new
 command_failed sql c params old new e ready is_open (inl h) = unchanged old new ready h.1
 command_failed sql c params old new e ready is_open (inr h) = rolled_back old new ready is_open h.3
 
 -- a write that failed
 pub write_failed : (sql : List ℕ) (params : Row) (old new : State) (e : Error) → IsReady old
-    → IsTrue new.is_open → Executes sql params old new (Err e) → Keeps old new
+    → IsTrue new.is_open → Executes sql params old new (Err e) → StaysReady old new
 unfolding ExecutesIn
 write_failed sql params old new e ready is_open (inl h) =
     not_run sql params old new e ready is_open h
@@ -63,14 +64,14 @@ write_failed sql params old new e ready is_open (inr h) = elim (cases_Bool (show
 
 -- a query that failed
 pub query_failed : (sql : List ℕ) (params : Row) (old new : State) (e : Error) → IsReady old
-    → IsTrue new.is_open → FailsToQuery sql params old new e → Keeps old new
+    → IsTrue new.is_open → FailsToQuery sql params old new e → StaysReady old new
 unfolding FailsToQuery
 query_failed sql params old new e ready is_open (inl h) =
     not_run sql params old new e ready is_open h
 query_failed sql params old new e ready is_open (inr h) = shown h.0.returning h.2
   where
     shown : (r : _) → FailsToShow old new sql h.0 (timed params h.0.formats h.1.now) e r
-        → Keeps old new
+        → StaysReady old new
     shown None f = unchanged old new ready f.3
     shown (Some what) f = command_failed sql h.0 _ old new e ready is_open f
 
@@ -125,7 +126,7 @@ shown_open sql params old new rows h = by_kind h.0.returning h.2
 
 -- a query that writes nothing and was answered left all as it was
 pub shown_keeps : (sql : List ℕ) (params : Row) (old new : State) (rows : List Row) → IsReady old
-    → IsPlain (understood entry_schema sql) → Shown sql params old new rows → Keeps old new
+    → IsPlain (understood entry_schema sql) → Shown sql params old new rows → StaysReady old new
 unfolding Shown
 shown_keeps sql params old new rows ready plain h =
     let known = sym h.1.is ∙ ap (λ s. understood s sql) ready.schema in
@@ -143,13 +144,13 @@ unfolding IsNotRun
 not_run_open sql params old new e (inl h) is_open = h.1.0.was_open
 not_run_open sql params old new e (inr h) is_open = h.3.was_open is_open
 
--- nor did a command that failed open it
+-- a command that failed opened no connection
 failed_open : (sql : List ℕ) (c : _) (params : Row) (old new : State) (e : Error)
     → RunsCommand old new sql c params (Err e) → opened old new
 failed_open sql c params old new e (inl h) is_open = h.1.0.was_open
 failed_open sql c params old new e (inr h) is_open = h.3.was_open is_open
 
--- nor a write that failed
+-- a write that failed opened no connection
 pub write_failed_open : (sql : List ℕ) (params : Row) (old new : State) (e : Error)
     → Executes sql params old new (Err e) → opened old new
 unfolding ExecutesIn
@@ -159,7 +160,7 @@ write_failed_open sql params old new e (inr h) is_open = elim (cases_Bool (shows
   | inr runs ↦ failed_open sql h.0 _ old new e (rw runs at h.2) is_open
 ]
 
--- nor a query that failed
+-- a query that failed opened no connection
 pub query_failed_open : (sql : List ℕ) (params : Row) (old new : State) (e : Error)
     → FailsToQuery sql params old new e → opened old new
 unfolding FailsToQuery

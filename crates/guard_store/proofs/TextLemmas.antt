@@ -27,7 +27,7 @@ names_listed table shown texts are show key value has =
     let there = subst (λ v. Contains shown (v ∷ [])) has.2 (are has.0 has.1) in
     from_in texts key (shown_text shown texts key show (to_in shown _ there))
 
--- the same of each answer
+-- the same, for each answer
 pub keys_result : {V : Type 0} (texts : V → List (List ℕ)) (table shown : List Row)
     (r : Result V Error) → AreNames table shown → IfOk r (λ v. ShowTexts shown (texts v))
     → IfOk r (λ v. Lists (texts v) (HasEntry table))
@@ -47,7 +47,7 @@ first_value text table shown key (Some v) are (row, rest, begins, is) =
     let from = are.sound row there in
     (from.0, from.1, from.2, ap first_column (sym from.3) ∙ is)
 
--- the same of each answer
+-- the same, for each answer
 pub value_result : {V : Type 0} (text : V → List ℕ) (table shown : List Row) (key : List ℕ)
     (r : Result (Option V) Error) → AreValues table key shown
     → IfOk r (λ found. IsFirstText shown (option_map text found))

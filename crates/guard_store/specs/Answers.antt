@@ -1,4 +1,4 @@
--- What the queries of the store answer.
+-- What the two queries of a store show: the names of all entries, and the values of a name.
 use Rattle.std.specs.Prelude.{◌≡◌, ℕ, List, [], ◌∷◌, Contains, Option, MatchOption, map}
 use Rattle.sqlite.specs.declared.types.Value.{Value}
 use Rattle.sqlite.specs.declared.types.Value.TheVariants.{Text}

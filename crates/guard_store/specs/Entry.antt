@@ -1,4 +1,5 @@
--- The table of a guard's store, as SQLite understands it (lang_createtable.html), and what it has.
+-- The table of a guard's store, as SQLite understands it (lang_createtable.html), and the
+-- entries that it has.
 use Rattle.std.specs.Prelude.{◌≡◌, ℕ, ℤ, true, false, List, [], ◌∷◌, Some, codes, Contains, IsTrue}
 use Rattle.sqlite.specs.Collation.TheVariants.{Binary}
 use Rattle.sqlite.specs.declared.types.Value.TheVariants.{Null, Int, Text as Words}
@@ -72,11 +73,11 @@ name_index = record {
   is_unique = true;
 }
 
--- that table and its index alone
+-- a schema of the table of entries and the index of its names alone
 abbrev pub entry_schema : Schema
 entry_schema = record { tables = entry ∷ []; indexes = name_index ∷ []; views = [] }
 
--- no table at all
+-- a schema with no table, no index and no view
 abbrev pub no_schema : Schema
 no_schema = record { tables = []; indexes = []; views = [] }
 
@@ -84,32 +85,33 @@ no_schema = record { tables = []; indexes = []; views = [] }
 abbrev pub stored : ℤ → List ℕ → List ℕ → Row
 stored id name value = Int id ∷ Null ∷ Words name ∷ Words value ∷ []
 
--- a row of these has this name and this value
+-- one of the rows has this name and this value
 abbrev pub HasEntry : List Row → List ℕ → List ℕ → Type 0
 HasEntry rows name value =
     (a_row : Row) × Contains rows a_row × (column a_row 2 ≡ Words name)
     × (column a_row 3 ≡ Words value)
 
--- what a connection shows has the table alone, is committed, and stands in no transaction
+-- a connection is ready: it shows the table of entries alone, all is committed, and no transaction
+-- is open
 pub record IsReady (s : State) : Type 0 where
   pub schema : s.now.schema ≡ entry_schema
   pub autocommit : s.in_transaction ≡ false
   pub settled : s.committed ≡ s.now
 
--- the disk has told no lie, and the connection is open
+-- the disk has returned what was written so far, and the connection is open
 abbrev pub IsKnown : State → Type 0
 IsKnown s = HasCleanDisk s × IsTrue s.is_open
 
--- from old to new nothing changed, and the connection is ready as before
-abbrev pub Keeps : State → State → Type 0
-Keeps old new = (new.now ≡ old.now) × IsReady new
+-- from old to new the connection shows the same database, and is ready
+abbrev pub StaysReady : State → State → Type 0
+StaysReady old new = (new.now ≡ old.now) × IsReady new
 
--- from old to new the table was made, with no entry, and the transaction stayed open or shut
+-- from old to new the table was made, with no entry, and a transaction is open where one was
 pub record MakesTable (old new : State) : Type 0 where
   pub schema : new.now.schema ≡ entry_schema
   pub empty : new.now.trees 0 ≡ []
   pub mode : new.in_transaction ≡ old.in_transaction
 
--- an error between old and new: no memory, a fault of the disk, or a connection that was shut
+-- an error between old and new: out of memory, a fault of the disk, or a connection that was shut
 abbrev pub IsFault : State → State → Error → Type 0
 IsFault old new e = (cause : StoreError) × (e ≡ store_error cause) × HasCause old new ⊥ cause

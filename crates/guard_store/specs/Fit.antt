@@ -9,7 +9,7 @@ use Rattle.guard_store.specs.Entry.{IsFault, entry_schema}
 abbrev pub IsFit : State → Type 0
 IsFit s = (s.now.schema ≡ entry_schema) × (s.in_transaction ≡ false)
 
--- why a connection that has a schema is no store: another schema comes before a transaction
+-- why a connection that has a schema is no store; another schema is told before an open transaction
 abbrev pub IsUnfit : State → Unfit → Type 0
 IsUnfit s (why.Sql e) = ⊥
 IsUnfit s why.Schema = s.now.schema ≢ entry_schema

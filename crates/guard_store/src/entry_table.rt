@@ -49,7 +49,8 @@ impl<S: Alter + Drop> EntryTable<S> {
             → (IsOk result ↔ IsFit (state S.Store conn)) }
         ensures refused { (state S.Store conn).now.schema ≢ no_schema
             → (why : Unfit) → ((result ≡ Err why) ↔ IsUnfit (state S.Store conn) why) }
-        // One with none gets the table, with no entry; a refusal tells why, unless the disk lied.
+        // A connection with no schema gets the table, with no entry. A refusal tells why, provided
+        // the disk returned what was written.
         ensures empty { (state S.Store conn).now.schema ≡ no_schema
             → IfOk result (λ table. IsKnown (state S.Store table.conn)
             → (state S.Store table.conn).now.trees 0 ≡ []) }
@@ -73,7 +74,7 @@ impl<S: Alter + Drop> EntryTable<S> {
         Ok(EntryTable { conn, alloc })
     }
 
-    /// The connection.
+    /// Gives the connection back.
     pub fn into_connection(self) -> Connection<S>
         ensures { result ≡ self.conn }
     {

@@ -1,4 +1,4 @@
-//! The store of a guard, as a table of SQLite.
+//! The store of a guard: a table of SQLite.
 #![tactic(auto)]
 
 mod entry_table;

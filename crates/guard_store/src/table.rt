@@ -4,7 +4,7 @@ ghost use Rattle.sqlite.specs.Held.{state};
 ghost use Rattle.sqlite.specs.State.{HasCleanDisk};
 ghost use Rattle.guard_engine.specs.Guarded.{Gains};
 ghost use Rattle.guard_store.specs.Answers.{AreNames, AreValues};
-ghost use Rattle.guard_store.specs.Entry.{HasEntry, IsFault, IsKnown, IsReady, Keeps, MakesTable, no_schema};
+ghost use Rattle.guard_store.specs.Entry.{HasEntry, IsFault, IsKnown, IsReady, StaysReady, MakesTable, no_schema};
 
 use sqlite::{Alter, Connection, Error, Row, params};
 
@@ -25,30 +25,30 @@ pub fn make_table<S: Alter>(conn: &mut Connection<S>) -> Result<usize, Error>
     )
 }
 
-/// The names of all entries.
+/// Shows the names of all entries.
 pub fn name_rows<S: Alter>(conn: &mut Connection<S>) -> Result<Vec<Row>, Error>
     ensures names { IsReady (state S.Store conn.old) → IsKnown (state S.Store conn.new)
         → IfOk result (λ rows. AreNames ((state S.Store conn.old).now.trees 0) rows.items) }
     ensures keeps { IsReady (state S.Store conn.old) → IsKnown (state S.Store conn.new)
-        → Keeps (state S.Store conn.old) (state S.Store conn.new) }
+        → StaysReady (state S.Store conn.old) (state S.Store conn.new) }
     ensures known { IsKnown (state S.Store conn.new) → IsKnown (state S.Store conn.old) }
 {
     conn.query_all("SELECT name FROM entry", &[])
 }
 
-/// The values of a name.
+/// Shows the values of a name.
 pub fn value_rows<S: Alter>(conn: &mut Connection<S>, name: &str) -> Result<Vec<Row>, Error>
     ensures values { IsReady (state S.Store conn.old) → IsKnown (state S.Store conn.new)
         → IfOk result (λ rows.
         AreValues ((state S.Store conn.old).now.trees 0) name.now rows.items) }
     ensures keeps { IsReady (state S.Store conn.old) → IsKnown (state S.Store conn.new)
-        → Keeps (state S.Store conn.old) (state S.Store conn.new) }
+        → StaysReady (state S.Store conn.old) (state S.Store conn.new) }
     ensures known { IsKnown (state S.Store conn.new) → IsKnown (state S.Store conn.old) }
 {
     conn.query_all("SELECT value FROM entry WHERE name = ?1", params![name])
 }
 
-/// Adds an entry. After an error nothing changed, as where the name has a value already.
+/// Adds an entry. A name that has a value already is an error. After an error nothing changed.
 pub fn add_row<S: Alter>(conn: &mut Connection<S>, name: &str, value: &str) -> Result<usize, Error>
     ensures ok { IsReady (state S.Store conn.old) → IsKnown (state S.Store conn.new)
         → OnOk result (Gains (HasEntry ((state S.Store conn.old).now.trees 0)) name.now value.now

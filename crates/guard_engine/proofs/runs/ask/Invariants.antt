@@ -2,7 +2,7 @@ use Rattle.guard_engine.specs.Guarded.{key_hash}
 use Rattle.guard_engine.proofs.AskLemmas.{IsAsking}
 use Rattle.guard_engine.proofs.runs.ask.Given as goal
 
--- it is a guard as before over the same entries, and the keys so far were looked up and counted
+-- the keys so far were looked up and counted; filter and entries are as before
 abbrev pub invariant-keys : goal.invariant-keys
 invariant-keys g l =
     IsAsking (key_hash g.B.BuildHasher g.B.Hasher.Hasher) g.T.Store.has g.T.Store.is_ready

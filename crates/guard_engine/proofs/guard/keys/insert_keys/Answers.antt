@@ -3,7 +3,7 @@ use Rattle.guard_engine.specs.Guarded.{key_hash}
 use Rattle.guard_engine.proofs.FoundLemmas.{HoldsKeys-next}
 use Rattle.guard_engine.proofs.guard.keys.insert_keys.Goals as goal
 
--- the keys so far, and this one
+-- with this key the filter has the keys so far
 pub keys-preserved : goal.keys-preserved
 keys-preserved g c =
     let did = c.insert.ensures.inserts in

@@ -19,14 +19,14 @@ returns-in-Ok-clause-gains g c = λ guards known.
     (g.T.Store.has c.put.new.self.store) (Ok c.in-Ok.put) (now.added guards known)
     (now.taken guards known)
 
--- its put failed
+-- the put of the entry failed
 pub returns-in-Err-clause-first : goal.returns-in-Err-clause-first
 returns-in-Err-clause-first g c = λ guards known.
     LoadsFirst-one c.args.line.now c.in-Some.key.now c.in-Some.value.now
     (g.T.Store.has c.args.guard.now.store) (g.T.Store.has c.put.new.self.store)
     c.in-Some.ensures.entry (c.in-Err.ensures.err guards known)
 
--- there is none
+-- the line has no entry
 pub returns-in_default-clause-first : goal.returns-in_default-clause-first
 returns-in_default-clause-first g c = λ guards known.
     LoadsFirst-none c.args.line.now (g.T.Store.has c.args.guard.now.store)
