@@ -6,13 +6,14 @@ use Rattle.std.proofs.KnownBytes.{Appends-kept}
 use Rattle.bloom_plain.specs.Filter.{Filter}
 use Rattle.lines.specs.Reading.{IsReadFrom}
 use Rattle.lines.proofs.TakenLemmas.{IsReadFrom-whole, IsReadFrom-long}
+use Rattle.lines.proofs.WritingLemmas.{Begins-whole}
 use Rattle.duplicates_engine.specs.declared.fault.Fault.{Fault}
 use Rattle.duplicates_engine.specs.declared.fault.Fault.TheVariants.{TooLong, Memory, Input, Output}
 use Rattle.duplicates_engine.specs.declared.tally.Tally.{Tally}
 use Rattle.duplicates_engine.specs.Faults.{IsOfWriter, IsReadAt}
 use Rattle.duplicates_engine.specs.Kept.{text_of_fresh, KeepsNew, KeepsUntil}
 use Rattle.duplicates_engine.specs.Told.{TellsOf, TellsUntil}
-use Rattle.duplicates_engine.proofs.WriteLemmas.{Begins-whole, from-begins, to-begins}
+use Rattle.duplicates_engine.proofs.WriteLemmas.{from-begins, to-begins}
 
 -- at any fault the lines are the first of the input
 first-lines : (longest : ℕ) (fault : Fault) (read : Option (List ℕ)) (lines : List (List ℕ))

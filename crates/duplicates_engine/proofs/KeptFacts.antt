@@ -13,7 +13,7 @@ use Rattle.lines.specs.Lines.{lines_of}
 use Rattle.lines.specs.Reading.{AreShort}
 use Rattle.duplicates_engine.specs.declared.tally.Tally.{Tally}
 use Rattle.duplicates_engine.specs.declared.fault.Fault.TheVariants.{TooLong, Memory, Output}
-use Rattle.duplicates_engine.specs.Faults.{Begins, IsWrittenAt, IsReadAt}
+use Rattle.duplicates_engine.specs.Faults.{IsWrittenAt, IsReadAt}
 use Rattle.duplicates_engine.specs.Kept.{text_of_fresh, AreNew, Counts, KeepsNew, KeepsUntil}
 use Rattle.duplicates_engine.specs.Told.{held_back, TellsMillions}
 use Rattle.duplicates_engine.proofs.SiftLemmas.{Sifts-nil}
@@ -51,14 +51,6 @@ counts = record { read = refl; held = refl }
 -- not one line less
 counts-not : Counts lines (false ∷ false ∷ true ∷ []) (record { read = 2; held = 1 }) → ⊥
 counts-not is = let number : 2 ≡ 3 = is.read in omega (arith, number)
-
--- a text begins so
-begins : Begins (codes "a\nb\n") (codes "a\nb")
-begins = record { rest = 10 ∷ []; cut = refl }
-
--- not so
-begins-not : Begins (codes "a\nb\n") (codes "b") → ⊥
-begins-not is = let letter : 97 ≡ 98 = ap (λ l. get_or l 0 0) is.cut in omega (arith, letter)
 
 -- at a fault of the writer a beginning was written
 written : IsWrittenAt (Output kind.BrokenPipe) (codes "a\n") (codes "a")

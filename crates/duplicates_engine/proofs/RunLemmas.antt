@@ -9,6 +9,7 @@ use Rattle.bloom_plain.specs.Laws.{JoinedListsLaw, FoundAfterInsertsLaw}
 use Rattle.bloom_plain.specs.Replies.{CarriesOut}
 use Rattle.lines.specs.Reading.{Waiting, left_of, KnowsEnd, AreShort, TakesShort, TakesLong, Ends, IsReadFrom}
 use Rattle.lines.proofs.TakenLemmas.{TakesLines, TakesLines-more, IsReadWhole-from, IsReadFrom-taken, IsReadToLong-from}
+use Rattle.lines.proofs.WritingLemmas.{Begins-after}
 use Rattle.duplicates_engine.specs.declared.fault.Fault.{Fault}
 use Rattle.duplicates_engine.specs.declared.fault.Fault.TheVariants.{TooLong, Memory, Input, Output}
 use Rattle.duplicates_engine.specs.declared.tally.Tally.{Tally}
@@ -18,7 +19,7 @@ use Rattle.duplicates_engine.specs.Told.{Tells, TellsOf, TellsUntil}
 use Rattle.duplicates_engine.proofs.SiftLemmas.{fresh-more, Counts-more, Sifts-more}
 use Rattle.duplicates_engine.proofs.StartLemmas.{IsSifting}
 use Rattle.duplicates_engine.proofs.ToldLemmas.{told-step}
-use Rattle.duplicates_engine.proofs.WriteLemmas.{Begins-after, from-begins, to-begins}
+use Rattle.duplicates_engine.proofs.WriteLemmas.{from-begins, to-begins}
 
 -- the same line, under the same hash
 pub line-kept : {S : Type 0} {hash_of same_hash : List ℕ → ℕ} {line same_line : List ℕ}

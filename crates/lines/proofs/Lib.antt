@@ -3,3 +3,5 @@ pub mod LineLemmas
 mod ReadingFacts
 pub mod ReadingLemmas
 pub mod TakenLemmas
+mod WritingFacts
+pub mod WritingLemmas

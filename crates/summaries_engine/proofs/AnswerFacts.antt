@@ -55,7 +55,7 @@ hashes-left : HashesAll (Some (97 ∷ [])) (Some (98 ∷ [])) (0x4074_48d2_b89b_
 hashes-left did = cc (did.whole.none_left)
 
 -- whether the filter of "a" contains each
-found-a : (f : DefaultFilter) → IsFilter f 268500992 0 → contains f (hash_in f (97 ∷ [])) ≡ true
+pub found-a : (f : DefaultFilter) → IsFilter f 268500992 0 → contains f (hash_in f (97 ∷ [])) ≡ true
 unfolding content chain are_in
 found-a f is =
     ap (contains f) (hash-in f 268500992 0 (97 ∷ []) is ∙ hash-a)

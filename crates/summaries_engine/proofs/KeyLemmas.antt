@@ -97,7 +97,7 @@ hashing-end read old new left rest number hashes so_far end = record {
 }
 
 -- the text of one key more
-found_text-more : (f : DefaultFilter) (keys : List (List ℕ)) (key : List ℕ)
+pub found_text-more : (f : DefaultFilter) (keys : List (List ℕ)) (key : List ℕ)
     → found_text f (keys ++ key ∷ []) ≡ found_text f keys ++ found_text f (key ∷ [])
 found_text-more f keys key =
     let is_found : List ℕ → Bool = λ k. contains f (hash_in f k) in

@@ -1,4 +1,5 @@
 mod AnswerFacts
+mod CutLemmas
 mod KeyLemmas
 mod MisfitLemmas
 mod NamedFacts
@@ -12,3 +13,4 @@ mod SummaryFacts
 mod UnionFacts
 mod UnionLemmas
 mod UnitingFacts
+mod WritingFacts

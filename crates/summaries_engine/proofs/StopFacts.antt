@@ -63,9 +63,9 @@ hashing-no read said told stop = reason-no read stop.keys said told stop.reason
 asking-no : (f : DefaultFilter) (read from to : Option (List ℕ)) (said : Error)
     → error_message said ≡ codes "no" → StopsAsking f read from to said → ⊥
 asking-no f read from to said told (inl stop) = reason-no read stop.keys said told stop.reason
-asking-no f read from to said told (inr over) =
+asking-no f read from to said told (inr stop) =
     says-other (codes "no") (codes "the keys can't be written") said told (λ same. cc) no-whole
-    over.0
+    stop.says.0
 
 building-no : (read : Option (List ℕ)) (said : Error) → error_message said ≡ codes "no"
     → StopsBuilding read said → ⊥
@@ -75,11 +75,6 @@ building-no read said told (inr (inl over)) =
 building-no read said told (inr (inr over)) =
     says-other (codes "no") (codes "the filter can't be filled") said told (λ same. cc) no-whole
     over.0
-
--- a write failed
-asking-write : (f : DefaultFilter) (read from to : Option (List ℕ)) (said : Error)
-    → SaysOver (codes "the keys can't be written") said → StopsAsking f read from to said
-asking-write f read from to said over = inr over
 
 -- the threads couldn't be started
 building-worker : (read : Option (List ℕ)) (said : Error)

@@ -1,14 +1,17 @@
 -- Keys that weren't taken to their end.
-use Rattle.std.proofs.Common.{◌≡◌, inl, inr, ℕ, ◌-◌, ◌^◌, codes, List, [], length, Ok, Option, Some, None, refl, sym, subst, ◌∙◌}
+use Rattle.std.proofs.Common.{◌≡◌, inl, inr, ℕ, ◌-◌, ◌^◌, codes, List, [], ◌∷◌, ◌++◌, length, Ok, Option, Some, None, refl, sym, subst, ◌∙◌}
 use Rattle.std.specs.Prelude.{Err, IfErr, IsErrAnd, Result}
 use Rattle.anyhow.specs.declared.error.Error.{Error}
 use Rattle.fastbloom.specs.Data.{DefaultFilter}
 use Rattle.lines.specs.Lines.{lines_of}
-use Rattle.lines.specs.Reading.{Waiting, TakesLong, IsReadFrom, left_of}
+use Rattle.lines.specs.Reading.{Waiting, KnowsEnd, TakesLong, TakesShort, IsReadFrom, left_of}
+use Rattle.lines.specs.Writing.{AppendsPart}
 use Rattle.lines.proofs.TakenLemmas.{TakesLines, IsReadFrom-taken, IsReadToLong-from}
+use Rattle.lines.proofs.WritingLemmas.{part-second}
+use Rattle.summaries_engine.specs.Answers.{found_text}
 use Rattle.summaries_engine.specs.Refusals.{too_long_text}
 use Rattle.summaries_engine.specs.Stops.{IsReasonAfter, Says, SaysOver, StopsAsking, StopsHashing}
-use Rattle.summaries_engine.proofs.KeyLemmas.{IsAnswering, IsHashing}
+use Rattle.summaries_engine.proofs.KeyLemmas.{IsAnswering, IsHashing, found_text-more, read-next}
 
 -- no line is the first of none
 pub from-none : (read : Option (List ℕ)) → IsReadFrom read []
@@ -77,3 +80,24 @@ asking-stops f read left from to reader number said so_far why = inl (record {
   done = so_far.text;
   reason = why so_far.keys so_far.counted so_far.has_read.taken;
 })
+
+-- a write failed within the answer to the next key
+pub asking-cut : (f : DefaultFilter) (read left rest from to more : Option (List ℕ))
+    (old new : Waiting) (number : ℕ) (said : Error) → IsAnswering f read old left number from to
+    → TakesShort old.longest (left_of old left) (left_of new rest) new.line
+    → KnowsEnd new.ended rest → new.longest ≡ old.longest
+    → AppendsPart (found_text f (new.line ∷ [])) to more
+    → SaysOver (codes "the keys can't be written") said → StopsAsking f read from more said
+asking-cut f read left rest from to more old new number said so_far next knows same part says =
+    let keys = so_far.keys in
+    let has = read-next read old new left rest keys so_far.has_read next knows same in
+    inr (record {
+      keys = keys ++ new.line ∷ [];
+      first = IsReadFrom-taken read (left_of new rest) (keys ++ new.line ∷ []) has.taken;
+      short = has.short;
+      part = subst (λ text. AppendsPart text from more)
+          (sym (found_text-more f keys new.line))
+          (part-second (found_text f keys) (found_text f (new.line ∷ [])) from to more
+          so_far.text part);
+      says = says;
+    })

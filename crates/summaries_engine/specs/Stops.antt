@@ -6,6 +6,7 @@ use Rattle.anyhow.specs.Error.{IsContextOn, IsMadeOf}
 use Rattle.anyhow.specs.declared.error.Error.{Error}
 use Rattle.fastbloom.specs.Data.{DefaultFilter}
 use Rattle.lines.specs.Reading.{AreShort, IsReadFrom, IsReadToLong}
+use Rattle.lines.specs.Writing.{AppendsPart}
 use Rattle.summaries_engine.specs.Answers.{found_text}
 use Rattle.summaries_engine.specs.Refusals.{too_long_text}
 
@@ -38,12 +39,22 @@ pub record StopsAfter (read : Option (List ℕ)) (Done : List (List ℕ) → Typ
 abbrev pub StopsHashing : Option (List ℕ) → Error → Type 0
 StopsHashing read said = StopsAfter read (λ keys. Unit {0}) said
 
+-- a write failed at the answers to these first keys, none of which is too long: what was written is a
+-- beginning of their text
+pub record StopsWriting (f : DefaultFilter) (read from to : Option (List ℕ)) (said : Error) : Type 0
+  where
+    pub keys : List (List ℕ)
+    pub first : IsReadFrom read keys
+    pub short : AreShort 65536 keys
+    pub part : AppendsPart (found_text f keys) from to
+    pub says : SaysOver (codes "the keys can't be written") said
+
 -- not all keys were answered, but those before, or a write failed
 abbrev pub StopsAsking : DefaultFilter → Option (List ℕ) → Option (List ℕ) → Option (List ℕ)
     → Error → Type 0
 StopsAsking f read from to said =
     StopsAfter read (λ keys. Appends from to (found_text f keys)) said
-    ⊎ SaysOver (codes "the keys can't be written") said
+    ⊎ StopsWriting f read from to said
 
 -- there is no filter of all keys: not all were hashed, or there was no room, or no worker
 abbrev pub StopsBuilding : Option (List ℕ) → Error → Type 0
