@@ -1,6 +1,6 @@
 -- What is read of keys and written of answers: cases that hold, and some that nearly do. Key "a" is
 -- byte 97 and "b" byte 98; among 64 bits and with two hashes 268500992 is the word of "a" alone.
-use Rattle.std.proofs.Common.{◌≡◌, ◌≤◌, ℕ, true, false, ◌*◌, List, [], ◌∷◌, length, map, Option, Some, refl, sym, subst, ap, ◌∙◌, arith}
+use Rattle.std.proofs.Common.{◌≡◌, ◌≤◌, ℕ, true, false, ◌*◌, List, [], ◌∷◌, length, get_or, map, Option, Some, refl, sym, subst, ap, ◌∙◌, arith}
 use Rattle.std.proofs.lemmas.List.{length-map}
 use Rattle.std.proofs.lemmas.List.Elements.{All-from_recursion}
 use Rattle.bloom_parts.specs.Chain.{chain}
@@ -119,3 +119,22 @@ keyed f is = rw is (record { low = refl; high = refl; words = refl; held = refl;
 -- not one whose hasher has taken in a byte
 keyed-byte : (f : DefaultFilter) → f.hasher.hasher.count ≡ 1 → IsKeyed f → ⊥
 keyed-byte f is has = omega (arith, is, has.count)
+
+-- nothing may be left to read when all keys were asked for
+answers-left : (f : DefaultFilter) (from to : Option (List ℕ))
+    → AnswersAll f (Some (97 ∷ [])) (Some (98 ∷ [])) from to → ⊥
+answers-left f from to did = cc (did.whole.none_left)
+
+-- the hash of another key isn't that of "a"
+hashes-other : HashesAll (Some (97 ∷ [])) (Some []) (0x8b22_cf26_02fb_60ce ∷ []) → ⊥
+unfolding lines_of
+hashes-other did = wrong (sym (hashed ∙ ap (map (sip 0 0)) (sym did.whole.are_lines)))
+  where
+    hashed : 0x8b22_cf26_02fb_60ce ∷ [] ≡ map (sip 0 0) did.keys
+    hashed = did.hashed
+
+    wrong : sip 0 0 (97 ∷ []) ∷ [] ≡ 0x8b22_cf26_02fb_60ce ∷ [] → ⊥
+    wrong same =
+        let is : ◌≡◌ {A = ℕ} 0x4074_48d2_b89b_1813 0x8b22_cf26_02fb_60ce =
+        sym hash-a ∙ ap (λ l. get_or l 0 0) same in
+        omega (arith, is)

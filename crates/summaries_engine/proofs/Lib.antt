@@ -6,6 +6,7 @@ mod NamedFacts
 mod NamedLemmas
 mod RefusalFacts
 mod RefusalLemmas
+mod ShardFacts
 mod ShardLemmas
 mod StopFacts
 mod StopLemmas

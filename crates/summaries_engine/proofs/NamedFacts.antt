@@ -1,7 +1,7 @@
 -- Filters that have names: cases that hold, and some that nearly do. Here a name has one byte, and
 -- under it lies what has so many hashes.
-use Rattle.std.proofs.Common.{◌≡◌, ℕ, List, [], ◌∷◌, Some, None, refl, sym, ap, ◌∙◌}
-use Rattle.std.specs.Prelude.{Ok}
+use Rattle.std.proofs.Common.{◌≡◌, ℕ, List, [], ◌∷◌, Option, Some, None, refl, sym, ap, ◌∙◌, arith}
+use Rattle.std.specs.Prelude.{Ok, Err, Result}
 use Rattle.fastbloom.specs.Data.{DefaultFilter}
 use Rattle.summaries_engine.specs.Named.{Named, AreNamed, GivesNext}
 
@@ -67,3 +67,22 @@ gives-none given = wrong given.1.0
   where
     wrong : ◌≡◌ {A = List (List ℕ)} ((2 ∷ []) ∷ []) [] → ⊥
     wrong nothing = cc
+
+-- the shelf stays the same
+gives-shelf : (given : Option (Result DefaultFilter ℕ)) → GivesNext {I = ℕ} (λ (_ : ℕ). counted) (λ _. told) (λ n. n) (λ _. []) 1 given 2 → ⊥
+gives-shelf given is = omega (arith, is.0)
+
+-- where nothing is given, no name may come back
+gives-none-left :
+    GivesNext {E = ℕ} (λ (_ : ℕ). counted) (λ _. told) (λ (_ : List (List ℕ)). 0) (λ names. names)
+    [] None ((2 ∷ []) ∷ []) → ⊥
+gives-none-left given = cc (given.1.1)
+
+-- the error of a load is that of the name
+gives-error :
+    GivesNext {E = ℕ} (λ (_ : ℕ). counted) (λ _. told) (λ (_ : List (List ℕ)). 0) (λ names. names)
+    ((2 ∷ []) ∷ []) (Some (Err 3)) [] → ⊥
+gives-error given = wrong given.1.0 given.1.1 given.1.2
+  where
+    wrong : (name : List ℕ) → (2 ∷ []) ∷ [] ≡ name ∷ [] → name ≡ 3 ∷ [] → ⊥
+    wrong name left is = cc

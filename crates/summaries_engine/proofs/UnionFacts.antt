@@ -103,3 +103,24 @@ not-read f made error did = none did.others did.all_read
     none : (others : List DefaultFilter) → (Err error ∷ []) ≡ map Ok others → ⊥
     none [] is = cc
     none (g ∷ others) is = cc
+
+-- the second filter has the union's shape too
+union-shape : (f g made : DefaultFilter) → g.hashes ≡ 2 → made.hashes ≡ 3
+    → IsUnionOf (f ∷ g ∷ []) made → ⊥
+union-shape f g made two three did =
+    let same = did.shape 1 f (lit< tt) in
+    omega (arith, two, three, same.hashes)
+
+-- the second filter has the union's key too
+union-key : (f g made : DefaultFilter) (word : ℕ) → IsFilter g word 0 → IsFilter made word 1
+    → IsUnionOf (f ∷ g ∷ []) made → ⊥
+union-key f g made word other is did =
+    let wrong : 1 ≡ 0 =
+    ap (λ pair. pair.0) (sym is.key ∙ did.key 1 f (lit< tt) ∙ other.key) in
+    omega (arith, wrong)
+
+-- a key of the second list alone isn't in the first
+fewer-keys : HaveSameKeys ((97 ∷ []) ∷ []) ((97 ∷ []) ∷ (98 ∷ []) ∷ []) → ⊥
+fewer-keys same =
+    let there = (same (98 ∷ [])).1 (1, lit< tt, refl) in
+    grind (arith, common_steps, there.1, there.2)

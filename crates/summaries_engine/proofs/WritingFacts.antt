@@ -1,7 +1,7 @@
 -- What was written of the answers where a write failed: a case that holds, and some that nearly do.
 -- Key "a" is byte 97, and byte 10 ends a line; among 64 bits and with two hashes 268500992 is the
 -- word of "a" alone.
-use Rattle.std.proofs.Common.{◌≡◌, ◌≤◌, ℕ, List, [], ◌∷◌, ◌++◌, codes, length, get_or, Option, Some, refl, sym, ap, subst, ◌∙◌, inr, arith}
+use Rattle.std.proofs.Common.{◌≡◌, ◌≤◌, ℕ, List, [], ◌∷◌, ◌++◌, codes, length, get_or, Option, Some, refl, sym, ap, subst, ◌∙◌, inl, inr, arith}
 use Rattle.std.proofs.lemmas.List.Elements.{All-from_recursion, All-nil}
 use Rattle.std.proofs.KnownBytes.{Appends-nil}
 use Rattle.anyhow.specs.declared.error.Error.{Error}
@@ -89,3 +89,14 @@ writing-none f said stop = none stop.keys stop.first.later stop.first.cut
         → Begins (found_text f keys) (97 ∷ []) → ⊥
     none [] later cut begins = cc (begins.cut)
     none (key ∷ keys) later cut begins = cc (cut)
+
+-- behind the keys of a reader that has none nothing may be written, whatever the reason
+asking-none : (f : DefaultFilter) (said : Error)
+    → StopsAsking f (Some []) (Some []) (Some (97 ∷ [])) said → ⊥
+unfolding lines_of
+asking-none f said (inl stop) = none stop.keys stop.first.later stop.first.cut stop.done
+  where
+    none : (keys later : List (List ℕ)) → [] ≡ keys ++ later → 97 ∷ [] ≡ found_text f keys → ⊥
+    none [] later cut text = cc (text)
+    none (key ∷ keys) later cut text = cc (cut)
+asking-none f said (inr stop) = writing-none f said stop
