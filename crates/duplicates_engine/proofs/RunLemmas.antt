@@ -14,7 +14,7 @@ use Rattle.duplicates_engine.specs.declared.fault.Fault.{Fault}
 use Rattle.duplicates_engine.specs.declared.fault.Fault.TheVariants.{TooLong, Memory, Input, Output}
 use Rattle.duplicates_engine.specs.declared.tally.Tally.{Tally}
 use Rattle.duplicates_engine.specs.Faults.{IsOfReader, IsOfWriter, IsWrittenAt, IsReadAt}
-use Rattle.duplicates_engine.specs.Kept.{text_of_fresh, piece, Sifts, Counts, KeepsLine, KeepsNew, KeepsUntil}
+use Rattle.duplicates_engine.specs.Kept.{text_of_fresh, piece, Sifts, KeepsLine, KeepsNew, KeepsUntil}
 use Rattle.duplicates_engine.specs.Told.{Tells, TellsOf, TellsUntil}
 use Rattle.duplicates_engine.proofs.SiftLemmas.{fresh-more, Counts-more, Sifts-more}
 use Rattle.duplicates_engine.proofs.StartLemmas.{IsSifting}

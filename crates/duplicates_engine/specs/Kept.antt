@@ -1,6 +1,6 @@
 -- Which lines a run wrote, and which it held back. What a reader has left and what a writer holds is
 -- Some of the bytes, or None where it doesn't tell.
-use Rattle.std.specs.Prelude.{◌≡◌, ◌≢◌, ◌<◌, ◌+◌, ◌-◌, ◌^◌, ℕ, Bool, true, false, if◌then◌else◌, min, List, [], ◌∷◌, ◌++◌, length, map, flat_map, get_or, Option, Result, MatchResult}
+use Rattle.std.specs.Prelude.{◌≡◌, ◌≢◌, ◌<◌, ◌-◌, ◌^◌, ℕ, Bool, true, false, if◌then◌else◌, min, List, [], ◌∷◌, ◌++◌, length, map, flat_map, get_or, Option, Result, MatchResult}
 use Rattle.std.specs.declared.hash.Hasher as hasher
 use Rattle.std.specs.Io.KnownBytes.{Appends}
 use Rattle.bloom_parts.specs.Operations.{Insert}
