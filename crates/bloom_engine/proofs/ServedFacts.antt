@@ -1,11 +1,12 @@
 -- What serving promises of one and two lines: a case that holds, and near ones that don't.
-use Rattle.std.proofs.Common.{◌≡◌, ℕ, ◌+◌, ◌-◌, ◌^◌, min, List, [], ◌∷◌, ◌++◌, length, map, replicate, Option, Some, None, refl, sym, ap, arith, inl, inr}
+use Rattle.std.proofs.Common.{◌≡◌, ℕ, ◌+◌, ◌-◌, ◌^◌, ◌≤◌, min, List, [], ◌∷◌, ◌++◌, length, map, replicate, Option, Some, None, length-append, refl, sym, ◌∙◌, ap, arith, inl, inr}
 use Rattle.std.specs.Prelude.{codes}
 use Rattle.bloom_engine.specs.declared.engine.line.Line.{Line}
 use Rattle.bloom_engine.specs.declared.engine.line.Line.TheVariants.{Insert}
 use Rattle.lines.specs.Lines.{lines_of}
 use Rattle.bloom_engine.specs.Lines.{line_of, number_of}
 use Rattle.bloom_engine.specs.Served.{IsReadWhole, Reaches, IsReadUpTo, ServedAll, ServedUpTo}
+use Rattle.bloom_plain.specs.Filter.{Filter}
 use Rattle.bloom_engine.proofs.CarriedFacts.{zeros, with_one, carried, carried-text, carried-bits}
 
 -- each line was good, and nothing is left
@@ -138,6 +139,29 @@ served-text did = carried-text did.lines (upto-lines _ did.lines did.upto) did.c
 served-filter : ServedUpTo 2 (Some (codes "i 1\nx\n")) (Some []) zeros zeros (Some [])
     (Some (codes "false\n")) → ⊥
 served-filter did = carried-bits did.lines (upto-lines _ did.lines did.upto) did.carried
+
+-- a reader that still has all its bytes was read up to no line
+upto-unread : (lines : List Line)
+    → IsReadUpTo (codes "i 1\nx\n") (Some (codes "i 1\nx\n")) (Some (codes "i 1\nx\n")) lines
+    → ⊥
+unfolding lines_of
+upto-unread lines is = of is.given is.gave is.reached
+  where
+    of : (given : List ℕ) → codes "i 1\nx\n" ≡ given ++ codes "i 1\nx\n"
+        → Reaches given is.good is.bad → ⊥
+    of [] gave reached =
+        let none : 0 ≡ length is.good + length (reached.seen ∷ reached.later) =
+        ap length reached.cut ∙ length-append is.good (reached.seen ∷ reached.later) in
+        omega (arith, none)
+    of (b ∷ given) gave reached =
+        let count : 6 ≡ length (b ∷ given) + 6 =
+        ap length gave ∙ length-append (b ∷ given) (codes "i 1\nx\n") in
+        omega (arith, count)
+
+-- the number of a line stays at 2^64 - 1
+served-most : (n : ℕ) (read left from to : Option (List ℕ)) (old new : Filter (Unit {0}))
+    → ServedUpTo n read left old new from to → n ≤ 2 ^ 64 - 1
+served-most n read left from to old new did = omega (arith, did.number)
 
 -- every line is good
 all : ServedAll (Some (codes "i 1\n")) (Some []) zeros with_one (Some []) (Some (codes "false\n"))
