@@ -60,7 +60,7 @@ sifts-count : {S : Type 0} (hash_of : List ℕ → ℕ) (old new : Filter S)
     → Sifts hash_of old new lines (false ∷ []) → ⊥
 sifts-count hash_of old new is = omega (arith, is.count)
 
--- of two equal lines the second isn't answered false
+-- the second of two equal lines isn't answered false
 sifts-new : {S : Type 0} (hash_of : List ℕ → ℕ) (old new : Filter S)
     → Sifts hash_of old new (codes "a" ∷ codes "a" ∷ []) (false ∷ false ∷ []) → ⊥
 sifts-new hash_of old new is = new-adjacent is.are_new
@@ -69,7 +69,7 @@ sifts-new hash_of old new is = new-adjacent is.are_new
 counts : Counts lines (false ∷ false ∷ true ∷ []) (record { read = 3; held = 1 })
 counts = record { read = refl; held = refl }
 
--- not one line less
+-- the counts of fewer lines are others
 counts-not : Counts lines (false ∷ false ∷ true ∷ []) (record { read = 2; held = 1 }) → ⊥
 counts-not is = let number : 2 ≡ 3 = is.read in omega (arith, number)
 

@@ -36,7 +36,7 @@ keeps = record {
   tells = tt;
 }
 
--- not if a tally is told
+-- a run over nothing tells no tally
 keeps-told : (new : Filter (Unit {0})) → KeepsNew 0 (λ line. 1) (Some []) (Some []) zeros new
     (Some []) (Some []) (Some []) (Some (record { read = 0; held = 0 } ∷ []))
     (record { read = 0; held = 0 }) → ⊥
@@ -50,7 +50,7 @@ keeps-told new run =
     let more : 1 ≡ 0 = ap length told in
     omega (arith, more)
 
--- nor with a line that is too long
+-- a whole run has no line that is too long
 keeps-long : (new : Filter (Unit {0})) (tally : Tally) → KeepsNew 0 (λ line. 1)
     (Some (codes "a\n")) (Some []) zeros new (Some []) (Some (codes "a\n")) None None tally → ⊥
 unfolding lines_of
@@ -59,7 +59,7 @@ keeps-long new tally run =
     let short = subst (AreShort 0) (sym lines) run.short in
     omega (arith, short 0 [] (omega arith))
 
--- not if a line is left out that the filter answers false
+-- a line that the filter answers false isn't held back
 keeps-not : (new : Filter (Unit {0})) → KeepsNew 1 (λ line. 1) (Some (codes "a\n")) (Some [])
     zeros new (Some []) (Some []) None None (record { read = 1; held = 1 }) → ⊥
 unfolding lines_of content chain are_in
@@ -72,7 +72,7 @@ keeps-not new run =
     let none : held_back run.replies ≡ 0 = ap held_back told in
     omega (arith, one, none)
 
--- nor if its text isn't written
+-- the text of a line that the filter answers false is written
 keeps-text : (new : Filter (Unit {0})) → KeepsNew 1 (λ line. 1) (Some (codes "a\n")) (Some [])
     zeros new (Some []) (Some []) None None (record { read = 1; held = 0 }) → ⊥
 unfolding lines_of content chain are_in
@@ -87,7 +87,7 @@ keeps-text new run =
     let more : 0 ≡ 2 = ap length (text ∙ all) in
     omega (arith, more)
 
--- a run that found no room
+-- a run that was out of memory
 until : KeepsUntil 3 (λ line. 1) (Some (codes "a\n")) zeros zeros (Some []) (Some []) None None
     Memory
 until = record {
@@ -102,7 +102,7 @@ until = record {
   tells = tt;
 }
 
--- not if it wrote a line that it didn't read
+-- a run writes no line that it didn't read
 until-not : (new : Filter (Unit {0})) → KeepsUntil 3 (λ line. 1) (Some []) zeros new (Some [])
     (Some (codes "a\n")) None None Memory → ⊥
 unfolding lines_of

@@ -105,13 +105,13 @@ module _ {S : Type 0} {longest : ℕ} {hash_of : List ℕ → ℕ} {read : Optio
         TakesLines-more read (left_of waiting rest) (left_of after left) so_far.lines after.line
         so_far.taken took.takes
 
-    -- and it is short enough
+    -- each line so far is short enough
     short : AreShort longest (so_far.lines ++ after.line ∷ [])
     short =
         All-append (λ line. length line ≤ longest) so_far.lines (after.line ∷ []) so_far.short
         (All-from_recursion (λ line. length line ≤ longest) (after.line ∷ []) (took.short, tt))
 
-    -- and sifted
+    -- one more line was sifted
     sifts : (new : Filter S) (reply : Bool)
         → CarriesOut now (Insert (hash_of after.line) ∷ []) new (reply ∷ [])
         → reply ≡ contains now (hash_of after.line)

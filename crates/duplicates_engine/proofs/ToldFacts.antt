@@ -17,21 +17,21 @@ two = record { read = 2000000; held = 5 }
 tells : Tells (Some (one ∷ [])) (Some (one ∷ two ∷ [])) two
 tells = refl
 
--- not if nothing is told
+-- a tell adds to what was told
 tells-none : Tells (Some (one ∷ [])) (Some (one ∷ [])) two → ⊥
 tells-none is = let more : 1 ≡ 2 = ap length is in omega (arith, more)
 
--- nor if it is told twice
+-- a tally isn't told twice
 tells-twice : Tells (Some (one ∷ [])) (Some (one ∷ two ∷ two ∷ [])) two → ⊥
 tells-twice is = let more : 3 ≡ 2 = ap length is in omega (arith, more)
 
--- nor before the first
+-- a tally isn't told before an earlier one
 tells-before : Tells (Some (one ∷ [])) (Some (two ∷ one ∷ [])) two → ⊥
 tells-before is =
     let number : 2000000 ≡ 1000000 = ap (λ told. get_or (map (λ t. t.read) told) 0 0) is in
     omega (arith, number)
 
--- it may lose what it was told
+-- a progress may lose what it was told
 tells-loses : Tells (Some (one ∷ [])) None two
 tells-loses = tt
 
@@ -66,14 +66,14 @@ module _ (replies : List Bool) where
   each-first : TellsMillions (Some []) (Some (tally_after replies 1000000 ∷ [])) replies 1999999
   each-first = refl
 
-  -- not in another order
+  -- the tallies are told in no other order
   each-order : TellsMillions (Some [])
       (Some (tally_after replies 2000000 ∷ tally_after replies 1000000 ∷ [])) replies 2999999 → ⊥
   each-order is =
       let number : 2000000 ≡ 1000000 = ap (λ told. get_or (map (λ t. t.read) told) 0 0) is in
       omega (arith, number)
 
-  -- not with one line more held back than those that were
+  -- a tally counts no line more as held back than those that were
   each-held : held_back (take 1000000 replies) ≡ 3
       → TellsMillions (Some []) (Some (record one { held = 4 } ∷ [])) replies 1999999 → ⊥
   each-held three is =

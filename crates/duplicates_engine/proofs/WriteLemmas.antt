@@ -15,7 +15,7 @@ from-begins Memory text written is begins = absurd is
 from-begins (Input kind) text written is begins = absurd is
 from-begins (Output kind) text written is begins = begins
 
--- at any fault that is so
+-- at any fault a beginning was written, perhaps all of the text
 pub to-begins : (fault : Fault) (text written : List ℕ) → IsWrittenAt fault text written
     → Begins text written
 to-begins (TooLong number) text written is = Begins-whole text written is

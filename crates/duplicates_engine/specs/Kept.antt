@@ -25,12 +25,12 @@ fresh (line ∷ lines) (reply ∷ replies) =
     if reply then fresh lines replies else line ∷ fresh lines replies
 
 -- each line with an end
-abbrev pub text_of : List (List ℕ) → List ℕ
-text_of lines = flat_map (λ line. line ++ 10 ∷ []) lines
+abbrev pub lines_text : List (List ℕ) → List ℕ
+lines_text lines = flat_map (λ line. line ++ 10 ∷ []) lines
 
 -- the text of the lines that were answered false
 abbrev pub text_of_fresh : List (List ℕ) → List Bool → List ℕ
-text_of_fresh lines replies = text_of (fresh lines replies)
+text_of_fresh lines replies = lines_text (fresh lines replies)
 
 -- a line that was answered false differs from every line before it
 abbrev pub AreNew : List (List ℕ) → List Bool → Type 0
@@ -78,7 +78,7 @@ pub record KeepsUntil {S : Type 0} (longest : ℕ) (hash_of : List ℕ → ℕ) 
   pub short : AreShort longest lines
   pub tells : TellsUntil fault before after replies
 
--- what one line writes that was answered so
+-- what one line writes that had this reply
 abbrev pub piece : List ℕ → Bool → List ℕ
 piece line reply = if reply then [] else line ++ 10 ∷ []
 

@@ -26,7 +26,7 @@ millions (suc n) = millions n ++ ((n + 1) * 1000000) ∷ []
 abbrev pub tally_after : List Bool → ℕ → Tally
 tally_after replies n = record { read = n; held = held_back (take n replies) }
 
--- from old to new it was told the tally at each whole million of so many lines, in order, and
+-- from old to new it was told the tally at each whole million of this many lines, in order, and
 -- nothing else
 abbrev pub TellsMillions : Option (List Tally) → Option (List Tally) → List Bool → ℕ → Type 0
 TellsMillions None None replies read = ⊤
@@ -35,11 +35,11 @@ TellsMillions (Some told) None replies read = ⊤
 TellsMillions (Some told) (Some more) replies read =
     more ≡ told ++ map (tally_after replies) (millions (read / 1000000))
 
--- the same of all lines that had these replies; their number stays at 2^64 - 1
+-- each whole million of all lines that had these replies was told; their number stays at 2^64 - 1
 abbrev pub TellsOf : Option (List Tally) → Option (List Tally) → List Bool → Type 0
 TellsOf old new replies = TellsMillions old new replies (min (length replies) (2 ^ 64 - 1))
 
--- the same of all lines but the last
+-- each whole million of all lines but the last was told
 pub record TellsButLast (old new : Option (List Tally)) (replies : List Bool) : Type 0 where
   pub earlier : List Bool
   pub last : Bool

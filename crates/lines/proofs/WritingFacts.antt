@@ -7,7 +7,7 @@ use Rattle.lines.specs.Writing.{Begins, AppendsPart}
 begins : Begins (codes "a\nb\n") (codes "a\nb")
 begins = record { rest = 10 ∷ []; cut = refl }
 
--- it doesn't begin with its third
+-- a text doesn't begin with its third byte
 begins-third : Begins (codes "a\nb\n") (codes "b") → ⊥
 begins-third is = let letter : 97 ≡ 98 = ap (λ l. get_or l 0 0) is.cut in omega (arith, letter)
 
@@ -16,7 +16,7 @@ begins-more : Begins (codes "a") (codes "a\n") → ⊥
 begins-more is =
     let longer : 1 ≡ suc (suc (length is.rest)) = ap length is.cut in omega (arith, longer)
 
--- of two bytes the first was written behind the one that was there
+-- the first of two bytes was written behind the one that was there
 part : AppendsPart (codes "a\n") (Some (5 ∷ [])) (Some (5 ∷ 97 ∷ []))
 part = record { written = 97 ∷ []; appended = refl; begins = record { rest = 10 ∷ []; cut = refl } }
 

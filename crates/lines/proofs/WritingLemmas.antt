@@ -1,5 +1,5 @@
 -- Writing a text, as far as the writer takes it.
-use Rattle.std.proofs.Common.{◌≡◌, ℕ, ◌-◌, ◌≤◌, arith, length, length-drop, take_all, List, [], ◌++◌, take, drop, take-append-drop, Option, Result, Ok, Err, refl, sym, ◌∙◌, ap, append_assoc, append-nil}
+use Rattle.std.proofs.Common.{◌≡◌, ℕ, ◌-◌, ◌≤◌, arith, length, length-drop, take_all, List, [], ◌++◌, take, drop, take-append-drop, Option, Result, Ok, Err, sym, ◌∙◌, ap, append_assoc, append-nil}
 use Rattle.std.specs.Prelude.{OnOk, OnErr}
 use Rattle.std.specs.Io.KnownBytes.{Appends}
 use Rattle.std.proofs.KnownBytes.{Appends-trans}
@@ -16,29 +16,6 @@ pub Begins-after : (front text written : List ℕ) → Begins text written
 Begins-after front text written is = record {
   rest = is.rest;
   cut = ap (λ l. front ++ l) is.cut ∙ sym (append_assoc front written is.rest);
-}
-
--- a longer text begins with what the shorter begins with
-pub Begins-longer : (text more written : List ℕ) → Begins text written
-    → Begins (text ++ more) written
-Begins-longer text more written is = record {
-  rest = is.rest ++ more;
-  cut = ap (λ l. l ++ more) is.cut ∙ append_assoc written is.rest more;
-}
-
--- all of a text is a part of it
-pub part-whole : (text : List ℕ) (from to : Option (List ℕ)) → Appends from to text
-    → AppendsPart text from to
-part-whole text from to wrote =
-    record { written = text; appended = wrote; begins = Begins-whole text text refl }
-
--- a part of the first of two texts is a part of both
-pub part-first : (first second : List ℕ) (from to : Option (List ℕ))
-    → AppendsPart first from to → AppendsPart (first ++ second) from to
-part-first first second from to part = record {
-  written = part.written;
-  appended = part.appended;
-  begins = Begins-longer first second part.written part.begins;
 }
 
 -- the first of two texts and a part of the second are a part of both
@@ -61,7 +38,8 @@ whole-both first second from mid to (Err error) one two = tt
 -- the first of two texts was written, and of the second as much as before the error
 pub part-both : {E : Type 0} (first second : List ℕ) (from mid to : Option (List ℕ))
     (result : Result (Unit {0}) E) → Appends from mid first
-    → OnErr result (AppendsPart second mid to) → OnErr result (AppendsPart (first ++ second) from to)
+    → OnErr result (AppendsPart second mid to)
+    → OnErr result (AppendsPart (first ++ second) from to)
 part-both first second from mid to (Ok unit) one two = tt
 part-both first second from mid to (Err error) one two =
     part-second first second from mid to one two

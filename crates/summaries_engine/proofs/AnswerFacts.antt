@@ -39,7 +39,7 @@ hashes-long : (read left : Option (List ℕ)) (hashes : List ℕ) (did : HashesA
 hashes-long read left hashes did key is long =
     omega (arith, long, subst (AreShort 65536) is did.short 0 [] (omega arith))
 
--- not where one is left out
+-- no key may be left out
 hashes-less : HashesAll (Some (97 ∷ 10 ∷ 98 ∷ [])) (Some []) (0x4074_48d2_b89b_1813 ∷ []) → ⊥
 unfolding lines_of
 hashes-less did = none did.keys did.whole.are_lines did.hashed
@@ -50,7 +50,7 @@ hashes-less did = none did.keys did.whole.are_lines did.hashed
         let wrong : 1 ≡ 2 = ap length hashed ∙ length-map keys (sip 0 0) ∙ ap length (sym is) in
         omega (arith, wrong)
 
--- nor where something is left to read
+-- nothing may be left to read when all keys were hashed
 hashes-left : HashesAll (Some (97 ∷ [])) (Some (98 ∷ [])) (0x4074_48d2_b89b_1813 ∷ []) → ⊥
 hashes-left did = cc (did.whole.none_left)
 
@@ -69,7 +69,7 @@ found-b f is =
     ∙ ap (λ w. are_in (64 * length w) f.hashes 0x8b22_cf26_02fb_60ce (content w)) is.words
     ∙ ap (λ k. are_in 64 k 0x8b22_cf26_02fb_60ce (content (268500992 ∷ []))) is.hashes
 
--- of "b" and "a" the second is written, with an end
+-- the second of "b" and "a" is written, with an end
 text-a : (f : DefaultFilter) → IsFilter f 268500992 0
     → found_text f ((98 ∷ []) ∷ (97 ∷ []) ∷ []) ≡ 97 ∷ 10 ∷ []
 text-a f is = rw (found-b f is, found-a f is) refl
@@ -116,7 +116,7 @@ keyed : (f : DefaultFilter)
 unfolding whole_words rest
 keyed f is = rw is (record { low = refl; high = refl; words = refl; held = refl; count = refl })
 
--- not one whose hasher has taken in a byte
+-- a filter whose hasher has taken in a byte isn't keyed
 keyed-byte : (f : DefaultFilter) → f.hasher.hasher.count ≡ 1 → IsKeyed f → ⊥
 keyed-byte f is has = omega (arith, is, has.count)
 

@@ -5,14 +5,10 @@ use Rattle.std.proofs.lemmas.Bool.{cases_lt}
 use Rattle.std.proofs.lemmas.Grind.{div_ceil_times}
 use Rattle.std.proofs.lemmas.Nat.{mul-le}
 
--- n whole parts were cut from so many, and the rest is left; or nothing is left, and the last part
--- may be shorter
+-- n whole parts were cut from `all` items, and the rest is left; or nothing is left, and the last
+-- part may be shorter
 abbrev pub AreCut : (most all n rest : ℕ) → Type 0
 AreCut most all n rest = (n * most + rest ≡ all) ⊎ ((rest ≡ 0) × (n * most < all + most))
-
--- none yet
-pub cut-none : (most all : ℕ) → AreCut most all 0 all
-cut-none most all = inl (omega arith)
 
 -- one part more
 pub cut-more : (most all n rest part left : ℕ) → AreCut most all n rest → 0 < rest
@@ -29,7 +25,7 @@ cut-more most all n rest part left (inl whole) some is cut =
         inr (omega (arith, is, cut, short), omega (arith, more, whole, some, short))
     last more (inr fits) = inl (omega (arith, more, whole, is, cut, fits))
 
--- so many parts are no more than the workers by whose number the size was made
+-- there are no more parts than workers, where parts of that size for each worker hold all items
 pub cut-few : (most all n rest workers : ℕ) → AreCut most all n rest → rest ≡ 0 → 0 < most
     → all ≤ workers * most → n ≤ workers
 cut-few most all n rest workers are none some fits =
@@ -42,7 +38,7 @@ cut-few most all n rest workers are none some fits =
     below (inl whole) = omega (arith, whole, some)
     below (inr done) = done.1
 
--- that size, made at least 1
+-- the items by the workers, rounded up and at least 1, is such a size
 pub size-fits : (all workers most : ℕ) → 0 < workers
     → most ≡ max (all / workers + min 1 (all % workers)) 1 → all ≤ workers * most
 size-fits all workers most some is =

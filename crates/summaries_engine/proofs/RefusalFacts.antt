@@ -10,7 +10,7 @@ use Rattle.summaries_engine.specs.declared.unions.Difference.{Difference}
 use Rattle.summaries_engine.specs.declared.unions.Difference.TheVariants as difference
 use Rattle.summaries_engine.specs.declared.unions.Refusal.{Refusal}
 use Rattle.summaries_engine.specs.declared.unions.Refusal.TheVariants.{Unread, Differs}
-use Rattle.summaries_engine.specs.Refusals.{DiffersBy, IsMisfit, IsRefusedFor, StopsAt, too_long_text}
+use Rattle.summaries_engine.specs.Refusals.{DiffersBy, IsMisfit, IsRefusedFor, RefusesGiven, too_long_text}
 use Rattle.summaries_engine.proofs.SummaryFacts.{IsFilter}
 
 -- a filter of three hashes and one of two
@@ -61,7 +61,7 @@ seventh : too_long_text 6 ≡ codes "key 7 has more than 65536 bytes"
 seventh = let digits : decimal 7 ≡ codes "7" = decimal-digits_of 7 (omega arith) (omega arith) in
     ap (λ number. codes "key " ++ (number ++ codes " has more than 65536 bytes")) digits
 
--- and not the sixth
+-- the text of the seventh key isn't that of the sixth
 seventh-sixth : too_long_text 6 ≡ codes "key 6 has more than 65536 bytes" → ⊥
 seventh-sixth is =
     let digit : ◌≡◌ {A = ℕ} 55 54 = ap (λ text. get_or text 4 0) (sym seventh ∙ is) in
@@ -72,12 +72,15 @@ misfit-alike : (f g : DefaultFilter) (number : ℕ) → SameShape f g
     → IsMisfit {E = ℕ} f (Ok g ∷ []) number difference.Shape → ⊥
 misfit-alike f g number same did = of did.others did.came
   where
-    of : (others : List DefaultFilter) → ◌≡◌ {A = List (Result DefaultFilter ℕ)} (Ok g ∷ []) (map Ok others ++ Ok did.shard ∷ []) → ⊥
+    of : (others : List DefaultFilter)
+        → ◌≡◌ {A = List (Result DefaultFilter ℕ)} (Ok g ∷ []) (map Ok others ++ Ok did.shard ∷ [])
+        → ⊥
     of [] came =
         let is : ◌≡◌ {A = DefaultFilter} g did.shard = cc (came) in
         did.differs (subst (SameShape f) is same)
     of (h ∷ others) came =
-        let none : ◌≡◌ {A = List (Result DefaultFilter ℕ)} [] (map Ok others ++ Ok did.shard ∷ []) = cc (came) in
+        let none : ◌≡◌ {A = List (Result DefaultFilter ℕ)} [] (map Ok others ++ Ok did.shard ∷ []) =
+        cc (came) in
         some-given [] others did.shard refl none
 
 -- the first filter behind the first has number 1
@@ -97,13 +100,14 @@ misfit-most f given number how did = omega (arith, did.counted)
 unread-other : (f : DefaultFilter) → IsRefusedFor {E = ℕ} f (Err 4 ∷ []) (Unread 5) → ⊥
 unread-other f did = of did.0 did.1
   where
-    of : (others : List DefaultFilter) → ◌≡◌ {A = List (Result DefaultFilter ℕ)} (Err 4 ∷ []) (map Ok others ++ Err 5 ∷ []) → ⊥
+    of : (others : List DefaultFilter)
+        → ◌≡◌ {A = List (Result DefaultFilter ℕ)} (Err 4 ∷ []) (map Ok others ++ Err 5 ∷ []) → ⊥
     of [] is = let wrong : ◌≡◌ {A = ℕ} 4 5 = cc (is) in omega (arith, wrong)
     of (h ∷ others) is = cc (is)
 
 -- an iterator that gives nothing is the reason of no refusal
 stops-silent : (f : DefaultFilter) (refusal : Refusal ℕ)
-    → StopsAt {I = ℕ} (λ from given to. given ≡ None) 0 f refusal → ⊥
+    → RefusesGiven {I = ℕ} (λ from given to. given ≡ None) 0 f refusal → ⊥
 stops-silent f refusal stop = of stop.given stop.came refusal stop.refused
   where
     silent : ℕ → Option (Result DefaultFilter ℕ) → ℕ → Type 0
@@ -113,7 +117,8 @@ stops-silent f refusal stop = of stop.given stop.came refusal stop.refused
         → (refusal : Refusal ℕ) → IsRefusedFor f given refusal → ⊥
     of [] came (Unread error) is = none is.0 is.1
       where
-        none : (others : List DefaultFilter) → ◌≡◌ {A = List (Result DefaultFilter ℕ)} [] (map Ok others ++ Err error ∷ []) → ⊥
+        none : (others : List DefaultFilter)
+            → ◌≡◌ {A = List (Result DefaultFilter ℕ)} [] (map Ok others ++ Err error ∷ []) → ⊥
         none [] same = cc (same)
         none (h ∷ others) same = cc (same)
     of [] came (Differs number how) is = misfit-none f number how is

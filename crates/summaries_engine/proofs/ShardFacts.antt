@@ -1,6 +1,6 @@
 -- What the theorem of shards gives of two filters: 268500992 is the word of key "a" alone, and
 -- 281492156579840 that of "b", among 64 bits and with two hashes.
-use Rattle.std.proofs.Common.{◌≡◌, ℕ, true, false, ◌||◌, List, [], ◌∷◌, map, refl, sym, subst, ap, ◌∙◌, lit<}
+use Rattle.std.proofs.Common.{◌≡◌, ℕ, true, false, ◌||◌, List, [], ◌∷◌, map, refl, subst, lit<}
 use Rattle.std.specs.Prelude.{Ok, Result}
 use Rattle.bloom_parts.specs.Content.{content, AreWords}
 use Rattle.fastbloom.specs.Data.{DefaultFilter}
@@ -16,9 +16,10 @@ module _ (f g made : DefaultFilter) (one : IsFilter f 268500992 0)
 
   -- the union is the summary of both keys
   of-both : IsSummaryOf shape ((97 ∷ []) ∷ (98 ∷ []) ∷ []) made
-  of-both = unites.summary shape (((97 ∷ []) ∷ []) ∷ ((98 ∷ []) ∷ []) ∷ []) (each-part f g one other)
+  of-both =
+      unites.summary shape (((97 ∷ []) ∷ []) ∷ ((98 ∷ []) ∷ []) ∷ []) (each-part f g one other)
 
-  -- it equals another filter of both keys, which were inserted in another order
+  -- the union equals another filter of both keys, which were inserted in another order
   same-as-whole : (whole : DefaultFilter)
       → IsSummaryOf shape ((98 ∷ []) ∷ (97 ∷ []) ∷ []) whole → AreWords whole.words
       → HaveSameKey whole made
@@ -28,7 +29,7 @@ module _ (f g made : DefaultFilter) (one : IsFilter f 268500992 0)
       unites.same shape (((97 ∷ []) ∷ []) ∷ ((98 ∷ []) ∷ []) ∷ []) ((98 ∷ []) ∷ (97 ∷ []) ∷ [])
       whole (each-part f g one other) is words key same
 
-  -- it contains the key of the second part
+  -- the union contains the key of the second part
   contains-second : contains made (hash_in made (98 ∷ [])) ≡ true
   contains-second =
       unites.found shape (((97 ∷ []) ∷ []) ∷ ((98 ∷ []) ∷ []) ∷ []) (98 ∷ [])

@@ -27,7 +27,7 @@ no-whole ends =
 
 -- ---- keys
 
--- there is no room
+-- memory was out
 hashing-room : (said : Error) → SaysOver (codes "no memory") said → StopsHashing (Some []) said
 hashing-room said over = record {
   keys = [];
@@ -57,7 +57,7 @@ reason-no read keys said told (inr (inr (inr at))) =
     says-other (codes "no") (codes "there are too many keys") said told (λ same. cc) no-whole
     at.1.message
 
--- so nothing is refused for no reason
+-- nothing is refused for no reason
 hashing-no : (read : Option (List ℕ)) (said : Error) → error_message said ≡ codes "no"
     → StopsHashing read said → ⊥
 hashing-no read said told stop = reason-no read stop.keys said told stop.reason

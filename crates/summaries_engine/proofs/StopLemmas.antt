@@ -27,12 +27,12 @@ said-on text P (Ok value) outer said is says why = absurd says
 said-on text P (Err error) outer said is says why =
     subst (λ r. IfErr r P) (sym is) (why says)
 
--- why keys aren't taken on, behind so many that left so much
+-- why keys aren't taken on, behind this many, which left this much
 abbrev pub Why : Option (List ℕ) → Option (List ℕ) → ℕ → Error → Type 0
 Why read mid number said = (keys : List (List ℕ)) → number ≡ length keys
     → TakesLines read mid keys → IsReasonAfter read keys said
 
--- there was no room
+-- memory was out
 pub why-room : (read mid : Option (List ℕ)) (number : ℕ) (said : Error)
     → SaysOver (codes "no memory") said → Why read mid number said
 why-room read mid number said says = λ keys counted taken. inl says
@@ -57,7 +57,7 @@ pub why-many : (read mid : Option (List ℕ)) (number : ℕ) (said : Error) → 
 why-many read mid number said all says = λ keys counted taken.
     inr (inr (inr (sym counted ∙ all, says)))
 
--- so hashing stops
+-- hashing stops for that reason
 pub hashing-stops : (read left : Option (List ℕ)) (reader : Waiting) (number : ℕ)
     (hashes : List ℕ) (said : Error) → IsHashing read reader left number hashes
     → Why read (left_of reader left) number said → StopsHashing read said
@@ -69,7 +69,7 @@ hashing-stops read left reader number hashes said so_far why = record {
   reason = why so_far.keys so_far.counted so_far.has_read.taken;
 }
 
--- and asking
+-- asking stops for that reason
 pub asking-stops : (f : DefaultFilter) (read left from to : Option (List ℕ)) (reader : Waiting)
     (number : ℕ) (said : Error) → IsAnswering f read reader left number from to
     → Why read (left_of reader left) number said → StopsAsking f read from to said

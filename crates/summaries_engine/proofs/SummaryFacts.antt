@@ -90,7 +90,7 @@ summary-b f is = record {
       (sym (hash-in f 281492156579840 0 (98 ∷ []) is ∙ hash-b));
 }
 
--- what is on at a place where the summary of these hashes has it
+-- a bit of the word is set where the summary of these keys has it
 at : (f : DefaultFilter) (word low : ℕ) (keys : List (List ℕ)) (p : ℕ) → IsFilter f word low
     → IsSummaryOf shape keys f
     → content (word ∷ []) p ≡ positions_of_all 64 2 (map (λ key. sip low 0 key) keys) p
@@ -98,7 +98,7 @@ at f word low keys p is did =
     ap (λ w. content w p) (sym is.words) ∙ did.bits p
     ∙ ap (λ pair. positions_of_all 64 2 (map (λ key. sip pair.0 pair.1 key) keys) p) is.key
 
--- it isn't that of "b"
+-- the summary of "a" isn't that of "b"
 summary-other : (f : DefaultFilter) → IsFilter f 268500992 0
     → IsSummaryOf shape ((98 ∷ []) ∷ []) f → ⊥
 unfolding content positions chain
@@ -107,7 +107,7 @@ summary-other f is did =
     at f 268500992 0 ((98 ∷ []) ∷ []) 16 is did
     ∙ ap (λ h. positions_of_all 64 2 (h ∷ []) 16) hash-b in cc
 
--- nor, under another key, that of "a"
+-- the same word under another key isn't the summary of "a"
 summary-keyed : (f : DefaultFilter) → IsFilter f 268500992 1
     → IsSummaryOf shape ((97 ∷ []) ∷ []) f → ⊥
 unfolding content positions chain
@@ -121,7 +121,7 @@ pub each-part : (f g : DefaultFilter) → IsFilter f 268500992 0 → IsFilter g 
     → AreSummariesOf shape (((97 ∷ []) ∷ []) ∷ ((98 ∷ []) ∷ []) ∷ []) (f ∷ g ∷ [])
 each-part f g one other = (summary-a f one, (summary-b g other, tt))
 
--- not of one part
+-- two filters aren't the summaries of one part
 part-left_out : (f g : DefaultFilter)
     → AreSummariesOf shape (((97 ∷ []) ∷ []) ∷ []) (f ∷ g ∷ []) → ⊥
 part-left_out f g each = each.1

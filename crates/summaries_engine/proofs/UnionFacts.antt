@@ -43,7 +43,7 @@ union-both f g made one other is = record {
       (is.key ∙ sym one.key, (is.key ∙ sym other.key, tt));
 }
 
--- not where a filter was left out
+-- no filter may be left out of a union
 union-less : (f g made : DefaultFilter) → IsFilter f 268500992 0 → IsFilter g 281492156579840 0
     → IsFilter made 268500992 0 → IsUnionOf (f ∷ g ∷ []) made → ⊥
 unfolding content
@@ -53,7 +53,7 @@ union-less f g made one other is did =
     ∙ ap (λ w. content w 34 || (content g.words 34 || false)) one.words
     ∙ ap (λ w. content (268500992 ∷ []) 34 || (content w 34 || false)) other.words in cc
 
--- nor is the intersection, which is empty
+-- the intersection, which is empty, isn't the union
 union-none : (f g made : DefaultFilter) → IsFilter f 268500992 0 → IsFilter g 281492156579840 0
     → IsFilter made 0 0 → IsUnionOf (f ∷ g ∷ []) made → ⊥
 unfolding content
@@ -62,7 +62,7 @@ union-none f g made one other is did =
     ap (λ w. content w 16) (sym is.words) ∙ did.bits 16
     ∙ ap (λ w. content w 16 || (content g.words 16 || false)) one.words in cc
 
--- nor is one under another key
+-- a filter under another key isn't the union
 union-keyed : (f made : DefaultFilter) → IsFilter f 268500992 0 → IsFilter made 268500992 1
     → IsUnionOf (f ∷ []) made → ⊥
 union-keyed f made one is did =

@@ -16,12 +16,12 @@ use Rattle.summaries_engine.proofs.StopFacts.{no-whole, says-other}
 abbrev never : List ℕ → Error → Type 0
 never name said = ⊥
 
--- no name
+-- without a name there is no union
 uniting-none : (said : Error) → Says (codes "no filter was named") said
     → StopsUniting counted never [] said
 uniting-none said says = inl (refl, says)
 
--- and not a name whose filter is loaded
+-- a name alone whose filter is loaded stops nothing
 uniting-one : (name : List ℕ) (said : Error) → StopsUniting counted never (name ∷ []) said → ⊥
 uniting-one name said (inl none) =
     let wrong : ◌≡◌ {A = List (List ℕ)} (name ∷ []) [] = none.0 in cc
@@ -55,7 +55,7 @@ unloaded-second fails f said two failed = record {
   failed = failed;
 }
 
--- nor one of another name
+-- the error is of no other name
 unloaded-other : (f : DefaultFilter) (said : Error)
     → StopsUnloaded counted (λ name error. name ≡ 4 ∷ []) ((2 ∷ []) ∷ (3 ∷ []) ∷ []) said → ⊥
 unloaded-other f said stop = of stop.reaches.before stop.reaches.are stop.failed

@@ -59,7 +59,8 @@ other-byte f is [] later cut begins = cc (begins.cut)
 other-byte f is (key ∷ []) later cut begins =
     let key_is : ◌≡◌ {A = List ℕ} (97 ∷ []) key = cc (cut) in
     let wrong : 97 ≡ 98 =
-    ap (λ l. get_or l 0 0) (sym (text f is) ∙ ap (λ k. found_text f (k ∷ [])) key_is ∙ begins.cut) in
+    ap (λ l. get_or l 0 0)
+    (sym (text f is) ∙ ap (λ k. found_text f (k ∷ [])) key_is ∙ begins.cut) in
     omega (arith, wrong)
 other-byte f is (key ∷ more ∷ keys) later cut begins = cc (cut)
 

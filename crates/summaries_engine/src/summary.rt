@@ -26,7 +26,7 @@ impl Gate for Open {
 /// The hashes in parts: at most one for each worker, and none empty.
 ///
 /// # Errors
-/// Where there is no room.
+/// Out of memory.
 pub fn cut(alloc: Global, hashes: &[u64], workers: usize) -> Result<Vec<Vec<u64>>, FilterError>
     requires { 0 < workers }
     ensures whole { IfOk result
@@ -46,8 +46,8 @@ pub fn cut(alloc: Global, hashes: &[u64], workers: usize) -> Result<Vec<Vec<u64>
 /// with a part of the keys, which `cut` gives it, and a filter of its own.
 ///
 /// # Errors
-/// At the first key that is too long, where a read fails, where there is no room, and where a
-/// thread can't be started.
+/// At the first key that is too long, where a read fails, out of memory, and where a thread can't
+/// be started.
 pub fn build<R: Threads, I: Read>(
     rt: &R,
     alloc: Global,

@@ -51,6 +51,7 @@ returns-clause-few c =
     let most = c.max-most.result in
     let all = length c.args.hashes.now in
     cut-few most all (length c.parts.parts.items) (length (chunks_rest c.parts.part-iterator))
-    c.args.workers c.parts.invariant.counted c.in-None.ensures.steps.1.0 (omega (arith, c.max-most.ensures))
+    c.args.workers c.parts.invariant.counted c.in-None.ensures.steps.1.0
+    (omega (arith, c.max-most.ensures))
     (size-fits all c.args.workers most c.requires
     (c.max-most.ensures ∙ ap (λ size. max size 1) c.div_ceil.ensures))
