@@ -1,5 +1,5 @@
--- Which lines a run wrote, and which it held back. What a reader has left and what a writer holds is
--- Some of the bytes, or None where it doesn't tell.
+-- Which lines a run wrote, and which it held back. What a reader has left and what a writer holds
+-- is Some of the bytes, or None where it doesn't tell.
 use Rattle.std.specs.Prelude.{◌≡◌, ◌≢◌, ◌<◌, ◌-◌, ◌^◌, ℕ, Bool, true, false, if◌then◌else◌, min, List, [], ◌∷◌, ◌++◌, length, map, flat_map, get_or, Option, Result, MatchResult}
 use Rattle.std.specs.declared.hash.Hasher as hasher
 use Rattle.std.specs.Io.KnownBytes.{Appends}
@@ -82,7 +82,8 @@ pub record KeepsUntil {S : Type 0} (longest : ℕ) (hash_of : List ℕ → ℕ) 
 abbrev pub piece : List ℕ → Bool → List ℕ
 piece line reply = if reply then [] else line ++ 10 ∷ []
 
--- one line was inserted and, where it is new, written, at a fault of the writer as far as it took it
+-- one line was inserted and, where it is new, written, at a fault of the writer as far as it was
+-- taken
 pub record KeepsLine {S : Type 0} (hash_of : List ℕ → ℕ) (line : List ℕ) (old new : Filter S)
     (from to : Option (List ℕ)) (result : Result Bool Fault) : Type 0 where
   pub reply : Bool

@@ -1,5 +1,5 @@
--- What a progress was told of a run. It is Some of the tallies, or None where that isn't kept, or no
--- longer.
+-- What a progress was told of a run. It is Some of the tallies, or None where that isn't kept, or
+-- no longer.
 use Rattle.std.specs.Prelude.{◌≡◌, ◌⊎◌, ◌+◌, ◌-◌, ◌*◌, ◌/◌, ◌^◌, ℕ, zero, suc, min, Bool, if◌then◌else◌, List, [], ◌∷◌, ◌++◌, length, map, take, ⊤, Option, None, Some}
 use Rattle.duplicates_engine.specs.declared.fault.Fault.{Fault}
 use Rattle.duplicates_engine.specs.declared.fault.Fault.TheVariants.{TooLong, Memory, Input, Output}
@@ -46,7 +46,8 @@ pub record TellsButLast (old new : Option (List Tally)) (replies : List Bool) : 
   pub cut : replies ≡ earlier ++ last ∷ []
   pub tells : TellsOf old new earlier
 
--- what was told up to a fault: all lines that were done, where the writer failed perhaps but the last
+-- what was told up to a fault: all lines that were done, perhaps but the last where the writer
+-- failed
 abbrev pub TellsUntil : Fault → Option (List Tally) → Option (List Tally) → List Bool → Type 0
 TellsUntil (TooLong number) old new replies = TellsOf old new replies
 TellsUntil Memory old new replies = TellsOf old new replies

@@ -1,5 +1,5 @@
--- What a writer holds of a text where it fails within it: Some of the bytes, or None where the writer
--- doesn't tell them. These definitions are this project's own.
+-- What a writer holds of a text where it fails within it: Some of the bytes, or None where the
+-- writer doesn't tell them. These definitions are this project's own.
 use Rattle.std.specs.Prelude.{◌≡◌, ℕ, List, ◌++◌, Option}
 use Rattle.std.specs.Io.KnownBytes.{Appends}
 
