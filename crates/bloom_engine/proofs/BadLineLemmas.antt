@@ -7,7 +7,7 @@ use Rattle.bloom_engine.specs.declared.engine.commands.Next.TheVariants as next
 use Rattle.lines.specs.Lines.{lines_of, has_no_end, IsEnded}
 use Rattle.lines.proofs.LineLemmas.{lines_of-front}
 use Rattle.lines.proofs.TakenLemmas.{nil-front, ended-before}
-use Rattle.bloom_engine.specs.Lines.{line_of, longest_line, number_of, is_number, value_of, numbered}
+use Rattle.bloom_engine.specs.Lines.{line_of, longest_line, number_of, is_number, value_of, command_with_number}
 use Rattle.bloom_engine.specs.Reading.{NextCommand}
 use Rattle.bloom_engine.specs.Served.{IsReadUpTo}
 use Rattle.bloom_engine.proofs.TakenLemmas.{TakesGood}
@@ -21,7 +21,7 @@ line_of-long (letter ∷ (space ∷ text)) long =
     let many : leb (length text) 20 ≡ false = lt-leb (length text) 20 (omega arith) in
     let no_number : is_number text ≡ false =
     and_left _ _ (and_left _ _ (and_right (leb 1 (length text)) _ many)) in
-    ap (λ o. cond (eqb space 32) (numbered letter o) None)
+    ap (λ o. cond (eqb space 32) (command_with_number letter o) None)
     (cond-false (is_number text) (Some (value_of text)) None no_number)
     ∙ same (eqb space 32)
   where

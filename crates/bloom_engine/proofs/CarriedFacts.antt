@@ -22,7 +22,7 @@ abbrev same_below : (ℕ → Bool) → (ℕ → Bool) → ℕ → Bool
 same_below A B zero = true
 same_below A B (suc n) = same_below A B n && cond (A n) (B n) (not (B n))
 
--- so they have
+-- sets with the same members below n agree at each place below n
 below : (A B : ℕ → Bool) (n : ℕ) → same_below A B n ≡ true → (p : ℕ) → p < n → A p ≡ B p
 below A B zero same p within = absurd (omega (arith, within))
 below A B (suc n) same p within =
@@ -54,11 +54,11 @@ past_positions p far =
 abbrev pub zeros : Filter (Unit {0})
 zeros = record { words = 0 ∷ []; hashes = 3; hasher = tt }
 
--- with hash 1
+-- one word with the bits of hash 1, and three hashes
 abbrev pub with_one : Filter (Unit {0})
 with_one = record { words = 0x1_0010_0001 ∷ []; hashes = 3; hasher = tt }
 
--- below 64 hash 1 makes on what that word has on
+-- hash 1 sets the bits of that word
 below_64 : same_below (content (0x1_0010_0001 ∷ []))
     (state_after 64 3 (content (0 ∷ [])) (command.Insert 1 ∷ [])) 64 ≡ true
 unfolding content positions chain
@@ -82,11 +82,11 @@ inserted = record {
   hasher = refl;
 }
 
--- and its reply was written
+-- the reply of the line `i 1` was written
 pub carried : Carried zeros with_one (Some []) (Some (codes "false\n")) (Insert 1 ∷ [])
 carried = record { given = false ∷ []; filter = inserted; text = refl }
 
--- not if another reply was written
+-- another reply may not be written
 pub carried-text : (lines : List Line) → lines ≡ Insert 1 ∷ []
     → Carried zeros with_one (Some []) (Some (codes "true\n")) lines → ⊥
 unfolding chain are_in content
@@ -96,7 +96,7 @@ carried-text lines is did =
     let text : codes "true\n" ≡ codes "false\n" = rw (is, given) at did.text in
     cc
 
--- nor if the filter stayed as it was
+-- the filter may not stay as it was
 pub carried-bits : (lines : List Line) → lines ≡ Insert 1 ∷ []
     → Carried zeros zeros (Some []) (Some (codes "false\n")) lines → ⊥
 unfolding content positions chain

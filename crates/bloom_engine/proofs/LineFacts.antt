@@ -2,12 +2,13 @@
 use Rattle.std.proofs.Common.{◌≡◌, true, false, [], ◌∷◌, ◌++◌, length, map, replicate, Some, None, refl}
 use Rattle.std.specs.Prelude.{codes}
 use Rattle.bloom_parts.specs.Content.{content}
+use Rattle.bloom_parts.specs.Operations as command
 use Rattle.bloom_engine.specs.declared.engine.line.Line.TheVariants.{Insert, Contains, Clear, Words}
 use Rattle.bloom_engine.specs.declared.fault.Fault.TheVariants as fault
 use Rattle.bloom_engine.specs.Arguments.{within_limits, asked_of}
 use Rattle.bloom_engine.specs.Faults.{status_of, IsOfStream}
-use Rattle.bloom_engine.specs.Lines.{number_of, line_of, longest_line}
-use Rattle.bloom_engine.specs.Texts.{hex_text, words_text, reply_text, word_with_bits, words_with_content}
+use Rattle.bloom_engine.specs.Lines.{number_of, line_of, longest_line, operations}
+use Rattle.bloom_engine.specs.Texts.{hex_text, words_text, reply_text, word_with_bits, words_with_content, text_of}
 
 -- the greatest number, and one of twenty digits
 numbers : map number_of (codes "18446744073709551615" ∷ codes "00000000000000000001" ∷ [])
@@ -95,6 +96,29 @@ statuses = refl
 of_stream : IsOfStream fault.Input × IsOfStream fault.Output
 of_stream = (tt, tt)
 
--- want of memory is none of a stream's
+-- a stream doesn't run out of memory
 memory-not : IsOfStream fault.Memory → ⊥
 memory-not is = is
+
+-- arguments and bad lines are no fault of a stream
+usage-not : IsOfStream fault.Usage → ⊥
+usage-not is = is
+
+line-not : IsOfStream (fault.Line 7) → ⊥
+line-not is = is
+
+-- no word at all, and a first word that is no number, ask for nothing
+not_asked-first : map asked_of ([] ∷ (codes "x" ∷ codes "1" ∷ []) ∷ []) ≡ replicate 2 None
+unfolding number_of
+not_asked-first = refl
+
+-- three of four lines are commands to the filter
+commands : operations (Insert 1 ∷ Words ∷ Contains 2 ∷ Clear ∷ [])
+    ≡ command.Insert 1 ∷ command.Contains 2 ∷ command.Clear ∷ []
+commands = refl
+
+-- lines without a reply write nothing
+unanswered : text_of 1 3 (content (0 ∷ [])) (Insert 1 ∷ []) []
+    ++ text_of 1 3 (content (0 ∷ [])) (Contains 1 ∷ []) []
+    ≡ []
+unanswered = refl

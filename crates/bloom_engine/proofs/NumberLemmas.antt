@@ -26,7 +26,7 @@ number_of-long ds long =
     none ds
     (and_left _ _ (and_left _ _ (and_right (leb 1 (length ds)) _ (lt-leb (length ds) 20 long))))
 
--- nor is a text with a byte that is no digit
+-- a text with a byte that is no digit is no number
 pub number_of-letter : (ds : List ℕ) (i : ℕ) → i < length ds
     → is_ascii_digit (get_or ds i 0) ≡ false → number_of ds ≡ None
 number_of-letter ds i below off =

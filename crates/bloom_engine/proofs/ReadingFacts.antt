@@ -3,7 +3,7 @@ use Rattle.std.proofs.Common.{◌≡◌, [], ◌∷◌, length, replicate, Some,
 use Rattle.std.specs.Prelude.{codes}
 use Rattle.std.proofs.lemmas.List.{append_cancel_right}
 use Rattle.bloom_engine.specs.declared.engine.line.Line.TheVariants.{Words}
-use Rattle.bloom_engine.specs.declared.engine.commands.Next.TheVariants.{Good, Bad}
+use Rattle.bloom_engine.specs.declared.engine.commands.Next.TheVariants.{End, Good, Bad}
 use Rattle.lines.specs.Lines.{lines_of}
 use Rattle.lines.proofs.ReadingLemmas.{taken-ended}
 use Rattle.bloom_engine.specs.Lines.{line_of, number_of}
@@ -52,3 +52,24 @@ next_bad-not next = elim next [
 next_long : NextCommand (Some (replicate 24 49)) (Some (49 ∷ [])) Bad
 next_long =
     inr (record { taken = replicate 23 49; cut = refl; inside = refl; long = omega arith })
+
+-- the good line `w` isn't bad
+asks-good : Asks (codes "w") Bad → ⊥
+unfolding line_of
+asks-good is = let good : Bad ≡ Good Words = is in cc
+
+-- a bad line isn't good
+next_good-bad : NextCommand (Some (codes "x\n")) (Some []) (Good Words) → ⊥
+unfolding lines_of line_of
+next_good-bad next =
+    let took = next.takes in
+    let taken : codes "x\n" ≡ took.taken =
+    append_cancel_right (codes "x\n") took.taken [] took.cut in
+    let line : codes "x" ∷ [] ≡ next.text ∷ [] = rw (sym taken) at took.is_line in
+    let text : codes "x" ≡ next.text = cc in
+    let good : line_of (codes "x") ≡ Some Words = rw (sym text) at next.asks in
+    cc
+
+-- the end doesn't come while a byte is left
+next_end-left : NextCommand (Some (10 ∷ [])) (Some (10 ∷ [])) End → ⊥
+next_end-left next = cc (next.end)

@@ -1,26 +1,27 @@
 -- What serving promises of one and two lines: a case that holds, and near ones that don't.
-use Rattle.std.proofs.Common.{◌≡◌, ℕ, ◌+◌, ◌-◌, ◌^◌, min, List, [], ◌∷◌, ◌++◌, length, map, replicate, Option, Some, None, refl, sym, ap, arith, inl, inr}
+use Rattle.std.proofs.Common.{◌≡◌, ℕ, ◌+◌, ◌-◌, ◌^◌, ◌≤◌, min, List, [], ◌∷◌, ◌++◌, length, map, replicate, Option, Some, None, length-append, refl, sym, ◌∙◌, ap, arith, inl, inr}
 use Rattle.std.specs.Prelude.{codes}
 use Rattle.bloom_engine.specs.declared.engine.line.Line.{Line}
 use Rattle.bloom_engine.specs.declared.engine.line.Line.TheVariants.{Insert}
 use Rattle.lines.specs.Lines.{lines_of}
 use Rattle.bloom_engine.specs.Lines.{line_of, number_of}
-use Rattle.bloom_engine.specs.Served.{IsReadWhole, Reaches, IsReadUpTo, ServedAll, ServedUpTo}
+use Rattle.bloom_engine.specs.Served.{IsReadGood, Reaches, IsReadUpTo, ServedAll, ServedUpTo}
+use Rattle.bloom_plain.specs.Filter.{Filter}
 use Rattle.bloom_engine.proofs.CarriedFacts.{zeros, with_one, carried, carried-text, carried-bits}
 
 -- each line was good, and nothing is left
-whole : IsReadWhole (Some (codes "i 1\n")) (Some []) (Insert 1 ∷ [])
+whole : IsReadGood (Some (codes "i 1\n")) (Some []) (Insert 1 ∷ [])
 unfolding lines_of line_of number_of
 whole = record { good = refl; none_left = refl }
 
--- not if a byte is left
-whole-left : (lines : List Line) → IsReadWhole (Some (codes "i 1\n")) (Some (10 ∷ [])) lines → ⊥
+-- no byte may be left
+whole-left : (lines : List Line) → IsReadGood (Some (codes "i 1\n")) (Some (10 ∷ [])) lines → ⊥
 whole-left lines is = let left : ◌≡◌ {A = Option (List ℕ)} (Some (10 ∷ [])) (Some []) =
     is.none_left in
     cc
 
--- nor if a line is bad
-whole-bad : (lines : List Line) → IsReadWhole (Some (codes "x\n")) (Some []) lines → ⊥
+-- no line may be bad
+whole-bad : (lines : List Line) → IsReadGood (Some (codes "x\n")) (Some []) lines → ⊥
 unfolding lines_of line_of
 whole-bad [] is = let bad : ◌≡◌ {A = List (Option Line)} (None ∷ []) [] = is.good in cc
 whole-bad (line ∷ lines) is =
@@ -28,7 +29,7 @@ whole-bad (line ∷ lines) is =
 
 -- only these lines are good
 whole-lines : (left : Option (List ℕ)) (lines : List Line)
-    → IsReadWhole (Some (codes "i 1\n")) left lines → lines ≡ Insert 1 ∷ []
+    → IsReadGood (Some (codes "i 1\n")) left lines → lines ≡ Insert 1 ∷ []
 unfolding lines_of line_of number_of
 whole-lines left [] is =
     let good : ◌≡◌ {A = List (Option Line)} (Some (Insert 1) ∷ []) [] = is.good in cc
@@ -41,13 +42,13 @@ reaches : Reaches (codes "i 1\nx\n") (codes "i 1" ∷ []) (codes "x")
 unfolding lines_of
 reaches = record { seen = codes "x"; later = []; cut = refl; enough = inl refl }
 
--- or 23 bytes of it
+-- 23 bytes of a bad line were given
 reaches-long : Reaches (replicate 23 49) [] (replicate 30 49)
 unfolding lines_of
 reaches-long =
     record { seen = replicate 23 49; later = []; cut = refl; enough = inr (omega arith) }
 
--- not if only 22 were
+-- 22 bytes of a longer bad line aren't enough
 reaches-short : Reaches (replicate 22 49) [] (replicate 30 49) → ⊥
 unfolding lines_of
 reaches-short is =
@@ -59,7 +60,7 @@ reaches-short is =
       | inr long ↦ omega (arith, count, long)
     ]
 
--- nor if nothing of it was
+-- a bad line isn't reached of which nothing was given
 reaches-before : Reaches (codes "i 1\n") (codes "i 1" ∷ []) (codes "x") → ⊥
 unfolding lines_of
 reaches-before is = let lines : codes "i 1" ∷ [] ≡ codes "i 1" ∷ is.seen ∷ is.later = is.cut in cc
@@ -115,13 +116,13 @@ one-line (g ∷ (h ∷ (i ∷ gs))) bad later lines cut all is_bad =
     (g ∷ h ∷ i ∷ (gs ++ bad ∷ later)) = cut in
     cc
 
--- so they are wherever the reader stands
+-- the good lines before the bad one are this one alone, wherever the reader stands
 upto-lines : (left : Option (List ℕ)) (lines : List Line)
     → IsReadUpTo (codes "i 1\nx\n") (Some (codes "i 1\nx\n")) left lines → lines ≡ Insert 1 ∷ []
 unfolding lines_of
 upto-lines left lines is = one-line is.good is.bad is.later lines is.cut is.all_good is.is_bad
 
--- not the first line
+-- line 1 isn't the bad one
 served-number : ServedUpTo 1 (Some (codes "i 1\nx\n")) (Some []) zeros with_one (Some [])
     (Some (codes "false\n")) → ⊥
 served-number did =
@@ -129,26 +130,49 @@ served-number did =
     let number : 1 ≡ min (length did.lines + 1) (2 ^ 64 - 1) = did.number in
     omega (arith, ap length lines, number)
 
--- nor with another text
+-- another text may not be written before a bad line
 served-text : ServedUpTo 2 (Some (codes "i 1\nx\n")) (Some []) zeros with_one (Some [])
     (Some (codes "true\n")) → ⊥
 served-text did = carried-text did.lines (upto-lines _ did.lines did.upto) did.carried
 
--- nor with a filter that stayed as it was
+-- the filter may not stay as it was before a bad line
 served-filter : ServedUpTo 2 (Some (codes "i 1\nx\n")) (Some []) zeros zeros (Some [])
     (Some (codes "false\n")) → ⊥
 served-filter did = carried-bits did.lines (upto-lines _ did.lines did.upto) did.carried
+
+-- a reader that still has all its bytes was read up to no line
+upto-unread : (lines : List Line)
+    → IsReadUpTo (codes "i 1\nx\n") (Some (codes "i 1\nx\n")) (Some (codes "i 1\nx\n")) lines
+    → ⊥
+unfolding lines_of
+upto-unread lines is = of is.given is.gave is.reached
+  where
+    of : (given : List ℕ) → codes "i 1\nx\n" ≡ given ++ codes "i 1\nx\n"
+        → Reaches given is.good is.bad → ⊥
+    of [] gave reached =
+        let none : 0 ≡ length is.good + length (reached.seen ∷ reached.later) =
+        ap length reached.cut ∙ length-append is.good (reached.seen ∷ reached.later) in
+        omega (arith, none)
+    of (b ∷ given) gave reached =
+        let count : 6 ≡ length (b ∷ given) + 6 =
+        ap length gave ∙ length-append (b ∷ given) (codes "i 1\nx\n") in
+        omega (arith, count)
+
+-- the number of a line stays at 2^64 - 1
+served-most : (n : ℕ) (read left from to : Option (List ℕ)) (old new : Filter (Unit {0}))
+    → ServedUpTo n read left old new from to → n ≤ 2 ^ 64 - 1
+served-most n read left from to old new did = omega (arith, did.number)
 
 -- every line is good
 all : ServedAll (Some (codes "i 1\n")) (Some []) zeros with_one (Some []) (Some (codes "false\n"))
 all = record { lines = Insert 1 ∷ []; carried = carried; whole = whole }
 
--- not with another text
+-- another text may not be written
 all-text : ServedAll (Some (codes "i 1\n")) (Some []) zeros with_one (Some [])
     (Some (codes "true\n")) → ⊥
 all-text did = carried-text did.lines (whole-lines _ did.lines did.whole) did.carried
 
--- nor with a byte left
+-- no byte may be left to a run that served all
 all-left : ServedAll (Some (codes "i 1\n")) (Some (10 ∷ [])) zeros with_one (Some [])
     (Some (codes "false\n")) → ⊥
 all-left did = whole-left did.lines did.whole

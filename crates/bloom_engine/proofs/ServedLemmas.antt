@@ -14,7 +14,7 @@ use Rattle.lines.specs.Reading.{Ends, KnowsEnd, Waiting, left_of}
 use Rattle.lines.proofs.TakenLemmas as taken
 use Rattle.bloom_engine.specs.Lines.{line_of, longest_line}
 use Rattle.bloom_engine.specs.Reading.{NextCommand}
-use Rattle.bloom_engine.specs.Served.{Carried, IsReadWhole, ServedAll, ServedUpTo}
+use Rattle.bloom_engine.specs.Served.{Carried, IsReadGood, ServedAll, ServedUpTo}
 use Rattle.bloom_engine.proofs.BadLineLemmas.{upto}
 use Rattle.bloom_engine.proofs.CarriedLemmas.{Carried-nil, Carried-more}
 use Rattle.bloom_engine.proofs.TakenLemmas.{TakesGood, TakesGood-nil, TakesGood-more}
@@ -49,14 +49,14 @@ Carried-kept f g o p q lines so_far kept = record {
 }
 
 -- nothing is left of the block and of the reader
-IsReadWhole-from : (read left mid : Option (List ℕ)) (block : List ℕ) (lines : List Line)
+IsReadGood-from : (read left mid : Option (List ℕ)) (block : List ℕ) (lines : List Line)
     → TakesGood read mid lines → Ends mid (prepend_known block left)
-    → IsReadWhole read left lines
-IsReadWhole-from read left mid block lines took ends =
+    → IsReadGood read left lines
+IsReadGood-from read left mid block lines took ends =
     at read (taken.IsReadWhole-from read mid left block took.texts took.taken ends)
   where
     at : (read : Option (List ℕ)) → reading.IsReadWhole read left took.texts
-        → IsReadWhole read left lines
+        → IsReadGood read left lines
     at None whole = tt
     at (Some bytes) whole = record {
       good = ap (map line_of) whole.are_lines ∙ took.good;
@@ -111,7 +111,7 @@ module _ {S : Type 0} {read : Option (List ℕ)} {old : Filter S} {from : Option
     lines = so_far.lines;
     carried = carried;
     whole =
-        IsReadWhole-from read left (left_of waiting rest) after.bytes so_far.lines so_far.taken
+        IsReadGood-from read left (left_of waiting rest) after.bytes so_far.lines so_far.taken
         (rw end at is_next);
   }
 

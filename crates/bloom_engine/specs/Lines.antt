@@ -22,14 +22,15 @@ unfoldable pub number_of : List ℕ → Option ℕ
 number_of text = if is_number text then Some (value_of text) else None
 
 -- a letter that stands before a number: `i` inserts, `c` looks up
-abbrev pub numbered : ℕ → Option ℕ → Option Line
-numbered letter None = None
-numbered letter (Some n) =
+abbrev pub command_with_number : ℕ → Option ℕ → Option Line
+command_with_number letter None = None
+command_with_number letter (Some n) =
     if letter == 105 then Some (Insert n) else if letter == 99 then Some (Contains n) else None
 
 -- a letter that stands alone: `z` clears, `w` writes the words
-abbrev pub alone : ℕ → Option Line
-alone letter = if letter == 122 then Some Clear else if letter == 119 then Some Words else None
+abbrev pub command_of_letter : ℕ → Option Line
+command_of_letter letter =
+    if letter == 122 then Some Clear else if letter == 119 then Some Words else None
 
 -- the length of the longest good line, which is a letter, a space and twenty digits
 abbrev pub longest_line : ℕ
@@ -38,8 +39,9 @@ longest_line = 22
 -- what a line asks for, if it is good: a letter, one space and a number, or a letter alone
 unfoldable pub line_of : List ℕ → Option Line
 line_of [] = None
-line_of (letter ∷ []) = alone letter
-line_of (letter ∷ space ∷ text) = if space == 32 then numbered letter (number_of text) else None
+line_of (letter ∷ []) = command_of_letter letter
+line_of (letter ∷ space ∷ text) =
+    if space == 32 then command_with_number letter (number_of text) else None
 
 -- the command to the filter that a line is
 abbrev pub operation_of_line : Line → Option Operation

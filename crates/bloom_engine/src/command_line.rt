@@ -21,14 +21,17 @@ pub fn given_words<R: Env + AllocGlobal>(rt: &R) -> Result<Vec<String>, Fault>
     ensures fault { IfErr result (λ fault. (fault ≡ Fault.Usage) ⊎ (fault ≡ Fault.Memory)) }
 {
     let mut words = Vec::new(rt.alloc());
-    'words: for word in env::args(rt).map_err(|error| unread(error.kind()))?.skip(1) {
+    'words: for word in env::args(rt)
+        .map_err(|error| fault_of_args(error.kind()))?
+        .skip(1)
+    {
         words.push(word).map_err(|_| Fault::Memory)?;
     }
     Ok(words)
 }
 
-// Why arguments couldn't be read: for want of room, or since one isn't text.
-fn unread(kind: ErrorKind) -> Fault
+// Why arguments couldn't be read: out of memory, or one of them isn't text.
+fn fault_of_args(kind: ErrorKind) -> Fault
     ensures memory { kind ≡ ErrorKind.OutOfMemory → result ≡ Fault.Memory }
     ensures usage { kind ≢ ErrorKind.OutOfMemory → result ≡ Fault.Usage }
 {
@@ -49,14 +52,14 @@ pub fn arguments(args: &[String]) -> Result<(usize, u32), Fault>
 {
     match args {
         [words, hashes] => {
-            limited(number(words.as_bytes()), number(hashes.as_bytes())).ok_or(Fault::Usage)
+            both_in_limits(number(words.as_bytes()), number(hashes.as_bytes())).ok_or(Fault::Usage)
         }
         _ => Err(Fault::Usage),
     }
 }
 
 // Both numbers, where there are two and both are within their limits.
-fn limited(words: Option<u64>, hashes: Option<u64>) -> Option<(usize, u32)>
+fn both_in_limits(words: Option<u64>, hashes: Option<u64>) -> Option<(usize, u32)>
     ensures value { result ≡ within_limits words hashes }
     ensures limits { IfSome result (λ asked. (1 ≤ asked.0) × (asked.0 ≤ 2 ^ 20)) }
 {

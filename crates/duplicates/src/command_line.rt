@@ -10,7 +10,7 @@ use std::alloc::Global;
 pub struct Options {
     /// How many different lines are expected.
     pub items: usize,
-    /// The share of new lines that may be held back by mistake once so many came.
+    /// The share of new lines that may be held back by mistake once this many came.
     pub rate: Rate,
     /// How many bytes a line may have, without its end.
     pub longest: usize,

@@ -32,7 +32,7 @@ impl Progress for OnTerminal<'_> {
     }
 }
 
-// An empty filter for so many lines, under the zero key: so equal runs write equal text.
+// An empty filter for this many lines, under the zero key, so that equal runs write equal text.
 fn filter_of(alloc: Global, options: Options) -> Result<BloomFilter, FilterError> {
     BloomFilter::with_false_pos(options.rate).expected_items(alloc, options.items)
 }

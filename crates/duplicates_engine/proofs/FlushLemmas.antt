@@ -6,13 +6,14 @@ use Rattle.std.proofs.KnownBytes.{Appends-kept}
 use Rattle.bloom_plain.specs.Filter.{Filter}
 use Rattle.lines.specs.Reading.{IsReadFrom}
 use Rattle.lines.proofs.TakenLemmas.{IsReadFrom-whole, IsReadFrom-long}
+use Rattle.lines.proofs.WritingLemmas.{Begins-whole}
 use Rattle.duplicates_engine.specs.declared.fault.Fault.{Fault}
 use Rattle.duplicates_engine.specs.declared.fault.Fault.TheVariants.{TooLong, Memory, Input, Output}
 use Rattle.duplicates_engine.specs.declared.tally.Tally.{Tally}
 use Rattle.duplicates_engine.specs.Faults.{IsOfWriter, IsReadAt}
 use Rattle.duplicates_engine.specs.Kept.{text_of_fresh, KeepsNew, KeepsUntil}
 use Rattle.duplicates_engine.specs.Told.{TellsOf, TellsUntil}
-use Rattle.duplicates_engine.proofs.WriteLemmas.{Begins-whole, from-begins, to-begins}
+use Rattle.duplicates_engine.proofs.WriteLemmas.{from-begins, to-begins}
 
 -- at any fault the lines are the first of the input
 first-lines : (longest : ℕ) (fault : Fault) (read : Option (List ℕ)) (lines : List (List ℕ))
@@ -23,7 +24,7 @@ first-lines longest Memory read lines is = is
 first-lines longest (Input kind) read lines is = is
 first-lines longest (Output kind) read lines is = is
 
--- they are so at a fault of the writer
+-- the lines are the first of the input at a fault of the writer
 reached-writer : (longest : ℕ) (fault : Fault) (read : Option (List ℕ)) (lines : List (List ℕ))
     → IsOfWriter fault → IsReadFrom read lines → IsReadAt longest fault read lines
 reached-writer longest (TooLong number) read lines is first = absurd is
@@ -77,7 +78,7 @@ module _ {S : Type 0} (longest : ℕ) (hash_of : List ℕ → ℕ) (read : Optio
         tells = tells-all fault before after run.replies is run.tells;
       }
 
-  -- and so behind a run up to a fault
+  -- where the flush behind a run up to a fault fails, the run ended at the later fault
   pub until-broken : (first fault : Fault) → IsOfWriter fault
       → KeepsUntil longest hash_of read old new from to before after first
       → KeepsUntil longest hash_of read old new from kept before after fault
@@ -97,7 +98,7 @@ module _ {S : Type 0} (longest : ℕ) (hash_of : List ℕ → ℕ) (read : Optio
         tells = tells-again first fault before after run.replies is run.tells;
       }
 
-  -- so it is whatever came first
+  -- whatever came first, where the flush fails the run ended at that
   pub broken : (left : Option (List ℕ)) (result : Result Tally Fault) (fault : Fault)
       → IsOfWriter fault
       → IfOk result (KeepsNew longest hash_of read left old new from to before after)

@@ -1,5 +1,7 @@
+mod FaultFacts
 mod FlushLemmas
 mod KeptFacts
+mod RunFacts
 mod RunLemmas
 mod SiftLemmas
 mod StartLemmas

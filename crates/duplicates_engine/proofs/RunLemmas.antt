@@ -9,16 +9,17 @@ use Rattle.bloom_plain.specs.Laws.{JoinedListsLaw, FoundAfterInsertsLaw}
 use Rattle.bloom_plain.specs.Replies.{CarriesOut}
 use Rattle.lines.specs.Reading.{Waiting, left_of, KnowsEnd, AreShort, TakesShort, TakesLong, Ends, IsReadFrom}
 use Rattle.lines.proofs.TakenLemmas.{TakesLines, TakesLines-more, IsReadWhole-from, IsReadFrom-taken, IsReadToLong-from}
+use Rattle.lines.proofs.WritingLemmas.{Begins-after}
 use Rattle.duplicates_engine.specs.declared.fault.Fault.{Fault}
 use Rattle.duplicates_engine.specs.declared.fault.Fault.TheVariants.{TooLong, Memory, Input, Output}
 use Rattle.duplicates_engine.specs.declared.tally.Tally.{Tally}
 use Rattle.duplicates_engine.specs.Faults.{IsOfReader, IsOfWriter, IsWrittenAt, IsReadAt}
-use Rattle.duplicates_engine.specs.Kept.{text_of_fresh, piece, Sifts, Counts, KeepsLine, KeepsNew, KeepsUntil}
+use Rattle.duplicates_engine.specs.Kept.{text_of_fresh, piece, Sifts, KeepsLine, KeepsNew, KeepsUntil}
 use Rattle.duplicates_engine.specs.Told.{Tells, TellsOf, TellsUntil}
 use Rattle.duplicates_engine.proofs.SiftLemmas.{fresh-more, Counts-more, Sifts-more}
 use Rattle.duplicates_engine.proofs.StartLemmas.{IsSifting}
 use Rattle.duplicates_engine.proofs.ToldLemmas.{told-step}
-use Rattle.duplicates_engine.proofs.WriteLemmas.{Begins-after, from-begins, to-begins}
+use Rattle.duplicates_engine.proofs.WriteLemmas.{from-begins, to-begins}
 
 -- the same line, under the same hash
 pub line-kept : {S : Type 0} {hash_of same_hash : List ℕ → ℕ} {line same_line : List ℕ}
@@ -104,13 +105,13 @@ module _ {S : Type 0} {longest : ℕ} {hash_of : List ℕ → ℕ} {read : Optio
         TakesLines-more read (left_of waiting rest) (left_of after left) so_far.lines after.line
         so_far.taken took.takes
 
-    -- and it is short enough
+    -- each line so far is short enough
     short : AreShort longest (so_far.lines ++ after.line ∷ [])
     short =
         All-append (λ line. length line ≤ longest) so_far.lines (after.line ∷ []) so_far.short
         (All-from_recursion (λ line. length line ≤ longest) (after.line ∷ []) (took.short, tt))
 
-    -- and sifted
+    -- one more line was sifted
     sifts : (new : Filter S) (reply : Bool)
         → CarriesOut now (Insert (hash_of after.line) ∷ []) new (reply ∷ [])
         → reply ≡ contains now (hash_of after.line)

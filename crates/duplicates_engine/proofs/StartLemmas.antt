@@ -54,7 +54,7 @@ first-nil : (read : Option (List ℕ)) → IsReadFrom read []
 first-nil None = tt
 first-nil (Some bytes) = record { later = lines_of bytes; cut = refl }
 
--- there was no room for anything
+-- a run was out of memory before it read anything
 pub until-nil : {S : Type 0} (longest : ℕ) (hash_of : List ℕ → ℕ) (read from : Option (List ℕ))
     (told : Option (List Tally)) (filter : Filter S)
     → KeepsUntil longest hash_of read filter filter from from told told Memory

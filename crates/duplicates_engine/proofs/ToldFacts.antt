@@ -1,9 +1,9 @@
 -- What a progress is told: of each relation cases that hold, and near ones that don't.
-use Rattle.std.proofs.Common.{◌≡◌, ◌-◌, ◌^◌, inr, min, Bool, true, false, List, [], ◌∷◌, ◌++◌, length, map, take, get_or, length-append, Some, None, refl, ap, subst, arith}
+use Rattle.std.proofs.Common.{◌≡◌, ℕ, ◌+◌, ◌-◌, ◌^◌, inl, inr, min, Bool, true, false, List, [], ◌∷◌, ◌++◌, length, map, take, get_or, length-append, Some, None, refl, sym, ◌∙◌, ap, subst, arith}
 use Rattle.std.specs.declared.io.ErrorKind.TheVariants as kind
-use Rattle.duplicates_engine.specs.declared.fault.Fault.TheVariants.{Memory, Output}
+use Rattle.duplicates_engine.specs.declared.fault.Fault.TheVariants.{TooLong, Memory, Input, Output}
 use Rattle.duplicates_engine.specs.declared.tally.Tally.{Tally}
-use Rattle.duplicates_engine.specs.Told.{Tells, held_back, millions, tally_after, TellsMillions, TellsUntil}
+use Rattle.duplicates_engine.specs.Told.{Tells, held_back, millions, tally_after, TellsMillions, TellsOf, TellsUntil}
 
 -- the counts at a million lines
 abbrev one : Tally
@@ -17,27 +17,31 @@ two = record { read = 2000000; held = 5 }
 tells : Tells (Some (one ∷ [])) (Some (one ∷ two ∷ [])) two
 tells = refl
 
--- not if nothing is told
+-- a tell adds to what was told
 tells-none : Tells (Some (one ∷ [])) (Some (one ∷ [])) two → ⊥
 tells-none is = let more : 1 ≡ 2 = ap length is in omega (arith, more)
 
--- nor if it is told twice
+-- a tally isn't told twice
 tells-twice : Tells (Some (one ∷ [])) (Some (one ∷ two ∷ two ∷ [])) two → ⊥
 tells-twice is = let more : 3 ≡ 2 = ap length is in omega (arith, more)
 
--- nor before the first
+-- a tally isn't told before an earlier one
 tells-before : Tells (Some (one ∷ [])) (Some (two ∷ one ∷ [])) two → ⊥
 tells-before is =
     let number : 2000000 ≡ 1000000 = ap (λ told. get_or (map (λ t. t.read) told) 0 0) is in
     omega (arith, number)
 
--- it may lose what it was told
+-- a progress may lose what it was told
 tells-loses : Tells (Some (one ∷ [])) None two
 tells-loses = tt
 
 -- what was lost doesn't come back
 tells-again : Tells None (Some (two ∷ [])) two → ⊥
 tells-again is = is
+
+-- what wasn't kept stays unknown
+tells-unkept : Tells None None two
+tells-unkept = tt
 
 -- the first two whole millions
 whole : millions 2 ≡ 1000000 ∷ 2000000 ∷ []
@@ -62,14 +66,14 @@ module _ (replies : List Bool) where
   each-first : TellsMillions (Some []) (Some (tally_after replies 1000000 ∷ [])) replies 1999999
   each-first = refl
 
-  -- not in another order
+  -- the tallies are told in no other order
   each-order : TellsMillions (Some [])
       (Some (tally_after replies 2000000 ∷ tally_after replies 1000000 ∷ [])) replies 2999999 → ⊥
   each-order is =
       let number : 2000000 ≡ 1000000 = ap (λ told. get_or (map (λ t. t.read) told) 0 0) is in
       omega (arith, number)
 
-  -- not with one line more held back than those that were
+  -- a tally counts no line more as held back than those that were
   each-held : held_back (take 1000000 replies) ≡ 3
       → TellsMillions (Some []) (Some (record one { held = 4 } ∷ [])) replies 1999999 → ⊥
   each-held three is =
@@ -93,3 +97,42 @@ module _ (replies : List Bool) where
       let told = subst (TellsMillions (Some []) (Some []) all) number tells in
       let more : 0 ≡ 1 = ap length told in
       omega (arith, more)
+
+-- what was lost of the millions doesn't come back
+millions-again : TellsMillions None (Some []) [] 0 → ⊥
+millions-again is = is
+
+-- what was told of the millions may be lost
+millions-lost : TellsMillions (Some (one ∷ [])) None [] 0
+millions-lost = tt
+
+-- a run of a million lines tells the million, and no other count
+of-replies : (replies : List Bool) → length replies ≡ 1000000
+    → TellsOf (Some []) (Some []) replies → ⊥
+of-replies replies size tells =
+    let number : min (length replies) (2 ^ 64 - 1) ≡ 1000000 = omega (arith, size) in
+    let told = subst (TellsMillions (Some []) (Some []) replies) number tells in
+    let more : 0 ≡ 1 = ap length told in
+    omega (arith, more)
+
+-- at a line that is too long, and where a read failed, each million of the lines was told
+until-long : (replies : List Bool) (number : ℕ) → length replies ≡ 1000000
+    → TellsUntil (TooLong number) (Some []) (Some []) replies → ⊥
+until-long replies number size tells = of-replies replies size tells
+
+until-input : (replies : List Bool) → length replies ≡ 1000000
+    → TellsUntil (Input kind.BrokenPipe) (Some []) (Some []) replies → ⊥
+until-input replies size tells = of-replies replies size tells
+
+-- where the writer failed, a million isn't left out that the last line but one made
+until-earlier : (replies : List Bool) → length replies ≡ 1000001
+    → TellsUntil (Output kind.BrokenPipe) (Some []) (Some []) replies → ⊥
+until-earlier replies size (inl tells) =
+    let number : min (length replies) (2 ^ 64 - 1) ≡ 1000001 = omega (arith, size) in
+    let told = subst (TellsMillions (Some []) (Some []) replies) number tells in
+    let more : 0 ≡ 1 = ap length told in
+    omega (arith, more)
+until-earlier replies size (inr but) =
+    let count : 1000001 ≡ length but.earlier + 1 =
+    sym size ∙ ap length but.cut ∙ length-append but.earlier (but.last ∷ []) in
+    of-replies but.earlier (omega (arith, count)) but.tells

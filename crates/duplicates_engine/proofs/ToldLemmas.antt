@@ -31,7 +31,7 @@ module _ (replies : List Bool) (reply : Bool) where
   tally-later n within =
       let same = take-append-le n replies (reply ∷ []) within in rw same refl
 
-  -- nor any at a whole million
+  -- a later reply changes no tally at a whole million before it
   tallies-later : (k : ℕ) → k * 1000000 ≤ length replies
       → map (tally_after (replies ++ reply ∷ [])) (millions k)
       ≡ map (tally_after replies) (millions k)
@@ -110,7 +110,8 @@ module _ (old now new : Option (List Tally)) (replies : List Bool) (reply : Bool
   by-rest (inr whole) =
       let none : tally.read % 1000000 ≡ 0 = omega (arith, whole) in
       let is : tally.read ≡ length replies + 1 = omega (arith, is_read, none) in
-      let before : min (length replies) (2 ^ 64 - 1) ≡ length replies = omega (arith, is_read, is) in
+      let before : min (length replies) (2 ^ 64 - 1) ≡ length replies =
+      omega (arith, is_read, is) in
       let few = held-few (replies ++ reply ∷ []) in
       let size = length-append replies (reply ∷ []) in
       let held : tally.held ≡ held_back (replies ++ reply ∷ []) =

@@ -1,8 +1,9 @@
 -- What was read and written where a run ended early.
-use Rattle.std.specs.Prelude.{◌≡◌, ◌+◌, ◌-◌, ◌^◌, ℕ, min, List, ◌++◌, length, Option}
+use Rattle.std.specs.Prelude.{◌≡◌, ◌+◌, ◌-◌, ◌^◌, ℕ, min, List, length, Option}
 use Rattle.duplicates_engine.specs.declared.fault.Fault.{Fault}
 use Rattle.duplicates_engine.specs.declared.fault.Fault.TheVariants.{TooLong, Memory, Input, Output}
 use Rattle.lines.specs.Reading.{IsReadFrom, IsReadToLong}
+use Rattle.lines.specs.Writing.{Begins}
 
 -- the fault of a reader
 abbrev pub IsOfReader : Fault → Type 0
@@ -17,11 +18,6 @@ IsOfWriter (TooLong number) = ⊥
 IsOfWriter Memory = ⊥
 IsOfWriter (Input kind) = ⊥
 IsOfWriter (Output kind) = Unit {0}
-
--- bytes with which a text begins
-pub record Begins (text written : List ℕ) : Type 0 where
-  pub rest : List ℕ
-  pub cut : text ≡ written ++ rest
 
 -- all of the text was written, or at a fault of the writer its beginning
 abbrev pub IsWrittenAt : Fault → List ℕ → List ℕ → Type 0

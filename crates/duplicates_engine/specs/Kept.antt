@@ -1,6 +1,6 @@
--- Which lines a run wrote, and which it held back. What a reader has left and what a writer holds is
--- Some of the bytes, or None where it doesn't tell.
-use Rattle.std.specs.Prelude.{◌≡◌, ◌≢◌, ◌<◌, ◌+◌, ◌-◌, ◌^◌, ℕ, Bool, true, false, if◌then◌else◌, min, List, [], ◌∷◌, ◌++◌, length, map, flat_map, get_or, Option, Result, MatchResult}
+-- Which lines a run wrote, and which it held back. What a reader has left and what a writer holds
+-- is Some of the bytes, or None where it doesn't tell.
+use Rattle.std.specs.Prelude.{◌≡◌, ◌≢◌, ◌<◌, ◌-◌, ◌^◌, ℕ, Bool, true, false, if◌then◌else◌, min, List, [], ◌∷◌, ◌++◌, length, map, flat_map, get_or, Option, Result, MatchResult}
 use Rattle.std.specs.declared.hash.Hasher as hasher
 use Rattle.std.specs.Io.KnownBytes.{Appends}
 use Rattle.bloom_parts.specs.Operations.{Insert}
@@ -25,12 +25,12 @@ fresh (line ∷ lines) (reply ∷ replies) =
     if reply then fresh lines replies else line ∷ fresh lines replies
 
 -- each line with an end
-abbrev pub text_of : List (List ℕ) → List ℕ
-text_of lines = flat_map (λ line. line ++ 10 ∷ []) lines
+abbrev pub lines_text : List (List ℕ) → List ℕ
+lines_text lines = flat_map (λ line. line ++ 10 ∷ []) lines
 
 -- the text of the lines that were answered false
 abbrev pub text_of_fresh : List (List ℕ) → List Bool → List ℕ
-text_of_fresh lines replies = text_of (fresh lines replies)
+text_of_fresh lines replies = lines_text (fresh lines replies)
 
 -- a line that was answered false differs from every line before it
 abbrev pub AreNew : List (List ℕ) → List Bool → Type 0
@@ -78,11 +78,12 @@ pub record KeepsUntil {S : Type 0} (longest : ℕ) (hash_of : List ℕ → ℕ) 
   pub short : AreShort longest lines
   pub tells : TellsUntil fault before after replies
 
--- what one line writes that was answered so
+-- what one line writes that had this reply
 abbrev pub piece : List ℕ → Bool → List ℕ
 piece line reply = if reply then [] else line ++ 10 ∷ []
 
--- one line was inserted and, where it is new, written, at a fault of the writer as far as it took it
+-- one line was inserted and, where it is new, written, at a fault of the writer as far as it was
+-- taken
 pub record KeepsLine {S : Type 0} (hash_of : List ℕ → ℕ) (line : List ℕ) (old new : Filter S)
     (from to : Option (List ℕ)) (result : Result Bool Fault) : Type 0 where
   pub reply : Bool

@@ -69,7 +69,7 @@ fn keep_lines<S: BuildHasher, R: Read, W: Write, P: Progress>(
 /// Writes each line whose insert into the filter is answered false, with an end, and counts those
 /// that it holds back. A line may have at most `longest` bytes without its end.
 ///
-/// Nothing is held back by mistake but what the filter takes for a line before; a line is never
+/// A line is held back by mistake only where the filter takes it for a line before; a line is never
 /// written twice. `progress` is told each million lines.
 ///
 /// # Errors

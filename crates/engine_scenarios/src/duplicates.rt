@@ -36,7 +36,7 @@ struct Left {
     ends: usize,
 }
 
-// A run over an input whose lines may have so many bytes, of which this must be written.
+// Runs over an input whose lines may have at most `longest` bytes: this output must be written.
 fn run(
     rt: &impl Abort,
     alloc: Global,

@@ -36,7 +36,7 @@ no_end-not = refl
 ended : IsEnded (codes "i 1\n")
 ended = IsEnded-line (codes "i 1") refl
 
--- not within a line
+-- within a line, lines don't begin anew
 ended-not : IsEnded (codes "i") → ⊥
 unfolding lines_of
 ended-not is =

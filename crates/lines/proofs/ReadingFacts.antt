@@ -23,7 +23,7 @@ knows_end-not knows = not_nil _ _ (knows refl)
 takes_line : TakesLine (Some (codes "i 1\nx\n")) (Some (codes "x\n")) (codes "i 1")
 takes_line = taken-ended refl refl
 
--- not if its end is left
+-- a line isn't taken while its end is left
 takes_line-not : TakesLine (Some (codes "i 1\nx\n")) (Some (codes "\nx\n")) (codes "i 1") → ⊥
 unfolding lines_of
 takes_line-not takes =
@@ -39,7 +39,7 @@ takes_line-not takes =
 ends : Ends (Some []) (Some [])
 ends = record { nothing = refl; end = refl }
 
--- not if a byte was taken
+-- the end isn't told where a byte was taken
 ends-not : Ends (Some (10 ∷ [])) (Some []) → ⊥
 ends-not is = not_nil _ _ is.nothing
 
@@ -47,7 +47,7 @@ ends-not is = not_nil _ _ is.nothing
 takes_long : TakesLong 2 (Some (codes "abcd\n")) (Some (codes "d\n"))
 takes_long = record { taken = codes "abc"; cut = refl; inside = refl; long = omega arith }
 
--- not more than three
+-- three bytes aren't more than three
 takes_long-not : TakesLong 3 (Some (codes "abcd\n")) (Some (codes "d\n")) → ⊥
 takes_long-not is =
     let taken : codes "abc" ≡ is.taken =
@@ -55,7 +55,7 @@ takes_long-not is =
     let count : 3 ≡ length is.taken = ap length taken in
     omega (arith, count, is.long)
 
--- nor more than one, where the line ends between
+-- bytes with an end between aren't of one line
 takes_long-end : TakesLong 1 (Some (codes "a\nb")) (Some (codes "b")) → ⊥
 takes_long-end is =
     let taken : codes "a\n" ≡ is.taken =
@@ -67,11 +67,11 @@ takes_long-end is =
 told : has_next (record { line = []; bytes = codes "a\n"; ended = false; longest = 3 }) ≡ true
 told = refl
 
--- none does, and as many bytes as a line may have
+-- no end waits among as many bytes as a line may have
 told-not : has_next (record { line = []; bytes = codes "abc"; ended = false; longest = 3 }) ≡ false
 told-not = refl
 
--- one byte more
+-- more bytes wait than a line may have
 told-long : has_next (record { line = []; bytes = codes "abc"; ended = false; longest = 2 }) ≡ true
 told-long = refl
 
@@ -83,7 +83,7 @@ told-end = refl
 next_line : NextLine 3 (Some (codes "abc\nx\n")) (Some (codes "x\n")) (codes "abc") Line
 next_line = record { takes = taken-ended refl refl; short = omega arith }
 
--- not if it is longer than a line may be
+-- a line that is longer than a line may be isn't good
 next_line-not : NextLine 2 (Some (codes "abc\nx\n")) (Some (codes "x\n")) (codes "abc") Line → ⊥
 next_line-not is = omega (arith, is.short)
 
@@ -91,7 +91,7 @@ next_line-not is = omega (arith, is.short)
 next_end : NextLine 3 (Some []) (Some []) [] End
 next_end = ends
 
--- not while a byte is left
+-- the end doesn't come while a byte is left
 next_end-not : NextLine 3 (Some (10 ∷ [])) (Some (10 ∷ [])) [] End → ⊥
 next_end-not is = not_nil _ _ is.end
 
@@ -99,7 +99,7 @@ next_end-not is = not_nil _ _ is.end
 next_long : NextLine 2 (Some (codes "abcd\n")) (Some (codes "d\n")) [] TooLong
 next_long = takes_long
 
--- not if nothing of it was taken
+-- a line isn't too long of which nothing was taken
 next_long-not : NextLine 2 (Some (codes "abcd\n")) (Some (codes "abcd\n")) [] TooLong → ⊥
 next_long-not is =
     let taken : [] ≡ is.taken = append_cancel_right [] is.taken (codes "abcd\n") is.cut in
@@ -111,11 +111,11 @@ whole : IsReadWhole (Some (codes "a\nb")) (Some []) (codes "a" ∷ codes "b" ∷
 unfolding lines_of
 whole = record { are_lines = refl; none_left = refl }
 
--- not if a byte is left
+-- a reader that has a byte left isn't read to its end
 whole-left : IsReadWhole (Some (codes "a\nb")) (Some (98 ∷ [])) (codes "a" ∷ codes "b" ∷ []) → ⊥
 whole-left is = let left : ◌≡◌ {A = Option (List ℕ)} (Some (98 ∷ [])) (Some []) = is.none_left in cc
 
--- nor if a line lacks
+-- a line may not be left out
 whole-lines : IsReadWhole (Some (codes "a\nb")) (Some []) (codes "a" ∷ []) → ⊥
 unfolding lines_of
 whole-lines is =
@@ -126,7 +126,7 @@ from : IsReadFrom (Some (codes "a\nb")) (codes "a" ∷ [])
 unfolding lines_of
 from = record { later = codes "b" ∷ []; cut = refl }
 
--- not the second
+-- the second line isn't the first
 from-not : IsReadFrom (Some (codes "a\nb")) (codes "b" ∷ []) → ⊥
 unfolding lines_of
 from-not is =
@@ -139,7 +139,7 @@ to_long : IsReadToLong 3 (Some (codes "a\nbcde\n")) (codes "a" ∷ [])
 unfolding lines_of
 to_long = record { long = codes "bcde"; later = []; cut = refl; is_long = omega arith }
 
--- not more than four
+-- the line of four bytes isn't longer than four
 to_long-not : IsReadToLong 4 (Some (codes "a\nbcde\n")) (codes "a" ∷ []) → ⊥
 unfolding lines_of
 to_long-not is =

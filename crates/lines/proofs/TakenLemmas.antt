@@ -12,7 +12,7 @@ pub record HasTakenLines (old new : List ℕ) (lines : List (List ℕ)) : Type 0
   pub are_lines : lines_of taken ≡ lines
   pub last : IsEnded taken ⊎ (new ≡ [])
 
--- so they were, where a reader tells its bytes
+-- these lines were taken, for a reader that may not tell its bytes
 abbrev pub TakesLines : Option (List ℕ) → Option (List ℕ) → List (List ℕ) → Type 0
 TakesLines None new lines = Unit {0}
 TakesLines (Some old) None lines = ⊥
@@ -23,7 +23,7 @@ pub nil-front : (xs ys : List ℕ) → xs ++ ys ≡ [] → xs ≡ []
 nil-front [] ys none = refl
 nil-front (x ∷ xs) ys none = cc
 
--- nor is what it is joined with
+-- what nothing is joined with is nothing, too
 pub nil-back : (xs ys : List ℕ) → xs ++ ys ≡ [] → ys ≡ []
 nil-back [] ys none = none
 nil-back (x ∷ xs) ys none = cc
@@ -36,7 +36,7 @@ not-at-end old taken new text cut is none =
     let same : text ∷ [] ≡ [] = sym is ∙ ap lines_of nothing ∙ lines_of-nil in
     cc
 
--- so the lines before it had their ends
+-- the lines before a line that was taken had their ends
 pub ended-before : (before old taken new text : List ℕ) → IsEnded before ⊎ (old ≡ [])
     → old ≡ taken ++ new → lines_of taken ≡ text ∷ [] → IsEnded before
 ended-before before old taken new text (inl ended) cut is = ended

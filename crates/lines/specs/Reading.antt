@@ -46,7 +46,7 @@ pub record HasTakenLine (old new line : List ℕ) : Type 0 where
   pub is_line : lines_of taken ≡ line ∷ []
   pub last : IsEnded taken ⊎ (new ≡ [])
 
--- from old to new it was
+-- one line was taken, for a reader that may not tell its bytes
 abbrev pub TakesLine : Option (List ℕ) → Option (List ℕ) → List ℕ → Type 0
 TakesLine None new line = Unit {0}
 TakesLine (Some old) None line = ⊥
@@ -59,7 +59,7 @@ pub record HasTakenLong (longest : ℕ) (old new : List ℕ) : Type 0 where
   pub inside : has_no_end taken ≡ true
   pub long : longest < length taken
 
--- the same of what a reader has, where it tells its bytes
+-- more of a line was taken than it may have, for a reader that may not tell its bytes
 abbrev pub TakesLong : ℕ → Option (List ℕ) → Option (List ℕ) → Type 0
 TakesLong longest None new = Unit {0}
 TakesLong longest (Some old) None = ⊥
@@ -121,7 +121,7 @@ pub record HasReadAll (bytes : List ℕ) (left : Option (List ℕ)) (lines : Lis
     pub are_lines : lines_of bytes ≡ lines
     pub none_left : left ≡ Some []
 
--- so it is with what the reader had
+-- these are all lines of a reader that may not tell its bytes, and it is at its end
 abbrev pub IsReadWhole : Option (List ℕ) → Option (List ℕ) → List (List ℕ) → Type 0
 IsReadWhole read left lines = IfSome read (λ bytes. HasReadAll bytes left lines)
 
@@ -130,7 +130,7 @@ pub record AreFirst (bytes : List ℕ) (lines : List (List ℕ)) : Type 0 where
   pub later : List (List ℕ)
   pub cut : lines_of bytes ≡ lines ++ later
 
--- so it is with what the reader had
+-- the lines are the first, for a reader that may not tell its bytes
 abbrev pub IsReadFrom : Option (List ℕ) → List (List ℕ) → Type 0
 IsReadFrom read lines = IfSome read (λ bytes. AreFirst bytes lines)
 
@@ -141,6 +141,6 @@ pub record AreBeforeLong (longest : ℕ) (bytes : List ℕ) (lines : List (List 
   pub cut : lines_of bytes ≡ lines ++ long ∷ later
   pub is_long : longest < length long
 
--- so it is with what the reader had
+-- the line after these is too long, for a reader that may not tell its bytes
 abbrev pub IsReadToLong : ℕ → Option (List ℕ) → List (List ℕ) → Type 0
 IsReadToLong longest read lines = IfSome read (λ bytes. AreBeforeLong longest bytes lines)

@@ -69,9 +69,9 @@ impl Block {
         requires { self.old ≡ [] }
         ensures taken { OnOk result
             (Consumes (R.remaining input.old) (R.remaining input.new) self.new) }
-        // It is empty only at the end of the input.
+        // The block is empty only at the end of the input.
         ensures end { OnOk result (self.new ≡ [] → IsAtEnd (R.remaining input.new)) }
-        // After an error it is empty, and nothing was taken.
+        // After an error the block is empty, and nothing was taken.
         ensures none { OnErr result (self.new ≡ []) }
         ensures kept { OnErr result (Keeps (R.remaining input.old) (R.remaining input.new)) }
     {

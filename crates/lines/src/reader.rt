@@ -18,15 +18,15 @@ const FIRST_ROOM: usize = 64;
 pub enum Next {
     /// The input has ended.
     End,
-    /// There is one.
+    /// There is a next line.
     Line,
-    /// It is longer than a line may be. More of it was taken than a line may have.
+    /// The next line is longer than a line may be. More of it was taken than a line may have.
     TooLong,
 }
 
 /// Gives the lines of a reader one after the other, and never reads on once a read told the end.
 ///
-/// It keeps one block of bytes and one line, which takes memory as it needs it.
+/// The reader keeps one block of bytes and one line, which takes memory as it needs it.
 #[derive(Drop)]
 pub struct LineReader {
     block: Block,
@@ -49,7 +49,7 @@ impl Model for LineReader {
 }
 
 impl LineReader {
-    /// Nothing was read yet. A line may have at most so many bytes, without its end.
+    /// Nothing was read yet. A line may have at most this many bytes, without its end.
     pub fn new(alloc: Global, longest: usize) -> Result<Self, AllocError>
         ensures empty { IfOk result (λ reader. reader.bytes ≡ []) }
         ensures open { IfOk result (λ reader. reader.ended ≡ false) }

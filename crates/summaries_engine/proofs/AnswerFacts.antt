@@ -1,6 +1,6 @@
 -- What is read of keys and written of answers: cases that hold, and some that nearly do. Key "a" is
 -- byte 97 and "b" byte 98; among 64 bits and with two hashes 268500992 is the word of "a" alone.
-use Rattle.std.proofs.Common.{◌≡◌, ◌≤◌, ℕ, true, false, ◌*◌, List, [], ◌∷◌, length, map, Option, Some, refl, sym, subst, ap, ◌∙◌, arith}
+use Rattle.std.proofs.Common.{◌≡◌, ◌≤◌, ℕ, true, false, ◌*◌, List, [], ◌∷◌, length, get_or, map, Option, Some, refl, sym, subst, ap, ◌∙◌, arith}
 use Rattle.std.proofs.lemmas.List.{length-map}
 use Rattle.std.proofs.lemmas.List.Elements.{All-from_recursion}
 use Rattle.bloom_parts.specs.Chain.{chain}
@@ -39,7 +39,7 @@ hashes-long : (read left : Option (List ℕ)) (hashes : List ℕ) (did : HashesA
 hashes-long read left hashes did key is long =
     omega (arith, long, subst (AreShort 65536) is did.short 0 [] (omega arith))
 
--- not where one is left out
+-- no key may be left out
 hashes-less : HashesAll (Some (97 ∷ 10 ∷ 98 ∷ [])) (Some []) (0x4074_48d2_b89b_1813 ∷ []) → ⊥
 unfolding lines_of
 hashes-less did = none did.keys did.whole.are_lines did.hashed
@@ -50,12 +50,12 @@ hashes-less did = none did.keys did.whole.are_lines did.hashed
         let wrong : 1 ≡ 2 = ap length hashed ∙ length-map keys (sip 0 0) ∙ ap length (sym is) in
         omega (arith, wrong)
 
--- nor where something is left to read
+-- nothing may be left to read when all keys were hashed
 hashes-left : HashesAll (Some (97 ∷ [])) (Some (98 ∷ [])) (0x4074_48d2_b89b_1813 ∷ []) → ⊥
 hashes-left did = cc (did.whole.none_left)
 
 -- whether the filter of "a" contains each
-found-a : (f : DefaultFilter) → IsFilter f 268500992 0 → contains f (hash_in f (97 ∷ [])) ≡ true
+pub found-a : (f : DefaultFilter) → IsFilter f 268500992 0 → contains f (hash_in f (97 ∷ [])) ≡ true
 unfolding content chain are_in
 found-a f is =
     ap (contains f) (hash-in f 268500992 0 (97 ∷ []) is ∙ hash-a)
@@ -69,7 +69,7 @@ found-b f is =
     ∙ ap (λ w. are_in (64 * length w) f.hashes 0x8b22_cf26_02fb_60ce (content w)) is.words
     ∙ ap (λ k. are_in 64 k 0x8b22_cf26_02fb_60ce (content (268500992 ∷ []))) is.hashes
 
--- of "b" and "a" the second is written, with an end
+-- the second of "b" and "a" is written, with an end
 text-a : (f : DefaultFilter) → IsFilter f 268500992 0
     → found_text f ((98 ∷ []) ∷ (97 ∷ []) ∷ []) ≡ 97 ∷ 10 ∷ []
 text-a f is = rw (found-b f is, found-a f is) refl
@@ -116,6 +116,25 @@ keyed : (f : DefaultFilter)
 unfolding whole_words rest
 keyed f is = rw is (record { low = refl; high = refl; words = refl; held = refl; count = refl })
 
--- not one whose hasher has taken in a byte
+-- a filter whose hasher has taken in a byte isn't keyed
 keyed-byte : (f : DefaultFilter) → f.hasher.hasher.count ≡ 1 → IsKeyed f → ⊥
 keyed-byte f is has = omega (arith, is, has.count)
+
+-- nothing may be left to read when all keys were asked for
+answers-left : (f : DefaultFilter) (from to : Option (List ℕ))
+    → AnswersAll f (Some (97 ∷ [])) (Some (98 ∷ [])) from to → ⊥
+answers-left f from to did = cc (did.whole.none_left)
+
+-- the hash of another key isn't that of "a"
+hashes-other : HashesAll (Some (97 ∷ [])) (Some []) (0x8b22_cf26_02fb_60ce ∷ []) → ⊥
+unfolding lines_of
+hashes-other did = wrong (sym (hashed ∙ ap (map (sip 0 0)) (sym did.whole.are_lines)))
+  where
+    hashed : 0x8b22_cf26_02fb_60ce ∷ [] ≡ map (sip 0 0) did.keys
+    hashed = did.hashed
+
+    wrong : sip 0 0 (97 ∷ []) ∷ [] ≡ 0x8b22_cf26_02fb_60ce ∷ [] → ⊥
+    wrong same =
+        let is : ◌≡◌ {A = ℕ} 0x4074_48d2_b89b_1813 0x8b22_cf26_02fb_60ce =
+        sym hash-a ∙ ap (λ l. get_or l 0 0) same in
+        omega (arith, is)

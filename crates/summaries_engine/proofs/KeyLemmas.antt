@@ -36,8 +36,9 @@ read-none read reader empty opened longest = record {
 -- one more
 pub read-next : (read : Option (List ℕ)) (old new : Waiting)
     (left rest : Option (List ℕ)) (keys : List (List ℕ)) → HasRead read old left keys
-    → TakesShort old.longest (left_of old left) (left_of new rest) new.line → KnowsEnd new.ended rest
-    → new.longest ≡ old.longest → HasRead read new rest (keys ++ new.line ∷ [])
+    → TakesShort old.longest (left_of old left) (left_of new rest) new.line
+    → KnowsEnd new.ended rest → new.longest ≡ old.longest
+    → HasRead read new rest (keys ++ new.line ∷ [])
 read-next read old new left rest keys so_far next knows same = record {
   taken = TakesLines-more read (left_of old left) (left_of new rest) keys new.line
       so_far.taken next.takes;
@@ -73,7 +74,8 @@ pub hashing-next : (read : Option (List ℕ)) (old new : Waiting)
     (left rest : Option (List ℕ)) (number : ℕ) (hashes more : List ℕ) (hash : ℕ)
     → IsHashing read old left number hashes
     → TakesShort old.longest (left_of old left) (left_of new rest) new.line
-    → KnowsEnd new.ended rest → new.longest ≡ old.longest → hash ≡ sip 0 0 new.line → more ≡ hashes ++ hash ∷ []
+    → KnowsEnd new.ended rest → new.longest ≡ old.longest
+    → hash ≡ sip 0 0 new.line → more ≡ hashes ++ hash ∷ []
     → IsHashing read new rest (number + 1) more
 hashing-next read old new left rest number hashes more hash past next knows same is made = record {
   keys = past.keys ++ new.line ∷ [];
@@ -97,7 +99,7 @@ hashing-end read old new left rest number hashes so_far end = record {
 }
 
 -- the text of one key more
-found_text-more : (f : DefaultFilter) (keys : List (List ℕ)) (key : List ℕ)
+pub found_text-more : (f : DefaultFilter) (keys : List (List ℕ)) (key : List ℕ)
     → found_text f (keys ++ key ∷ []) ≡ found_text f keys ++ found_text f (key ∷ [])
 found_text-more f keys key =
     let is_found : List ℕ → Bool = λ k. contains f (hash_in f k) in
@@ -129,7 +131,8 @@ pub answering-next : (f : DefaultFilter) (read : Option (List ℕ)) (old new : W
     (left rest : Option (List ℕ)) (number : ℕ) (from to more : Option (List ℕ))
     → IsAnswering f read old left number from to
     → TakesShort old.longest (left_of old left) (left_of new rest) new.line
-    → KnowsEnd new.ended rest → new.longest ≡ old.longest → Appends to more (found_text f (new.line ∷ []))
+    → KnowsEnd new.ended rest → new.longest ≡ old.longest
+    → Appends to more (found_text f (new.line ∷ []))
     → IsAnswering f read new rest (number + 1) from more
 answering-next f read old new left rest number from to more so_far next knows same one = record {
   keys = so_far.keys ++ new.line ∷ [];

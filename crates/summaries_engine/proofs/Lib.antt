@@ -1,10 +1,12 @@
 mod AnswerFacts
+mod CutLemmas
 mod KeyLemmas
 mod MisfitLemmas
 mod NamedFacts
 mod NamedLemmas
 mod RefusalFacts
 mod RefusalLemmas
+mod ShardFacts
 mod ShardLemmas
 mod StopFacts
 mod StopLemmas
@@ -12,3 +14,4 @@ mod SummaryFacts
 mod UnionFacts
 mod UnionLemmas
 mod UnitingFacts
+mod WritingFacts

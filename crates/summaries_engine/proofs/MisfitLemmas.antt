@@ -4,7 +4,7 @@ use Rattle.std.proofs.lemmas.List.{get_or-map, length-map}
 use Rattle.anyhow.specs.declared.error.Error.{Error}
 use Rattle.fastbloom.specs.Data.{DefaultFilter}
 use Rattle.summaries_engine.specs.declared.unions.Difference.{Difference}
-use Rattle.summaries_engine.specs.Named.{Named, AreNamed, Reaches, StopsAtMisfit, misfit_text}
+use Rattle.summaries_engine.specs.Named.{Named, AreNamed, LoadedBefore, StopsAtMisfit, misfit_text}
 use Rattle.summaries_engine.specs.Refusals.{DiffersBy}
 use Rattle.summaries_engine.specs.Stops.{Says}
 
@@ -14,7 +14,7 @@ pub few-names : (names : List (Bor (List ℕ))) → length names < 2 ^ 64
 few-names names few =
     subst (λ n. n < 2 ^ 64) (sym (length-map names (λ name. name.now))) few
 
--- filters are as many as their names
+-- there are as many filters as names
 pub named-length : (has : Named) (names : List (List ℕ)) (filters : List DefaultFilter)
     → AreNamed has names filters → length filters ≡ length names
 named-length has [] [] are = refl
@@ -23,13 +23,13 @@ named-length has (name ∷ names) [] are = absurd are
 named-length has (name ∷ names) (f ∷ filters) are =
     ap (λ n. suc n) (named-length has names filters are.1)
 
--- the name behind so many others
+-- the name behind others stands at the place of their number
 behind-them : (before after : List (List ℕ)) (name : List ℕ)
     → get_or (before ++ name ∷ after) (length before) [] ≡ name
 behind-them [] after name = refl
 behind-them (other ∷ before) after name = behind-them before after name
 
--- so in a list that is so cut
+-- the name behind others, in a list that is cut there
 pub name-behind : (all before after : List (List ℕ)) (name : List ℕ) (number : ℕ)
     → all ≡ before ++ name ∷ after → number ≡ length before → get_or all number [] ≡ name
 name-behind all before after name number are at =
@@ -51,7 +51,7 @@ pub record MisfitAt (has : Named) (names : List (List ℕ)) (first : DefaultFilt
   pub filters : List DefaultFilter
   pub name : List ℕ
   pub shard : DefaultFilter
-  pub reaches : Reaches has names (first ∷ filters) name
+  pub reaches : LoadedBefore has names (first ∷ filters) name
   pub loaded : has name shard
   pub differs : DiffersBy first shard how
   pub within : number < length names

@@ -1,7 +1,7 @@
--- Filters that have names: cases that hold, and some that nearly do. Here a name has one byte, and
--- under it lies what has so many hashes.
-use Rattle.std.proofs.Common.{◌≡◌, ℕ, List, [], ◌∷◌, Some, None, refl, sym, ap, ◌∙◌}
-use Rattle.std.specs.Prelude.{Ok}
+-- Filters that have names: cases that hold, and some that nearly do. Here a name has one byte,
+-- which is the number of hashes of what lies under it.
+use Rattle.std.proofs.Common.{◌≡◌, ℕ, List, [], ◌∷◌, Option, Some, None, refl, sym, ap, ◌∙◌, arith}
+use Rattle.std.specs.Prelude.{Ok, Err, Result}
 use Rattle.fastbloom.specs.Data.{DefaultFilter}
 use Rattle.summaries_engine.specs.Named.{Named, AreNamed, GivesNext}
 
@@ -18,7 +18,7 @@ named-both : (f g : DefaultFilter) → f.hashes ≡ 2 → g.hashes ≡ 3
 named-both f g two three =
     (ap (λ n. n ∷ []) (sym two), (ap (λ n. n ∷ []) (sym three), tt))
 
--- not in the other order
+-- the filters don't lie under the names in another order
 named-crossed : (f g : DefaultFilter) → f.hashes ≡ 2 → g.hashes ≡ 3
     → AreNamed counted ((2 ∷ []) ∷ (3 ∷ []) ∷ []) (g ∷ f ∷ []) → ⊥
 named-crossed f g two three are = first (are.0 ∙ ap (λ n. n ∷ []) three)
@@ -26,7 +26,7 @@ named-crossed f g two three are = first (are.0 ∙ ap (λ n. n ∷ []) three)
     first : ◌≡◌ {A = List ℕ} (2 ∷ []) (3 ∷ []) → ⊥
     first same = cc
 
--- nor with a name left over, or a filter
+-- no name may be left over, nor a filter
 named-fewer : (f : DefaultFilter) → AreNamed counted ((2 ∷ []) ∷ (3 ∷ []) ∷ []) (f ∷ []) → ⊥
 named-fewer f are = are.1
 
@@ -43,7 +43,7 @@ gives-first : (f : DefaultFilter) → f.hashes ≡ 2
     → Gives ((2 ∷ []) ∷ (3 ∷ []) ∷ []) ((3 ∷ []) ∷ []) f
 gives-first f two = (refl, (2 ∷ [], refl, ap (λ n. n ∷ []) (sym two)))
 
--- not that of the second
+-- the filter of the second name isn't given first
 gives-second : (f : DefaultFilter) → f.hashes ≡ 3
     → Gives ((2 ∷ []) ∷ (3 ∷ []) ∷ []) ((3 ∷ []) ∷ []) f → ⊥
 gives-second f three given = wrong given.1.0 given.1.1 given.1.2
@@ -52,7 +52,7 @@ gives-second f three given = wrong given.1.0 given.1.1 given.1.2
         → name ≡ f.hashes ∷ [] → ⊥
     wrong name left is = cc
 
--- nor does a name stay
+-- the name of a filter that was given isn't left
 gives-again : (f : DefaultFilter) → Gives ((2 ∷ []) ∷ []) ((2 ∷ []) ∷ []) f → ⊥
 gives-again f given = wrong given.1.0 given.1.1
   where
@@ -67,3 +67,23 @@ gives-none given = wrong given.1.0
   where
     wrong : ◌≡◌ {A = List (List ℕ)} ((2 ∷ []) ∷ []) [] → ⊥
     wrong nothing = cc
+
+-- the shelf stays the same
+gives-shelf : (given : Option (Result DefaultFilter ℕ))
+    → GivesNext {I = ℕ} (λ (_ : ℕ). counted) (λ _. told) (λ n. n) (λ _. []) 1 given 2 → ⊥
+gives-shelf given is = omega (arith, is.0)
+
+-- where nothing is given, no name may come back
+gives-none-left :
+    GivesNext {E = ℕ} (λ (_ : ℕ). counted) (λ _. told) (λ (_ : List (List ℕ)). 0) (λ names. names)
+    [] None ((2 ∷ []) ∷ []) → ⊥
+gives-none-left given = cc (given.1.1)
+
+-- the error of a load is that of the name
+gives-error :
+    GivesNext {E = ℕ} (λ (_ : ℕ). counted) (λ _. told) (λ (_ : List (List ℕ)). 0) (λ names. names)
+    ((2 ∷ []) ∷ []) (Some (Err 3)) [] → ⊥
+gives-error given = wrong given.1.0 given.1.1 given.1.2
+  where
+    wrong : (name : List ℕ) → (2 ∷ []) ∷ [] ≡ name ∷ [] → name ≡ 3 ∷ [] → ⊥
+    wrong name left is = cc

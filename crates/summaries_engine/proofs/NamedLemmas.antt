@@ -7,8 +7,8 @@ use Rattle.fastbloom.specs.Data.{DefaultFilter}
 use Rattle.summaries_engine.specs.declared.unions.Difference.{Difference}
 use Rattle.summaries_engine.specs.declared.unions.Refusal.{Refusal}
 use Rattle.summaries_engine.specs.declared.unions.Refusal.TheVariants.{Unread, Differs}
-use Rattle.summaries_engine.specs.Named.{Named, AreNamed, GivesNext, Reaches, StopsUnloaded}
-use Rattle.summaries_engine.specs.Refusals.{StopsAt}
+use Rattle.summaries_engine.specs.Named.{Named, AreNamed, GivesNext, LoadedBefore, StopsUnloaded}
+use Rattle.summaries_engine.specs.Refusals.{RefusesGiven}
 use Rattle.summaries_engine.specs.Summaries.{UnitesGiven, UnitesShards}
 use Rattle.summaries_engine.proofs.MisfitLemmas.{MisfitAt, name-behind, named-length, number-at}
 
@@ -33,7 +33,7 @@ module _ {I S : Type 0} (E : Type 0) (has : S → Named) (fails : S → List ℕ
             (named-to-end filters next to end came.2 over),
       )
 
-  -- so a first filter, and those of a whole run, have the first name and those that were left
+  -- a first filter, and those of a whole run, have the first name and those that were left
   pub named-run : (first made : DefaultFilter) (name : List ℕ) (start : I) (on : S)
       (all : List (List ℕ)) → shelf start ≡ on → name ∷ names start ≡ all → has on name first
       → WholeRun (GivesNext {E = E} has fails shelf names) start
@@ -60,7 +60,7 @@ module _ {I S : Type 0} (E : Type 0) (has : S → Named) (fails : S → List ℕ
   -- what was given up to the last that was asked for has the first of the names that were left
   named-up-to : (filters : List DefaultFilter) (last : Result DefaultFilter E) (from to : I)
       → Yields (GivesNext {E = E} has fails shelf names) from (map Ok filters ++ last ∷ []) to
-      → (name : List ℕ) × Reaches (has (shelf from)) (names from) filters name
+      → (name : List ℕ) × LoadedBefore (has (shelf from)) (names from) filters name
       × MatchResult last (has (shelf from) name) (fails (shelf from) name)
   named-up-to [] last from to came =
       let step = came.1 in (
@@ -89,8 +89,8 @@ module _ {I S : Type 0} (E : Type 0) (has : S → Named) (fails : S → List ℕ
     where
       -- with a first filter before it
       reaches-behind : (filters : List DefaultFilter) (last : List ℕ)
-          → Reaches (has (shelf start)) (names start) filters last
-          → Reaches (has on) all (first ∷ filters) last
+          → LoadedBefore (has (shelf start)) (names start) filters last
+          → LoadedBefore (has on) all (first ∷ filters) last
       reaches-behind filters last reaches = record {
         before = name ∷ reaches.before;
         after = reaches.after;
@@ -100,11 +100,12 @@ module _ {I S : Type 0} (E : Type 0) (has : S → Named) (fails : S → List ℕ
 
       -- an error is that of the name at which it came
       pub unloaded : (error : E) (refusal : Refusal E) → refusal ≡ Unread error
-          → StopsAt (GivesNext {E = E} has fails shelf names) start first refusal
+          → RefusesGiven (GivesNext {E = E} has fails shelf names) start first refusal
           → StopsUnloaded (has on) (fails on) all error
       unloaded error refusal is told =
           let stop =
-          subst (λ r. StopsAt (GivesNext {E = E} has fails shelf names) start first r) is told in
+          subst (λ r. RefusesGiven (GivesNext {E = E} has fails shelf names) start first r) is
+          told in
           let others = stop.refused.0 in
           let up = named-up-to others (Err error) start stop.end
           (subst (λ given. Yields (GivesNext {E = E} has fails shelf names) start given stop.end)
@@ -118,11 +119,12 @@ module _ {I S : Type 0} (E : Type 0) (has : S → Named) (fails : S → List ℕ
       -- a filter that differs is that of the name at which it came
       pub misfit-at : (number : ℕ) (how : Difference) (refusal : Refusal E)
           → refusal ≡ Differs number how → length all < 2 ^ 64
-          → StopsAt (GivesNext {E = E} has fails shelf names) start first refusal
+          → RefusesGiven (GivesNext {E = E} has fails shelf names) start first refusal
           → MisfitAt (has on) all first number how
       misfit-at number how refusal is few told =
           let stop =
-          subst (λ r. StopsAt (GivesNext {E = E} has fails shelf names) start first r) is told in
+          subst (λ r. RefusesGiven (GivesNext {E = E} has fails shelf names) start first r) is
+          told in
           let misfit = stop.refused in
           let up = named-up-to misfit.others (Ok misfit.shard) start stop.end
           (subst (λ given. Yields (GivesNext {E = E} has fails shelf names) start given stop.end)

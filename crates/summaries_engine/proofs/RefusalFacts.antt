@@ -1,11 +1,16 @@
 -- Why filters aren't united: cases that hold, and some that nearly do.
-use Rattle.std.proofs.Common.{◌≡◌, ℕ, List, [], ◌∷◌, ◌++◌, map, get_or, codes, decimal, refl, sym, ap, ◌∙◌, arith}
+use Rattle.std.proofs.Common.{◌≡◌, ℕ, ◌+◌, ◌-◌, ◌^◌, ◌≤◌, min, length, length-append, None, Option, List, [], ◌∷◌, ◌++◌, map, get_or, codes, decimal, refl, sym, subst, ap, ◌∙◌, arith}
 use Rattle.std.proofs.lemmas.Fmt.{decimal-digits_of}
-use Rattle.std.specs.Prelude.{Ok, Result}
+use Rattle.std.proofs.lemmas.List.{length-map}
+use Rattle.std.specs.Prelude.{Ok, Err, Result}
+use Rattle.std.specs.Iterator.{Yields}
 use Rattle.fastbloom.specs.Data.{DefaultFilter}
+use Rattle.fastbloom.specs.Filter.{SameShape}
 use Rattle.summaries_engine.specs.declared.unions.Difference.{Difference}
 use Rattle.summaries_engine.specs.declared.unions.Difference.TheVariants as difference
-use Rattle.summaries_engine.specs.Refusals.{DiffersBy, IsMisfit, too_long_text}
+use Rattle.summaries_engine.specs.declared.unions.Refusal.{Refusal}
+use Rattle.summaries_engine.specs.declared.unions.Refusal.TheVariants.{Unread, Differs}
+use Rattle.summaries_engine.specs.Refusals.{DiffersBy, IsMisfit, IsRefusedFor, RefusesGiven, too_long_text}
 use Rattle.summaries_engine.proofs.SummaryFacts.{IsFilter}
 
 -- a filter of three hashes and one of two
@@ -56,8 +61,74 @@ seventh : too_long_text 6 ≡ codes "key 7 has more than 65536 bytes"
 seventh = let digits : decimal 7 ≡ codes "7" = decimal-digits_of 7 (omega arith) (omega arith) in
     ap (λ number. codes "key " ++ (number ++ codes " has more than 65536 bytes")) digits
 
--- and not the sixth
+-- the text of the seventh key isn't that of the sixth
 seventh-sixth : too_long_text 6 ≡ codes "key 6 has more than 65536 bytes" → ⊥
 seventh-sixth is =
     let digit : ◌≡◌ {A = ℕ} 55 54 = ap (λ text. get_or text 4 0) (sym seventh ∙ is) in
     absurd (omega (arith, digit))
+
+-- a filter that is the first again doesn't differ from it
+misfit-alike : (f g : DefaultFilter) (number : ℕ) → SameShape f g
+    → IsMisfit {E = ℕ} f (Ok g ∷ []) number difference.Shape → ⊥
+misfit-alike f g number same did = of did.others did.came
+  where
+    of : (others : List DefaultFilter)
+        → ◌≡◌ {A = List (Result DefaultFilter ℕ)} (Ok g ∷ []) (map Ok others ++ Ok did.shard ∷ [])
+        → ⊥
+    of [] came =
+        let is : ◌≡◌ {A = DefaultFilter} g did.shard = cc (came) in
+        did.differs (subst (SameShape f) is same)
+    of (h ∷ others) came =
+        let none : ◌≡◌ {A = List (Result DefaultFilter ℕ)} [] (map Ok others ++ Ok did.shard ∷ []) =
+        cc (came) in
+        some-given [] others did.shard refl none
+
+-- the first filter behind the first has number 1
+misfit-number : (f g : DefaultFilter) → IsMisfit {E = ℕ} f (Ok g ∷ []) 2 difference.Shape → ⊥
+misfit-number f g did =
+    let count : 1 ≡ length did.others + 1 =
+    ap length did.came ∙ length-append (map Ok did.others) (Ok did.shard ∷ [])
+    ∙ ap (λ n. n + 1) (length-map did.others Ok) in
+    omega (arith, did.counted, count)
+
+-- the number stays at 2^64 - 1
+misfit-most : (f : DefaultFilter) (given : List (Result DefaultFilter ℕ)) (number : ℕ)
+    (how : Difference) → IsMisfit f given number how → number ≤ 2 ^ 64 - 1
+misfit-most f given number how did = omega (arith, did.counted)
+
+-- error 4 came, and not error 5
+unread-other : (f : DefaultFilter) → IsRefusedFor {E = ℕ} f (Err 4 ∷ []) (Unread 5) → ⊥
+unread-other f did = of did.0 did.1
+  where
+    of : (others : List DefaultFilter)
+        → ◌≡◌ {A = List (Result DefaultFilter ℕ)} (Err 4 ∷ []) (map Ok others ++ Err 5 ∷ []) → ⊥
+    of [] is = let wrong : ◌≡◌ {A = ℕ} 4 5 = cc (is) in omega (arith, wrong)
+    of (h ∷ others) is = cc (is)
+
+-- an iterator that gives nothing is the reason of no refusal
+stops-silent : (f : DefaultFilter) (refusal : Refusal ℕ)
+    → RefusesGiven {I = ℕ} (λ from given to. given ≡ None) 0 f refusal → ⊥
+stops-silent f refusal stop = of stop.given stop.came refusal stop.refused
+  where
+    silent : ℕ → Option (Result DefaultFilter ℕ) → ℕ → Type 0
+    silent from given to = given ≡ None
+
+    of : (given : List (Result DefaultFilter ℕ)) → Yields silent 0 given stop.end
+        → (refusal : Refusal ℕ) → IsRefusedFor f given refusal → ⊥
+    of [] came (Unread error) is = none is.0 is.1
+      where
+        none : (others : List DefaultFilter)
+            → ◌≡◌ {A = List (Result DefaultFilter ℕ)} [] (map Ok others ++ Err error ∷ []) → ⊥
+        none [] same = cc (same)
+        none (h ∷ others) same = cc (same)
+    of [] came (Differs number how) is = misfit-none f number how is
+    of (item ∷ given) came refusal is = cc (came.1)
+
+-- the number of a key stays at 2^64 - 1
+last-number : too_long_text (2 ^ 64) ≡ too_long_text (2 ^ 64 - 2)
+last-number =
+    ap (λ n. codes "key " ++ (decimal n ++ codes " has more than 65536 bytes"))
+    (cap (2 ^ 64) (omega arith))
+  where
+    cap : (most : ℕ) → 2 ≤ most → min (most + 1) (most - 1) ≡ min (most - 2 + 1) (most - 1)
+    cap most some = omega (arith, some)

@@ -11,7 +11,7 @@ use Rattle.fastbloom.specs.Filter.{SameShape}
 use Rattle.summaries_engine.specs.declared.unions.Difference.{Difference}
 use Rattle.summaries_engine.specs.declared.unions.Difference.TheVariants as difference
 use Rattle.summaries_engine.specs.declared.unions.Refusal.{Refusal}
-use Rattle.summaries_engine.specs.Refusals.{DiffersBy, IsRefusedFor, StopsAt, too_long_text}
+use Rattle.summaries_engine.specs.Refusals.{DiffersBy, IsRefusedFor, RefusesGiven, too_long_text}
 use Rattle.summaries_engine.specs.Summaries.{HaveSameKey, IsUnionOf}
 
 -- one item more
@@ -28,7 +28,7 @@ pub stops : {I E : Type 0} (steps : I → Option (Result DefaultFilter E) → I 
     (start last end : I) (items : List (Result DefaultFilter E)) (item : Result DefaultFilter E)
     (first : DefaultFilter) (refusal : Refusal E) → Yields steps start items last
     → steps last (Some item) end → IsRefusedFor first (items ++ item ∷ []) refusal
-    → StopsAt steps start first refusal
+    → RefusesGiven steps start first refusal
 stops steps start last end items item first refusal came next refused = record {
   given = items ++ item ∷ [];
   end = end;
@@ -47,7 +47,7 @@ differs-from first whole shard difference.Shape answer is shape key fits same = 
 differs-from first whole shard difference.Key answer is shape key fits same = λ has.
     key is (same ∙ has)
 
--- so with the union of the first and others
+-- what differs from the union of the first and others differs from the first
 pub misfit-differs : (first whole shard : DefaultFilter) (others : List DefaultFilter)
     (how : Difference) (answer : Result (Unit {0}) Difference) → answer ≡ Err how
     → (answer ≡ Err difference.Shape → SameShape whole shard → ⊥)
@@ -72,7 +72,7 @@ abbrev says : ℕ → List ℕ → List ℕ
 says number limit =
     codes "key " ++ (decimal number ++ (codes " has more than " ++ (limit ++ codes " bytes")))
 
--- it is that of the number of the key
+-- the text of a key that is too long has the number of the key
 pub too_long-message : (before number : ℕ) (error : Error)
     → number ≡ min (before + 1) (2 ^ 64 - 1)
     → HasMessage (Some (says number (decimal 65536))) error

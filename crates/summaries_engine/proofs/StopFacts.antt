@@ -1,31 +1,33 @@
 -- Why keys aren't taken to their end: cases that hold, and some that nearly do. Byte 10 ends a
 -- line.
-use Rattle.std.proofs.Common.{◌≡◌, ◌≤◌, ℕ, ◌+◌, inl, inr, List, [], ◌∷◌, ◌++◌, codes, length, length-append, get_or, Option, Some, sym, ap, subst, ◌∙◌, arith}
+use Rattle.std.proofs.Common.{◌≡◌, ◌≤◌, ℕ, ◌+◌, ◌-◌, ◌^◌, ◌==◌, true, min, if◌then◌else◌, None, inl, inr, List, [], ◌∷◌, ◌++◌, codes, length, length-append, get_or, Option, Some, sym, ap, subst, ◌∙◌, arith}
+use Rattle.std.proofs.lemmas.Bool.{and_from, le-leb}
 use Rattle.std.proofs.lemmas.List.Elements.{All-nil}
+use Rattle.std.specs.Prelude.{nat_le}
 use Rattle.std.specs.Fmt.Cut.{EndsInDots}
-use Rattle.anyhow.specs.Error.{HasMessage, error_message}
+use Rattle.anyhow.specs.Error.{AddsCause, HasMessage, IsMadeOf, error_causes, error_left_out, error_message, keeps_message}
 use Rattle.anyhow.specs.declared.error.Error.{Error}
 use Rattle.fastbloom.specs.Data.{DefaultFilter}
 use Rattle.lines.specs.Lines.{lines_of}
 use Rattle.lines.specs.Reading.{AreShort, IsReadFrom}
 use Rattle.summaries_engine.specs.Refusals.{too_long_text}
-use Rattle.summaries_engine.specs.Stops.{IsReasonAfter, SaysOver, StopsAsking, StopsBuilding, StopsHashing}
+use Rattle.summaries_engine.specs.Stops.{IsReasonAfter, Says, SaysOver, StopsAfter, StopsAsking, StopsBuilding, StopsHashing}
 use Rattle.summaries_engine.proofs.StopLemmas.{from-none}
 
 -- an error that says one text says no other
-says-other : (is text : List ℕ) (said : Error) → error_message said ≡ is → (is ≡ text → ⊥)
+pub says-other : (is text : List ℕ) (said : Error) → error_message said ≡ is → (is ≡ text → ⊥)
     → (EndsInDots 120 is → ⊥) → HasMessage (Some text) said → ⊥
 says-other is text said told other uncut (inl same) = other (sym told ∙ same)
 says-other is text said told other uncut (inr dots) = uncut (subst (EndsInDots 120) told dots)
 
 -- no is a whole text
-no-whole : EndsInDots 120 (codes "no") → ⊥
+pub no-whole : EndsInDots 120 (codes "no") → ⊥
 no-whole ends =
     let byte : ◌≡◌ {A = ℕ} 110 46 = ap (λ t. get_or t 0 0) ends in absurd (omega (arith, byte))
 
 -- ---- keys
 
--- there is no room
+-- memory was out
 hashing-room : (said : Error) → SaysOver (codes "no memory") said → StopsHashing (Some []) said
 hashing-room said over = record {
   keys = [];
@@ -55,7 +57,7 @@ reason-no read keys said told (inr (inr (inr at))) =
     says-other (codes "no") (codes "there are too many keys") said told (λ same. cc) no-whole
     at.1.message
 
--- so nothing is refused for no reason
+-- nothing is refused for no reason
 hashing-no : (read : Option (List ℕ)) (said : Error) → error_message said ≡ codes "no"
     → StopsHashing read said → ⊥
 hashing-no read said told stop = reason-no read stop.keys said told stop.reason
@@ -63,9 +65,9 @@ hashing-no read said told stop = reason-no read stop.keys said told stop.reason
 asking-no : (f : DefaultFilter) (read from to : Option (List ℕ)) (said : Error)
     → error_message said ≡ codes "no" → StopsAsking f read from to said → ⊥
 asking-no f read from to said told (inl stop) = reason-no read stop.keys said told stop.reason
-asking-no f read from to said told (inr over) =
+asking-no f read from to said told (inr stop) =
     says-other (codes "no") (codes "the keys can't be written") said told (λ same. cc) no-whole
-    over.0
+    stop.says.0
 
 building-no : (read : Option (List ℕ)) (said : Error) → error_message said ≡ codes "no"
     → StopsBuilding read said → ⊥
@@ -75,11 +77,6 @@ building-no read said told (inr (inl over)) =
 building-no read said told (inr (inr over)) =
     says-other (codes "no") (codes "the filter can't be filled") said told (λ same. cc) no-whole
     over.0
-
--- a write failed
-asking-write : (f : DefaultFilter) (read from to : Option (List ℕ)) (said : Error)
-    → SaysOver (codes "the keys can't be written") said → StopsAsking f read from to said
-asking-write f read from to said over = inr over
 
 -- the threads couldn't be started
 building-worker : (read : Option (List ℕ)) (said : Error)
@@ -131,3 +128,29 @@ short-key keys said told first reason = of reason
 hashing-short : (said : Error) → error_message said ≡ first_long
     → StopsHashing (Some (1 ∷ 10 ∷ [])) said → ⊥
 hashing-short said told stop = short-key stop.keys said told stop.first stop.reason
+
+-- no key is the first of a reader that has none, whatever is done with it
+stops-none : (said : Error) → StopsAfter (Some []) (λ keys. length keys ≡ 1) said → ⊥
+unfolding lines_of
+stops-none said stop =
+    let none : 0 ≡ length stop.keys + length stop.first.later =
+    ap length stop.first.cut ∙ length-append stop.keys stop.first.later in
+    omega (arith, none, stop.done)
+
+-- an error that says a text has no cause
+says-alone : (text : List ℕ) (said : Error) → Says text said → error_causes said ≡ []
+says-alone text said says = says.alone.causes
+
+-- an error that says a text over another leaves no cause out
+over-one : (text : List ℕ) (said : Error) → SaysOver text said → error_left_out said ≡ 0
+over-one text said over = kept over.2.0 over.2.1 over.2.2
+  where
+    kept : (old : Error) → IsMadeOf None old → AddsCause old said → error_left_out said ≡ 0
+    kept old made adds =
+        let fits : keeps_message old ≡ true =
+        and_from (error_left_out old == 0)
+        (nat_le (length (error_causes old) + 1 + min (length (error_message old)) 16) 120)
+        (ap (λ n. n == 0) made.alone.left_out)
+        (le-leb (length (error_causes old) + 1 + min (length (error_message old)) 16) 120
+        (omega (arith, ap length made.alone.causes))) in
+        adds.left_out ∙ ap (λ b. if b then 0 else min (error_left_out old + 1) (2 ^ 64 - 1)) fits

@@ -1,7 +1,7 @@
 -- Summaries of keys, at values from outside. Among 64 bits and with two hashes key "a"
 -- (byte 97) has the positions 16 and 28, and "b" 34 and 48. The hashes were made by another
 -- program.
-use Rattle.std.proofs.Common.{◌≡◌, ℕ, true, false, ◌||◌, List, [], ◌∷◌, length, map, refl, sym, ap, ◌∙◌, lit<, lit≤}
+use Rattle.std.proofs.Common.{◌≡◌, ℕ, true, false, ◌||◌, List, [], ◌∷◌, length, map, refl, sym, ap, ◌∙◌, lit<, lit≤, arith}
 use Rattle.bloom_parts.specs.Chain.{chain}
 use Rattle.bloom_parts.specs.Content.{content}
 use Rattle.bloom_parts.specs.Keys.{key_of}
@@ -11,10 +11,10 @@ use Rattle.bloom_plain.proofs.CaseLemmas.{content-case, positions-past}
 use Rattle.fastbloom.specs.Data.{DefaultFilter}
 use Rattle.fastbloom.specs.Fill.{positions_of_all}
 use Rattle.fastbloom.specs.declared.parallel.shape.Shape.{Shape}
-use Rattle.summaries_engine.specs.Summaries.{hash_in, IsSummaryOf, AreSummariesOf}
+use Rattle.summaries_engine.specs.Summaries.{AreSummariesOf, HaveSameKey, IsSummaryOf, hash_in, joined}
 
 -- one word and two hashes
-abbrev shape : Shape
+abbrev pub shape : Shape
 shape = record {
   num_words = 1;
   num_hashes = 2;
@@ -70,7 +70,7 @@ pub hash-in : (f : DefaultFilter) (word low : ℕ) (key : List ℕ) → IsFilter
 hash-in f word low key is = ap (λ pair. sip pair.0 pair.1 key) is.key
 
 -- the summary of "a"
-summary-a : (f : DefaultFilter) → IsFilter f 268500992 0 → IsSummaryOf shape ((97 ∷ []) ∷ []) f
+pub summary-a : (f : DefaultFilter) → IsFilter f 268500992 0 → IsSummaryOf shape ((97 ∷ []) ∷ []) f
 summary-a f is = record {
   words = ap length is.words;
   num_hashes = is.hashes;
@@ -90,7 +90,7 @@ summary-b f is = record {
       (sym (hash-in f 281492156579840 0 (98 ∷ []) is ∙ hash-b));
 }
 
--- what is on at a place where the summary of these hashes has it
+-- a bit of the word is set where the summary of these keys has it
 at : (f : DefaultFilter) (word low : ℕ) (keys : List (List ℕ)) (p : ℕ) → IsFilter f word low
     → IsSummaryOf shape keys f
     → content (word ∷ []) p ≡ positions_of_all 64 2 (map (λ key. sip low 0 key) keys) p
@@ -98,7 +98,7 @@ at f word low keys p is did =
     ap (λ w. content w p) (sym is.words) ∙ did.bits p
     ∙ ap (λ pair. positions_of_all 64 2 (map (λ key. sip pair.0 pair.1 key) keys) p) is.key
 
--- it isn't that of "b"
+-- the summary of "a" isn't that of "b"
 summary-other : (f : DefaultFilter) → IsFilter f 268500992 0
     → IsSummaryOf shape ((98 ∷ []) ∷ []) f → ⊥
 unfolding content positions chain
@@ -107,7 +107,7 @@ summary-other f is did =
     at f 268500992 0 ((98 ∷ []) ∷ []) 16 is did
     ∙ ap (λ h. positions_of_all 64 2 (h ∷ []) 16) hash-b in cc
 
--- nor, under another key, that of "a"
+-- the same word under another key isn't the summary of "a"
 summary-keyed : (f : DefaultFilter) → IsFilter f 268500992 1
     → IsSummaryOf shape ((97 ∷ []) ∷ []) f → ⊥
 unfolding content positions chain
@@ -117,11 +117,37 @@ summary-keyed f is did =
     ∙ ap (λ h. positions_of_all 64 2 (h ∷ []) 16) hash-a_keyed in cc
 
 -- two filters are the summaries of two parts
-each-part : (f g : DefaultFilter) → IsFilter f 268500992 0 → IsFilter g 281492156579840 0
+pub each-part : (f g : DefaultFilter) → IsFilter f 268500992 0 → IsFilter g 281492156579840 0
     → AreSummariesOf shape (((97 ∷ []) ∷ []) ∷ ((98 ∷ []) ∷ []) ∷ []) (f ∷ g ∷ [])
 each-part f g one other = (summary-a f one, (summary-b g other, tt))
 
--- not of one part
+-- two filters aren't the summaries of one part
 part-left_out : (f g : DefaultFilter)
     → AreSummariesOf shape (((97 ∷ []) ∷ []) ∷ []) (f ∷ g ∷ []) → ⊥
 part-left_out f g each = each.1
+
+-- a part of which there is no filter isn't left out
+filter-left_out : (f : DefaultFilter)
+    → AreSummariesOf shape (((97 ∷ []) ∷ []) ∷ ((98 ∷ []) ∷ []) ∷ []) (f ∷ []) → ⊥
+filter-left_out f each = each.1
+
+-- the first filter is the summary of the first part
+part-other : (f : DefaultFilter) → IsFilter f 268500992 0
+    → AreSummariesOf shape (((98 ∷ []) ∷ []) ∷ []) (f ∷ []) → ⊥
+part-other f is each = summary-other f is each.0
+
+-- both words of a filter's key are the key of the hash
+hash-both : (f : DefaultFilter) (low high : ℕ) (key : List ℕ) → key_of f.hasher ≡ (low, high)
+    → hash_in f key ≡ sip low high key
+hash-both f low high key is = ap (λ pair. sip pair.0 pair.1 key) is
+
+-- the keys of two parts, of which the second has two
+joined-parts : joined (((1 ∷ []) ∷ []) ∷ ((2 ∷ []) ∷ (3 ∷ []) ∷ []) ∷ [])
+    ≡ (1 ∷ []) ∷ (2 ∷ []) ∷ (3 ∷ []) ∷ []
+joined-parts = refl
+
+-- keys that differ in their second word alone aren't the same
+key-second : (f g : DefaultFilter) → key_of f.hasher ≡ (1, 2) → key_of g.hasher ≡ (1, 3)
+    → HaveSameKey f g → ⊥
+key-second f g one other same =
+    let wrong : 2 ≡ 3 = ap (λ pair. pair.1) (sym one ∙ same ∙ other) in omega (arith, wrong)

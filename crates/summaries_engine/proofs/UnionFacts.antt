@@ -43,7 +43,7 @@ union-both f g made one other is = record {
       (is.key ∙ sym one.key, (is.key ∙ sym other.key, tt));
 }
 
--- not where a filter was left out
+-- no filter may be left out of a union
 union-less : (f g made : DefaultFilter) → IsFilter f 268500992 0 → IsFilter g 281492156579840 0
     → IsFilter made 268500992 0 → IsUnionOf (f ∷ g ∷ []) made → ⊥
 unfolding content
@@ -53,7 +53,7 @@ union-less f g made one other is did =
     ∙ ap (λ w. content w 34 || (content g.words 34 || false)) one.words
     ∙ ap (λ w. content (268500992 ∷ []) 34 || (content w 34 || false)) other.words in cc
 
--- nor is the intersection, which is empty
+-- the intersection, which is empty, isn't the union
 union-none : (f g made : DefaultFilter) → IsFilter f 268500992 0 → IsFilter g 281492156579840 0
     → IsFilter made 0 0 → IsUnionOf (f ∷ g ∷ []) made → ⊥
 unfolding content
@@ -62,7 +62,7 @@ union-none f g made one other is did =
     ap (λ w. content w 16) (sym is.words) ∙ did.bits 16
     ∙ ap (λ w. content w 16 || (content g.words 16 || false)) one.words in cc
 
--- nor is one under another key
+-- a filter under another key isn't the union
 union-keyed : (f made : DefaultFilter) → IsFilter f 268500992 0 → IsFilter made 268500992 1
     → IsUnionOf (f ∷ []) made → ⊥
 union-keyed f made one is did =
@@ -103,3 +103,24 @@ not-read f made error did = none did.others did.all_read
     none : (others : List DefaultFilter) → (Err error ∷ []) ≡ map Ok others → ⊥
     none [] is = cc
     none (g ∷ others) is = cc
+
+-- the second filter has the union's shape too
+union-shape : (f g made : DefaultFilter) → g.hashes ≡ 2 → made.hashes ≡ 3
+    → IsUnionOf (f ∷ g ∷ []) made → ⊥
+union-shape f g made two three did =
+    let same = did.shape 1 f (lit< tt) in
+    omega (arith, two, three, same.hashes)
+
+-- the second filter has the union's key too
+union-key : (f g made : DefaultFilter) (word : ℕ) → IsFilter g word 0 → IsFilter made word 1
+    → IsUnionOf (f ∷ g ∷ []) made → ⊥
+union-key f g made word other is did =
+    let wrong : 1 ≡ 0 =
+    ap (λ pair. pair.0) (sym is.key ∙ did.key 1 f (lit< tt) ∙ other.key) in
+    omega (arith, wrong)
+
+-- a key of the second list alone isn't in the first
+fewer-keys : HaveSameKeys ((97 ∷ []) ∷ []) ((97 ∷ []) ∷ (98 ∷ []) ∷ []) → ⊥
+fewer-keys same =
+    let there = (same (98 ∷ [])).1 (1, lit< tt, refl) in
+    grind (arith, common_steps, there.1, there.2)

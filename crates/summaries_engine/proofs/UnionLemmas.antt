@@ -77,7 +77,7 @@ module _ (shape : Shape) (made : DefaultFilter) where
       ∙ sym (positions_of_all-append n k hashes later p)
       ∙ ap (λ l. positions_of_all n k l p) (sym (map-append (hash_in made) keys (joined parts)))
 
-  -- so it is the summary of all keys
+  -- the union of summaries is the summary of all keys
   pub summary-joined : (first : DefaultFilter) (others : List DefaultFilter)
       (parts : List (List (List ℕ))) → AreSummariesOf shape parts (first ∷ others)
       → IsUnionOf (first ∷ others) made → IsSummaryOf shape (joined parts) made

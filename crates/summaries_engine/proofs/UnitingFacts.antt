@@ -1,23 +1,27 @@
 -- Why named filters aren't united: cases that hold, and some that nearly do.
-use Rattle.std.proofs.Common.{◌≡◌, ℕ, inl, inr, List, [], ◌∷◌, ◌++◌, codes, length, length-append, get_or, refl, sym, ap, arith}
+use Rattle.std.proofs.Common.{◌≡◌, ℕ, ◌+◌, inl, inr, List, [], ◌∷◌, ◌++◌, codes, length, length-append, get_or, refl, sym, subst, ap, ◌∙◌, arith}
+use Rattle.anyhow.specs.Error.{error_message}
 use Rattle.anyhow.specs.declared.error.Error.{Error}
 use Rattle.fastbloom.specs.Data.{DefaultFilter}
+use Rattle.fastbloom.specs.Filter.{SameShape}
+use Rattle.summaries_engine.specs.declared.unions.Difference.{Difference}
 use Rattle.summaries_engine.specs.declared.unions.Difference.TheVariants as difference
 use Rattle.summaries_engine.specs.Named.{AreNamed, StopsAtMisfit, StopsUniting, StopsUnloaded, misfit_text}
 use Rattle.summaries_engine.specs.Refusals.{DiffersBy}
 use Rattle.summaries_engine.specs.Stops.{Says}
 use Rattle.summaries_engine.proofs.NamedFacts.{counted}
+use Rattle.summaries_engine.proofs.StopFacts.{no-whole, says-other}
 
 -- a load of a name fails by no error
 abbrev never : List ℕ → Error → Type 0
 never name said = ⊥
 
--- no name
+-- without a name there is no union
 uniting-none : (said : Error) → Says (codes "no filter was named") said
     → StopsUniting counted never [] said
 uniting-none said says = inl (refl, says)
 
--- and not a name whose filter is loaded
+-- a name alone whose filter is loaded stops nothing
 uniting-one : (name : List ℕ) (said : Error) → StopsUniting counted never (name ∷ []) said → ⊥
 uniting-one name said (inl none) =
     let wrong : ◌≡◌ {A = List (List ℕ)} (name ∷ []) [] = none.0 in cc
@@ -51,7 +55,7 @@ unloaded-second fails f said two failed = record {
   failed = failed;
 }
 
--- nor one of another name
+-- the error is of no other name
 unloaded-other : (f : DefaultFilter) (said : Error)
     → StopsUnloaded counted (λ name error. name ≡ 4 ∷ []) ((2 ∷ []) ∷ (3 ∷ []) ∷ []) said → ⊥
 unloaded-other f said stop = of stop.reaches.before stop.reaches.are stop.failed
@@ -101,3 +105,48 @@ misfit-key (byte ∷ name) first same = misfit-key name first (ap (λ t. rest t)
     rest : List ℕ → List ℕ
     rest [] = []
     rest (x ∷ xs) = xs
+
+-- what is said of a filter of another shape, and of one of another key
+text-shape : misfit_text difference.Shape (codes "b") (codes "a")
+    ≡ codes "b: its shape isn't that of a"
+text-shape = refl
+
+text-key : misfit_text difference.Key (codes "b") (codes "a") ≡ codes "b: its key isn't that of a"
+text-key = refl
+
+-- the filter that differs lies under the name that is told
+misfit-lies : (names : List (List ℕ)) (said : Error) (stop : StopsAtMisfit counted names said)
+    → stop.name ≡ stop.shard.hashes ∷ []
+misfit-lies names said stop = stop.loaded
+
+-- a filter of the first one's shape isn't refused for its shape
+misfit-differs : (names : List (List ℕ)) (said : Error) (stop : StopsAtMisfit counted names said)
+    → stop.how ≡ difference.Shape → SameShape stop.first stop.shard → ⊥
+misfit-differs names said stop how same =
+    subst (DiffersBy stop.first stop.shard) how stop.differs same
+
+-- every text of a filter that differs is longer than "no"
+longer : (how : Difference) (name first : List ℕ) → codes "no" ≡ misfit_text how name first → ⊥
+longer difference.Shape name first same =
+    let text = codes ": its shape isn't that of " in
+    let count : 2 ≡ length name + length (text ++ first) =
+    ap length same ∙ length-append name (text ++ first) in
+    let long : length (text ++ first) ≡ 26 + length first = length-append text first in
+    omega (arith, count, long)
+longer difference.Key name first same =
+    let text = codes ": its key isn't that of " in
+    let count : 2 ≡ length name + length (text ++ first) =
+    ap length same ∙ length-append name (text ++ first) in
+    let long : length (text ++ first) ≡ 24 + length first = length-append text first in
+    omega (arith, count, long)
+
+-- no reason says "no"
+uniting-no : (names : List (List ℕ)) (said : Error) → error_message said ≡ codes "no"
+    → StopsUniting counted never names said → ⊥
+uniting-no names said told (inl none) =
+    says-other (codes "no") (codes "no filter was named") said told (λ same. cc) no-whole
+    none.1.message
+uniting-no names said told (inr (inl stop)) = stop.failed
+uniting-no names said told (inr (inr stop)) =
+    says-other (codes "no") (misfit_text stop.how stop.name (get_or names 0 [])) said told
+    (longer stop.how stop.name (get_or names 0 [])) no-whole stop.says.message

@@ -12,7 +12,7 @@ use Rattle.summaries_engine.specs.Summaries.{hash_in}
 abbrev pub IsKeyed : DefaultFilter → Type 0
 IsKeyed f = HasKey f.hasher (key_of f.hasher).0 (key_of f.hasher).1
 
--- these are the hashes, under the zero key, of all keys that a reader had, none of which is too long
+-- these are the hashes, under the zero key, of all keys that a reader had, none of them too long
 pub record HashesAll (read left : Option (List ℕ)) (hashes : List ℕ) : Type 0 where
   pub keys : List (List ℕ)
   pub whole : IsReadWhole read left keys

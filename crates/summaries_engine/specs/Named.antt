@@ -18,8 +18,8 @@ AreNamed has [] (f ∷ filters) = ⊥
 AreNamed has (name ∷ names) [] = ⊥
 AreNamed has (name ∷ names) (f ∷ filters) = has name f × AreNamed has names filters
 
--- a call gave the filter of the first name that was left, or its error, and left the other names; or
--- it gave nothing, where no name was left
+-- a call gave the filter of the first name that was left, or its error, and left the other names;
+-- or the call gave nothing, where no name was left
 abbrev pub GivesNext : {I S E : Type 0} → (S → Named) → (S → List ℕ → E → Type 0) → (I → S)
     → (I → List (List ℕ)) → I → Option (Result DefaultFilter E) → I → Type 0
 GivesNext has fails shelf names from given to = (shelf to ≡ shelf from)
@@ -28,7 +28,7 @@ GivesNext has fails shelf names from given to = (shelf to ≡ shelf from)
     × MatchResult read (has (shelf from) name) (fails (shelf from) name))
 
 -- these filters lie under the names before this one
-pub record Reaches (has : Named) (names : List (List ℕ)) (filters : List DefaultFilter)
+pub record LoadedBefore (has : Named) (names : List (List ℕ)) (filters : List DefaultFilter)
     (name : List ℕ) : Type 0 where
   pub before : List (List ℕ)
   pub after : List (List ℕ)
@@ -40,7 +40,7 @@ pub record StopsUnloaded {E : Type 0} (has : Named) (fails : List ℕ → E → 
     (names : List (List ℕ)) (said : E) : Type 0 where
   pub filters : List DefaultFilter
   pub name : List ℕ
-  pub reaches : Reaches has names filters name
+  pub reaches : LoadedBefore has names filters name
   pub failed : fails name said
 
 -- what is said of a filter that differs from the first, by both names
@@ -56,7 +56,7 @@ pub record StopsAtMisfit (has : Named) (names : List (List ℕ)) (said : Error) 
   pub name : List ℕ
   pub shard : DefaultFilter
   pub how : Difference
-  pub reaches : Reaches has names (first ∷ filters) name
+  pub reaches : LoadedBefore has names (first ∷ filters) name
   pub loaded : has name shard
   pub differs : DiffersBy first shard how
   pub says : Says (misfit_text how name (get_or names 0 [])) said

@@ -32,15 +32,15 @@ IsRefusedFor first given (Unread error) =
     (others : List DefaultFilter) × (given ≡ map Ok others ++ Err error ∷ [])
 IsRefusedFor first given (Differs number how) = IsMisfit first given number how
 
--- an iterator gave such a list, and was asked for no more
-pub record StopsAt {I E : Type 0} (steps : I → Option (Result DefaultFilter E) → I → Type 0)
+-- an iterator gave such a list, and was asked for no more; its last item is refused
+pub record RefusesGiven {I E : Type 0} (steps : I → Option (Result DefaultFilter E) → I → Type 0)
     (start : I) (first : DefaultFilter) (refusal : Refusal E) : Type 0 where
   pub given : List (Result DefaultFilter E)
   pub end : I
   pub came : Yields steps start given end
   pub refused : IsRefusedFor first given refusal
 
--- what is said of the key after so many, where it is too long
+-- what is said of the key after this many, where it is too long
 abbrev pub too_long_text : ℕ → List ℕ
 too_long_text before =
     codes "key " ++ (decimal (min (before + 1) (2 ^ 64 - 1)) ++ codes " has more than 65536 bytes")

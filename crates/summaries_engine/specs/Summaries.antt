@@ -14,7 +14,7 @@ use Rattle.fastbloom.specs.declared.parallel.shape.Shape.{Shape}
 abbrev pub hash_in : DefaultFilter → List ℕ → ℕ
 hash_in f key = sip (key_of f.hasher).0 (key_of f.hasher).1 key
 
--- a filter of this shape has on exactly the positions of these keys
+-- exactly the bits of these keys are set in a filter of this shape
 abbrev pub IsSummaryOf : Shape → List (List ℕ) → DefaultFilter → Type 0
 IsSummaryOf shape keys f = IsFilledWith shape (map (hash_in f) keys) f
 
@@ -38,7 +38,7 @@ HaveSameKeys keys others = (key : List ℕ) → Contains keys key ↔ Contains o
 abbrev pub HaveSameKey : DefaultFilter → DefaultFilter → Type 0
 HaveSameKey f g = key_of f.hasher ≡ key_of g.hasher
 
--- on is what is on in one of these filters, which all have the same shape and key
+-- a bit is set that is set in one of these filters, which all have the same shape and key
 pub record IsUnionOf (filters : List DefaultFilter) (made : DefaultFilter) : Type 0 where
   pub bits : (p : ℕ) → content made.words p ≡ list_any (λ f. content f.words p) filters
   pub shape : All (SameShape made) filters

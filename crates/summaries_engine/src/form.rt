@@ -21,7 +21,7 @@ pub fn filter_of(alloc: Global, text: &str) -> anyhow::Result<BloomFilter>
 /// Writes a filter as one line of text, all of which is made before its first byte is written.
 ///
 /// # Errors
-/// Where there is no room for the text, and where a write or the flush fails.
+/// Out of memory for the text, and where a write or the flush fails.
 pub fn put<W: Write>(alloc: Global, filter: &BloomFilter, output: &mut W) -> anyhow::Result<()> {
     let text = serde_json::to_string(alloc, &filter.to_data(alloc)?)?;
     write_line(text.as_str(), output).context("the filter can't be written")

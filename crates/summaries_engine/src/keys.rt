@@ -31,7 +31,7 @@ pub fn hash_of(builder: &DefaultHasher, key: &[u8]) -> u64
 /// The hashes of all keys, under the zero key.
 ///
 /// # Errors
-/// At the first key that is too long, where a read fails, and where there is no room.
+/// At the first key that is too long, where a read fails, and out of memory.
 pub fn hashes_of<I: Read>(alloc: Global, input: &mut I) -> anyhow::Result<Vec<u64>>
     ensures all { IfOk result
         (λ hashes. HashesAll (I.remaining input.old) (I.remaining input.new) hashes.items) }
@@ -53,7 +53,7 @@ pub fn hashes_of<I: Read>(alloc: Global, input: &mut I) -> anyhow::Result<Vec<u6
     Err(anyhow!("there are too many keys"))
 }
 
-/// The error of a key that is too long, after so many others.
+/// The error of a key that is too long, after this many others.
 pub fn too_long(before: u64) -> anyhow::Error
     ensures { IsMadeOf (Some (too_long_text before)) result }
 {

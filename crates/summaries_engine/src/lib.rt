@@ -12,5 +12,5 @@ pub use answers::ask;
 pub use form::{filter_of, put};
 pub use keys::{LONGEST, hash_of, hashes_of};
 pub use shards::{Shelf, unite_named};
-pub use summary::build;
+pub use summary::{build, cut};
 pub use unions::{Difference, Refusal, add, unite};

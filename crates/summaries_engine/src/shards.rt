@@ -84,7 +84,7 @@ pub fn unite_named<S: Shelf>(shelf: &S, names: &[&str]) -> anyhow::Result<BloomF
         Ok(filter) => Ok(filter),
         Err(Refusal::Unread(error)) => Err(error),
         Err(Refusal::Differs(number, how)) => {
-            // So the number of a filter is the place of its name.
+            // The number of a filter is the place of its name.
             prove!(names.len() <= usize::MAX);
             prove!(number < names.len());
             Err(misfit(names[number], name, how))

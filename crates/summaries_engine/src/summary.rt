@@ -1,5 +1,5 @@
 //! The filter of all keys of a reader, filled by workers.
-ghost use Rattle.std.specs.Prelude.{◌≡◌, ◌<◌, IfErr, IfOk, IfSome, map};
+ghost use Rattle.std.specs.Prelude.{◌≡◌, ◌<◌, ◌≤◌, All, IfErr, IfOk, IfSome, length, map};
 ghost use Rattle.std.specs.List.{concat};
 ghost use Rattle.bloom_parts.specs.Keys.{HasKey};
 ghost use Rattle.lines.specs.Lines.{lines_of};
@@ -23,12 +23,18 @@ impl Gate for Open {
     fn pass(&self, _worker: usize) {}
 }
 
-// The hashes in parts of at most so many.
-fn cut(alloc: Global, hashes: &[u64], most: usize) -> Result<Vec<Vec<u64>>, FilterError>
-    requires { 0 < most }
-    ensures { IfOk result
+/// The hashes in parts: at most one for each worker, and none empty.
+///
+/// # Errors
+/// Out of memory.
+pub fn cut(alloc: Global, hashes: &[u64], workers: usize) -> Result<Vec<Vec<u64>>, FilterError>
+    requires { 0 < workers }
+    ensures whole { IfOk result
         (λ parts. concat (map (λ part. part.items) parts.items) ≡ hashes.now) }
+    ensures few { IfOk result (λ parts. length parts.items ≤ workers) }
+    ensures some { IfOk result (λ parts. All (λ part. 0 < length part.items) parts.items) }
 {
+    let most = hashes.len().div_ceil(workers).max(1);
     let mut parts = Vec::new(alloc);
     'parts: for part in hashes.chunks(most) {
         parts.push(part.to_vec(alloc)?)?;
@@ -36,12 +42,12 @@ fn cut(alloc: Global, hashes: &[u64], most: usize) -> Result<Vec<Vec<u64>>, Filt
     Ok(parts)
 }
 
-/// The filter of all keys of a reader, under the zero key. At most so many workers fill it, each
-/// with a part of the keys and a filter of its own.
+/// The filter of all keys of a reader, under the zero key. At most this many workers fill it, each
+/// with a part of the keys, which `cut` gives it, and a filter of its own.
 ///
 /// # Errors
-/// At the first key that is too long, where a read fails, where there is no room, and where a
-/// thread can't be started.
+/// At the first key that is too long, where a read fails, out of memory, and where a thread can't
+/// be started.
 pub fn build<R: Threads, I: Read>(
     rt: &R,
     alloc: Global,
@@ -58,9 +64,10 @@ pub fn build<R: Threads, I: Read>(
     ensures stops { IfErr result (StopsBuilding (I.remaining input.old)) }
 {
     let hashes = hashes_of(alloc, input)?;
-    let most = hashes.len().div_ceil(workers).max(1);
-    let parts = cut(alloc, hashes.as_slice(), most).context("no memory")?;
+    let parts = cut(alloc, hashes.as_slice(), workers).context("no memory")?;
     drop(hashes);
+    // Each part has a worker of its own.
+    prove!(parts.len() <= workers);
     let gate = Arc::new(alloc, Open).context("no memory")?;
     Ok(fill(rt, alloc, gate, shape, parts).context("the filter can't be filled")?)
 }

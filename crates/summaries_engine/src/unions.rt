@@ -3,7 +3,7 @@ ghost use Rattle.std.specs.Prelude.{◌≡◌, IfOk, IfErr, OnOk, OnErr, Err};
 ghost use Rattle.std.specs.Iterator.{IsFiniteIterable};
 ghost use Rattle.std.specs.Iterator.Runs.{WholeRun};
 ghost use Rattle.fastbloom.specs.Filter.{SameShape, Unites};
-ghost use Rattle.summaries_engine.specs.Refusals.{StopsAt};
+ghost use Rattle.summaries_engine.specs.Refusals.{RefusesGiven};
 ghost use Rattle.summaries_engine.specs.Summaries.{HaveSameKey, UnitesGiven};
 
 use fastbloom::laws::{equality_of_filters, fill_of_any_cutting, filled_contains};
@@ -12,9 +12,9 @@ use fastbloom::{BloomFilter, DefaultHasher};
 /// How a filter differs from those with which it was to be united.
 #[derive(Clone, Copy, Debug, PartialEq, Eq)]
 pub enum Difference {
-    /// It has another number of words or of hashes.
+    /// The numbers of words or of hashes differ.
     Shape,
-    /// Its hasher has another key.
+    /// The keys of their hashers differ.
     Key,
 }
 
@@ -27,7 +27,7 @@ pub enum Refusal<E> {
     Differs(usize, Difference),
 }
 
-/// Turns on what is on in a shard's filter, if its shape and key are the same.
+/// Sets each bit that is set in a shard's filter, if its shape and key are the same.
 ///
 /// # Errors
 /// `Shape` where the shapes differ, and else `Key` where the keys do.
@@ -69,7 +69,7 @@ pub fn unite<E: Drop, I: IntoIterator<Item = Result<BloomFilter, E>>>(
         × WholeRun I.IntoIter.next_gives it (λ run. UnitesGiven first run.items made)) }
     // A refusal tells what the iterator gave last.
     ensures refused { IfErr result (λ refusal. (it : I.IntoIter) × I.into_iter_gives others it
-        × StopsAt I.IntoIter.next_gives it first refusal) }
+        × RefusesGiven I.IntoIter.next_gives it first refusal) }
 {
     equality_of_filters::<DefaultHasher>();
     fill_of_any_cutting::<DefaultHasher>();

@@ -16,14 +16,14 @@ use std::io::{Read, Write};
 pub enum Next {
     /// The input has ended.
     End,
-    /// It is good.
+    /// The line is good.
     Good(Line),
-    /// It is no command.
+    /// The line is no command.
     Bad,
 }
 
-// What a line asks for.
-fn asked(line: &[u8]) -> Next
+// What a line asks for, or that it is no command.
+fn parsed_line(line: &[u8]) -> Next
     ensures { Asks line.now result }
 {
     match parse(line) {
@@ -57,7 +57,7 @@ pub fn next_command<R: Read, W: Write>(
         (left_of lines.new (R.remaining input.new))) }
     ensures knows { KnowsEnd lines.new.ended (R.remaining input.new) }
     ensures limit { lines.new.longest ≡ longest_line }
-    // The reader isn't asked where it needn't be, so not after its end.
+    // The reader isn't asked where the next line is told without it, nor after its end.
     ensures quiet { has_next lines.old ≡ true → input.new ≡ input.old }
     ensures kept { Keeps (W.contents output.old) (W.contents output.new) }
     ensures fault { IfErr result IsOfStream }
@@ -65,7 +65,7 @@ pub fn next_command<R: Read, W: Write>(
     flush_before_a_read(lines, output)?;
     match lines.next_line(input) {
         Ok(lines::Next::End) => Ok(Next::End),
-        Ok(lines::Next::Line) => Ok(asked(lines.line())),
+        Ok(lines::Next::Line) => Ok(parsed_line(lines.line())),
         Ok(lines::Next::TooLong) => Ok(Next::Bad),
         Err(_) => Err(Fault::Input),
     }

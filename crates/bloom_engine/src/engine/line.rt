@@ -1,6 +1,6 @@
 //! Good lines.
 ghost use Rattle.std.specs.Prelude.{◌≡◌};
-ghost use Rattle.bloom_engine.specs.Lines.{line_of, alone, numbered};
+ghost use Rattle.bloom_engine.specs.Lines.{command_of_letter, command_with_number, line_of};
 
 use crate::number::number;
 
@@ -27,7 +27,7 @@ pub fn parse(line: &[u8]) -> Option<Line>
 {
     match line {
         [] => None,
-        [letter] => short(*letter),
+        [letter] => letter_command(*letter),
         [letter, space, text @ ..] => {
             if *space == b' ' {
                 with_number(*letter, number(text))
@@ -39,8 +39,8 @@ pub fn parse(line: &[u8]) -> Option<Line>
 }
 
 // What a letter alone asks for.
-fn short(letter: u8) -> Option<Line>
-    ensures { result ≡ alone letter }
+fn letter_command(letter: u8) -> Option<Line>
+    ensures { result ≡ command_of_letter letter }
 {
     match letter {
         b'z' => Some(Line::Clear),
@@ -51,7 +51,7 @@ fn short(letter: u8) -> Option<Line>
 
 // What a letter before a number asks for.
 fn with_number(letter: u8, number: Option<u64>) -> Option<Line>
-    ensures { result ≡ numbered letter number }
+    ensures { result ≡ command_with_number letter number }
 {
     let number = number?;
     match letter {

@@ -7,5 +7,6 @@ returns-in_default-clause-fault g c = until-nil _ _ _ _ _ _
 
 pub returns-clause-fault : goal.returns-clause-fault
 returns-clause-fault g c =
-    broken _ _ _ _ _ _ _ _ _ _ c.flush.ensures.bytes _ _ _ tt (rw c.in-Ok.ensures.longest at c.keep_lines-kept.ensures.all)
+    broken _ _ _ _ _ _ _ _ _ _ c.flush.ensures.bytes _ _ _ tt
+    (rw c.in-Ok.ensures.longest at c.keep_lines-kept.ensures.all)
     (rw c.in-Ok.ensures.longest at c.keep_lines-kept.ensures.fault)

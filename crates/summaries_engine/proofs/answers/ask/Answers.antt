@@ -1,13 +1,14 @@
-use Rattle.std.proofs.Common.{◌≡◌, ◌≤◌, length, inl, codes, false, [], ◌∷◌, Ok, ap, subst, ◌∙◌, arith, rules}
+use Rattle.std.proofs.Common.{◌≡◌, ◌≤◌, length, inl, codes, false, [], ◌∷◌, Ok, ap, subst, sym, ◌∙◌, arith, rules}
 use Rattle.std.proofs.KnownBytes.{Appends-nil}
 use Rattle.std.proofs.lemmas.List.Elements.{All-nil}
-use Rattle.std.specs.Prelude.{Err, IfOk}
+use Rattle.std.specs.Prelude.{Err, IfErr, IfOk}
 use Rattle.std.specs.Io.KnownBytes.{Appends}
 use Rattle.lines.specs.Reading.{NextLine, left_of}
+use Rattle.lines.specs.Writing.{AppendsPart}
 use Rattle.summaries_engine.specs.Answers.{found_text}
 use Rattle.summaries_engine.proofs.KeyLemmas.{answering-none, answering-next, answering-end}
 use Rattle.summaries_engine.specs.Stops.{StopsAsking}
-use Rattle.summaries_engine.proofs.StopLemmas.{asking-stops, from-none, said-on, why-long, why-many, why-read}
+use Rattle.summaries_engine.proofs.StopLemmas.{asking-cut, asking-stops, from-none, said-on, why-long, why-many, why-read}
 use Rattle.summaries_engine.proofs.answers.ask.Goals as goal
 
 -- no key yet
@@ -83,6 +84,30 @@ returns-in_err-context-clause-stops g c =
     is c.in_err-context.ensures.1
     (λ says. asking-stops f read left from to c.keys.lines c.keys.number said c.keys.invariant
     (why-read read (left_of c.keys.lines left) c.keys.number said says))
+
+-- a write failed
+pub returns-in_err-answer_key-in-Line-clause-stops :
+    goal.returns-in_err-answer_key-in-Line-clause-stops
+returns-in_err-answer_key-in-Line-clause-stops g c =
+    let f = c.args.filter.now in
+    let read = g.I.Read.remaining c.args.input.now in
+    let old = c.keys.lines in
+    let new = c.next_line.new.self in
+    let left = g.I.Read.remaining c.keys.input in
+    let rest = g.I.Read.remaining c.next_line.new.input in
+    let from = g.O.Write.contents c.args.output.now in
+    let to = g.O.Write.contents c.keys.output in
+    let more = g.O.Write.contents c.answer_key.new.output in
+    let said = c.in_err-answer_key-in-Line.field-0.0 in
+    let is : c.from_residual-in_err-answer_key-in-Line.result ≡ Err said = search rules in
+    subst (λ r. IfErr r (StopsAsking f read from more)) (sym is)
+    (asking-cut f read left rest from to more old new c.keys.number said c.keys.invariant
+    (subst (λ r. IfOk r (NextLine old.longest (left_of old left) (left_of new rest) new.line))
+    (c.in_ok-context.ensures ∙ ap Ok c.in-Line.is) c.next_line.ensures.next)
+    c.next_line.ensures.knows c.next_line.ensures.longest
+    (subst (λ key. AppendsPart (found_text f (key ∷ [])) to more) c.line.ensures
+    c.in_err-answer_key-in-Line.ensures.part)
+    c.in_err-answer_key-in-Line.ensures.failed)
 
 -- a key is too long
 pub returns-in-TooLong-clause-stops : goal.returns-in-TooLong-clause-stops

@@ -46,7 +46,7 @@ returns-in_err-first-clause-stops g c =
       failed = c.in_err-first.ensures.failed;
     })))
 
--- nor could another
+-- another name's filter couldn't be loaded
 pub returns-in-Err-Unread-clause-stops : goal.returns-in-Err-Unread-clause-stops
 returns-in-Err-Unread-clause-stops g c =
     let name = c.in_ok-name.name.now.now in

@@ -1,0 +1,58 @@
+//! Writing a line, as far as the writer takes it.
+ghost use Rattle.std.specs.Prelude.{[], ◌∷◌, ◌++◌, ◌≤◌, length, take, IfOk, OnOk, OnErr};
+ghost use Rattle.std.specs.Io.KnownBytes.{Appends};
+ghost use Rattle.lines.specs.Writing.{AppendsPart};
+
+use std::io;
+use std::io::{ErrorKind, Write};
+
+/// Writes a line and its end.
+///
+/// An interrupted write is tried again. After an error a beginning of both was written.
+pub fn put_line<W: Write>(output: &mut W, line: &[u8]) -> io::Result<()>
+    ensures whole { OnOk result
+        (Appends (W.contents output.old) (W.contents output.new) (line.now ++ 10 ∷ [])) }
+    ensures part { OnErr result
+        (AppendsPart (line.now ++ 10 ∷ []) (W.contents output.old) (W.contents output.new)) }
+{
+    put(output, line)?;
+    put(output, b"\n")
+}
+
+// Writes a text. Of what was written before an error `write_all` says nothing.
+fn put<W: Write>(output: &mut W, text: &[u8]) -> io::Result<()>
+    ensures whole { OnOk result
+        (Appends (W.contents output.old) (W.contents output.new) text.now) }
+    ensures part { OnErr result
+        (AppendsPart text.now (W.contents output.old) (W.contents output.new)) }
+{
+    let mut rest = text;
+    'writes: for _write in 0..u64::MAX {
+        if rest.is_empty() {
+            return Ok(());
+        }
+        let count = put_some(output, rest)?;
+        rest = &rest[count..];
+    }
+    Err(ErrorKind::TimedOut.into())
+}
+
+// Writes some of a text, and gives the number of its bytes: none where the write was interrupted.
+fn put_some<W: Write>(output: &mut W, text: &[u8]) -> io::Result<usize>
+    ensures bound { IfOk result (λ count. count ≤ length text.now) }
+    ensures some { IfOk result
+        (λ count. Appends (W.contents output.old) (W.contents output.new) (take count text.now)) }
+    ensures none { OnErr result
+        (Appends (W.contents output.old) (W.contents output.new) []) }
+{
+    match output.write(text) {
+        Ok(0) => Err(ErrorKind::WriteZero.into()),
+        Ok(count) => Ok(count),
+        Err(error) => {
+            if error.kind() == ErrorKind::Interrupted {
+                return Ok(0);
+            }
+            Err(error)
+        }
+    }
+}
