@@ -3,19 +3,19 @@
 use fastbloom::{BloomFilter, FilterError, Rate};
 use std::alloc::Global;
 
-/// A filter of at least so many bits, with so many hashes.
+/// A filter of at least 1000 bits, with 4 hashes.
 pub fn by_bits_and_hashes(alloc: Global) -> Result<BloomFilter, FilterError> {
     let builder = BloomFilter::with_num_bits(alloc, 1000)?; // 1024 bits, whole words
     Ok(builder.hashes(4))
 }
 
-/// A filter of at least so many bits, with the number of hashes that suits the items.
+/// A filter of at least 1000 bits, with the number of hashes that suits 100 items.
 pub fn by_bits_and_items(alloc: Global) -> Result<BloomFilter, FilterError> {
     let builder = BloomFilter::with_num_bits(alloc, 1000)?;
     Ok(builder.expected_items(100)) // 7 hashes, for 10.24 bits an item
 }
 
-/// A filter for so many items, of which one in a thousand that wasn't inserted may be found.
+/// A filter for 1000 items, which finds one in a thousand of those that weren't inserted.
 pub fn by_rate_and_items(alloc: Global) -> Result<BloomFilter, FilterError> {
     let builder = BloomFilter::with_false_pos(Rate::new(1, 1000)?);
     builder.expected_items(alloc, 1000) // 14400 bits, 10 hashes
