@@ -15,7 +15,7 @@ pub fn by_bits_and_items(alloc: Global) -> Result<BloomFilter, FilterError> {
     Ok(builder.expected_items(100)) // 7 hashes, for 10.24 bits an item
 }
 
-/// A filter for 1000 items, which finds one in a thousand of those that weren't inserted.
+/// A filter for 1000 items, at a rate of false positives of one in a thousand.
 pub fn by_rate_and_items(alloc: Global) -> Result<BloomFilter, FilterError> {
     let builder = BloomFilter::with_false_pos(Rate::new(1, 1000)?);
     builder.expected_items(alloc, 1000) // 14400 bits, 10 hashes
