@@ -2,11 +2,14 @@
 
 use fastbloom::BloomFilter;
 
-/// Keeps what both filters have, if they have one shape and one key; whether they do.
+/// Keeps what both filters have, and answers true. False where they differ in key or shape.
 pub fn keep_common(filter: &mut BloomFilter, other: &BloomFilter) -> bool {
-    let is_alike = filter.hasher().key() == other.hasher().key() && filter.same_shape(other);
-    if is_alike {
-        filter.intersect(other);
+    if filter.hasher().key() != other.hasher().key() {
+        return false;
     }
-    is_alike
+    if !filter.same_shape(other) {
+        return false;
+    }
+    filter.intersect(other);
+    true
 }
