@@ -27,16 +27,16 @@ pub fn shared_filter(alloc: Global) -> Result<bool, FilterError> {
 }
 
 /// Many threads, each with a pass: a hash that a pass knows is found by it from then on.
-pub fn seated_filter(alloc: Global) -> Result<Vec<u64>, FilterError> {
+pub fn seated_filter(alloc: Global) -> Result<(bool, bool, Vec<u64>), FilterError> {
     let words = vec![in alloc; 0u64]?;
     let (filter, mut passes) = SeatedBloomFilter::new(alloc, words, 2, 2)?;
     let (Some(mut first), Some(mut second)) = (passes.pop(), passes.pop()) else {
         unreachable!() // two passes were asked for
     };
-    filter.insert_hash_as(&mut first, 1); // false: this pass set a bit
+    let before = filter.insert_hash_as(&mut first, 1); // false: this pass set a bit
     filter.meet(&mut first, &mut second); // each then knows what either knew
-    filter.contains_hash_as(&mut second, 1); // true
-    filter.close(alloc, second) // the word with bits 0 and 20
+    let after = filter.contains_hash_as(&mut second, 1); // true
+    Ok((before, after, filter.close(alloc, second)?)) // one word, with bits 0 and 20
 }
 
 /// Lets every worker begin at once.

@@ -16,6 +16,7 @@ use crate::sets::keep_common;
 use crate::shared::count_found;
 use fastbloom::{AtomicBloomFilter, BloomFilter, FilterError, SeatedBloomFilter};
 use std::alloc::Global;
+use std::fs;
 use std::test::Fail;
 
 // The word of hash 1, whose two positions among 64 are 0 and 20.
@@ -34,7 +35,9 @@ fn count_hashes(filter: &BloomFilter, numbers: u64) -> u64 {
 fn each_kind_of_filter_in_readme_finds_what_was_inserted(rt: HostRuntime) -> Result<(), Fail> {
     assert_eq!(rt; plain_filter(rt.alloc(), &42)?, (false, true));
     assert!(rt; shared_filter(rt.alloc())?);
-    assert!(rt; seated_filter(rt.alloc())?.as_slice() == [WORD_OF_ONE].as_slice());
+    let (before, after, words) = seated_filter(rt.alloc())?;
+    assert_eq!(rt; (before, after), (false, true));
+    assert!(rt; words.as_slice() == [WORD_OF_ONE].as_slice());
     assert_eq!(rt; count_hashes(&filled_filter(&rt, rt.alloc())?, 5), 5);
     Ok(())
 }
@@ -54,14 +57,14 @@ fn shapes(alloc: Global) -> Result<[(usize, u32); 4], FilterError> {
     ])
 }
 
-// A filter of 64 bits and two hashes, and no bit set.
-fn empty_filter(alloc: Global, key: &u128) -> Result<BloomFilter, FilterError> {
-    Ok(BloomFilter::with_num_bits(alloc, 64)?.seed(key).hashes(2))
+// A filter of two hashes, and no bit set.
+fn empty_filter(alloc: Global, bits: usize, key: &u128) -> Result<BloomFilter, FilterError> {
+    Ok(BloomFilter::with_num_bits(alloc, bits)?.seed(key).hashes(2))
 }
 
-// The same with hash 1.
+// A filter of 64 bits and two hashes, with hash 1.
 fn filter_of_one(alloc: Global) -> Result<BloomFilter, FilterError> {
-    let mut filter = empty_filter(alloc, &42)?;
+    let mut filter = empty_filter(alloc, 64, &42)?;
     remember(&mut filter, 1);
     Ok(filter)
 }
@@ -72,15 +75,17 @@ fn restored(alloc: Global) -> Result<BloomFilter, FilterError> {
     saved::filter_of(parts)
 }
 
-// Whether a filter with hash 1 keeps what another has, and then finds it: one of another key, one
-// with the hash, and one with nothing.
-fn kept(alloc: Global) -> Result<[(bool, bool); 3], FilterError> {
-    let keyed = empty_filter(alloc, &7)?;
+// Whether a filter with hash 1 keeps what another has, and then finds the hash: one of another key,
+// one of another shape, one with the hash, and one with nothing.
+fn kept(alloc: Global) -> Result<[(bool, bool); 4], FilterError> {
+    let keyed = empty_filter(alloc, 64, &7)?;
+    let wide = empty_filter(alloc, 128, &42)?;
     let same = filter_of_one(alloc)?;
-    let empty = empty_filter(alloc, &42)?;
+    let empty = empty_filter(alloc, 64, &42)?;
     let mut filter = filter_of_one(alloc)?;
     Ok([
         (keep_common(&mut filter, &keyed), filter.contains_hash(1)),
+        (keep_common(&mut filter, &wide), filter.contains_hash(1)),
         (keep_common(&mut filter, &same), filter.contains_hash(1)),
         (keep_common(&mut filter, &empty), filter.contains_hash(1)),
     ])
@@ -93,7 +98,8 @@ fn plain_filters_are_built_saved_and_asked(rt: HostRuntime) -> Result<(), Fail> 
     assert!(rt; shapes(rt.alloc())? == [(1024, 4), (1024, 7), (14400, 10), (64, 2)]);
     assert!(rt; by_words(rt.alloc())? == filter_of_one(rt.alloc())?);
     assert!(rt; restored(rt.alloc())? == filter_of_one(rt.alloc())?);
-    assert!(rt; kept(rt.alloc())? == [(false, true), (true, true), (true, false)]);
+    let kept = kept(rt.alloc())?;
+    assert!(rt; kept == [(false, true), (false, true), (true, true), (true, false)]);
     Ok(())
 }
 
@@ -101,6 +107,7 @@ fn plain_filters_are_built_saved_and_asked(rt: HostRuntime) -> Result<(), Fail> 
 fn a_filter_is_read_from_its_file_and_carries_out_a_list(rt: HostRuntime) -> Result<(), Fail> {
     save(&rt, &filter_of_one(rt.alloc())?, "filter.json")?;
     let mut filter = load(&rt, "filter.json")?;
+    fs::remove_file(&rt, "filter.json")?;
     assert!(rt; filter == filter_of_one(rt.alloc())?);
     let replies = replies(rt.alloc(), &mut filter)?;
     assert!(rt; replies.as_slice() == [false, true, false].as_slice());
