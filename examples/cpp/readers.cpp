@@ -23,6 +23,7 @@ int main() {
     if (!fastbloom_union(both.data(), both.size(), first.data(), first.size())) return 2;
     if (fastbloom_union(both.data(), both.size() - 1, first.data(), first.size())) return 3;
 
+    // example readers
     // Each reader looks all hashes up, and compares the words, while the others do so too.
     std::vector<std::uint64_t> missed(readers), equal(readers);
     std::vector<std::thread> threads;
@@ -36,6 +37,7 @@ int main() {
         });
     }
     for (auto &thread : threads) thread.join();
+    // end of example
 
     // What was on in the part alone is on after an intersection with it.
     if (!fastbloom_intersect(both.data(), both.size(), first.data(), first.size())) return 4;

@@ -1,0 +1,57 @@
+//! The four kinds of filter, as README shows them.
+
+use fastbloom::{
+    AtomicBloomFilter, BloomFilter, FilterError, Gate, Rate, SeatedBloomFilter, Shape, fill,
+};
+use std::alloc::{AllocError, Global};
+use std::sync::Arc;
+use std::thread::Threads;
+
+/// One owner. The answers are false and true.
+pub fn plain_filter(alloc: Global, key: &u128) -> Result<(bool, bool), FilterError> {
+    let one_in_a_thousand = Rate::new(1, 1000)?;
+    let builder = BloomFilter::with_false_pos(one_in_a_thousand).seed(key);
+    let mut seen = builder.expected_items(alloc, 1_000_000)?;
+    let before = seen.insert(&"crab"); // false: it is new
+    let after = seen.contains(&"crab"); // true: it was inserted
+    Ok((before, after))
+}
+
+/// Many threads, each with an `Arc` of the filter. The answer is true.
+pub fn shared_filter(alloc: Global) -> Result<bool, FilterError> {
+    let filter = AtomicBloomFilter::with_num_bits(alloc, 1 << 20)?.hashes(alloc, 7)?;
+    let mine = Arc::new(alloc, filter)?;
+    let theirs = Arc::try_clone(&mine)?; // to be moved into another thread
+    theirs.insert(&"crab"); // through `&self`
+    Ok(mine.contains(&"crab")) // true
+}
+
+/// Many threads, each with a pass: a hash that a pass knows is found by it from then on.
+pub fn seated_filter(alloc: Global) -> Result<(bool, bool, Vec<u64>), FilterError> {
+    let words = vec![in alloc; 0u64]?;
+    let (filter, mut passes) = SeatedBloomFilter::new(alloc, words, 2, 2)?;
+    let (Some(mut first), Some(mut second)) = (passes.pop(), passes.pop()) else {
+        unreachable!() // two passes were asked for
+    };
+    let before = filter.insert_hash_as(&mut first, 1); // false: this pass set a bit
+    filter.meet(&mut first, &mut second); // each then knows what either knew
+    let after = filter.contains_hash_as(&mut second, 1); // true
+    Ok((before, after, filter.close(alloc, second)?)) // one word, with bits 0 and 20
+}
+
+/// Lets every worker begin at once.
+#[derive(Drop)]
+pub struct Open;
+
+impl Gate for Open {
+    fn pass(&self, _worker: usize) {}
+}
+
+/// A filter of the hashes 1 to 5, filled by two threads.
+pub fn filled_filter<R: Threads>(rt: &R, alloc: Global) -> Result<BloomFilter, FilterError> {
+    let mut parts = Vec::new(alloc); // one for each thread
+    parts.push(vec![in alloc; 1u64, 2, 3]?)?;
+    parts.push(vec![in alloc; 4u64, 5]?)?;
+    let shape = Shape::new(1 << 20, 7)?;
+    fill(rt, alloc, Arc::new(alloc, Open)?, shape, parts)
+}
