@@ -107,7 +107,8 @@ module _ {X : Type 0} {xs rest : List X} {x : X} (starts : xs ≡ x ∷ rest) wh
 
     -- the part of the first has as many words and hashes as the whole
     pub gathered-same : SameShape whole part
-    gathered-same = filled-same shape whole part before.came (hashes_of x) before.filled first_filled
+    gathered-same =
+        filled-same shape whole part before.came (hashes_of x) before.filled first_filled
 
     -- once it is united with the whole, the first is no longer left
     pub gathered-next : {new : Filter S} → Unites whole part new

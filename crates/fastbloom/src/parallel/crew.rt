@@ -13,8 +13,8 @@ use std::alloc::Global;
 use std::sync::Arc;
 use std::thread::Threads;
 
-// The jobs, the filter that is to hold all, and room for the workers. It isn't `Drop`, since a worker
-// isn't.
+// The jobs, the filter that is to hold all, and room for the workers. It isn't `Drop`, since
+// a worker isn't.
 pub(super) struct Crew<G> {
     jobs: Vec<Job<G>>,
     whole: BloomFilter,

@@ -25,8 +25,8 @@ impl Promise<BloomFilter> for FilledPart {
         IsFilledWith promise.shape promise.hashes.value.items filter };
 }
 
-// A thread that works. Contracts see what it promises of its filter. It isn't `Drop`, so the checker
-// refuses a function that has one and doesn't join it.
+// A thread that works. Contracts see what it promises of its filter. It isn't `Drop`, so the
+// checker refuses a function that has one and doesn't join it.
 pub(super) struct Worker {
     handle: PromisedHandle<BloomFilter, FilledPart>,
 }

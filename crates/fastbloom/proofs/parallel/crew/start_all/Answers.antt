@@ -9,12 +9,13 @@ jobs-preserved g c =
     let came = c.in-Some.ensures.steps.0 in
     let jobs = c.jobs.invariant in
     let made = c.in-Some-start.ensures in
-    let pushed : vec_len c.push_reserved.new.self ≡ vec_len c.jobs.workers + 1 = search rules in record {
-      hashes = map-push-same c.jobs.workers.items c.jobs.yielded _ _ _ _ {more = c.push_reserved.new.self.items}
-          c.push_reserved.ensures.items
-          jobs.hashes made.hashes;
+    let pushed : vec_len c.push_reserved.new.self ≡ vec_len c.jobs.workers + 1 = search rules in
+    let all = c.push_reserved.new.self.items in
+    let is = c.push_reserved.ensures.items in record {
+      hashes = map-push-same c.jobs.workers.items c.jobs.yielded _ _ _ _ {more = all} is jobs.hashes
+          made.hashes;
       shaped = shaped-push came c.jobs.workers.items c.args.shape (λ w. w.shape)
-          (λ job. job.shape) _ {more = c.push_reserved.new.self.items} c.push_reserved.ensures.items jobs.shaped jobs.left made.shape;
+          (λ job. job.shape) _ {more = all} is jobs.shaped jobs.left made.shape;
       left = All-rest (λ job. job.shape ≡ c.args.shape) _ _ _ came jobs.left;
       room = omega (arith, length-first came, pushed, jobs.room, c.push_reserved.new.self.ok);
     }
