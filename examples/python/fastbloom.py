@@ -53,7 +53,7 @@ def _bytes(item):
 class Filter:
     """A set of texts or bytes that never forgets one, and may take one for another.
 
-    `rate` is of false positives once so many items came: a text such as "1/1000", a Fraction or a
+    `rate` is of false positives once this many items came: a text such as "1/1000", a Fraction or a
     number. `key` is sixteen bytes: where others choose the items, draw it (`os.urandom(16)`).
     """
 

@@ -38,7 +38,7 @@ fn filter_of(alloc: Global, options: Options) -> Result<BloomFilter, FilterError
 }
 
 fn run(rt: &HostRuntime, options: Options) -> anyhow::Result<Tally> {
-    let mut filter = filter_of(rt.alloc(), options).context("no filter for so many lines")?;
+    let mut filter = filter_of(rt.alloc(), options).context("no filter for this many lines")?;
     let mut input = rt.reader();
     let mut output = BufWriter::new(rt.alloc(), std::io::writer(rt))?;
     let mut progress = OnTerminal {

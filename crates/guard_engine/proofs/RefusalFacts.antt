@@ -34,7 +34,7 @@ guard-store store filter error said over = inl (error, over)
 -- there is no guard where there is no filter, which is said over the filter's error
 guard-filter : {E F : Type 0} (store : E → Option (List ℕ)) (filter : F → Option (List ℕ))
     (error : F) (said : Error)
-    → IsContextOn (IsMadeOf (filter error)) (Some (codes "no filter for so many keys")) said
+    → IsContextOn (IsMadeOf (filter error)) (Some (codes "no filter for this many keys")) said
     → RefusesGuard store filter said
 guard-filter store filter error said over = inr (error, over)
 
@@ -44,7 +44,7 @@ guard-no : {E F : Type 0} (store : E → Option (List ℕ)) (filter : F → Opti
 guard-no store filter said told (inl over) =
     says-no (codes "the store's keys can't be read") said told (λ same. cc) over.1.0
 guard-no store filter said told (inr over) =
-    says-no (codes "no filter for so many keys") said told (λ same. cc) over.1.0
+    says-no (codes "no filter for this many keys") said told (λ same. cc) over.1.0
 
 -- ---- no answer
 

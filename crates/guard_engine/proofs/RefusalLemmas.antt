@@ -26,6 +26,6 @@ pub RefusesTask-store : {T E : Type 0} (F : Type 0) (H : T → Type 0) (told : E
     → MatchResult result H (λ said. F
     × IsContextOn (IsMadeOf (told error)) (Some (codes "a value can't be put")) said)
     → IfErr result (RefusesTask told task text old new)
-RefusesTask-store F H told task file text old new error (Ok answer) is so = tt
-RefusesTask-store F H told task file text old new error (Err said) is so =
-    subst (λ t. RefusesTask told t text old new said) (sym is) (inr (error, so.1))
+RefusesTask-store F H told task file text old new error (Ok answer) is told_so = tt
+RefusesTask-store F H told task file text old new error (Err said) is told_so =
+    subst (λ t. RefusesTask told t text old new said) (sym is) (inr (error, told_so.1))

@@ -17,7 +17,7 @@ IsSaidOver {E} told text said = (error : E) × IsContextOn (IsMadeOf (told error
 abbrev pub RefusesGuard : {E F : Type 0} → (E → Option (List ℕ)) → (F → Option (List ℕ))
     → Error → Type 0
 RefusesGuard store filter said = IsSaidOver store (codes "the store's keys can't be read") said
-    ⊎ IsSaidOver filter (codes "no filter for so many keys") said
+    ⊎ IsSaidOver filter (codes "no filter for this many keys") said
 
 -- what is said of the line of this number
 abbrev pub line_text : ℕ → List ℕ

@@ -111,7 +111,7 @@ pub fn open_guard<T: Store<Error = E> + Drop, E: Error>(
     match Guard::open(alloc, store, BloomFilter::with_false_pos(rate), room) {
         Ok(guard) => Ok(guard),
         Err(Refusal::Store(error)) => Err(error).context("the store's keys can't be read"),
-        Err(Refusal::Filter(error)) => Err(error).context("no filter for so many keys"),
+        Err(Refusal::Filter(error)) => Err(error).context("no filter for this many keys"),
     }
 }
 

@@ -17,7 +17,7 @@ fn build_command<'a>(alloc: Global) -> Result<Command<'a>, Error> {
         .long("bits")
         .value_name("N")
         .required(true)
-        .help("At least so many bits: ten for each key make one mistake in a hundred")
+        .help("At least this many bits: ten for each key make one mistake in a hundred")
         .value_parser(value_parser!(u64).range(1..1_000_000_000_001));
     let hashes = Arg::new(alloc, HASHES)
         .long("hashes")

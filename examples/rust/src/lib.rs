@@ -47,7 +47,7 @@ pub enum Refusal {
     SizeOverflow,
 }
 
-/// The numbers of words and of hashes for so many items at the rate `num / den`.
+/// The numbers of words and of hashes for this many items at the rate `num / den`.
 pub fn plan(num: u64, den: u64, items: usize) -> Result<(usize, u32), Refusal> {
     let (mut words, mut hashes) = (0, 0);
     // SAFETY: both are locals of their types, and apart.
@@ -76,7 +76,7 @@ pub struct Filter {
 // In each call below the words are a slice of this many, aligned and not null. `&mut self` keeps
 // everyone else away from words that are written, and `&self` writers from those that are read.
 impl Filter {
-    /// The empty filter for so many items at the rate `num / den`.
+    /// The empty filter for this many items at the rate `num / den`.
     pub fn new(num: u64, den: u64, items: usize, key: [u8; 16]) -> Result<Filter, Refusal> {
         let (words, hashes) = plan(num, den, items)?;
         Ok(Filter::from_words(vec![0; words], hashes, key))
