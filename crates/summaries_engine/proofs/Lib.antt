@@ -1,5 +1,6 @@
 mod AnswerFacts
 mod CutLemmas
+mod CuttingLemmas
 mod KeyLemmas
 mod MisfitLemmas
 mod NamedFacts
