@@ -1,4 +1,5 @@
 mod AnswerFacts
+mod AskingLemmas
 mod CutLemmas
 mod CuttingLemmas
 mod KeyLemmas
