@@ -1,5 +1,7 @@
 mod AnswerFacts
+mod AskingLemmas
 mod CutLemmas
+mod CuttingLemmas
 mod KeyLemmas
 mod MisfitLemmas
 mod NamedFacts

@@ -1,4 +1,4 @@
-use Rattle.summaries_engine.proofs.KeyLemmas.{IsAnswering}
+use Rattle.summaries_engine.proofs.AskingLemmas.{IsAnswering}
 use Rattle.summaries_engine.proofs.answers.ask.Given as goal
 
 -- the keys so far were answered
