@@ -14,4 +14,5 @@ mod SummaryFacts
 mod UnionFacts
 mod UnionLemmas
 mod UnitingFacts
+mod UnitingLemmas
 mod WritingFacts
