@@ -4,6 +4,7 @@ mod KeyLemmas
 mod MisfitLemmas
 mod NamedFacts
 mod NamedLemmas
+mod NamingLemmas
 mod RefusalFacts
 mod RefusalLemmas
 mod ShardFacts
