@@ -1,5 +1,6 @@
 mod FaultFacts
 mod FlushLemmas
+mod KeepingLemmas
 mod KeptFacts
 mod RunFacts
 mod RunLemmas

@@ -1,5 +1,5 @@
 -- From lines read and kept to what a run promises.
-use Rattle.std.proofs.Common.{◌≡◌, ℕ, ◌+◌, ◌-◌, ◌%◌, ◌^◌, ◌≢◌, ◌≤◌, min, length, Bool, cond, List, [], ◌∷◌, ◌++◌, Option, Result, Ok, Err, inl, inr, ◌⊎◌, refl, sym, ◌∙◌, ap, subst, arith}
+use Rattle.std.proofs.Common.{◌≡◌, ℕ, ◌+◌, ◌-◌, ◌%◌, ◌^◌, ◌≢◌, ◌≤◌, min, length, Bool, cond, List, [], ◌∷◌, ◌++◌, Option, Ok, Err, inl, inr, ◌⊎◌, refl, sym, ◌∙◌, ap, subst, arith}
 use Rattle.std.proofs.lemmas.List.Elements.{All-append, All-from_recursion}
 use Rattle.std.specs.Io.KnownBytes.{Appends}
 use Rattle.std.proofs.KnownBytes.{Appends-trans}
@@ -20,17 +20,6 @@ use Rattle.duplicates_engine.proofs.SiftLemmas.{fresh-more, Counts-more, Sifts-m
 use Rattle.duplicates_engine.proofs.StartLemmas.{IsSifting}
 use Rattle.duplicates_engine.proofs.ToldLemmas.{told-step}
 use Rattle.duplicates_engine.proofs.WriteLemmas.{from-begins, to-begins}
-
--- the same line, under the same hash
-pub line-kept : {S : Type 0} {hash_of same_hash : List ℕ → ℕ} {line same_line : List ℕ}
-    {old new : Filter S} {from to : Option (List ℕ)} {result : Result Bool Fault}
-    → hash_of ≡ same_hash → line ≡ same_line
-    → KeepsLine hash_of line old new from to result
-    → KeepsLine same_hash same_line old new from to result
-line-kept {same_hash = same_hash} {line = line} {old = old} {new = new} {from = from} {to = to}
-    {result = result} hashes lines kept =
-    subst (λ l. KeepsLine same_hash l old new from to result) lines
-    (subst (λ h. KeepsLine h line old new from to result) hashes kept)
 
 -- at a fault of the writer the last line isn't told
 tells-last : (fault : Fault) (before after : Option (List Tally)) (replies : List Bool)
@@ -77,7 +66,7 @@ module _ {S : Type 0} {longest : ℕ} {hash_of : List ℕ → ℕ} {read : Optio
 
   -- the next line is too long
   pub until-long : (number : ℕ) → number ≡ min (tally.read + 1) (2 ^ 64 - 1)
-      → (left : Option (List ℕ)) → TakesLong longest (left_of waiting rest) left
+      → (left : Option (List ℕ)) → TakesLong waiting.longest (left_of waiting rest) left
       → KeepsUntil longest hash_of read old now from to before then (TooLong number)
   until-long number is left long = record {
     lines = so_far.lines;
@@ -90,15 +79,15 @@ module _ {S : Type 0} {longest : ℕ} {hash_of : List ℕ → ℕ} {read : Optio
       is_number = omega (arith, is, so_far.counts.read);
       is_long =
           IsReadToLong-from longest read (left_of waiting rest) left so_far.lines so_far.taken
-          long;
+          (subst (λ n. TakesLong n (left_of waiting rest) left) so_far.has_longest long);
     };
     short = so_far.short;
     tells = so_far.tells;
   }
 
-  module _ (joined : JoinedListsLaw S) (found : FoundAfterInsertsLaw S) (after : Waiting)
-      (left : Option (List ℕ))
-      (took : TakesShort longest (left_of waiting rest) (left_of after left) after.line) where
+  module _ (after : Waiting) (left : Option (List ℕ))
+      (took : TakesShort waiting.longest (left_of waiting rest) (left_of after left) after.line)
+      (joined : JoinedListsLaw S) (found : FoundAfterInsertsLaw S) where
     -- one more line was taken
     taken : TakesLines read (left_of after left) (so_far.lines ++ after.line ∷ [])
     taken =
@@ -109,7 +98,8 @@ module _ {S : Type 0} {longest : ℕ} {hash_of : List ℕ → ℕ} {read : Optio
     short : AreShort longest (so_far.lines ++ after.line ∷ [])
     short =
         All-append (λ line. length line ≤ longest) so_far.lines (after.line ∷ []) so_far.short
-        (All-from_recursion (λ line. length line ≤ longest) (after.line ∷ []) (took.short, tt))
+        (All-from_recursion (λ line. length line ≤ longest) (after.line ∷ [])
+        (subst (λ n. length after.line ≤ n) so_far.has_longest took.short, tt))
 
     -- one more line was sifted
     sifts : (new : Filter S) (reply : Bool)
@@ -122,14 +112,14 @@ module _ {S : Type 0} {longest : ℕ} {hash_of : List ℕ → ℕ} {read : Optio
 
     -- one more line was kept or held back
     pub sifting-more : (new : Filter S) (end : Option (List ℕ)) (held : Bool) (more : Tally)
-        (last : Option (List Tally))
-        → KnowsEnd after.ended left → KeepsLine hash_of after.line now new to end (Ok held)
+        (last : Option (List Tally)) → KnowsEnd after.ended left
+        → after.longest ≡ waiting.longest → KeepsLine hash_of after.line now new to end (Ok held)
         → more.read ≡ min (tally.read + 1) (2 ^ 64 - 1)
         → more.held ≡ cond held (min (tally.held + 1) (2 ^ 64 - 1)) tally.held
         → (more.read % 1000000 ≡ 0 → Tells then last more)
         → (more.read % 1000000 ≢ 0 → last ≡ then)
         → IsSifting longest hash_of read old from before after left new end last more
-    sifting-more new end held more last knows kept one_read one_held told quiet =
+    sifting-more new end held more last knows as_long kept one_read one_held told quiet =
         let reply = kept.reply in
         let line = after.line in
         let counts =
@@ -147,6 +137,7 @@ module _ {S : Type 0} {longest : ℕ} {hash_of : List ℕ → ℕ} {read : Optio
               so_far.text kept.text);
           taken = taken;
           knows = knows;
+          has_longest = as_long ∙ so_far.has_longest;
           short = short;
           counts = counts;
           tells =

@@ -27,6 +27,7 @@ pub record IsSifting {S : Type 0} (longest : ℕ) (hash_of : List ℕ → ℕ) (
   pub text : Appends from to (text_of_fresh lines replies)
   pub taken : TakesLines read (left_of waiting rest) lines
   pub knows : KnowsEnd waiting.ended rest
+  pub has_longest : waiting.longest ≡ longest
   pub short : AreShort longest lines
   pub counts : Counts lines replies tally
   pub tells : TellsOf before after replies
@@ -34,16 +35,18 @@ pub record IsSifting {S : Type 0} (longest : ℕ) (hash_of : List ℕ → ℕ) (
 -- nothing was taken yet
 pub sifting-nil : {S : Type 0} (longest : ℕ) (hash_of : List ℕ → ℕ) (read from : Option (List ℕ))
     (told : Option (List Tally)) (filter : Filter S) (waiting : Waiting) (tally : Tally)
-    → waiting.bytes ≡ [] → waiting.ended ≡ false → tally.read ≡ 0 → tally.held ≡ 0
+    → waiting.bytes ≡ [] → waiting.ended ≡ false → waiting.longest ≡ longest
+    → tally.read ≡ 0 → tally.held ≡ 0
     → IsSifting longest hash_of read filter from told waiting read filter from told tally
-sifting-nil longest hash_of read from told filter waiting tally empty untold none_read none_held =
-    record {
+sifting-nil longest hash_of read from told filter waiting tally empty untold as_long none_read
+    none_held = record {
       lines = [];
       replies = [];
       sifts = Sifts-nil hash_of filter;
       text = Appends-nil from;
       taken = TakesLines-nil waiting.bytes read empty;
       knows = λ is. absurd (both_ways waiting.ended untold is);
+      has_longest = as_long;
       short = All-nil (λ line. length line ≤ longest);
       counts = Counts-nil tally none_read none_held;
       tells = told-nil told;

@@ -6,6 +6,7 @@ mod KeyLemmas
 mod MisfitLemmas
 mod NamedFacts
 mod NamedLemmas
+mod NamingLemmas
 mod RefusalFacts
 mod RefusalLemmas
 mod ShardFacts
@@ -16,4 +17,5 @@ mod SummaryFacts
 mod UnionFacts
 mod UnionLemmas
 mod UnitingFacts
+mod UnitingLemmas
 mod WritingFacts

@@ -51,7 +51,7 @@ module _ (hash : List ℕ → ℕ) where
   )
 
 -- the hashers of default filters
-abbrev Builder : Type 0
+abbrev pub Builder : Type 0
 Builder = CloneBuildHasher RandomDefaultHasher
 
 -- the union of filters has all that is said of it
