@@ -2,6 +2,7 @@ mod LineFacts
 pub mod LineLemmas
 mod ReadingFacts
 pub mod ReadingLemmas
+mod RoomLemmas
 pub mod TakenLemmas
 mod TakingFacts
 mod WritingFacts

@@ -1,10 +1,11 @@
 //! Bytes that were read and wait to be taken.
-ghost use Rattle.std.specs.Prelude.{◌≡◌, ◌<◌, ◌≤◌, [], take, drop, length, IfOk, OnOk, OnErr};
+ghost use Rattle.std.specs.Prelude.{◌≡◌, ◌≤◌, [], drop, length, IfOk, OnOk, OnErr};
 ghost use Rattle.std.specs.Io.KnownBytes.{Consumes, IsAtEnd, Keeps};
 
+use crate::reads::read_some;
 use std::alloc::{AllocError, Global};
 use std::io;
-use std::io::{ErrorKind, Read};
+use std::io::Read;
 use std::marker::Model;
 
 // How many bytes a block has room for.
@@ -75,35 +76,9 @@ impl Block {
         ensures none { OnErr result (self.new ≡ []) }
         ensures kept { OnErr result (Keeps (R.remaining input.old) (R.remaining input.new)) }
     {
-        let count = read_some(input, &mut self.bytes)?;
+        let count = read_some(input, self.bytes.as_mut_slice())?;
         self.at = 0;
         self.end = count;
         Ok(())
     }
-}
-
-// Reads once, and again where the read was interrupted: two counts, so that none ends before the
-// input does.
-fn read_some<R: Read>(input: &mut R, bytes: &mut Vec<u8>) -> io::Result<usize>
-    ensures taken { IfOk result
-        (λ n. Consumes (R.remaining input.old) (R.remaining input.new) (take n bytes.new.items)) }
-    ensures end { IfOk result
-        (λ n. n ≡ 0 → 0 < length bytes.new.items → IsAtEnd (R.remaining input.new)) }
-    ensures count { IfOk result (λ n. n ≤ length bytes.new.items) }
-    ensures room { length bytes.new.items ≡ length bytes.old.items }
-    ensures kept { OnErr result (Keeps (R.remaining input.old) (R.remaining input.new)) }
-{
-    'rounds: for _round in 0..u64::MAX {
-        'tries: for _try in 0..u64::MAX {
-            match input.read(bytes.as_mut_slice()) {
-                Ok(count) => return Ok(count),
-                Err(error) => {
-                    if error.kind() != ErrorKind::Interrupted {
-                        return Err(error);
-                    }
-                }
-            }
-        }
-    }
-    Err(ErrorKind::TimedOut.into())
 }

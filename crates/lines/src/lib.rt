@@ -1,10 +1,12 @@
-//! The lines of a reader, one after the other, in constant memory; and lines for a writer.
+//! The lines of a reader, one after the other, in constant memory; and bytes, read and written whole.
 #![tactic(auto)]
 
 mod block;
 mod piece;
 mod reader;
+mod reads;
 mod writer;
 
 pub use reader::{LineReader, Next};
-pub use writer::put_line;
+pub use reads::{read_full, read_some};
+pub use writer::{put_bytes, put_line};

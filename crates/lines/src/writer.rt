@@ -15,12 +15,14 @@ pub fn put_line<W: Write>(output: &mut W, line: &[u8]) -> io::Result<()>
     ensures part { OnErr result
         (AppendsPart (line.now ++ 10 ∷ []) (W.contents output.old) (W.contents output.new)) }
 {
-    put(output, line)?;
-    put(output, b"\n")
+    put_bytes(output, line)?;
+    put_bytes(output, b"\n")
 }
 
-// Writes a text. Of what was written before an error `write_all` says nothing.
-fn put<W: Write>(output: &mut W, text: &[u8]) -> io::Result<()>
+/// Writes bytes. Of what was written before an error std's `write_all` says nothing.
+///
+/// An interrupted write is tried again. After an error a beginning of the bytes was written.
+pub fn put_bytes<W: Write>(output: &mut W, text: &[u8]) -> io::Result<()>
     ensures whole { OnOk result
         (Appends (W.contents output.old) (W.contents output.new) text.now) }
     ensures part { OnErr result

@@ -1,5 +1,5 @@
 use Rattle.lines.proofs.WritingLemmas.{IsWriting}
-use Rattle.lines.proofs.writer.put.Given as goal
+use Rattle.lines.proofs.writer.put_bytes.Given as goal
 
 -- all but the rest was written
 abbrev pub invariant-writes : goal.invariant-writes

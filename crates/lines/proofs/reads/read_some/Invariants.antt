@@ -1,17 +1,17 @@
 use Rattle.std.proofs.Common.{◌≡◌, length}
 use Rattle.std.specs.Io.KnownBytes.{Keeps}
-use Rattle.lines.proofs.block.read_some.Given as goal
+use Rattle.lines.proofs.reads.read_some.Given as goal
 
 -- nothing was taken yet
 abbrev pub invariant-tries : goal.invariant-tries
 invariant-tries g l = record {
   kept : Keeps (g.R.Read.remaining l.fn.input) (g.R.Read.remaining l.input);
-  room : length l.bytes.items ≡ length l.fn.bytes.items;
+  room : length l.bytes ≡ length l.fn.bytes;
 }
 
 -- nothing was taken yet
 abbrev pub invariant-rounds : goal.invariant-rounds
 invariant-rounds g l = record {
   kept : Keeps (g.R.Read.remaining l.fn.input) (g.R.Read.remaining l.input);
-  room : length l.bytes.items ≡ length l.fn.bytes.items;
+  room : length l.bytes ≡ length l.fn.bytes;
 }
