@@ -14,9 +14,11 @@ mod LawFacts
 mod LawLemmas
 mod ListFacts
 mod ListLemmas
+mod NumberLemmas
 mod RateFacts
 mod RateLemmas
 mod ReplyLemmas
+mod SealLemmas
 mod SetFacts
 mod SetLawFacts
 mod TogetherLemmas

@@ -1,6 +1,8 @@
 pub mod Builders
 pub mod CommandOf
 pub mod Data
+pub mod File
+pub mod FileCodes
 pub mod Filter
 pub mod Laws
 pub mod Replies

@@ -3,6 +3,7 @@
 
 mod bloom;
 pub mod builder;
+pub mod file;
 pub mod laws;
 
 pub use bloom::{

@@ -1,0 +1,9 @@
+use Rattle.std.proofs.Common.{◌≡◌, ◌++◌, take}
+use Rattle.std.specs.Prelude.{map}
+use Rattle.std.specs.Int.{w64, from_le_bytes}
+use Rattle.bloom_plain.proofs.file.numbers.push_numbers.Given as goal
+
+-- the numbers so far were appended
+abbrev pub invariant-numbers : goal.invariant-numbers
+invariant-numbers l =
+    l.words.items ≡ l.fn.words.items ++ map (from_le_bytes w64) (take l.number-index l.numbers)

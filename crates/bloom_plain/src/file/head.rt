@@ -1,0 +1,143 @@
+//! The head of a file, and its seal.
+ghost use Rattle.std.specs.Prelude.{◌≡◌, ◌≤◌, ◌<◌, ◌^◌, ◌&&◌, not, length, None, IfOk};
+ghost use Rattle.std.specs.Result.{result_err};
+ghost use Rattle.bloom_parts.specs.Sip.{sip};
+ghost use Rattle.bloom_plain.specs.File.{bytes_of, head_numbers, head_refusal, whole_head_refusal, reserved_refusal, seal_of, seal_in, head_in, number_at, has_number, is_hash_count};
+
+use super::error::FileError;
+use super::numbers::{number_at, put_numbers};
+use bloom_parts::bit_vector::MAX_WORDS;
+use bloom_parts::hasher::RandomDefaultHasher;
+use std::hash::Hasher;
+
+/// What the head of a file says of its filter.
+#[derive(Clone, Copy, Debug, PartialEq, Eq)]
+pub struct Head {
+    /// The number of hashes.
+    pub num_hashes: u32,
+    /// The number of words.
+    pub num_words: usize,
+    /// The first little-endian word of the key.
+    pub k0: u64,
+    /// The second little-endian word of the key.
+    pub k1: u64,
+}
+
+// How many bytes a head has.
+pub(super) const HEAD: usize = 64;
+
+// The number of the bytes `fbloom`, 0 and `1`.
+const MARK: u64 = 0x3100_6d6f_6f6c_6266;
+
+/// The 64 bytes of a head with a seal.
+pub fn head_bytes(head: &Head, seal: u64) -> [u8; 64]
+    ensures { result ≡ bytes_of (head_numbers head.now seal) }
+{
+    let numbers = [
+        MARK,
+        u64::from(head.num_hashes),
+        head.num_words as u64,
+        head.k0,
+        head.k1,
+        seal,
+        0,
+        0,
+    ];
+    let mut bytes = [0u8; 64];
+    put_numbers(&mut bytes, &numbers);
+    bytes
+}
+
+/// The seal of a head and words: SipHash-1-3 of the first forty bytes of the head and of the words,
+/// under the key of zeros.
+pub fn seal(head: &Head, words: &[u64]) -> u64
+    ensures { result ≡ seal_of head.now words.now }
+{
+    let bytes = head_bytes(head, 0);
+    let mut hasher = RandomDefaultHasher::default();
+    hasher.write(&bytes[..40]);
+    'words: for word in words {
+        hasher.write_u64(*word);
+    }
+    hasher.finish()
+}
+
+// The seal that a file must have, unless it has none.
+pub(super) fn seal_in(bytes: &[u8]) -> u64
+    requires { 64 ≤ length bytes.now }
+    ensures { result ≡ seal_in bytes.now }
+{
+    let mut hasher = RandomDefaultHasher::default();
+    hasher.write(&bytes[..40]);
+    hasher.write(&bytes[HEAD..]);
+    hasher.finish()
+}
+
+// Whether a file tells a number of hashes that no filter has.
+fn has_no_hash_count(bytes: &[u8], hashes: u64) -> bool
+    ensures { result ≡ (has_number bytes.now 1 && not (is_hash_count hashes)) }
+{
+    bytes.len() >= 16 && (hashes == 0 || hashes >= 1 << 32)
+}
+
+// Refuses the first numbers of a file, as far as they are there.
+pub(super) fn check_head(bytes: &[u8]) -> Result<(), FileError>
+    ensures { result_err result ≡ head_refusal bytes.now }
+{
+    let mark = number_at(bytes, 0);
+    if mark % (1 << 56) != MARK % (1 << 56) {
+        return Err(FileError::NotAFilter);
+    }
+    if mark != MARK {
+        return Err(FileError::Version);
+    }
+    if has_no_hash_count(bytes, number_at(bytes, 1)) {
+        return Err(FileError::HashCount);
+    }
+    let words = number_at(bytes, 2);
+    if bytes.len() >= 24 && words == 0 {
+        return Err(FileError::EmptyWords);
+    }
+    if bytes.len() >= 24 && words > MAX_WORDS as u64 {
+        return Err(FileError::TooManyWords);
+    }
+    Ok(())
+}
+
+// What the numbers of a head say that isn't refused.
+pub(super) fn head_in(bytes: &[u8]) -> Head
+    requires { head_refusal bytes.now ≡ None }
+    ensures { result ≡ head_in bytes.now }
+{
+    Head {
+        num_hashes: number_at(bytes, 1) as u32,
+        num_words: number_at(bytes, 2) as usize,
+        k0: number_at(bytes, 3),
+        k1: number_at(bytes, 4),
+    }
+}
+
+// Refuses a head with other numbers than 0 at its end.
+pub(super) fn check_reserved(bytes: &[u8]) -> Result<(), FileError>
+    ensures { result_err result ≡ reserved_refusal bytes.now }
+{
+    if number_at(bytes, 6) == 0 && number_at(bytes, 7) == 0 {
+        Ok(())
+    } else {
+        Err(FileError::Reserved)
+    }
+}
+
+/// What the head of a file says, and its seal, which is 0 where it has none.
+///
+/// # Errors
+/// `NotAFilter`, `Version`, `HashCount`, `EmptyWords`, `TooManyWords` and `Reserved`.
+pub fn read_head(bytes: &[u8; 64]) -> Result<(Head, u64), FileError>
+    ensures head { IfOk result (λ read. read.0 ≡ head_in bytes.now) }
+    ensures seal { IfOk result (λ read. read.1 ≡ number_at bytes.now 5) }
+    ensures refused { result_err result ≡ whole_head_refusal bytes.now }
+{
+    check_head(bytes)?;
+    check_reserved(bytes)?;
+    Ok((head_in(bytes), number_at(bytes, 5)))
+}

@@ -1,0 +1,205 @@
+//! Files of readers and writers.
+ghost use Rattle.std.specs.Prelude.{◌≡◌, ◌+◌, ◌*◌, ◌%◌, ◌<◌, ◌≤◌, ◌^◌, [], None, length, max, vec_len, IfOk, IfErr, IfSome, OnOk, OnErr};
+ghost use Rattle.std.specs.Vec.{vec_capacity};
+ghost use Rattle.std.specs.Result.{result_err};
+ghost use Rattle.std.specs.Io.KnownBytes.{Appends, Consumes, IsAtEnd};
+ghost use Rattle.bloom_parts.specs.Keys.{HasKey, key_of};
+ghost use Rattle.lines.specs.Writing.{AppendsPart};
+ghost use Rattle.bloom_plain.specs.File.{IsReadAs, IsToldOf, ReadsFile, ReadsWords, StopsEnd, StopsWords, bytes_of, file_of, head_refusal};
+
+use super::bytes::filter_with;
+use super::error::FileError;
+use super::head::{HEAD, check_head, check_reserved, head_bytes, head_in, seal};
+use super::numbers::{number_at, push_numbers, put_numbers};
+use crate::bloom::BloomFilter;
+use bloom_parts::hasher::RandomDefaultHasher;
+use lines::{put_bytes, read_full};
+use std::alloc::Global;
+use std::hash::Hasher;
+use std::io;
+use std::io::{Read, Write};
+
+// How many words are written or read at once.
+const BLOCK: usize = 512;
+
+// Writes the bytes of at most a block of words.
+fn put_block<W: Write>(output: &mut W, words: &[u64]) -> io::Result<()>
+    requires { length words.now ≤ 512 }
+    ensures whole { OnOk result
+        (Appends (W.contents output.old) (W.contents output.new) (bytes_of words.now)) }
+    ensures part { OnErr result
+        (AppendsPart (bytes_of words.now) (W.contents output.old) (W.contents output.new)) }
+{
+    let mut block = [0u8; 8 * BLOCK];
+    let bytes = &mut block[..8 * words.len()];
+    put_numbers(bytes, words);
+    put_bytes(output, bytes)
+}
+
+// Writes the bytes of words, a block at a time.
+fn put_words<W: Write>(output: &mut W, words: &[u64]) -> io::Result<()>
+    ensures whole { OnOk result
+        (Appends (W.contents output.old) (W.contents output.new) (bytes_of words.now)) }
+    ensures part { OnErr result
+        (AppendsPart (bytes_of words.now) (W.contents output.old) (W.contents output.new)) }
+{
+    let mut rest = words;
+    'blocks: while !rest.is_empty() {
+        let (block, others) = rest.split_at(rest.len().min(BLOCK));
+        put_block(output, block)?;
+        rest = others;
+    }
+    Ok(())
+}
+
+// Asks for the room of more words, if there is less: at least as much as there is, but not more
+// than for all that may come.
+fn make_room(words: &mut Vec<u64>, more: usize, most: usize) -> Result<(), FileError>
+    requires { more ≤ most }
+    ensures same { words.new.items ≡ words.old.items }
+    ensures refused { IfErr result (λ error. error ≡ FileError.Memory) }
+    // Room is asked for twice the words that came, or a block more, and never for more than may come.
+    ensures few { vec_capacity words.new
+        ≤ max (vec_capacity words.old) (vec_len words.old + max (vec_len words.old) more) }
+    ensures most { vec_capacity words.new
+        ≤ max (vec_capacity words.old) (vec_len words.old + most) }
+{
+    if words.capacity() - words.len() < more {
+        words.reserve_exact(words.len().max(more).min(most))?;
+    }
+    Ok(())
+}
+
+// Reads a block of words, and appends them.
+fn read_block<R: Read>(
+    input: &mut R,
+    block: &mut [u8],
+    words: &mut Vec<u64>,
+    hasher: &mut RandomDefaultHasher,
+) -> Result<(), FileError>
+    requires { length block.old % 8 ≡ 0 }
+    ensures taken { OnOk result (ReadsWords (R.remaining input.old) (R.remaining input.new)
+        words.old.items words.new.items hasher.old hasher.new) }
+    ensures count { OnOk result
+        (8 * length words.new.items ≡ 8 * length words.old.items + length block.old) }
+    ensures stops { IfErr result (StopsWords (length block.old) (R.remaining input.old)) }
+{
+    let count = match read_full(input, block) {
+        Ok(count) => count,
+        Err(error) => return Err(FileError::Input(error.kind())),
+    };
+    if count < block.len() {
+        return Err(FileError::Cut);
+    }
+    hasher.write(block);
+    push_numbers(words, block)?;
+    Ok(())
+}
+
+// Reads words, and asks for their room only as they come.
+fn read_words<R: Read>(
+    alloc: Global,
+    input: &mut R,
+    count: usize,
+    hasher: &mut RandomDefaultHasher,
+) -> Result<Vec<u64>, FileError>
+    requires { count < 2 ^ 58 }
+    ensures taken { IfOk result (λ words. ReadsWords (R.remaining input.old) (R.remaining input.new)
+        [] words.items hasher.old hasher.new) }
+    ensures count { IfOk result (λ words. length words.items ≡ count) }
+    ensures stops { IfErr result (StopsWords (8 * count) (R.remaining input.old)) }
+{
+    let mut words = Vec::new(alloc);
+    let mut block = vec![in alloc; 0u8; 8 * BLOCK]?;
+    'blocks: while words.len() < count {
+        let left = count - words.len();
+        let more = left.min(BLOCK);
+        make_room(&mut words, more, left)?;
+        read_block(
+            input,
+            &mut block.as_mut_slice()[..8 * more],
+            &mut words,
+            hasher,
+        )?;
+    }
+    Ok(words)
+}
+
+// Reads the head of a file, and refuses one that is none.
+fn read_start<R: Read>(input: &mut R) -> Result<[u8; 64], FileError>
+    ensures taken { IfOk result (λ head. Consumes (R.remaining input.old) (R.remaining input.new) head) }
+    ensures good { IfOk result (λ head. head_refusal head ≡ None) }
+    ensures refused { IfErr result (λ error. IsToldOf (R.remaining input.old) error) }
+{
+    let mut head = [0u8; HEAD];
+    let count = match read_full(input, &mut head) {
+        Ok(count) => count,
+        Err(error) => return Err(FileError::Input(error.kind())),
+    };
+    check_head(&head[..count])?;
+    if count < HEAD {
+        return Err(FileError::Cut);
+    }
+    Ok(head)
+}
+
+// Refuses a reader that isn't at its end.
+fn read_end<R: Read>(input: &mut R) -> Result<(), FileError>
+    ensures nothing { OnOk result (Consumes (R.remaining input.old) (R.remaining input.new) []) }
+    ensures end { OnOk result (IsAtEnd (R.remaining input.new)) }
+    ensures more { IfErr result (StopsEnd (R.remaining input.old)) }
+{
+    let mut more = [0u8; 1];
+    match read_full(input, &mut more) {
+        Ok(0) => Ok(()),
+        Ok(_) => Err(FileError::TooLong),
+        Err(error) => Err(FileError::Input(error.kind())),
+    }
+}
+
+impl BloomFilter {
+    /// Writes the file of this filter, and flushes nothing.
+    ///
+    /// # Errors
+    /// Where a write fails. Then a beginning of the file was written.
+    pub fn write_file<W: Write>(&self, output: &mut W) -> io::Result<()>
+        ensures whole { OnOk result
+            (Appends (W.contents output.old) (W.contents output.new) (file_of self.now)) }
+        ensures part { OnErr result
+            (AppendsPart (file_of self.now) (W.contents output.old) (W.contents output.new)) }
+    {
+        let head = self.head();
+        let words = self.as_slice();
+        put_bytes(output, &head_bytes(&head, seal(&head, words)))?;
+        put_words(output, words)
+    }
+
+    /// Reads the filter of a file, to the end of the reader, under the file's key.
+    ///
+    /// Room is asked for as words come, so that a head that promises more of them costs nothing.
+    ///
+    /// # Errors
+    /// The first reason for which the bytes are no file of a filter, in the order of the variants
+    /// of `FileError`; `Memory`, where the head isn't refused; and `Input`, where a read fails.
+    pub fn read_file<R: Read>(alloc: Global, input: &mut R) -> Result<Self, FileError>
+        ensures file { IfOk result
+            (ReadsFile (R.remaining input.old) (R.remaining input.new)) }
+        ensures key { IfOk result (λ filter.
+            HasKey filter.hasher (key_of filter.hasher).0 (key_of filter.hasher).1) }
+        ensures refused { IfSome (R.remaining input.old)
+            (λ bytes. IsReadAs bytes (result_err result)) }
+    {
+        let start = read_start(input)?;
+        let head = head_in(&start);
+        let mut hasher = RandomDefaultHasher::default();
+        hasher.write(&start[..40]);
+        let words = read_words(alloc, input, head.num_words, &mut hasher)?;
+        read_end(input)?;
+        check_reserved(&start)?;
+        let seal = number_at(&start, 5);
+        if seal != 0 && seal != hasher.finish() {
+            return Err(FileError::Seal);
+        }
+        Ok(filter_with(head, words))
+    }
+}
