@@ -1,10 +1,12 @@
 mod AlgebraLemmas
+mod BlockLemmas
 mod BuilderFacts
 mod BuilderLemmas
 pub mod CaseLemmas
 mod DataFacts
 mod DataLemmas
 mod EqualityFacts
+mod FileLemmas
 mod FilterFacts
 mod FoundLemmas
 mod HashFacts
@@ -17,10 +19,12 @@ mod ListLemmas
 mod NumberLemmas
 mod RateFacts
 mod RateLemmas
+mod RefusalLemmas
 mod ReplyLemmas
 mod SealLemmas
 mod SetFacts
 mod SetLawFacts
 mod TogetherLemmas
+mod ToldLemmas
 mod UnitedFacts
 mod UnitedLemmas

@@ -8,7 +8,7 @@ use Rattle.std.specs.Io.KnownBytes.{Consumes, IsAtEnd}
 use Rattle.std.specs.declared.io.ErrorKind.{ErrorKind}
 use Rattle.bloom_parts.specs.Content.{AreWords}
 use Rattle.bloom_parts.specs.Hashed.{SipState, Takes}
-use Rattle.bloom_parts.specs.Keys.{key_of}
+use Rattle.bloom_parts.specs.Keys.{HasKey, key_of}
 use Rattle.bloom_parts.specs.Sip.{sip, whole_words}
 use Rattle.bloom_plain.specs.declared.file.head.Head.{Head}
 use Rattle.bloom_plain.specs.declared.file.error.FileError.{FileError}
@@ -57,15 +57,23 @@ file_of f = file_with (head_of f) (seal_of (head_of f) f.words) f.words
 abbrev pub IsSealOf : ℕ → DefaultFilter → Type 0
 IsSealOf seal f = (seal ≡ 0) ⊎ (seal ≡ seal_of (head_of f) f.words)
 
--- the bytes are a file of the filter, whose words and key have 64 bits each
+-- the words of a filter and those of its key have 64 bits each
+pub record FitsWords (f : DefaultFilter) : Type 0 where
+  pub words : AreWords f.words
+  pub low : (key_of f.hasher).0 < 2 ^ 64
+  pub high : (key_of f.hasher).1 < 2 ^ 64
+
+-- the bytes are a file of the filter
 pub record IsFileOf (bytes : List ℕ) (f : DefaultFilter) : Type 0 where
   pub seal : ℕ
   pub sealed : IsSealOf seal f
   pub is : bytes ≡ file_with (head_of f) seal f.words
   pub shape : HasShape f
-  pub words : AreWords f.words
-  pub low : (key_of f.hasher).0 < 2 ^ 64
-  pub high : (key_of f.hasher).1 < 2 ^ 64
+  pub fits : FitsWords f
+
+-- the hashers of the filter have its key and have taken in nothing
+abbrev pub HasOwnKey : DefaultFilter → Type 0
+HasOwnKey f = HasKey f.hasher (key_of f.hasher).0 (key_of f.hasher).1
 
 -- the number at a place of a file, counted from 0; it is 0 where the file ends before
 abbrev pub number_at : List ℕ → ℕ → ℕ

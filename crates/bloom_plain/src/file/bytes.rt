@@ -1,9 +1,7 @@
 //! Files as bytes in memory.
 ghost use Rattle.std.specs.Prelude.{◌≡◌, ◌+◌, ◌*◌, ◌≤◌, ◌++◌, None, length, IfOk, OnOk, IsOkUnless};
 ghost use Rattle.std.specs.Result.{result_err};
-ghost use Rattle.bloom_parts.specs.Keys.{HasKey, key_of};
-ghost use Rattle.bloom_parts.specs.Content.{AreWords};
-ghost use Rattle.bloom_plain.specs.File.{IsFileOf, IsRefusedAs, bytes_of, file_of, file_refusal, head_in, head_of, head_refusal, number_at, size_refusal, seal_refusal};
+ghost use Rattle.bloom_plain.specs.File.{FitsWords, HasOwnKey, IsFileOf, IsRefusedAs, bytes_of, file_of, file_refusal, head_in, head_of, head_refusal, size_refusal, seal_refusal};
 ghost use Rattle.bloom_plain.specs.Filter.{HasShape, IsShape};
 
 use super::error::FileError;
@@ -59,8 +57,8 @@ pub(super) fn filter_with(head: Head, words: Vec<u64>) -> BloomFilter
     requires count { length words.items ≡ head.num_words }
     ensures words { result.words ≡ words.items }
     ensures head { head_of result ≡ head }
-    ensures key { HasKey result.hasher head.k0 head.k1 }
-    ensures range { AreWords result.words }
+    ensures key { HasOwnKey result }
+    ensures range { FitsWords result }
 {
     let hasher = DefaultHasher::keyed(head.k0, head.k1);
     let filter = BloomFilter::from_parts(BitVec::from_vec(words), head.num_hashes, hasher);
@@ -73,7 +71,7 @@ impl BloomFilter {
     pub(super) fn head(&self) -> Head
         ensures head { result ≡ head_of self.now }
         ensures shape { HasShape self.now }
-        ensures words { AreWords self.now.words }
+        ensures range { FitsWords self.now }
     {
         let (k0, k1) = self.hasher().key();
         Head {
@@ -108,19 +106,20 @@ impl BloomFilter {
     /// of `FileError`. `Memory` comes only where there is no such reason.
     pub fn from_bytes(alloc: Global, bytes: &[u8]) -> Result<Self, FileError>
         ensures file { IfOk result (λ filter. IsFileOf bytes.now filter) }
-        ensures key { IfOk result
-            (λ filter. HasKey filter.hasher (number_at bytes.now 3) (number_at bytes.now 4)) }
+        ensures key { IfOk result HasOwnKey }
         ensures refused { IsRefusedAs bytes.now (result_err result) }
     {
         check_file(bytes)?;
-        let head = head_in(bytes);
+        let (start, others) = bytes.split_at(HEAD);
+        let head = head_in(start);
         let mut words = Vec::with_capacity(alloc, head.num_words)?;
-        push_numbers(&mut words, &bytes[HEAD..])?;
+        push_numbers(&mut words, others)?;
         Ok(filter_with(head, words))
     }
 }
 
 // Appends the bytes of words.
+#[tactic(auto, unfolding(crate::specs::File::bytes_of))]
 fn append_words(bytes: &mut Vec<u8>, words: &[u64]) -> Result<(), AllocError>
     ensures { OnOk result (bytes.new.items ≡ bytes.old.items ++ bytes_of words.now) }
 {

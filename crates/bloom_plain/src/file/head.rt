@@ -107,7 +107,10 @@ pub(super) fn check_head(bytes: &[u8]) -> Result<(), FileError>
 // What the numbers of a head say that isn't refused.
 pub(super) fn head_in(bytes: &[u8]) -> Head
     requires { head_refusal bytes.now ≡ None }
-    ensures { result ≡ head_in bytes.now }
+    ensures head { result ≡ head_in bytes.now }
+    // The bytes of such a head, where its last numbers are 0, are those that were read.
+    ensures bytes { length bytes.now ≡ 64 → reserved_refusal bytes.now ≡ None
+        → bytes.now ≡ bytes_of (head_numbers (head_in bytes.now) (number_at bytes.now 5)) }
 {
     Head {
         num_hashes: number_at(bytes, 1) as u32,

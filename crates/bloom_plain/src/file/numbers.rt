@@ -1,5 +1,5 @@
 //! Numbers of 64 bits as little-endian bytes.
-ghost use Rattle.std.specs.Prelude.{◌≡◌, ◌+◌, ◌*◌, ◌<◌, ◌++◌, length, IfOk};
+ghost use Rattle.std.specs.Prelude.{◌≡◌, ◌+◌, ◌*◌, ◌%◌, ◌<◌, ◌++◌, length, IfOk};
 ghost use Rattle.bloom_parts.specs.Sip.{whole_words};
 ghost use Rattle.bloom_plain.specs.File.{bytes_of, number_at};
 
@@ -30,7 +30,11 @@ pub(super) fn put_numbers(bytes: &mut [u8], numbers: &[u64])
 
 // Appends the numbers of bytes to words, as far as they are whole.
 pub(super) fn push_numbers(words: &mut Vec<u64>, bytes: &[u8]) -> Result<(), AllocError>
-    ensures { IfOk result (λ _. words.new.items ≡ words.old.items ++ whole_words bytes.now) }
+    ensures words { IfOk result
+        (λ _. words.new.items ≡ words.old.items ++ whole_words bytes.now) }
+    // The bytes of these numbers are those that were read.
+    ensures bytes { IfOk result (λ _. length bytes.now % 8 ≡ 0
+        → bytes_of (whole_words bytes.now) ≡ bytes.now) }
 {
     let (numbers, _rest) = bytes.as_chunks::<8>();
     'numbers: for number in numbers {

@@ -3,9 +3,8 @@ ghost use Rattle.std.specs.Prelude.{◌≡◌, ◌+◌, ◌*◌, ◌%◌, ◌<�
 ghost use Rattle.std.specs.Vec.{vec_capacity};
 ghost use Rattle.std.specs.Result.{result_err};
 ghost use Rattle.std.specs.Io.KnownBytes.{Appends, Consumes, IsAtEnd};
-ghost use Rattle.bloom_parts.specs.Keys.{HasKey, key_of};
 ghost use Rattle.lines.specs.Writing.{AppendsPart};
-ghost use Rattle.bloom_plain.specs.File.{IsReadAs, IsToldOf, ReadsFile, ReadsWords, StopsEnd, StopsWords, bytes_of, file_of, head_refusal};
+ghost use Rattle.bloom_plain.specs.File.{HasOwnKey, IsReadAs, IsToldOf, ReadsFile, ReadsWords, StopsEnd, StopsWords, bytes_of, file_of, head_refusal};
 
 use super::bytes::filter_with;
 use super::error::FileError;
@@ -44,7 +43,7 @@ fn put_words<W: Write>(output: &mut W, words: &[u64]) -> io::Result<()>
         (AppendsPart (bytes_of words.now) (W.contents output.old) (W.contents output.new)) }
 {
     let mut rest = words;
-    'blocks: while !rest.is_empty() {
+    'pieces: while rest.len() > 0 {
         let (block, others) = rest.split_at(rest.len().min(BLOCK));
         put_block(output, block)?;
         rest = others;
@@ -70,29 +69,30 @@ fn make_room(words: &mut Vec<u64>, more: usize, most: usize) -> Result<(), FileE
     Ok(())
 }
 
-// Reads a block of words, and appends them.
+// Reads at most a block of words, and appends them.
 fn read_block<R: Read>(
     input: &mut R,
-    block: &mut [u8],
+    more: usize,
     words: &mut Vec<u64>,
     hasher: &mut RandomDefaultHasher,
 ) -> Result<(), FileError>
-    requires { length block.old % 8 ≡ 0 }
+    requires { more ≤ 512 }
     ensures taken { OnOk result (ReadsWords (R.remaining input.old) (R.remaining input.new)
         words.old.items words.new.items hasher.old hasher.new) }
-    ensures count { OnOk result
-        (8 * length words.new.items ≡ 8 * length words.old.items + length block.old) }
-    ensures stops { IfErr result (StopsWords (length block.old) (R.remaining input.old)) }
+    ensures count { OnOk result (length words.new.items ≡ length words.old.items + more) }
+    ensures stops { IfErr result (StopsWords (8 * more) (R.remaining input.old)) }
 {
-    let count = match read_full(input, block) {
+    let mut block = [0u8; 8 * BLOCK];
+    let bytes = &mut block[..8 * more];
+    let count = match read_full(input, bytes) {
         Ok(count) => count,
         Err(error) => return Err(FileError::Input(error.kind())),
     };
-    if count < block.len() {
+    if count < bytes.len() {
         return Err(FileError::Cut);
     }
-    hasher.write(block);
-    push_numbers(words, block)?;
+    hasher.write(bytes);
+    push_numbers(words, bytes)?;
     Ok(())
 }
 
@@ -110,17 +110,11 @@ fn read_words<R: Read>(
     ensures stops { IfErr result (StopsWords (8 * count) (R.remaining input.old)) }
 {
     let mut words = Vec::new(alloc);
-    let mut block = vec![in alloc; 0u8; 8 * BLOCK]?;
-    'blocks: while words.len() < count {
+    'pieces: while words.len() < count {
         let left = count - words.len();
         let more = left.min(BLOCK);
         make_room(&mut words, more, left)?;
-        read_block(
-            input,
-            &mut block.as_mut_slice()[..8 * more],
-            &mut words,
-            hasher,
-        )?;
+        read_block(input, more, &mut words, hasher)?;
     }
     Ok(words)
 }
@@ -184,8 +178,7 @@ impl BloomFilter {
     pub fn read_file<R: Read>(alloc: Global, input: &mut R) -> Result<Self, FileError>
         ensures file { IfOk result
             (ReadsFile (R.remaining input.old) (R.remaining input.new)) }
-        ensures key { IfOk result (λ filter.
-            HasKey filter.hasher (key_of filter.hasher).0 (key_of filter.hasher).1) }
+        ensures key { IfOk result HasOwnKey }
         ensures refused { IfSome (R.remaining input.old)
             (λ bytes. IsReadAs bytes (result_err result)) }
     {

@@ -1,0 +1,41 @@
+-- What is said of a file that isn't read to its end.
+use Rattle.std.proofs.Common.{◌≡◌, ℕ, ◌*◌, ◌<◌, ◌≤◌, List, [], ◌++◌, length, length-take, take, Option, Some, None, sym, ap, ◌∙◌, subst, arith, append-nil, inl, inr}
+use Rattle.std.specs.Prelude.{◌⊎◌, IfSome}
+use Rattle.std.proofs.lemmas.Bool.{cases_lt}
+use Rattle.std.specs.Option.{option_or}
+use Rattle.std.specs.Io.KnownBytes.{Consumes, IsAtEnd}
+use Rattle.bloom_plain.specs.declared.file.error.FileError.{FileError}
+use Rattle.bloom_plain.specs.declared.file.error.FileError.TheVariants.{Cut, TooLong}
+use Rattle.bloom_plain.specs.File.{file_refusal, head_refusal, number_at, reserved_refusal, seal_refusal, size_refusal}
+use Rattle.bloom_plain.proofs.RefusalLemmas.{file_refusal-size, head_refusal-head, size_refusal-cut, size_refusal-long}
+
+-- a head that is refused decides for the file
+file_refusal-first : (bytes : List ℕ) (error : FileError) → head_refusal bytes ≡ Some error
+    → file_refusal bytes ≡ Some error
+file_refusal-first bytes error is =
+    ap (λ first. option_or first (option_or (size_refusal bytes)
+    (option_or (reserved_refusal bytes) (seal_refusal bytes)))) is
+
+-- the refusal of a beginning that is a whole head, or all that the reader had, is that of the file
+told-part : (old mid : Option (List ℕ)) (part : List ℕ) (error : FileError)
+    → Consumes old mid part → head_refusal part ≡ Some error → (length part ≡ 64) ⊎ IsAtEnd mid
+    → IfSome old (λ bytes. file_refusal bytes ≡ Some error)
+told-part None mid part error taken is much = tt
+told-part (Some bytes) None part error taken is much = absurd taken
+told-part (Some bytes) (Some rest) part error taken is (inl size) =
+    file_refusal-first bytes error (ap head_refusal taken ∙ head_refusal-head part rest size ∙ is)
+told-part (Some bytes) (Some rest) part error taken is (inr end) =
+    file_refusal-first bytes error
+    (ap head_refusal (taken ∙ ap (λ l. part ++ l) end ∙ append-nil part) ∙ is)
+
+-- the same, where a buffer of 64 bytes was filled as far as the reader had bytes
+pub told-start : (old mid : Option (List ℕ)) (buffer : List ℕ) (count : ℕ) (error : FileError)
+    → length buffer ≡ 64 → count ≤ length buffer → Consumes old mid (take count buffer)
+    → (count < length buffer → IsAtEnd mid) → head_refusal (take count buffer) ≡ Some error
+    → IfSome old (λ bytes. file_refusal bytes ≡ Some error)
+told-start old mid buffer count error size within taken end is =
+    told-part old mid (take count buffer) error taken is (much (cases_lt count 64))
+  where
+    much : (count < 64) ⊎ (64 ≤ count) → (length (take count buffer) ≡ 64) ⊎ IsAtEnd mid
+    much (inl less) = inr (end (omega (arith, less, size)))
+    much (inr more) = inl (omega (arith, more, size, within, length-take count buffer))

@@ -1,0 +1,15 @@
+use Rattle.std.proofs.Common.{◌≡◌, ◌≤◌, ◌-◌, [], length}
+use Rattle.bloom_plain.specs.File.{ReadsWords}
+use Rattle.bloom_plain.proofs.file.streams.read_words.Given as goal
+
+-- the words so far were read
+abbrev pub invariant-pieces : goal.invariant-pieces
+invariant-pieces g l = record {
+  reads : ReadsWords (g.R.Read.remaining l.fn.input) (g.R.Read.remaining l.input) []
+      l.words.items l.fn.hasher l.hasher;
+  within : length l.words.items ≤ l.count;
+}
+
+-- the words that are left
+abbrev pub decreases-pieces : goal.decreases-pieces
+decreases-pieces g l = l.count - length l.words.items
