@@ -12,7 +12,7 @@ use Rattle.bloom_plain.specs.declared.file.error.FileError.{FileError}
 use Rattle.bloom_plain.specs.declared.file.error.FileError.TheVariants.{Seal}
 use Rattle.bloom_plain.specs.declared.file.head.Head.{Head}
 use Rattle.bloom_plain.specs.Data.{DefaultFilter}
-use Rattle.bloom_plain.specs.File.{FitsWords, IsFileOf, IsSealOf, bytes_of, file_refusal, file_with, has_number, head_in, head_numbers, head_of, head_refusal, is_hash_count, mark, number_at, opening, reserved_refusal, seal_of}
+use Rattle.bloom_plain.specs.File.{FitsWords, IsFileOf, IsSealOf, bytes_of, file_of, file_with, has_number, head_in, head_numbers, head_of, head_refusal, is_hash_count, mark, number_at, opening, reserved_refusal, seal_of}
 use Rattle.bloom_plain.specs.Filter.{HasShape, IsShape}
 use Rattle.bloom_plain.proofs.NumberLemmas.{bytes-again, length-whole_words}
 use Rattle.bloom_plain.proofs.SealLemmas.{take-head}
@@ -117,3 +117,12 @@ module _ (head words : List ℕ) (f : DefaultFilter) (size : length head ≡ 64)
     shape = has-shape;
     fits = fits;
   }
+
+-- the parts of a filter's file, one after the other
+pub file-text : (f : DefaultFilter) (head : Head) (seal : ℕ) (words bytes : List ℕ)
+    → head ≡ head_of f → words ≡ f.words → seal ≡ seal_of head words
+    → bytes ≡ bytes_of (head_numbers head seal) → bytes ++ bytes_of words ≡ file_of f
+file-text f head seal words bytes is_head is_words is_seal is =
+    (λ i. is i ++ bytes_of words)
+    ∙ (λ i. bytes_of (head_numbers head (is_seal i)) ++ bytes_of words)
+    ∙ (λ i. file_with (is_head i) (seal_of (is_head i) (is_words i)) (is_words i))

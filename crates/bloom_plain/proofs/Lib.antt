@@ -1,3 +1,4 @@
+mod AcceptedLemmas
 mod AlgebraLemmas
 mod BlockLemmas
 mod BuilderFacts

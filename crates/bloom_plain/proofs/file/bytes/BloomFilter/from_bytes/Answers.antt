@@ -1,0 +1,38 @@
+use Rattle.std.proofs.Common.{length, ap, sym, ◌∙◌}
+use Rattle.bloom_plain.specs.declared.file.head.Head.{Head}
+use Rattle.bloom_plain.proofs.AcceptedLemmas.{accepted, head-good, head-size, reserved-good, words-bytes, words-count, words-shape}
+use Rattle.bloom_plain.proofs.file.bytes.BloomFilter.from_bytes.Goals as goal
+
+pub head_in-head-requires : goal.head_in-head-requires
+head_in-head-requires c =
+    let cut = c.split_at.ensures in
+    head-good c.args.bytes.now _ _ cut.front cut.back (sym c.in_ok-check_file.ensures)
+
+pub filter_with-requires-clause-shape : goal.filter_with-requires-clause-shape
+filter_with-requires-clause-shape c =
+    let cut = c.split_at.ensures in
+    rw (ap (λ (h : Head). h.num_hashes) c.head_in-head.ensures.head)
+    (words-shape c.args.bytes.now _ _ cut.front cut.back (sym c.in_ok-check_file.ensures) _ _
+    c.in_ok-words.ensures.items c.in_ok-push_numbers.ensures.words)
+
+pub filter_with-requires-clause-count : goal.filter_with-requires-clause-count
+filter_with-requires-clause-count c =
+    let cut = c.split_at.ensures in
+    words-count c.args.bytes.now _ _ cut.front cut.back (sym c.in_ok-check_file.ensures) _ _
+    c.in_ok-words.ensures.items c.in_ok-push_numbers.ensures.words
+    ∙ sym (ap (λ (h : Head). h.num_words) c.head_in-head.ensures.head)
+
+pub returns-clause-file : goal.returns-clause-file
+returns-clause-file c =
+    let cut = c.split_at.ensures in
+    let none = sym c.in_ok-check_file.ensures in
+    let bytes = c.args.bytes.now in
+    let pushed = c.in_ok-push_numbers.ensures in
+    let head = c.head_in-head.ensures in
+    let made = c.filter_with.ensures in
+    accepted bytes _ _ cut.front cut.back none c.push_numbers.new.words.items c.filter_with.result
+    (words-bytes bytes _ _ cut.front cut.back none _ _ c.in_ok-words.ensures.items pushed.words
+    pushed.bytes)
+    (made.head ∙ head.head) made.words made.range
+    (head.bytes (head-size bytes _ _ cut.front cut.back none)
+    (reserved-good bytes _ _ cut.front cut.back none))
