@@ -9,10 +9,9 @@ use Rattle.bloom_parts.specs.Content.{AreWords}
 use Rattle.bloom_parts.specs.Keys.{key_of}
 use Rattle.bloom_parts.specs.Sip.{sip, whole_words, rest}
 use Rattle.bloom_plain.specs.declared.file.error.FileError.{FileError}
-use Rattle.bloom_plain.specs.declared.file.error.FileError.TheVariants.{Seal}
 use Rattle.bloom_plain.specs.declared.file.head.Head.{Head}
 use Rattle.bloom_plain.specs.Data.{DefaultFilter}
-use Rattle.bloom_plain.specs.File.{FitsWords, IsFileOf, IsSealOf, bytes_of, file_of, file_with, has_number, head_in, head_numbers, head_of, head_refusal, is_hash_count, mark, number_at, opening, reserved_refusal, seal_of}
+use Rattle.bloom_plain.specs.File.{FitsWords, IsFileOf, IsSealOf, bytes_of, file_of, file_with, has_number, head_in, head_numbers, head_of, head_refusal, is_hash_count, mark, number_at, opening, reserved_refusal, seal_of, wrong_seal}
 use Rattle.bloom_plain.specs.Filter.{HasShape, IsShape}
 use Rattle.bloom_plain.proofs.NumberLemmas.{bytes-again, length-whole_words}
 use Rattle.bloom_plain.proofs.SealLemmas.{take-head}
@@ -82,8 +81,7 @@ none-reserved head none = grind (arith, common_steps)
 
 -- a seal that isn't refused
 pub good-seal : (found wanted : ℕ)
-    → cond (nat_eq found 0 || nat_eq found wanted) None (Some Seal) ≡ None
-    → (found ≡ 0) ⊎ (found ≡ wanted)
+    → wrong_seal found wanted ≡ None → (found ≡ 0) ⊎ (found ≡ wanted)
 good-seal found wanted none = grind (arith, common_steps)
 
 -- a head that isn't refused, with the words that it tells of, is a file of the filter

@@ -20,6 +20,7 @@ mod ListLemmas
 mod NumberLemmas
 mod RateFacts
 mod RateLemmas
+mod ReadLemmas
 mod RefusalLemmas
 mod ReplyLemmas
 mod SealLemmas

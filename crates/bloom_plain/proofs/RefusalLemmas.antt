@@ -7,7 +7,7 @@ use Rattle.std.proofs.lemmas.List.{drop_at, get_or_append_left, take-append-le}
 use Rattle.bloom_parts.specs.Sip.{sip, whole_words}
 use Rattle.bloom_plain.specs.declared.file.error.FileError.{FileError}
 use Rattle.bloom_plain.specs.declared.file.error.FileError.TheVariants.{NotAFilter, Version, HashCount, EmptyWords, TooManyWords, Cut, TooLong, Reserved, Seal}
-use Rattle.bloom_plain.specs.File.{file_refusal, file_size, has_number, head_refusal, is_hash_count, mark, number_at, reserved_refusal, seal_in, seal_refusal, size_refusal}
+use Rattle.bloom_plain.specs.File.{file_refusal, file_size, has_number, head_refusal, is_hash_count, mark, number_at, reserved_refusal, seal_in, seal_refusal, size_refusal, wrong_seal}
 use Rattle.bloom_plain.proofs.NumberLemmas.{length-whole_words, whole_words-append}
 
 -- the refusal of a head, by its first numbers and by which of them are there
@@ -22,10 +22,6 @@ refusal_by first hashes words second third =
 -- the refusal of what lies at the end of a head
 abbrev reserved_by : ℕ → ℕ → Option FileError
 reserved_by sixth seventh = cond (nat_eq sixth 0 && nat_eq seventh 0) None (Some Reserved)
-
--- the refusal of a seal
-abbrev seal_by : ℕ → ℕ → Option FileError
-seal_by found wanted = cond (nat_eq found 0 || nat_eq found wanted) None (Some Seal)
 
 -- the refusal of a size, where another is right
 abbrev size_by : ℕ → ℕ → Option FileError
@@ -87,8 +83,8 @@ module _ (head body : List ℕ) (size : length head ≡ 64) where
 
   -- the refusal of the seal
   pub seal_refusal-head : seal_refusal (head ++ body)
-      ≡ seal_by (number_at head 5) (sip 0 0 (take 40 head ++ body))
-  seal_refusal-head i = seal_by (number_at-head 5 (omega arith) i) (seal_in-head i)
+      ≡ wrong_seal (number_at head 5) (sip 0 0 (take 40 head ++ body))
+  seal_refusal-head i = wrong_seal (number_at-head 5 (omega arith) i) (seal_in-head i)
 
   -- how many bytes there are, and how many there must be
   size_refusal-head : size_refusal (head ++ body)
@@ -130,7 +126,7 @@ module _ (head body : List ℕ) (size : length head ≡ 64) where
   -- the refusal of a file of the right size
   pub file_refusal-head : length body ≡ 8 * number_at head 2
       → file_refusal (head ++ body) ≡ option_or (head_refusal head) (option_or (reserved_refusal head)
-      (seal_by (number_at head 5) (sip 0 0 (take 40 head ++ body))))
+      (wrong_seal (number_at head 5) (sip 0 0 (take 40 head ++ body))))
   file_refusal-head right i =
       option_or (head_refusal-head i)
       (option_or (size_refusal-none right i)

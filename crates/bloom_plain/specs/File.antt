@@ -118,11 +118,13 @@ reserved_refusal bytes =
 abbrev pub seal_in : List ℕ → ℕ
 seal_in bytes = sip 0 0 (take 40 bytes ++ drop 64 bytes)
 
--- why a file with another seal is refused
+-- why a seal is refused, if it is: it is another than the right one, and isn't 0
+abbrev pub wrong_seal : ℕ → ℕ → Option FileError
+wrong_seal found right = if nat_eq found 0 || nat_eq found right then None else Some Seal
+
+-- why a file is refused for its seal
 abbrev pub seal_refusal : List ℕ → Option FileError
-seal_refusal bytes =
-    if nat_eq (number_at bytes 5) 0 || nat_eq (number_at bytes 5) (seal_in bytes) then None
-    else Some Seal
+seal_refusal bytes = wrong_seal (number_at bytes 5) (seal_in bytes)
 
 -- why a head of 64 bytes is refused, if it is
 abbrev pub whole_head_refusal : List ℕ → Option FileError

@@ -5,7 +5,7 @@ ghost use Rattle.bloom_plain.specs.File.{FitsWords, HasOwnKey, IsFileOf, IsRefus
 ghost use Rattle.bloom_plain.specs.Filter.{HasShape, IsShape};
 
 use super::error::FileError;
-use super::head::{HEAD, Head, check_head, check_reserved, head_bytes, head_in, seal, seal_in};
+use super::head::{HEAD, Head, check_head, check_reserved, check_seal, head_bytes, head_in, seal, seal_in};
 use super::numbers::{number_at, push_numbers};
 use crate::bloom::BloomFilter;
 use bloom_parts::bit_vector::BitVec;
@@ -29,16 +29,15 @@ fn check_size(bytes: &[u8]) -> Result<(), FileError>
 }
 
 // Refuses a file with another seal than that of its bytes, unless it has none.
-fn check_seal(bytes: &[u8]) -> Result<(), FileError>
+fn check_own_seal(bytes: &[u8]) -> Result<(), FileError>
     requires { 64 ≤ length bytes.now }
     ensures { result_err result ≡ seal_refusal bytes.now }
 {
     let seal = number_at(bytes, 5);
-    if seal == 0 || seal == seal_in(bytes) {
-        Ok(())
-    } else {
-        Err(FileError::Seal)
+    if seal == 0 {
+        return Ok(());
     }
+    check_seal(seal, seal_in(bytes))
 }
 
 // Refuses bytes that are no file of a filter.
@@ -48,7 +47,7 @@ fn check_file(bytes: &[u8]) -> Result<(), FileError>
     check_head(bytes)?;
     check_size(bytes)?;
     check_reserved(bytes)?;
-    check_seal(bytes)
+    check_own_seal(bytes)
 }
 
 // The filter that a head tells of, with these words.

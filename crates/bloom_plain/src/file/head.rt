@@ -2,7 +2,7 @@
 ghost use Rattle.std.specs.Prelude.{◌≡◌, ◌≤◌, ◌<◌, ◌^◌, ◌&&◌, not, length, None, IfOk};
 ghost use Rattle.std.specs.Result.{result_err};
 ghost use Rattle.bloom_parts.specs.Sip.{sip};
-ghost use Rattle.bloom_plain.specs.File.{bytes_of, head_numbers, head_refusal, whole_head_refusal, reserved_refusal, seal_of, seal_in, head_in, number_at, has_number, is_hash_count};
+ghost use Rattle.bloom_plain.specs.File.{bytes_of, head_numbers, head_refusal, whole_head_refusal, reserved_refusal, seal_of, seal_in, head_in, number_at, has_number, is_hash_count, wrong_seal};
 
 use super::error::FileError;
 use super::numbers::{number_at, put_numbers};
@@ -78,6 +78,17 @@ fn has_no_hash_count(bytes: &[u8], hashes: u64) -> bool
     ensures { result ≡ (has_number bytes.now 1 && not (is_hash_count hashes)) }
 {
     bytes.len() >= 16 && (hashes == 0 || hashes >= 1 << 32)
+}
+
+// Refuses a seal that is another than the right one, unless it is 0.
+pub(super) fn check_seal(found: u64, right: u64) -> Result<(), FileError>
+    ensures { result_err result ≡ wrong_seal found right }
+{
+    if found == 0 || found == right {
+        Ok(())
+    } else {
+        Err(FileError::Seal)
+    }
 }
 
 // Refuses the first numbers of a file, as far as they are there.

@@ -8,7 +8,7 @@ ghost use Rattle.bloom_plain.specs.File.{HasOwnKey, IsReadAs, IsToldOf, ReadsFil
 
 use super::bytes::filter_with;
 use super::error::FileError;
-use super::head::{HEAD, check_head, check_reserved, head_bytes, head_in, seal};
+use super::head::{HEAD, check_head, check_reserved, check_seal, head_bytes, head_in, seal};
 use super::numbers::{number_at, push_numbers, put_numbers};
 use crate::bloom::BloomFilter;
 use bloom_parts::hasher::RandomDefaultHasher;
@@ -122,6 +122,7 @@ fn read_words<R: Read>(
 // Reads the head of a file, and refuses one that is none.
 fn read_start<R: Read>(input: &mut R) -> Result<[u8; 64], FileError>
     ensures taken { IfOk result (λ head. Consumes (R.remaining input.old) (R.remaining input.new) head) }
+    ensures size { IfOk result (λ head. length head ≡ 64) }
     ensures good { IfOk result (λ head. head_refusal head ≡ None) }
     ensures refused { IfErr result (λ error. IsToldOf (R.remaining input.old) error) }
 {
@@ -189,10 +190,7 @@ impl BloomFilter {
         let words = read_words(alloc, input, head.num_words, &mut hasher)?;
         read_end(input)?;
         check_reserved(&start)?;
-        let seal = number_at(&start, 5);
-        if seal != 0 && seal != hasher.finish() {
-            return Err(FileError::Seal);
-        }
+        check_seal(number_at(&start, 5), hasher.finish())?;
         Ok(filter_with(head, words))
     }
 }

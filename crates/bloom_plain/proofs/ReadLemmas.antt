@@ -1,0 +1,142 @@
+-- What a file that is read part by part comes to.
+use Rattle.std.proofs.Common.{◌≡◌, ◌≢◌, ℕ, ◌+◌, ◌*◌, ◌<◌, List, [], ◌++◌, length, length-append, take, Option, Some, None, refl, sym, ap, subst, ◌∙◌, arith, append_assoc, append-nil, inl, inr}
+use Rattle.std.specs.Prelude.{◌⊎◌, IfSome}
+use Rattle.std.specs.Option.{option_or}
+use Rattle.std.specs.Io.KnownBytes.{Consumes, IsAtEnd}
+use Rattle.std.proofs.KnownBytes.{Consumes-trans, Consumes-whole}
+use Rattle.bloom_parts.specs.Hashed.{SipState, Hashed, Takes, Answers}
+use Rattle.bloom_parts.specs.Sip.{sip}
+use Rattle.bloom_plain.specs.declared.file.error.FileError.{FileError}
+use Rattle.bloom_plain.specs.declared.file.error.FileError.TheVariants.{NotAFilter, Version, HashCount, EmptyWords, TooManyWords, Cut, TooLong, Reserved, Seal, Memory, Input}
+use Rattle.bloom_plain.specs.Data.{DefaultFilter}
+use Rattle.bloom_plain.specs.File.{FitsWords, IsReadAs, ReadsFile, ReadsWords, StopsEnd, StopsWords, bytes_of, file_refusal, head_in, head_numbers, head_of, head_refusal, number_at, reserved_refusal, wrong_seal}
+use Rattle.bloom_plain.proofs.BlockLemmas.{length-read}
+use Rattle.bloom_plain.proofs.FileLemmas.{good-seal, is-file}
+use Rattle.bloom_plain.proofs.NumberLemmas.{length-bytes_of}
+use Rattle.bloom_plain.proofs.RefusalLemmas.{file_refusal-head, file_refusal-size, head_refusal-head, size_refusal-cut, size_refusal-long}
+
+-- a head was read that isn't refused
+module _ (old mid : Option (List ℕ)) (start : List ℕ) (size : length start ≡ 64)
+    (good : head_refusal start ≡ None) (first : Consumes old mid start) where
+  -- why the words weren't read is the refusal of all bytes, memory or a failed read
+  pub told-words : (count : ℕ) → count ≡ number_at start 2 → (error : FileError)
+      → StopsWords (8 * count) mid error → IfSome old (λ bytes. IsReadAs bytes (Some error))
+  told-words count is error stops =
+      told old mid first error (subst (λ n. StopsWords (8 * n) mid error) is stops)
+    where
+      told : (old mid : Option (List ℕ)) → Consumes old mid start → (error : FileError)
+          → StopsWords (8 * number_at start 2) mid error
+          → IfSome old (λ bytes. IsReadAs bytes (Some error))
+      told None mid taken error stops = tt
+      told (Some bytes) None taken error stops = absurd taken
+      told (Some bytes) (Some body) taken Cut stops =
+          rw taken (inl (sym (file_refusal-size start body size Cut good
+          (size_refusal-cut start body size stops))))
+      told (Some bytes) (Some body) taken Memory stops =
+          rw taken (inr (inl (refl, head_refusal-head start body size ∙ good)))
+      told (Some bytes) (Some body) taken (Input kind) stops = inr (inr (kind, refl))
+      told (Some bytes) (Some body) taken NotAFilter stops = absurd stops
+      told (Some bytes) (Some body) taken Version stops = absurd stops
+      told (Some bytes) (Some body) taken HashCount stops = absurd stops
+      told (Some bytes) (Some body) taken EmptyWords stops = absurd stops
+      told (Some bytes) (Some body) taken TooManyWords stops = absurd stops
+      told (Some bytes) (Some body) taken TooLong stops = absurd stops
+      told (Some bytes) (Some body) taken Reserved stops = absurd stops
+      told (Some bytes) (Some body) taken Seal stops = absurd stops
+
+-- a head was read that isn't refused, and then all words that it tells of
+module _ (old mid end : Option (List ℕ)) (start : List ℕ) (size : length start ≡ 64)
+    (good : head_refusal start ≡ None) (first : Consumes old mid start) (words : List ℕ)
+    (f h : SipState) (reads : ReadsWords mid end [] words f h)
+    (count : length words ≡ number_at start 2) where
+  both : Consumes old end (start ++ bytes_of words)
+  both =
+      subst (λ l. Consumes old end (start ++ bytes_of l)) (sym reads.behind)
+      (Consumes-trans old mid end start (bytes_of reads.words) first reads.taken)
+
+  right : length (bytes_of words) ≡ 8 * number_at start 2
+  right = omega (arith, count, length-bytes_of words)
+
+  -- why the reader isn't at its end is the refusal of all bytes, or a failed read
+  pub told-end : (error : FileError) → StopsEnd end error
+      → IfSome old (λ bytes. IsReadAs bytes (Some error))
+  told-end error stops = told old end both error stops
+    where
+      told : (old end : Option (List ℕ)) → Consumes old end (start ++ bytes_of words)
+          → (error : FileError) → StopsEnd end error
+          → IfSome old (λ bytes. IsReadAs bytes (Some error))
+      told None end taken error stops = tt
+      told (Some bytes) None taken error stops = absurd taken
+      told (Some bytes) (Some more) taken TooLong stops =
+          rw (taken ∙ append_assoc start (bytes_of words) more)
+          (inl (sym (file_refusal-size start (bytes_of words ++ more) size TooLong good
+          (size_refusal-long start (bytes_of words ++ more) size
+          (omega (arith, right, stops, length-append (bytes_of words) more))))))
+      told (Some bytes) (Some more) taken (Input kind) stops = inr (inr (kind, refl))
+      told (Some bytes) (Some more) taken NotAFilter stops = absurd stops
+      told (Some bytes) (Some more) taken Version stops = absurd stops
+      told (Some bytes) (Some more) taken HashCount stops = absurd stops
+      told (Some bytes) (Some more) taken EmptyWords stops = absurd stops
+      told (Some bytes) (Some more) taken TooManyWords stops = absurd stops
+      told (Some bytes) (Some more) taken Cut stops = absurd stops
+      told (Some bytes) (Some more) taken Reserved stops = absurd stops
+      told (Some bytes) (Some more) taken Seal stops = absurd stops
+      told (Some bytes) (Some more) taken Memory stops = absurd stops
+
+  -- the reader is at its end
+  module _ (last : Option (List ℕ)) (nothing : Consumes end last []) (at_end : IsAtEnd last) where
+    -- just the head and the words were read
+    pub all-read : Consumes old last (start ++ bytes_of words)
+    all-read =
+        subst (Consumes old last) (append-nil (start ++ bytes_of words))
+        (Consumes-trans old end last (start ++ bytes_of words) [] both nothing)
+
+    -- what the head and the words are refused for is told
+    told : (error : Option FileError) → error ≡ file_refusal (start ++ bytes_of words)
+        → IfSome old (λ bytes. IsReadAs bytes error)
+    told error is =
+        Consumes-whole old last (start ++ bytes_of words) (λ bytes. IsReadAs bytes error) all-read
+        at_end (inl is)
+
+    -- the refusal of what is reserved
+    pub told-reserved : (error : FileError) → Some error ≡ reserved_refusal start
+        → IfSome old (λ bytes. IsReadAs bytes (Some error))
+    told-reserved error is =
+        told (Some error)
+        (sym (file_refusal-head start (bytes_of words) size right
+        ∙ (λ i. option_or (good i) (option_or (sym is i)
+        (wrong_seal (number_at start 5) (sip 0 0 (take 40 start ++ bytes_of words)))))))
+
+    -- the hasher's answer is the right seal
+    pub right-seal : (hash : ℕ) → Hashed f 0 0 (take 40 start) → Answers h hash
+        → hash ≡ sip 0 0 (take 40 start ++ bytes_of words)
+    right-seal hash begun answers =
+        answers 0 0 _ (reads.hashed 0 0 (take 40 start) begun)
+        ∙ ap (λ l. sip 0 0 (take 40 start ++ bytes_of l)) (sym reads.behind)
+
+    -- the refusal of the seal, or none
+    pub told-seal : (error : Option FileError) (hash : ℕ) → Hashed f 0 0 (take 40 start)
+        → Answers h hash → reserved_refusal start ≡ None
+        → error ≡ wrong_seal (number_at start 5) hash → IfSome old (λ bytes. IsReadAs bytes error)
+    told-seal error hash begun answers none is =
+        told error
+        (is ∙ ap (wrong_seal (number_at start 5)) (right-seal hash begun answers)
+        ∙ sym (file_refusal-head start (bytes_of words) size right
+        ∙ (λ i. option_or (good i) (option_or (none i)
+        (wrong_seal (number_at start 5) (sip 0 0 (take 40 start ++ bytes_of words)))))))
+
+    -- the filter that the head tells of, with these words, is that of the bytes that were read
+    pub reads-file : (hash : ℕ) (filter : DefaultFilter) → Hashed f 0 0 (take 40 start)
+        → Answers h hash → wrong_seal (number_at start 5) hash ≡ None
+        → head_of filter ≡ head_in start → filter.words ≡ words → FitsWords filter
+        → start ≡ bytes_of (head_numbers (head_in start) (number_at start 5))
+        → ReadsFile old last filter
+    reads-file hash filter begun answers sealed is_head is_words fits back = record {
+      bytes = start ++ bytes_of words;
+      taken = all-read;
+      is_file =
+          is-file start words filter size good is_head is_words fits back
+          (good-seal (number_at start 5) (sip 0 0 (take 40 start ++ bytes_of words))
+          (ap (wrong_seal (number_at start 5)) (sym (right-seal hash begun answers)) ∙ sealed));
+      end = at_end;
+    }
