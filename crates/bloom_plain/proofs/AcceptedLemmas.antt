@@ -1,5 +1,5 @@
 -- What follows where a file isn't refused.
-use Rattle.std.proofs.Common.{◌≡◌, ℕ, ◌+◌, ◌*◌, ◌%◌, List, [], ◌++◌, length, length-take, length-drop, length-append, take, drop, take-append-drop, take_all, Option, Some, None, refl, sym, ap, ◌∙◌, arith, inl, inr}
+use Rattle.std.proofs.Common.{◌≡◌, ℕ, ◌+◌, ◌*◌, ◌%◌, ◌^◌, ◌<◌, List, [], ◌++◌, length, length-take, length-drop, length-append, take, drop, take-append-drop, take_all, Option, Some, None, refl, sym, ap, ◌∙◌, arith, inl, inr}
 use Rattle.std.specs.Prelude.{◌⊎◌}
 use Rattle.std.proofs.lemmas.Grind.{common_steps}
 use Rattle.bloom_parts.specs.Sip.{sip, whole_words}
@@ -51,11 +51,11 @@ module _ (bytes head body : List ℕ) (is_head : head ≡ take 64 bytes) (is_bod
 
   -- a filter that the head tells of, with the words of the file, is the file's
   pub accepted : (words : List ℕ) (f : DefaultFilter) → bytes_of words ≡ body
-      → head_of f ≡ head_in head → f.words ≡ words → FitsWords f
+      → head_of f ≡ head_in head → f.words ≡ words → FitsWords f → number_at head 5 < 2 ^ 64
       → head ≡ bytes_of (head_numbers (head_in head) (number_at head 5)) → IsFileOf bytes f
-  accepted words f same told is_words fits back =
+  accepted words f same told is_words fits narrow back =
       rw (whole, sym same)
-      (is-file head words f head-size head-good told is_words fits back
+      (is-file head words f head-size head-good told is_words fits narrow back
       (rw (same) sealed))
 
   -- the words of the bytes behind the head, which come behind none

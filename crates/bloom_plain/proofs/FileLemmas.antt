@@ -87,7 +87,7 @@ good-seal found wanted none = grind (arith, common_steps)
 -- a head that isn't refused, with the words that it tells of, is a file of the filter
 module _ (head words : List ℕ) (f : DefaultFilter) (size : length head ≡ 64)
     (is_good : head_refusal head ≡ None) (told : head_of f ≡ head_in head)
-    (is_words : f.words ≡ words) (fits : FitsWords f)
+    (is_words : f.words ≡ words) (fits : FitsWords f) (narrow : number_at head 5 < 2 ^ 64)
     (back : head ≡ bytes_of (head_numbers (head_in head) (number_at head 5))) where
   -- the seal of the file is that of the filter
   seal-same : sip 0 0 (take 40 head ++ bytes_of words) ≡ seal_of (head_of f) f.words
@@ -107,6 +107,7 @@ module _ (head words : List ℕ) (f : DefaultFilter) (size : length head ≡ 64)
       → IsFileOf (head ++ bytes_of words) f
   is-file sealed = record {
     seal = number_at head 5;
+    narrow = narrow;
     sealed = elim sealed [ inl none ↦ inl none | inr right ↦ inr (right ∙ seal-same) ];
     is =
         (λ i. back i ++ bytes_of words)

@@ -7,6 +7,7 @@ pub mod CaseLemmas
 mod DataFacts
 mod DataLemmas
 mod EqualityFacts
+mod FileLawLemmas
 mod FileLemmas
 mod FilterFacts
 mod FoundLemmas

@@ -161,3 +161,11 @@ bytes-again bytes small whole =
     sym (append-nil (bytes_of (whole_words bytes)))
     ∙ ap (λ l. bytes_of (whole_words bytes) ++ l) (sym (rest-none bytes whole))
     ∙ bytes_of-whole_words bytes small
+
+-- the numbers of bytes that stand for numbers alone
+pub whole_words-alone : (numbers : List ℕ) → AreWords numbers
+    → whole_words (bytes_of numbers) ≡ numbers
+unfolding whole_words
+whole_words-alone numbers fit =
+    ap whole_words (sym (append-nil (bytes_of numbers)))
+    ∙ whole_words-bytes numbers [] fit ∙ append-nil numbers

@@ -1,5 +1,5 @@
 -- What a file that is read part by part comes to.
-use Rattle.std.proofs.Common.{◌≡◌, ◌≢◌, ℕ, ◌+◌, ◌*◌, ◌<◌, List, [], ◌++◌, length, length-append, take, Option, Some, None, refl, sym, ap, subst, ◌∙◌, arith, append_assoc, append-nil, inl, inr}
+use Rattle.std.proofs.Common.{◌≡◌, ◌≢◌, ℕ, ◌+◌, ◌*◌, ◌^◌, ◌<◌, List, [], ◌++◌, length, length-append, take, Option, Some, None, refl, sym, ap, subst, ◌∙◌, arith, append_assoc, append-nil, inl, inr}
 use Rattle.std.specs.Prelude.{◌⊎◌, IfSome}
 use Rattle.std.specs.Option.{option_or}
 use Rattle.std.specs.Io.KnownBytes.{Consumes, IsAtEnd}
@@ -129,13 +129,14 @@ module _ (old mid end : Option (List ℕ)) (start : List ℕ) (size : length sta
     pub reads-file : (hash : ℕ) (filter : DefaultFilter) → Hashed f 0 0 (take 40 start)
         → Answers h hash → wrong_seal (number_at start 5) hash ≡ None
         → head_of filter ≡ head_in start → filter.words ≡ words → FitsWords filter
+        → number_at start 5 < 2 ^ 64
         → start ≡ bytes_of (head_numbers (head_in start) (number_at start 5))
         → ReadsFile old last filter
-    reads-file hash filter begun answers sealed is_head is_words fits back = record {
+    reads-file hash filter begun answers sealed is_head is_words fits narrow back = record {
       bytes = start ++ bytes_of words;
       taken = all-read;
       is_file =
-          is-file start words filter size good is_head is_words fits back
+          is-file start words filter size good is_head is_words fits narrow back
           (good-seal (number_at start 5) (sip 0 0 (take 40 start ++ bytes_of words))
           (ap (wrong_seal (number_at start 5)) (sym (right-seal hash begun answers)) ∙ sealed));
       end = at_end;

@@ -10,6 +10,8 @@ use Rattle.bloom_parts.specs.Content.{AreWords}
 use Rattle.bloom_parts.specs.Hashed.{SipState, Takes}
 use Rattle.bloom_parts.specs.Keys.{HasKey, key_of}
 use Rattle.bloom_parts.specs.Sip.{sip, whole_words}
+use Rattle.bloom_parts.specs.declared.hasher.CloneBuildHasher.{CloneBuildHasher}
+use Rattle.bloom_parts.specs.declared.hasher.sip.RandomDefaultHasher.{RandomDefaultHasher}
 use Rattle.bloom_plain.specs.declared.file.head.Head.{Head}
 use Rattle.bloom_plain.specs.declared.file.error.FileError.{FileError}
 use Rattle.bloom_plain.specs.declared.file.error.FileError.TheVariants.{NotAFilter, Version, HashCount, EmptyWords, TooManyWords, Cut, TooLong, Reserved, Seal, Memory, Input}
@@ -63,9 +65,10 @@ pub record FitsWords (f : DefaultFilter) : Type 0 where
   pub low : (key_of f.hasher).0 < 2 ^ 64
   pub high : (key_of f.hasher).1 < 2 ^ 64
 
--- the bytes are a file of the filter
+-- the bytes are a file of the filter, with a seal of 64 bits
 pub record IsFileOf (bytes : List ℕ) (f : DefaultFilter) : Type 0 where
   pub seal : ℕ
+  pub narrow : seal < 2 ^ 64
   pub sealed : IsSealOf seal f
   pub is : bytes ≡ file_with (head_of f) seal f.words
   pub shape : HasShape f
@@ -200,6 +203,13 @@ IsToldOf known error =
 abbrev pub FileLaw : Type 0
 FileLaw = (bytes : List ℕ) (f g : DefaultFilter) → IsFileOf bytes f → IsFileOf bytes g
     → AnswerAlike f g
+
+-- filters of one file whose hashers have taken in nothing give each item one source hash
+abbrev pub SameFileItemsLaw :
+    {T : Type 0} → (CloneBuildHasher RandomDefaultHasher → T → ℕ) → Type 0
+SameFileItemsLaw {T} hash_of =
+    (bytes : List ℕ) (f g : DefaultFilter) → IsFileOf bytes f → IsFileOf bytes g → HasOwnKey f
+    → HasOwnKey g → (item : T) → hash_of g.hasher item ≡ hash_of f.hasher item
 
 -- a file of a filter is never refused
 abbrev pub ReadableLaw : Type 0

@@ -5,6 +5,7 @@ ghost use Rattle.bloom_parts.specs.Keys.{HasKey};
 ghost use Rattle.bloom_parts.specs.Sip.{sip};
 ghost use Rattle.bloom_parts.specs.declared.hasher.CloneBuildHasher.{CloneBuildHasher as Builder};
 ghost use Rattle.bloom_plain.specs.Data.{DataLaw, SameItemsLaw};
+ghost use Rattle.bloom_plain.specs.File.{FileLaw, ReadableLaw, SameFileItemsLaw};
 ghost use Rattle.bloom_plain.specs.Filter.{Unites, Intersects};
 ghost use Rattle.bloom_plain.specs.Laws.{InsertLaw, KeptByInsertLaw, KeptByUnionLaw, KeptByListLaw, KeptByInsertsLaw, IntersectionLaw, UnionLaw, ClearLaw, IsCommutative, IsAssociative, IsIdempotent, RebuiltLaw, EqualityLaw, EqualContentLaw, EqualStartsLaw, EqualRateStartsLaw, JoinedListsLaw, UnitedInsertsLaw, FoundLaw, FoundAfterInsertsLaw, FoundAfterReplayLaw};
 ghost use Rattle.bloom_plain.specs.SourceHash.{source_hash_of, IsFunctionOfBytes};
@@ -115,6 +116,18 @@ pub fn data_answer_alike<T: Hash>()
     // The left and right sides are what `source_hash` answers.
     ensures items { SameItemsLaw (source_hash_of ⟦<DefaultHasher as BuildHasher>⟧
         ⟦<RandomDefaultHasher as Hasher>⟧ T.hash_input) }
+{
+    source_hash_by_default::<T>();
+}
+
+/// A filter that is read from another's file has its words, number of hashes and key, and answers
+/// every hash and every item alike. A file of a filter is never refused.
+pub fn file_reads_back<T: Hash>()
+    ensures filters { FileLaw }
+    // The left and right sides are what `source_hash` answers.
+    ensures items { SameFileItemsLaw (source_hash_of ⟦<DefaultHasher as BuildHasher>⟧
+        ⟦<RandomDefaultHasher as Hasher>⟧ T.hash_input) }
+    ensures readable { ReadableLaw }
 {
     source_hash_by_default::<T>();
 }

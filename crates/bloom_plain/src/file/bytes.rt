@@ -5,7 +5,9 @@ ghost use Rattle.bloom_plain.specs.File.{FitsWords, HasOwnKey, IsFileOf, IsRefus
 ghost use Rattle.bloom_plain.specs.Filter.{HasShape, IsShape};
 
 use super::error::FileError;
-use super::head::{HEAD, Head, check_head, check_reserved, check_seal, head_bytes, head_in, seal, seal_in};
+use super::head::{
+    HEAD, Head, check_head, check_reserved, check_seal, head_bytes, head_in, seal, seal_in,
+};
 use super::numbers::{number_at, push_numbers};
 use crate::bloom::BloomFilter;
 use bloom_parts::bit_vector::BitVec;

@@ -122,7 +122,9 @@ pub(super) fn head_in(bytes: &[u8]) -> Head
     // The bytes of such a head, where its last numbers are 0, are those that were read.
     ensures bytes { length bytes.now ≡ 64 → reserved_refusal bytes.now ≡ None
         → bytes.now ≡ bytes_of (head_numbers (head_in bytes.now) (number_at bytes.now 5)) }
+    ensures seal { number_at bytes.now 5 < 2 ^ 64 }
 {
+    let _seal = number_at(bytes, 5);
     Head {
         num_hashes: number_at(bytes, 1) as u32,
         num_words: number_at(bytes, 2) as usize,

@@ -33,6 +33,6 @@ returns-clause-file c =
     accepted bytes _ _ cut.front cut.back none c.push_numbers.new.words.items c.filter_with.result
     (words-bytes bytes _ _ cut.front cut.back none _ _ c.in_ok-words.ensures.items pushed.words
     pushed.bytes)
-    (made.head ∙ head.head) made.words made.range
+    (made.head ∙ head.head) made.words made.range head.seal
     (head.bytes (head-size bytes _ _ cut.front cut.back none)
     (reserved-good bytes _ _ cut.front cut.back none))

@@ -61,7 +61,7 @@ returns-clause-file g c =
     (read.count ∙ ap (λ (h : Head). h.num_words) head.head) _ ended.nothing ended.end
     c.finish.result _ (c.write.ensures.taken 0 0 [] c.default-hasher.ensures) c.finish.ensures.hash
     (ap (λ n. wrong_seal n c.finish.result) (sym c.number_at.ensures.value)
-    ∙ sym c.in_ok-check_seal.ensures) (made.head ∙ head.head) made.words made.range
+    ∙ sym c.in_ok-check_seal.ensures) (made.head ∙ head.head) made.words made.range head.seal
     (head.bytes begun.size none)
 
 pub returns-clause-refused : goal.returns-clause-refused
