@@ -1,10 +1,10 @@
 -- What follows where a file isn't refused.
-use Rattle.std.proofs.Common.{◌≡◌, ℕ, ◌+◌, ◌*◌, ◌%◌, ◌^◌, ◌<◌, List, [], ◌++◌, length, length-take, length-drop, length-append, take, drop, take-append-drop, take_all, Option, Some, None, refl, sym, ap, ◌∙◌, arith, inl, inr}
+use Rattle.std.proofs.Common.{◌≡◌, ℕ, ◌*◌, ◌%◌, ◌^◌, ◌<◌, List, [], ◌++◌, length, length-take, length-drop, take, drop, take-append-drop, None, sym, ap, ◌∙◌, arith}
 use Rattle.std.specs.Prelude.{◌⊎◌}
 use Rattle.std.proofs.lemmas.Grind.{common_steps}
 use Rattle.bloom_parts.specs.Sip.{sip, whole_words}
 use Rattle.bloom_plain.specs.Data.{DefaultFilter}
-use Rattle.bloom_plain.specs.File.{FitsWords, IsFileOf, bytes_of, file_refusal, file_size, head_in, head_numbers, head_of, head_refusal, number_at, reserved_refusal, seal_in, seal_refusal, size_refusal}
+use Rattle.bloom_plain.specs.File.{FitsWords, IsFileOf, bytes_of, file_refusal, file_size, head_in, head_numbers, head_of, head_refusal, number_at, reserved_refusal, seal_refusal, size_refusal}
 use Rattle.bloom_plain.specs.Filter.{IsShape}
 use Rattle.bloom_plain.proofs.FileLemmas.{good, good-seal, is-file, neither}
 use Rattle.bloom_plain.proofs.NumberLemmas.{length-whole_words}

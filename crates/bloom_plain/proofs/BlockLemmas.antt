@@ -1,8 +1,8 @@
 -- Words that are written and read block by block.
-use Rattle.std.proofs.Common.{◌≡◌, ℕ, ◌+◌, ◌*◌, ◌%◌, ◌<◌, ◌≤◌, List, [], ◌++◌, length, length-append, take, take_all, Option, Some, None, refl, sym, ap, subst, arith, ◌∙◌, append_assoc, append-nil}
+use Rattle.std.proofs.Common.{◌≡◌, ℕ, ◌+◌, ◌*◌, ◌%◌, ◌≤◌, List, [], ◌++◌, length, length-append, take, take_all, Option, Some, None, refl, sym, ap, subst, arith, ◌∙◌, append_assoc, append-nil}
 use Rattle.std.specs.Io.KnownBytes.{Appends, Consumes}
 use Rattle.std.proofs.KnownBytes.{Appends-trans, Consumes-nil, Consumes-trans}
-use Rattle.lines.specs.Writing.{Begins, AppendsPart}
+use Rattle.lines.specs.Writing.{AppendsPart}
 use Rattle.lines.proofs.WritingLemmas.{IsWriting}
 use Rattle.bloom_parts.specs.Hashed.{SipState, Hashed, Takes}
 use Rattle.bloom_parts.specs.Sip.{whole_words}

@@ -1,6 +1,6 @@
 -- Files of filters read back as these filters.
-use Rattle.std.proofs.Common.{◌≡◌, ℕ, zero, suc, ◌+◌, ◌*◌, ◌^◌, ◌<◌, ◌≤◌, List, [], ◌∷◌, ◌++◌, length, take, drop, Bool, true, false, not, ◌&&◌, ◌||◌, cond, Option, Some, None, refl, sym, ap, ◌∙◌, arith, append-nil, inl, inr, lit<}
-use Rattle.std.specs.Prelude.{◌⊎◌, slice_index, nat_eq, nat_le, nat_lt}
+use Rattle.std.proofs.Common.{◌≡◌, ℕ, zero, suc, ◌*◌, ◌^◌, ◌<◌, ◌≤◌, List, [], ◌∷◌, ◌++◌, length, take, drop, ◌&&◌, cond, Some, None, refl, sym, ap, ◌∙◌, arith, inl, inr, lit<}
+use Rattle.std.specs.Prelude.{◌⊎◌, slice_index, nat_eq}
 use Rattle.std.specs.Option.{option_or}
 use Rattle.std.proofs.lemmas.Grind.{common_steps}
 use Rattle.bloom_parts.specs.Content.{AreWords}
@@ -10,8 +10,8 @@ use Rattle.bloom_parts.specs.declared.hasher.CloneBuildHasher.{CloneBuildHasher}
 use Rattle.bloom_parts.specs.declared.hasher.sip.RandomDefaultHasher.{RandomDefaultHasher}
 use Rattle.bloom_plain.specs.declared.file.error.FileError.TheVariants.{Reserved}
 use Rattle.bloom_plain.specs.declared.file.head.Head.{Head}
-use Rattle.bloom_plain.specs.Data.{AnswerAlike, DefaultFilter}
-use Rattle.bloom_plain.specs.File.{FileLaw, IsFileOf, ReadableLaw, SameFileItemsLaw, bytes_of, file_refusal, file_with, has_number, head_numbers, head_of, head_refusal, is_hash_count, mark, number_at, opening, reserved_refusal, seal_of, wrong_seal}
+use Rattle.bloom_plain.specs.Data.{DefaultFilter}
+use Rattle.bloom_plain.specs.File.{FileLaw, IsFileOf, ReadableLaw, SameFileItemsLaw, bytes_of, file_refusal, head_numbers, head_of, head_refusal, mark, number_at, reserved_refusal, seal_of, wrong_seal}
 use Rattle.bloom_plain.proofs.DataLemmas.{alike-parts}
 use Rattle.bloom_plain.proofs.NumberLemmas.{length-bytes_of, whole_words-alone, whole_words-bytes}
 use Rattle.bloom_plain.proofs.RefusalLemmas.{file_refusal-head}

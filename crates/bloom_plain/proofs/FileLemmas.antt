@@ -1,17 +1,15 @@
 -- A file that isn't refused is the file of a filter.
-use Rattle.std.proofs.Common.{◌≡◌, ℕ, zero, suc, ◌+◌, ◌*◌, ◌%◌, ◌^◌, ◌<◌, ◌≤◌, List, [], ◌∷◌, ◌++◌, length, take, drop, Bool, true, false, not, ◌&&◌, ◌||◌, cond, Option, Some, None, refl, sym, ap, ◌∙◌, arith, append-nil, inl, inr}
-use Rattle.std.specs.Prelude.{◌⊎◌, slice_index, nat_eq, nat_le, nat_lt}
+use Rattle.std.proofs.Common.{◌≡◌, ℕ, ◌^◌, ◌<◌, List, [], ◌∷◌, ◌++◌, length, take, Bool, true, false, cond, Option, Some, None, refl, sym, ap, ◌∙◌, arith, inl, inr}
+use Rattle.std.specs.Prelude.{◌⊎◌, slice_index}
 use Rattle.std.proofs.lemmas.Bool.{le-leb}
 use Rattle.std.proofs.lemmas.Grind.{common_steps}
 use Rattle.std.specs.Option.{option_or}
 use Rattle.bloom_parts.specs.Buffers.{AreBytes}
-use Rattle.bloom_parts.specs.Content.{AreWords}
-use Rattle.bloom_parts.specs.Keys.{key_of}
-use Rattle.bloom_parts.specs.Sip.{sip, whole_words, rest}
+use Rattle.bloom_parts.specs.Sip.{sip, whole_words}
 use Rattle.bloom_plain.specs.declared.file.error.FileError.{FileError}
 use Rattle.bloom_plain.specs.declared.file.head.Head.{Head}
 use Rattle.bloom_plain.specs.Data.{DefaultFilter}
-use Rattle.bloom_plain.specs.File.{FitsWords, IsFileOf, IsSealOf, bytes_of, file_of, file_with, has_number, head_in, head_numbers, head_of, head_refusal, is_hash_count, mark, number_at, opening, reserved_refusal, seal_of, wrong_seal}
+use Rattle.bloom_plain.specs.File.{FitsWords, IsFileOf, bytes_of, file_of, file_with, has_number, head_in, head_numbers, head_of, head_refusal, mark, number_at, reserved_refusal, seal_of, wrong_seal}
 use Rattle.bloom_plain.specs.Filter.{HasShape, IsShape}
 use Rattle.bloom_plain.proofs.NumberLemmas.{bytes-again, length-whole_words}
 use Rattle.bloom_plain.proofs.SealLemmas.{take-head}

@@ -1,12 +1,11 @@
 -- Numbers of 64 bits as little-endian bytes, and bytes read as such numbers.
-use Rattle.std.proofs.Common.{◌≡◌, ℕ, zero, suc, ◌+◌, ◌*◌, ◌/◌, ◌%◌, ◌^◌, ◌<◌, ◌≤◌, List, [], ◌∷◌, ◌++◌, length, get_or, take, refl, ap, ◌∙◌, sym, arith, append_assoc, append-nil}
+use Rattle.std.proofs.Common.{◌≡◌, ℕ, zero, suc, ◌+◌, ◌*◌, ◌/◌, ◌%◌, ◌<◌, ◌≤◌, List, [], ◌∷◌, ◌++◌, length, get_or, take, refl, ap, ◌∙◌, sym, arith, append-nil}
 use Rattle.std.proofs.lemmas.List.{get_or-map, get_or_past, take_more}
 use Rattle.std.proofs.lemmas.List.Concat.{flat_map-append}
 use Rattle.std.proofs.lemmas.Nat.{le_bytes_8, from_le_bytes-to_le_bytes_8}
 use Rattle.std.specs.Prelude.{map, slice_index}
 use Rattle.std.specs.Simd.{first_chunks}
 use Rattle.std.specs.Int.{w64, to_le_bytes, from_le_bytes}
-use Rattle.std.specs.List.{flat_map}
 use Rattle.bloom_parts.specs.Buffers.{AreBytes}
 use Rattle.bloom_parts.specs.Content.{AreWords}
 use Rattle.bloom_parts.specs.Sip.{whole_words, rest}

@@ -1,16 +1,15 @@
 -- What a file that is read part by part comes to.
-use Rattle.std.proofs.Common.{◌≡◌, ◌≢◌, ℕ, ◌+◌, ◌*◌, ◌^◌, ◌<◌, List, [], ◌++◌, length, length-append, take, Option, Some, None, refl, sym, ap, subst, ◌∙◌, arith, append_assoc, append-nil, inl, inr}
-use Rattle.std.specs.Prelude.{◌⊎◌, IfSome}
+use Rattle.std.proofs.Common.{◌≡◌, ℕ, ◌*◌, ◌^◌, ◌<◌, List, [], ◌++◌, length, length-append, take, Option, Some, None, refl, sym, ap, subst, ◌∙◌, arith, append_assoc, append-nil, inl, inr}
+use Rattle.std.specs.Prelude.{IfSome}
 use Rattle.std.specs.Option.{option_or}
 use Rattle.std.specs.Io.KnownBytes.{Consumes, IsAtEnd}
 use Rattle.std.proofs.KnownBytes.{Consumes-trans, Consumes-whole}
-use Rattle.bloom_parts.specs.Hashed.{SipState, Hashed, Takes, Answers}
+use Rattle.bloom_parts.specs.Hashed.{SipState, Hashed, Answers}
 use Rattle.bloom_parts.specs.Sip.{sip}
 use Rattle.bloom_plain.specs.declared.file.error.FileError.{FileError}
 use Rattle.bloom_plain.specs.declared.file.error.FileError.TheVariants.{NotAFilter, Version, HashCount, EmptyWords, TooManyWords, Cut, TooLong, Reserved, Seal, Memory, Input}
 use Rattle.bloom_plain.specs.Data.{DefaultFilter}
 use Rattle.bloom_plain.specs.File.{FitsWords, IsReadAs, ReadsFile, ReadsWords, StopsEnd, StopsWords, bytes_of, file_refusal, head_in, head_numbers, head_of, head_refusal, number_at, reserved_refusal, wrong_seal}
-use Rattle.bloom_plain.proofs.BlockLemmas.{length-read}
 use Rattle.bloom_plain.proofs.FileLemmas.{good-seal, is-file}
 use Rattle.bloom_plain.proofs.NumberLemmas.{length-bytes_of}
 use Rattle.bloom_plain.proofs.RefusalLemmas.{file_refusal-head, file_refusal-size, head_refusal-head, size_refusal-cut, size_refusal-long}

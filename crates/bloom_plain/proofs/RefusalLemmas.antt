@@ -1,13 +1,13 @@
 -- How the refusal of a file follows from its head and the bytes behind it.
-use Rattle.std.proofs.Common.{◌≡◌, ℕ, ◌+◌, ◌*◌, ◌%◌, ◌^◌, ◌<◌, ◌≤◌, List, ◌++◌, length, take, drop, Bool, true, false, not, ◌&&◌, ◌||◌, cond, Option, Some, None, refl, sym, ap, ◌∙◌, arith, length-append}
+use Rattle.std.proofs.Common.{◌≡◌, ℕ, ◌+◌, ◌*◌, ◌%◌, ◌^◌, ◌<◌, List, ◌++◌, length, take, Bool, not, ◌&&◌, cond, Option, Some, None, sym, ap, ◌∙◌, arith, length-append}
 use Rattle.std.specs.Prelude.{slice_index, nat_eq, nat_le, nat_lt}
 use Rattle.std.specs.Option.{option_or}
 use Rattle.std.proofs.lemmas.Bool.{le-leb, lt-ltb, le-ltb}
 use Rattle.std.proofs.lemmas.List.{drop_at, get_or_append_left, take-append-le}
 use Rattle.bloom_parts.specs.Sip.{sip, whole_words}
 use Rattle.bloom_plain.specs.declared.file.error.FileError.{FileError}
-use Rattle.bloom_plain.specs.declared.file.error.FileError.TheVariants.{NotAFilter, Version, HashCount, EmptyWords, TooManyWords, Cut, TooLong, Reserved, Seal}
-use Rattle.bloom_plain.specs.File.{file_refusal, file_size, has_number, head_refusal, is_hash_count, mark, number_at, reserved_refusal, seal_in, seal_refusal, size_refusal, wrong_seal}
+use Rattle.bloom_plain.specs.declared.file.error.FileError.TheVariants.{NotAFilter, Version, HashCount, EmptyWords, TooManyWords, Cut, TooLong, Reserved}
+use Rattle.bloom_plain.specs.File.{file_refusal, has_number, head_refusal, is_hash_count, mark, number_at, reserved_refusal, seal_in, seal_refusal, size_refusal, wrong_seal}
 use Rattle.bloom_plain.proofs.NumberLemmas.{length-whole_words, whole_words-append}
 
 -- the refusal of a head, by its first numbers and by which of them are there

@@ -1,5 +1,5 @@
 -- The seal of a file: what its hasher has taken in.
-use Rattle.std.proofs.Common.{◌≡◌, ℕ, ◌+◌, ◌<◌, List, [], ◌∷◌, ◌++◌, length, take, refl, subst, sym, ap, ◌∙◌, append_assoc, append-nil}
+use Rattle.std.proofs.Common.{◌≡◌, ℕ, ◌+◌, ◌<◌, List, [], ◌++◌, length, take, subst, sym, ap, ◌∙◌, append_assoc, append-nil}
 use Rattle.std.specs.Prelude.{slice_index}
 use Rattle.std.specs.Int.{w64, to_le_bytes}
 use Rattle.bloom_parts.specs.Hashed.{SipState, Hashed, Takes}

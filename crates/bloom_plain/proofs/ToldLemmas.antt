@@ -1,13 +1,12 @@
 -- What is said of a file that isn't read to its end.
-use Rattle.std.proofs.Common.{◌≡◌, ℕ, ◌*◌, ◌<◌, ◌≤◌, List, [], ◌++◌, length, length-take, take, Option, Some, None, sym, ap, ◌∙◌, subst, arith, append-nil, inl, inr}
+use Rattle.std.proofs.Common.{◌≡◌, ℕ, ◌<◌, ◌≤◌, List, ◌++◌, length, length-take, take, Option, Some, None, ap, ◌∙◌, arith, append-nil, inl, inr}
 use Rattle.std.specs.Prelude.{◌⊎◌, IfSome}
 use Rattle.std.proofs.lemmas.Bool.{cases_lt}
 use Rattle.std.specs.Option.{option_or}
 use Rattle.std.specs.Io.KnownBytes.{Consumes, IsAtEnd}
 use Rattle.bloom_plain.specs.declared.file.error.FileError.{FileError}
-use Rattle.bloom_plain.specs.declared.file.error.FileError.TheVariants.{Cut, TooLong}
-use Rattle.bloom_plain.specs.File.{file_refusal, head_refusal, number_at, reserved_refusal, seal_refusal, size_refusal}
-use Rattle.bloom_plain.proofs.RefusalLemmas.{file_refusal-size, head_refusal-head, size_refusal-cut, size_refusal-long}
+use Rattle.bloom_plain.specs.File.{file_refusal, head_refusal, reserved_refusal, seal_refusal, size_refusal}
+use Rattle.bloom_plain.proofs.RefusalLemmas.{head_refusal-head}
 
 -- a head that is refused decides for the file
 file_refusal-first : (bytes : List ℕ) (error : FileError) → head_refusal bytes ≡ Some error

@@ -1,4 +1,4 @@
-use Rattle.std.proofs.Common.{◌≡◌, ◌++◌, length, ap, sym, ◌∙◌, arith, take_all}
+use Rattle.std.proofs.Common.{◌++◌, ap, sym, ◌∙◌, arith, take_all}
 use Rattle.std.specs.Prelude.{map}
 use Rattle.std.specs.Int.{w64, from_le_bytes}
 use Rattle.bloom_plain.proofs.NumberLemmas.{bytes-again, whole_words-chunks}

@@ -1,4 +1,4 @@
-use Rattle.std.proofs.Common.{◌≡◌, ◌<◌, Err, [], length, arith, rules}
+use Rattle.std.proofs.Common.{◌≡◌, ◌<◌, Err, length, arith, rules}
 use Rattle.std.proofs.lemmas.List.{nil_from_length}
 use Rattle.bloom_plain.proofs.BlockLemmas.{written-more, written-part, written-whole}
 use Rattle.bloom_plain.proofs.file.streams.put_words.Goals as goal

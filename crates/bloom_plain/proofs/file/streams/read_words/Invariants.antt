@@ -1,4 +1,4 @@
-use Rattle.std.proofs.Common.{◌≡◌, ◌≤◌, ◌-◌, [], length}
+use Rattle.std.proofs.Common.{◌≤◌, ◌-◌, [], length}
 use Rattle.bloom_plain.specs.File.{ReadsWords}
 use Rattle.bloom_plain.proofs.file.streams.read_words.Given as goal
 

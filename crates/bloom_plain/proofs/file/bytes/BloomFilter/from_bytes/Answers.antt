@@ -1,4 +1,4 @@
-use Rattle.std.proofs.Common.{length, ap, sym, ◌∙◌}
+use Rattle.std.proofs.Common.{ap, sym, ◌∙◌}
 use Rattle.bloom_plain.specs.declared.file.head.Head.{Head}
 use Rattle.bloom_plain.proofs.AcceptedLemmas.{accepted, head-good, head-size, reserved-good, words-bytes, words-count, words-shape}
 use Rattle.bloom_plain.proofs.file.bytes.BloomFilter.from_bytes.Goals as goal

@@ -1,4 +1,4 @@
-use Rattle.std.proofs.Common.{◌≡◌, [], Err, rules, length, length-take, arith, ap, sym, ◌∙◌}
+use Rattle.std.proofs.Common.{◌≡◌, [], Err, rules, length-take, arith, ap, sym, ◌∙◌}
 use Rattle.bloom_plain.specs.declared.file.head.Head.{Head}
 use Rattle.bloom_plain.specs.File.{wrong_seal}
 use Rattle.bloom_plain.proofs.ReadLemmas.{reads-file, told-end, told-reserved, told-seal, told-words}
