@@ -15,8 +15,8 @@ right-size : (bytes : List ℕ) → size_refusal bytes ≡ None → length bytes
 right-size bytes none = grind (arith, common_steps)
 
 -- a file that isn't refused, cut behind its head
-module _ (bytes head body : List ℕ) (is_head : head ≡ take 64 bytes) (is_body : body ≡ drop 64 bytes)
-    (none : file_refusal bytes ≡ None) where
+module _ (bytes head body : List ℕ) (is_head : head ≡ take 64 bytes)
+    (is_body : body ≡ drop 64 bytes) (none : file_refusal bytes ≡ None) where
   size : length bytes ≡ file_size bytes
   size = right-size bytes (neither _ _ (neither _ _ none).1).0
 
@@ -28,7 +28,8 @@ module _ (bytes head body : List ℕ) (is_head : head ≡ take 64 bytes) (is_bod
 
   pub head-good : head_refusal head ≡ None
   head-good =
-      sym (head_refusal-head head body head-size) ∙ ap head_refusal (sym whole) ∙ (neither _ _ none).0
+      sym (head_refusal-head head body head-size) ∙ ap head_refusal (sym whole)
+      ∙ (neither _ _ none).0
 
   pub reserved-good : reserved_refusal head ≡ None
   reserved-good =

@@ -56,7 +56,8 @@ module _ (text words : List ℕ) (from to : Option (List ℕ))
   pub written-whole : words ≡ [] → Appends from to text
   written-whole none =
       subst (Appends from to)
-      (sym (so_far.cut ∙ ap (λ l. so_far.written ++ l) (no-bytes words none) ∙ append-nil so_far.written))
+      (sym (so_far.cut ∙ ap (λ l. so_far.written ++ l) (no-bytes words none)
+      ∙ append-nil so_far.written))
       so_far.appended
 
 -- a block of words was read

@@ -90,7 +90,8 @@ module _ (head words : List ℕ) (f : DefaultFilter) (size : length head ≡ 64)
   -- the seal of the file is that of the filter
   seal-same : sip 0 0 (take 40 head ++ bytes_of words) ≡ seal_of (head_of f) f.words
   seal-same =
-      ap (λ l. sip 0 0 (l ++ bytes_of words)) (take-head (head_in head) (number_at head 5) head back)
+      ap (λ l. sip 0 0 (l ++ bytes_of words))
+      (take-head (head_in head) (number_at head 5) head back)
       ∙ (λ i. seal_of (sym told i) (sym is_words i))
 
   -- the filter has the shape that the head tells
@@ -101,7 +102,8 @@ module _ (head words : List ℕ) (f : DefaultFilter) (size : length head ≡ 64)
       rw (words, hashes) (good head size is_good).shape
 
   -- the bytes are the file
-  pub is-file : (number_at head 5 ≡ 0) ⊎ (number_at head 5 ≡ sip 0 0 (take 40 head ++ bytes_of words))
+  pub is-file :
+      (number_at head 5 ≡ 0) ⊎ (number_at head 5 ≡ sip 0 0 (take 40 head ++ bytes_of words))
       → IsFileOf (head ++ bytes_of words) f
   is-file sealed = record {
     seal = number_at head 5;

@@ -151,7 +151,8 @@ unfolding bytes_of
 bytes_of-next numbers i below =
     ap bytes_of (take_more numbers i 0 below)
     ∙ bytes_of-append (take i numbers) (slice_index numbers i ∷ [])
-    ∙ ap (λ l. bytes_of (take i numbers) ++ l) (append-nil (to_le_bytes w64 (slice_index numbers i)))
+    ∙ ap (λ l. bytes_of (take i numbers) ++ l)
+    (append-nil (to_le_bytes w64 (slice_index numbers i)))
 
 -- bytes that are cut into eights are those of their numbers
 pub bytes-again : (bytes : List ℕ) → AreBytes bytes → length bytes % 8 ≡ 0

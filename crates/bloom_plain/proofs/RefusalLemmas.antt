@@ -125,7 +125,8 @@ module _ (head body : List ℕ) (size : length head ≡ 64) where
 
   -- the refusal of a file of the right size
   pub file_refusal-head : length body ≡ 8 * number_at head 2
-      → file_refusal (head ++ body) ≡ option_or (head_refusal head) (option_or (reserved_refusal head)
+      → file_refusal (head ++ body) ≡ option_or (head_refusal head)
+      (option_or (reserved_refusal head)
       (wrong_seal (number_at head 5) (sip 0 0 (take 40 head ++ body))))
   file_refusal-head right i =
       option_or (head_refusal-head i)

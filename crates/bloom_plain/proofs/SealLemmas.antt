@@ -8,7 +8,8 @@ use Rattle.bloom_plain.specs.declared.file.head.Head.{Head}
 use Rattle.bloom_plain.proofs.NumberLemmas.{bytes_of-next}
 
 -- the opening is the first forty bytes of a head
-pub take-head : (head : Head) (seal : ℕ) (bytes : List ℕ) → bytes ≡ bytes_of (head_numbers head seal)
+pub take-head : (head : Head) (seal : ℕ) (bytes : List ℕ)
+    → bytes ≡ bytes_of (head_numbers head seal)
     → take 40 bytes ≡ bytes_of (opening head)
 unfolding bytes_of
 take-head head seal bytes is = ap (take 40) is
@@ -19,7 +20,8 @@ pub seal-begins : (h : SipState) (head : Head) (bytes : List ℕ)
     → Hashed h 0 0 (bytes_of (opening head) ++ bytes_of [])
 unfolding bytes_of
 seal-begins h head bytes is hashed =
-    subst (Hashed h 0 0) (take-head head 0 bytes is ∙ sym (append-nil (bytes_of (opening head)))) hashed
+    subst (Hashed h 0 0) (take-head head 0 bytes is ∙ sym (append-nil (bytes_of (opening head))))
+    hashed
 
 -- the hasher has taken in one word more
 pub seal-goes_on : (old new : SipState) (front words : List ℕ) (i : ℕ) → i < length words

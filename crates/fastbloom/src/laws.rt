@@ -4,9 +4,9 @@ ghost use Rattle.fastbloom.specs.Fill.{UnionOfPositionsLaw, AnyCuttingLaw, Fille
 
 pub use bloom_plain::laws::{
     clear_contains_nothing, contained_stays, data_answer_alike, equality_of_builders,
-    equality_of_filters, insert_answers_contains, inserted_stays_found, intersection_contains,
-    intersection_of_contents, lists_join, rebuilt_answers_alike, source_hash_by_default,
-    union_contains, union_of_contents, union_of_inserts,
+    equality_of_filters, file_reads_back, insert_answers_contains, inserted_stays_found,
+    intersection_contains, intersection_of_contents, lists_join, rebuilt_answers_alike,
+    source_hash_by_default, union_contains, union_of_contents, union_of_inserts,
 };
 pub use bloom_seated::laws::{
     inserted_stays_known, met_is_found, passes_are_few, steps_of_words, sure_is_found,

@@ -1,4 +1,4 @@
-//! The lines of a reader, one after the other, in constant memory; and bytes, read and written whole.
+//! The lines of a reader, one after the other, in constant memory; bytes, read and written whole.
 #![tactic(auto)]
 
 mod block;

@@ -1,7 +1,7 @@
-//! A filter as JSON in a file.
+//! A filter in a file.
 
 use anyhow::Context;
-use fastbloom::{BloomFilter, FilterData};
+use fastbloom::BloomFilter;
 use std::fs;
 use std::rt::Files;
 
@@ -11,19 +11,15 @@ pub fn save<R: Files + AllocGlobal>(
     filter: &BloomFilter,
     path: &str,
 ) -> anyhow::Result<()> {
-    // out of memory
-    let form = filter.to_data(rt.alloc())?;
-    let text = serde_json::to_string(rt.alloc(), &form)?;
-    // refused by the system
-    fs::write(rt, path, text).context("the filter wasn't written")
+    let mut file = fs::create(rt, path).context("the file can't be made")?;
+    filter
+        .write_file(&mut file)
+        .context("the filter wasn't written")
 }
 
 /// Reads it.
 pub fn load<R: Files + AllocGlobal>(rt: &R, path: &str) -> anyhow::Result<BloomFilter> {
-    // refused by the system, or not text
-    let text = fs::read_to_string(rt, path).context("the filter wasn't read")?;
-    // not JSON of this form: the error tells the line and column
-    let form: FilterData = serde_json::from_str(rt.alloc(), text.as_str())?;
-    // `EmptyWords`, `TooManyWords` or `HashCount`
-    Ok(BloomFilter::from_data(form)?)
+    let mut file = fs::open(rt, path).context("the file can't be opened")?;
+    // no filter, a cut or a changed file: the error says which
+    Ok(BloomFilter::read_file(rt.alloc(), &mut file)?)
 }

@@ -105,9 +105,9 @@ fn plain_filters_are_built_saved_and_asked(rt: HostRuntime) -> Result<(), Fail> 
 
 #[test]
 fn a_filter_is_read_from_its_file_and_carries_out_a_list(rt: HostRuntime) -> Result<(), Fail> {
-    save(&rt, &filter_of_one(rt.alloc())?, "filter.json")?;
-    let mut filter = load(&rt, "filter.json")?;
-    fs::remove_file(&rt, "filter.json")?;
+    save(&rt, &filter_of_one(rt.alloc())?, "one.bloom")?;
+    let mut filter = load(&rt, "one.bloom")?;
+    fs::remove_file(&rt, "one.bloom")?;
     assert!(rt; filter == filter_of_one(rt.alloc())?);
     let replies = replies(rt.alloc(), &mut filter)?;
     assert!(rt; replies.as_slice() == [false, true, false].as_slice());

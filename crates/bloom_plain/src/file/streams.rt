@@ -57,7 +57,7 @@ fn make_room(words: &mut Vec<u64>, more: usize, most: usize) -> Result<(), FileE
     requires { more ≤ most }
     ensures same { words.new.items ≡ words.old.items }
     ensures refused { IfErr result (λ error. error ≡ FileError.Memory) }
-    // Room is asked for twice the words that came, or a block more, and never for more than may come.
+    // Room is asked for as many words as there are, or for a block, and for no more than may come.
     ensures few { vec_capacity words.new
         ≤ max (vec_capacity words.old) (vec_len words.old + max (vec_len words.old) more) }
     ensures most { vec_capacity words.new
@@ -121,7 +121,8 @@ fn read_words<R: Read>(
 
 // Reads the head of a file, and refuses one that is none.
 fn read_start<R: Read>(input: &mut R) -> Result<[u8; 64], FileError>
-    ensures taken { IfOk result (λ head. Consumes (R.remaining input.old) (R.remaining input.new) head) }
+    ensures taken { IfOk result
+        (λ head. Consumes (R.remaining input.old) (R.remaining input.new) head) }
     ensures size { IfOk result (λ head. length head ≡ 64) }
     ensures good { IfOk result (λ head. head_refusal head ≡ None) }
     ensures refused { IfErr result (λ error. IsToldOf (R.remaining input.old) error) }

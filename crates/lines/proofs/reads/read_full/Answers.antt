@@ -7,6 +7,7 @@ use Rattle.lines.proofs.reads.read_full.Goals as goal
 pub reads-preserved : goal.reads-preserved
 reads-preserved g c =
     let so_far = c.reads.invariant in
+    let now = c.in_ok-more.ensures in
     let buffer = c.reads.bytes in
     let part = c.read_some.new.bytes in
     let room = length buffer - c.reads.count in
@@ -15,6 +16,6 @@ reads-preserved g c =
     let long = same_len_mid c.reads.count room buffer part c.read_some.ensures.room in
     record {
       taken = rw (same) (Consumes-trans _ _ _ _ _ so_far.taken c.in_ok-more.ensures.taken);
-      count = omega (arith, long, c.in_ok-more.ensures.count, c.read_some.ensures.room, so_far.count);
+      count = omega (arith, long, now.count, now.room, so_far.count);
       room = long ∙ so_far.room;
     }

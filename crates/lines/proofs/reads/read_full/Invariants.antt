@@ -2,7 +2,7 @@ use Rattle.std.proofs.Common.{◌≡◌, ◌≤◌, ◌-◌, length, take}
 use Rattle.std.specs.Io.KnownBytes.{Consumes}
 use Rattle.lines.proofs.reads.read_full.Given as goal
 
--- so many bytes were read, and lie in front
+-- the bytes that were read lie in front
 abbrev pub invariant-reads : goal.invariant-reads
 invariant-reads g l = record {
   taken : Consumes (g.R.Read.remaining l.fn.input) (g.R.Read.remaining l.input)

@@ -4,5 +4,7 @@ use Rattle.bloom_plain.proofs.file.head.head_in.Goals as goal
 
 pub returns-clause-bytes : goal.returns-clause-bytes
 returns-clause-bytes c = λ size none.
-    head-is c.args.bytes.now (λ i. omega (arith, c.type_inv.bytes i)) size (good c.args.bytes.now size c.requires).first
-    (none-reserved c.args.bytes.now none).0 (none-reserved c.args.bytes.now none).1
+    let bytes = c.args.bytes.now in
+    let zeros = none-reserved bytes none in
+    head-is bytes (λ i. omega (arith, c.type_inv.bytes i)) size (good bytes size c.requires).first
+    zeros.0 zeros.1
