@@ -5,6 +5,7 @@
 //! `include/fastbloom.h` says what C must keep, since nothing checks it.
 #![tactic(auto)]
 
+pub mod files;
 pub mod hashes;
 pub mod plans;
 pub mod texts;
