@@ -5,14 +5,14 @@
 
 #include <stdlib.h>
 
-static int make(const char *path, int items) {
+static int make(const char *path, size_t items) {
     struct filter filter = {.key = {0}};
-    if (fastbloom_plan(1, 1000, (size_t)items, &filter.num_words, &filter.num_hashes) != 0) return 1;
+    if (fastbloom_plan(1, 1000, items, &filter.num_words, &filter.num_hashes) != 0) return 1;
     uint64_t *words = calloc(filter.num_words, sizeof *words);
     if (words == NULL) return 1;
-    for (int i = 0; i < items; i++) {
-        char text[16];
-        size_t length = (size_t)snprintf(text, sizeof text, "item%d", i);
+    for (size_t i = 0; i < items; i++) {
+        char text[32];
+        size_t length = (size_t)snprintf(text, sizeof text, "item%zu", i);
         fastbloom_insert(words, filter.num_words, filter.num_hashes, filter.key,
                          (const uint8_t *)text, length);
     }
@@ -38,7 +38,8 @@ static int ask(const char *path, char **texts) {
 }
 
 int main(int argc, char **argv) {
-    if (argc == 4 && strcmp(argv[1], "make") == 0) return make(argv[2], atoi(argv[3]));
+    if (argc == 4 && strcmp(argv[1], "make") == 0)
+        return make(argv[2], strtoull(argv[3], NULL, 10));
     if (argc >= 3 && strcmp(argv[1], "ask") == 0) return ask(argv[2], argv + 3);
     fprintf(stderr, "usage: file make FILE ITEMS, or file ask FILE TEXT..\n");
     return 2;
