@@ -24,16 +24,17 @@ struct filter {
 /* Reads the head of a file of this size, and answers 0 or the first reason to refuse the file. */
 static inline uint8_t read_head(const uint8_t *bytes, size_t size, struct filter *filter,
                                 uint64_t *seal) {
-    /* The numbers that are there, with good ones in the place of those that a cut file lacks. The
-     * last two come after the size: they must be zero. */
-    uint8_t first[64] = {[8] = 1, [16] = 1};
-    memcpy(first, bytes, size < 48 ? size / 8 * 8 : 48);
+    /* A copy of the numbers that are there, with good ones in the place of those that a cut file
+     * lacks. The last two, which must be zero, are read after the size. */
+    uint8_t head[64] = {[8] = 1, [16] = 1};
+    memcpy(head, bytes, size < 48 ? size / 8 * 8 : 48);
     uint8_t code =
-        fastbloom_head_read(first, &filter->num_words, &filter->num_hashes, filter->key, seal);
+        fastbloom_head_read(head, &filter->num_words, &filter->num_hashes, filter->key, seal);
     if (code != 0) return code;
     if (size < 64 + 8 * filter->num_words) return FASTBLOOM_CUT;
     if (size > 64 + 8 * filter->num_words) return FASTBLOOM_TOO_LONG;
-    return fastbloom_head_read(bytes, &filter->num_words, &filter->num_hashes, filter->key, seal);
+    memcpy(head + 48, bytes + 48, 16);
+    return fastbloom_head_read(head, &filter->num_words, &filter->num_hashes, filter->key, seal);
 }
 
 /* Maps a file, and answers 0 or why it is refused. Only a sealed file is read whole for it. */

@@ -1,5 +1,5 @@
 -- The heads that C gives, and the numbers of their refusals, at values from outside.
-use Rattle.std.proofs.Common.{◌≡◌, ◌^◌, ◌-◌, [], ◌∷◌, Some, None, refl}
+use Rattle.std.proofs.Common.{◌≡◌, ◌^◌, ◌-◌, ℕ, List, [], ◌∷◌, ◌++◌, replicate, Some, None, refl}
 use Rattle.bloom_plain.specs.declared.file.error.FileError.TheVariants.{NotAFilter, EmptyWords, TooManyWords, Reserved}
 use Rattle.fastbloom_c.specs.Files.{head_for, words_refusal, file_code_or_zero}
 
@@ -31,13 +31,16 @@ words-most = refl
 words-too_many : words_refusal (2 ^ 58) ≡ Some TooManyWords
 words-too_many = refl
 
+-- a key whose bytes are 1, 2, twelve zeros, 3 and 4
+abbrev a_key : List ℕ
+a_key = 1 ∷ 2 ∷ replicate 12 0 ++ 3 ∷ 4 ∷ []
+
 -- the first byte of a key is the lowest of its first word
-key-low : (head_for 7 0 (1 ∷ 2 ∷ 0 ∷ 0 ∷ 0 ∷ 0 ∷ 0 ∷ 0 ∷ 0 ∷ 0 ∷ 0 ∷ 0 ∷ 0 ∷ 0 ∷ 0 ∷ 3 ∷ [])).k0 ≡ 513
+key-low : (head_for 7 0 a_key).k0 ≡ 0x0201
 key-low = refl
 
 -- the last byte of a key is the highest of its second word
-key-high : (head_for 7 0 (1 ∷ 2 ∷ 0 ∷ 0 ∷ 0 ∷ 0 ∷ 0 ∷ 0 ∷ 0 ∷ 0 ∷ 0 ∷ 0 ∷ 0 ∷ 0 ∷ 0 ∷ 3 ∷ [])).k1
-    ≡ 216172782113783808
+key-high : (head_for 7 0 a_key).k1 ≡ 0x0403_0000_0000_0000
 key-high = refl
 
 -- 0 hashes count as 1
