@@ -5,7 +5,8 @@
  * zeros is the empty filter. No call allocates memory, waits, or keeps a pointer. A call fails only
  * as it says here.
  *
- * No words are no filter: each call that answers a bool answers false for them, and changes nothing.
+ * No words are no filter: each call that answers a bool answers false for them, and changes
+ * nothing.
  *
  * The caller must keep these rules, which nothing checks:
  *  - words, hashes, key, head, bytes and the out parameters are not NULL, even where a length is 0.

@@ -1,7 +1,7 @@
 //! Calls the wrapper, and prints the lines of the other languages' checks: `check FOLDER [FILE..]`.
 //!
-//! It leaves the file of the items in FOLDER/rust.bloom. Each FILE is to be one of the items too, or,
-//! in a folder `refused`, one that is refused by the number with which its name begins.
+//! It leaves the file of the items in FOLDER/rust.bloom. Each FILE is to be one of the items too.
+//! One in a folder `refused` is to be refused by the number with which its name begins.
 
 use fastbloom_over_c::{hash, plan, Filter, Refusal};
 use std::error::Error;
