@@ -5,11 +5,13 @@
  * zeros is the empty filter. No call allocates memory, waits, or keeps a pointer. A call fails only
  * as it says here.
  *
- * No words are no filter: each call answers false for them, and changes nothing.
+ * No words are no filter: each call that answers a bool answers false for them, and changes
+ * nothing.
  *
  * The caller must keep these rules, which nothing checks:
- *  - words, hashes, key, bytes and the out parameters are not NULL, even where a length is 0. They
- *    are aligned: words and hashes to 8, num_words to the alignment of size_t, num_hashes to 4;
+ *  - words, hashes, key, head, bytes and the out parameters are not NULL, even where a length is 0.
+ *    They are aligned: words, hashes and seal to 8, num_words to the alignment of size_t,
+ *    num_hashes to 4;
  *  - each pointer is to memory of the length that is given, at most 2^63 - 1 bytes. This memory
  *    stays in its place while the call runs;
  *  - memory that a call may write (a parameter that isn't const) overlaps with nothing else that
@@ -30,11 +32,22 @@
 extern "C" {
 #endif
 
-/* Why a plan is refused. */
+/* Why a plan or a file is refused. The library answers 2 to 5, 7, 9, 10 and 13. The other numbers
+ * are those of the Rattle library, for programs that read files. */
 enum {
+    FASTBLOOM_EMPTY_WORDS = 2,    /* no words */
     FASTBLOOM_TOO_MANY_WORDS = 3, /* more than 2^58 - 1 words */
     FASTBLOOM_ZERO_RATE = 4,      /* a part of the rate is zero */
-    FASTBLOOM_SIZE_OVERFLOW = 5   /* 2^64 bits or more */
+    FASTBLOOM_SIZE_OVERFLOW = 5,  /* 2^64 bits or more */
+    FASTBLOOM_MEMORY = 6,         /* out of memory */
+    FASTBLOOM_HASH_COUNT = 7,     /* 0 hashes, or 2^32 and more */
+    FASTBLOOM_NOT_A_FILTER = 9,   /* the file doesn't begin with `fbloom` and a zero byte */
+    FASTBLOOM_VERSION = 10,       /* the version isn't `1` */
+    FASTBLOOM_CUT = 11,           /* the file ends before its last word */
+    FASTBLOOM_TOO_LONG = 12,      /* bytes follow the last word */
+    FASTBLOOM_RESERVED = 13,      /* a byte that must be zero isn't */
+    FASTBLOOM_SEAL = 14,          /* the seal is wrong: the file was changed */
+    FASTBLOOM_INPUT = 15          /* a read failed */
 };
 
 /* The numbers of words and of hashes for this many items, where 0 counts as 1, at the rate
@@ -82,6 +95,26 @@ bool fastbloom_intersect(uint64_t *words, size_t num_words, const uint64_t *othe
 /* Whether both filters have as many words, and equal ones. */
 bool fastbloom_equal(const uint64_t *words, size_t num_words, const uint64_t *other,
                      size_t num_other);
+
+/* A file is a head of 64 bytes and then the words. All numbers in it are little-endian. */
+
+/* The seal of the file of these words, whatever their number: SipHash-1-3 of the first 40 bytes of
+ * the head and of the words, under the key of zeros. */
+uint64_t fastbloom_seal(const uint64_t *words, size_t num_words, uint32_t num_hashes,
+                        const uint8_t key[16]);
+
+/* Writes the head of a file with this seal, where 0 stands for a file without one. It answers 0; or
+ * FASTBLOOM_EMPTY_WORDS or FASTBLOOM_TOO_MANY_WORDS, and then it writes nothing. */
+uint8_t fastbloom_head_write(size_t num_words, uint32_t num_hashes, const uint8_t key[16],
+                             uint64_t seal, uint8_t head[64]);
+
+/* Reads the head of a file, and answers 0; or the first reason for which these bytes are no head:
+ * FASTBLOOM_NOT_A_FILTER, FASTBLOOM_VERSION, FASTBLOOM_HASH_COUNT, FASTBLOOM_EMPTY_WORDS,
+ * FASTBLOOM_TOO_MANY_WORDS or FASTBLOOM_RESERVED. Then it writes nothing. The size of the file and
+ * the seal are the caller's to compare: the file has 64 + 8 * num_words bytes, and the seal is 0 or
+ * that of `fastbloom_seal`. */
+uint8_t fastbloom_head_read(const uint8_t head[64], size_t *num_words, uint32_t *num_hashes,
+                            uint8_t key[16], uint64_t *seal);
 
 #ifdef __cplusplus
 }

@@ -1,14 +1,14 @@
-/* Calls each function, and compares with values from outside: `check SESSIONS`.
+/* Calls each function, and compares with values from outside: `check SESSIONS HEX FOLDER`.
  *
- * The lines that it prints are those of the other languages' checks. Its answers by hash are those of
- * the original crate, fastbloom 0.17.0, in the sessions; its hashes those of the crate siphasher
- * 0.3.10. */
-#include "fastbloom.h"
+ * The lines that it prints are those of the other languages' checks. Its answers by hash are those
+ * of the original crate, fastbloom 0.17.0, in the sessions; its hashes those of the crate siphasher
+ * 0.3.10. A model in Python, which uses no library, computed the file in HEX. The check writes that
+ * file into FOLDER. */
+#define _DEFAULT_SOURCE
+#include "filter_file.h"
 
 #include <inttypes.h>
-#include <stdio.h>
 #include <stdlib.h>
-#include <string.h>
 
 static unsigned checks;
 
@@ -206,9 +206,74 @@ static void items(void) {
     free(words);
 }
 
+/* The file in lines of hexadecimal digits: one word and three hashes, of `crab` and `lobster`,
+ * under the key bytes 0 to 15. */
+static void read_hex(const char *path, uint8_t bytes[72]) {
+    FILE *file = fopen(path, "r");
+    CHECK(file != NULL);
+    for (size_t i = 0; i < 72; i++) CHECK(fscanf(file, "%2" SCNx8, &bytes[i]) == 1);
+    CHECK(fscanf(file, " %*c") == EOF);
+    fclose(file);
+}
+
+/* Heads with one byte changed, and the numbers of their refusals. A refusal writes nothing. */
+static void heads(const uint8_t file[72]) {
+    static const struct {
+        size_t place;
+        uint8_t byte, code;
+    } rows[] = {
+        {0, 'F', FASTBLOOM_NOT_A_FILTER},  {6, 1, FASTBLOOM_NOT_A_FILTER},
+        {7, '2', FASTBLOOM_VERSION},       {8, 0, FASTBLOOM_HASH_COUNT},
+        {12, 1, FASTBLOOM_HASH_COUNT},     {16, 0, FASTBLOOM_EMPTY_WORDS},
+        {23, 4, FASTBLOOM_TOO_MANY_WORDS}, {48, 1, FASTBLOOM_RESERVED},
+        {63, 128, FASTBLOOM_RESERVED},     {23, 3, 0},
+        {24, 9, 0},                        {47, 0, 0}};
+    for (size_t i = 0; i < sizeof rows / sizeof *rows; i++) {
+        uint8_t head[64], key[16] = {42};
+        size_t num_words = 7;
+        uint32_t num_hashes = 9;
+        uint64_t seal = 11;
+        memcpy(head, file, sizeof head);
+        head[rows[i].place] = rows[i].byte;
+        CHECK(fastbloom_head_read(head, &num_words, &num_hashes, key, &seal) == rows[i].code);
+        bool stays = num_words == 7 && num_hashes == 9 && key[0] == 42 && seal == 11;
+        CHECK(stays == (rows[i].code != 0));
+    }
+    uint8_t head[64] = {42};
+    CHECK(fastbloom_head_write(0, 3, counting_key, 1, head) == FASTBLOOM_EMPTY_WORDS);
+    size_t most = ((size_t)1 << 58) - 1;
+    CHECK(fastbloom_head_write(most + 1, 3, counting_key, 1, head) == FASTBLOOM_TOO_MANY_WORDS);
+    CHECK(fastbloom_head_write(SIZE_MAX, 3, counting_key, 1, head) == FASTBLOOM_TOO_MANY_WORDS);
+    CHECK(head[0] == 42 && head[1] == 0);
+    CHECK(fastbloom_head_write(most, 0, counting_key, 1, head) == 0);
+    CHECK(memcmp(head, "fbloom\0001\1\0\0\0\0\0\0\0\377\377\377\377\377\377\377\3", 24) == 0);
+}
+
+/* The file in hexadecimal digits is written and read. */
+static void file(const char *hex, const char *folder) {
+    uint8_t bytes[72], written[73];
+    char path[4096];
+    read_hex(hex, bytes);
+    heads(bytes);
+    uint64_t word = 0;
+    struct filter made = {.words = &word, .num_words = 1, .num_hashes = 3}, read;
+    memcpy(made.key, counting_key, sizeof made.key);
+    CHECK(!fastbloom_insert(&word, 1, 3, counting_key, (const uint8_t *)"crab", 4));
+    CHECK(!fastbloom_insert(&word, 1, 3, counting_key, (const uint8_t *)"lobster", 7));
+    CHECK((size_t)snprintf(path, sizeof path, "%s/worked.bloom", folder) < sizeof path);
+    CHECK(write_filter(path, &made));
+    FILE *stream = fopen(path, "rb");
+    CHECK(stream != NULL && fread(written, 1, sizeof written, stream) == sizeof bytes);
+    fclose(stream);
+    CHECK(memcmp(written, bytes, sizeof bytes) == 0);
+    CHECK(map_filter(path, &read) == 0 && read.num_words == 1 && read.num_hashes == 3);
+    CHECK(memcmp(read.key, counting_key, sizeof read.key) == 0);
+    CHECK(fastbloom_equal(read.words, 1, &word, 1));
+}
+
 int main(int argc, char **argv) {
-    if (argc != 2) {
-        fprintf(stderr, "usage: check SESSIONS\n");
+    if (argc != 4) {
+        fprintf(stderr, "usage: check SESSIONS HEX FOLDER\n");
         return 2;
     }
     plans();
@@ -217,6 +282,7 @@ int main(int argc, char **argv) {
     whole();
     refused();
     items();
+    file(argv[2], argv[3]);
     printf("checks %u\n", checks);
     return 0;
 }

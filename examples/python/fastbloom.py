@@ -28,7 +28,8 @@ def _call(name, answer, *kinds):
     return call
 
 
-_plan = _call("plan", ctypes.c_uint8, _HASH, _HASH, _SIZE, ctypes.POINTER(_SIZE), ctypes.POINTER(_HASHES))
+_plan = _call("plan", ctypes.c_uint8, _HASH, _HASH, _SIZE, ctypes.POINTER(_SIZE),
+              ctypes.POINTER(_HASHES))
 _hash = _call("hash", _HASH, _TEXT, _TEXT, _SIZE)
 _insert_hash = _call("insert_hash", ctypes.c_bool, _WORDS, _SIZE, _HASHES, _HASH)
 _contains_hash = _call("contains_hash", ctypes.c_bool, _WORDS, _SIZE, _HASHES, _HASH)
@@ -39,15 +40,53 @@ _union = _call("union", ctypes.c_bool, _WORDS, _SIZE, _WORDS, _SIZE)
 _intersect = _call("intersect", ctypes.c_bool, _WORDS, _SIZE, _WORDS, _SIZE)
 _equal = _call("equal", ctypes.c_bool, _WORDS, _SIZE, _WORDS, _SIZE)
 
-# A file: eight bytes that say what it is, the numbers of hashes and of words, the key, zeros up to
-# 64 bytes, and the words; all numbers are little-endian.
-_MAGIC = b"fbloom\x001"
-_HEAD = struct.Struct("<8sQQ16s24x")
-_REFUSALS = {3: "too many words", 4: "rate with a zero part", 5: "size too large"}
+_seal = _call("seal", _HASH, _WORDS, _SIZE, _HASHES, _TEXT)
+_head_write = _call("head_write", ctypes.c_uint8, _SIZE, _HASHES, _TEXT, _HASH, _TEXT)
+_head_read = _call("head_read", ctypes.c_uint8, _TEXT, ctypes.POINTER(_SIZE),
+                   ctypes.POINTER(_HASHES), _TEXT, ctypes.POINTER(_HASH))
+
+_CUT, _TOO_LONG, _SEAL = 11, 12, 14
+_REFUSALS = {
+    2: "no words",
+    3: "too many words",
+    4: "rate with a zero part",
+    5: "size too large",
+    7: "hash count out of range",
+    9: "not a filter",
+    10: "a version of the file that isn't known",
+    _CUT: "the file is cut",
+    _TOO_LONG: "the file goes on after its last word",
+    13: "a reserved byte isn't zero",
+    _SEAL: "the seal is wrong: the file was changed",
+}
+_HEAD = 64  # bytes; the words of a file come next
 
 
 def _bytes(item):
     return item.encode() if isinstance(item, str) else bytes(item)
+
+
+def _refuse(code):
+    if code:
+        raise ValueError(_REFUSALS[code])
+
+
+def _read_head(head):
+    """The numbers of words and of hashes, the key and the seal that a head tells."""
+    words, hashes, key, seal = _SIZE(), _HASHES(), ctypes.create_string_buffer(16), _HASH()
+    _refuse(_head_read(head, words, hashes, key, seal))
+    return words.value, hashes.value, key.raw, seal.value
+
+
+def _check_size(head, size):
+    """Refuses a file by the numbers that are there, and by its size."""
+    # Where the head is cut, good numbers stand for those that it lacks. The last two, which must be
+    # zero, are read after the size.
+    good = struct.pack("<8Q", 0, 1, 1, 0, 0, 0, 0, 0)
+    there = min(len(head) // 8 * 8, 48)
+    wanted = _HEAD + 8 * _read_head(head[:there] + good[there:])[0]
+    if size != wanted:
+        _refuse(_CUT if size < wanted else _TOO_LONG)
 
 
 class Filter:
@@ -60,11 +99,9 @@ class Filter:
     def __init__(self, items, rate, key=bytes(16)):
         rate = Fraction(str(rate))
         words, hashes = _SIZE(), _HASHES()
-        if items < 0 or items >= 2**64 or not 0 <= rate.numerator < 2**64 or rate.denominator >= 2**64:
+        if not 0 <= items < 2**64 or not 0 <= rate.numerator < 2**64 or rate.denominator >= 2**64:
             raise ValueError("items and the parts of a rate are below 2^64, and not negative")
-        code = _plan(rate.numerator, rate.denominator, items, words, hashes)
-        if code:
-            raise ValueError(_REFUSALS[code])
+        _refuse(_plan(rate.numerator, rate.denominator, items, words, hashes))
         self._set(bytearray(8 * words.value), 0, words.value, hashes.value, key)
 
     def _set(self, memory, offset, num_words, num_hashes, key):
@@ -82,10 +119,13 @@ class Filter:
         ctypes.memmove(other._at, self._at, 8 * self.num_words)
         return other
 
+    def _shape(self):
+        return self.num_words, self.num_hashes, self.key
+
     def _fits(self, other):
         if not isinstance(other, Filter):
             raise TypeError("both are filters")
-        if (self.num_words, self.num_hashes, self.key) != (other.num_words, other.num_hashes, other.key):
+        if self._shape() != other._shape():
             raise ValueError("filters of other sizes, numbers of hashes or keys")
 
     def add(self, item):
@@ -148,12 +188,21 @@ class Filter:
         """The words, as a list of numbers."""
         return list(self._words)
 
-    def save(self, path):
-        """Writes a file, whole or not at all."""
-        path = Path(path)
+    def _own_seal(self):
+        return _seal(self._at, self.num_words, self.num_hashes, self.key)
+
+    def save(self, path, sealed=True):
+        """Writes a file, whole or not at all.
+
+        A reader of a sealed file finds out whether a byte was changed. A file that is to be changed
+        while others map it is not sealed.
+        """
+        path, head = Path(path), ctypes.create_string_buffer(_HEAD)
+        seal = self._own_seal() if sealed else 0
+        _refuse(_head_write(self.num_words, self.num_hashes, self.key, seal, head))
         part = path.with_name(path.name + ".part")
         with open(part, "wb") as file:
-            file.write(_HEAD.pack(_MAGIC, self.num_hashes, self.num_words, self.key))
+            file.write(head.raw)
             file.write(memoryview(self._words))
             file.flush()
             os.fsync(file.fileno())
@@ -163,16 +212,17 @@ class Filter:
     def load(cls, path):
         """The filter of a file, which is mapped: what this process adds stays its own.
 
-        The file isn't to be cut or written while it is mapped; `save` puts a new one in its place.
+        It raises ValueError, with the reason, for a file that is refused. A sealed file is read
+        whole, to check the seal. The file isn't to be cut or written while it is mapped; `save`
+        puts a new one in its place.
         """
         with open(path, "rb") as file:
-            size = os.fstat(file.fileno()).st_size
-            if size < _HEAD.size + 8:
-                raise ValueError("no filter: the file is too short")
-            memory = mmap.mmap(file.fileno(), 0, access=mmap.ACCESS_COPY)
-        magic, num_hashes, num_words, key = _HEAD.unpack_from(memory)
-        if magic != _MAGIC or not 1 <= num_hashes < 2**32 or _HEAD.size + 8 * num_words != size:
-            raise ValueError("no filter: the file's head doesn't fit")
+            head, size = file.read(_HEAD), os.fstat(file.fileno()).st_size
+            _check_size(head, size)
+            num_words, num_hashes, key, seal = _read_head(head)
+            memory = mmap.mmap(file.fileno(), size, access=mmap.ACCESS_COPY)
         loaded = object.__new__(cls)
-        loaded._set(memory, _HEAD.size, num_words, num_hashes, key)
+        loaded._set(memory, _HEAD, num_words, num_hashes, key)
+        if seal not in (0, loaded._own_seal()):
+            _refuse(_SEAL)
         return loaded

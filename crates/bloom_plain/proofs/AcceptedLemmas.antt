@@ -4,7 +4,8 @@ use Rattle.std.specs.Prelude.{◌⊎◌}
 use Rattle.std.proofs.lemmas.Grind.{common_steps}
 use Rattle.bloom_parts.specs.Sip.{sip, whole_words}
 use Rattle.bloom_plain.specs.Data.{DefaultFilter}
-use Rattle.bloom_plain.specs.File.{FitsWords, IsFileOf, bytes_of, file_refusal, file_size, head_in, head_numbers, head_of, head_refusal, number_at, reserved_refusal, seal_refusal, size_refusal}
+use Rattle.bloom_plain.specs.File.{FitsWords, IsFileOf, bytes_of, head_numbers, head_of}
+use Rattle.bloom_plain.specs.FileRefusals.{file_refusal, file_size, head_in, head_refusal, number_at, reserved_refusal, seal_refusal, size_refusal}
 use Rattle.bloom_plain.specs.Filter.{IsShape}
 use Rattle.bloom_plain.proofs.FileLemmas.{good, good-seal, is-file, neither}
 use Rattle.bloom_plain.proofs.NumberLemmas.{length-whole_words}

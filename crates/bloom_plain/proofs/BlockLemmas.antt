@@ -8,7 +8,8 @@ use Rattle.bloom_parts.specs.Hashed.{SipState, Hashed, Takes}
 use Rattle.bloom_parts.specs.Sip.{whole_words}
 use Rattle.bloom_plain.specs.declared.file.error.FileError.{FileError}
 use Rattle.bloom_plain.specs.declared.file.error.FileError.TheVariants.{NotAFilter, Version, HashCount, EmptyWords, TooManyWords, Cut, TooLong, Reserved, Seal, Memory, Input}
-use Rattle.bloom_plain.specs.File.{ReadsWords, StopsWords, bytes_of}
+use Rattle.bloom_plain.specs.File.{bytes_of}
+use Rattle.bloom_plain.specs.FileReads.{ReadsWords, StopsWords}
 use Rattle.bloom_plain.proofs.NumberLemmas.{bytes_of-append, length-bytes_of, length-whole_words}
 
 -- the first words of a list are a block, and the others follow

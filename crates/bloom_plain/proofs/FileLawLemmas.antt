@@ -11,7 +11,8 @@ use Rattle.bloom_parts.specs.declared.hasher.sip.RandomDefaultHasher.{RandomDefa
 use Rattle.bloom_plain.specs.declared.file.error.FileError.TheVariants.{Reserved}
 use Rattle.bloom_plain.specs.declared.file.head.Head.{Head}
 use Rattle.bloom_plain.specs.Data.{DefaultFilter}
-use Rattle.bloom_plain.specs.File.{FileLaw, IsFileOf, ReadableLaw, SameFileItemsLaw, bytes_of, file_refusal, head_numbers, head_of, head_refusal, mark, number_at, reserved_refusal, seal_of, wrong_seal}
+use Rattle.bloom_plain.specs.File.{FileLaw, IsFileOf, SameFileItemsLaw, bytes_of, head_numbers, head_of, mark, seal_of}
+use Rattle.bloom_plain.specs.FileRefusals.{ReadableLaw, file_refusal, head_refusal, number_at, reserved_refusal, wrong_seal}
 use Rattle.bloom_plain.proofs.DataLemmas.{alike-parts}
 use Rattle.bloom_plain.proofs.NumberLemmas.{length-bytes_of, whole_words-alone, whole_words-bytes}
 use Rattle.bloom_plain.proofs.RefusalLemmas.{file_refusal-head}

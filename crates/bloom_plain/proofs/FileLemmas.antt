@@ -9,7 +9,8 @@ use Rattle.bloom_parts.specs.Sip.{sip, whole_words}
 use Rattle.bloom_plain.specs.declared.file.error.FileError.{FileError}
 use Rattle.bloom_plain.specs.declared.file.head.Head.{Head}
 use Rattle.bloom_plain.specs.Data.{DefaultFilter}
-use Rattle.bloom_plain.specs.File.{FitsWords, IsFileOf, bytes_of, file_of, file_with, has_number, head_in, head_numbers, head_of, head_refusal, mark, number_at, reserved_refusal, seal_of, wrong_seal}
+use Rattle.bloom_plain.specs.File.{FitsWords, IsFileOf, bytes_of, file_of, file_with, head_numbers, head_of, mark, seal_of}
+use Rattle.bloom_plain.specs.FileRefusals.{has_number, head_in, head_refusal, number_at, reserved_refusal, wrong_seal}
 use Rattle.bloom_plain.specs.Filter.{HasShape, IsShape}
 use Rattle.bloom_plain.proofs.NumberLemmas.{bytes-again, length-whole_words}
 use Rattle.bloom_plain.proofs.SealLemmas.{take-head}

@@ -9,7 +9,9 @@ use Rattle.bloom_parts.specs.Sip.{sip}
 use Rattle.bloom_plain.specs.declared.file.error.FileError.{FileError}
 use Rattle.bloom_plain.specs.declared.file.error.FileError.TheVariants.{NotAFilter, Version, HashCount, EmptyWords, TooManyWords, Cut, TooLong, Reserved, Seal, Memory, Input}
 use Rattle.bloom_plain.specs.Data.{DefaultFilter}
-use Rattle.bloom_plain.specs.File.{FitsWords, IsReadAs, ReadsFile, ReadsWords, StopsEnd, StopsWords, bytes_of, file_refusal, head_in, head_numbers, head_of, head_refusal, number_at, reserved_refusal, wrong_seal}
+use Rattle.bloom_plain.specs.File.{FitsWords, bytes_of, head_numbers, head_of}
+use Rattle.bloom_plain.specs.FileReads.{IsReadAs, ReadsFile, ReadsWords, StopsEnd, StopsWords}
+use Rattle.bloom_plain.specs.FileRefusals.{file_refusal, head_in, head_refusal, number_at, reserved_refusal, wrong_seal}
 use Rattle.bloom_plain.proofs.FileLemmas.{good-seal, is-file}
 use Rattle.bloom_plain.proofs.NumberLemmas.{length-bytes_of}
 use Rattle.bloom_plain.proofs.RefusalLemmas.{file_refusal-head, file_refusal-size, head_refusal-head, size_refusal-cut, size_refusal-long}

@@ -7,7 +7,8 @@ use Rattle.std.proofs.lemmas.List.{drop_at, get_or_append_left, take-append-le}
 use Rattle.bloom_parts.specs.Sip.{sip, whole_words}
 use Rattle.bloom_plain.specs.declared.file.error.FileError.{FileError}
 use Rattle.bloom_plain.specs.declared.file.error.FileError.TheVariants.{NotAFilter, Version, HashCount, EmptyWords, TooManyWords, Cut, TooLong, Reserved}
-use Rattle.bloom_plain.specs.File.{file_refusal, has_number, head_refusal, is_hash_count, mark, number_at, reserved_refusal, seal_in, seal_refusal, size_refusal, wrong_seal}
+use Rattle.bloom_plain.specs.File.{mark}
+use Rattle.bloom_plain.specs.FileRefusals.{file_refusal, has_number, head_refusal, is_hash_count, number_at, reserved_refusal, seal_in, seal_refusal, size_refusal, wrong_seal}
 use Rattle.bloom_plain.proofs.NumberLemmas.{length-whole_words, whole_words-append}
 
 -- the refusal of a head, by its first numbers and by which of them are there

@@ -5,7 +5,7 @@ use Rattle.std.proofs.lemmas.Bool.{cases_lt}
 use Rattle.std.specs.Option.{option_or}
 use Rattle.std.specs.Io.KnownBytes.{Consumes, IsAtEnd}
 use Rattle.bloom_plain.specs.declared.file.error.FileError.{FileError}
-use Rattle.bloom_plain.specs.File.{file_refusal, head_refusal, reserved_refusal, seal_refusal, size_refusal}
+use Rattle.bloom_plain.specs.FileRefusals.{file_refusal, head_refusal, reserved_refusal, seal_refusal, size_refusal}
 use Rattle.bloom_plain.proofs.RefusalLemmas.{head_refusal-head}
 
 -- a head that is refused decides for the file

@@ -3,6 +3,8 @@ pub mod CommandOf
 pub mod Data
 pub mod File
 pub mod FileCodes
+pub mod FileReads
+pub mod FileRefusals
 pub mod Filter
 pub mod Laws
 pub mod Replies

@@ -1,3 +1,4 @@
+mod FileFacts
 mod ManyLemmas
 mod NoWordLemmas
 mod PlanFacts

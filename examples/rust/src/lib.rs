@@ -1,5 +1,7 @@
 //! A safe wrapper of the library fastbloom_c, whose words a `Vec` owns.
 
+mod file;
+
 mod sys {
     extern "C" {
         pub fn fastbloom_plan(
@@ -36,27 +38,62 @@ mod sys {
             other: *const u64,
             others: usize,
         ) -> bool;
+        pub fn fastbloom_seal(words: *const u64, len: usize, hashes: u32, key: *const u8) -> u64;
+        pub fn fastbloom_head_write(
+            words: usize,
+            hashes: u32,
+            key: *const u8,
+            seal: u64,
+            head: *mut u8,
+        ) -> u8;
+        pub fn fastbloom_head_read(
+            head: *const u8,
+            words: *mut usize,
+            hashes: *mut u32,
+            key: *mut u8,
+            seal: *mut u64,
+        ) -> u8;
     }
 }
 
-/// Why a filter isn't made.
+/// Why a filter isn't made, or a file isn't read, by the library's numbers.
 #[derive(Clone, Copy, Debug, PartialEq, Eq)]
 pub enum Refusal {
-    TooManyWords,
-    ZeroRate,
-    SizeOverflow,
+    EmptyWords = 2,
+    TooManyWords = 3,
+    ZeroRate = 4,
+    SizeOverflow = 5,
+    HashCount = 7,
+    NotAFilter = 9,
+    Version = 10,
+    Cut = 11,
+    TooLong = 12,
+    Reserved = 13,
+    Seal = 14,
+}
+
+/// What the number that a call answers says.
+fn check(code: u8) -> Result<(), Refusal> {
+    Err(match code {
+        0 => return Ok(()),
+        2 => Refusal::EmptyWords,
+        3 => Refusal::TooManyWords,
+        4 => Refusal::ZeroRate,
+        5 => Refusal::SizeOverflow,
+        7 => Refusal::HashCount,
+        9 => Refusal::NotAFilter,
+        10 => Refusal::Version,
+        13 => Refusal::Reserved,
+        _ => unreachable!("the library answers no other number"),
+    })
 }
 
 /// The numbers of words and of hashes for this many items at the rate `num / den`.
 pub fn plan(num: u64, den: u64, items: usize) -> Result<(usize, u32), Refusal> {
     let (mut words, mut hashes) = (0, 0);
     // SAFETY: both are locals of their types, and apart.
-    match unsafe { sys::fastbloom_plan(num, den, items, &mut words, &mut hashes) } {
-        0 => Ok((words, hashes)),
-        4 => Err(Refusal::ZeroRate),
-        5 => Err(Refusal::SizeOverflow),
-        _ => Err(Refusal::TooManyWords),
-    }
+    check(unsafe { sys::fastbloom_plan(num, den, items, &mut words, &mut hashes) })?;
+    Ok((words, hashes))
 }
 
 /// SipHash-1-3 of just these bytes under the key.

@@ -1,7 +1,8 @@
 //! Files as bytes in memory.
 ghost use Rattle.std.specs.Prelude.{◌≡◌, ◌+◌, ◌*◌, ◌≤◌, ◌++◌, None, length, IfOk, OnOk, IsOkUnless};
 ghost use Rattle.std.specs.Result.{result_err};
-ghost use Rattle.bloom_plain.specs.File.{FitsWords, HasOwnKey, IsFileOf, IsRefusedAs, bytes_of, file_of, file_refusal, head_in, head_of, head_refusal, size_refusal, seal_refusal};
+ghost use Rattle.bloom_plain.specs.File.{FitsWords, HasOwnKey, IsFileOf, bytes_of, file_of, head_of};
+ghost use Rattle.bloom_plain.specs.FileRefusals.{IsRefusedAs, file_refusal, head_in, head_refusal, size_refusal, seal_refusal};
 ghost use Rattle.bloom_plain.specs.Filter.{HasShape, IsShape};
 
 use super::error::FileError;

@@ -2,7 +2,8 @@
 ghost use Rattle.std.specs.Prelude.{◌≡◌, ◌≤◌, ◌<◌, ◌^◌, ◌&&◌, not, length, None, IfOk};
 ghost use Rattle.std.specs.Result.{result_err};
 ghost use Rattle.bloom_parts.specs.Sip.{sip};
-ghost use Rattle.bloom_plain.specs.File.{bytes_of, head_numbers, head_refusal, whole_head_refusal, reserved_refusal, seal_of, seal_in, head_in, number_at, has_number, is_hash_count, wrong_seal};
+ghost use Rattle.bloom_plain.specs.File.{bytes_of, head_numbers, seal_of};
+ghost use Rattle.bloom_plain.specs.FileRefusals.{head_refusal, whole_head_refusal, reserved_refusal, seal_in, head_in, number_at, has_number, is_hash_count, wrong_seal};
 
 use super::error::FileError;
 use super::numbers::{number_at, put_numbers};

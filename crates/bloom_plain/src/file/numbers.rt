@@ -1,7 +1,8 @@
 //! Numbers of 64 bits as little-endian bytes.
 ghost use Rattle.std.specs.Prelude.{◌≡◌, ◌+◌, ◌*◌, ◌%◌, ◌<◌, ◌++◌, length, IfOk};
 ghost use Rattle.bloom_parts.specs.Sip.{whole_words};
-ghost use Rattle.bloom_plain.specs.File.{bytes_of, number_at};
+ghost use Rattle.bloom_plain.specs.File.{bytes_of};
+ghost use Rattle.bloom_plain.specs.FileRefusals.{number_at};
 
 use std::alloc::AllocError;
 

@@ -4,7 +4,9 @@ ghost use Rattle.std.specs.Vec.{vec_capacity};
 ghost use Rattle.std.specs.Result.{result_err};
 ghost use Rattle.std.specs.Io.KnownBytes.{Appends, Consumes, IsAtEnd};
 ghost use Rattle.lines.specs.Writing.{AppendsPart};
-ghost use Rattle.bloom_plain.specs.File.{HasOwnKey, IsReadAs, IsToldOf, ReadsFile, ReadsWords, StopsEnd, StopsWords, bytes_of, file_of, head_refusal};
+ghost use Rattle.bloom_plain.specs.File.{HasOwnKey, bytes_of, file_of};
+ghost use Rattle.bloom_plain.specs.FileReads.{IsReadAs, IsToldOf, ReadsFile, ReadsWords, StopsEnd, StopsWords};
+ghost use Rattle.bloom_plain.specs.FileRefusals.{head_refusal};
 
 use super::bytes::filter_with;
 use super::error::FileError;

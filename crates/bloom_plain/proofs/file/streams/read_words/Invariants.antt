@@ -1,5 +1,5 @@
 use Rattle.std.proofs.Common.{◌≤◌, ◌-◌, [], length}
-use Rattle.bloom_plain.specs.File.{ReadsWords}
+use Rattle.bloom_plain.specs.FileReads.{ReadsWords}
 use Rattle.bloom_plain.proofs.file.streams.read_words.Given as goal
 
 -- the words so far were read

@@ -1,7 +1,7 @@
 -- What `read_file` has read where it refuses nothing.
 use Rattle.std.proofs.Common.{[], ap, sym, ◌∙◌}
 use Rattle.bloom_plain.specs.declared.file.head.Head.{Head}
-use Rattle.bloom_plain.specs.File.{wrong_seal}
+use Rattle.bloom_plain.specs.FileRefusals.{wrong_seal}
 use Rattle.bloom_plain.proofs.ReadLemmas.{reads-file}
 use Rattle.bloom_plain.proofs.file.streams.BloomFilter.read_file.Goals as goal
 

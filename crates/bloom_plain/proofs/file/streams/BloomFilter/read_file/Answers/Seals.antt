@@ -1,7 +1,7 @@
 -- What `read_file` answers where it comes to the seal.
 use Rattle.std.proofs.Common.{◌≡◌, [], Err, rules, ap, sym, ◌∙◌}
 use Rattle.bloom_plain.specs.declared.file.head.Head.{Head}
-use Rattle.bloom_plain.specs.File.{wrong_seal}
+use Rattle.bloom_plain.specs.FileRefusals.{wrong_seal}
 use Rattle.bloom_plain.proofs.ReadLemmas.{told-seal}
 use Rattle.bloom_plain.proofs.file.streams.BloomFilter.read_file.Goals as goal
 

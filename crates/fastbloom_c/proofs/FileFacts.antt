@@ -1,0 +1,56 @@
+-- The heads that C gives, and the numbers of their refusals, at values from outside.
+use Rattle.std.proofs.Common.{◌≡◌, ◌^◌, ◌-◌, ℕ, List, [], ◌∷◌, ◌++◌, replicate, Some, None, refl}
+use Rattle.bloom_plain.specs.declared.file.error.FileError.TheVariants.{NotAFilter, EmptyWords, TooManyWords, Reserved}
+use Rattle.fastbloom_c.specs.Files.{head_for, words_refusal, file_code_or_zero}
+
+-- where nothing is refused the number is 0
+number-none : file_code_or_zero None ≡ 0
+number-none = refl
+
+-- bytes of something else are refused by number 9
+number-not_a_filter : file_code_or_zero (Some NotAFilter) ≡ 9
+number-not_a_filter = refl
+
+-- a head whose last bytes aren't zero is refused by number 13
+number-reserved : file_code_or_zero (Some Reserved) ≡ 13
+number-reserved = refl
+
+-- no words are refused
+words-none : words_refusal 0 ≡ Some EmptyWords
+words-none = refl
+
+-- one word isn't refused
+words-one : words_refusal 1 ≡ None
+words-one = refl
+
+-- 2^58 - 1 words aren't refused
+words-most : words_refusal (2 ^ 58 - 1) ≡ None
+words-most = refl
+
+-- 2^58 words are refused
+words-too_many : words_refusal (2 ^ 58) ≡ Some TooManyWords
+words-too_many = refl
+
+-- a key whose bytes are 1, 2, twelve zeros, 3 and 4
+abbrev a_key : List ℕ
+a_key = 1 ∷ 2 ∷ replicate 12 0 ++ 3 ∷ 4 ∷ []
+
+-- the first byte of a key is the lowest of its first word
+key-low : (head_for 7 0 a_key).k0 ≡ 0x0201
+key-low = refl
+
+-- the last byte of a key is the highest of its second word
+key-high : (head_for 7 0 a_key).k1 ≡ 0x0403_0000_0000_0000
+key-high = refl
+
+-- 0 hashes count as 1
+hashes-none : (head_for 7 0 []).num_hashes ≡ 1
+hashes-none = refl
+
+-- more hashes than 1 are as they are
+hashes-more : (head_for 7 10 []).num_hashes ≡ 10
+hashes-more = refl
+
+-- words are as they are
+words-as_given : (head_for 7 10 []).num_words ≡ 7
+words-as_given = refl

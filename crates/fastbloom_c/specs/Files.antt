@@ -1,0 +1,29 @@
+-- Heads of files, as C gives and takes them. The form of a file is that of `bloom_plain`.
+use Rattle.std.specs.Prelude.{ℕ, ◌^◌, max, List, Option, Some, None, nat_eq, nat_le, if◌then◌else◌}
+use Rattle.bloom_parts.specs.Keys.{key_low, key_high}
+use Rattle.bloom_plain.specs.declared.file.head.Head.{Head}
+use Rattle.bloom_plain.specs.declared.file.error.FileError.{FileError}
+use Rattle.bloom_plain.specs.declared.file.error.FileError.TheVariants.{EmptyWords, TooManyWords}
+use Rattle.bloom_plain.specs.FileCodes.{file_code_of}
+
+-- the head of a filter with this many words and hashes, where 0 hashes count as 1, under a key of
+-- sixteen bytes
+abbrev pub head_for : ℕ → ℕ → List ℕ → Head
+head_for num_words num_hashes key = record {
+  num_hashes = max 1 num_hashes;
+  num_words = num_words;
+  k0 = key_low key;
+  k1 = key_high key;
+}
+
+-- why a head with this many words is refused, if it is
+abbrev pub words_refusal : ℕ → Option FileError
+words_refusal num_words =
+    if nat_eq num_words 0 then Some EmptyWords
+    else if nat_le (2 ^ 58) num_words then Some TooManyWords
+    else None
+
+-- the number of a refusal, or 0 where nothing is refused
+abbrev pub file_code_or_zero : Option FileError → ℕ
+file_code_or_zero None = 0
+file_code_or_zero (Some error) = file_code_of error
