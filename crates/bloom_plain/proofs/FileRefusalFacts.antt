@@ -1,0 +1,175 @@
+-- Why a file is refused for its size, what is reserved or its seal, and which of two reasons is told.
+use Rattle.std.proofs.Common.{◌≡◌, [], ◌∷◌, ◌++◌, Some, None, refl}
+use Rattle.bloom_parts.specs.Sip.{sip, start, round, absorb, answer, whole_words, rest}
+use Rattle.bloom_plain.specs.declared.file.error.FileError.TheVariants.{NotAFilter, Version, HashCount, EmptyWords, TooManyWords, Cut, TooLong, Reserved, Seal}
+use Rattle.bloom_plain.specs.File.{file_refusal, reserved_refusal, seal_refusal, size_refusal, whole_head_refusal, wrong_seal}
+use Rattle.bloom_plain.proofs.FileFacts.{first, head_with, its_seal, its_word, key_first, key_last, low, unsealed, worked}
+
+-- a byte less than the words want is cut, and a byte more is too long
+size_refusal-cut : size_refusal (head_with its_seal (low 0) (low 0) ++ 0 ∷ 20 ∷ 0 ∷ 64 ∷ 128 ∷ 0 ∷ 128 ∷ [])
+    ≡ Some Cut
+unfolding whole_words
+size_refusal-cut = refl
+
+size_refusal-worked : size_refusal worked ≡ None
+unfolding whole_words
+size_refusal-worked = refl
+
+size_refusal-long : size_refusal (worked ++ 0 ∷ []) ≡ Some TooLong
+unfolding whole_words
+size_refusal-long = refl
+
+-- a head that ends before its last byte is cut, also where no words are told
+size_refusal-part : size_refusal (low 0 ++ low 0 ++ low 0) ≡ Some Cut
+unfolding whole_words
+size_refusal-part = refl
+
+-- a head that promises 2^57 words is cut
+size_refusal-promise : size_refusal (first ++ low 3 ++ 0 ∷ 0 ∷ 0 ∷ 0 ∷ 0 ∷ 0 ∷ 0 ∷ 2 ∷ low 9)
+    ≡ Some Cut
+unfolding whole_words
+size_refusal-promise = refl
+
+-- sixteen reserved bytes are zero
+reserved_refusal-worked : reserved_refusal worked ≡ None
+unfolding whole_words
+reserved_refusal-worked = refl
+
+-- neither the first nor the last of them may be another
+reserved_refusal-first : reserved_refusal (head_with its_seal (low 1) (low 0)) ≡ Some Reserved
+unfolding whole_words
+reserved_refusal-first = refl
+
+reserved_refusal-last : reserved_refusal (head_with its_seal (low 0) (0 ∷ 0 ∷ 0 ∷ 0 ∷ 0 ∷ 0 ∷ 0 ∷ 1 ∷ []))
+    ≡ Some Reserved
+unfolding whole_words
+reserved_refusal-last = refl
+
+-- the right seal is good, and 0 is
+wrong_seal-right : wrong_seal 7 7 ≡ None
+wrong_seal-right = refl
+
+wrong_seal-none : wrong_seal 0 7 ≡ None
+wrong_seal-none = refl
+
+-- another seal is wrong, also where the right one is 0
+wrong_seal-other : wrong_seal 8 7 ≡ Some Seal
+wrong_seal-other = refl
+
+wrong_seal-not_none : wrong_seal 8 0 ≡ Some Seal
+wrong_seal-not_none = refl
+
+-- the seal of the worked file is right, and none is needed
+seal_refusal-worked : seal_refusal worked ≡ None
+unfolding sip start round absorb answer whole_words rest
+seal_refusal-worked = refl
+
+seal_refusal-unsealed : seal_refusal unsealed ≡ None
+unfolding sip start round absorb answer whole_words rest
+seal_refusal-unsealed = refl
+
+-- another seal is wrong, and so is the right seal of another word
+seal_refusal-other : seal_refusal (head_with (low 1) (low 0) (low 0) ++ its_word) ≡ Some Seal
+unfolding sip start round absorb answer whole_words rest
+seal_refusal-other = refl
+
+seal_refusal-word : seal_refusal (head_with its_seal (low 0) (low 0) ++ low 5) ≡ Some Seal
+unfolding sip start round absorb answer whole_words rest
+seal_refusal-word = refl
+
+-- a head is good without its words and whatever its seal is
+whole_head-worked : whole_head_refusal (head_with (low 1) (low 0) (low 0)) ≡ None
+unfolding whole_words
+whole_head-worked = refl
+
+-- reserved bytes are refused, but the first numbers come before
+whole_head-reserved : whole_head_refusal (head_with its_seal (low 0) (low 1)) ≡ Some Reserved
+unfolding whole_words
+whole_head-reserved = refl
+
+whole_head-hashes : whole_head_refusal (first ++ low 0 ++ low 1 ++ key_first ++ key_last ++ its_seal ++ low 0 ++ low 1)
+    ≡ Some HashCount
+unfolding whole_words
+whole_head-hashes = refl
+
+-- the worked file is good, with its seal and with none
+file_refusal-worked : file_refusal worked ≡ None
+unfolding sip start round absorb answer whole_words rest
+file_refusal-worked = refl
+
+file_refusal-unsealed : file_refusal unsealed ≡ None
+unfolding sip start round absorb answer whole_words rest
+file_refusal-unsealed = refl
+
+-- each reason by itself: another mark, version, number of hashes or of words
+file_refusal-mark : file_refusal (low 0 ++ low 3) ≡ Some NotAFilter
+unfolding sip start round absorb answer whole_words rest
+file_refusal-mark = refl
+
+file_refusal-version : file_refusal (102 ∷ 98 ∷ 108 ∷ 111 ∷ 111 ∷ 109 ∷ 0 ∷ 50 ∷ []) ≡ Some Version
+unfolding sip start round absorb answer whole_words rest
+file_refusal-version = refl
+
+file_refusal-hashes : file_refusal (first ++ low 0) ≡ Some HashCount
+unfolding sip start round absorb answer whole_words rest
+file_refusal-hashes = refl
+
+file_refusal-no_words : file_refusal (first ++ low 3 ++ low 0) ≡ Some EmptyWords
+unfolding sip start round absorb answer whole_words rest
+file_refusal-no_words = refl
+
+file_refusal-many_words : file_refusal (first ++ low 3 ++ 0 ∷ 0 ∷ 0 ∷ 0 ∷ 0 ∷ 0 ∷ 0 ∷ 4 ∷ [])
+    ≡ Some TooManyWords
+unfolding sip start round absorb answer whole_words rest
+file_refusal-many_words = refl
+
+-- a byte less, a byte more, a reserved byte, and another seal
+file_refusal-cut : file_refusal (head_with its_seal (low 0) (low 0) ++ 0 ∷ 20 ∷ 0 ∷ 64 ∷ 128 ∷ 0 ∷ 128 ∷ [])
+    ≡ Some Cut
+unfolding sip start round absorb answer whole_words rest
+file_refusal-cut = refl
+
+file_refusal-long : file_refusal (worked ++ 0 ∷ []) ≡ Some TooLong
+unfolding sip start round absorb answer whole_words rest
+file_refusal-long = refl
+
+file_refusal-reserved : file_refusal (head_with its_seal (low 0) (low 1) ++ its_word)
+    ≡ Some Reserved
+unfolding sip start round absorb answer whole_words rest
+file_refusal-reserved = refl
+
+file_refusal-seal : file_refusal (head_with (low 1) (low 0) (low 0) ++ its_word) ≡ Some Seal
+unfolding sip start round absorb answer whole_words rest
+file_refusal-seal = refl
+
+-- of two reasons the first is told: a wrong number before a size
+file_refusal-hashes_and_cut : file_refusal (first ++ low 0 ++ low 1) ≡ Some HashCount
+unfolding sip start round absorb answer whole_words rest
+file_refusal-hashes_and_cut = refl
+
+-- a size comes before a reserved byte
+file_refusal-cut_and_reserved : file_refusal (head_with its_seal (low 0) (low 1)) ≡ Some Cut
+unfolding sip start round absorb answer whole_words rest
+file_refusal-cut_and_reserved = refl
+
+file_refusal-long_and_reserved : file_refusal (head_with its_seal (low 0) (low 1) ++ its_word ++ 0 ∷ [])
+    ≡ Some TooLong
+unfolding sip start round absorb answer whole_words rest
+file_refusal-long_and_reserved = refl
+
+-- a size comes before a seal
+file_refusal-long_and_seal : file_refusal (head_with (low 1) (low 0) (low 0) ++ its_word ++ 0 ∷ [])
+    ≡ Some TooLong
+unfolding sip start round absorb answer whole_words rest
+file_refusal-long_and_seal = refl
+
+-- a reserved byte comes before a seal
+file_refusal-reserved_and_seal : file_refusal (head_with (low 1) (low 1) (low 0) ++ its_word)
+    ≡ Some Reserved
+unfolding sip start round absorb answer whole_words rest
+file_refusal-reserved_and_seal = refl
+
+-- the mark alone is cut
+file_refusal-mark_alone : file_refusal first ≡ Some Cut
+unfolding sip start round absorb answer whole_words rest
+file_refusal-mark_alone = refl
