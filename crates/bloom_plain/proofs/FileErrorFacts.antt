@@ -4,7 +4,8 @@ use Rattle.std.proofs.Common.{◌≡◌, [], Some, None, refl, inl, inr}
 use Rattle.std.specs.declared.io.ErrorKind.TheVariants as kind
 use Rattle.bloom_parts.specs.Sip.{sip, start, round, absorb, answer, whole_words, rest}
 use Rattle.bloom_plain.specs.declared.file.error.FileError.TheVariants.{NotAFilter, Version, HashCount, EmptyWords, TooManyWords, Cut, TooLong, Reserved, Seal, Memory, Input}
-use Rattle.bloom_plain.specs.File.{IsInput, IsReadAs, IsRefusedAs, IsToldOf}
+use Rattle.bloom_plain.specs.FileReads.{IsInput, IsReadAs, IsToldOf}
+use Rattle.bloom_plain.specs.FileRefusals.{IsRefusedAs}
 use Rattle.bloom_plain.specs.FileCodes.{file_code_of}
 use Rattle.bloom_plain.proofs.FileFacts.{first, worked}
 

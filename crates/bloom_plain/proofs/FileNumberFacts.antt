@@ -2,7 +2,7 @@
 -- `FileFacts`.
 use Rattle.std.proofs.Common.{◌≡◌, [], ◌∷◌, ◌++◌, true, false, refl}
 use Rattle.bloom_parts.specs.Sip.{sip, start, round, absorb, answer, whole_words, rest}
-use Rattle.bloom_plain.specs.File.{file_size, has_number, head_in, is_hash_count, number_at, seal_in}
+use Rattle.bloom_plain.specs.FileRefusals.{file_size, has_number, head_in, is_hash_count, number_at, seal_in}
 use Rattle.bloom_plain.proofs.FileFacts.{head_with, its_head, its_word, low, worked}
 
 -- the numbers of the worked file, each at its place

@@ -6,7 +6,9 @@ use Rattle.bloom_parts.specs.declared.hasher.sip.RandomDefaultHasher.{RandomDefa
 use Rattle.bloom_parts.specs.Hashed.{Hashed, SipState, Takes}
 use Rattle.bloom_parts.specs.Sip.{start, whole_words, rest}
 use Rattle.bloom_plain.specs.Data.{AnswerAlike, DefaultFilter}
-use Rattle.bloom_plain.specs.File.{FileLaw, HasOwnKey, IsFileOf, ReadableLaw, ReadsFile, ReadsWords, SameFileItemsLaw, bytes_of, file_refusal}
+use Rattle.bloom_plain.specs.File.{FileLaw, HasOwnKey, IsFileOf, SameFileItemsLaw, bytes_of}
+use Rattle.bloom_plain.specs.FileReads.{ReadsFile, ReadsWords}
+use Rattle.bloom_plain.specs.FileRefusals.{ReadableLaw, file_refusal}
 use Rattle.bloom_plain.proofs.FileFacts.{crabs, its_word, unsealed, worked}
 use Rattle.bloom_plain.proofs.FileOfFacts.{is_file-longer, is_file-unsealed, is_file-worked, own_key-worked}
 

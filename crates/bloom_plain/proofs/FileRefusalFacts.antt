@@ -2,7 +2,7 @@
 use Rattle.std.proofs.Common.{◌≡◌, [], ◌∷◌, ◌++◌, Some, None, refl}
 use Rattle.bloom_parts.specs.Sip.{sip, start, round, absorb, answer, whole_words, rest}
 use Rattle.bloom_plain.specs.declared.file.error.FileError.TheVariants.{NotAFilter, Version, HashCount, EmptyWords, TooManyWords, Cut, TooLong, Reserved, Seal}
-use Rattle.bloom_plain.specs.File.{file_refusal, reserved_refusal, seal_refusal, size_refusal, whole_head_refusal, wrong_seal}
+use Rattle.bloom_plain.specs.FileRefusals.{file_refusal, reserved_refusal, seal_refusal, size_refusal, whole_head_refusal, wrong_seal}
 use Rattle.bloom_plain.proofs.FileFacts.{first, head_with, its_seal, its_word, key_first, key_last, low, unsealed, worked}
 
 -- a byte less than the words want is cut, and a byte more is too long

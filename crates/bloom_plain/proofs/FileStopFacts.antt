@@ -2,7 +2,7 @@
 use Rattle.std.proofs.Common.{[], ◌∷◌, Some, None, arith}
 use Rattle.std.specs.declared.io.ErrorKind.TheVariants as kind
 use Rattle.bloom_plain.specs.declared.file.error.FileError.TheVariants.{NotAFilter, Version, HashCount, EmptyWords, TooManyWords, Cut, TooLong, Reserved, Seal, Memory, Input}
-use Rattle.bloom_plain.specs.File.{StopsEnd, StopsWords}
+use Rattle.bloom_plain.specs.FileReads.{StopsEnd, StopsWords}
 use Rattle.bloom_plain.proofs.FileFacts.{low}
 
 -- fewer bytes than the words want are cut, where it is known how many there are

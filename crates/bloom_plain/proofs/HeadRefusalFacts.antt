@@ -2,7 +2,7 @@
 use Rattle.std.proofs.Common.{◌≡◌, [], ◌∷◌, ◌++◌, Some, None, refl}
 use Rattle.bloom_parts.specs.Sip.{whole_words}
 use Rattle.bloom_plain.specs.declared.file.error.FileError.TheVariants.{NotAFilter, Version, HashCount, EmptyWords, TooManyWords}
-use Rattle.bloom_plain.specs.File.{head_refusal}
+use Rattle.bloom_plain.specs.FileRefusals.{head_refusal}
 use Rattle.bloom_plain.proofs.FileFacts.{first, head_with, low}
 
 -- no bytes are no filter, and neither are seven
