@@ -1,0 +1,82 @@
+//! What is told of a filter.
+ghost use Rattle.std.specs.Prelude.{◌≡◌, ◌*◌, ◌^◌, ◌≤◌, ◌<◌, count_ones, length, IfOk, string_bytes};
+ghost use Rattle.summaries_engine.specs.Facts.{facts_text, form_text, key_text, ones_of, set_text, share_of};
+
+use crate::form::Form;
+use fastbloom::BloomFilter;
+use std::alloc::{AllocError, Global};
+
+// How many bits of a word are set.
+fn ones_in(word: u64) -> u64
+    ensures value { result ≡ count_ones word }
+    ensures most { result ≤ 64 }
+{
+    u64::from(word.count_ones())
+}
+
+// How many bits of some words are set.
+fn ones_of(words: &[u64]) -> u64
+    requires { length words.now < 2 ^ 58 }
+    ensures value { result ≡ ones_of words.now }
+    ensures most { result ≤ 64 * length words.now }
+{
+    let mut ones = 0;
+    'words: for word in words {
+        ones += ones_in(*word);
+    }
+    ones
+}
+
+// What a form is called.
+fn name_of(form: Form) -> &'static str
+    ensures { result.now ≡ form_text form }
+{
+    match form {
+        Form::Sealed => "file, sealed",
+        Form::Unsealed => "file, no seal",
+        Form::Json => "JSON",
+    }
+}
+
+// The line of a key: its sixteen bytes, the lowest of each word first.
+fn key_line(alloc: Global, k0: u64, k1: u64) -> Result<String, AllocError>
+    ensures { IfOk result (λ text. string_bytes text ≡ key_text k0 k1) }
+{
+    let (low, high) = (k0.swap_bytes(), k1.swap_bytes());
+    format!(in alloc; "key: {low:016x}{high:016x}\n")
+}
+
+// The share of some bits in all, in hundredths of a percent, rounded half up.
+fn share(ones: u64, bits: usize) -> u64
+    requires some { 0 < bits }
+    requires part { ones ≤ bits }
+    ensures { result ≡ share_of ones bits }
+{
+    let share = (ones as u128 * 10_000 + bits as u128 / 2) / bits as u128;
+    share as u64
+}
+
+// The line of the bits that are set.
+fn set_line(alloc: Global, ones: u64, share: u64) -> Result<String, AllocError>
+    ensures { IfOk result (λ text. string_bytes text ≡ set_text ones share) }
+{
+    let (whole, part) = (share / 100, share % 100);
+    format!(in alloc; "bits set: {ones} ({whole}.{part:02} %)\n")
+}
+
+/// Lines that tell a filter's form, its numbers of bits and of hashes, the sixteen bytes of its
+/// key, and how many bits are set, with their share in percent.
+///
+/// # Errors
+/// Out of memory.
+pub fn facts_of(alloc: Global, filter: &BloomFilter, form: Form) -> Result<String, AllocError>
+    ensures { IfOk result (λ text. string_bytes text ≡ facts_text filter.now form) }
+{
+    let (bits, hashes) = (filter.num_bits(), filter.num_hashes());
+    let (k0, k1) = filter.hasher().key();
+    let key = key_line(alloc, k0, k1)?;
+    let ones = ones_of(filter.as_slice());
+    let set = set_line(alloc, ones, share(ones, bits))?;
+    let name = name_of(form);
+    format!(in alloc; "form: {name}\nbits: {bits}\nhashes: {hashes}\n{key}{set}")
+}
