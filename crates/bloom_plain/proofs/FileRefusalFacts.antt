@@ -1,12 +1,21 @@
--- Why a file is refused for its size, what is reserved or its seal, and which of two reasons is told.
-use Rattle.std.proofs.Common.{◌≡◌, [], ◌∷◌, ◌++◌, Some, None, refl}
+-- Why a file is refused for its size, what is reserved or its seal, and which of two reasons is
+-- told.
+use Rattle.std.proofs.Common.{◌≡◌, ℕ, List, [], ◌∷◌, ◌++◌, Some, None, refl}
 use Rattle.bloom_parts.specs.Sip.{sip, start, round, absorb, answer, whole_words, rest}
 use Rattle.bloom_plain.specs.declared.file.error.FileError.TheVariants.{NotAFilter, Version, HashCount, EmptyWords, TooManyWords, Cut, TooLong, Reserved, Seal}
 use Rattle.bloom_plain.specs.FileRefusals.{file_refusal, reserved_refusal, seal_refusal, size_refusal, whole_head_refusal, wrong_seal}
-use Rattle.bloom_plain.proofs.FileFacts.{first, head_with, its_seal, its_word, key_first, key_last, low, unsealed, worked}
+use Rattle.bloom_plain.proofs.FileFacts.{first, head_with, its_seal, its_word, low, unsealed, worked}
+
+-- the worked file without its last byte
+abbrev cut : List ℕ
+cut = head_with its_seal (low 0) (low 0) ++ 0 ∷ 20 ∷ 0 ∷ 64 ∷ 128 ∷ 0 ∷ 128 ∷ []
+
+-- eight bytes of which only the highest isn't 0
+abbrev high : List ℕ
+high = 0 ∷ 0 ∷ 0 ∷ 0 ∷ 0 ∷ 0 ∷ 0 ∷ 1 ∷ []
 
 -- a byte less than the words want is cut, and a byte more is too long
-size_refusal-cut : size_refusal (head_with its_seal (low 0) (low 0) ++ 0 ∷ 20 ∷ 0 ∷ 64 ∷ 128 ∷ 0 ∷ 128 ∷ [])
+size_refusal-cut : size_refusal cut
     ≡ Some Cut
 unfolding whole_words
 size_refusal-cut = refl
@@ -40,7 +49,7 @@ reserved_refusal-first : reserved_refusal (head_with its_seal (low 1) (low 0)) �
 unfolding whole_words
 reserved_refusal-first = refl
 
-reserved_refusal-last : reserved_refusal (head_with its_seal (low 0) (0 ∷ 0 ∷ 0 ∷ 0 ∷ 0 ∷ 0 ∷ 0 ∷ 1 ∷ []))
+reserved_refusal-last : reserved_refusal (head_with its_seal (low 0) high)
     ≡ Some Reserved
 unfolding whole_words
 reserved_refusal-last = refl
@@ -87,7 +96,7 @@ whole_head-reserved : whole_head_refusal (head_with its_seal (low 0) (low 1)) �
 unfolding whole_words
 whole_head-reserved = refl
 
-whole_head-hashes : whole_head_refusal (first ++ low 0 ++ low 1 ++ key_first ++ key_last ++ its_seal ++ low 0 ++ low 1)
+whole_head-hashes : whole_head_refusal (first ++ low 0 ++ low 1 ++ low 2 ++ low 3 ++ low 4 ++ low 5 ++ low 6)
     ≡ Some HashCount
 unfolding whole_words
 whole_head-hashes = refl
@@ -124,7 +133,7 @@ unfolding sip start round absorb answer whole_words rest
 file_refusal-many_words = refl
 
 -- a byte less, a byte more, a reserved byte, and another seal
-file_refusal-cut : file_refusal (head_with its_seal (low 0) (low 0) ++ 0 ∷ 20 ∷ 0 ∷ 64 ∷ 128 ∷ 0 ∷ 128 ∷ [])
+file_refusal-cut : file_refusal cut
     ≡ Some Cut
 unfolding sip start round absorb answer whole_words rest
 file_refusal-cut = refl
@@ -152,10 +161,10 @@ file_refusal-cut_and_reserved : file_refusal (head_with its_seal (low 0) (low 1)
 unfolding sip start round absorb answer whole_words rest
 file_refusal-cut_and_reserved = refl
 
-file_refusal-long_and_reserved : file_refusal (head_with its_seal (low 0) (low 1) ++ its_word ++ 0 ∷ [])
+file_refusal-long_reserved : file_refusal (head_with its_seal (low 0) (low 1) ++ its_word ++ 0 ∷ [])
     ≡ Some TooLong
 unfolding sip start round absorb answer whole_words rest
-file_refusal-long_and_reserved = refl
+file_refusal-long_reserved = refl
 
 -- a size comes before a seal
 file_refusal-long_and_seal : file_refusal (head_with (low 1) (low 0) (low 0) ++ its_word ++ 0 ∷ [])

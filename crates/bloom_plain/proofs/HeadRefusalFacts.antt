@@ -95,7 +95,8 @@ head_refusal-one_word : head_refusal (first ++ low 3 ++ low 1) ≡ None
 unfolding whole_words
 head_refusal-one_word = refl
 
-head_refusal-most_words : head_refusal (first ++ low 3 ++ 255 ∷ 255 ∷ 255 ∷ 255 ∷ 255 ∷ 255 ∷ 255 ∷ 3 ∷ [])
+head_refusal-most_words : head_refusal
+    (first ++ low 3 ++ 255 ∷ 255 ∷ 255 ∷ 255 ∷ 255 ∷ 255 ∷ 255 ∷ 3 ∷ [])
     ≡ None
 unfolding whole_words
 head_refusal-most_words = refl
