@@ -96,7 +96,8 @@ whole_head-reserved : whole_head_refusal (head_with its_seal (low 0) (low 1)) â‰
 unfolding whole_words
 whole_head-reserved = refl
 
-whole_head-hashes : whole_head_refusal (first ++ low 0 ++ low 1 ++ low 2 ++ low 3 ++ low 4 ++ low 5 ++ low 6)
+whole_head-hashes : whole_head_refusal
+    (first ++ low 0 ++ low 1 ++ low 2 ++ low 3 ++ low 4 ++ low 5 ++ low 6)
     â‰¡ Some HashCount
 unfolding whole_words
 whole_head-hashes = refl
