@@ -1,5 +1,5 @@
--- Which bytes are the file of a filter: cases that hold, and cases that nearly do. The worked filter
--- and its file are those of `FileFacts`.
+-- Which bytes are the file of a filter: cases that hold, and cases that nearly do. The worked
+-- filter and its file are those of `FileFacts`.
 use Rattle.std.proofs.Common.{◌≡◌, ℕ, zero, suc, ◌^◌, ◌<◌, List, [], ◌∷◌, ◌++◌, length, get_or, refl, ap, ◌∙◌, arith, inl, inr}
 use Rattle.bloom_parts.specs.Content.{AreWords}
 use Rattle.bloom_parts.specs.Sip.{sip, start, round, absorb, answer, whole_words, rest}

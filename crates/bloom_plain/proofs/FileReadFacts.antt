@@ -64,7 +64,8 @@ reads-untaken from to is =
     omega (arith, wrong)
 
 -- a hasher that took in nothing didn't take in the bytes of a word
-reads-unhashed : ReadsWords (Some its_word) (Some []) [] (0x1080_0080_4000_1400 ∷ []) fresh fresh → ⊥
+reads-unhashed : ReadsWords (Some its_word) (Some []) [] (0x1080_0080_4000_1400 ∷ []) fresh fresh
+    → ⊥
 unfolding bytes_of
 reads-unhashed is =
     let taken : Takes fresh fresh (bytes_of (0x1080_0080_4000_1400 ∷ [])) =
