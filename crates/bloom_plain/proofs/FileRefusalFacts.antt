@@ -15,8 +15,7 @@ abbrev high : List ℕ
 high = 0 ∷ 0 ∷ 0 ∷ 0 ∷ 0 ∷ 0 ∷ 0 ∷ 1 ∷ []
 
 -- a byte less than the words want is cut, and a byte more is too long
-size_refusal-cut : size_refusal cut
-    ≡ Some Cut
+size_refusal-cut : size_refusal cut ≡ Some Cut
 unfolding whole_words
 size_refusal-cut = refl
 
@@ -49,8 +48,7 @@ reserved_refusal-first : reserved_refusal (head_with its_seal (low 1) (low 0)) �
 unfolding whole_words
 reserved_refusal-first = refl
 
-reserved_refusal-last : reserved_refusal (head_with its_seal (low 0) high)
-    ≡ Some Reserved
+reserved_refusal-last : reserved_refusal (head_with its_seal (low 0) high) ≡ Some Reserved
 unfolding whole_words
 reserved_refusal-last = refl
 
@@ -134,8 +132,7 @@ unfolding sip start round absorb answer whole_words rest
 file_refusal-many_words = refl
 
 -- a byte less, a byte more, a reserved byte, and another seal
-file_refusal-cut : file_refusal cut
-    ≡ Some Cut
+file_refusal-cut : file_refusal cut ≡ Some Cut
 unfolding sip start round absorb answer whole_words rest
 file_refusal-cut = refl
 
