@@ -63,11 +63,19 @@ fn is_head_refused(bytes: &[u8; 64], refused: FileError) -> bool {
     }
 }
 
+// The worked file with another number at a place, or as it is where the place lies behind it.
+fn changed(at: usize, value: u64) -> [u8; 72] {
+    let mut file = WORKED;
+    if at <= 64 {
+        file[at..at + 8].copy_from_slice(&value.to_le_bytes());
+    }
+    file
+}
+
 #[test]
 fn a_number_is_refused_past_its_border(rt: HostRuntime) {
     for (at, value, refused) in NUMBERS {
-        let mut file = WORKED;
-        file[at..at + 8].copy_from_slice(&value.to_le_bytes());
+        let file = changed(at, value);
         let mut head = [0u8; 64];
         head.copy_from_slice(&file[..64]);
         assert!(rt;
@@ -89,8 +97,7 @@ const CUTS: [(usize, usize, FileError); 4] = [
 #[test]
 fn a_number_counts_once_it_is_whole(rt: HostRuntime) {
     for (at, length, refused) in CUTS {
-        let mut file = WORKED;
-        file[at..at + 8].copy_from_slice(&[0; 8]);
+        let file = changed(at, 0);
         assert!(rt;
             are_refused(rt.alloc(), &file[..length], refused),
             "{length}"
