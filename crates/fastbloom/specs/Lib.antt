@@ -6,6 +6,8 @@ pub mod Shared
 pub use Rattle.bloom_plain.specs.Builders
 pub use Rattle.bloom_plain.specs.CommandOf
 pub use Rattle.bloom_plain.specs.Data
+pub use Rattle.bloom_plain.specs.File
+pub use Rattle.bloom_plain.specs.FileCodes
 pub use Rattle.bloom_plain.specs.Filter
 pub use Rattle.bloom_plain.specs.Laws
 pub use Rattle.bloom_plain.specs.Replies

@@ -1,6 +1,8 @@
 //! The arguments of the program.
 
+use clap::error::ErrorKind;
 use clap::{Arg, ArgAction, ArgMatches, Command, Error, value_parser};
+use fastbloom::Rate;
 use std::alloc::Global;
 
 // The commands' arguments by their ids.
@@ -8,15 +10,24 @@ pub const BITS: &str = "bits";
 
 pub const HASHES: &str = "hashes";
 
+pub const ITEMS: &str = "items";
+
+pub const RATE: &str = "rate";
+
 pub const WORKERS: &str = "workers";
+
+pub const JSON: &str = "json";
+
+pub const MOST_HASHES: &str = "hashes-up-to";
 
 pub const FILTER: &str = "FILTER";
 
-fn build_command<'a>(alloc: Global) -> Result<Command<'a>, Error> {
+// The arguments that size a filter: by its bits, or by its keys and a rate.
+fn with_sizes<'a>(alloc: Global, command: Command<'a>) -> Result<Command<'a>, Error> {
     let bits = Arg::new(alloc, BITS)
         .long("bits")
         .value_name("N")
-        .required(true)
+        .required_unless_present(ITEMS)?
         .help("At least this many bits: ten for each key make one mistake in a hundred")
         .value_parser(value_parser!(u64).range(1..1_000_000_000_001));
     let hashes = Arg::new(alloc, HASHES)
@@ -25,19 +36,52 @@ fn build_command<'a>(alloc: Global) -> Result<Command<'a>, Error> {
         .default_value("7")
         .help("How many bits each key turns on")
         .value_parser(value_parser!(u32).range(1..1001));
+    let items = Arg::new(alloc, ITEMS)
+        .long("items")
+        .value_name("N")
+        .requires_arg(RATE)?
+        .conflicts_with_all(&[BITS, HASHES])?
+        .help("How many keys are expected, in place of --bits and --hashes")
+        .value_parser(value_parser!(u64).range(1..1_000_000_000_001));
+    let rate = Arg::new(alloc, RATE)
+        .long("rate")
+        .value_name("A/B")
+        .requires_arg(ITEMS)?
+        .help("The share of other keys that may be taken for one of them by mistake");
+    Ok(command.arg(bits)?.arg(hashes)?.arg(items)?.arg(rate)?)
+}
+
+fn build_command<'a>(alloc: Global) -> Result<Command<'a>, Error> {
     let workers = Arg::new(alloc, WORKERS)
         .long("workers")
         .value_name("N")
         .default_value("1")
         .help("How many threads fill the filter")
         .value_parser(value_parser!(u16).range(1..1025));
-    Ok(
-        Command::new(alloc, "build")
-            .about("Reads keys, one a line, and writes their filter as JSON")
-            .arg(bits)?
-            .arg(hashes)?
-            .arg(workers)?,
-    )
+    let command = Command::new(alloc, "build").about("Reads keys, one a line, and writes their filter");
+    Ok(with_sizes(alloc, command)?.arg(workers)?.arg(json(alloc))?)
+}
+
+fn json<'a>(alloc: Global) -> Arg<'a> {
+    Arg::new(alloc, JSON)
+        .long("json")
+        .action(ArgAction::SetTrue)
+        .help("Writes the filter as JSON, in place of the file form")
+}
+
+fn most_hashes<'a>(alloc: Global) -> Arg<'a> {
+    Arg::new(alloc, MOST_HASHES)
+        .long("hashes-up-to")
+        .value_name("N")
+        .default_value("64")
+        .help("Refuses a filter with more hashes: each costs time at every key")
+        .value_parser(value_parser!(u32).range(1..4_294_967_296))
+}
+
+fn file<'a>(alloc: Global) -> Arg<'a> {
+    Arg::new(alloc, FILTER)
+        .required(true)
+        .help("A file with a filter, in the file form or as JSON")
 }
 
 fn unite_command<'a>(alloc: Global) -> Result<Command<'a>, Error> {
@@ -45,27 +89,35 @@ fn unite_command<'a>(alloc: Global) -> Result<Command<'a>, Error> {
         .required(true)
         .action(ArgAction::Append)
         .num_args(1..)
-        .help("Files with filters of one shape and key, as JSON");
+        .help("Files with filters of one shape and key, in the file form or as JSON");
     Ok(
         Command::new(alloc, "unite")
-            .about("Writes the filter of all keys of some filters, as JSON")
+            .about("Writes the filter of all keys of some filters")
+            .arg(most_hashes(alloc))?
+            .arg(json(alloc))?
             .arg(files)?,
     )
 }
 
 fn ask_command<'a>(alloc: Global) -> Result<Command<'a>, Error> {
-    let file = Arg::new(alloc, FILTER)
-        .required(true)
-        .help("A file with a filter, as JSON");
     Ok(
         Command::new(alloc, "ask")
             .about("Reads keys, one a line, and writes those that may be in a filter")
-            .arg(file)?,
+            .arg(most_hashes(alloc))?
+            .arg(file(alloc))?,
     )
 }
 
-/// The program's command line.
-pub fn command<'a>(alloc: Global) -> Result<Command<'a>, Error> {
+fn info_command<'a>(alloc: Global) -> Result<Command<'a>, Error> {
+    Ok(
+        Command::new(alloc, "info")
+            .about("Prints what a filter is")
+            .arg(file(alloc))?,
+    )
+}
+
+// The program's command line.
+fn command<'a>(alloc: Global) -> Result<Command<'a>, Error> {
     Ok(
         Command::new(alloc, "summaries")
             .about("Filters of the keys of shards")
@@ -73,6 +125,43 @@ pub fn command<'a>(alloc: Global) -> Result<Command<'a>, Error> {
             .arg_required_else_help(true)
             .subcommand(build_command(alloc)?)?
             .subcommand(unite_command(alloc)?)?
-            .subcommand(ask_command(alloc)?)?,
+            .subcommand(ask_command(alloc)?)?
+            .subcommand(info_command(alloc)?)?,
     )
+}
+
+/// The rate that a text such as 1/1000 tells, if it lies between 0 and 1.
+pub fn rate_of(text: &str) -> Option<Rate> {
+    let (num, den) = text.split_once('/')?;
+    let num = num.parse::<u64>().ok()?;
+    let den = den.parse::<u64>().ok()?;
+    if num < den {
+        Rate::new(num, den).ok()
+    } else {
+        None
+    }
+}
+
+// Whether a command's words have a rate that is none.
+fn has_bad_rate(matches: &ArgMatches) -> bool {
+    match matches.subcommand() {
+        Some((_, words)) => match words.get_str(RATE) {
+            Some(text) => rate_of(text).is_none(),
+            None => false,
+        },
+        None => false,
+    }
+}
+
+/// What the words ask for, of which the first is the program's name.
+///
+/// # Errors
+/// The text for the user: what is wrong with the words, or the help.
+pub fn arguments<'a>(alloc: Global, words: &'a [String]) -> Result<ArgMatches<'a>, Error> {
+    let matches = command(alloc)?.try_get_matches_from(words)?;
+    if has_bad_rate(&matches) {
+        let told = "the rate is a fraction between 0 and 1, as 1/1000";
+        return Err(command(alloc)?.error(ErrorKind::ValueValidation, told)?);
+    }
+    Ok(matches)
 }

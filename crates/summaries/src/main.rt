@@ -1,4 +1,4 @@
-//! Filters of the keys of shards: builds them, unites them, and asks them.
+//! Filters of the keys of shards: builds them, unites them, asks them, and tells what they are.
 #![tactic(auto)]
 
 mod command_line;
@@ -6,35 +6,63 @@ mod form;
 
 use anyhow::{Context, bail};
 use clap::ArgMatches;
-use command_line::{BITS, FILTER, HASHES, WORKERS, command};
-use fastbloom::Shape;
-use form::Disk;
+use command_line::{
+    BITS, FILTER, HASHES, ITEMS, JSON, MOST_HASHES, RATE, WORKERS, arguments, rate_of,
+};
+use fastbloom::{BloomFilter, Shape};
+use form::{Disk, load_any};
 use std::alloc::Global;
 use std::io::{BufWriter, Write};
 use std::process::ExitCode;
 use std::rt::{Env, Files};
 use std::thread::Threads;
-use summaries_engine::{Shelf, ask, build, put, unite_named};
+use summaries_engine::{Shelf, ask, build, facts_of, put, put_file, shape_for, unite_named};
+
+// The shape that the words ask for: by keys and a rate, or by bits and hashes.
+fn shape_of(matches: &ArgMatches) -> anyhow::Result<Shape> {
+    if let Some(items) = matches.get_one::<u64>(ITEMS) {
+        let text = matches.get_str(RATE).context("which rate?")?;
+        let rate = rate_of(text).context("which rate?")?;
+        return Ok(shape_for(items as usize, rate)?);
+    }
+    let bits = matches.get_one::<u64>(BITS).context("how many bits?")?;
+    let hashes = matches.get_one::<u32>(HASHES).context("how many hashes?")?;
+    Ok(Shape::new(bits as usize, hashes)?)
+}
+
+// Writes a filter in the form that the words ask for.
+fn write<R: Print + AllocGlobal>(
+    rt: &R,
+    matches: &ArgMatches,
+    filter: &BloomFilter,
+) -> anyhow::Result<()> {
+    if matches.get_flag(JSON) {
+        put(rt.alloc(), filter, &mut std::io::writer(rt))
+    } else {
+        put_file(filter, &mut std::io::writer(rt))
+    }
+}
 
 fn run_build<R: Input + Print + AllocGlobal + Threads>(
     rt: &R,
     matches: &ArgMatches,
 ) -> anyhow::Result<()> {
-    let bits = matches.get_one::<u64>(BITS).context("how many bits?")?;
-    let hashes = matches.get_one::<u32>(HASHES).context("how many hashes?")?;
+    let shape = shape_of(matches)?;
     let workers = matches
         .get_one::<u16>(WORKERS)
         .context("how many workers?")?;
-    let shape = Shape::new(bits as usize, hashes)?;
     let workers = usize::from(workers.max(1));
     let filter = build(rt, rt.alloc(), shape, workers, &mut rt.reader())?;
-    put(rt.alloc(), &filter, &mut std::io::writer(rt))
+    write(rt, matches, &filter)
 }
 
 fn run_unite<R: Files + Print + AllocGlobal>(rt: &R, matches: &ArgMatches) -> anyhow::Result<()> {
     let names = matches.get_strs(FILTER).context("which filters?")?;
-    let filter = unite_named(&Disk { rt }, names)?;
-    put(rt.alloc(), &filter, &mut std::io::writer(rt))
+    let most = matches
+        .get_one::<u32>(MOST_HASHES)
+        .context("how many hashes?")?;
+    let filter = unite_named(&Disk { rt, most }, names)?;
+    write(rt, matches, &filter)
 }
 
 fn run_ask<R: Files + Input + Print + AllocGlobal>(
@@ -42,15 +70,25 @@ fn run_ask<R: Files + Input + Print + AllocGlobal>(
     matches: &ArgMatches,
 ) -> anyhow::Result<()> {
     let name = matches.get_str(FILTER).context("which filter?")?;
-    let filter = Disk { rt }.load(name)?;
+    let most = matches
+        .get_one::<u32>(MOST_HASHES)
+        .context("how many hashes?")?;
+    let filter = Disk { rt, most }.load(name)?;
     let mut output = BufWriter::new(rt.alloc(), std::io::writer(rt))?;
     ask(rt.alloc(), &filter, &mut rt.reader(), &mut output)?;
     output.flush().context("the keys can't be written")
 }
 
+fn run_info<R: Files + Print + AllocGlobal>(rt: &R, matches: &ArgMatches) -> anyhow::Result<()> {
+    let name = matches.get_str(FILTER).context("which filter?")?;
+    let (filter, form) = load_any(rt, name, u32::MAX)?;
+    let facts = facts_of(rt.alloc(), &filter, form)?;
+    print!(rt; "{facts}").context("the facts can't be written")
+}
+
 fn main(rt: HostRuntime) -> anyhow::Result<ExitCode> {
     let words: Vec<String> = std::env::args(&rt)?.collect(rt.alloc())?;
-    let matches = match command(rt.alloc())?.try_get_matches_from(words.as_slice()) {
+    let matches = match arguments(rt.alloc(), words.as_slice()) {
         Ok(matches) => matches,
         Err(error) => {
             error.print(&rt)?;
@@ -61,6 +99,7 @@ fn main(rt: HostRuntime) -> anyhow::Result<ExitCode> {
         Some(("build", matches)) => run_build(&rt, matches)?,
         Some(("unite", matches)) => run_unite(&rt, matches)?,
         Some(("ask", matches)) => run_ask(&rt, matches)?,
+        Some(("info", matches)) => run_info(&rt, matches)?,
         _ => bail!("no command was given"),
     }
     Ok(ExitCode::SUCCESS)

@@ -1,5 +1,8 @@
 pub mod Answers
+pub mod Facts
+pub mod Loaded
 pub mod Named
 pub mod Refusals
+pub mod Sizes
 pub mod Stops
 pub mod Summaries

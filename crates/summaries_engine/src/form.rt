@@ -1,11 +1,26 @@
-//! Filters as JSON text.
-ghost use Rattle.std.specs.Prelude.{IfOk};
+//! How a filter lies in a file: in the file form of the library, or as JSON text.
+ghost use Rattle.std.specs.Prelude.{codes, IfErr, IfOk, OnOk, OnErr};
+ghost use Rattle.std.specs.Io.KnownBytes.{Appends};
+ghost use Rattle.lines.specs.Writing.{AppendsPart};
+ghost use Rattle.fastbloom.specs.File.{file_of};
 ghost use Rattle.summaries_engine.specs.Answers.{IsKeyed};
+ghost use Rattle.summaries_engine.specs.Stops.{SaysOver};
 
 use anyhow::Context;
 use fastbloom::{BloomFilter, FilterData};
 use std::alloc::Global;
 use std::io::Write;
+
+/// How a filter lies in a file.
+#[derive(Clone, Copy, Debug, PartialEq, Eq)]
+pub enum Form {
+    /// The file form, with the seal of its bytes.
+    Sealed,
+    /// The file form, with no seal.
+    Unsealed,
+    /// JSON text.
+    Json,
+}
 
 /// The filter of a text.
 ///
@@ -16,6 +31,30 @@ pub fn filter_of(alloc: Global, text: &str) -> anyhow::Result<BloomFilter>
 {
     let form: FilterData = serde_json::from_str(alloc, text)?;
     Ok(BloomFilter::from_data(form)?)
+}
+
+/// Writes the file of a filter, with its seal.
+///
+/// # Errors
+/// Where a write or the flush fails. Then a beginning of the file was written.
+pub fn put_file<W: Write>(filter: &BloomFilter, output: &mut W) -> anyhow::Result<()>
+    ensures whole { OnOk result
+        (Appends (W.contents output.old) (W.contents output.new) (file_of filter.now)) }
+    ensures part { OnErr result
+        (AppendsPart (file_of filter.now) (W.contents output.old) (W.contents output.new)) }
+    ensures failed { IfErr result (SaysOver (codes "the filter can't be written")) }
+{
+    write_file(filter, output).context("the filter can't be written")
+}
+
+fn write_file<W: Write>(filter: &BloomFilter, output: &mut W) -> std::io::Result<()>
+    ensures whole { OnOk result
+        (Appends (W.contents output.old) (W.contents output.new) (file_of filter.now)) }
+    ensures part { OnErr result
+        (AppendsPart (file_of filter.now) (W.contents output.old) (W.contents output.new)) }
+{
+    filter.write_file(output)?;
+    output.flush()
 }
 
 /// Writes a filter as one line of text, all of which is made before its first byte is written.
