@@ -1,7 +1,7 @@
 //! The arguments of the program.
 
 use clap::error::ErrorKind;
-use clap::{Arg, ArgAction, ArgMatches, Command, Error, value_parser};
+use clap::{Arg, ArgAction, ArgGroup, ArgMatches, Command, Error, value_parser};
 use fastbloom::Rate;
 use std::alloc::Global;
 
@@ -27,7 +27,6 @@ fn with_sizes<'a>(alloc: Global, command: Command<'a>) -> Result<Command<'a>, Er
     let bits = Arg::new(alloc, BITS)
         .long("bits")
         .value_name("N")
-        .required_unless_present(ITEMS)?
         .help("At least this many bits: ten for each key make one mistake in a hundred")
         .value_parser(value_parser!(u64).range(1..1_000_000_000_001));
     let hashes = Arg::new(alloc, HASHES)
@@ -40,15 +39,26 @@ fn with_sizes<'a>(alloc: Global, command: Command<'a>) -> Result<Command<'a>, Er
         .long("items")
         .value_name("N")
         .requires_arg(RATE)?
-        .conflicts_with_all(&[BITS, HASHES])?
+        .conflicts_with(HASHES)?
         .help("How many keys are expected, in place of --bits and --hashes")
         .value_parser(value_parser!(u64).range(1..1_000_000_000_001));
     let rate = Arg::new(alloc, RATE)
         .long("rate")
         .value_name("A/B")
         .requires_arg(ITEMS)?
+        .conflicts_with_all(&[BITS, HASHES])?
         .help("The share of other keys that may be taken for one of them by mistake");
-    Ok(command.arg(bits)?.arg(hashes)?.arg(items)?.arg(rate)?)
+    let size = ArgGroup::new(alloc, "size")
+        .args(&[BITS, ITEMS])?
+        .required(true);
+    Ok(
+        command
+            .arg(bits)?
+            .arg(hashes)?
+            .arg(items)?
+            .arg(rate)?
+            .group(size)?,
+    )
 }
 
 fn build_command<'a>(alloc: Global) -> Result<Command<'a>, Error> {
@@ -58,7 +68,9 @@ fn build_command<'a>(alloc: Global) -> Result<Command<'a>, Error> {
         .default_value("1")
         .help("How many threads fill the filter")
         .value_parser(value_parser!(u16).range(1..1025));
-    let command = Command::new(alloc, "build").about("Reads keys, one a line, and writes their filter");
+    let command = Command::new(alloc, "build").about(
+        "Reads keys, one a line, and writes their filter",
+    );
     Ok(with_sizes(alloc, command)?.arg(workers)?.arg(json(alloc))?)
 }
 
