@@ -1,7 +1,49 @@
 -- What is told of a filter, in lines of text. The text is this project's own.
-use Rattle.std.specs.Prelude.{◌≡◌, ℕ, ◌+◌, ◌*◌, ◌/◌, ◌%◌, codes, decimal, count_ones, List, [], ◌∷◌, ◌++◌, map}
+use Rattle.std.specs.Prelude.{ℕ, ◌+◌, ◌-◌, ◌*◌, ◌/◌, ◌%◌, ◌^◌, false, codes, decimal, count_ones, List, [], ◌++◌, map}
+use Rattle.std.specs.Fmt.{digits, format_spec, padded_integral, styled_decimal}
+use Rattle.std.specs.Int.{w64, swap_bytes}
 use Rattle.std.specs.List.{sum}
+use Rattle.bloom_parts.specs.Keys.{key_of}
+use Rattle.fastbloom.specs.Data.{DefaultFilter}
+use Rattle.fastbloom.specs.Filter.{num_bits_of}
+use Rattle.summaries_engine.specs.declared.form.Form.{Form}
+use Rattle.summaries_engine.specs.declared.form.Form.TheVariants.{Sealed, Unsealed, Json}
 
 -- how many bits of words are set
-abbrev pub count_of_ones : List ℕ → ℕ
-count_of_ones words = sum (map count_ones words)
+abbrev pub ones_of : List ℕ → ℕ
+ones_of words = sum (map count_ones words)
+
+-- what a form is called
+abbrev pub form_text : Form → List ℕ
+form_text Sealed = codes "file, sealed"
+form_text Unsealed = codes "file, no seal"
+form_text Json = codes "JSON"
+
+-- the eight bytes of a word, the lowest first, by two hexadecimal digits each
+abbrev pub bytes_text : ℕ → List ℕ
+bytes_text word =
+    padded_integral (format_spec 32 0 4 16 (2 ^ 64 - 1)) false [] (digits 16 false (swap_bytes w64 word))
+
+-- the share of some bits in all, in hundredths of a percent, rounded half up
+abbrev pub share_of : ℕ → ℕ → ℕ
+share_of ones bits = (ones * 10000 + bits / 2) / bits
+
+-- a share in percent, with two digits behind the point
+abbrev pub share_text : ℕ → List ℕ
+share_text share =
+    decimal (share / 100)
+    ++ (codes "." ++ styled_decimal (format_spec 32 0 4 2 (2 ^ 64 - 1)) (share % 100))
+
+-- the line of the bits that are set
+abbrev pub set_text : ℕ → ℕ → List ℕ
+set_text ones bits =
+    codes "bits set: " ++ (decimal ones ++ (codes " (" ++ (share_text (share_of ones bits) ++ codes " %)\n")))
+
+-- the lines that tell a filter in a form
+abbrev pub facts_text : DefaultFilter → Form → List ℕ
+facts_text f form =
+    codes "form: " ++ (form_text form
+    ++ (codes "\nbits: " ++ (decimal (num_bits_of f)
+    ++ (codes "\nhashes: " ++ (decimal f.hashes
+    ++ (codes "\nkey: " ++ (bytes_text (key_of f.hasher).0 ++ (bytes_text (key_of f.hasher).1
+    ++ (codes "\n" ++ set_text (ones_of f.words) (num_bits_of f))))))))))

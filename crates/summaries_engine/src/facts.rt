@@ -1,6 +1,6 @@
 //! What is told of a filter.
-ghost use Rattle.std.specs.Prelude.{◌≡◌, IfOk};
-ghost use Rattle.summaries_engine.specs.Facts.{count_of_ones, facts_text};
+ghost use Rattle.std.specs.Prelude.{◌≡◌, ◌*◌, ◌≤◌, ◌<◌, length, IfOk, string_bytes};
+ghost use Rattle.summaries_engine.specs.Facts.{facts_text, form_text, ones_of, set_text, share_of};
 
 use crate::form::Form;
 use fastbloom::BloomFilter;
@@ -8,7 +8,9 @@ use std::alloc::{AllocError, Global};
 
 // How many bits of some words are set.
 fn count_ones(words: &[u64]) -> u64
-    ensures { result ≡ count_of_ones words.now }
+    requires { length words.now < 2 ^ 58 }
+    ensures value { result ≡ ones_of words.now }
+    ensures most { result ≤ 64 * length words.now }
 {
     let mut ones = 0;
     'words: for word in words {
@@ -18,7 +20,9 @@ fn count_ones(words: &[u64]) -> u64
 }
 
 // What a form is called.
-fn name_of(form: Form) -> &'static str {
+fn name_of(form: Form) -> &'static str
+    ensures { result.now ≡ form_text form }
+{
     match form {
         Form::Sealed => "file, sealed",
         Form::Unsealed => "file, no seal",
@@ -26,8 +30,29 @@ fn name_of(form: Form) -> &'static str {
     }
 }
 
+// The share of some bits in all, in hundredths of a percent, rounded half up.
+fn share(ones: u64, bits: usize) -> u64
+    requires some { 0 < bits }
+    requires part { ones ≤ bits }
+    ensures { result ≡ share_of ones bits }
+{
+    let share = (ones as u128 * 10_000 + bits as u128 / 2) / bits as u128;
+    share as u64
+}
+
+// The line of the bits that are set.
+fn set_line(alloc: Global, ones: u64, bits: usize) -> Result<String, AllocError>
+    requires some { 0 < bits }
+    requires part { ones ≤ bits }
+    ensures { IfOk result (λ text. string_bytes text ≡ set_text ones bits) }
+{
+    let share = share(ones, bits);
+    let (whole, part) = (share / 100, share % 100);
+    format!(in alloc; "bits set: {ones} ({whole}.{part:02} %)\n")
+}
+
 /// Lines that tell a filter's form, its numbers of bits and of hashes, the sixteen bytes of its key,
-/// and how many bits are set, with their share in hundredths of a percent, rounded half up.
+/// and how many bits are set, with their share in percent.
 ///
 /// # Errors
 /// Out of memory.
@@ -37,12 +62,12 @@ pub fn facts_of(alloc: Global, filter: &BloomFilter, form: Form) -> Result<Strin
     let bits = filter.num_bits();
     let hashes = filter.num_hashes();
     let (k0, k1) = filter.hasher().key();
+    // The lowest byte of each word comes first.
     let (low, high) = (k0.swap_bytes(), k1.swap_bytes());
     let ones = count_ones(filter.as_slice());
-    let share = (u128::from(ones) * 10_000 + bits as u128 / 2) / bits as u128;
-    let (whole, part) = (share / 100, share % 100);
+    let set = set_line(alloc, ones, bits)?;
     let name = name_of(form);
     format!(in alloc;
-        "form: {name}\nbits: {bits}\nhashes: {hashes}\nkey: {low:016x}{high:016x}\nbits set: {ones} ({whole}.{part:02} %)\n"
+        "form: {name}\nbits: {bits}\nhashes: {hashes}\nkey: {low:016x}{high:016x}\n{set}"
     )
 }

@@ -47,9 +47,7 @@ fn load_text<R: Read>(
     let text = std::io::read_to_string(alloc, start.chain(input)).context(format_args!(
         "{name}: it can't be read"
     ))?;
-    Ok(filter_of(alloc, text.as_str()).context(format_args!(
-        "{name}: it holds no filter"
-    ))?)
+    Ok(filter_of(alloc, text.as_str()).context(format_args!("{name}: it holds no filter"))?)
 }
 
 // The form of a file that was loaded, by the bytes of its head.
@@ -92,9 +90,7 @@ pub fn load<R: Read>(
     };
     let hashes = filter.num_hashes();
     if hashes > most {
-        return Err(anyhow!(
-            "{name}: it has {hashes} hashes, and --hashes-up-to allows {most}"
-        ));
+        return Err(anyhow!("{name}: it has {hashes} hashes, and --hashes-up-to allows {most}"));
     }
     Ok((filter, form))
 }

@@ -1,6 +1,5 @@
 //! The shape of a filter for some keys, at a rate of mistakes.
 ghost use Rattle.std.specs.Prelude.{IfOk};
-ghost use Rattle.std.specs.Result.{result_err};
 ghost use Rattle.summaries_engine.specs.Sizes.{IsShapeFor};
 
 use bloom_plain::builder::{num_hashes_for, num_words_for};
@@ -12,9 +11,10 @@ use fastbloom::{FilterError, Rate, Shape, optimal_size};
 /// # Errors
 /// `SizeOverflow` for 2^64 bits or more, and `TooManyWords` for more than 2^58 - 1 words.
 pub fn shape_for(keys: usize, rate: Rate) -> Result<Shape, FilterError>
-    ensures shape { IfOk result (IsShapeFor keys rate) }
+    ensures { IfOk result (IsShapeFor keys rate) }
 {
-    let words = num_words_for(optimal_size(keys.max(1), rate)?)?;
-    let bits = 64 * words;
-    Shape::new(bits, num_hashes_for(bits, keys))
+    let bits = optimal_size(keys.max(1), rate)?;
+    let words = num_words_for(bits)?;
+    let shape = Shape::new(bits, num_hashes_for(64 * words, keys))?;
+    Ok(shape)
 }
