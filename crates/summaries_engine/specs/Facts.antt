@@ -1,8 +1,8 @@
 -- What is told of a filter, in lines of text. The text is this project's own.
-use Rattle.std.specs.Prelude.{ℕ, ◌+◌, ◌-◌, ◌*◌, ◌/◌, ◌%◌, ◌^◌, false, codes, decimal, count_ones, List, [], ◌++◌, map}
+use Rattle.std.specs.Prelude.{ℕ, ◌+◌, ◌-◌, ◌*◌, ◌/◌, ◌%◌, ◌^◌, false, codes, decimal, count_ones, List, [], ◌++◌}
 use Rattle.std.specs.Fmt.{digits, format_spec, padded_integral, styled_decimal}
 use Rattle.std.specs.Int.{w64, swap_bytes}
-use Rattle.std.specs.List.{sum}
+use Rattle.std.specs.List.{sum_by}
 use Rattle.bloom_parts.specs.Keys.{key_of}
 use Rattle.fastbloom.specs.Data.{DefaultFilter}
 use Rattle.fastbloom.specs.Filter.{num_bits_of}
@@ -11,7 +11,7 @@ use Rattle.summaries_engine.specs.declared.form.Form.TheVariants.{Sealed, Unseal
 
 -- how many bits of words are set
 abbrev pub ones_of : List ℕ → ℕ
-ones_of words = sum (map count_ones words)
+ones_of words = sum_by count_ones words
 
 -- what a form is called
 abbrev pub form_text : Form → List ℕ
@@ -24,20 +24,19 @@ abbrev pub bytes_text : ℕ → List ℕ
 bytes_text word =
     padded_integral (format_spec 32 0 4 16 (2 ^ 64 - 1)) false [] (digits 16 false (swap_bytes w64 word))
 
+-- the line of a key, of which these are the two words
+abbrev pub key_text : ℕ → ℕ → List ℕ
+key_text k0 k1 = codes "key: " ++ (bytes_text k0 ++ (bytes_text k1 ++ codes "\n"))
+
 -- the share of some bits in all, in hundredths of a percent, rounded half up
 abbrev pub share_of : ℕ → ℕ → ℕ
 share_of ones bits = (ones * 10000 + bits / 2) / bits
 
--- a share in percent, with two digits behind the point
-abbrev pub share_text : ℕ → List ℕ
-share_text share =
-    decimal (share / 100)
-    ++ (codes "." ++ styled_decimal (format_spec 32 0 4 2 (2 ^ 64 - 1)) (share % 100))
-
--- the line of the bits that are set
+-- the line of the bits that are set, with their share in percent: two digits behind the point
 abbrev pub set_text : ℕ → ℕ → List ℕ
-set_text ones bits =
-    codes "bits set: " ++ (decimal ones ++ (codes " (" ++ (share_text (share_of ones bits) ++ codes " %)\n")))
+set_text ones share =
+    codes "bits set: " ++ (decimal ones ++ (codes " (" ++ (decimal (share / 100) ++ (codes "."
+    ++ (styled_decimal (format_spec 32 0 4 2 (2 ^ 64 - 1)) (share % 100) ++ codes " %)\n")))))
 
 -- the lines that tell a filter in a form
 abbrev pub facts_text : DefaultFilter → Form → List ℕ
@@ -45,5 +44,5 @@ facts_text f form =
     codes "form: " ++ (form_text form
     ++ (codes "\nbits: " ++ (decimal (num_bits_of f)
     ++ (codes "\nhashes: " ++ (decimal f.hashes
-    ++ (codes "\nkey: " ++ (bytes_text (key_of f.hasher).0 ++ (bytes_text (key_of f.hasher).1
-    ++ (codes "\n" ++ set_text (ones_of f.words) (num_bits_of f))))))))))
+    ++ (codes "\n" ++ (key_text (key_of f.hasher).0 (key_of f.hasher).1
+    ++ set_text (ones_of f.words) (share_of (ones_of f.words) (num_bits_of f)))))))))

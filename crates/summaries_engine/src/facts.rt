@@ -1,6 +1,6 @@
 //! What is told of a filter.
-ghost use Rattle.std.specs.Prelude.{◌≡◌, ◌*◌, ◌≤◌, ◌<◌, length, IfOk, string_bytes};
-ghost use Rattle.summaries_engine.specs.Facts.{facts_text, form_text, ones_of, set_text, share_of};
+ghost use Rattle.std.specs.Prelude.{◌≡◌, ◌*◌, ◌^◌, ◌≤◌, ◌<◌, length, IfOk, string_bytes};
+ghost use Rattle.summaries_engine.specs.Facts.{facts_text, form_text, key_text, ones_of, set_text, share_of};
 
 use crate::form::Form;
 use fastbloom::BloomFilter;
@@ -14,7 +14,8 @@ fn count_ones(words: &[u64]) -> u64
 {
     let mut ones = 0;
     'words: for word in words {
-        ones += u64::from(word.count_ones());
+        let more = word.count_ones();
+        ones += u64::from(more);
     }
     ones
 }
@@ -30,6 +31,14 @@ fn name_of(form: Form) -> &'static str
     }
 }
 
+// The line of a key: its sixteen bytes, the lowest of each word first.
+fn key_line(alloc: Global, k0: u64, k1: u64) -> Result<String, AllocError>
+    ensures { IfOk result (λ text. string_bytes text ≡ key_text k0 k1) }
+{
+    let (low, high) = (k0.swap_bytes(), k1.swap_bytes());
+    format!(in alloc; "key: {low:016x}{high:016x}\n")
+}
+
 // The share of some bits in all, in hundredths of a percent, rounded half up.
 fn share(ones: u64, bits: usize) -> u64
     requires some { 0 < bits }
@@ -41,12 +50,9 @@ fn share(ones: u64, bits: usize) -> u64
 }
 
 // The line of the bits that are set.
-fn set_line(alloc: Global, ones: u64, bits: usize) -> Result<String, AllocError>
-    requires some { 0 < bits }
-    requires part { ones ≤ bits }
-    ensures { IfOk result (λ text. string_bytes text ≡ set_text ones bits) }
+fn set_line(alloc: Global, ones: u64, share: u64) -> Result<String, AllocError>
+    ensures { IfOk result (λ text. string_bytes text ≡ set_text ones share) }
 {
-    let share = share(ones, bits);
     let (whole, part) = (share / 100, share % 100);
     format!(in alloc; "bits set: {ones} ({whole}.{part:02} %)\n")
 }
@@ -59,15 +65,11 @@ fn set_line(alloc: Global, ones: u64, bits: usize) -> Result<String, AllocError>
 pub fn facts_of(alloc: Global, filter: &BloomFilter, form: Form) -> Result<String, AllocError>
     ensures { IfOk result (λ text. string_bytes text ≡ facts_text filter.now form) }
 {
-    let bits = filter.num_bits();
-    let hashes = filter.num_hashes();
+    let (bits, hashes) = (filter.num_bits(), filter.num_hashes());
     let (k0, k1) = filter.hasher().key();
-    // The lowest byte of each word comes first.
-    let (low, high) = (k0.swap_bytes(), k1.swap_bytes());
+    let key = key_line(alloc, k0, k1)?;
     let ones = count_ones(filter.as_slice());
-    let set = set_line(alloc, ones, bits)?;
+    let set = set_line(alloc, ones, share(ones, bits))?;
     let name = name_of(form);
-    format!(in alloc;
-        "form: {name}\nbits: {bits}\nhashes: {hashes}\nkey: {low:016x}{high:016x}\n{set}"
-    )
+    format!(in alloc; "form: {name}\nbits: {bits}\nhashes: {hashes}\n{key}{set}")
 }
