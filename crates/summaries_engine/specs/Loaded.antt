@@ -1,6 +1,6 @@
 -- Filters that are read from files, in either form, and what is said where one isn't. The forms and
 -- the texts are this project's own.
-use Rattle.std.specs.Prelude.{◌≡◌, ◌≢◌, ◌⊎◌, ℕ, codes, decimal, List, [], ◌∷◌, ◌++◌, Option, Some, IfSome}
+use Rattle.std.specs.Prelude.{◌≡◌, ◌≢◌, ◌⊎◌, ℕ, ◌<◌, codes, decimal, List, [], ◌∷◌, ◌++◌, Option, Some, nat_eq, if◌then◌else◌}
 use Rattle.anyhow.specs.Error.{HasMessage}
 use Rattle.anyhow.specs.declared.error.Error.{Error}
 use Rattle.fastbloom.specs.Data.{DefaultFilter}
@@ -9,9 +9,9 @@ use Rattle.lines.specs.Writing.{Begins}
 use Rattle.summaries_engine.specs.declared.form.Form.{Form}
 use Rattle.summaries_engine.specs.declared.form.Form.TheVariants.{Sealed, Unsealed, Json}
 
--- the bytes with which each file of the form begins, whatever its version
+-- the bytes with which each file of the form begins, whatever its version: `fbloom` and 0
 abbrev pub mark_bytes : List ℕ
-mark_bytes = codes "fbloom" ++ 0 ∷ []
+mark_bytes = 102 ∷ 98 ∷ 108 ∷ 111 ∷ 111 ∷ 109 ∷ 0 ∷ []
 
 -- the bytes are a file of the filter, with a seal
 pub record IsSealedFile (bytes : List ℕ) (f : DefaultFilter) : Type 0 where
@@ -23,12 +23,20 @@ pub record IsUnsealedFile (bytes : List ℕ) (f : DefaultFilter) : Type 0 where
   pub file : IsFileOf bytes f
   pub seal : number_at bytes 5 ≡ 0
 
--- a filter was read in this form from a reader that had these bytes, where they are known; of text
--- only this is said, that it isn't a file of the form
-abbrev pub IsInForm : Form → Option (List ℕ) → DefaultFilter → Type 0
-IsInForm Sealed known f = IfSome known (λ bytes. IsSealedFile bytes f)
-IsInForm Unsealed known f = IfSome known (λ bytes. IsUnsealedFile bytes f)
-IsInForm Json known f = IfSome known (λ bytes. Begins bytes mark_bytes → ⊥)
+-- the bytes are a filter in this form. Of text only this is said, that it isn't a file of the form
+abbrev pub IsInForm : Form → DefaultFilter → List ℕ → Type 0
+IsInForm Sealed f bytes = IsSealedFile bytes f
+IsInForm Unsealed f bytes = IsUnsealedFile bytes f
+IsInForm Json f bytes = Begins bytes mark_bytes → ⊥
+
+-- the form of a file with this seal
+abbrev pub file_form : ℕ → Form
+file_form seal = if nat_eq seal 0 then Unsealed else Sealed
+
+-- the error tells the name, and that no filter is read
+abbrev pub IsUnread : List ℕ → Error → Type 0
+IsUnread name said = HasMessage (Some (name ++ codes ": it can't be read")) said
+    ⊎ HasMessage (Some (name ++ codes ": it holds no filter")) said
 
 -- what is said of a filter with more hashes than are allowed
 abbrev pub hashes_text : List ℕ → ℕ → ℕ → List ℕ
@@ -36,8 +44,12 @@ hashes_text name hashes most =
     name ++ (codes ": it has " ++ (decimal hashes
     ++ (codes " hashes, and --hashes-up-to allows " ++ decimal most)))
 
--- the error tells the name, and that no filter is read, or has few enough hashes
+-- the error tells the name and the number of hashes, which is more than are allowed
+pub record HasManyHashes (name : List ℕ) (most : ℕ) (said : Error) : Type 0 where
+  pub hashes : ℕ
+  pub many : most < hashes
+  pub says : HasMessage (Some (hashes_text name hashes most)) said
+
+-- no filter with few enough hashes is read, and why
 abbrev pub IsUnloaded : List ℕ → ℕ → Error → Type 0
-IsUnloaded name most said = HasMessage (Some (name ++ codes ": it can't be read")) said
-    ⊎ HasMessage (Some (name ++ codes ": it holds no filter")) said
-    ⊎ ((hashes : ℕ) × HasMessage (Some (hashes_text name hashes most)) said)
+IsUnloaded name most said = IsUnread name said ⊎ HasManyHashes name most said

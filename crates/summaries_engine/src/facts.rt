@@ -1,21 +1,28 @@
 //! What is told of a filter.
-ghost use Rattle.std.specs.Prelude.{◌≡◌, ◌*◌, ◌^◌, ◌≤◌, ◌<◌, length, IfOk, string_bytes};
+ghost use Rattle.std.specs.Prelude.{◌≡◌, ◌*◌, ◌^◌, ◌≤◌, ◌<◌, count_ones, length, IfOk, string_bytes};
 ghost use Rattle.summaries_engine.specs.Facts.{facts_text, form_text, key_text, ones_of, set_text, share_of};
 
 use crate::form::Form;
 use fastbloom::BloomFilter;
 use std::alloc::{AllocError, Global};
 
+// How many bits of a word are set.
+fn ones_in(word: u64) -> u64
+    ensures value { result ≡ count_ones word }
+    ensures most { result ≤ 64 }
+{
+    u64::from(word.count_ones())
+}
+
 // How many bits of some words are set.
-fn count_ones(words: &[u64]) -> u64
+fn ones_of(words: &[u64]) -> u64
     requires { length words.now < 2 ^ 58 }
     ensures value { result ≡ ones_of words.now }
     ensures most { result ≤ 64 * length words.now }
 {
     let mut ones = 0;
     'words: for word in words {
-        let more = word.count_ones();
-        ones += u64::from(more);
+        ones += ones_in(*word);
     }
     ones
 }
@@ -68,7 +75,7 @@ pub fn facts_of(alloc: Global, filter: &BloomFilter, form: Form) -> Result<Strin
     let (bits, hashes) = (filter.num_bits(), filter.num_hashes());
     let (k0, k1) = filter.hasher().key();
     let key = key_line(alloc, k0, k1)?;
-    let ones = count_ones(filter.as_slice());
+    let ones = ones_of(filter.as_slice());
     let set = set_line(alloc, ones, share(ones, bits))?;
     let name = name_of(form);
     format!(in alloc; "form: {name}\nbits: {bits}\nhashes: {hashes}\n{key}{set}")

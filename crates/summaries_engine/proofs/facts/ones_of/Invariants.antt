@@ -1,6 +1,6 @@
 use Rattle.std.proofs.Common.{◌≡◌, ◌*◌, ◌≤◌, take}
 use Rattle.summaries_engine.specs.Facts.{ones_of}
-use Rattle.summaries_engine.proofs.facts.count_ones.Given as goal
+use Rattle.summaries_engine.proofs.facts.ones_of.Given as goal
 
 -- the bits of the words so far were counted, at most 64 in each
 abbrev pub invariant-words : goal.invariant-words
