@@ -3,6 +3,7 @@ mod AskingLemmas
 mod CutLemmas
 mod CuttingLemmas
 mod KeyLemmas
+mod LoadedLemmas
 mod MisfitLemmas
 mod NamedFacts
 mod NamedLemmas

@@ -60,7 +60,10 @@ fn load_text<R: Read>(
     let text = std::io::read_to_string(alloc, start.chain(input)).context(format_args!(
         "{name}: it can't be read"
     ))?;
-    filter_of(alloc, text.as_str()).context(format_args!("{name}: it holds no filter"))
+    let filter = filter_of(alloc, text.as_str()).context(format_args!(
+        "{name}: it holds no filter"
+    ))?;
+    Ok(filter)
 }
 
 // The form of a file, by its head.

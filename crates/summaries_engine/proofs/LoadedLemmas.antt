@@ -1,0 +1,137 @@
+-- Files that are read from their first bytes on: what those tell of the whole.
+use Rattle.std.proofs.Common.{◌≡◌, ◌≢◌, ◌⊎◌, ℕ, zero, suc, ◌+◌, ◌*◌, ◌<◌, ◌≤◌, true, false, List, [], ◌∷◌, ◌++◌, length, length-append, take, drop, Option, Some, None, IfSome, refl, sym, subst, ap, ◌∙◌, inl, inr, arith, take_all}
+use Rattle.std.proofs.lemmas.Bool.{cases_lt}
+use Rattle.std.proofs.lemmas.Bool.Decides.{Decides-eqb, eqb_tells}
+use Rattle.std.proofs.lemmas.List.{length-take-le, take-append-drop, take-append-le}
+use Rattle.std.proofs.lemmas.Slice.Eq.{starts_is}
+use Rattle.std.specs.Prelude.{nat_eq, IfOk, Ok, Result}
+use Rattle.std.specs.Int.{w64, to_le_bytes}
+use Rattle.std.specs.Io.KnownBytes.{Consumes, IsAtEnd}
+use Rattle.std.specs.List.{starts_with}
+use Rattle.bloom_parts.specs.Sip.{whole_words}
+use Rattle.fastbloom.specs.Data.{DefaultFilter}
+use Rattle.fastbloom.specs.File.{IsFileOf, bytes_of, head_numbers, head_of, number_at}
+use Rattle.lines.specs.Writing.{Begins}
+use Rattle.summaries_engine.specs.declared.form.Form.{Form}
+use Rattle.summaries_engine.specs.declared.form.Form.TheVariants.{Json}
+use Rattle.summaries_engine.specs.Loaded.{IsInForm, file_form, mark_bytes}
+
+-- a number of the first bytes is that of all bytes
+number-first : (i : ℕ) (front more : List ℕ) → 8 * i + 8 ≤ length front
+    → number_at (front ++ more) i ≡ number_at front i
+unfolding whole_words
+number-first zero (a ∷ b ∷ c ∷ d ∷ e ∷ f ∷ g ∷ h ∷ front) more room = refl
+number-first (suc i) (a ∷ b ∷ c ∷ d ∷ e ∷ f ∷ g ∷ h ∷ front) more room =
+    number-first i front more (omega (arith, room))
+number-first i [] more room = omega (arith, room)
+number-first i (a ∷ []) more room = omega (arith, room)
+number-first i (a ∷ b ∷ []) more room = omega (arith, room)
+number-first i (a ∷ b ∷ c ∷ []) more room = omega (arith, room)
+number-first i (a ∷ b ∷ c ∷ d ∷ []) more room = omega (arith, room)
+number-first i (a ∷ b ∷ c ∷ d ∷ e ∷ []) more room = omega (arith, room)
+number-first i (a ∷ b ∷ c ∷ d ∷ e ∷ f ∷ []) more room = omega (arith, room)
+number-first i (a ∷ b ∷ c ∷ d ∷ e ∷ f ∷ g ∷ []) more room = omega (arith, room)
+
+-- a file of a filter has at least the 64 bytes of its head
+file-long : (bytes : List ℕ) (f : DefaultFilter) → IsFileOf bytes f → 64 ≤ length bytes
+unfolding bytes_of
+file-long bytes f file =
+    let size : length bytes ≡ 64 + length (bytes_of f.words) =
+    ap length file.is
+    ∙ length-append (bytes_of (head_numbers (head_of f) file.seal)) (bytes_of f.words) in
+    omega (arith, size)
+
+-- a file of a filter is in the form that its seal tells
+seal-form : (seal : ℕ) (bytes : List ℕ) (f : DefaultFilter) → IsFileOf bytes f
+    → number_at bytes 5 ≡ seal → IsInForm (file_form seal) f bytes
+seal-form seal bytes f file is = by (eqb_tells seal 0)
+  where
+    by : ((nat_eq seal 0 ≡ true) × (seal ≡ 0)) ⊎ ((nat_eq seal 0 ≡ false) × (seal ≢ 0))
+        → IsInForm (file_form seal) f bytes
+    by (inl it) = rw (it.0) (record { file = file; seal = is ∙ it.1 })
+    by (inr it) = rw (it.0) (record { file = file; seal = λ none. it.1 (sym is ∙ none) })
+
+-- what `read_full` came to: this many of the bytes of a buffer of 64 were read, fewer only at the end
+pub record HasRead (old new : Option (List ℕ)) (buffer : List ℕ) (n : ℕ) : Type 0 where
+  pub room : length buffer ≡ 64
+  pub count : n ≤ length buffer
+  pub taken : Consumes old new (take n buffer)
+  pub end : n < length buffer → IsAtEnd new
+
+-- what a call of `read_full` says where it is Ok
+pub read-first : {E : Type 0} (read : Result ℕ E) (old new : Option (List ℕ)) (buffer : List ℕ)
+    (n : ℕ) → read ≡ Ok n → length buffer ≡ 64 → IfOk read (λ n. n ≤ length buffer)
+    → IfOk read (λ n. Consumes old new (take n buffer))
+    → IfOk read (λ n. n < length buffer → IsAtEnd new) → HasRead old new buffer n
+read-first read old new buffer n is room count taken end = record {
+  room = room;
+  count = subst (λ r. IfOk r (λ n. n ≤ length buffer)) is count;
+  taken = subst (λ r. IfOk r (λ n. Consumes old new (take n buffer))) is taken;
+  end = subst (λ r. IfOk r (λ n. n < length buffer → IsAtEnd new)) is end;
+}
+
+-- a file whose first bytes were read, and then it, is in the form that those bytes tell
+pub in-file-form : (old new : Option (List ℕ)) (buffer : List ℕ) (n : ℕ) (f : DefaultFilter)
+    (form : Form) → HasRead old new buffer n
+    → IfSome new (λ rest. IsFileOf (take n buffer ++ rest) f)
+    → form ≡ file_form (number_at buffer 5) → IfSome old (IsInForm form f)
+in-file-form None new buffer n f form read file is = tt
+in-file-form (Some all) None buffer n f form read file is = absurd read.taken
+in-file-form (Some all) (Some rest) buffer n f form read file is =
+    subst (λ form. IsInForm form f all) (sym is)
+    (seal-form (number_at buffer 5) all f whole (ap (λ bytes. number_at bytes 5) all-is
+    ∙ number-first 5 buffer rest (omega (arith, read.room))))
+  where
+    whole : IsFileOf all f
+    whole = subst (λ bytes. IsFileOf bytes f) (sym read.taken) file
+
+    front : take n buffer ≡ buffer
+    front = full (cases_lt n (length buffer))
+      where
+        full : (n < length buffer) ⊎ (length buffer ≤ n) → take n buffer ≡ buffer
+        full (inr most) = take_all n buffer most
+        full (inl fewer) =
+            let size : length all ≡ length (take n buffer) + length rest =
+            ap length read.taken ∙ length-append (take n buffer) rest in
+            let none : length rest ≡ 0 = ap length (read.end fewer) in
+            let short : length (take n buffer) ≡ n = length-take-le n buffer read.count in
+            absurd (omega (arith, size, none, short, fewer, read.room, file-long all f whole))
+
+    all-is : all ≡ buffer ++ rest
+    all-is = read.taken ∙ ap (λ l. l ++ rest) front
+
+-- bytes whose first don't begin as those of a file don't begin so
+no-mark : (all rest : List ℕ) (buffer : List ℕ) (n : ℕ) → HasRead (Some all) (Some rest) buffer n
+    → starts_with nat_eq (take n buffer) mark_bytes ≡ false → Begins all mark_bytes → ⊥
+no-mark all rest buffer n read other begins = wrong (cases_lt n 7)
+  where
+    short : length (take n buffer) ≡ n
+    short = length-take-le n buffer read.count
+
+    size : length all ≡ n + length rest
+    size = ap length read.taken ∙ length-append (take n buffer) rest ∙ ap (λ k. k + length rest) short
+
+    long : length all ≡ 7 + length begins.rest
+    long = ap length begins.cut ∙ length-append mark_bytes begins.rest
+
+    wrong : (n < 7) ⊎ (7 ≤ n) → ⊥
+    wrong (inl fewer) =
+        let none : length rest ≡ 0 = ap length (read.end (omega (arith, fewer, read.room))) in
+        omega (arith, size, long, none, fewer)
+    wrong (inr enough) =
+        let first : take 7 (take n buffer) ≡ mark_bytes =
+        sym (take-append-le 7 (take n buffer) rest (omega (arith, enough, short)))
+        ∙ ap (take 7) (sym read.taken ∙ begins.cut) in
+        let is : take n buffer ≡ mark_bytes ++ drop 7 (take n buffer) =
+        sym (take-append-drop 7 (take n buffer)) ∙ ap (λ l. l ++ drop 7 (take n buffer)) first in
+        let holds = (starts_is Decides-eqb (take n buffer) mark_bytes
+        (starts_with nat_eq (take n buffer) mark_bytes) refl).1 (drop 7 (take n buffer)) is in
+        cc (sym other ∙ holds)
+
+-- such bytes aren't a file of the form
+pub in-no-file-form : (old new : Option (List ℕ)) (buffer : List ℕ) (n : ℕ) (f : DefaultFilter)
+    → HasRead old new buffer n → starts_with nat_eq (take n buffer) mark_bytes ≡ false
+    → IfSome old (IsInForm Json f)
+in-no-file-form None new buffer n f read other = tt
+in-no-file-form (Some all) None buffer n f read other = absurd read.taken
+in-no-file-form (Some all) (Some rest) buffer n f read other = no-mark all rest buffer n read other
