@@ -9,6 +9,8 @@ mod duplicates;
 #[cfg(test)]
 mod faulty;
 #[cfg(test)]
+mod forms;
+#[cfg(test)]
 mod guards;
 #[cfg(test)]
 mod room;

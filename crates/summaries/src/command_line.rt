@@ -46,10 +46,12 @@ fn with_sizes<'a>(alloc: Global, command: Command<'a>) -> Result<Command<'a>, Er
         .long("rate")
         .value_name("A/B")
         .requires_arg(ITEMS)?
-        .conflicts_with_all(&[BITS, HASHES])?
+        .conflicts_with(BITS)?
+        .conflicts_with(HASHES)?
         .help("The share of other keys that may be taken for one of them by mistake");
     let size = ArgGroup::new(alloc, "size")
-        .args(&[BITS, ITEMS])?
+        .arg(BITS)?
+        .arg(ITEMS)?
         .required(true);
     Ok(
         command

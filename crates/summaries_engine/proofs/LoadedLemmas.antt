@@ -51,7 +51,7 @@ seal-form seal bytes f file is = by (eqb_tells seal 0)
     by (inl it) = rw (it.0) (record { file = file; seal = is ∙ it.1 })
     by (inr it) = rw (it.0) (record { file = file; seal = λ none. it.1 (sym is ∙ none) })
 
--- what `read_full` came to: this many of the bytes of a buffer of 64 were read, fewer only at the end
+-- what `read_full` came to: this many bytes of a buffer of 64 were read, fewer only at the end
 pub record HasRead (old new : Option (List ℕ)) (buffer : List ℕ) (n : ℕ) : Type 0 where
   pub room : length buffer ≡ 64
   pub count : n ≤ length buffer
@@ -109,7 +109,9 @@ no-mark all rest buffer n read other begins = wrong (cases_lt n 7)
     short = length-take-le n buffer read.count
 
     size : length all ≡ n + length rest
-    size = ap length read.taken ∙ length-append (take n buffer) rest ∙ ap (λ k. k + length rest) short
+    size =
+        ap length read.taken ∙ length-append (take n buffer) rest
+        ∙ ap (λ k. k + length rest) short
 
     long : length all ≡ 7 + length begins.rest
     long = ap length begins.cut ∙ length-append mark_bytes begins.rest

@@ -64,8 +64,8 @@ fn set_line(alloc: Global, ones: u64, share: u64) -> Result<String, AllocError>
     format!(in alloc; "bits set: {ones} ({whole}.{part:02} %)\n")
 }
 
-/// Lines that tell a filter's form, its numbers of bits and of hashes, the sixteen bytes of its key,
-/// and how many bits are set, with their share in percent.
+/// Lines that tell a filter's form, its numbers of bits and of hashes, the sixteen bytes of its
+/// key, and how many bits are set, with their share in percent.
 ///
 /// # Errors
 /// Out of memory.
