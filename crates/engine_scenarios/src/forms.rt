@@ -6,9 +6,9 @@ use std::cell::Cell;
 use std::test::Fail;
 use summaries_engine::{Form, load, put_file};
 
-// The file of a filter of 64 bits and two hashes, of the key "a". Its word was worked out by another
-// program, from the papers on SipHash and on the multiply and shift. Its seal is what Python 3.11,
-// whose hash of bytes is SipHash-1-3, answers under the key of zeros.
+// The file of a filter of 64 bits and two hashes, of the key "a". Its word was worked out by
+// another program, from the papers on SipHash and on the multiply and shift. Its seal is what
+// Python 3.11, whose hash of bytes is SipHash-1-3, answers under the key of zeros.
 const FILE: &[u8] = b"fbloom\01\x02\0\0\0\0\0\0\0\
     \x01\0\0\0\0\0\0\0\0\0\0\0\0\0\0\0\
     \0\0\0\0\0\0\0\0>f\xd2\xf60\x19\xfb\xc8\

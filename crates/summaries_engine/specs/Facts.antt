@@ -22,7 +22,8 @@ form_text Json = codes "JSON"
 -- the eight bytes of a word, the lowest first, by two hexadecimal digits each
 abbrev pub bytes_text : ℕ → List ℕ
 bytes_text word =
-    padded_integral (format_spec 32 0 4 16 (2 ^ 64 - 1)) false [] (digits 16 false (swap_bytes w64 word))
+    padded_integral (format_spec 32 0 4 16 (2 ^ 64 - 1)) false []
+    (digits 16 false (swap_bytes w64 word))
 
 -- the line of a key, of which these are the two words
 abbrev pub key_text : ℕ → ℕ → List ℕ
