@@ -30,11 +30,7 @@ const FAILING: Reading = Reading {
 };
 
 // The filter of bytes, and its form.
-fn loaded(
-    alloc: Global,
-    bytes: &[u8],
-    reading: Reading,
-) -> anyhow::Result<(BloomFilter, Form)> {
+fn loaded(alloc: Global, bytes: &[u8], reading: Reading) -> anyhow::Result<(BloomFilter, Form)> {
     let waiting = Cell::new(0);
     let mut input = Source::new(bytes, b"", reading, &waiting);
     load(alloc, "a", 64, &mut input)
@@ -87,7 +83,11 @@ fn a_write_may_fail_at_any_byte_of_a_file(rt: HostRuntime) -> Result<(), Fail> {
         assert_eq!(rt; put.is_ok(), room == 72, "with room for {room} bytes");
         assert_eq!(rt; Some(output.written.as_slice()), FILE.get(..room));
     }
-    let writing = Writing { room: 72, flush_fails: true, ..NARROW };
+    let writing = Writing {
+        room: 72,
+        flush_fails: true,
+        ..NARROW
+    };
     let mut output = Sink::new(rt.alloc(), writing, &waiting);
     assert_eq!(rt; put_file(&filter, &mut output).is_ok(), false);
     assert_eq!(rt; output.written.as_slice(), FILE);
