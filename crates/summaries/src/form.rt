@@ -13,7 +13,7 @@ use summaries_engine::{Form, Shelf, load};
 ///
 /// # Errors
 /// Each tells the name: the file can't be read, or holds no filter, or one with more hashes.
-pub fn load_any<R: Files + AllocGlobal>(
+pub fn load_named<R: Files + AllocGlobal>(
     rt: &R,
     name: &str,
     most: u32,
@@ -42,7 +42,7 @@ impl<'a, R: Files + AllocGlobal> Shelf for Disk<'a, R> {
     ghost fails = { λ disk name said. IsUnloaded name disk.most said };
 
     fn load(&self, name: &str) -> anyhow::Result<BloomFilter> {
-        let (filter, _form) = load_any(self.rt, name, self.most)?;
+        let (filter, _form) = load_named(self.rt, name, self.most)?;
         Ok(filter)
     }
 }

@@ -10,7 +10,7 @@ use command_line::{
     BITS, FILTER, HASHES, ITEMS, JSON, MOST_HASHES, RATE, WORKERS, arguments, rate_of,
 };
 use fastbloom::{BloomFilter, Shape};
-use form::{Disk, load_any};
+use form::{Disk, load_named};
 use std::alloc::Global;
 use std::io::{BufWriter, Write};
 use std::process::ExitCode;
@@ -81,7 +81,7 @@ fn run_ask<R: Files + Input + Print + AllocGlobal>(
 
 fn run_info<R: Files + Print + AllocGlobal>(rt: &R, matches: &ArgMatches) -> anyhow::Result<()> {
     let name = matches.get_str(FILTER).context("which filter?")?;
-    let (filter, form) = load_any(rt, name, u32::MAX)?;
+    let (filter, form) = load_named(rt, name, u32::MAX)?;
     let facts = facts_of(rt.alloc(), &filter, form)?;
     print!(rt; "{facts}").context("the facts can't be written")
 }
