@@ -10,7 +10,8 @@ use Rattle.std.specs.Io.KnownBytes.{Consumes, IsAtEnd}
 use Rattle.std.specs.List.{starts_with}
 use Rattle.bloom_parts.specs.Sip.{whole_words}
 use Rattle.fastbloom.specs.Data.{DefaultFilter}
-use Rattle.fastbloom.specs.File.{IsFileOf, bytes_of, head_numbers, head_of, number_at}
+use Rattle.fastbloom.specs.File.{IsFileOf, bytes_of, head_numbers, head_of}
+use Rattle.fastbloom.specs.FileRefusals.{number_at}
 use Rattle.lines.specs.Writing.{Begins}
 use Rattle.summaries_engine.specs.declared.form.Form.{Form}
 use Rattle.summaries_engine.specs.declared.form.Form.TheVariants.{Json}

@@ -4,7 +4,8 @@ use Rattle.std.specs.Prelude.{◌≡◌, ◌≢◌, ◌⊎◌, ℕ, ◌<◌, cod
 use Rattle.anyhow.specs.Error.{HasMessage}
 use Rattle.anyhow.specs.declared.error.Error.{Error}
 use Rattle.fastbloom.specs.Data.{DefaultFilter}
-use Rattle.fastbloom.specs.File.{IsFileOf, number_at}
+use Rattle.fastbloom.specs.File.{IsFileOf}
+use Rattle.fastbloom.specs.FileRefusals.{number_at}
 use Rattle.lines.specs.Writing.{Begins}
 use Rattle.summaries_engine.specs.declared.form.Form.{Form}
 use Rattle.summaries_engine.specs.declared.form.Form.TheVariants.{Sealed, Unsealed, Json}
