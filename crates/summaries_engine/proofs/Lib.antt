@@ -3,6 +3,7 @@ mod AskingLemmas
 mod CutLemmas
 mod CuttingLemmas
 mod KeyLemmas
+mod LoadedFacts
 mod LoadedLemmas
 mod MisfitLemmas
 mod NamedFacts
@@ -12,9 +13,11 @@ mod RefusalFacts
 mod RefusalLemmas
 mod ShardFacts
 mod ShardLemmas
+mod SizeFacts
 mod StopFacts
 mod StopLemmas
 mod SummaryFacts
+mod TextFacts
 mod UnionFacts
 mod UnionLemmas
 mod UnitingFacts

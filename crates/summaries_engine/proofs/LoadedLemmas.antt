@@ -5,13 +5,12 @@ use Rattle.std.proofs.lemmas.Bool.Decides.{Decides-eqb, eqb_tells}
 use Rattle.std.proofs.lemmas.List.{length-take-le, take-append-drop, take-append-le}
 use Rattle.std.proofs.lemmas.Slice.Eq.{starts_is}
 use Rattle.std.specs.Prelude.{nat_eq, IfOk, Ok, Result}
-use Rattle.std.specs.Int.{w64, to_le_bytes}
 use Rattle.std.specs.Io.KnownBytes.{Consumes, IsAtEnd}
 use Rattle.std.specs.List.{starts_with}
 use Rattle.bloom_parts.specs.Sip.{whole_words}
 use Rattle.fastbloom.specs.Data.{DefaultFilter}
 use Rattle.fastbloom.specs.File.{IsFileOf, bytes_of, head_numbers, head_of}
-use Rattle.fastbloom.specs.FileRefusals.{number_at}
+use Rattle.bloom_plain.specs.FileRefusals.{number_at}
 use Rattle.lines.specs.Writing.{Begins}
 use Rattle.summaries_engine.specs.declared.form.Form.{Form}
 use Rattle.summaries_engine.specs.declared.form.Form.TheVariants.{Json}

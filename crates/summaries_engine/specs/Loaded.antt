@@ -1,11 +1,11 @@
 -- Filters that are read from files, in either form, and what is said where one isn't. The forms and
 -- the texts are this project's own.
-use Rattle.std.specs.Prelude.{◌≡◌, ◌≢◌, ◌⊎◌, ℕ, ◌<◌, codes, decimal, List, [], ◌∷◌, ◌++◌, Option, Some, nat_eq, if◌then◌else◌}
+use Rattle.std.specs.Prelude.{◌≡◌, ◌≢◌, ◌⊎◌, ℕ, ◌<◌, codes, decimal, List, [], ◌∷◌, ◌++◌, Some, nat_eq, if◌then◌else◌}
 use Rattle.anyhow.specs.Error.{HasMessage}
 use Rattle.anyhow.specs.declared.error.Error.{Error}
 use Rattle.fastbloom.specs.Data.{DefaultFilter}
 use Rattle.fastbloom.specs.File.{IsFileOf}
-use Rattle.fastbloom.specs.FileRefusals.{number_at}
+use Rattle.bloom_plain.specs.FileRefusals.{number_at}
 use Rattle.lines.specs.Writing.{Begins}
 use Rattle.summaries_engine.specs.declared.form.Form.{Form}
 use Rattle.summaries_engine.specs.declared.form.Form.TheVariants.{Sealed, Unsealed, Json}

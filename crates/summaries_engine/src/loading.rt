@@ -1,7 +1,7 @@
 //! Filters of readers that have names, in either form.
 ghost use Rattle.std.specs.Prelude.{◌≡◌, ◌++◌, ◌≤◌, IfErr, IfOk, IfSome};
 ghost use Rattle.fastbloom.specs.File.{IsFileOf};
-ghost use Rattle.fastbloom.specs.FileRefusals.{number_at};
+ghost use Rattle.bloom_plain.specs.FileRefusals.{number_at};
 ghost use Rattle.summaries_engine.specs.Answers.{IsKeyed};
 ghost use Rattle.summaries_engine.specs.Loaded.{IsInForm, IsUnloaded, IsUnread, file_form};
 

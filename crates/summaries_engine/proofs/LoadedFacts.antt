@@ -1,0 +1,83 @@
+-- Filters in files of either form, and what is said where none is read: cases that hold, and some
+-- that nearly do.
+use Rattle.std.proofs.Common.{◌≡◌, ℕ, List, [], ◌∷◌, ◌++◌, codes, drop, get_or, Some, refl, ap, arith, inl, inr}
+use Rattle.std.specs.Fmt.{digits}
+use Rattle.anyhow.specs.Error.{HasMessage}
+use Rattle.anyhow.specs.declared.error.Error.{Error}
+use Rattle.fastbloom.specs.Data.{DefaultFilter}
+use Rattle.fastbloom.specs.File.{IsFileOf}
+use Rattle.bloom_plain.specs.FileRefusals.{number_at}
+use Rattle.summaries_engine.specs.declared.form.Form.TheVariants.{Sealed, Unsealed, Json}
+use Rattle.summaries_engine.specs.Loaded.{HasManyHashes, IsInForm, IsUnloaded, IsUnread, file_form, hashes_text, mark_bytes}
+
+-- the mark is the name and a zero
+mark-text : mark_bytes ≡ codes "fbloom" ++ 0 ∷ []
+mark-text = refl
+
+-- a seal of 0 is none
+form-none : file_form 0 ≡ Unsealed
+form-none = refl
+
+-- each other seal is one
+form-one : file_form 1 ≡ Sealed
+form-one = refl
+
+module _ (bytes : List ℕ) (f : DefaultFilter) (file : IsFileOf bytes f) where
+  -- a file with a seal
+  sealed : number_at bytes 5 ≡ 7 → IsInForm Sealed f bytes
+  sealed is = record { file = file; seal = λ none. omega (arith, is, none) }
+
+  -- a file with no seal isn't sealed
+  sealed-none : number_at bytes 5 ≡ 0 → IsInForm Sealed f bytes → ⊥
+  sealed-none is form = form.seal is
+
+  -- a file with no seal
+  unsealed : number_at bytes 5 ≡ 0 → IsInForm Unsealed f bytes
+  unsealed is = record { file = file; seal = is }
+
+  -- a file with a seal isn't without one
+  unsealed-one : number_at bytes 5 ≡ 7 → IsInForm Unsealed f bytes → ⊥
+  unsealed-one is form = omega (arith, is, form.seal)
+
+-- a file of one filter is none of another
+form-other : (bytes : List ℕ) (f : DefaultFilter) → (IsFileOf bytes f → ⊥)
+    → IsInForm Sealed f bytes → ⊥
+form-other bytes f other form = other form.file
+
+-- braces are text
+text-brace : (f : DefaultFilter) → IsInForm Json f (123 ∷ 125 ∷ [])
+text-brace f begins =
+    let wrong : 123 ≡ 102 = ap (λ l. get_or l 0 0) begins.cut in omega (arith, wrong)
+
+-- the first six bytes of a file are text
+text-six : (f : DefaultFilter) → IsInForm Json f (codes "fbloom")
+text-six f begins =
+    let rest : [] ≡ 0 ∷ begins.rest = ap (drop 6) begins.cut in cc
+
+-- what begins with the mark isn't text, whatever its version
+text-mark : (f : DefaultFilter) → IsInForm Json f (mark_bytes ++ 50 ∷ []) → ⊥
+text-mark f is = is (record { rest = 50 ∷ []; cut = refl })
+
+-- what is said of a filter of 65 hashes, where 64 are allowed
+many-text : hashes_text (codes "a.bloom") 65 64
+    ≡ codes "a.bloom: it has 65 hashes, and --hashes-up-to allows 64"
+unfolding digits
+many-text = refl
+
+module _ (said : Error) where
+  -- 65 hashes are more than 64
+  many-more : HasMessage (Some (hashes_text (codes "a") 65 64)) said
+      → IsUnloaded (codes "a") 64 said
+  many-more says = inr (record { hashes = 65; many = omega arith; says = says })
+
+  -- 64 hashes aren't
+  many-allowed : (many : HasManyHashes (codes "a") 64 said) → many.hashes ≡ 64 → ⊥
+  many-allowed many is = omega (arith, many.many, is)
+
+  -- a file can't be read
+  unread-failed : HasMessage (Some (codes "a: it can't be read")) said → IsUnread (codes "a") said
+  unread-failed says = inl says
+
+  -- a file holds no filter
+  unread-none : HasMessage (Some (codes "a: it holds no filter")) said → IsUnread (codes "a") said
+  unread-none says = inr says

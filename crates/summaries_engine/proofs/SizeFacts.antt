@@ -1,0 +1,41 @@
+-- The shape for keys at a rate: a case that holds, and cases that nearly do. A thousand keys at one
+-- half take 1448 bits, so 23 words, and one hash suits these.
+use Rattle.std.proofs.Common.{◌≡◌, ℕ, ◌*◌, ap, subst, sym, ◌∙◌, arith}
+use Rattle.bloom_parts.specs.declared.math.rate.Rate.{Rate}
+use Rattle.bloom_parts.specs.Rates.{num_of, den_of}
+use Rattle.bloom_parts.specs.Sizing.{IsSizeFor, hashes_for}
+use Rattle.fastbloom.specs.Builders.{words_for}
+use Rattle.fastbloom.specs.Fill.{hashes_of, words_of}
+use Rattle.fastbloom.specs.declared.parallel.shape.Shape.{Shape}
+use Rattle.summaries_engine.specs.Sizes.{IsShapeFor}
+
+module _ (rate : Rate) (num : num_of rate ≡ 1) (den : den_of rate ≡ 2) (shape : Shape) where
+  -- 23 words and one hash
+  shape-half : IsSizeFor 1000 1 2 1448 → words_of shape ≡ 23 → hashes_of shape ≡ 1
+      → IsShapeFor 1000 rate shape
+  shape-half size words hashes = record {
+    bits = 1448;
+    size =
+        subst (λ d. IsSizeFor 1000 (num_of rate) d 1448) (sym den)
+        (subst (λ n. IsSizeFor 1000 n 2 1448) (sym num) size);
+    words = words;
+    hashes = hashes ∙ sym (ap (λ w. hashes_for (64 * w) 1000) words);
+  }
+
+  -- two hashes don't suit 23 words
+  shape-hashes : words_of shape ≡ 23 → hashes_of shape ≡ 2 → IsShapeFor 1000 rate shape → ⊥
+  shape-hashes words hashes is =
+      let wrong : 2 ≡ 1 =
+      sym hashes ∙ is.hashes ∙ ap (λ w. hashes_for (64 * w) 1000) words in
+      omega (arith, wrong)
+
+  -- 24 words are too many, since one size alone is right
+  shape-words : ((size : ℕ) → IsSizeFor 1000 1 2 size → size ≡ 1448) → words_of shape ≡ 24
+      → IsShapeFor 1000 rate shape → ⊥
+  shape-words one words is =
+      let size : IsSizeFor 1000 1 2 is.bits =
+      subst (λ d. IsSizeFor 1000 1 d is.bits) den
+      (subst (λ n. IsSizeFor 1000 n (den_of rate) is.bits) num is.size) in
+      let bits : is.bits ≡ 1448 = one is.bits size in
+      let wrong : 24 ≡ 23 = sym words ∙ is.words ∙ ap words_for bits in
+      omega (arith, wrong)
