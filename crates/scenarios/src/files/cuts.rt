@@ -55,8 +55,10 @@ const NUMBERS: [(usize, u64, FileError); 12] = [
 ];
 
 // Whether the head alone is read, or refused for this reason; it knows neither size nor seal.
-fn is_head_refused(bytes: &[u8; 64], refused: FileError) -> bool {
-    let found = read_head(bytes).err();
+fn is_head_refused(file: &[u8; 72], refused: FileError) -> bool {
+    let mut head = [0u8; 64];
+    head.copy_from_slice(&file[..64]);
+    let found = read_head(&head).err();
     match refused {
         FileError::Cut | FileError::Seal => found.is_none(),
         _ => found == Some(refused),
@@ -76,10 +78,8 @@ fn changed(at: usize, value: u64) -> [u8; 72] {
 fn a_number_is_refused_past_its_border(rt: HostRuntime) {
     for (at, value, refused) in NUMBERS {
         let file = changed(at, value);
-        let mut head = [0u8; 64];
-        head.copy_from_slice(&file[..64]);
         assert!(rt;
-            number(&file, at) == value && is_head_refused(&head, refused),
+            number(&file, at) == value && is_head_refused(&file, refused),
             "{at}"
         );
         assert!(rt; are_refused(rt.alloc(), &file, refused), "{at}, {value}");
