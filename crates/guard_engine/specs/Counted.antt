@@ -2,9 +2,10 @@
 -- key that the filter lacks, and is asked for each other key. A false alarm is a key that it
 -- was asked for and lacks.
 use Rattle.std.specs.Prelude.{◌≡◌, ◌≤◌, ◌⊎◌, ◌+◌, ◌-◌, ◌^◌, ℕ, not, min, List, [], ◌∷◌, length, filter}
-use Rattle.bloom_plain.specs.Filter.{Filter, contains}
+use Rattle.bloom_plain.specs.Data.{DefaultFilter}
+use Rattle.bloom_plain.specs.Filter.{contains}
 use Rattle.guard_engine.specs.declared.counts.Counts.{Counts}
-use Rattle.guard_engine.specs.Guarded.{Entries, Lacks}
+use Rattle.guard_engine.specs.Guarded.{Entries, Lacks, key_hash}
 
 -- this many more, up to the greatest number of 64 bits
 abbrev pub more_by : ℕ → ℕ → ℕ
@@ -14,15 +15,13 @@ more_by n many = min (n + many) (2 ^ 64 - 1)
 abbrev pub one_more : ℕ → ℕ
 one_more n = more_by n 1
 
--- the keys that a filter may have, by their hashes under its hasher: a store is asked for these
-abbrev pub asked_keys :
-    {B : Type 0} → (B → List ℕ → ℕ) → Filter B → List (List ℕ) → List (List ℕ)
-asked_keys hash_of f keys = filter (λ key. contains f (hash_of f.hasher key)) keys
+-- the keys that a filter may have: a store is asked for these
+abbrev pub asked_keys : DefaultFilter → List (List ℕ) → List (List ℕ)
+asked_keys f keys = filter (λ key. contains f (key_hash key)) keys
 
 -- the keys that a filter lacks: a store is spared these
-abbrev pub spared_keys :
-    {B : Type 0} → (B → List ℕ → ℕ) → Filter B → List (List ℕ) → List (List ℕ)
-spared_keys hash_of f keys = filter (λ key. not (contains f (hash_of f.hasher key))) keys
+abbrev pub spared_keys : DefaultFilter → List (List ℕ) → List (List ℕ)
+spared_keys f keys = filter (λ key. not (contains f (key_hash key))) keys
 
 -- this many of the keys have no value, each counted as often as it stands there
 abbrev pub AreAbsent : Entries → List (List ℕ) → ℕ → Type 0
@@ -34,11 +33,21 @@ AreAbsent entries (key ∷ rest) many =
 -- from old to new each of these keys was looked up once: those that the filter lacks count as
 -- spared, the others as asked, and some of the others as false alarms. Where the store told what it
 -- has, the false alarms are those with no value
-pub record Tallies {B : Type 0} (hash_of : B → List ℕ → ℕ) (f : Filter B) (is_told : Type 0)
-    (entries : Entries) (keys : List (List ℕ)) (old new : Counts) : Type 0 where
-  pub spared : new.spared ≡ more_by old.spared (length (spared_keys hash_of f keys))
-  pub asked : new.asked ≡ more_by old.asked (length (asked_keys hash_of f keys))
+pub record Tallies (f : DefaultFilter) (is_told : Type 0) (entries : Entries)
+    (keys : List (List ℕ)) (old new : Counts) : Type 0 where
+  pub spared : new.spared ≡ more_by old.spared (length (spared_keys f keys))
+  pub asked : new.asked ≡ more_by old.asked (length (asked_keys f keys))
   pub alarms : ℕ
   pub false_alarms : new.false_alarms ≡ more_by old.false_alarms alarms
-  pub at_most : alarms ≤ length (asked_keys hash_of f keys)
-  pub absent : is_told → AreAbsent entries (asked_keys hash_of f keys) alarms
+  pub at_most : alarms ≤ length (asked_keys f keys)
+  pub absent : is_told → AreAbsent entries (asked_keys f keys) alarms
+
+-- each of this many puts looked its key up once: those added were spared, or false alarms, and each
+-- other one was asked for, and found
+pub record CountsPuts (old : Counts) (added taken : ℕ) (new : Counts) : Type 0 where
+  pub spared : ℕ
+  pub alarms : ℕ
+  pub both : added ≡ spared + alarms
+  pub new_spared : new.spared ≡ more_by old.spared spared
+  pub new_asked : new.asked ≡ more_by old.asked (alarms + taken)
+  pub new_alarms : new.false_alarms ≡ more_by old.false_alarms alarms

@@ -1,12 +1,18 @@
 -- What a store has, and what a guard before it keeps true: the guard's filter (B. H. Bloom, 1970)
 -- has each key of the store.
-use Rattle.std.specs.Prelude.{◌≡◌, ◌⊎◌, ◌↔◌, ℕ, ◌+◌, ◌-◌, ◌^◌, min, true, List, [], ◌∷◌, Contains, Some, length}
-use Rattle.std.specs.declared.hash.BuildHasher as builder
-use Rattle.std.specs.declared.hash.Hasher as hasher
+use Rattle.std.specs.Prelude.{◌≡◌, ◌⊎◌, ◌↔◌, ℕ, ◌+◌, ◌-◌, ◌^◌, min, max, true, List, [], ◌∷◌, map, Contains, Some, length}
 use Rattle.bloom_parts.specs.declared.error.FilterError.{FilterError}
-use Rattle.bloom_plain.specs.Builders.{RateStart, IsSizeOf, RefusesAs, size_refusal}
-use Rattle.bloom_plain.specs.Filter.{Filter, contains}
-use Rattle.bloom_plain.specs.SourceHash.{hash_by}
+use Rattle.bloom_parts.specs.declared.hasher.CloneBuildHasher.{CloneBuildHasher}
+use Rattle.bloom_parts.specs.declared.hasher.sip.RandomDefaultHasher.{RandomDefaultHasher}
+use Rattle.bloom_parts.specs.declared.math.rate.Rate.{Rate}
+use Rattle.bloom_parts.specs.Keys.{HasKey}
+use Rattle.bloom_parts.specs.Rates.{num_of, den_of}
+use Rattle.bloom_parts.specs.Sip.{sip}
+use Rattle.bloom_parts.specs.Sizing.{IsSizeFor}
+use Rattle.bloom_plain.specs.Builders.{RateStart, IsMadeFor, RefusesAs, size_refusal}
+use Rattle.bloom_plain.specs.Data.{DefaultFilter}
+use Rattle.bloom_plain.specs.Filter.{contains}
+use Rattle.bloom_plain.specs.Replies.{InsertsAll}
 
 -- which values a store has at which keys, all as bytes
 abbrev pub Entries : Type 1
@@ -26,42 +32,55 @@ pub record Gains (old : Entries) (key value : List ℕ) (new : Entries) : Type 0
   pub kept : (k v : List ℕ) → old k v → new k v
   pub others : (k v : List ℕ) → new k v → old k v ⊎ ((k ≡ key) × (v ≡ value))
 
+-- from old to new a key lost its values, if it had any, and no other did
+abbrev pub Loses : Entries → List ℕ → Entries → Type 0
+Loses old key new = (k v : List ℕ) → new k v ↔ (old k v × ¬ (k ≡ key))
+
 -- no key has two values
 abbrev pub IsSingle : Entries → Type 0
 IsSingle entries = (key one other : List ℕ) → entries key one → entries key other → one ≡ other
 
--- each key that has a value is one of these
-abbrev pub Lists : List (List ℕ) → Entries → Type 0
-Lists keys entries = (key value : List ℕ) → entries key value → Contains keys key
+-- these are the keys that have values
+abbrev pub Names : List (List ℕ) → Entries → Type 0
+Names keys entries =
+    (key : List ℕ) → Contains keys key ↔ ((value : List ℕ) × entries key value)
 
--- the hash of a key: that of one write of its bytes
-abbrev pub key_hash : {B H : Type 0} → builder.Ghosts B H → hasher.Ghosts H → B → List ℕ → ℕ
-key_hash b h build key = hash_by h (b.build_hasher build) (key ∷ [])
+-- the hash of a key: SipHash-1-3 of its bytes under the zero key
+abbrev pub key_hash : List ℕ → ℕ
+key_hash key = sip 0 0 key
 
--- each key that has a value is in the filter, by its hash under the filter's hasher
-abbrev pub Covers : {B : Type 0} → (B → List ℕ → ℕ) → Filter B → Entries → Type 0
-Covers hash_of filter entries =
-    (key value : List ℕ) → entries key value → contains filter (hash_of filter.hasher key) ≡ true
+-- each key that has a value is in the filter
+abbrev pub Covers : DefaultFilter → Entries → Type 0
+Covers filter entries =
+    (key value : List ℕ) → entries key value → contains filter (key_hash key) ≡ true
 
 -- each of these keys is in the filter
-abbrev pub HoldsKeys : {B : Type 0} → (B → List ℕ → ℕ) → Filter B → List (List ℕ) → Type 0
-HoldsKeys hash_of filter keys =
-    (key : List ℕ) → Contains keys key → contains filter (hash_of filter.hasher key) ≡ true
+abbrev pub HoldsKeys : DefaultFilter → List (List ℕ) → Type 0
+HoldsKeys filter keys =
+    (key : List ℕ) → Contains keys key → contains filter (key_hash key) ≡ true
 
--- a guard: the store is ready, and each of its keys is in the filter
-pub record Guards {B : Type 0} (hash_of : B → List ℕ → ℕ) (filter : Filter B) (is_ready : Type 0)
-    (entries : Entries) : Type 0 where
-  pub ready : is_ready
-  pub covers : Covers hash_of filter entries
+-- a filter was made for the keys of these entries and room for more, at a rate and under the zero
+-- key, and just the keys were inserted
+pub record IsMadeOf (rate : Rate) (room : ℕ) (entries : Entries) (filter : DefaultFilter) : Type 0
+  where
+    pub keys : List (List ℕ)
+    pub names : Names keys entries
+    pub start : RateStart (CloneBuildHasher RandomDefaultHasher)
+    pub rate_is : start.rate ≡ rate
+    pub zero_key : HasKey start.hasher 0 0
+    pub empty : DefaultFilter
+    pub made : IsMadeFor start (min (length keys + room) (2 ^ 64 - 1)) empty
+    pub inserts : InsertsAll empty (map key_hash keys) filter
 
 -- why there is no filter: one for this many keys and the room is refused with this error. The store
 -- is gone by then, so a store that was left is meant; provided its medium returned what was
--- written, each key of the store is one of these
-pub record LacksFilter {B T : Type 0} (start : RateStart B) (room : ℕ) (is_ready : Type 0)
-    (is_known : T → Type 0) (entries : Entries) (error : FilterError) : Type 0 where
+-- written, these are the keys of the store
+pub record LacksFilter {T : Type 0} (rate : Rate) (room : ℕ) (is_known : T → Type 0)
+    (entries : Entries) (error : FilterError) : Type 0 where
   pub left : T
   pub keys : List (List ℕ)
-  pub lists : is_ready → is_known left → Lists keys entries
+  pub names : is_known left → Names keys entries
   pub bits : ℕ
-  pub size : IsSizeOf start (min (length keys + room) (2 ^ 64 - 1)) bits
+  pub size : IsSizeFor (max 1 (min (length keys + room) (2 ^ 64 - 1))) (num_of rate) (den_of rate)
+      bits
   pub refuses : RefusesAs (size_refusal bits) (Some error)

@@ -1,5 +1,5 @@
-pub mod Answers
 pub mod Counted
 pub mod Guarded
-pub mod Loaded
-pub mod Refusals
+pub mod Guarding
+pub mod Puts
+pub mod Stores

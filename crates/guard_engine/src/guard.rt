@@ -1,28 +1,43 @@
 //! The guard: a store, and a filter that has each of its keys.
-ghost use Rattle.std.specs.Prelude.{◌≡◌, ◌↔◌, ◌⊎◌, false, string_bytes, Err, Ok, IfOk, OnOk, OnErr};
-ghost use Rattle.bloom_plain.specs.Filter.{contains};
-ghost use Rattle.guard_engine.specs.Counted.{one_more};
-ghost use Rattle.guard_engine.specs.Guarded.{Gains, Guards, IsSingle, Lacks, LacksFilter, Stays, key_hash};
+ghost use Rattle.std.specs.Prelude.{◌≡◌, ◌↔◌, false, string_bytes, Ok, IfOk, OnOk, OnErr, IsTrue};
 
-mod keys;
+mod opening;
 
 use crate::counts::Counts;
+use crate::desk::{find, put_alone, remove_alone};
+use crate::kept::Kept;
+use crate::keys::hash_of;
 use crate::store::Store;
-use bloom_plain::laws::{contained_stays, insert_answers_contains};
-use bloom_plain::{BloomFilter, BuilderWithFalsePositiveRate, DefaultHasher, FilterError, Text};
-use keys::insert_keys;
-use std::alloc::Global;
-use std::hash::BuildHasher;
+use bloom_plain::{BloomFilter, FilterError};
+pub use opening::Origin;
+use std::marker::Model;
 
-/// A store behind a filter of its keys.
+/// A store behind a filter of its keys, which is kept beside it.
 ///
-/// The promise is of calls through the guard: the filter doesn't know what is put into the store
-/// past it.
-#[derive(Debug, Drop)]
-pub struct Guard<T, B = DefaultHasher> {
-    pub store: T,
-    pub filter: BloomFilter<B>,
-    pub counts: Counts,
+/// Each key of the store is in the filter. Each key that is committed is in each filter that may be
+/// found in its place, also after a crash: the filter is saved before entries are committed.
+#[derive(Drop)]
+pub struct Guard<T: Store + Drop, K: Kept + Drop> {
+    store: T,
+    kept: K,
+    filter: BloomFilter,
+    counts: Counts,
+}
+
+impl<T: Store + Drop, K: Kept + Drop> Model for Guard<T, K> {
+    ghost use Rattle.guard_engine.specs.Guarding.{IsGuarding, Watch};
+
+    ghost Value = { Watch T K };
+
+    ghost view = { λ g. record {
+      store = g.store;
+      kept = g.kept;
+      filter = g.filter;
+      counts = g.counts;
+    } };
+
+    ghost invariant = { λ g. T.Store.is_known g.store → K.Kept.is_known g.kept
+        → IsGuarding (T.Store.sight g.store) (K.Kept.may_have g.kept) g.filter };
 }
 
 /// What a look-up found, and whether the store was asked.
@@ -45,6 +60,14 @@ pub enum Put {
     Taken,
 }
 
+/// Why a change wasn't made.
+#[derive(Debug, Drop)]
+pub enum Fault<E, F> {
+    Store(E),
+    /// The filter couldn't be saved.
+    Kept(F),
+}
+
 /// Why a guard couldn't be made.
 #[derive(Debug, Drop)]
 pub enum Refusal<E> {
@@ -52,43 +75,33 @@ pub enum Refusal<E> {
     Filter(FilterError),
 }
 
-impl<T: Store + Drop, B: BuildHasher + Drop> Guard<T, B> {
-    /// Opens a guard before a store, with a filter of all its keys and room for more.
-    ///
-    /// # Errors
-    /// `Store` where the keys couldn't be read, and `Filter` where there is no such filter.
-    pub fn open(
-        alloc: Global,
-        store: T,
-        builder: BuilderWithFalsePositiveRate<B>,
-        room: usize,
-    ) -> Result<Self, Refusal<T::Error>>
-        ensures known { IfOk result (λ guard. T.is_known guard.store → T.is_known store) }
-        ensures guards { let hash = key_hash B.BuildHasher B.Hasher.Hasher in
-            T.is_ready store → IfOk result (λ guard. T.is_known guard.store
-            → Guards hash guard.filter (T.is_ready guard.store) (T.has guard.store)) }
-        ensures stays { T.is_ready store → IfOk result (λ guard. T.is_known guard.store
-            → Stays (T.has store) (T.has guard.store)) }
-        // Why there is no filter.
-        ensures refused { (error : FilterError) → result ≡ Err (Refusal.Filter error)
-            → LacksFilter builder room (T.is_ready store) T.is_known (T.has store) error }
+impl Put {
+    ghost use Rattle.std.specs.Prelude.{◌≡◌};
+    ghost use Rattle.guard_engine.specs.Puts.{added_by};
+
+    // How many entries came.
+    pub(crate) fn added(self) -> u64
+        ensures { result ≡ added_by self }
     {
-        let mut store = store;
-        let keys = match store.keys() {
-            Ok(keys) => keys,
-            Err(error) => return Err(Refusal::Store(error)),
-        };
-        let room = keys.len().saturating_add(room);
-        let mut filter = match builder.expected_items(alloc, room) {
-            Ok(filter) => filter,
-            Err(error) => return Err(Refusal::Filter(error)),
-        };
-        insert_keys(&mut filter, &keys);
-        Ok(Guard {
-            store,
-            filter,
-            counts: Counts::new(),
-        })
+        match self {
+            Put::Added => 1,
+            Put::Taken => 0,
+        }
+    }
+}
+
+impl<T: Store + Drop, K: Kept + Drop> Guard<T, K> {
+    ghost use Rattle.bloom_plain.specs.Filter.{contains};
+    ghost use Rattle.guard_engine.specs.Puts.{IsPut};
+    ghost use Rattle.guard_engine.specs.Counted.{CountsPuts, one_more};
+    ghost use Rattle.guard_engine.specs.Guarded.{Lacks, Loses, Stays, key_hash};
+    ghost use Rattle.guard_engine.specs.Puts.{added_by, taken_by};
+
+    /// What the look-ups so far came to.
+    pub fn counts(&self) -> Counts
+        ensures { result ≡ self.now.counts }
+    {
+        self.counts
     }
 
     /// Looks a key up, in the store only where the filter may have it.
@@ -96,29 +109,21 @@ impl<T: Store + Drop, B: BuildHasher + Drop> Guard<T, B> {
     /// A key that is called absent, by `Spared` or by `FalseAlarm`, isn't in the store.
     pub fn get(&mut self, key: &str) -> Result<Found, T::Error>
         // The filter is asked first, and alone where it lacks the key.
-        ensures asked { let hash = key_hash B.BuildHasher B.Hasher.Hasher in
-            (result ≡ Ok Found.Spared)
-            ↔ (contains self.old.filter (hash self.old.filter.hasher key.now) ≡ false) }
+        ensures asked { (result ≡ Ok Found.Spared)
+            ↔ (contains self.old.filter (key_hash key.now) ≡ false) }
         ensures unasked { result ≡ Ok Found.Spared → self.new.store ≡ self.old.store }
-        ensures filter { self.new.filter ≡ self.old.filter }
         // The answer is true of the store.
-        ensures spared { let hash = key_hash B.BuildHasher B.Hasher.Hasher in
-            Guards hash self.old.filter (T.is_ready self.old.store) (T.has self.old.store)
-            → result ≡ Ok Found.Spared → Lacks (T.has self.old.store) key.now }
-        ensures alarm { T.is_ready self.old.store → T.is_known self.new.store
-            → result ≡ Ok Found.FalseAlarm → Lacks (T.has self.old.store) key.now }
-        ensures value { T.is_ready self.old.store → T.is_known self.new.store
+        ensures spared { T.is_known self.old.store → K.is_known self.old.kept
+            → result ≡ Ok Found.Spared → Lacks (T.sight self.old.store).has key.now }
+        ensures alarm { T.is_known self.new.store → K.is_known self.old.kept
+            → result ≡ Ok Found.FalseAlarm → Lacks (T.sight self.old.store).has key.now }
+        ensures value { T.is_known self.new.store → K.is_known self.old.kept
             → (value : _) → result ≡ Ok (Found.Value value)
-            → T.has self.old.store key.now (string_bytes value) }
-        // The filter still has each key of the store, also after an error.
-        ensures guards { let hash = key_hash B.BuildHasher B.Hasher.Hasher in
-            Guards hash self.old.filter (T.is_ready self.old.store) (T.has self.old.store)
-            → T.is_known self.new.store
-            → Guards hash self.new.filter (T.is_ready self.new.store) (T.has self.new.store) }
-        ensures stays { T.is_ready self.old.store → T.is_known self.new.store
-            → Stays (T.has self.old.store) (T.has self.new.store) }
-        ensures ready { T.is_ready self.old.store → T.is_known self.new.store
-            → T.is_ready self.new.store }
+            → (T.sight self.old.store).has key.now (string_bytes value) }
+        ensures stays { T.is_known self.new.store → K.is_known self.old.kept
+            → Stays (T.sight self.old.store).has (T.sight self.new.store).has }
+        ensures filter { self.new.filter ≡ self.old.filter }
+        ensures kept { self.new.kept ≡ self.old.kept }
         ensures known { T.is_known self.new.store → T.is_known self.old.store }
         // What is counted.
         ensures count_spared { result ≡ Ok Found.Spared → self.new.counts
@@ -131,90 +136,79 @@ impl<T: Store + Drop, B: BuildHasher + Drop> Guard<T, B> {
         ensures count_value { (value : _) → result ≡ Ok (Found.Value value) → self.new.counts
             ≡ record self.old.counts { asked = one_more self.old.counts.asked } }
     {
-        if !self.filter.contains(&Text(key.as_bytes())) {
-            self.counts.spare();
-            return Ok(Found::Spared);
-        }
-        self.counts.ask();
-        match self.store.value_of(key)? {
-            None => {
-                self.counts.alarm();
-                Ok(Found::FalseAlarm)
-            }
-            Some(value) => Ok(Found::Value(value)),
-        }
+        let hash = hash_of(key);
+        find(&mut self.store, &self.filter, &mut self.counts, key, hash)
     }
 
-    /// Gives the store back, without its guard.
-    pub fn into_store(self) -> T
-        ensures { result ≡ self.store }
-    {
-        let Guard { store, .. } = self;
-        store
-    }
-
-    // Adds an entry, to the filter first.
-    fn add(&mut self, key: &str, value: &str) -> Result<(), T::Error>
-        ensures guards { let hash = key_hash B.BuildHasher B.Hasher.Hasher in
-            Guards hash self.old.filter (T.is_ready self.old.store) (T.has self.old.store)
-            → T.is_known self.new.store
-            → Guards hash self.new.filter (T.is_ready self.new.store) (T.has self.new.store) }
-        ensures ok { T.is_ready self.old.store → T.is_known self.new.store → OnOk result
-            (Gains (T.has self.old.store) key.now value.now (T.has self.new.store)) }
-        ensures err { T.is_ready self.old.store → T.is_known self.new.store → OnErr result
-            (Stays (T.has self.old.store) (T.has self.new.store)
-            ⊎ Gains (T.has self.old.store) key.now value.now (T.has self.new.store)) }
-        ensures known { T.is_known self.new.store → T.is_known self.old.store }
-        ensures counts { self.new.counts ≡ self.old.counts }
-    {
-        insert_answers_contains::<B>();
-        contained_stays::<B>();
-        self.filter.insert(&Text(key.as_bytes()));
-        self.store.add(key, value)
-    }
-
-    /// Puts an entry whose key has no value yet, into the filter before the store.
+    /// Puts an entry whose key has no value yet. The filter is saved before the entry is committed.
     ///
-    /// After an error of the store the entry is there or nothing changed, and the filter has each
-    /// key.
-    pub fn put(&mut self, key: &str, value: &str) -> Result<Put, T::Error>
-        ensures added { let hash = key_hash B.BuildHasher B.Hasher.Hasher in
-            Guards hash self.old.filter (T.is_ready self.old.store) (T.has self.old.store)
-            → T.is_known self.new.store → result ≡ Ok Put.Added
-            → Lacks (T.has self.old.store) key.now
-            × Gains (T.has self.old.store) key.now value.now (T.has self.new.store) }
-        ensures taken { let hash = key_hash B.BuildHasher B.Hasher.Hasher in
-            Guards hash self.old.filter (T.is_ready self.old.store) (T.has self.old.store)
-            → T.is_known self.new.store → result ≡ Ok Put.Taken
-            → ((other : _) × T.has self.old.store key.now other)
-            × Stays (T.has self.old.store) (T.has self.new.store) }
-        ensures err { let hash = key_hash B.BuildHasher B.Hasher.Hasher in
-            Guards hash self.old.filter (T.is_ready self.old.store) (T.has self.old.store)
-            → T.is_known self.new.store
-            → OnErr result (Stays (T.has self.old.store) (T.has self.new.store)
-            ⊎ Gains (T.has self.old.store) key.now value.now (T.has self.new.store)) }
-        // Where no key had two values, none has two afterwards, also after an error.
-        ensures once { let hash = key_hash B.BuildHasher B.Hasher.Hasher in
-            Guards hash self.old.filter (T.is_ready self.old.store) (T.has self.old.store)
-            → T.is_known self.new.store
-            → IsSingle (T.has self.old.store) → IsSingle (T.has self.new.store) }
-        // The filter still has each key of the store, also after an error.
-        ensures guards { let hash = key_hash B.BuildHasher B.Hasher.Hasher in
-            Guards hash self.old.filter (T.is_ready self.old.store) (T.has self.old.store)
-            → T.is_known self.new.store
-            → Guards hash self.new.filter (T.is_ready self.new.store) (T.has self.new.store) }
+    /// # Errors
+    /// `Store` and `Kept`. Then no entry came.
+    pub fn put(&mut self, key: &str, value: &str) -> Result<Put, Fault<T::Error, K::Error>>
+        ensures put { T.is_known self.new.store → K.is_known self.new.kept → IfOk result
+            (IsPut key.now value.now (T.sight self.old.store).has (T.sight self.new.store).has) }
+        ensures err { T.is_known self.new.store → K.is_known self.new.kept → OnErr result
+            (Stays (T.sight self.old.store).has (T.sight self.new.store).has) }
+        ensures known { T.is_known self.new.store → T.is_known self.old.store }
+        ensures kept_known { K.is_known self.new.kept → K.is_known self.old.kept }
+        // The key is looked up once.
+        ensures counts { IfOk result (λ put.
+            CountsPuts self.old.counts (added_by put) (taken_by put) self.new.counts) }
+    {
+        put_alone(
+            &mut self.store,
+            &mut self.kept,
+            &mut self.filter,
+            &mut self.counts,
+            key,
+            value,
+        )
+    }
+
+    /// Takes the value of a key away, and answers whether it had one. The filter keeps its bits.
+    ///
+    /// # Errors
+    /// Where the store fails. Then nothing changed.
+    pub fn delete(&mut self, key: &str) -> Result<bool, T::Error>
+        ensures loses { T.is_known self.new.store → K.is_known self.new.kept → OnOk result
+            (Loses (T.sight self.old.store).has key.now (T.sight self.new.store).has) }
+        ensures told { T.is_known self.new.store → K.is_known self.new.kept → IfOk result
+            (λ had. IsTrue had ↔ ((value : _) × (T.sight self.old.store).has key.now value)) }
+        ensures err { T.is_known self.new.store → K.is_known self.new.kept → OnErr result
+            (Stays (T.sight self.old.store).has (T.sight self.new.store).has) }
+        ensures filter { self.new.filter ≡ self.old.filter }
+        ensures kept { self.new.kept ≡ self.old.kept }
         ensures known { T.is_known self.new.store → T.is_known self.old.store }
     {
         match self.get(key)? {
-            Found::Value(_) => Ok(Put::Taken),
-            Found::Spared => {
-                self.add(key, value)?;
-                Ok(Put::Added)
-            }
-            Found::FalseAlarm => {
-                self.add(key, value)?;
-                Ok(Put::Added)
+            Found::Spared => Ok(false),
+            Found::FalseAlarm => Ok(false),
+            Found::Value(_) => {
+                remove_alone(&mut self.store, key)?;
+                Ok(true)
             }
         }
+    }
+
+    /// Saves the filter, as after it was made anew.
+    ///
+    /// # Errors
+    /// Where it can't be saved; the guard goes on.
+    pub fn save(&mut self) -> Result<(), K::Error>
+        ensures saved { K.is_known self.new.kept → OnOk result
+            ((other : _) → K.may_have self.new.kept other → other ≡ self.old.filter) }
+        ensures same { (self.new.store ≡ self.old.store) × (self.new.filter ≡ self.old.filter)
+            × (self.new.counts ≡ self.old.counts) }
+        ensures known { K.is_known self.new.kept → K.is_known self.old.kept }
+    {
+        self.kept.save(&self.filter)
+    }
+
+    /// Gives the store and the place of the filter back.
+    pub fn into_parts(self) -> (T, K)
+        ensures { result ≡ (self.store, self.kept) }
+    {
+        let Guard { store, kept, .. } = self;
+        (store, kept)
     }
 }

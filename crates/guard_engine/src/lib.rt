@@ -2,16 +2,14 @@
 //! out.
 #![tactic(auto)]
 
-mod commands;
 mod counts;
+mod desk;
 mod guard;
-mod runs;
+mod kept;
+mod keys;
 mod store;
-mod task;
 
-pub use commands::{Answer, carry_out, open_guard};
 pub use counts::Counts;
-pub use guard::{Found, Guard, Put, Refusal};
-pub use runs::{Loaded, Stop, ask, load};
+pub use guard::{Fault, Found, Guard, Origin, Put, Refusal};
+pub use kept::Kept;
 pub use store::Store;
-pub use task::Task;

@@ -1,0 +1,136 @@
+//! How a guard is opened.
+ghost use Rattle.std.specs.Prelude.{◌≡◌, ◌≢◌, Err, IfOk};
+ghost use Rattle.guard_engine.specs.Guarded.{Covers, IsMadeOf, LacksFilter};
+ghost use Rattle.guard_engine.specs.Stores.{IsReady, TakesBack};
+
+use super::{Guard, Refusal};
+use crate::counts::Counts;
+use crate::kept::Kept;
+use crate::keys::insert_keys;
+use crate::store::Store;
+use bloom_parts::math::optimal_size;
+use bloom_plain::{BloomFilter, FilterError, Rate};
+use std::alloc::Global;
+
+/// Where the filter of a guard comes from.
+#[derive(Debug, Drop)]
+pub enum Origin<F> {
+    /// It was kept.
+    Kept,
+    /// None was kept, and it was made anew.
+    Missing,
+    /// The one that was kept can't be read, and it was made anew.
+    Unread(F),
+    /// The one that was kept has no room for more keys, and it was made anew.
+    Full,
+}
+
+// Whether a filter has room for this many more keys: as many bits as one made for them, of which
+// fewer than half are set.
+fn has_room(filter: &BloomFilter, rate: Rate, room: usize) -> bool {
+    let Ok(bits) = optimal_size(room, rate) else {
+        return false;
+    };
+    let mut set = 0u64;
+    for word in filter.as_slice() {
+        set = set.saturating_add(u64::from(word.count_ones()));
+    }
+    room == 0 || (bits <= filter.num_bits() && set < filter.num_bits() as u64 / 2)
+}
+
+// A filter of all keys of a store, with room for more.
+fn make_filter<T: Store>(
+    alloc: Global,
+    store: &mut T,
+    rate: Rate,
+    room: usize,
+) -> Result<BloomFilter, Refusal<T::Error>>
+    ensures known { T.is_known store.new → T.is_known store.old }
+    ensures covers { IsReady (T.sight store.old) → T.is_known store.new
+        → IfOk result (λ filter. Covers filter (T.sight store.old).has) }
+    ensures made { IsReady (T.sight store.old) → T.is_known store.new
+        → IfOk result (IsMadeOf rate room (T.sight store.old).has) }
+    ensures ready { IsReady (T.sight store.old) → T.is_known store.new
+        → TakesBack (T.sight store.old) (T.sight store.new) }
+    ensures refused { IsReady (T.sight store.old) → (error : FilterError)
+        → result ≡ Err (Refusal.Filter error)
+        → LacksFilter rate room T.is_known (T.sight store.old).has error }
+{
+    let keys = match store.keys() {
+        Ok(keys) => keys,
+        Err(error) => return Err(Refusal::Store(error)),
+    };
+    let room = keys.len().saturating_add(room);
+    let mut filter = match BloomFilter::with_false_pos(rate).expected_items(alloc, room) {
+        Ok(filter) => filter,
+        Err(error) => return Err(Refusal::Filter(error)),
+    };
+    insert_keys(&mut filter, &keys);
+    Ok(filter)
+}
+
+impl<T: Store + Drop, K: Kept + Drop> Guard<T, K> {
+    ghost use Rattle.guard_engine.specs.Guarded.{Stays};
+    ghost use Rattle.guard_engine.specs.Guarding.{AllCover};
+
+    /// Opens a guard before a store that has no open batch, by the filter that is kept beside it. It
+    /// makes a filter of all keys anew where none can be read, or where that has no room for this
+    /// many more keys, and doesn't save it.
+    ///
+    /// # Errors
+    /// `Store` where the keys can't be read, and `Filter` where there is no such filter.
+    pub fn open(
+        alloc: Global,
+        store: T,
+        kept: K,
+        rate: Rate,
+        room: usize,
+    ) -> Result<(Self, Origin<K::Error>), Refusal<T::Error>>
+        requires ready { T.is_known store → IsReady (T.sight store) }
+        // The filter that was saved last is that of a guard of this store.
+        requires beside { T.is_known store → K.is_known kept
+            → AllCover (K.may_have kept) (T.sight store).kept }
+        ensures known { IfOk result (λ it. T.is_known it.0.store → T.is_known store) }
+        ensures kept_known { IfOk result (λ it. K.is_known it.0.kept → K.is_known kept) }
+        ensures stays { IfOk result (λ it. T.is_known it.0.store
+            → Stays (T.sight store).has (T.sight it.0.store).has) }
+        ensures counts { IfOk result (λ it. it.0.counts
+            ≡ record { spared = 0; asked = 0; false_alarms = 0 }) }
+        // The filter that was kept, or one of the keys alone.
+        ensures taken { IfOk result (λ it. it.1 ≡ Origin.Kept → K.is_known it.0.kept
+            → K.may_have kept it.0.filter) }
+        ensures untouched { IfOk result (λ it. it.1 ≡ Origin.Kept → it.0.store ≡ store) }
+        ensures made { IfOk result (λ it. it.1 ≢ Origin.Kept → T.is_known it.0.store
+            → IsMadeOf rate room (T.sight store).has it.0.filter) }
+        ensures refused { (error : FilterError) → result ≡ Err (Refusal.Filter error)
+            → LacksFilter rate room T.is_known (T.sight store).has error }
+    {
+        let (mut store, mut kept) = (store, kept);
+        let origin = match kept.load() {
+            Ok(Some(filter)) => {
+                if has_room(&filter, rate, room) {
+                    let counts = Counts::new();
+                    let guard = Guard {
+                        store,
+                        kept,
+                        filter,
+                        counts,
+                    };
+                    return Ok((guard, Origin::Kept));
+                }
+                Origin::Full
+            }
+            Ok(None) => Origin::Missing,
+            Err(error) => Origin::Unread(error),
+        };
+        let filter = make_filter(alloc, &mut store, rate, room)?;
+        let counts = Counts::new();
+        let guard = Guard {
+            store,
+            kept,
+            filter,
+            counts,
+        };
+        Ok((guard, origin))
+    }
+}
