@@ -1,5 +1,6 @@
 pub mod Counted
 pub mod Guarded
 pub mod Guarding
+pub mod Loaded
 pub mod Puts
 pub mod Stores

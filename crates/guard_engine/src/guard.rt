@@ -1,6 +1,8 @@
 //! The guard: a store, and a filter that has each of its keys.
 ghost use Rattle.std.specs.Prelude.{◌≡◌, ◌↔◌, false, string_bytes, Ok, IfOk, OnOk, OnErr, IsTrue};
 
+mod asks;
+mod loads;
 mod opening;
 
 use crate::counts::Counts;
@@ -9,6 +11,7 @@ use crate::kept::Kept;
 use crate::keys::hash_of;
 use crate::store::Store;
 use bloom_plain::{BloomFilter, FilterError};
+pub use loads::{Loaded, Stop, Why};
 pub use opening::Origin;
 use std::marker::Model;
 

@@ -7,9 +7,13 @@ mod desk;
 mod guard;
 mod kept;
 mod keys;
+mod line;
+mod on_demand;
 mod store;
 
 pub use counts::Counts;
-pub use guard::{Fault, Found, Guard, Origin, Put, Refusal};
+pub use guard::{Fault, Found, Guard, Loaded, Origin, Put, Refusal, Stop, Why};
 pub use kept::Kept;
+pub use line::{BadLine, entry_of, text_of};
+pub use on_demand::{OnDemand, Source};
 pub use store::Store;
