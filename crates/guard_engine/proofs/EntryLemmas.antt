@@ -6,7 +6,7 @@ use Rattle.guard_engine.specs.declared.guard.Put.TheVariants.{Added, Taken}
 use Rattle.guard_engine.specs.Guarded.{Covers, Entries, Gains, Stays}
 use Rattle.guard_engine.specs.Guarding.{AllCover, IsGuarding, PutsInBatch, Watches}
 use Rattle.guard_engine.specs.Puts.{IsPut, added_by}
-use Rattle.guard_engine.specs.Stores.{Begins, Commits, IsInBatch, Sight}
+use Rattle.guard_engine.specs.Stores.{Begins, Commits, IsReady, Keeps, Sight, TakesBack}
 
 -- what stays from old to mid, and from mid to new, stays from old to new
 pub Stays-after : (old mid new : Entries) → Stays old mid → Stays mid new → Stays old new
@@ -94,3 +94,33 @@ module _ (s mid after : Sight) (may_have : DefaultFilter → Type 0) (f : Defaul
         covers = Covers-stays f' after.has new.has watches.has commits.has;
         saved = saved;
       }
+
+-- where nothing changed, a store that was ready is ready
+pub keeps-ready : (old new : Sight) → IsReady old → Keeps old new → TakesBack old new
+keeps-ready old new ready keeps = record {
+  ready = record {
+    fit = keeps.fit;
+    closed = keeps.mode ∙ ready.closed;
+    settled = Stays-after new.kept old.has new.has
+        (Stays-after new.kept old.kept old.has (Stays-back old.kept new.kept keeps.kept)
+        ready.settled) keeps.has;
+  };
+  kept = keeps.kept;
+}
+
+-- what a store that is ready has stays where nothing was committed
+pub ready-stays : (old new : Sight) → IsReady old → TakesBack old new → Stays old.has new.has
+ready-stays old new ready back =
+    Stays-after old.has old.kept new.has (Stays-back old.kept old.has ready.settled)
+    (Stays-after old.kept new.kept new.has back.kept back.ready.settled)
+
+-- a guard begins with a filter of all keys of its store, beside filters that have all keys
+pub guards-anew : (old new : Sight) (may_have new_may : DefaultFilter → Type 0)
+    (f : DefaultFilter) → IsReady old → TakesBack old new → Covers f old.has
+    → AllCover may_have old.kept → ((g : DefaultFilter) → new_may g → may_have g)
+    → IsGuarding new new_may f
+guards-anew old new may_have new_may f ready back covers saved fewer = record {
+  ready = back.ready;
+  covers = Covers-stays f old.has new.has covers (ready-stays old new ready back);
+  saved = λ g may. Covers-stays g old.kept new.kept (saved g (fewer g may)) back.kept;
+}

@@ -1,3 +1,4 @@
 mod CountLemmas
 mod EntryLemmas
 mod FoundLemmas
+mod OpenLemmas

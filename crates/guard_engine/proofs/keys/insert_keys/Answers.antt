@@ -1,7 +1,7 @@
 use Rattle.std.proofs.Common.{◌≡◌, true, string_bytes, ap, subst, ◌∙◌}
 use Rattle.bloom_plain.specs.Filter.{contains}
 use Rattle.guard_engine.specs.Guarded.{key_hash}
-use Rattle.guard_engine.proofs.FoundLemmas.{HoldsKeys-next, InsertsAll-none, InsertsAll-next}
+use Rattle.guard_engine.proofs.FoundLemmas.{HoldsKeys-next, InsertsAll-next}
 use Rattle.guard_engine.proofs.keys.insert_keys.Goals as goal
 
 -- with this key the filter has the keys so far, and no other was inserted
