@@ -49,12 +49,12 @@ impl<O: Source + Drop> Model for OnDemand<O> {
 fn open<O: Source>(source: &mut O, store: &mut Option<O::Store>) -> Result<(), O::Error>
     ensures open { IfOk result (λ _. IsSome store.new) }
     ensures again { IsSome store.old → (store.new ≡ store.old) × (source.new ≡ source.old) }
-    ensures closed { OnErr result (store.new ≡ None) }
-    ensures known { known_of (O.is_known source.new) O.Store.is_known store.new
-        → known_of (O.is_known source.old) O.Store.is_known store.old }
+    ensures closed { OnErr result ((store.old ≡ None) × (store.new ≡ None)) }
     ensures ok { known_of (O.is_known source.new) O.Store.is_known store.new → store.old ≡ None
         → OnOk result (Opens (O.has source.old) O.Store.sight store.new) }
     ensures err { OnErr result (Stays (O.has source.old) (O.has source.new)) }
+    ensures known { known_of (O.is_known source.new) O.Store.is_known store.new
+        → known_of (O.is_known source.old) O.Store.is_known store.old }
 {
     match store {
         Some(_) => Ok(()),
