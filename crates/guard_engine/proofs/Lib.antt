@@ -1,4 +1,5 @@
 mod CountLemmas
 mod EntryLemmas
 mod FoundLemmas
+pub mod OnDemandLemmas
 mod OpenLemmas
