@@ -17,9 +17,11 @@ ready-closed has =
 -- the keys of entries that stay are the same
 names-stay : (keys : List (List ℕ)) {old new : Entries} → Stays old new → Names keys new
     → Names keys old
-names-stay keys stays names key = (λ listed. let found = (names key).0 listed in
-    (found.0, (stays key found.0).0 found.1),
-    λ had. (names key).1 (had.0, (stays key had.0).1 had.1))
+names-stay keys stays names key = (
+  λ listed. let found = (names key).0 listed in
+      (found.0, (stays key found.0).0 found.1),
+  λ had. (names key).1 (had.0, (stays key had.0).1 had.1),
+)
 
 -- a value of a key that stays, or that there is none
 value-stays : {X : Type 0} (key : List ℕ) (bytes : X → List ℕ) {old new : Entries}
@@ -52,14 +54,16 @@ pub keeps-opened : {T X : Type 0} (source_known : Type 0) (is_known : T → Type
     → Keeps (sight_of has sight before) (sight store)
 keeps-opened {T = T} source_known is_known has sight None after store is again opens known fit =
     let from : known_of source_known is_known (Some store) → ◌≡◌ {A = Option T} None None
-        → Opens has sight (Some store) = rw is at opens in
+    → Opens has sight (Some store) = rw is at opens in
     let opened = from known refl in let settled = opened.0.settled in
     record {
       fit = opened.0.fit;
       mode = opened.0.closed;
       has = opened.1;
-      kept = λ key value. (λ kept. (opened.1 key value).0 ((settled key value).1 kept),
-          λ had. (settled key value).0 ((opened.1 key value).1 had));
+      kept = λ key value. (
+        λ kept. (opened.1 key value).0 ((settled key value).1 kept),
+        λ had. (settled key value).0 ((opened.1 key value).1 had),
+      );
     }
 keeps-opened source_known is_known has sight (Some was) after store is again opens known fit =
     let same : store ≡ was = let still = (again refl).0 in cc in

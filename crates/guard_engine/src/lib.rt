@@ -2,6 +2,7 @@
 //! out.
 #![tactic(auto)]
 
+mod commands;
 mod counts;
 mod desk;
 mod guard;
@@ -10,10 +11,13 @@ mod keys;
 mod line;
 mod on_demand;
 mod store;
+mod task;
 
+pub use commands::{Answer, Trouble, carry_out};
 pub use counts::Counts;
 pub use guard::{Fault, Found, Guard, Loaded, Origin, Put, Refusal, Stop, Why};
 pub use kept::Kept;
 pub use line::{BadLine, entry_of, text_of};
 pub use on_demand::{OnDemand, Source};
 pub use store::Store;
+pub use task::Task;

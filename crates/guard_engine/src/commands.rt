@@ -1,0 +1,150 @@
+//! Tasks and their answers, over any store.
+ghost use Rattle.std.specs.Prelude.{◌≡◌, ◌↔◌, Ok, IfErr, IfOk, OnErr, IsTrue};
+ghost use Rattle.bloom_plain.specs.Filter.{contains};
+ghost use Rattle.guard_engine.specs.Answers.{IsAbsence, IsAnswerTo, IsNo, IsTroubleOf, Leaves, TellsCounts};
+ghost use Rattle.guard_engine.specs.Guarded.{key_hash};
+
+use crate::counts::Counts;
+use crate::guard::{Fault, Found, Guard, Loaded, Put, Stop};
+use crate::kept::Kept;
+use crate::store::Store;
+use crate::task::Task;
+use std::alloc::Global;
+use std::fmt;
+use std::io::Read;
+
+/// What a task came to.
+#[derive(Debug, Drop)]
+pub enum Answer {
+    Put(Put),
+    Found(Found),
+    /// Whether the key had a value.
+    Deleted(bool),
+    Loaded(Loaded, Counts),
+    Counted(Counts),
+}
+
+/// Why a task wasn't carried out to its end.
+#[derive(Debug, Drop)]
+pub enum Trouble<E, F> {
+    /// A value wasn't put.
+    Put(Fault<E, F>),
+    /// A key couldn't be looked up, or its value be taken away.
+    Key(E),
+    /// Lines weren't taken to their end.
+    Lines(Stop<E, F>),
+}
+
+impl Answer {
+    /// Whether the key that was looked up, or whose value was to be taken away, is absent.
+    pub fn is_absence(&self) -> bool
+        ensures { IsTrue result ↔ IsAbsence self.now }
+    {
+        match self {
+            Answer::Put(_) => false,
+            Answer::Found(Found::Value(_)) => false,
+            Answer::Found(Found::Spared) => true,
+            Answer::Found(Found::FalseAlarm) => true,
+            Answer::Deleted(had) => !*had,
+            Answer::Loaded(_, _) => false,
+            Answer::Counted(_) => false,
+        }
+    }
+
+    /// Whether the key is absent, or had a value where one was to be put.
+    pub fn is_no(&self) -> bool
+        ensures { IsTrue result ↔ IsNo self.now }
+    {
+        match self {
+            Answer::Put(Put::Added) => false,
+            Answer::Put(Put::Taken) => true,
+            Answer::Found(_) => self.is_absence(),
+            Answer::Deleted(_) => self.is_absence(),
+            Answer::Loaded(_, _) => false,
+            Answer::Counted(_) => false,
+        }
+    }
+}
+
+fn write_counts<W: fmt::Write>(counts: &Counts, f: &mut fmt::Formatter<W>) -> fmt::Result {
+    let Counts {
+        spared,
+        asked,
+        false_alarms,
+    } = counts;
+    write!(
+        f,
+        "{spared} spared, {asked} asked, {false_alarms} false alarms"
+    )
+}
+
+impl fmt::Display for Answer {
+    fn fmt<W: fmt::Write>(&self, f: &mut fmt::Formatter<W>) -> fmt::Result {
+        match self {
+            Answer::Put(Put::Added) => f.write_str("added"),
+            Answer::Put(Put::Taken) => f.write_str("taken"),
+            Answer::Found(Found::Value(value)) => f.write_str(value.as_str()),
+            Answer::Found(Found::Spared) => f.write_str("absent: the store was spared"),
+            Answer::Found(Found::FalseAlarm) => f.write_str(
+                "absent: the store was asked for nothing",
+            ),
+            Answer::Deleted(true) => f.write_str("deleted"),
+            Answer::Deleted(false) => f.write_str("absent: nothing was deleted"),
+            Answer::Loaded(Loaded { added, taken }, counts) => {
+                write!(f, "{added} added, {taken} taken\n")?;
+                write_counts(counts, f)
+            }
+            Answer::Counted(counts) => write_counts(counts, f),
+        }
+    }
+}
+
+/// Carries a task out.
+///
+/// # Errors
+/// Where the store, the place of the filter, a read or memory fails, and at a line that is no entry
+/// or no key. The batches of lines before are done.
+pub fn carry_out<T: Store + Drop, K: Kept + Drop, R: Read + Drop>(
+    alloc: Global,
+    guard: &mut Guard<T, K>,
+    task: Task<R>,
+) -> Result<Answer, Trouble<T::Error, K::Error>>
+    // The answer is true of the store.
+    ensures holds { T.is_known guard.new.store → K.is_known guard.new.kept → IfOk result
+        (IsAnswerTo R.remaining task.entry (T.sight guard.old.store).has
+        (T.sight guard.new.store).has) }
+    // The store was asked nothing where it is told as spared.
+    ensures spared { result ≡ Ok (Answer.Found Found.Spared) → guard.new.store ≡ guard.old.store }
+    // The counts that an answer tells are those of the guard.
+    ensures counts { IfOk result (λ answer. TellsCounts answer guard.new.counts) }
+    // Why a task isn't carried out, and what that leaves of the store.
+    ensures refused { IfErr result (IsTroubleOf task.entry) }
+    ensures err { T.is_known guard.new.store → K.is_known guard.new.kept → IfErr result
+        (Leaves R.remaining task.entry (T.sight guard.old.store).has
+        (T.sight guard.new.store).has) }
+    ensures known { T.is_known guard.new.store → T.is_known guard.old.store }
+    ensures kept_known { K.is_known guard.new.kept → K.is_known guard.old.kept }
+{
+    match task {
+        Task::Put(key, value) => match guard.put(key, value) {
+            Ok(put) => Ok(Answer::Put(put)),
+            Err(fault) => Err(Trouble::Put(fault)),
+        },
+        Task::Get(key) => match guard.get(key) {
+            Ok(found) => Ok(Answer::Found(found)),
+            Err(error) => Err(Trouble::Key(error)),
+        },
+        Task::Delete(key) => match guard.delete(key) {
+            Ok(had) => Ok(Answer::Deleted(had)),
+            Err(error) => Err(Trouble::Key(error)),
+        },
+        Task::Load(mut input, batch) => match guard.load(alloc, &mut input, batch) {
+            Ok(loaded) => Ok(Answer::Loaded(loaded, guard.counts())),
+            Err(stop) => Err(Trouble::Lines(stop)),
+        },
+        Task::Stats(mut input) => match guard.ask(alloc, &mut input) {
+            Ok(()) => Ok(Answer::Counted(guard.counts())),
+            Err(stop) => Err(Trouble::Lines(stop)),
+        },
+    }
+}
