@@ -1,6 +1,6 @@
 -- What the answer to a task says of the store's entries before and after it, and of the guard's
 -- counts, and what an error leaves.
-use Rattle.std.specs.Prelude.{◌≡◌, ◌⊎◌, ◌↔◌, ℕ, Bool, false, List, Option, string_bytes, IsTrue, ⊤}
+use Rattle.std.specs.Prelude.{◌≡◌, ◌⊎◌, ◌↔◌, ℕ, max, Bool, false, List, Option, string_bytes, IsTrue, ⊤}
 use Rattle.guard_engine.specs.declared.commands.Answer.{Answer}
 use Rattle.guard_engine.specs.declared.commands.Answer.TheVariants as answers
 use Rattle.guard_engine.specs.declared.commands.Trouble.{Trouble}
@@ -53,7 +53,7 @@ module _ {R : Type 0} (remaining : R → Option (List ℕ)) where
   Leaves (tasks.Get key) old new trouble = Stays old new
   Leaves (tasks.Delete key) old new trouble = Stays old new
   Leaves (tasks.Load input batch) old new (troubles.Lines stop) =
-      LoadsFirst (remaining input) old new stop.done stop.number
+      LoadsFirst (remaining input) (max 1 batch) old new stop.done stop.number
   Leaves (tasks.Load input batch) old new (troubles.Put fault) = ⊥
   Leaves (tasks.Load input batch) old new (troubles.Key error) = ⊥
   Leaves (tasks.Stats input) old new trouble = Stays old new
