@@ -162,7 +162,7 @@ const SCRIPTS: [Script; 10] = [
             ),
             (
                 Act::Load(b"g\t1\nh\t1\ni\t1\ntorn\t1\nk\t1\n"),
-                "line 4, 2 done: store",
+                "line 3, 2 done: store",
                 false,
             ),
         ],
