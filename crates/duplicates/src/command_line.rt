@@ -16,31 +16,41 @@ pub struct Options {
     pub longest: usize,
 }
 
-// The words that the program understands.
-fn command<'a>(alloc: Global) -> Result<Command<'a>, Error> {
-    let items = Arg::new(alloc, "items")
+fn items<'a>(alloc: Global) -> Arg<'a> {
+    Arg::new(alloc, "items")
         .long("items")
         .value_name("N")
         .default_value("1000000")
         .help("How many different lines are expected")
-        .value_parser(value_parser!(u64).range(1..=1_000_000_000_000));
-    let rate = Arg::new(alloc, "rate")
+        .value_parser(value_parser!(u64).range(1..=1_000_000_000_000))
+}
+
+fn rate<'a>(alloc: Global) -> Arg<'a> {
+    Arg::new(alloc, "rate")
         .long("rate")
         .value_name("A/B")
         .default_value("1/1000")
-        .help("The share of new lines that may be held back by mistake");
-    let longest = Arg::new(alloc, "longest")
+        .help("The share of new lines that may be held back by mistake")
+}
+
+fn longest<'a>(alloc: Global) -> Arg<'a> {
+    Arg::new(alloc, "longest")
         .long("longest")
         .value_name("BYTES")
         .default_value("65536")
         .help("How many bytes a line may have")
-        .value_parser(value_parser!(u64).range(0..=1_073_741_824));
-    let command = Command::new(alloc, "duplicates")
-        .about("Prints each line of its input that is certainly new")
-        .arg(items)?
-        .arg(rate)?
-        .arg(longest)?;
-    Ok(command)
+        .value_parser(value_parser!(u64).range(0..=1_073_741_824))
+}
+
+// The words that the program understands.
+fn command<'a>(alloc: Global) -> Result<Command<'a>, Error> {
+    Ok(
+        Command::new(alloc, "duplicates")
+            .about("Prints each line of its input that is certainly new")
+            .arg(items(alloc))?
+            .arg(rate(alloc))?
+            .arg(longest(alloc))?,
+    )
 }
 
 // The rate that a text like 1/1000 is, if it lies between 0 and 1.

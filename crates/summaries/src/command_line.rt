@@ -22,45 +22,65 @@ pub const MOST_HASHES: &str = "hashes-up-to";
 
 pub const FILTER: &str = "FILTER";
 
-// The arguments that size a filter: by its bits, or by its keys and a rate.
-fn with_sizes<'a>(alloc: Global, command: Command<'a>) -> Result<Command<'a>, Error> {
-    let bits = Arg::new(alloc, BITS)
+// An argument that counts bits or keys.
+fn counted<'a>(arg: Arg<'a>) -> Arg<'a> {
+    arg.value_parser(value_parser!(u64).range(1..1_000_000_000_001))
+}
+
+fn bits<'a>(alloc: Global) -> Arg<'a> {
+    counted(Arg::new(alloc, BITS))
         .long("bits")
         .value_name("N")
         .help("At least this many bits: ten for each key make one mistake in a hundred")
-        .value_parser(value_parser!(u64).range(1..1_000_000_000_001));
-    let hashes = Arg::new(alloc, HASHES)
+}
+
+fn hashes<'a>(alloc: Global) -> Arg<'a> {
+    Arg::new(alloc, HASHES)
         .long("hashes")
         .value_name("N")
         .default_value("7")
         .help("How many bits each key turns on")
-        .value_parser(value_parser!(u32).range(1..1001));
-    let items = Arg::new(alloc, ITEMS)
+        .value_parser(value_parser!(u32).range(1..1001))
+}
+
+fn items<'a>(alloc: Global) -> Result<Arg<'a>, Error> {
+    let items = counted(Arg::new(alloc, ITEMS))
         .long("items")
         .value_name("N")
-        .requires_arg(RATE)?
-        .conflicts_with(HASHES)?
-        .help("How many keys are expected, in place of --bits and --hashes")
-        .value_parser(value_parser!(u64).range(1..1_000_000_000_001));
-    let rate = Arg::new(alloc, RATE)
-        .long("rate")
-        .value_name("A/B")
-        .requires_arg(ITEMS)?
-        .conflicts_with(BITS)?
-        .conflicts_with(HASHES)?
-        .help("The share of other keys that may be taken for one of them by mistake");
-    let size = ArgGroup::new(alloc, "size")
-        .arg(BITS)?
-        .arg(ITEMS)?
-        .required(true);
+        .help("How many keys are expected, in place of --bits and --hashes");
+    Ok(items.requires_arg(RATE)?.conflicts_with(HASHES)?)
+}
+
+fn rate<'a>(alloc: Global) -> Result<Arg<'a>, Error> {
+    let rate = Arg::new(alloc, RATE).long("rate").value_name("A/B").help(
+        "The share of other keys that may be taken for one of them by mistake",
+    );
     Ok(
-        command
-            .arg(bits)?
-            .arg(hashes)?
-            .arg(items)?
-            .arg(rate)?
-            .group(size)?,
+        rate.requires_arg(ITEMS)?
+            .conflicts_with(BITS)?
+            .conflicts_with(HASHES)?,
     )
+}
+
+// Bits or keys are given.
+fn size<'a>(alloc: Global) -> Result<ArgGroup<'a>, Error> {
+    let size = ArgGroup::new(alloc, "size").required(true);
+    Ok(size.arg(BITS)?.arg(ITEMS)?)
+}
+
+fn with_bits<'a>(alloc: Global, command: Command<'a>) -> Result<Command<'a>, Error> {
+    Ok(command.arg(bits(alloc))?.arg(hashes(alloc))?)
+}
+
+fn with_items<'a>(alloc: Global, command: Command<'a>) -> Result<Command<'a>, Error> {
+    Ok(command.arg(items(alloc)?)?.arg(rate(alloc)?)?)
+}
+
+// The arguments that size a filter: by its bits, or by its keys and a rate. Each has a function of
+// its own, since a function that holds many of them at once takes minutes to prove.
+fn with_sizes<'a>(alloc: Global, command: Command<'a>) -> Result<Command<'a>, Error> {
+    let command = with_items(alloc, with_bits(alloc, command)?)?;
+    Ok(command.group(size(alloc)?)?)
 }
 
 fn build_command<'a>(alloc: Global) -> Result<Command<'a>, Error> {

@@ -18,16 +18,24 @@ use std::rt::{Env, Files};
 use std::thread::Threads;
 use summaries_engine::{Shelf, ask, build, facts_of, put, put_file, shape_for, unite_named};
 
-// The shape that the words ask for: by keys and a rate, or by bits and hashes.
-fn shape_of(matches: &ArgMatches) -> anyhow::Result<Shape> {
-    if let Some(items) = matches.get_one::<u64>(ITEMS) {
-        let text = matches.get_str(RATE).context("which rate?")?;
-        let rate = rate_of(text).context("which rate?")?;
-        return Ok(shape_for(items as usize, rate)?);
-    }
+fn shape_by_rate(matches: &ArgMatches, items: u64) -> anyhow::Result<Shape> {
+    let text = matches.get_str(RATE).context("which rate?")?;
+    let rate = rate_of(text).context("which rate?")?;
+    Ok(shape_for(items as usize, rate)?)
+}
+
+fn shape_by_bits(matches: &ArgMatches) -> anyhow::Result<Shape> {
     let bits = matches.get_one::<u64>(BITS).context("how many bits?")?;
     let hashes = matches.get_one::<u32>(HASHES).context("how many hashes?")?;
     Ok(Shape::new(bits as usize, hashes)?)
+}
+
+// The shape that the words ask for: by keys and a rate, or by bits and hashes.
+fn shape_of(matches: &ArgMatches) -> anyhow::Result<Shape> {
+    match matches.get_one::<u64>(ITEMS) {
+        Some(items) => shape_by_rate(matches, items),
+        None => shape_by_bits(matches),
+    }
 }
 
 // Writes a filter in the form that the words ask for.
