@@ -1,5 +1,5 @@
 -- When a comparison with a text holds.
-use Rattle.std.proofs.Common.{◌≡◌, ◌⊎◌, inl, inr, ℕ, List, Bool, true, false, Some, refl, sym, ap, ◌∙◌}
+use Rattle.std.proofs.Common.{◌≡◌, ◌⊎◌, inl, inr, ℕ, ℤ, List, Bool, true, false, Some, refl, sym, ap, ◌∙◌}
 use Rattle.std.proofs.lemmas.Cmp.{nat_list_cmp_total}
 use Rattle.std.proofs.lemmas.Map.Lookups.{exact_bytes}
 use Rattle.std.specs.Cmp.Lexicographic.{slice_cmp}
@@ -13,7 +13,7 @@ use Rattle.sqlite_sql.specs.declared.ops.BinaryOp.TheVariants as by
 use Rattle.sqlite_sql.specs.declared.ops.CompareOp.TheVariants.{Eq}
 use Rattle.sqlite_value.specs.declared.keys.Collation.TheVariants.{Binary}
 use Rattle.sqlite_value.specs.Order.{class, value_cmp}
-use Rattle.sqlite_value.proofs.OrderLemmas.{value_cmp-Text, value_cmp-apart}
+use Rattle.sqlite_value.proofs.OrderLemmas.{value_cmp-Text, value_cmp-apart, value_cmp_total}
 
 -- a test that is true answers true
 holds_when : (b : Bool) → is_true (from_truth (Some b)) ≡ b
@@ -62,3 +62,18 @@ unfolding binary
 equals_itself name =
     holds_when _ ∙ ap is_eq (value_cmp-Text name name)
     ∙ own_reverse _ (nat_list_cmp_total.antisymm name name)
+
+-- a value of the order of a number equals it
+pub equals_number : (v : Value) (id : ℤ) → is_eq (value_cmp v (Int id)) ≡ true
+    → is_true (binary (by.Compare Eq Binary) v (Int id)) ≡ true
+unfolding binary
+equals_number Null id h =
+    absurd (let e = sym (ap is_eq (value_cmp-apart Null (Int id) (λ e. absurd cc))) ∙ h in cc)
+equals_number (Int n) id h = holds_when _ ∙ h
+equals_number (Real x) id h = holds_when _ ∙ h
+equals_number (Text t) id h = holds_when _ ∙ h
+equals_number (Blob b) id h = holds_when _ ∙ h
+
+-- a number equals itself
+pub number_itself : (id : ℤ) → is_eq (value_cmp (Int id) (Int id)) ≡ true
+number_itself id = own_reverse _ (value_cmp_total.antisymm (Int id) (Int id))

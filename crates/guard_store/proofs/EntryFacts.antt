@@ -8,11 +8,11 @@ use Rattle.guard_store.specs.Answers.{AreNames, AreValues, IsFirstText, ShowText
 use Rattle.guard_store.specs.Entry.{HasEntry, stored}
 
 -- the row of the name 5 with the value 6
-abbrev first : Row
+abbrev pub first : Row
 first = stored (pos 1) (5 ∷ []) (6 ∷ [])
 
 -- the row of the name 7 with the value 8
-abbrev second : Row
+abbrev pub second : Row
 second = stored (pos 2) (7 ∷ []) (8 ∷ [])
 
 -- these two rows
@@ -20,7 +20,7 @@ abbrev pub both : List Row
 both = first ∷ second ∷ []
 
 -- a table has the entry of each row
-has : HasEntry both (7 ∷ []) (8 ∷ [])
+pub has : HasEntry both (7 ∷ []) (8 ∷ [])
 has = (second, (1, omega arith, refl), refl, refl)
 
 -- a table doesn't have the name of one row with the value of another

@@ -1,13 +1,13 @@
 -- Which connection is a store, why another isn't, what the statement that makes the table
 -- makes, and why it fails: cases that hold, and near ones that don't.
-use Rattle.std.proofs.Common.{true, false, [], refl, ap, arith}
+use Rattle.std.proofs.Common.{true, false, [], ◌∷◌, refl, ap, arith}
 use Rattle.sqlite.specs.Effect.{Database}
 use Rattle.sqlite.specs.State.{State}
 use Rattle.sqlite.specs.declared.error.Error.TheVariants.{SqliteFailure, InvalidQuery}
 use Rattle.sqlite.specs.declared.error.ErrorCode.TheVariants as code
 use Rattle.sqlite_trees.specs.declared.error.StoreError.TheVariants.{OutOfMemory, Io, Corrupt, Full, Broken, Unstorable}
 use Rattle.guard_store.proofs.ReadyFacts.{at, database, entries}
-use Rattle.guard_store.specs.Entry.{IsFault, MakesTable, entry_schema, no_schema}
+use Rattle.guard_store.specs.Entry.{IsFault, MakesTable, entry, entry_schema, no_schema}
 use Rattle.guard_store.specs.Fit.{IsFit, IsUnfit, IsUnmade}
 use Rattle.guard_store.specs.declared.entry_table.Unfit.TheVariants as why
 
@@ -19,6 +19,10 @@ nothing = database no_schema []
 abbrev made : Database
 made = database entry_schema []
 
+-- the table with no index of its names
+abbrev loose : Database
+loose = database (record { tables = entry ∷ []; indexes = []; views = [] }) []
+
 -- a connection with no table, in no transaction
 abbrev bare : State
 bare = at nothing nothing false true true
@@ -26,6 +30,10 @@ bare = at nothing nothing false true true
 -- a connection with no table, in a transaction
 abbrev bare_within : State
 bare_within = at nothing nothing true true true
+
+-- a connection with the table and no index of its names, in a transaction
+abbrev loose_within : State
+loose_within = at loose loose true true true
 
 -- a connection that made the table in a transaction, not committed yet
 abbrev made_within : State
@@ -44,12 +52,27 @@ fit-within : IsFit (at entries entries true true true) → ⊥
 fit-within is = let same = is.1 in cc
 
 -- another schema is the reason, also in a transaction
-unfit-schema : IsUnfit bare_within why.Schema
-unfit-schema same = let tables = ap (λ s. s.tables) same in cc
+unfit-schema : IsUnfit loose_within why.Schema
+unfit-schema = (
+  λ same. let tables = ap (λ s. s.tables) same in cc,
+  λ same. let indexes = ap (λ s. s.indexes) same in cc,
+)
 
 -- the schema isn't the reason where there is the table
 unfit-schema-same : IsUnfit (at entries entries true true true) why.Schema → ⊥
-unfit-schema-same is = is refl
+unfit-schema-same is = is.1 refl
+
+-- another schema isn't the reason where there is none
+unfit-schema-none : IsUnfit bare why.Schema → ⊥
+unfit-schema-none is = is.0 refl
+
+-- that there is none is the reason, also in a transaction
+unfit-empty : IsUnfit bare_within why.Empty
+unfit-empty = refl
+
+-- that there is none isn't the reason where there is another
+unfit-empty-other : IsUnfit loose_within why.Empty → ⊥
+unfit-empty-other is = let tables = ap (λ s. s.tables) is in cc
 
 -- the transaction is the reason where there is the table
 unfit-within : IsUnfit (at entries entries true true true) why.Transaction
@@ -60,8 +83,8 @@ unfit-within-none : IsUnfit (at entries entries false true true) why.Transaction
 unfit-within-none is = let same = is.1 in cc
 
 -- the transaction isn't the reason where there is another schema
-unfit-within-other : IsUnfit bare_within why.Transaction → ⊥
-unfit-within-other is = let same = ap (λ s. s.tables) is.0 in cc
+unfit-within-other : IsUnfit loose_within why.Transaction → ⊥
+unfit-within-other is = let same = ap (λ s. s.indexes) is.0 in cc
 
 -- no statement failed where there is a schema
 unfit-sql : IsUnfit (at entries entries false true true) (why.Sql InvalidQuery) → ⊥
@@ -146,3 +169,7 @@ unmade-within = refl
 -- the transaction isn't the reason where there was none
 unmade-within-none : IsUnmade bare (at made made false true true) why.Transaction → ⊥
 unmade-within-none is = let same = is in cc
+
+-- that there was no schema is never the reason why the table wasn't made
+unmade-empty : IsUnmade bare_within bare_within why.Empty → ⊥
+unmade-empty is = is

@@ -1,5 +1,5 @@
 -- What the INSERT of an entry does.
-use Rattle.std.proofs.Common.{◌≡◌, ◌⊎◌, inl, inr, ℕ, ℤ, List, [], ◌∷◌, codes, Bool, true, false, not, ◌&&◌, cond, None, Ok, Err, Result, OnOk, OnErr, refl, sym, ap, subst, ◌∙◌, Contains, if◌then◌else◌, ◌≤◌, arith}
+use Rattle.std.proofs.Common.{◌≡◌, ◌⊎◌, inl, inr, ℕ, ℤ, List, [], ◌∷◌, codes, Bool, true, false, not, ◌&&◌, cond, None, Ok, Err, Result, OnOk, OnErr, refl, sym, ap, subst, ◌∙◌, Contains, if◌then◌else◌}
 use Rattle.sqlite.proofs.Callers.{IsPlain, command_of, statement_of, runs_as, one_step}
 use Rattle.sqlite.specs.Cast.{cast}
 use Rattle.sqlite.specs.Command.TheVariants.{Insert}
@@ -13,7 +13,7 @@ use Rattle.sqlite.specs.Order.{Row, column}
 use Rattle.sqlite.specs.Rowids.TheVariants.{Chosen}
 use Rattle.sqlite.specs.Rows.{Written}
 use Rattle.sqlite.specs.Source.TheVariants.{Values}
-use Rattle.sqlite.specs.State.{State, Executes, HasCleanDisk, Shows, mode_of}
+use Rattle.sqlite.specs.State.{State, Executes, Shows, mode_of}
 use Rattle.sqlite.specs.Term.{Term, lit, col}
 use Rattle.sqlite.specs.Tree.{Trees, put_row}
 use Rattle.sqlite.specs.declared.error.Error.{Error}
@@ -21,12 +21,12 @@ use Rattle.sqlite.specs.declared.types.Value.{Value}
 use Rattle.sqlite.specs.declared.types.Value.TheVariants.{Null, Text}
 use Rattle.sqlite_rules.specs.Edit.{are_fresh, is_taken, left_by}
 use Rattle.sqlite_tied.specs.Compute.{everything}
-use Rattle.sqlite_trees.specs.View.{doubt}
 use Rattle.guard_engine.specs.Guarded.{Gains}
+use Rattle.guard_engine.specs.Stores.{Adds, Fails, IsInBatch}
 use Rattle.guard_store.proofs.ListLemmas.{In, from_in, to_in}
 use Rattle.guard_store.proofs.PutLemmas.{put_here, put_kept, put_others}
-use Rattle.guard_store.proofs.StateLemmas.{executed_open, write_failed, write_failed_open}
-use Rattle.guard_store.specs.Entry.{HasEntry, IsKnown, IsReady, entry, entry_schema, stored}
+use Rattle.guard_store.proofs.StateLemmas.{write_failed, written_in_batch}
+use Rattle.guard_store.specs.Entry.{HasEntry, IsKnown, entry, entry_schema, sight_of, stored}
 
 abbrev pub insert_text : List ℕ
 insert_text = codes "INSERT INTO entry (name, value) VALUES (?1, ?2)"
@@ -143,34 +143,20 @@ gains id rows after name value is fresh = record {
     )
 
 -- what the statement does, whatever it answers
-pub insert_result : {old new : State} (name value : List ℕ) (r : Result ℕ Error) → IsReady old
-    → IsKnown new → Executes insert_text (Text name ∷ Text value ∷ []) old new r
-    → OnOk r (Gains (HasEntry (old.now.trees 0)) name value (HasEntry (new.now.trees 0)))
-    × OnErr r (new.now ≡ old.now) × IsReady new
-insert_result {old} {new} name value (Ok count) ready known h =
-    let it = adds old new name value count ready.schema h in (
-      gains _ (old.now.trees 0) (new.now.trees 0) name value it.rows it.fresh,
-      tt,
+pub insert_result : (old new : State) (name value : List ℕ) (r : Result ℕ Error)
+    → IsInBatch (sight_of old) → IsKnown new
+    → Executes insert_text (Text name ∷ Text value ∷ []) old new r
+    → OnOk r (Adds (sight_of old) name value (sight_of new))
+    × OnErr r (Fails (sight_of old) (sight_of new))
+insert_result old new name value (Ok count) batch known h =
+    let it = adds old new name value count batch.fit.schema h in
+    let after = written_in_batch old new batch it.schema it.shown in (
       record {
-        schema = it.schema;
-        autocommit = it.shown.mode ∙ ready.autocommit;
-        settled = it.shown.committed_is
-            ∙ ap (λ b. if b then old.committed else new.now) ready.autocommit;
+        batch = after.0;
+        gains = gains _ (old.now.trees 0) (new.now.trees 0) name value it.rows it.fresh;
+        kept = after.1;
       },
+      tt,
     )
-insert_result {old} {new} name value (Err e) ready known h =
-    let it = write_failed _ _ old new e ready known.1 h in
-    (tt, it.0, it.1)
-
--- where the connection is known, it was known before
-pub write_known : (sql : List ℕ) (params : Row) (old new : State) (r : Result ℕ Error)
-    → (HasCleanDisk new → Executes sql params old new r)
-    → doubt old.is_clean ≤ doubt new.is_clean → IsKnown new → IsKnown old
-write_known sql params old new (Ok count) ran clean known = (
-  omega (arith, clean, known.0),
-  executed_open sql params old new count (ran known.0) known.1,
-)
-write_known sql params old new (Err e) ran clean known = (
-  omega (arith, clean, known.0),
-  write_failed_open sql params old new e (ran known.0) known.1,
-)
+insert_result old new name value (Err e) batch known h =
+    (tt, write_failed old new batch.fit _ _ e known.1 h)

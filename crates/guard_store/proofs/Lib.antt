@@ -1,10 +1,16 @@
 mod CompareLemmas
+mod ControlLemmas
 mod CreateLemmas
+mod DeleteLemmas
 mod EntryFacts
 mod FailureLemmas
 mod FitFacts
 mod InsertLemmas
 mod ListLemmas
+mod NumberFacts
+mod NumberLemmas
+mod OpenLemmas
+mod PairLemmas
 mod PutLemmas
 mod QueryLemmas
 mod ReadLemmas

@@ -1,13 +1,13 @@
--- When a connection is ready and known, and what keeps it so: cases that hold, and near ones that
--- don't.
-use Rattle.std.proofs.Common.{pos, Bool, true, false, List, [], None, refl, ap}
+-- When a connection shows the table and is known, and what a guard sees of it: cases that hold, and
+-- near ones that don't.
+use Rattle.std.proofs.Common.{◌≡◌, pos, Bool, true, false, List, [], ◌∷◌, None, refl, ap, arith}
 use Rattle.sqlite.specs.Effect.{Database}
 use Rattle.sqlite.specs.Order.{Row}
 use Rattle.sqlite.specs.Schema.{Schema}
 use Rattle.sqlite.specs.State.{State}
 use Rattle.sqlite_trees.specs.View.{doubt}
-use Rattle.guard_store.proofs.EntryFacts.{both}
-use Rattle.guard_store.specs.Entry.{IsKnown, IsReady, StaysReady, entry_schema, no_schema}
+use Rattle.guard_store.proofs.EntryFacts.{both, has}
+use Rattle.guard_store.specs.Entry.{HasTable, IsKnown, entry_schema, no_schema, sight_of}
 
 -- each tree has these rows
 abbrev pub database : Schema → List Row → Database
@@ -35,21 +35,36 @@ at now committed in_transaction is_open is_clean = record {
 abbrev pub entries : Database
 entries = database entry_schema both
 
--- a connection with the table, all committed, in no transaction, is ready
-ready : IsReady (at entries entries false true true)
-ready = record { schema = refl; autocommit = refl; settled = refl }
+-- a connection with the table, all committed, in no transaction
+table : HasTable (at entries entries false true true)
+table = record { schema = refl; committed = refl; settled = λ closed. refl }
 
--- a connection with no table isn't ready
-ready-other : IsReady (at (database no_schema both) (database no_schema both) false true true) → ⊥
-ready-other is = let same = ap (λ s. s.tables) is.schema in cc
+-- a connection in a transaction, with a change that isn't committed
+table-within : HasTable (at entries (database entry_schema []) true true true)
+table-within = record { schema = refl; committed = refl; settled = λ closed. absurd cc }
 
--- a connection in a transaction isn't ready
-ready-within : IsReady (at entries entries true true true) → ⊥
-ready-within is = let same = is.autocommit in cc
+-- a connection with no table hasn't the table
+table-other : HasTable (at (database no_schema both) (database no_schema both) false true true) → ⊥
+table-other is = let same = ap (λ s. s.tables) is.schema in cc
 
--- a connection with a change that isn't committed isn't ready
-ready-loose : IsReady (at entries (database entry_schema []) false true true) → ⊥
-ready-loose is = let same = ap (λ d. d.trees 0) is.settled in cc
+-- a connection that made the table in a transaction hasn't committed it
+table-made : HasTable (at entries (database no_schema []) true true true) → ⊥
+table-made is = let same = ap (λ s. s.tables) is.committed in cc
+
+-- a connection in no transaction has no change that isn't committed
+table-loose : HasTable (at entries (database entry_schema []) false true true) → ⊥
+table-loose is = let same = ap (λ d. d.trees 0) (is.settled refl) in cc
+
+-- a guard sees the entries of a transaction, and those of the last commit
+sight : (sight_of (at entries (database entry_schema []) true true true)).in_batch ≡ true
+sight = refl
+
+sight-has : (sight_of (at entries (database entry_schema []) true true true)).has (7 ∷ []) (8 ∷ [])
+sight-has = has
+
+sight-kept : (sight_of (at entries (database entry_schema []) true true true)).kept (7 ∷ []) (8 ∷ [])
+    → ⊥
+sight-kept is = absurd (omega (arith, is.1.1))
 
 -- an open connection whose disk returned what was written is known
 known : IsKnown (at entries entries false true true)
@@ -64,17 +79,3 @@ known-lie is = let same = is.0 in cc
 -- a connection that is shut isn't known
 known-shut : IsKnown (at entries entries false false true) → ⊥
 known-shut is = let same = is.1 in cc
-
--- a connection that stays as it is keeps all
-keeps : StaysReady (at entries entries false true true) (at entries entries false true true)
-keeps = (refl, ready)
-
--- a connection that lost an entry didn't keep all
-keeps-less : StaysReady (at entries entries false true true)
-    (at (database entry_schema []) (database entry_schema []) false true true) → ⊥
-keeps-less is = let same = ap (λ d. d.trees 0) is.0 in cc
-
--- a connection in a transaction that was in none didn't stay ready
-keeps-within : StaysReady (at entries entries false true true)
-    (at entries entries true true true) → ⊥
-keeps-within is = ready-within is.1

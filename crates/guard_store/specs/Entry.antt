@@ -14,6 +14,7 @@ use Rattle.sqlite_schema.specs.declared.schema.Column.{Column}
 use Rattle.sqlite_schema.specs.declared.schema.Index.{Index}
 use Rattle.sqlite_schema.specs.declared.schema.Stamps.{Stamps}
 use Rattle.sqlite_value.specs.Keys.{plain}
+use Rattle.guard_engine.specs.Stores.{Sight}
 
 -- the column of numbers
 abbrev pub id_column : Column
@@ -91,20 +92,25 @@ HasEntry rows name value =
     (a_row : Row) × Contains rows a_row × (column a_row 2 ≡ Words name)
     × (column a_row 3 ≡ Words value)
 
--- a connection is ready: it shows the table of entries alone, all is committed, and no transaction
--- is open
-pub record IsReady (s : State) : Type 0 where
+-- a connection shows the table of entries alone, and so did the last commit. With no transaction
+-- open, all is committed
+pub record HasTable (s : State) : Type 0 where
   pub schema : s.now.schema ≡ entry_schema
-  pub autocommit : s.in_transaction ≡ false
-  pub settled : s.committed ≡ s.now
+  pub committed : s.committed.schema ≡ entry_schema
+  pub settled : s.in_transaction ≡ false → s.committed ≡ s.now
+
+-- what a guard sees of a connection: a batch is a transaction
+abbrev pub sight_of : State → Sight
+sight_of s = record {
+  has = HasEntry (s.now.trees 0);
+  kept = HasEntry (s.committed.trees 0);
+  in_batch = s.in_transaction;
+  is_fit = HasTable s;
+}
 
 -- the disk has returned what was written so far, and the connection is open
 abbrev pub IsKnown : State → Type 0
 IsKnown s = HasCleanDisk s × IsTrue s.is_open
-
--- from old to new the connection shows the same database, and is ready
-abbrev pub StaysReady : State → State → Type 0
-StaysReady old new = (new.now ≡ old.now) × IsReady new
 
 -- from old to new the table was made, with no entry, and a transaction is open where one was
 pub record MakesTable (old new : State) : Type 0 where

@@ -1,9 +1,13 @@
 //! The store over a connection.
-use crate::rows::{first_text, texts};
+use crate::numbers::has_own_number;
+use crate::rows::{first_text, pairs, texts};
 use crate::schema::{is_empty, is_entry_schema};
-use crate::table::{add_row, make_table, name_rows, value_rows};
+use crate::table::{
+    add_row, commit_batch, entry_rows, make_table, name_rows, open_batch, remove_row,
+    roll_batch_back, value_rows,
+};
 use guard_engine::Store;
-use sqlite::{Alter, Connection, Error};
+use sqlite::{Alter, Connection, Error, ErrorCode};
 use std::alloc::Global;
 use thiserror::Error as Fault;
 
@@ -26,13 +30,18 @@ pub enum Unfit {
     /// A transaction is open.
     #[error("a transaction is open")]
     Transaction,
+    /// There is no table, and none was to be made.
+    #[error("it has no table of entries")]
+    Empty,
 }
 
 impl<S: Alter + Drop> EntryTable<S> {
-    ghost use Rattle.std.specs.Prelude.{◌≡◌, ◌≢◌, ◌↔◌, [], Err, IfErr, IfOk, IsOk};
+    ghost use Rattle.std.specs.Prelude.{◌≡◌, ◌≢◌, ◌↔◌, [], Err, IfErr, IfOk, IsOk, OnErr, OnOk, map, string_bytes, vec_items};
     ghost use Rattle.sqlite.specs.Held.{Held, state};
     ghost use Rattle.sqlite.specs.State.{HasCleanDisk};
-    ghost use Rattle.guard_store.specs.Entry.{IsKnown, IsReady, no_schema};
+    ghost use Rattle.guard_engine.specs.Stores.{Fails, IsReady, Keeps};
+    ghost use Rattle.guard_store.specs.Answers.{ListsEntries};
+    ghost use Rattle.guard_store.specs.Entry.{HasTable, IsKnown, no_schema, sight_of};
     ghost use Rattle.guard_store.specs.Fit.{IsFit, IsUnfit, IsUnmade};
 
     /// The store over a connection. Where it has no table at all, the table of entries is made.
@@ -41,7 +50,7 @@ impl<S: Alter + Drop> EntryTable<S> {
     /// `Sql` where the table can't be made, `Schema` for another schema, and `Transaction`.
     pub fn over(alloc: Global, conn: Connection<S>) -> Result<Self, Unfit>
         ensures ready { IfOk result (λ table. IsKnown (state S.Store table.conn)
-            → IsReady (state S.Store table.conn)) }
+            → IsReady (sight_of (state S.Store table.conn))) }
         // A connection that has a schema isn't touched, and the answer tells which it has.
         ensures same { (state S.Store conn).now.schema ≢ no_schema
             → IfOk result (λ table. table.conn ≡ conn) }
@@ -74,6 +83,48 @@ impl<S: Alter + Drop> EntryTable<S> {
         Ok(EntryTable { conn, alloc })
     }
 
+    /// The store over a connection that has its table. No connection is changed.
+    ///
+    /// # Errors
+    /// `Empty` where there is no schema, `Schema` for another one, and `Transaction`.
+    pub fn found(alloc: Global, conn: Connection<S>) -> Result<Self, Unfit>
+        ensures ready { IfOk result (λ table. IsKnown (state S.Store table.conn)
+            → IsReady (sight_of (state S.Store table.conn))) }
+        ensures same { IfOk result (λ table. table.conn ≡ conn) }
+        ensures taken { IsOk result ↔ IsFit (state S.Store conn) }
+        ensures refused { (why : Unfit) → ((result ≡ Err why) ↔ IsUnfit (state S.Store conn) why) }
+    {
+        let schema = conn.schema();
+        if is_empty(schema) {
+            Err(Unfit::Empty)
+        } else if !is_entry_schema(schema) {
+            Err(Unfit::Schema)
+        } else if conn.is_autocommit() {
+            Ok(EntryTable { conn, alloc })
+        } else {
+            Err(Unfit::Transaction)
+        }
+    }
+
+    /// Lists every entry.
+    pub fn entries(&mut self) -> Result<Vec<(String, String)>, Error>
+        ensures known { IsKnown (state S.Store self.new.conn)
+            → IsKnown (state S.Store self.old.conn) }
+        ensures entries { HasTable (state S.Store self.old.conn)
+            → IsKnown (state S.Store self.new.conn) → IfOk result (λ entries.
+            ListsEntries (map (λ pair. (string_bytes pair.0, string_bytes pair.1))
+            (vec_items entries)) (sight_of (state S.Store self.old.conn)).has) }
+        ensures ok { HasTable (state S.Store self.old.conn)
+            → IsKnown (state S.Store self.new.conn) → OnOk result (Keeps
+            (sight_of (state S.Store self.old.conn)) (sight_of (state S.Store self.new.conn))) }
+        ensures err { HasTable (state S.Store self.old.conn)
+            → IsKnown (state S.Store self.new.conn) → OnErr result (Fails
+            (sight_of (state S.Store self.old.conn)) (sight_of (state S.Store self.new.conn))) }
+    {
+        let rows = entry_rows(&mut self.conn)?;
+        pairs(self.alloc, &rows)
+    }
+
     /// Gives the connection back.
     pub fn into_connection(self) -> Connection<S>
         ensures { result ≡ self.conn }
@@ -85,15 +136,13 @@ impl<S: Alter + Drop> EntryTable<S> {
 
 impl<S: Alter + Drop> Store for EntryTable<S> {
     ghost use Rattle.sqlite.specs.Held.{state};
-    ghost use Rattle.guard_store.specs.Entry.{HasEntry, IsKnown, IsReady};
+    ghost use Rattle.guard_store.specs.Entry.{IsKnown, sight_of};
 
     type Error = Error;
 
-    ghost has = { λ table. HasEntry ((state S.Store table.conn).now.trees 0) };
+    ghost sight = { λ table. sight_of (state S.Store table.conn) };
 
     ghost is_known = { λ table. IsKnown (state S.Store table.conn) };
-
-    ghost is_ready = { λ table. IsReady (state S.Store table.conn) };
 
     fn keys(&mut self) -> Result<Vec<String>, Error> {
         let rows = name_rows(&mut self.conn)?;
@@ -105,8 +154,31 @@ impl<S: Alter + Drop> Store for EntryTable<S> {
         first_text(&rows)
     }
 
+    fn begin(&mut self) -> Result<(), Error> {
+        open_batch(&mut self.conn)?;
+        Ok(())
+    }
+
     fn add(&mut self, key: &str, value: &str) -> Result<(), Error> {
         add_row(&mut self.conn, key, value)?;
+        Ok(())
+    }
+
+    fn remove(&mut self, key: &str) -> Result<(), Error> {
+        if !has_own_number(&mut self.conn, key)? {
+            return Err(Error::SqliteFailure(ErrorCode::DatabaseCorrupt));
+        }
+        remove_row(&mut self.conn, key)?;
+        Ok(())
+    }
+
+    fn commit(&mut self) -> Result<(), Error> {
+        commit_batch(&mut self.conn)?;
+        Ok(())
+    }
+
+    fn roll_back(&mut self) -> Result<(), Error> {
+        roll_batch_back(&mut self.conn)?;
         Ok(())
     }
 }

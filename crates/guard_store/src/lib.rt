@@ -2,11 +2,16 @@
 #![tactic(auto)]
 
 mod entry_table;
+mod numbers;
 mod rows;
 mod schema;
 mod table;
 
 pub use entry_table::{EntryTable, Unfit};
-pub use rows::{first_text, texts};
+pub use numbers::{has_own_number, is_one_text};
+pub use rows::{first_text, pairs, texts};
 pub use schema::{is_empty, is_entry_schema};
-pub use table::{add_row, make_table, name_rows, value_rows};
+pub use table::{
+    add_row, commit_batch, entry_rows, make_table, name_rows, number_rows, numbered_rows,
+    open_batch, remove_row, roll_batch_back, value_rows,
+};

@@ -1,21 +1,19 @@
 use Rattle.sqlite.specs.Held.{state}
-use Rattle.guard_store.proofs.InsertLemmas.{write_known, insert_result}
+use Rattle.guard_store.proofs.InsertLemmas.{insert_result}
+use Rattle.guard_store.proofs.OpenLemmas.{write_known}
 use Rattle.guard_store.proofs.table.add_row.Goals as goal
 
 pub returns-clause-ok : goal.returns-clause-ok
-returns-clause-ok g c = λ ready known.
-    (insert_result c.args.name.now c.args.value.now c.execute.result ready known
+returns-clause-ok g c = λ batch known.
+    (insert_result (state g.S.Store c.args.conn.now) (state g.S.Store c.execute.new.self)
+    c.args.name.now c.args.value.now c.execute.result batch known
     (rw (c.params-to_sql.ensures, c.params-to_sql-2.ensures) at (c.execute.ensures.runs known.0))).0
 
 pub returns-clause-err : goal.returns-clause-err
-returns-clause-err g c = λ ready known.
-    (insert_result c.args.name.now c.args.value.now c.execute.result ready known
+returns-clause-err g c = λ batch known.
+    (insert_result (state g.S.Store c.args.conn.now) (state g.S.Store c.execute.new.self)
+    c.args.name.now c.args.value.now c.execute.result batch known
     (rw (c.params-to_sql.ensures, c.params-to_sql-2.ensures) at (c.execute.ensures.runs known.0))).1
-
-pub returns-clause-ready : goal.returns-clause-ready
-returns-clause-ready g c = λ ready known.
-    (insert_result c.args.name.now c.args.value.now c.execute.result ready known
-    (rw (c.params-to_sql.ensures, c.params-to_sql-2.ensures) at (c.execute.ensures.runs known.0))).2
 
 pub returns-clause-known : goal.returns-clause-known
 returns-clause-known g c =

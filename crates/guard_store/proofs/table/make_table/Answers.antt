@@ -1,7 +1,7 @@
 use Rattle.sqlite.specs.Held.{state}
 use Rattle.guard_store.proofs.FailureLemmas.{make_fault}
 use Rattle.guard_store.proofs.CreateLemmas.{make_result}
-use Rattle.guard_store.proofs.InsertLemmas.{write_known}
+use Rattle.guard_store.proofs.OpenLemmas.{write_known}
 use Rattle.guard_store.proofs.table.make_table.Goals as goal
 
 pub returns-clause-made : goal.returns-clause-made

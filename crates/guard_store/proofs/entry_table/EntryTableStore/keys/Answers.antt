@@ -1,7 +1,6 @@
-use Rattle.std.proofs.Common.{map, string_bytes, vec_items, IfOk, subst}
+use Rattle.std.proofs.Common.{map, string_bytes, vec_items}
 use Rattle.sqlite.specs.Held.{state}
 use Rattle.guard_store.proofs.TextLemmas.{keys_result}
-use Rattle.guard_store.specs.Answers.{ShowTexts}
 use Rattle.guard_store.proofs.entry_table.EntryTableStore.keys.Goals as goal
 
 pub returns-clause-keys : goal.returns-clause-keys

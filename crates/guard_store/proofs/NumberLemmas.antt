@@ -1,0 +1,59 @@
+-- When a name has its number to itself.
+use Rattle.std.proofs.Common.{◌≡◌, ℕ, ℤ, inl, inr, List, [], ◌∷◌, length, slice_index_or, sym, ap, subst, ◌∙◌, arith, Bool, Ok, Err, Result, IfOk, IsTrue}
+use Rattle.sqlite.specs.Effect.{Database}
+use Rattle.sqlite.specs.declared.error.Error.{Error}
+use Rattle.sqlite.specs.Order.{Row, column}
+use Rattle.sqlite.specs.declared.types.Value.TheVariants.{Int, Text}
+use Rattle.guard_store.proofs.ListLemmas.{In, to_in}
+use Rattle.guard_store.specs.Answers.{AreNumbered, AreNumbers, HasOwnNumber, IsOneText, first_column}
+
+-- a list of one element
+pub only_one : (rows : List Row) (row : Row) → row ≡ slice_index_or rows 0 row
+    → length rows ≡ 1 → rows ≡ row ∷ []
+only_one [] row is one = absurd (omega (arith, one))
+only_one (r ∷ []) row is one = ap (λ x. x ∷ []) (sym is)
+only_one (r ∷ s ∷ rows) row is one = absurd (omega (arith, one))
+
+-- a name of no row has no number
+pub none_owned : (rows : List Row) (name : List ℕ) → AreNumbers rows name []
+    → HasOwnNumber rows name
+none_owned rows name numbers one there has = absurd (to_in [] _ (numbers one there has))
+
+-- a name has its number to itself, where that number shows no other name
+pub one_owned : (rows : List Row) (name : List ℕ) (id : ℤ) (row : Row) (shown : List Row)
+    → AreNumbers rows name (row ∷ []) → column row 0 ≡ Int id → AreNumbered rows id shown
+    → IsOneText shown name → HasOwnNumber rows name
+one_owned rows name id row shown numbers is names only one there has = (
+  id,
+  number (to_in (row ∷ []) _ (numbers one there has)),
+  λ other is_there same.
+      by_shown other (subst (λ all. In all (column other 2 ∷ [])) only.1
+      (to_in shown _ (names other is_there same))),
+)
+  where
+    number : In (row ∷ []) (column one 0 ∷ []) → column one 0 ≡ Int id
+    number (inl e) = sym (ap first_column e) ∙ is
+    number (inr none) = absurd none
+
+    by_shown : (other : Row) → In (only.0 ∷ []) (column other 2 ∷ []) → column other 2 ≡ Text name
+    by_shown other (inl e) = sym (ap first_column e) ∙ only.2
+    by_shown other (inr none) = absurd none
+
+-- the same, over the two queries that tell it, which change nothing
+pub owned_after : (old mid new : Database) (name : List ℕ) (id : ℤ) (row : Row)
+    (first shown : List Row) → mid ≡ old → new ≡ mid → first ≡ row ∷ []
+    → AreNumbers (old.trees 0) name first → column row 0 ≡ Int id
+    → AreNumbered (mid.trees 0) id shown → IsOneText shown name
+    → HasOwnNumber (new.trees 0) name
+owned_after old mid new name id row first shown same next is numbers number names only =
+    let mid_numbers : AreNumbers (mid.trees 0) name (row ∷ []) =
+    subst (λ (d : Database). AreNumbers (d.trees 0) name (row ∷ [])) (sym same)
+    (subst (AreNumbers (old.trees 0) name) is numbers) in
+    subst (λ (d : Database). HasOwnNumber (d.trees 0) name) (sym next)
+    (one_owned (mid.trees 0) name id row shown mid_numbers number names only)
+
+-- what a test tells, where it is true
+pub when_true : {P Q : Type 0} (r : Result Bool Error) → (P → Q)
+    → IfOk r (λ b. IsTrue b → P) → IfOk r (λ b. IsTrue b → Q)
+when_true (Ok b) next tells = λ true_so. next (tells true_so)
+when_true (Err e) next tells = tt
