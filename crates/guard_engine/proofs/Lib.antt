@@ -1,1 +1,2 @@
+pub mod OnDemandFacts
 pub mod OnDemandLemmas
