@@ -1,6 +1,6 @@
 -- What a store on demand says of itself: cases that hold, and near ones that don't. The source and
 -- the store of these cases are numbers.
-use Rattle.std.proofs.Common.{◌≡◌, ℕ, List, [], ◌∷◌, Option, None, Some, true, false, refl}
+use Rattle.std.proofs.Common.{◌≡◌, ℕ, [], ◌∷◌, None, Some, true, false, refl}
 use Rattle.std.specs.Prelude.{⊤}
 use Rattle.guard_engine.specs.Guarded.{Entries}
 use Rattle.guard_engine.specs.Stores.{IsInBatch, IsReady, Sight}
