@@ -1,9 +1,9 @@
 -- What stays true of the entries where a store is opened, and where it can't be.
-use Rattle.std.proofs.Common.{◌≡◌, ◌↔◌, ℕ, List, Contains, Option, None, Some, Result, Ok, Err, IfOk, IsErrAnd, IsSome, MatchOption, OnErr, refl, inl}
+use Rattle.std.proofs.Common.{◌≡◌, ℕ, List, Option, None, Some, Result, Ok, Err, IfOk, IsErrAnd, IsSome, MatchOption, OnErr, refl, inl}
 use Rattle.std.proofs.lemmas.Result.{err_from_is_err_and}
 use Rattle.guard_engine.specs.Guarded.{Entries, Lacks, Names, Stays}
 use Rattle.guard_engine.specs.Stores.{Fails, IsReady, Keeps, Sight, TakesBack}
-use Rattle.guard_engine.specs.OnDemand.{Opens, known_of, sight_closed, sight_of}
+use Rattle.guard_engine.specs.OnDemand.{IsKnownIn, Opens, sight_closed, sight_in}
 
 -- a closed store keeps what it has
 keeps-closed : {old new : Entries} → Stays old new → Keeps (sight_closed old) (sight_closed new)
@@ -35,13 +35,13 @@ module _ {T R E : Type 0} (Q : E → Type 0) {old new : Entries} (sight : T → 
     {before after : Option T} (result : Result R E) (failed : IsErrAnd result Q)
     (closed : (before ≡ None) × (after ≡ None)) (stays : Stays old new) where
   -- an open that failed changes nothing
-  pub keeps-failed : OnErr result (Fails (sight_of old sight before) (sight_of new sight after))
+  pub keeps-failed : OnErr result (Fails (sight_in old sight before) (sight_in new sight after))
   keeps-failed = rw ((err_from_is_err_and result failed).1, closed.0, closed.1)
       (inl (keeps-closed stays))
 
   -- an open that failed leaves no batch
   pub takes-back-failed :
-      OnErr result (TakesBack (sight_of old sight before) (sight_of new sight after))
+      OnErr result (TakesBack (sight_in old sight before) (sight_in new sight after))
   takes-back-failed = rw ((err_from_is_err_and result failed).1, closed.0, closed.1)
       (record { ready = ready-closed new; kept = stays })
 
@@ -49,9 +49,9 @@ module _ {T R E : Type 0} (Q : E → Type 0) {old new : Entries} (sight : T → 
 pub keeps-opened : {T X : Type 0} (source_known : Type 0) (is_known : T → Type 0) (has : Entries)
     (sight : T → Sight) (before after : Option T) (store : T) → after ≡ Some store
     → (IsSome before → (after ≡ before) × X)
-    → (known_of source_known is_known after → before ≡ None → Opens has sight after)
-    → is_known store → (sight_of has sight before).is_fit
-    → Keeps (sight_of has sight before) (sight store)
+    → (IsKnownIn source_known is_known after → before ≡ None → Opens has sight after)
+    → is_known store → (sight_in has sight before).is_fit
+    → Keeps (sight_in has sight before) (sight store)
 keeps-opened {T = T} source_known is_known has sight None after store is again opens known fit =
     let from : known_of source_known is_known (Some store) → ◌≡◌ {A = Option T} None None
     → Opens has sight (Some store) = rw is at opens in

@@ -1,4 +1,4 @@
--- A store that is opened when it is first asked. Until then its source tells what it has.
+-- A store that is opened when it is first asked. Until then its source says what it has.
 use Rattle.std.specs.Prelude.{◌≡◌, false, IfSome, Option, None, Some, ⊤}
 use Rattle.guard_engine.specs.Guarded.{Entries, Stays}
 use Rattle.guard_engine.specs.Stores.{IsReady, Sight}
@@ -8,23 +8,33 @@ pub record Demand (O T : Type 0) : Type 0 where
   pub source : O
   pub store : Option T
 
--- nothing was opened
+-- the store isn't open
 abbrev pub IsClosed : {O T : Type 0} → Demand O T → Type 0
 IsClosed demand = demand.store ≡ None
 
--- what a store has that isn't open: all is committed, and no batch is open
+-- what a closed store has: just these entries, all committed, and no batch is open
 abbrev pub sight_closed : Entries → Sight
 sight_closed has = record { has = has; kept = has; in_batch = false; is_fit = ⊤ }
 
--- what a store on demand has: what the open store has, or what the source says
-abbrev pub sight_of : {T : Type 0} → Entries → (T → Sight) → Option T → Sight
-sight_of has sight None = sight_closed has
-sight_of has sight (Some store) = sight store
+-- what a store has if it is open, and else what its source says
+abbrev pub sight_in : {T : Type 0} → Entries → (T → Sight) → Option T → Sight
+sight_in has sight None = sight_closed has
+sight_in has sight (Some store) = sight store
 
--- the medium is known, as the open store says it, or the source
-abbrev pub known_of : {T : Type 0} → Type 0 → (T → Type 0) → Option T → Type 0
-known_of source_known is_known None = source_known
-known_of source_known is_known (Some store) = is_known store
+-- the same for a store on demand, of what its source has and the sight of an open store
+abbrev pub sight_of : {O T : Type 0} → (O → Entries) → (T → Sight) → Demand O T → Sight
+sight_of has sight demand = sight_in (has demand.source) sight demand.store
+
+-- the medium is known: the open store says so, or else its source
+abbrev pub IsKnownIn : {T : Type 0} → Type 0 → (T → Type 0) → Option T → Type 0
+IsKnownIn source_known is_known None = source_known
+IsKnownIn source_known is_known (Some store) = is_known store
+
+-- the same for a store on demand, by what its source says and what an open store says
+abbrev pub IsKnownOf : {O T : Type 0} → (O → Type 0) → (T → Type 0) → Demand O T
+    → Type 0
+IsKnownOf source_known is_known demand =
+    IsKnownIn (source_known demand.source) is_known demand.store
 
 -- a store was opened: it is ready, and has what its source said
 abbrev pub Opens : {T : Type 0} → Entries → (T → Sight) → Option T → Type 0

@@ -1,8 +1,8 @@
 //! A store that is opened when it is first asked.
-ghost use Rattle.std.specs.Prelude.{◌≡◌, ◌↔◌, None, IfOk, IsSome, IsTrue, OnErr, OnOk};
+ghost use Rattle.std.specs.Prelude.{◌≡◌, ◌↔◌, None, IfOk, IsOk, IsSome, IsTrue, OnErr, OnOk};
 ghost use Rattle.guard_engine.specs.Guarded.{Entries, Stays};
-ghost use Rattle.guard_engine.specs.Stores.{IsReady};
-ghost use Rattle.guard_engine.specs.OnDemand.{IsClosed, Opens, known_of, sight_of};
+ghost use Rattle.guard_engine.specs.Stores.{IsInBatch, IsReady, TakesBack};
+ghost use Rattle.guard_engine.specs.OnDemand.{IsClosed, IsKnownIn, IsKnownOf, Opens, sight_of};
 
 use crate::store::Store;
 use std::marker::Model;
@@ -50,11 +50,11 @@ fn open<O: Source>(source: &mut O, store: &mut Option<O::Store>) -> Result<(), O
     ensures open { IfOk result (λ _. IsSome store.new) }
     ensures again { IsSome store.old → (store.new ≡ store.old) × (source.new ≡ source.old) }
     ensures closed { OnErr result ((store.old ≡ None) × (store.new ≡ None)) }
-    ensures ok { known_of (O.is_known source.new) O.Store.is_known store.new → store.old ≡ None
+    ensures ok { IsKnownIn (O.is_known source.new) O.Store.is_known store.new → store.old ≡ None
         → OnOk result (Opens (O.has source.old) O.Store.sight store.new) }
     ensures err { OnErr result (Stays (O.has source.old) (O.has source.new)) }
-    ensures known { known_of (O.is_known source.new) O.Store.is_known store.new
-        → known_of (O.is_known source.old) O.Store.is_known store.old }
+    ensures known { IsKnownIn (O.is_known source.new) O.Store.is_known store.new
+        → IsKnownIn (O.is_known source.old) O.Store.is_known store.old }
 {
     match store {
         Some(_) => Ok(()),
@@ -68,7 +68,8 @@ fn open<O: Source>(source: &mut O, store: &mut Option<O::Store>) -> Result<(), O
 impl<O: Source + Drop> OnDemand<O> {
     /// Opens nothing yet.
     pub fn new(source: O) -> Self
-        ensures { result ≡ record { source = source; store = None } }
+        ensures source { result.source ≡ source }
+        ensures closed { IsClosed result }
     {
         OnDemand {
             source,
@@ -95,9 +96,9 @@ impl<O: Source + Drop> OnDemand<O> {
 impl<O: Source + Drop> Store for OnDemand<O> {
     type Error = O::Error;
 
-    ghost sight = { λ s. sight_of (O.has s.source) O.Store.sight s.store };
+    ghost sight = { sight_of O.has O.Store.sight };
 
-    ghost is_known = { λ s. known_of (O.is_known s.source) O.Store.is_known s.store };
+    ghost is_known = { IsKnownOf O.is_known O.Store.is_known };
 
     fn keys(&mut self) -> Result<Vec<String>, O::Error> {
         open(&mut self.source, &mut self.store)?;
@@ -147,7 +148,18 @@ impl<O: Source + Drop> Store for OnDemand<O> {
         }
     }
 
-    fn roll_back(&mut self) -> Result<(), O::Error> {
+    fn roll_back(&mut self) -> Result<(), O::Error>
+        ensures known { IsKnownOf O.is_known O.Store.is_known self.new
+            → IsKnownOf O.is_known O.Store.is_known self.old }
+        ensures batch { let sight = sight_of O.has O.Store.sight in IsInBatch (sight self.old)
+            → IsKnownOf O.is_known O.Store.is_known self.new
+            → TakesBack (sight self.old) (sight self.new) }
+        ensures ready { let sight = sight_of O.has O.Store.sight in IsReady (sight self.old)
+            → IsKnownOf O.is_known O.Store.is_known self.new
+            → TakesBack (sight self.old) (sight self.new) }
+        // A closed store has no batch to take back, and stays closed.
+        ensures closed { IsClosed self.old → IsOk result × (self.new ≡ self.old) }
+    {
         match &mut self.store {
             Some(store) => store.roll_back(),
             None => Ok(()),
