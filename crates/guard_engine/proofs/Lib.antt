@@ -1,5 +1,6 @@
 mod CountLemmas
 mod EntryLemmas
 mod FoundLemmas
+mod OnDemandFacts
 pub mod OnDemandLemmas
 mod OpenLemmas
