@@ -1,7 +1,7 @@
 -- What stays true of the entries where a store is opened, and where it can't be.
 use Rattle.std.proofs.Common.{◌≡◌, ℕ, List, Option, None, Some, Result, Ok, Err, IfOk, IsErrAnd, IsSome, MatchOption, OnErr, refl, inl}
 use Rattle.std.proofs.lemmas.Result.{err_from_is_err_and}
-use Rattle.guard_engine.specs.Guarded.{Entries, Lacks, Names, Stays}
+use Rattle.guard_engine.specs.Guarded.{Entries, Lacks, Lists, Stays}
 use Rattle.guard_engine.specs.Stores.{Fails, IsReady, Keeps, Sight, TakesBack}
 use Rattle.guard_engine.specs.OnDemand.{IsKnownIn, Opens, sight_closed, sight_in}
 
@@ -14,14 +14,10 @@ ready-closed : (has : Entries) → IsReady (sight_closed has)
 ready-closed has =
     record { fit = tt; closed = refl; settled = λ key value. (λ had. had, λ had. had) }
 
--- the keys of entries that stay are the same
-names-stay : (keys : List (List ℕ)) {old new : Entries} → Stays old new → Names keys new
-    → Names keys old
-names-stay keys stays names key = (
-  λ listed. let found = (names key).0 listed in
-      (found.0, (stays key found.0).0 found.1),
-  λ had. (names key).1 (had.0, (stays key had.0).1 had.1),
-)
+-- keys of entries that stay are listed alike
+lists-stay : (keys : List (List ℕ)) {old new : Entries} → Stays old new → Lists keys new
+    → Lists keys old
+lists-stay keys stays lists key value had = lists key value ((stays key value).1 had)
 
 -- a value of a key that stays, or that there is none
 value-stays : {X : Type 0} (key : List ℕ) (bytes : X → List ℕ) {old new : Entries}
@@ -53,7 +49,7 @@ pub keeps-opened : {T X : Type 0} (source_known : Type 0) (is_known : T → Type
     → is_known store → (sight_in has sight before).is_fit
     → Keeps (sight_in has sight before) (sight store)
 keeps-opened {T = T} source_known is_known has sight None after store is again opens known fit =
-    let from : known_of source_known is_known (Some store) → ◌≡◌ {A = Option T} None None
+    let from : IsKnownIn source_known is_known (Some store) → ◌≡◌ {A = Option T} None None
     → Opens has sight (Some store) = rw is at opens in
     let opened = from known refl in let settled = opened.0.settled in
     record {
@@ -75,11 +71,11 @@ keeps-opened source_known is_known has sight (Some was) after store is again ope
     })
 
 -- keys that are listed after the entries stayed were all keys before
-pub names-back : {X E : Type 0} {old new : Entries} (keys_of : X → List (List ℕ))
-    → Stays old new → (result : Result X E) → IfOk result (λ keys. Names (keys_of keys) new)
-    → IfOk result (λ keys. Names (keys_of keys) old)
-names-back keys_of stays (Ok keys) names = names-stay (keys_of keys) stays names
-names-back keys_of stays (Err error) _ = tt
+pub lists-back : {X E : Type 0} {old new : Entries} (keys_of : X → List (List ℕ))
+    → Stays old new → (result : Result X E) → IfOk result (λ keys. Lists (keys_of keys) new)
+    → IfOk result (λ keys. Lists (keys_of keys) old)
+lists-back keys_of stays (Ok keys) lists = lists-stay (keys_of keys) stays lists
+lists-back keys_of stays (Err error) _ = tt
 
 -- what is found after the entries stayed was there before
 pub value-back : {X E : Type 0} {old new : Entries} (key : List ℕ) (bytes : X → List ℕ)

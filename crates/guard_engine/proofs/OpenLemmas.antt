@@ -10,7 +10,7 @@ use Rattle.bloom_parts.specs.Keys.{HasKey}
 use Rattle.bloom_plain.specs.Builders.{RateStart, IsMadeFor, IsSizeOf, RefusesAs, size_refusal}
 use Rattle.bloom_plain.specs.Data.{DefaultFilter}
 use Rattle.bloom_plain.specs.Replies.{InsertsAll}
-use Rattle.guard_engine.specs.Guarded.{Covers, Entries, HoldsKeys, IsMadeOf, LacksFilter, Names, key_hash}
+use Rattle.guard_engine.specs.Guarded.{Covers, Entries, HoldsKeys, IsMadeOf, LacksFilter, Lists, key_hash}
 use Rattle.guard_engine.specs.declared.guard.Refusal.{Refusal}
 use Rattle.guard_engine.specs.declared.guard.Refusal.TheVariants as refusal
 
@@ -20,10 +20,10 @@ pub filter-injective : {G E : Type 0} (error other : FilterError)
     → error ≡ other
 filter-injective error other is = cc
 
--- a filter that holds the names of entries has each of their keys
-pub covers-names : (filter : DefaultFilter) (keys : List (List ℕ)) (entries : Entries)
-    → Names keys entries → HoldsKeys filter keys → Covers filter entries
-covers-names filter keys entries names holds key value has = holds key ((names key).1 (value, has))
+-- a filter that holds keys, each of these entries among them, has each of theirs
+pub covers-listed : (filter : DefaultFilter) (keys : List (List ℕ)) (entries : Entries)
+    → Lists keys entries → HoldsKeys filter keys → Covers filter entries
+covers-listed filter keys entries lists holds key value has = holds key (lists key value has)
 
 module _ {X : Type 0} (text : X → List ℕ) (items listed : List X) (same : listed ≡ items)
     (rate : Rate) (room many sum : ℕ) (entries : Entries) (start : RateStart
@@ -34,14 +34,14 @@ module _ {X : Type 0} (text : X → List ℕ) (items listed : List X) (same : li
   as_texts = summed ∙ ap (λ n. min (n + room) (2 ^ 64 - 1))
       (counted ∙ sym (length-map items text))
 
-  -- a filter was made for the names of entries and room, and just they were inserted
+  -- a filter was made for the listed keys and room, and just they were inserted
   pub made-of : (empty filter : DefaultFilter) → HasKey start.hasher 0 0
-      → Names (map text items) entries → IsMadeFor start sum empty
+      → Lists (map text items) entries → IsMadeFor start sum empty
       → InsertsAll empty (map (λ item. key_hash (text item)) listed) filter
       → IsMadeOf rate room entries filter
-  made-of empty filter zero names made inserts = record {
+  made-of empty filter zero lists made inserts = record {
     keys = map text items;
-    names = names;
+    lists = lists;
     start = start;
     rate_is = rate_is;
     zero_key = zero;
@@ -53,13 +53,13 @@ module _ {X : Type 0} (text : X → List ℕ) (items listed : List X) (same : li
 
   -- a filter for this many keys and the room is refused
   pub lacks-filter : {T : Type 0} (is_known : T → Type 0) (left : T) (error : FilterError)
-      → (is_known left → Names (map text items) entries)
+      → (is_known left → Lists (map text items) entries)
       → (bits : ℕ) × IsSizeOf start sum bits × RefusesAs (size_refusal bits) (Some error)
       → LacksFilter rate room is_known entries error
-  lacks-filter is_known left error names told = record {
+  lacks-filter is_known left error lists told = record {
     left = left;
     keys = map text items;
-    names = names;
+    lists = lists;
     bits = told.0;
     size = subst (λ r. IsSizeOf (record start { rate = r })
         (min (length (map text items) + room) (2 ^ 64 - 1)) told.0) rate_is

@@ -40,10 +40,9 @@ Loses old key new = (k v : List ℕ) → new k v ↔ (old k v × ¬ (k ≡ key))
 abbrev pub IsSingle : Entries → Type 0
 IsSingle entries = (key one other : List ℕ) → entries key one → entries key other → one ≡ other
 
--- these are the keys that have values
-abbrev pub Names : List (List ℕ) → Entries → Type 0
-Names keys entries =
-    (key : List ℕ) → Contains keys key ↔ ((value : List ℕ) × entries key value)
+-- each key that has a value is one of these
+abbrev pub Lists : List (List ℕ) → Entries → Type 0
+Lists keys entries = (key value : List ℕ) → entries key value → Contains keys key
 
 -- the hash of a key: SipHash-1-3 of its bytes under the zero key
 abbrev pub key_hash : List ℕ → ℕ
@@ -59,12 +58,12 @@ abbrev pub HoldsKeys : DefaultFilter → List (List ℕ) → Type 0
 HoldsKeys filter keys =
     (key : List ℕ) → Contains keys key → contains filter (key_hash key) ≡ true
 
--- a filter was made for the keys of these entries and room for more, at a rate and under the zero
--- key, and just the keys were inserted
+-- a filter was made for a list of keys, each key of these entries among them, and room for more, at
+-- a rate and under the zero key, and just these keys were inserted
 pub record IsMadeOf (rate : Rate) (room : ℕ) (entries : Entries) (filter : DefaultFilter) : Type 0
   where
     pub keys : List (List ℕ)
-    pub names : Names keys entries
+    pub lists : Lists keys entries
     pub start : RateStart (CloneBuildHasher RandomDefaultHasher)
     pub rate_is : start.rate ≡ rate
     pub zero_key : HasKey start.hasher 0 0
@@ -74,12 +73,12 @@ pub record IsMadeOf (rate : Rate) (room : ℕ) (entries : Entries) (filter : Def
 
 -- why there is no filter: one for this many keys and the room is refused with this error. The store
 -- is gone by then, so a store that was left is meant; provided its medium returned what was
--- written, these are the keys of the store
+-- written, each key of the store is one of these
 pub record LacksFilter {T : Type 0} (rate : Rate) (room : ℕ) (is_known : T → Type 0)
     (entries : Entries) (error : FilterError) : Type 0 where
   pub left : T
   pub keys : List (List ℕ)
-  pub names : is_known left → Names keys entries
+  pub lists : is_known left → Lists keys entries
   pub bits : ℕ
   pub size : IsSizeFor (max 1 (min (length keys + room) (2 ^ 64 - 1))) (num_of rate) (den_of rate)
       bits

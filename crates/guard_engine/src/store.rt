@@ -1,6 +1,6 @@
 //! What a guard stands before.
 ghost use Rattle.std.specs.Prelude.{ℕ, List, map, string_bytes, vec_items, IfOk, OnOk, OnErr, MatchOption};
-ghost use Rattle.guard_engine.specs.Guarded.{Lacks, Names};
+ghost use Rattle.guard_engine.specs.Guarded.{Lacks, Lists};
 ghost use Rattle.guard_engine.specs.Stores.{Adds, Begins, Commits, Fails, IsInBatch, IsReady, Keeps, Removes, Sight, TakesBack};
 
 /// A store of texts by keys, whose medium may fail, or return what wasn't written.
@@ -20,7 +20,7 @@ pub trait Store {
     fn keys(&mut self) -> Result<Vec<String>, Self::Error>
         ensures known { is_known self.new → is_known self.old }
         ensures keys { (sight self.old).is_fit → is_known self.new → IfOk result (λ keys.
-            Names (map string_bytes (vec_items keys)) (sight self.old).has) }
+            Lists (map string_bytes (vec_items keys)) (sight self.old).has) }
         ensures ok { (sight self.old).is_fit → is_known self.new
             → OnOk result (Keeps (sight self.old) (sight self.new)) }
         ensures err { (sight self.old).is_fit → is_known self.new

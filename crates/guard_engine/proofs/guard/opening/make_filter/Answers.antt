@@ -1,7 +1,7 @@
 use Rattle.std.proofs.Common.{◌≡◌, length, map, string_bytes, vec_items, refl, subst, rules}
 use Rattle.guard_engine.specs.Guarded.{HoldsKeys, LacksFilter}
 use Rattle.guard_engine.proofs.EntryLemmas.{keeps-ready}
-use Rattle.guard_engine.proofs.OpenLemmas.{covers-names, filter-injective, lacks-filter, made-of}
+use Rattle.guard_engine.proofs.OpenLemmas.{covers-listed, filter-injective, lacks-filter, made-of}
 use Rattle.guard_engine.proofs.guard.opening.make_filter.Goals as goal
 
 -- a filter for this many keys is refused
@@ -16,15 +16,15 @@ returns-in-Err-expected_items-clause-refused g c = λ ready error is.
     (λ known. c.in-Ok.ensures.keys (ready (c.keys.ensures.known known)).fit known)
     c.in-Err-expected_items.ensures.refused)
 
--- the filter holds each name that the store listed
+-- the filter holds each key that the store listed
 pub returns-clause-covers : goal.returns-clause-covers
 returns-clause-covers g c = λ ready known.
-    covers-names c.insert_keys.new.filter (map string_bytes (vec_items c.in-Ok.keys)) _
+    covers-listed c.insert_keys.new.filter (map string_bytes (vec_items c.in-Ok.keys)) _
     (c.in-Ok.ensures.keys ready.fit known)
     (subst (λ l. HoldsKeys c.insert_keys.new.filter (map string_bytes l)) c.deref.ensures.value
     c.insert_keys.ensures.found)
 
--- it was made for these names and room
+-- it was made for these keys and room
 pub returns-clause-made : goal.returns-clause-made
 returns-clause-made g c = λ ready known.
     let many : c.len.result ≡ length (vec_items c.in-Ok.keys) = search rules in
