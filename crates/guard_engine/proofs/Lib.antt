@@ -1,0 +1,6 @@
+mod BatchLemmas
+mod TallyLemmas
+mod KeyLemmas
+mod LoadLemmas
+mod PuttingLemmas
+mod ReadLemmas
