@@ -1,31 +1,22 @@
 -- Lines that are put in one batch, and what becomes of the batch.
-use Rattle.std.proofs.Common.{◌≡◌, ℕ, ◌+◌, List, [], ◌∷◌, ◌++◌, inl, inr, ◌⊎◌, refl, sym, ◌∙◌, ap, subst, append-nil, arith}
+use Rattle.std.proofs.Common.{◌≡◌, ℕ, ◌+◌, List, [], ◌∷◌, ◌++◌, Option, inl, inr, ◌⊎◌, refl, sym, ◌∙◌, ap, subst, append-nil, arith}
 use Rattle.bloom_plain.specs.Data.{DefaultFilter}
 use Rattle.guard_engine.specs.declared.guard.Put.{Put}
 use Rattle.guard_engine.specs.declared.guard.Put.TheVariants.{Added, Taken}
-use Rattle.guard_engine.specs.Batches.{Breaks, LoadsMany, PutsLines}
+use Rattle.guard_engine.specs.declared.guard.loads.batches.Part.{Part}
+use Rattle.guard_engine.specs.Batches.{Breaks, LoadsMany, PutsLines, ReadsEntries, ReadsPart}
 use Rattle.guard_engine.specs.Guarded.{Covers, Entries, Stays}
 use Rattle.guard_engine.specs.Guarding.{AllCover, IsGuarding, PutsInBatch, Watches}
 use Rattle.guard_engine.specs.Loaded.{GainsMany, IsEntryIn, Loads}
 use Rattle.guard_engine.specs.Puts.{added_by}
 use Rattle.guard_engine.specs.Stores.{Begins, Commits, Fails, IsInBatch, IsReady, Keeps, Sight, TakesBack}
-use Rattle.guard_engine.proofs.TallyLemmas.{Stays-after}
+use Rattle.guard_engine.proofs.EntryLemmas.{Covers-stays, Stays-after, Stays-back}
 use Rattle.guard_engine.proofs.KeyLemmas.{GainsMany-more, GainsMany-none, GainsMany-one}
 use Rattle.guard_engine.proofs.LoadLemmas.{Loads-added, Loads-more, Loads-nil, Loads-stays, Loads-taken}
 
 -- all stays where nothing happens
 pub Stays-same : (entries : Entries) → Stays entries entries
 Stays-same entries key value = (λ had. had, λ had. had)
-
--- what stays from old to new stays from new to old
-pub Stays-back : (old new : Entries) → Stays old new → Stays new old
-Stays-back old new stays key value = ((stays key value).1, (stays key value).0)
-
--- a filter of entries that stay covers them
-pub Covers-stays : (filter : DefaultFilter) (old new : Entries) → Covers filter old
-    → Stays old new → Covers filter new
-Covers-stays filter old new covers stays key value has =
-    covers key value ((stays key value).0 has)
 
 -- each filter that covered the entries covers them where they stay
 pub AllCover-stays : (may_have : DefaultFilter → Type 0) (old new : Entries)
@@ -99,6 +90,24 @@ Breaks-after lines old mid new n first broke = record {
   kept = Stays-after old.kept mid.kept new.kept first.kept broke.kept;
 }
 
+-- what is put of the lines of a batch comes to something else
+pub ReadsPart-map : {batch done : ℕ} {from to : Option (List ℕ)}
+    {P Q : List (List ℕ) → ℕ → Type 0} {part : Part} → ReadsPart batch done from to P part
+    → ((lines : List (List ℕ)) → P lines part.loaded.added → Q lines part.loaded.added)
+    → ReadsPart batch done from to Q part
+ReadsPart-map read turned = record {
+  entries = record {
+    lines = read.entries.lines;
+    reads = read.entries.reads;
+    good = read.entries.good;
+    counted = read.entries.counted;
+    puts = turned read.entries.lines read.entries.puts;
+  };
+  last = read.last;
+  whole = read.whole;
+  fits = read.fits;
+}
+
 -- ---- a batch from its begin to its end
 
 module _ (may_have : DefaultFilter → Type 0) (filter : DefaultFilter) (old begun : Sight)
@@ -111,6 +120,16 @@ module _ (may_have : DefaultFilter → Type 0) (filter : DefaultFilter) (old beg
         (Covers-stays filter old.has old.kept guards.covers
         (Stays-back old.kept old.has guards.ready.settled)) begins.kept;
   }
+
+  -- where no entry was added, the batch changed nothing
+  pub none-added : (mid : Sight) (lines : List (List ℕ)) (added : ℕ)
+      → PutsLines lines begun mid added → added ≡ 0 → Stays mid.kept mid.has
+  none-added mid lines added puts none =
+      Stays-after mid.kept begun.kept mid.has (Stays-back begun.kept mid.kept puts.kept)
+      (Stays-after begun.kept begun.has mid.has
+      (Stays-after begun.kept old.kept begun.has (Stays-back old.kept begun.kept begins.kept)
+      (Stays-after old.kept old.has begun.has guards.ready.settled begins.has))
+      (puts.same none))
 
   -- what was taken back is as it was before the batch
   pub Stays-back-taken : (mid new : Sight) → Stays begun.kept mid.kept → TakesBack mid new

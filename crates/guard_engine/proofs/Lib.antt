@@ -1,6 +1,13 @@
+mod AskingLemmas
 mod BatchLemmas
-mod TallyLemmas
+mod CountLemmas
+mod EntryLemmas
+mod FoundLemmas
 mod KeyLemmas
 mod LoadLemmas
+mod LoadingLemmas
+pub mod OnDemandLemmas
+mod OpenLemmas
 mod PuttingLemmas
 mod ReadLemmas
+mod TallyLemmas

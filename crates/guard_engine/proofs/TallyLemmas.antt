@@ -7,7 +7,7 @@ use Rattle.guard_engine.specs.declared.counts.Counts.{Counts}
 use Rattle.guard_engine.specs.declared.guard.Found.{Found}
 use Rattle.guard_engine.specs.declared.guard.Found.TheVariants.{Spared, FalseAlarm, Value}
 use Rattle.guard_engine.specs.Counted.{AreAbsent, Tallies, asked_keys, more_by, one_more, spared_keys}
-use Rattle.guard_engine.specs.Guarded.{Entries, Lacks, Stays, key_hash}
+use Rattle.guard_engine.specs.Guarded.{Entries, Lacks, key_hash}
 
 -- one more after this many, up to a greatest number
 one_after : (n many most : ℕ) → min (min (n + many) most + 1) most ≡ min (n + (many + 1)) most
@@ -42,13 +42,6 @@ AreAbsent-present entries (first ∷ rest) key many (inr (had, so_far)) has =
 not_false : (b : Bool) → (b ≡ false → ⊥) → b ≡ true
 not_false true isnt = refl
 not_false false isnt = absurd (isnt refl)
-
--- what stays from old to mid, and from mid to new, stays from old to new
-pub Stays-after : (old mid new : Entries) → Stays old mid → Stays mid new → Stays old new
-Stays-after old mid new first after key value = (
-  (λ has. (first key value).0 ((after key value).0 has)),
-  (λ had. (after key value).1 ((first key value).1 had)),
-)
 
 -- ---- the keys of which a filter says yes, or no
 

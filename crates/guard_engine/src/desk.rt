@@ -103,6 +103,7 @@ pub fn put<T: Store>(
     ensures counts { IfOk result (λ put.
         CountsPuts counts.old (added_by put) (taken_by put) counts.new) }
 {
+    counts.fit();
     let hash = hash_of(key);
     match find(store, filter, counts, key, hash)? {
         Found::Value(_) => Ok(Put::Taken),

@@ -18,6 +18,7 @@ pub fn text_of(line: &[u8]) -> Result<&str, BadLine>
     ensures text { IfOk result (λ text. text.now ≡ line.now) }
     ensures utf8 { IfOk result (λ _. IsUtf8 line.now) }
     ensures bad { (longest : ℕ) → IfErr result (IsBad longest line.now) }
+    ensures why { IfErr result (λ bad. bad ≡ BadLine.NotText) }
 {
     match str::from_utf8(line) {
         Ok(text) => Ok(text),

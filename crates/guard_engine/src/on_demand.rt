@@ -1,7 +1,8 @@
 //! A store that is opened when it is first asked.
-ghost use Rattle.std.specs.Prelude.{◌≡◌, IfOk, OnErr};
+ghost use Rattle.std.specs.Prelude.{◌≡◌, ◌↔◌, None, IfOk, IsSome, IsTrue, OnErr, OnOk};
 ghost use Rattle.guard_engine.specs.Guarded.{Entries, Stays};
 ghost use Rattle.guard_engine.specs.Stores.{IsReady};
+ghost use Rattle.guard_engine.specs.OnDemand.{IsClosed, Opens, known_of, sight_of};
 
 use crate::store::Store;
 use std::marker::Model;
@@ -34,4 +35,122 @@ pub trait Source {
 pub struct OnDemand<O: Source + Drop> {
     source: O,
     store: Option<O::Store>,
+}
+
+impl<O: Source + Drop> Model for OnDemand<O> {
+    ghost use Rattle.guard_engine.specs.OnDemand.{Demand};
+
+    ghost Value = { Demand O O.Store };
+
+    ghost view = { λ s. record { source = s.source; store = s.store } };
+}
+
+// Opens the store, if it isn't open.
+fn open<O: Source>(source: &mut O, store: &mut Option<O::Store>) -> Result<(), O::Error>
+    ensures open { IfOk result (λ _. IsSome store.new) }
+    ensures again { IsSome store.old → (store.new ≡ store.old) × (source.new ≡ source.old) }
+    ensures closed { OnErr result ((store.old ≡ None) × (store.new ≡ None)) }
+    ensures ok { known_of (O.is_known source.new) O.Store.is_known store.new → store.old ≡ None
+        → OnOk result (Opens (O.has source.old) O.Store.sight store.new) }
+    ensures err { OnErr result (Stays (O.has source.old) (O.has source.new)) }
+    ensures known { known_of (O.is_known source.new) O.Store.is_known store.new
+        → known_of (O.is_known source.old) O.Store.is_known store.old }
+{
+    match store {
+        Some(_) => Ok(()),
+        None => {
+            *store = Some(source.open()?);
+            Ok(())
+        }
+    }
+}
+
+impl<O: Source + Drop> OnDemand<O> {
+    /// Opens nothing yet.
+    pub fn new(source: O) -> Self
+        ensures { result ≡ record { source = source; store = None } }
+    {
+        OnDemand {
+            source,
+            store: None,
+        }
+    }
+
+    /// Has a call opened the store?
+    pub fn is_open(&self) -> bool
+        ensures { IsTrue result ↔ (¬ IsClosed self.now) }
+    {
+        self.store.is_some()
+    }
+
+    /// Gives the source back, and the store if it is open.
+    pub fn into_parts(self) -> (O, Option<O::Store>)
+        ensures { result ≡ (self.source, self.store) }
+    {
+        let OnDemand { source, store } = self;
+        (source, store)
+    }
+}
+
+impl<O: Source + Drop> Store for OnDemand<O> {
+    type Error = O::Error;
+
+    ghost sight = { λ s. sight_of (O.has s.source) O.Store.sight s.store };
+
+    ghost is_known = { λ s. known_of (O.is_known s.source) O.Store.is_known s.store };
+
+    fn keys(&mut self) -> Result<Vec<String>, O::Error> {
+        open(&mut self.source, &mut self.store)?;
+        match &mut self.store {
+            Some(store) => store.keys(),
+            None => unreachable!(),
+        }
+    }
+
+    fn value_of(&mut self, key: &str) -> Result<Option<String>, O::Error> {
+        open(&mut self.source, &mut self.store)?;
+        match &mut self.store {
+            Some(store) => store.value_of(key),
+            None => unreachable!(),
+        }
+    }
+
+    fn begin(&mut self) -> Result<(), O::Error> {
+        open(&mut self.source, &mut self.store)?;
+        match &mut self.store {
+            Some(store) => store.begin(),
+            None => unreachable!(),
+        }
+    }
+
+    fn add(&mut self, key: &str, value: &str) -> Result<(), O::Error> {
+        open(&mut self.source, &mut self.store)?;
+        match &mut self.store {
+            Some(store) => store.add(key, value),
+            None => unreachable!(),
+        }
+    }
+
+    fn remove(&mut self, key: &str) -> Result<(), O::Error> {
+        open(&mut self.source, &mut self.store)?;
+        match &mut self.store {
+            Some(store) => store.remove(key),
+            None => unreachable!(),
+        }
+    }
+
+    fn commit(&mut self) -> Result<(), O::Error> {
+        open(&mut self.source, &mut self.store)?;
+        match &mut self.store {
+            Some(store) => store.commit(),
+            None => unreachable!(),
+        }
+    }
+
+    fn roll_back(&mut self) -> Result<(), O::Error> {
+        match &mut self.store {
+            Some(store) => store.roll_back(),
+            None => Ok(()),
+        }
+    }
 }

@@ -89,7 +89,9 @@ impl Loaded {
 
 impl<E, F> Why<E, F> {
     // Why a change wasn't made.
-    fn of(fault: Fault<E, F>) -> Self {
+    fn of(fault: Fault<E, F>) -> Self
+        ensures { (bad : BadLine) → ¬ (result ≡ Why.Line bad) }
+    {
         match fault {
             Fault::Store(error) => Why::Store(error),
             Fault::Kept(error) => Why::Kept(error),
@@ -97,7 +99,9 @@ impl<E, F> Why<E, F> {
     }
 
     // Why the next line wasn't read: there was no memory for it, or a read failed.
-    pub(crate) fn of_read(error: io::Error) -> Self {
+    pub(crate) fn of_read(error: io::Error) -> Self
+        ensures { (bad : BadLine) → ¬ (result ≡ Why.Line bad) }
+    {
         match error.kind() {
             ErrorKind::OutOfMemory => Why::Memory,
             kind => Why::Input(kind),

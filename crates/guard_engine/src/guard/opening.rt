@@ -52,8 +52,8 @@ fn make_filter<T: Store>(
         → IfOk result (IsMadeOf rate room (T.sight store.old).has) }
     ensures ready { IsReady (T.sight store.old) → T.is_known store.new
         → TakesBack (T.sight store.old) (T.sight store.new) }
-    ensures refused { IsReady (T.sight store.old) → (error : FilterError)
-        → result ≡ Err (Refusal.Filter error)
+    ensures refused { (T.is_known store.old → IsReady (T.sight store.old))
+        → (error : FilterError) → result ≡ Err (Refusal.Filter error)
         → LacksFilter rate room T.is_known (T.sight store.old).has error }
 {
     let keys = match store.keys() {
@@ -123,7 +123,10 @@ impl<T: Store + Drop, K: Kept + Drop> Guard<T, K> {
             Ok(None) => Origin::Missing,
             Err(error) => Origin::Unread(error),
         };
-        let filter = make_filter(alloc, &mut store, rate, room)?;
+        let filter = match make_filter(alloc, &mut store, rate, room) {
+            Ok(filter) => filter,
+            Err(refusal) => return Err(refusal),
+        };
         let counts = Counts::new();
         let guard = Guard {
             store,

@@ -1,0 +1,68 @@
+-- What a filter is that was made of a store's keys, and why there is none.
+use Rattle.std.proofs.Common.{◌≡◌, ◌+◌, ◌-◌, ◌^◌, ℕ, min, List, length, map, Contains, Some, Err, Result, sym, ap, subst, ◌∙◌}
+use Rattle.std.proofs.lemmas.List.{length-map}
+use Rattle.std.proofs.lemmas.Simd.{map-map}
+use Rattle.bloom_parts.specs.declared.error.FilterError.{FilterError}
+use Rattle.bloom_parts.specs.declared.hasher.CloneBuildHasher.{CloneBuildHasher}
+use Rattle.bloom_parts.specs.declared.hasher.sip.RandomDefaultHasher.{RandomDefaultHasher}
+use Rattle.bloom_parts.specs.declared.math.rate.Rate.{Rate}
+use Rattle.bloom_parts.specs.Keys.{HasKey}
+use Rattle.bloom_plain.specs.Builders.{RateStart, IsMadeFor, IsSizeOf, RefusesAs, size_refusal}
+use Rattle.bloom_plain.specs.Data.{DefaultFilter}
+use Rattle.bloom_plain.specs.Replies.{InsertsAll}
+use Rattle.guard_engine.specs.Guarded.{Covers, Entries, HoldsKeys, IsMadeOf, LacksFilter, Names, key_hash}
+use Rattle.guard_engine.specs.declared.guard.Refusal.{Refusal}
+use Rattle.guard_engine.specs.declared.guard.Refusal.TheVariants as refusal
+
+-- two refusals of a filter that are the same have the same error
+pub filter-injective : {G E : Type 0} (error other : FilterError)
+    → ◌≡◌ {A = Result G (Refusal E)} (Err (refusal.Filter error)) (Err (refusal.Filter other))
+    → error ≡ other
+filter-injective error other is = cc
+
+-- a filter that holds the names of entries has each of their keys
+pub covers-names : (filter : DefaultFilter) (keys : List (List ℕ)) (entries : Entries)
+    → Names keys entries → HoldsKeys filter keys → Covers filter entries
+covers-names filter keys entries names holds key value has = holds key ((names key).1 (value, has))
+
+module _ {X : Type 0} (text : X → List ℕ) (items listed : List X) (same : listed ≡ items)
+    (rate : Rate) (room many sum : ℕ) (entries : Entries) (start : RateStart
+    (CloneBuildHasher RandomDefaultHasher)) (rate_is : start.rate ≡ rate)
+    (counted : many ≡ length items) (summed : sum ≡ min (many + room) (2 ^ 64 - 1)) where
+  -- the number of the texts
+  as_texts : sum ≡ min (length (map text items) + room) (2 ^ 64 - 1)
+  as_texts = summed ∙ ap (λ n. min (n + room) (2 ^ 64 - 1))
+      (counted ∙ sym (length-map items text))
+
+  -- a filter was made for the names of entries and room, and just they were inserted
+  pub made-of : (empty filter : DefaultFilter) → HasKey start.hasher 0 0
+      → Names (map text items) entries → IsMadeFor start sum empty
+      → InsertsAll empty (map (λ item. key_hash (text item)) listed) filter
+      → IsMadeOf rate room entries filter
+  made-of empty filter zero names made inserts = record {
+    keys = map text items;
+    names = names;
+    start = start;
+    rate_is = rate_is;
+    zero_key = zero;
+    empty = empty;
+    made = subst (λ n. IsMadeFor start n empty) as_texts made;
+    inserts = subst (λ l. InsertsAll empty l filter)
+        (ap (map (λ item. key_hash (text item))) same ∙ sym (map-map key_hash text items)) inserts;
+  }
+
+  -- a filter for this many keys and the room is refused
+  pub lacks-filter : {T : Type 0} (is_known : T → Type 0) (left : T) (error : FilterError)
+      → (is_known left → Names (map text items) entries)
+      → (bits : ℕ) × IsSizeOf start sum bits × RefusesAs (size_refusal bits) (Some error)
+      → LacksFilter rate room is_known entries error
+  lacks-filter is_known left error names told = record {
+    left = left;
+    keys = map text items;
+    names = names;
+    bits = told.0;
+    size = subst (λ r. IsSizeOf (record start { rate = r })
+        (min (length (map text items) + room) (2 ^ 64 - 1)) told.0) rate_is
+        (subst (λ n. IsSizeOf start n told.0) as_texts told.1);
+    refuses = told.2;
+  }

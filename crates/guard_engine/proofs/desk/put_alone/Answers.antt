@@ -1,0 +1,30 @@
+use Rattle.std.proofs.Common.{sym, ◌∙◌}
+use Rattle.guard_engine.proofs.EntryLemmas.{guards-ended, none-added, put-ended, saved-before, watches-begun}
+use Rattle.guard_engine.proofs.desk.put_alone.Goals as goal
+
+-- the entry was put in a batch, which was committed
+pub returns-in_ok-end_batch-in-Ok-clause-put : goal.returns-in_ok-end_batch-in-Ok-clause-put
+returns-in_ok-end_batch-in-Ok-clause-put g c = λ was known.
+    let put_known = c.end_batch.ensures.known known in
+    let begun_known = c.put.ensures.known put_known in
+    let begins = c.in_default.ensures.ok was.ready begun_known in
+    let watches = watches-begun _ _ _ _ was begins in
+    let puts = c.in-Ok.ensures.puts begins.batch watches put_known in
+    let commits = c.in_ok-end_batch-in-Ok.ensures.ok puts.batch
+    (λ none. none-added _ _ _ _ _ _ _ _ was begins puts (sym c.added.ensures ∙ none)) known in
+    put-ended _ _ _ _ _ _ _ _ was begins puts _ commits
+
+-- after the commit the guard goes on
+pub returns-in_ok-end_batch-in-Ok-clause-guards : goal.returns-in_ok-end_batch-in-Ok-clause-guards
+returns-in_ok-end_batch-in-Ok-clause-guards g c = λ was known kept_known.
+    let put_known = c.end_batch.ensures.known known in
+    let begun_known = c.put.ensures.known put_known in
+    let begins = c.in_default.ensures.ok was.ready begun_known in
+    let watches = watches-begun _ _ _ _ was begins in
+    let puts = c.in-Ok.ensures.puts begins.batch watches put_known in
+    let after = c.put.ensures.watches begins.batch watches put_known in
+    let commits = c.in_ok-end_batch-in-Ok.ensures.ok puts.batch
+    (λ none. none-added _ _ _ _ _ _ _ _ was begins puts (sym c.added.ensures ∙ none)) known in
+    let saved = c.end_batch.ensures.saved puts.batch after
+    (saved-before _ _ _ _ _ _ _ _ was begins puts) known kept_known in
+    guards-ended _ _ _ _ _ _ _ _ was begins puts _ commits _ _ after saved

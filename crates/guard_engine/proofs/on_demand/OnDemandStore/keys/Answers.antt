@@ -1,0 +1,16 @@
+use Rattle.std.proofs.Common.{map, string_bytes, vec_items}
+use Rattle.guard_engine.proofs.OnDemandLemmas.{keeps-failed, keeps-opened, names-back}
+use Rattle.guard_engine.proofs.on_demand.OnDemandStore.keys.Goals as goal
+
+pub returns-in_err-open-clause-err : goal.returns-in_err-open-clause-err
+returns-in_err-open-clause-err g c = λ _ _. rw (← c.self.view_is)
+    (keeps-failed _ g.O.Store.Store.sight c.from_residual.result c.from_residual.ensures.1
+    c.in_err-open.ensures.closed c.in_err-open.ensures.err)
+
+pub returns-clause-keys : goal.returns-clause-keys
+returns-clause-keys g c = λ fit known.
+    let opened = c.in_ok-open.ensures in
+    let keeps = keeps-opened _ g.O.Store.Store.is_known _ g.O.Store.Store.sight _ _ _ c.in-Some.is
+    opened.again opened.ok (c.keys.ensures.known known) (rw (← c.self.view_is) at fit) in
+    rw (← c.self.view_is) (names-back (λ keys. map string_bytes (vec_items keys)) keeps.has
+    c.keys.result (c.keys.ensures.keys keeps.fit known))
