@@ -47,18 +47,19 @@ pub record IsAsking {S L : Type 0} (sight : S → Sight) (is_known : S → Type 
 pub asking-nil : {S L : Type 0} {sight : S → Sight} {is_known : S → Type 0}
     {is_kept : L → Type 0} {f : DefaultFilter} {old : S} {old_kept : L} {start : Counts}
     (reader : Waiting) (rest : Option (List ℕ)) → reader.bytes ≡ [] → reader.ended ≡ false
-    → reader.longest ≡ 1048576 → start.spared < 2 ^ 64 → start.asked < 2 ^ 64
-    → start.false_alarms < 2 ^ 64
+    → reader.longest ≡ 1048576 → {told : Counts} → told ≡ start → told.spared < 2 ^ 64
+    → told.asked < 2 ^ 64 → told.false_alarms < 2 ^ 64
     → IsAsking sight is_known is_kept rest f old old_kept start reader rest f old old_kept start 0
 asking-nil {sight = sight} {is_known = is_known} {is_kept = is_kept} {f = f} {old = old}
-    {old_kept = old_kept} {start = start} reader rest empty opened longest spared asked alarms =
+    {old_kept = old_kept} {start = start} reader rest empty opened longest same spared asked alarms =
     record {
       keys = [];
       reads = ReadsLines-new reader.bytes rest empty;
       good = All-nil (IsKey 1048576);
       numbered = refl;
-      tallies = Tallies-none f (is_known old × is_kept old_kept) (sight old).has start spared asked
-          alarms;
+      tallies = Tallies-none f (is_known old × is_kept old_kept) (sight old).has start
+          (subst (λ c. c.spared < 2 ^ 64) same spared) (subst (λ c. c.asked < 2 ^ 64) same asked)
+          (subst (λ c. c.false_alarms < 2 ^ 64) same alarms);
       filter = refl;
       same_kept = refl;
       reading = reading-new reader rest opened longest;

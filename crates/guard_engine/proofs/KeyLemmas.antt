@@ -1,5 +1,5 @@
 -- Keys that get values, by one put, and by puts one after the other.
-use Rattle.std.proofs.Common.{◌≡◌, ◌+◌, ℕ, inl, inr, List, [], ◌∷◌, ◌++◌, length-append, Contains, refl, sym, subst, arith}
+use Rattle.std.proofs.Common.{◌+◌, ℕ, inl, inr, List, [], ◌∷◌, ◌++◌, length-append, Contains, refl, sym, subst, arith}
 use Rattle.std.proofs.lemmas.List.Elements.{Contains-append_left, Contains-append_right, Contains-append_cases}
 use Rattle.guard_engine.specs.Guarded.{Entries, Gains, Lacks, Stays}
 use Rattle.guard_engine.specs.Loaded.{AreDistinct, GainsMany}

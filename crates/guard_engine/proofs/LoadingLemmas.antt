@@ -1,23 +1,25 @@
 -- Loads of batches, half-way, at their end, and at an error.
-use Rattle.std.proofs.Common.{◌≡◌, ℕ, ◌+◌, ◌-◌, ◌*◌, ◌^◌, ◌<◌, ◌≤◌, true, false, List, [], ◌∷◌, ◌++◌, length, length-append, Option, refl, sym, ◌∙◌, ap, subst, append-nil, arith}
+use Rattle.std.proofs.Common.{◌≡◌, ℕ, ◌+◌, ◌-◌, ◌*◌, ◌^◌, ◌<◌, max, true, false, List, [], ◌++◌, length, length-append, Option, refl, sym, ◌∙◌, ap, subst, append-nil, arith}
 use Rattle.std.proofs.lemmas.List.Elements.{All-append, All-nil}
 use Rattle.bloom_plain.specs.Data.{DefaultFilter}
 use Rattle.lines.specs.Reading.{Waiting, left_of}
 use Rattle.guard_engine.specs.declared.counts.Counts.{Counts}
 use Rattle.guard_engine.specs.declared.guard.loads.Loaded.{Loaded}
+use Rattle.guard_engine.specs.declared.guard.loads.Stop.{Stop}
+use Rattle.guard_engine.specs.declared.guard.loads.Why.{Why}
 use Rattle.guard_engine.specs.declared.guard.loads.batches.Part.{Part}
 use Rattle.guard_engine.specs.declared.line.BadLine.{BadLine}
 use Rattle.guard_engine.specs.Batches.{IsReading, IsWithin, LoadsMany, ReadsEntries, ReadsPart}
 use Rattle.guard_engine.specs.Counted.{CountsPuts}
 use Rattle.guard_engine.specs.Guarded.{Entries, Stays}
 use Rattle.guard_engine.specs.Guarding.{IsGuarding}
-use Rattle.guard_engine.specs.Loaded.{GainsMany, HasEntry, IsBadAt, Loads, LoadsAll, LoadsFirst}
+use Rattle.guard_engine.specs.Loaded.{HasEntry, IsBadAt, Loads, LoadsAll, LoadsFirst}
 use Rattle.guard_engine.specs.Stores.{Sight}
 use Rattle.guard_engine.proofs.BatchLemmas.{Stays-same}
 use Rattle.guard_engine.proofs.KeyLemmas.{GainsMany-more, GainsMany-none}
 use Rattle.guard_engine.proofs.LoadLemmas.{Loads-more, Loads-nil, Loads-stays}
 use Rattle.guard_engine.proofs.PuttingLemmas.{CountsPuts-more, CountsPuts-nil}
-use Rattle.guard_engine.proofs.ReadLemmas.{IsBadAt-after, IsReadFrom-read, IsReadWhole-read, ReadsLines-more, ReadsLines-new, reading-new}
+use Rattle.guard_engine.proofs.ReadLemmas.{IsBadAt-after, IsReadFrom-read, IsReadWhole-read, ReadsLines-more, ReadsLines-new, ReadsLines-nil, reading-new}
 
 -- no line was loaded yet
 pub LoadsMany-nil : (entries : Entries) → LoadsMany [] entries entries 0
@@ -41,6 +43,24 @@ pub Loads-kept : (lines : List (List ℕ)) (old mid new : Entries) → Loads lin
 Loads-kept lines old mid new first stays =
     subst (λ l. Loads l old new) (append-nil lines)
     (Loads-more lines [] old mid new first (Loads-stays mid new stays))
+
+-- a load stopped at the first line, and none was put
+pub first-none : {E F : Type 0} {stop : Stop E F} {why : Why E F} (read : Option (List ℕ))
+    (batch : ℕ) (entries : Entries) → stop ≡ record { why = why; number = 1; done = 0 }
+    → LoadsFirst read (max 1 batch) entries entries stop.done stop.number
+first-none {stop = stop} read batch entries is =
+    let none : stop.done ≡ 0 = ap (λ s. s.done) is in
+    let one : stop.number ≡ 1 = ap (λ s. s.number) is in
+    record {
+      lines = [];
+      first = IsReadFrom-read read read [] (ReadsLines-nil read);
+      counted = none;
+      loads = Loads-nil entries;
+      batches = 0;
+      whole = omega (arith, none);
+      before = omega (arith, none, one);
+      near = omega (arith, none, one);
+    }
 
 -- half-way through a load: these lines were read and put, in whole batches, and each counts once
 pub record IsLoading {S L : Type 0} (sight : S → Sight) (may_have : L → DefaultFilter → Type 0)
@@ -186,6 +206,7 @@ module _ {S L : Type 0} {sight : S → Sight} {may_have : L → DefaultFilter �
     -- these are the lines of both
     longer : length joined.lines
         ≡ length so_far.entries.lines + length read.entries.lines
+    unfolding joined
     longer = length-append so_far.entries.lines read.entries.lines
 
     -- each line counts once
@@ -218,12 +239,7 @@ module _ {S L : Type 0} {sight : S → Sight} {may_have : L → DefaultFilter �
         record {
           entries = joined;
           turns = omega (arith, so_far.turns);
-          numbered = omega (
-            arith,
-            so_far.numbered,
-            whole,
-            length-append so_far.entries.lines read.entries.lines,
-          );
+          numbered = omega (arith, so_far.numbered, whole, longer);
           fits = omega (arith, whole, fits);
           reading = reading;
           guards = λ guarded told kept_told.

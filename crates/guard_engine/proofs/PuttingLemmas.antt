@@ -1,7 +1,7 @@
 -- Lines that are put in an open batch, half-way.
-use Rattle.std.proofs.Common.{◌≡◌, ℕ, ◌+◌, ◌-◌, ◌^◌, ◌<◌, ◌≤◌, min, true, false, List, [], ◌∷◌, ◌++◌, length, length-append, Option, Some, None, refl, sym, ◌∙◌, ap, subst, append-nil, arith}
+use Rattle.std.proofs.Common.{◌≡◌, ℕ, ◌+◌, ◌-◌, ◌^◌, ◌<◌, ◌≤◌, true, false, List, [], ◌∷◌, ◌++◌, length, length-append, Option, refl, sym, ◌∙◌, ap, subst, append-nil, arith}
 use Rattle.std.proofs.lemmas.List.Elements.{All-append, All-from_recursion, All-nil}
-use Rattle.std.specs.Prelude.{All, IsUtf8}
+use Rattle.std.specs.Prelude.{IsUtf8}
 use Rattle.bloom_plain.specs.Data.{DefaultFilter}
 use Rattle.lines.specs.Reading.{Ends, KnowsEnd, TakesLine, TakesLong, TakesShort, Waiting, left_of}
 use Rattle.guard_engine.specs.declared.counts.Counts.{Counts}
@@ -11,16 +11,15 @@ use Rattle.guard_engine.specs.declared.guard.loads.Loaded.{Loaded}
 use Rattle.guard_engine.specs.declared.guard.loads.Stop.{Stop}
 use Rattle.guard_engine.specs.declared.guard.loads.Why.{Why}
 use Rattle.guard_engine.specs.declared.guard.loads.Why.TheVariants.{Line}
-use Rattle.guard_engine.specs.declared.guard.loads.batches.Part.{Part}
 use Rattle.guard_engine.specs.declared.line.BadLine.{BadLine}
 use Rattle.guard_engine.specs.declared.line.BadLine.TheVariants.{NoTab, NotText, TooLong}
-use Rattle.guard_engine.specs.Batches.{Breaks, IsReading, PutsLines, ReadsEntries, ReadsLines, ReadsPart}
-use Rattle.guard_engine.specs.Counted.{CountsPuts, more_by}
+use Rattle.guard_engine.specs.Batches.{IsReading, PutsLines, ReadsEntries, ReadsLines, ReadsPart}
+use Rattle.guard_engine.specs.Counted.{CountsPuts}
 use Rattle.guard_engine.specs.Guarding.{Watches}
 use Rattle.guard_engine.specs.Loaded.{HasEntry, HasTab, IsBad, IsBadAt}
 use Rattle.guard_engine.specs.Puts.{added_by, taken_by}
-use Rattle.guard_engine.specs.Stores.{Fails, IsInBatch, Sight}
-use Rattle.guard_engine.proofs.BatchLemmas.{Breaks-after, Breaks-fails, PutsLines-more, PutsLines-nil}
+use Rattle.guard_engine.specs.Stores.{IsInBatch, Sight}
+use Rattle.guard_engine.proofs.BatchLemmas.{PutsLines-more, PutsLines-nil}
 use Rattle.guard_engine.proofs.ReadLemmas.{IsBadAt-after, IsBadAt-long, IsBadAt-next, ReadsLines-end, ReadsLines-more, ReadsLines-nil, ReadsLines-one}
 
 -- no put leaves the counts as they were
@@ -232,6 +231,7 @@ module _ {S : Type 0} {sight : S → Sight} {is_known : S → Type 0} {batch don
 
       -- these are one line more
       longer-now : length entries-more.lines ≡ length so_far.entries.lines + 1
+      unfolding entries-more
       longer-now = longer
 
       -- each line counts once

@@ -1,17 +1,17 @@
 -- Lines that were read, one after the other, and the first that is bad.
-use Rattle.std.proofs.Common.{◌≡◌, ℕ, ◌+◌, ◌<◌, false, true, List, [], ◌∷◌, ◌++◌, length, length-append, Option, Some, None, refl, sym, ◌∙◌, ap, subst, append_assoc, append-nil, arith, inl, inr, ◌⊎◌}
+use Rattle.std.proofs.Common.{◌≡◌, ℕ, ◌+◌, ◌<◌, false, List, [], ◌∷◌, ◌++◌, length, length-append, Option, Some, None, refl, sym, ◌∙◌, ap, append_assoc, append-nil, arith, inl, inr, ◌⊎◌}
 use Rattle.std.proofs.lemmas.Bool.{both_ways}
 use Rattle.std.proofs.lemmas.List.Elements.{All-append, All-nil}
-use Rattle.std.specs.Io.KnownBytes.{Consumes, IsAtEnd, prepend_known}
+use Rattle.std.specs.Io.KnownBytes.{IsAtEnd, prepend_known}
 use Rattle.std.specs.Prelude.{All}
 use Rattle.lines.specs.Lines.{lines_of, IsEnded}
-use Rattle.lines.specs.Reading.{Waiting, Ends, IsReadFrom, IsReadWhole, TakesLine, TakesLong, left_of}
+use Rattle.lines.specs.Reading.{Waiting, Ends, IsReadFrom, IsReadWhole, TakesLine, TakesLong}
 use Rattle.lines.proofs.LineLemmas.{lines_of-nil, lines_of-front}
-use Rattle.lines.proofs.TakenLemmas.{nil-back, nil-front}
+use Rattle.lines.proofs.TakenLemmas.{nil-back}
 use Rattle.guard_engine.specs.declared.line.BadLine.{BadLine}
 use Rattle.guard_engine.specs.declared.line.BadLine.TheVariants.{TooLong}
 use Rattle.guard_engine.specs.Batches.{IsReading, ReadsLines}
-use Rattle.guard_engine.specs.Loaded.{IsBad, IsBadAt, IsFirstBad}
+use Rattle.guard_engine.specs.Loaded.{IsBad, IsBadAt}
 
 -- a reader of which nothing was read yet can be read
 pub reading-new : (reader : Waiting) (rest : Option (List ℕ)) → reader.ended ≡ false

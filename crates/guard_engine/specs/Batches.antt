@@ -1,5 +1,5 @@
 -- What the lines of one batch come to, and how far a reader of lines was read.
-use Rattle.std.specs.Prelude.{◌≡◌, ◌⊎◌, ◌≤◌, ◌<◌, ◌+◌, ◌-◌, ◌^◌, ℕ, true, false, List, ◌++◌, Option, Some, None, length, All}
+use Rattle.std.specs.Prelude.{◌≡◌, ◌≤◌, ◌<◌, ◌+◌, ◌-◌, ◌^◌, ℕ, true, false, List, ◌++◌, Option, Some, None, length, All}
 use Rattle.std.specs.Io.KnownBytes.{IsAtEnd}
 use Rattle.lines.specs.Lines.{lines_of}
 use Rattle.lines.specs.Reading.{KnowsEnd, Waiting}

@@ -38,7 +38,7 @@ fn ask_lines<T: Store + Drop, K: Kept + Drop, R: Read>(
     ensures number { IfErr result (λ stop. stop.number ≡ stop.done + 1) }
     ensures known { T.is_known guard.new.store → T.is_known guard.old.store }
 {
-    guard.counts.fit();
+    guard.counts().fit();
     'keys: for number in 0..MOST {
         let at = number + 1;
         match lines.next_line(input) {

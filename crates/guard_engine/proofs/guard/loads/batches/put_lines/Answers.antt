@@ -1,4 +1,4 @@
-use Rattle.std.proofs.Common.{◌≡◌, ap, Err, arith}
+use Rattle.std.proofs.Common.{ap, Err, arith}
 use Rattle.guard_engine.proofs.PuttingLemmas.{bad-next, counts-more, next-bad, next-long, part-last, part-whole, putting-more, putting-nil}
 use Rattle.guard_engine.proofs.guard.loads.batches.put_lines.Goals as goal
 
