@@ -1,5 +1,5 @@
 -- What single puts count.
-use Rattle.std.proofs.Common.{◌≡◌, ◌<◌, ◌+◌, ◌-◌, ◌^◌, ℕ, min, refl, ap, ◌∙◌, arith}
+use Rattle.std.proofs.Common.{◌≡◌, ◌<◌, ◌^◌, ℕ, refl, ap, ◌∙◌, arith}
 use Rattle.guard_engine.specs.declared.counts.Counts.{Counts}
 use Rattle.guard_engine.specs.Counted.{CountsPuts, more_by, one_more}
 

@@ -1,9 +1,9 @@
 -- Entries that stay, and what a batch of one put comes to.
-use Rattle.std.proofs.Common.{◌≡◌, ◌⊎◌, inl, inr, ℕ, List, refl, sym, subst, ◌∙◌}
+use Rattle.std.proofs.Common.{◌≡◌, inl, inr, ℕ, List, ◌∙◌}
 use Rattle.bloom_plain.specs.Data.{DefaultFilter}
 use Rattle.guard_engine.specs.declared.guard.Put.{Put}
 use Rattle.guard_engine.specs.declared.guard.Put.TheVariants.{Added, Taken}
-use Rattle.guard_engine.specs.Guarded.{Covers, Entries, Gains, Stays}
+use Rattle.guard_engine.specs.Guarded.{Covers, Entries, Stays}
 use Rattle.guard_engine.specs.Guarding.{AllCover, IsGuarding, PutsInBatch, Watches}
 use Rattle.guard_engine.specs.Puts.{IsPut, added_by}
 use Rattle.guard_engine.specs.Stores.{Begins, Commits, IsReady, Keeps, Sight, TakesBack}

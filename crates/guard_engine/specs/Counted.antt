@@ -1,9 +1,10 @@
 -- How look-ups are counted, in a store behind a filter. The store is spared a look-up of a
 -- key that the filter lacks, and is asked for each other key. A false alarm is a key that it
 -- was asked for and lacks.
-use Rattle.std.specs.Prelude.{◌≡◌, ◌≤◌, ◌⊎◌, ◌+◌, ◌-◌, ◌^◌, ℕ, not, min, List, [], ◌∷◌, length, filter}
+use Rattle.std.specs.Prelude.{◌≡◌, ◌≤◌, ◌⊎◌, ◌+◌, ◌-◌, ◌^◌, ℕ, not, min, List, [], ◌∷◌, length, filter, Option}
 use Rattle.bloom_plain.specs.Data.{DefaultFilter}
 use Rattle.bloom_plain.specs.Filter.{contains}
+use Rattle.lines.specs.Reading.{IsReadFrom, IsReadWhole}
 use Rattle.guard_engine.specs.declared.counts.Counts.{Counts}
 use Rattle.guard_engine.specs.Guarded.{Entries, Lacks, key_hash}
 
@@ -41,6 +42,21 @@ pub record Tallies (f : DefaultFilter) (is_told : Type 0) (entries : Entries)
   pub false_alarms : new.false_alarms ≡ more_by old.false_alarms alarms
   pub at_most : alarms ≤ length (asked_keys f keys)
   pub absent : is_told → AreAbsent entries (asked_keys f keys) alarms
+
+-- all lines of a reader, to its end, were looked up, each once
+pub record TalliesAll (f : DefaultFilter) (is_told : Type 0) (entries : Entries)
+    (read left : Option (List ℕ)) (old new : Counts) : Type 0 where
+  pub lines : List (List ℕ)
+  pub whole : IsReadWhole read left lines
+  pub tallies : Tallies f is_told entries lines old new
+
+-- this many lines of a reader, the first ones, were looked up, each once
+pub record TalliesFirst (f : DefaultFilter) (is_told : Type 0) (entries : Entries)
+    (read : Option (List ℕ)) (many : ℕ) (old new : Counts) : Type 0 where
+  pub lines : List (List ℕ)
+  pub first : IsReadFrom read lines
+  pub counted : many ≡ length lines
+  pub tallies : Tallies f is_told entries lines old new
 
 -- each of this many puts looked its key up once: those added were spared, or false alarms, and each
 -- other one was asked for, and found

@@ -1,4 +1,5 @@
 pub mod Answers
+pub mod Batches
 pub mod Counted
 pub mod Guarded
 pub mod Guarding

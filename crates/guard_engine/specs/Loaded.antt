@@ -1,6 +1,6 @@
 -- What lines with an entry each say, and what a store has once each was put. A line ends with byte
 -- 10 alone, so byte 13 is a part of the value.
-use Rattle.std.specs.Prelude.{◌≡◌, ◌⊎◌, ◌==◌, ◌<◌, ◌+◌, ℕ, List, [], ◌∷◌, ◌++◌, Bool, Option, IfSome, IsUtf8, length, Contains, ⊤}
+use Rattle.std.specs.Prelude.{◌≡◌, ◌⊎◌, ◌==◌, ◌<◌, ◌≤◌, ◌+◌, ◌*◌, ℕ, List, [], ◌∷◌, ◌++◌, Bool, Option, IfSome, IsUtf8, length, All, Contains, ⊤}
 use Rattle.std.specs.List.{after_first, before_first, position_or_len}
 use Rattle.lines.specs.Lines.{lines_of}
 use Rattle.lines.specs.Reading.{IsReadFrom, IsReadWhole}
@@ -78,16 +78,43 @@ pub record LoadsAll (read left : Option (List ℕ)) (old new : Entries) (loaded 
     pub counted : loaded.added + loaded.taken ≡ length lines
     pub gains : GainsMany old new loaded.added
 
--- the line of this number, from 1, of the lines of a reader is bad for this reason
-abbrev pub IsBadAt : ℕ → Option (List ℕ) → ℕ → BadLine → Type 0
-IsBadAt longest read number bad = IfSome read (λ bytes. (before : List (List ℕ)) × (line : List ℕ)
-    × (after : List (List ℕ)) × (lines_of bytes ≡ before ++ line ∷ after)
-    × (number ≡ length before + 1) × IsBad longest line bad)
+-- a line that can be looked up as a key
+pub record IsKey (longest : ℕ) (line : List ℕ) : Type 0 where
+  pub short : length line ≤ longest
+  pub text : IsUtf8 line
 
--- a load ended before the end of its lines: this many lines were put, the first ones, and no other
-pub record LoadsFirst (read : Option (List ℕ)) (old new : Entries) (many number : ℕ) : Type 0 where
+-- a line that can be put
+pub record HasEntry (longest : ℕ) (line : List ℕ) : Type 0 where
+  pub short : length line ≤ longest
+  pub text : IsUtf8 line
+  pub tab : HasTab line
+
+-- the line of this number, from 1, is the first that isn't good, and is bad for this reason
+pub record IsFirstBad (IsGood : ℕ → List ℕ → Type 0) (longest : ℕ) (lines : List (List ℕ))
+    (number : ℕ) (bad : BadLine) : Type 0 where
+  pub before : List (List ℕ)
+  pub line : List ℕ
+  pub after : List (List ℕ)
+  pub cut : lines ≡ before ++ line ∷ after
+  pub number_is : number ≡ length before + 1
+  pub good : All (IsGood longest) before
+  pub is_not : ¬ IsGood longest line
+  pub is_bad : IsBad longest line bad
+
+-- the same of the lines of a reader that may not tell its bytes
+abbrev pub IsBadAt : (ℕ → List ℕ → Type 0) → ℕ → Option (List ℕ) → ℕ → BadLine → Type 0
+IsBadAt IsGood longest read number bad =
+    IfSome read (λ bytes. IsFirstBad IsGood longest (lines_of bytes) number bad)
+
+-- a load stopped at the line of this number: many lines were put, the first ones, and no other;
+-- they make whole batches, and the line is of the batch that follows
+pub record LoadsFirst (read : Option (List ℕ)) (batch : ℕ) (old new : Entries)
+    (many number : ℕ) : Type 0 where
   pub lines : List (List ℕ)
   pub first : IsReadFrom read lines
   pub counted : many ≡ length lines
   pub loads : Loads lines old new
+  pub batches : ℕ
+  pub whole : many ≡ batches * batch
   pub before : many < number
+  pub near : number ≤ many + batch

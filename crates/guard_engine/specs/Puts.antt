@@ -1,5 +1,5 @@
 -- What became of an entry that was to be put.
-use Rattle.std.specs.Prelude.{◌≡◌, ◌+◌, ℕ, List}
+use Rattle.std.specs.Prelude.{ℕ, List}
 use Rattle.guard_engine.specs.declared.guard.Put.{Put}
 use Rattle.guard_engine.specs.declared.guard.Put.TheVariants.{Added, Taken}
 use Rattle.guard_engine.specs.Guarded.{Entries, Gains, Lacks, Stays}

@@ -1,20 +1,30 @@
 //! Many entries at once, in batches.
-ghost use Rattle.std.specs.Prelude.{◌≡◌, ◌≤◌, ◌<◌, ◌^◌, ◌+◌, ℕ, true, Err, IfErr, IfOk};
+ghost use Rattle.std.specs.Prelude.{◌≡◌, ◌≤◌, ◌<◌, ◌^◌, ◌-◌, ◌+◌, max, false, [], IfErr, IfOk};
+ghost use Rattle.guard_engine.specs.Batches.{IsReading, LoadsMany};
+ghost use Rattle.guard_engine.specs.Counted.{CountsPuts};
+ghost use Rattle.guard_engine.specs.Guarding.{IsGuarding};
+ghost use Rattle.guard_engine.specs.Loaded.{HasEntry, IsBadAt, LoadsAll, LoadsFirst};
+ghost use Rattle.guard_engine.specs.Puts.{added_by, taken_by};
+
+mod batches;
 
 use super::{Fault, Guard, Put};
 use crate::counts::Counts;
-use crate::desk::{end_batch, put};
 use crate::kept::Kept;
-use crate::line::{BadLine, entry_of};
+use crate::line::BadLine;
 use crate::store::Store;
+use batches::load_batch;
 use bloom_plain::BloomFilter;
-use lines::{LineReader, Next};
+use lines::LineReader;
 use std::alloc::Global;
 use std::io;
 use std::io::{ErrorKind, Read};
 
 /// The most bytes of a line.
-pub const LONGEST: usize = 1 << 20;
+pub const LONGEST: usize = 1048576;
+
+/// The most lines that are read.
+pub const MOST: u64 = u64::MAX - 1;
 
 /// How many entries a load put, and how many it left out since their keys had values.
 #[derive(Clone, Copy, Debug, PartialEq, Eq)]
@@ -48,9 +58,8 @@ pub struct Stop<E, F> {
 impl Loaded {
     // Counts one more entry.
     fn after(self, put: Put) -> Self
-        ensures sum { self.added + self.taken + 1 < 2 ^ 64
-            → result.added + result.taken ≡ self.added + self.taken + 1 }
         ensures added { self.added + 1 < 2 ^ 64 → result.added ≡ self.added + added_by put }
+        ensures taken { self.taken + 1 < 2 ^ 64 → result.taken ≡ self.taken + taken_by put }
     {
         match put {
             Put::Added => Loaded {
@@ -63,11 +72,26 @@ impl Loaded {
             },
         }
     }
+
+    // Counts the entries of one more batch.
+    fn join(self, more: Loaded) -> Self
+        ensures added { self.added + more.added < 2 ^ 64
+            → result.added ≡ self.added + more.added }
+        ensures taken { self.taken + more.taken < 2 ^ 64
+            → result.taken ≡ self.taken + more.taken }
+    {
+        Loaded {
+            added: self.added.saturating_add(more.added),
+            taken: self.taken.saturating_add(more.taken),
+        }
+    }
 }
 
 impl<E, F> Why<E, F> {
     // Why a change wasn't made.
-    fn of(fault: Fault<E, F>) -> Self {
+    fn of(fault: Fault<E, F>) -> Self
+        ensures { (bad : BadLine) → ¬ (result ≡ Why.Line bad) }
+    {
         match fault {
             Fault::Store(error) => Why::Store(error),
             Fault::Kept(error) => Why::Kept(error),
@@ -75,7 +99,9 @@ impl<E, F> Why<E, F> {
     }
 
     // Why the next line wasn't read: there was no memory for it, or a read failed.
-    pub(crate) fn of_read(error: io::Error) -> Self {
+    pub(crate) fn of_read(error: io::Error) -> Self
+        ensures { (bad : BadLine) → ¬ (result ≡ Why.Line bad) }
+    {
         match error.kind() {
             ErrorKind::OutOfMemory => Why::Memory,
             kind => Why::Input(kind),
@@ -90,72 +116,7 @@ pub(crate) fn stopped<E, F>(why: Why<E, F>, number: u64, done: u64) -> Stop<E, F
     Stop { why, number, done }
 }
 
-// Puts the entry of a line in the open batch.
-fn put_line<T: Store, F>(
-    store: &mut T,
-    filter: &mut BloomFilter,
-    counts: &mut Counts,
-    line: &[u8],
-) -> Result<Put, Why<T::Error, F>> {
-    let (key, value) = match entry_of(line) {
-        Ok(entry) => entry,
-        Err(bad) => return Err(Why::Line(bad)),
-    };
-    match put(store, filter, counts, key, value) {
-        Ok(put) => Ok(put),
-        Err(error) => Err(Why::Store(error)),
-    }
-}
-
-// Puts the lines that a reader has left, in batches of at most this many; one is open before the
-// first line. After an error the last batch may be open still.
-fn load_lines<T: Store, K: Kept, R: Read>(
-    store: &mut T,
-    kept: &mut K,
-    filter: &mut BloomFilter,
-    counts: &mut Counts,
-    lines: &mut LineReader,
-    input: &mut R,
-    batch: u64,
-) -> Result<Loaded, Stop<T::Error, K::Error>> {
-    let mut loaded = Loaded { added: 0, taken: 0 };
-    let (mut done, mut fresh) = (0u64, 0u64);
-    'lines: for number in 0..u64::MAX {
-        let at = number.saturating_add(1);
-        let next = match lines.next_line(input) {
-            Ok(next) => next,
-            Err(error) => return Err(stopped(Why::of_read(error), at, done)),
-        };
-        match next {
-            Next::End => {
-                return match end_batch(store, kept, filter, fresh) {
-                    Ok(()) => Ok(loaded),
-                    Err(fault) => Err(stopped(Why::of(fault), at, done)),
-                };
-            }
-            Next::TooLong => return Err(stopped(Why::Line(BadLine::TooLong), at, done)),
-            Next::Line => {}
-        }
-        let put = match put_line(store, filter, counts, lines.line()) {
-            Ok(put) => put,
-            Err(why) => return Err(stopped(why, at, done)),
-        };
-        loaded = loaded.after(put);
-        fresh = fresh.saturating_add(put.added());
-        if at - done >= batch {
-            if let Err(fault) = end_batch(store, kept, filter, fresh) {
-                return Err(stopped(Why::of(fault), at, done));
-            }
-            (done, fresh) = (at, 0);
-            if let Err(error) = store.begin() {
-                return Err(stopped(Why::Store(error), at, done));
-            }
-        }
-    }
-    Err(stopped(Why::Input(ErrorKind::TimedOut), u64::MAX, done))
-}
-
-// Puts the lines that a reader has left, in batches, and takes back what is open after an error.
+// Puts the lines that a reader has left, in batches.
 fn load_all<T: Store, K: Kept, R: Read>(
     store: &mut T,
     kept: &mut K,
@@ -164,17 +125,41 @@ fn load_all<T: Store, K: Kept, R: Read>(
     lines: &mut LineReader,
     input: &mut R,
     batch: u64,
-) -> Result<Loaded, Stop<T::Error, K::Error>> {
-    if let Err(error) = store.begin() {
-        return Err(stopped(Why::Store(error), 1, 0));
-    }
-    match load_lines(store, kept, filter, counts, lines, input, batch) {
-        Ok(loaded) => Ok(loaded),
-        Err(stop) => {
-            drop(store.roll_back());
-            Err(stop)
+) -> Result<Loaded, Stop<T::Error, K::Error>>
+    requires empty { lines.old.bytes ≡ [] }
+    requires open { lines.old.ended ≡ false }
+    requires longest { lines.old.longest ≡ 1048576 }
+    requires some { 1 ≤ batch }
+    ensures loads { IsGuarding (T.sight store.old) (K.may_have kept.old) filter.old
+        → T.is_known store.new → K.is_known kept.new → IfOk result
+        (LoadsAll (R.remaining input.old) (R.remaining input.new)
+        (T.sight store.old).has (T.sight store.new).has) }
+    ensures stops { IsGuarding (T.sight store.old) (K.may_have kept.old) filter.old
+        → T.is_known store.new → K.is_known kept.new → IfErr result (λ stop.
+        LoadsFirst (R.remaining input.old) batch (T.sight store.old).has (T.sight store.new).has
+        stop.done stop.number) }
+    ensures bad { IfErr result (λ stop. (bad : _) → stop.why ≡ Why.Line bad
+        → IsBadAt HasEntry 1048576 (R.remaining input.old) stop.number bad) }
+    ensures guards { IsGuarding (T.sight store.old) (K.may_have kept.old) filter.old
+        → T.is_known store.new → K.is_known kept.new
+        → IsGuarding (T.sight store.new) (K.may_have kept.new) filter.new }
+    ensures known { T.is_known store.new → T.is_known store.old }
+    ensures kept_known { K.is_known kept.new → K.is_known kept.old }
+    ensures counts { IfOk result (λ loaded.
+        CountsPuts counts.old loaded.added loaded.taken counts.new) }
+{
+    counts.fit();
+    let mut loaded = Loaded { added: 0, taken: 0 };
+    let mut done = 0u64;
+    'batches: for _turn in 0..u64::MAX {
+        let part = load_batch(store, kept, filter, counts, lines, input, batch, done)?;
+        loaded = loaded.join(part.loaded);
+        if part.is_last {
+            return Ok(loaded);
         }
+        done += batch;
     }
+    Err(stopped(Why::Input(ErrorKind::TimedOut), u64::MAX, done))
 }
 
 impl<T: Store + Drop, K: Kept + Drop> Guard<T, K> {
@@ -197,10 +182,11 @@ impl<T: Store + Drop, K: Kept + Drop> Guard<T, K> {
             (T.sight self.old.store).has (T.sight self.new.store).has) }
         // After an error the first lines are put, in whole batches.
         ensures stops { T.is_known self.new.store → K.is_known self.new.kept → IfErr result (λ stop.
-            LoadsFirst (R.remaining input.old) (T.sight self.old.store).has
-            (T.sight self.new.store).has stop.done stop.number × (max 1 batch ∣ stop.done)) }
+            LoadsFirst (R.remaining input.old) (max 1 batch) (T.sight self.old.store).has
+            (T.sight self.new.store).has stop.done stop.number) }
+        // A line that is told is the first that has no entry.
         ensures bad { IfErr result (λ stop. (bad : _) → stop.why ≡ Why.Line bad
-            → IsBadAt 1048576 (R.remaining input.old) stop.number bad) }
+            → IsBadAt HasEntry 1048576 (R.remaining input.old) stop.number bad) }
         ensures known { T.is_known self.new.store → T.is_known self.old.store }
         ensures kept_known { K.is_known self.new.kept → K.is_known self.old.kept }
         // Each key was looked up once.

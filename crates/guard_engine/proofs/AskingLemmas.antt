@@ -1,0 +1,212 @@
+-- Look-ups of the lines of a reader, half-way and at their end.
+use Rattle.std.proofs.Common.{◌≡◌, ◌↔◌, ◌<◌, ◌≤◌, ◌+◌, ◌^◌, ℕ, false, List, [], ◌∷◌, ◌++◌, length, length-append, string_bytes, Option, Result, Ok, refl, sym, ap, subst, append-nil, arith, ◌∙◌}
+use Rattle.std.proofs.lemmas.List.Elements.{All-append, All-from_recursion, All-nil}
+use Rattle.std.specs.Prelude.{All, IsUtf8}
+use Rattle.bloom_plain.specs.Data.{DefaultFilter}
+use Rattle.bloom_plain.specs.Filter.{contains}
+use Rattle.lines.specs.Reading.{Ends, KnowsEnd, TakesLine, TakesLong, TakesShort, Waiting, left_of}
+use Rattle.guard_engine.specs.declared.counts.Counts.{Counts}
+use Rattle.guard_engine.specs.declared.guard.Found.{Found}
+use Rattle.guard_engine.specs.declared.guard.Found.TheVariants.{Spared, FalseAlarm, Value}
+use Rattle.guard_engine.specs.declared.guard.loads.Stop.{Stop}
+use Rattle.guard_engine.specs.declared.guard.loads.Why.{Why}
+use Rattle.guard_engine.specs.declared.guard.loads.Why.TheVariants.{Line}
+use Rattle.guard_engine.specs.declared.line.BadLine.{BadLine}
+use Rattle.guard_engine.specs.declared.line.BadLine.TheVariants.{NotText, TooLong}
+use Rattle.guard_engine.specs.Batches.{IsReading, ReadsLines}
+use Rattle.guard_engine.specs.Counted.{Tallies, TalliesAll, TalliesFirst, one_more}
+use Rattle.guard_engine.specs.Guarded.{Entries, Lacks, Stays, key_hash}
+use Rattle.guard_engine.specs.Loaded.{IsBad, IsBadAt, IsKey}
+use Rattle.guard_engine.specs.Stores.{Sight}
+use Rattle.guard_engine.proofs.BatchLemmas.{Stays-same}
+use Rattle.guard_engine.proofs.EntryLemmas.{Stays-after}
+use Rattle.guard_engine.proofs.ReadLemmas.{IsBadAt-after, IsBadAt-long, IsBadAt-next, IsReadFrom-read, IsReadWhole-read, ReadsLines-end, ReadsLines-more, ReadsLines-new, ReadsLines-one, reading-new}
+use Rattle.guard_engine.proofs.TallyLemmas.{Tallies-more, Tallies-none}
+
+-- a line that is too long is no key
+no_key-long : (line : List ℕ) → 1048576 < length line → ¬ IsKey 1048576 line
+no_key-long line long is = absurd (omega (arith, long, is.short))
+
+-- half-way: these keys were looked up and counted, and the guard is as before
+pub record IsAsking {S L : Type 0} (sight : S → Sight) (is_known : S → Type 0)
+    (is_kept : L → Type 0) (from : Option (List ℕ)) (f : DefaultFilter) (old : S) (old_kept : L)
+    (start : Counts) (reader : Waiting) (rest : Option (List ℕ)) (last : DefaultFilter) (new : S)
+    (kept : L) (end : Counts) (number : ℕ) : Type 0 where
+  pub keys : List (List ℕ)
+  pub reads : ReadsLines from keys (left_of reader rest)
+  pub good : All (IsKey 1048576) keys
+  pub numbered : number ≡ length keys
+  pub tallies : Tallies f (is_known new × is_kept kept) (sight old).has keys start end
+  pub filter : last ≡ f
+  pub same_kept : kept ≡ old_kept
+  pub reading : IsReading reader rest
+  pub stays : is_known new → is_kept kept → Stays (sight old).has (sight new).has
+  pub known : is_known new → is_known old
+
+-- before the first key
+pub asking-nil : {S L : Type 0} {sight : S → Sight} {is_known : S → Type 0}
+    {is_kept : L → Type 0} {f : DefaultFilter} {old : S} {old_kept : L} {start : Counts}
+    (reader : Waiting) (rest : Option (List ℕ)) → reader.bytes ≡ [] → reader.ended ≡ false
+    → reader.longest ≡ 1048576 → {told : Counts} → told ≡ start → told.spared < 2 ^ 64
+    → told.asked < 2 ^ 64 → told.false_alarms < 2 ^ 64
+    → IsAsking sight is_known is_kept rest f old old_kept start reader rest f old old_kept start 0
+asking-nil {sight = sight} {is_known = is_known} {is_kept = is_kept} {f = f} {old = old}
+    {old_kept = old_kept} {start = start} reader rest empty opened longest same spared asked alarms =
+    record {
+      keys = [];
+      reads = ReadsLines-new reader.bytes rest empty;
+      good = All-nil (IsKey 1048576);
+      numbered = refl;
+      tallies = Tallies-none f (is_known old × is_kept old_kept) (sight old).has start
+          (subst (λ c. c.spared < 2 ^ 64) same spared) (subst (λ c. c.asked < 2 ^ 64) same asked)
+          (subst (λ c. c.false_alarms < 2 ^ 64) same alarms);
+      filter = refl;
+      same_kept = refl;
+      reading = reading-new reader rest opened longest;
+      stays = λ known kept. Stays-same (sight old).has;
+      known = λ known. known;
+    }
+
+-- a look-up found a value, a false alarm, or was spared
+abbrev Came : Type 0 → Found → Found → Type 0
+Came E found what = ◌≡◌ {A = Result Found E} (Ok found) (Ok what)
+
+module _ {S L : Type 0} {sight : S → Sight} {is_known : S → Type 0} {is_kept : L → Type 0}
+    {from : Option (List ℕ)} {f : DefaultFilter} {old : S} {old_kept : L} {start : Counts}
+    {reader : Waiting} {rest : Option (List ℕ)} {now : DefaultFilter} {mid : S} {mid_kept : L}
+    {before : Counts} {number : ℕ}
+    (so_far : IsAsking sight is_known is_kept from f old old_kept start reader rest now mid mid_kept
+    before number) where
+  -- nothing is left
+  pub asked-all : (after : Waiting) (left : Option (List ℕ))
+      → Ends (left_of reader rest) (left_of after left)
+      → TalliesAll f (is_known mid × is_kept mid_kept) (sight old).has from left start before
+  asked-all after left ends = record {
+    lines = so_far.keys;
+    whole = IsReadWhole-read from left after.bytes so_far.keys
+        (subst (λ l. ReadsLines from l (left_of after left)) (append-nil so_far.keys)
+        (ReadsLines-more from (left_of reader rest) (left_of after left) so_far.keys []
+        so_far.reads (ReadsLines-end (left_of reader rest) (left_of after left) ends))) ends.end;
+    tallies = so_far.tallies;
+  }
+
+  -- the lines before the next one were looked up
+  pub asked-first : (many : ℕ) → many ≡ number
+      → TalliesFirst f (is_known mid × is_kept mid_kept) (sight old).has from many start before
+  asked-first many is = record {
+    lines = so_far.keys;
+    first = IsReadFrom-read from (left_of reader rest) so_far.keys so_far.reads;
+    counted = is ∙ so_far.numbered;
+    tallies = so_far.tallies;
+  }
+
+  -- a line that is told is the next one, and is bad for that reason
+  pub bad-next : {E F : Type 0} {stop : Stop E F} {why : Why E F}
+      → stop ≡ record { why = why; number = number + 1; done = number }
+      → ((bad : BadLine) → why ≡ Line bad → IsBadAt IsKey 1048576 (left_of reader rest) 1 bad)
+      → (bad : BadLine) → stop.why ≡ Line bad → IsBadAt IsKey 1048576 from stop.number bad
+  bad-next {stop = stop} is next bad told =
+      let at : stop.number ≡ number + 1 = ap (λ s. s.number) is in
+      let same : length so_far.keys + 1 ≡ stop.number = omega (arith, at, so_far.numbered) in
+      subst (λ n. IsBadAt IsKey 1048576 from n bad) same
+      (IsBadAt-after IsKey 1048576 bad from (left_of reader rest) so_far.keys 1 so_far.reads
+      so_far.good (next bad (sym (ap (λ s. s.why) is) ∙ told)))
+
+  -- the next line is too long
+  pub next-long : {E F : Type 0} (left : Option (List ℕ))
+      → TakesLong reader.longest (left_of reader rest) left → (bad : BadLine)
+      → ◌≡◌ {A = Why E F} (Line TooLong) (Line bad)
+      → IsBadAt IsKey 1048576 (left_of reader rest) 1 bad
+  next-long left long bad told =
+      let same : TooLong ≡ bad = cc in
+      subst (IsBadAt IsKey 1048576 (left_of reader rest) 1) same
+      (IsBadAt-long IsKey 1048576 no_key-long (left_of reader rest) left
+      (subst (λ n. TakesLong n (left_of reader rest) left) so_far.reading.longest long))
+
+  -- the reader gave a line
+  module _ (after : Waiting) (left : Option (List ℕ))
+      (took : TakesShort reader.longest (left_of reader rest) (left_of after left) after.line)
+      {line : List ℕ} (is_line : line ≡ after.line) where
+    -- that line was read
+    reads_one : ReadsLines (left_of reader rest) (line ∷ []) (left_of after left)
+    reads_one = ReadsLines-one (left_of reader rest) (left_of after left) line
+        (subst (TakesLine (left_of reader rest) (left_of after left)) (sym is_line) took.takes)
+
+    -- it is no text
+    pub next-bad : {E F : Type 0} {bad : BadLine} → bad ≡ NotText → IsBad 1048576 line bad
+        → (told : BadLine) → ◌≡◌ {A = Why E F} (Line bad) (Line told)
+        → IsBadAt IsKey 1048576 (left_of reader rest) 1 told
+    next-bad {bad = bad} why is told same =
+        let is_not : ¬ IsUtf8 line = subst (IsBad 1048576 line) why is in
+        let also : NotText ≡ told = cc in
+        subst (IsBadAt IsKey 1048576 (left_of reader rest) 1) also
+        (IsBadAt-next IsKey 1048576 NotText (left_of reader rest) (left_of after left) line
+        reads_one (λ has. is_not has.text) is_not)
+
+    -- it was looked up
+    module _ (text : IsUtf8 line) {key : List ℕ} (is_key : key ≡ line) {new : S} {kept : L}
+        {last : DefaultFilter} (same : last ≡ now) (same_kept : kept ≡ mid_kept)
+        (known : is_known new → is_known mid)
+        (stays : is_known new → is_kept mid_kept → Stays (sight mid).has (sight new).has) where
+      -- the place of the filter is known as before
+      was_kept : is_kept kept → is_kept mid_kept
+      was_kept told = subst is_kept same_kept told
+
+      -- nothing came or went
+      pub asking-stays : is_known new → is_kept kept → Stays (sight old).has (sight new).has
+      asking-stays told kept_told =
+          Stays-after (sight old).has (sight mid).has (sight new).has
+          (so_far.stays (known told) (was_kept kept_told)) (stays told (was_kept kept_told))
+
+      -- one key more was looked up
+      pub asking-more : {E : Type 0} {found : Found} {end : Counts}
+          → (Came E found Spared ↔ (contains now (key_hash key) ≡ false))
+          → (is_known new → is_kept mid_kept → Came E found FalseAlarm → Lacks (sight mid).has key)
+          → (is_known new → is_kept mid_kept → (value : _) → Came E found (Value value)
+          → (sight mid).has key (string_bytes value))
+          → (Came E found Spared → end ≡ record before { spared = one_more before.spared })
+          → (Came E found FalseAlarm → end ≡ record before {
+            asked = one_more before.asked;
+            false_alarms = one_more before.false_alarms;
+          })
+          → ((value : _) → Came E found (Value value)
+          → end ≡ record before { asked = one_more before.asked })
+          → KnowsEnd after.ended left → after.longest ≡ reader.longest
+          → IsAsking sight is_known is_kept from f old old_kept start after left last new kept end
+          (number + 1)
+      asking-more {E = E} {found = found} {end = end} asked alarm value count_spared count_alarm
+          count_value knows longest =
+          let of_first : Came E found Spared ↔ (contains f (key_hash key) ≡ false) =
+          subst (λ g. Came E found Spared ↔ (contains g (key_hash key) ≡ false)) so_far.filter
+          asked in
+          record {
+            keys = so_far.keys ++ key ∷ [];
+            reads = ReadsLines-more from (left_of reader rest) (left_of after left) so_far.keys
+                (key ∷ []) so_far.reads
+                (subst (λ l. ReadsLines (left_of reader rest) (l ∷ []) (left_of after left))
+                (sym is_key) reads_one);
+            good = All-append (IsKey 1048576) so_far.keys (key ∷ []) so_far.good
+                (All-from_recursion (IsKey 1048576) (key ∷ []) (is_good, tt));
+            numbered = omega (arith, so_far.numbered, length-append so_far.keys (key ∷ []));
+            tallies = Tallies-more f (sight old).has so_far.keys key start before end _
+                (is_known new × is_kept kept) so_far.tallies
+                (λ told. (known told.0, was_kept told.1)) (Ok found) of_first
+                (λ told false_alarm v had.
+                alarm told.0 (was_kept told.1) false_alarm v
+                ((so_far.stays (known told.0) (was_kept told.1) key v).1 had))
+                (λ told v is.
+                (so_far.stays (known told.0) (was_kept told.1) key (string_bytes v)).0
+                (value told.0 (was_kept told.1) v is)) count_spared count_alarm count_value;
+            filter = same ∙ so_far.filter;
+            same_kept = same_kept ∙ so_far.same_kept;
+            reading = record { knows = knows; longest = longest ∙ so_far.reading.longest };
+            stays = asking-stays;
+            known = λ told. so_far.known (known told);
+          }
+        where
+          is_good : IsKey 1048576 key
+          is_good = record {
+            short = subst (λ l. length l ≤ 1048576) (sym (is_key ∙ is_line))
+                (subst (λ n. length after.line ≤ n) so_far.reading.longest took.short);
+            text = subst IsUtf8 (sym is_key) text;
+          }

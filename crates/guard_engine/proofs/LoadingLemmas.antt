@@ -1,0 +1,250 @@
+-- Loads of batches, half-way, at their end, and at an error.
+use Rattle.std.proofs.Common.{◌≡◌, ℕ, ◌+◌, ◌-◌, ◌*◌, ◌^◌, ◌<◌, max, true, false, List, [], ◌++◌, length, length-append, Option, refl, sym, ◌∙◌, ap, subst, append-nil, arith}
+use Rattle.std.proofs.lemmas.List.Elements.{All-append, All-nil}
+use Rattle.bloom_plain.specs.Data.{DefaultFilter}
+use Rattle.lines.specs.Reading.{Waiting, left_of}
+use Rattle.guard_engine.specs.declared.counts.Counts.{Counts}
+use Rattle.guard_engine.specs.declared.guard.loads.Loaded.{Loaded}
+use Rattle.guard_engine.specs.declared.guard.loads.Stop.{Stop}
+use Rattle.guard_engine.specs.declared.guard.loads.Why.{Why}
+use Rattle.guard_engine.specs.declared.guard.loads.batches.Part.{Part}
+use Rattle.guard_engine.specs.declared.line.BadLine.{BadLine}
+use Rattle.guard_engine.specs.Batches.{IsReading, IsWithin, LoadsMany, ReadsEntries, ReadsPart}
+use Rattle.guard_engine.specs.Counted.{CountsPuts}
+use Rattle.guard_engine.specs.Guarded.{Entries, Stays}
+use Rattle.guard_engine.specs.Guarding.{IsGuarding}
+use Rattle.guard_engine.specs.Loaded.{HasEntry, IsBadAt, Loads, LoadsAll, LoadsFirst}
+use Rattle.guard_engine.specs.Stores.{Sight}
+use Rattle.guard_engine.proofs.BatchLemmas.{Stays-same}
+use Rattle.guard_engine.proofs.KeyLemmas.{GainsMany-more, GainsMany-none}
+use Rattle.guard_engine.proofs.LoadLemmas.{Loads-more, Loads-nil, Loads-stays}
+use Rattle.guard_engine.proofs.PuttingLemmas.{CountsPuts-more, CountsPuts-nil}
+use Rattle.guard_engine.proofs.ReadLemmas.{IsBadAt-after, IsReadFrom-read, IsReadWhole-read, ReadsLines-more, ReadsLines-new, ReadsLines-nil, reading-new}
+
+-- no line was loaded yet
+pub LoadsMany-nil : (entries : Entries) → LoadsMany [] entries entries 0
+LoadsMany-nil entries = record {
+  loads = Loads-nil entries;
+  gains = GainsMany-none entries entries (Stays-same entries);
+}
+
+-- some lines were loaded, and then more
+pub LoadsMany-more : (some more : List (List ℕ)) (old mid new : Entries) (n m : ℕ)
+    → LoadsMany some old mid n → LoadsMany more mid new m
+    → LoadsMany (some ++ more) old new (n + m)
+LoadsMany-more some more old mid new n m first after = record {
+  loads = Loads-more some more old mid new first.loads after.loads;
+  gains = GainsMany-more old mid new n m first.loads.kept after.loads.kept first.gains after.gains;
+}
+
+-- where all stays, the lines are loaded as they were
+pub Loads-kept : (lines : List (List ℕ)) (old mid new : Entries) → Loads lines old mid
+    → Stays mid new → Loads lines old new
+Loads-kept lines old mid new first stays =
+    subst (λ l. Loads l old new) (append-nil lines)
+    (Loads-more lines [] old mid new first (Loads-stays mid new stays))
+
+-- a load stopped at the first line, and none was put
+pub first-none : {E F : Type 0} {stop : Stop E F} {why : Why E F} (read : Option (List ℕ))
+    (batch : ℕ) (entries : Entries) → stop ≡ record { why = why; number = 1; done = 0 }
+    → LoadsFirst read (max 1 batch) entries entries stop.done stop.number
+first-none {stop = stop} read batch entries is =
+    let none : stop.done ≡ 0 = ap (λ s. s.done) is in
+    let one : stop.number ≡ 1 = ap (λ s. s.number) is in
+    record {
+      lines = [];
+      first = IsReadFrom-read read read [] (ReadsLines-nil read);
+      counted = none;
+      loads = Loads-nil entries;
+      batches = 0;
+      whole = omega (arith, none);
+      before = omega (arith, none, one);
+      near = omega (arith, none, one);
+    }
+
+-- half-way through a load: these lines were read and put, in whole batches, and each counts once
+pub record IsLoading {S L : Type 0} (sight : S → Sight) (may_have : L → DefaultFilter → Type 0)
+    (is_known : S → Type 0) (is_kept : L → Type 0) (batch : ℕ) (from : Option (List ℕ))
+    (first : DefaultFilter) (old : S) (old_kept : L) (before : Counts) (reader : Waiting)
+    (rest : Option (List ℕ)) (filter : DefaultFilter) (new : S) (kept : L) (counts : Counts)
+    (loaded : Loaded) (done turn : ℕ) : Type 0 where
+  pub entries : ReadsEntries from (left_of reader rest) (λ lines added.
+      IsGuarding (sight old) (may_have old_kept) first → is_known new → is_kept kept
+      → LoadsMany lines (sight old).has (sight new).has added) loaded
+  pub turns : done ≡ turn * batch
+  pub numbered : done ≡ length entries.lines
+  pub fits : done < 2 ^ 64 - 1
+  pub reading : IsReading reader rest
+  pub guards : IsGuarding (sight old) (may_have old_kept) first → is_known new → is_kept kept
+      → IsGuarding (sight new) (may_have kept) filter
+  pub known : is_known new → is_known old
+  pub kept_known : is_kept kept → is_kept old_kept
+  pub counted : CountsPuts before loaded.added loaded.taken counts
+
+-- before the first batch
+pub loading-nil : {S L : Type 0} {sight : S → Sight} {may_have : L → DefaultFilter → Type 0}
+    {is_known : S → Type 0} {is_kept : L → Type 0} {batch : ℕ} {first : DefaultFilter} {old : S}
+    {old_kept : L} {before : Counts} (reader : Waiting) (rest : Option (List ℕ))
+    → reader.bytes ≡ [] → reader.ended ≡ false → reader.longest ≡ 1048576
+    → before.spared < 2 ^ 64 → before.asked < 2 ^ 64 → before.false_alarms < 2 ^ 64
+    → IsLoading sight may_have is_known is_kept batch rest first old old_kept before reader rest
+    first old old_kept before (record { added = 0; taken = 0 }) 0 0
+loading-nil {sight = sight} {old = old} {before = before} reader rest empty opened longest spared
+    asked alarms = record {
+      entries = record {
+        lines = [];
+        reads = ReadsLines-new reader.bytes rest empty;
+        good = All-nil (HasEntry 1048576);
+        counted = refl;
+        puts = λ guards known kept_known. LoadsMany-nil (sight old).has;
+      };
+      turns = omega arith;
+      numbered = refl;
+      fits = omega arith;
+      reading = reading-new reader rest opened longest;
+      guards = λ guards known kept_known. guards;
+      known = λ known. known;
+      kept_known = λ known. known;
+      counted = CountsPuts-nil before spared asked alarms;
+    }
+
+-- half-way, and what the next batch came to
+module _ {S L : Type 0} {sight : S → Sight} {may_have : L → DefaultFilter → Type 0}
+    {is_known : S → Type 0} {is_kept : L → Type 0} {batch : ℕ} {from : Option (List ℕ)}
+    {first : DefaultFilter} {old : S} {old_kept : L} {before : Counts} {reader : Waiting}
+    {rest : Option (List ℕ)} {filter : DefaultFilter} {mid : S} {mid_kept : L} {counts : Counts}
+    {loaded : Loaded} {done turn : ℕ}
+    (so_far : IsLoading sight may_have is_known is_kept batch from first old old_kept before
+    reader rest filter mid mid_kept counts loaded done turn) where
+  -- the next batch isn't put
+  pub first-put : (new : S) (told number : ℕ) → IsWithin batch done told number
+      → Stays (sight mid).has (sight new).has
+      → LoadsMany so_far.entries.lines (sight old).has (sight mid).has loaded.added
+      → LoadsFirst from batch (sight old).has (sight new).has told number
+  first-put new told number within stays loads = record {
+    lines = so_far.entries.lines;
+    first = IsReadFrom-read from (left_of reader rest) so_far.entries.lines so_far.entries.reads;
+    counted = within.same ∙ so_far.numbered;
+    loads = Loads-kept so_far.entries.lines (sight old).has (sight mid).has (sight new).has
+        loads.loads stays;
+    batches = turn;
+    whole = within.same ∙ so_far.turns;
+    before = omega (arith, within.before, within.same);
+    near = omega (arith, within.near, within.same);
+  }
+
+  -- a line of the next batch is bad
+  pub bad-later : (number : ℕ) (bad : BadLine) → done < number
+      → IsBadAt HasEntry 1048576 (left_of reader rest) (number - done) bad
+      → IsBadAt HasEntry 1048576 from number bad
+  bad-later number bad later is =
+      let lines = so_far.entries.lines in
+      let same : length lines + (number - done) ≡ number =
+      omega (arith, so_far.numbered, later) in
+      subst (λ n. IsBadAt HasEntry 1048576 from n bad) same
+      (IsBadAt-after HasEntry 1048576 bad from (left_of reader rest) lines (number - done)
+      so_far.entries.reads so_far.entries.good is)
+
+  -- the next batch was put
+  module _ (after : Waiting) (left : Option (List ℕ)) (part : Part) {new : S} {kept : L}
+      {now : Counts} {more : Loaded}
+      (read : ReadsPart batch done (left_of reader rest) (left_of after left) (λ lines added.
+      IsGuarding (sight mid) (may_have mid_kept) filter → is_known new → is_kept kept
+      → LoadsMany lines (sight mid).has (sight new).has added) part)
+      (known : is_known new → is_known mid) (kept_known : is_kept kept → is_kept mid_kept)
+      (counted : CountsPuts counts part.loaded.added part.loaded.taken now)
+      (added : loaded.added + part.loaded.added < 2 ^ 64
+      → more.added ≡ loaded.added + part.loaded.added)
+      (taken : loaded.taken + part.loaded.taken < 2 ^ 64
+      → more.taken ≡ loaded.taken + part.loaded.taken) where
+    both_added : more.added ≡ loaded.added + part.loaded.added
+    both_added = added (omega (
+      arith,
+      so_far.numbered,
+      so_far.entries.counted,
+      read.entries.counted,
+      read.fits,
+    ))
+
+    both_taken : more.taken ≡ loaded.taken + part.loaded.taken
+    both_taken = taken (omega (
+      arith,
+      so_far.numbered,
+      so_far.entries.counted,
+      read.entries.counted,
+      read.fits,
+    ))
+
+    -- all lines up to the end of the batch
+    joined : ReadsEntries from (left_of after left) (λ lines n.
+        IsGuarding (sight old) (may_have old_kept) first → is_known new → is_kept kept
+        → LoadsMany lines (sight old).has (sight new).has n) more
+    joined =
+        let some = so_far.entries.lines in
+        let next = read.entries.lines in
+        record {
+          lines = some ++ next;
+          reads = ReadsLines-more from (left_of reader rest) (left_of after left) some next
+              so_far.entries.reads read.entries.reads;
+          good = All-append (HasEntry 1048576) some next so_far.entries.good read.entries.good;
+          counted = omega (
+            arith,
+            both_added,
+            both_taken,
+            so_far.entries.counted,
+            read.entries.counted,
+            length-append some next,
+          );
+          puts = λ guards told kept_told.
+              subst (LoadsMany (some ++ next) (sight old).has (sight new).has) (sym both_added)
+              (LoadsMany-more some next (sight old).has (sight mid).has (sight new).has loaded.added
+              part.loaded.added (so_far.entries.puts guards (known told) (kept_known kept_told))
+              (read.entries.puts (so_far.guards guards (known told) (kept_known kept_told)) told
+              kept_told));
+        }
+
+    -- these are the lines of both
+    longer : length joined.lines
+        ≡ length so_far.entries.lines + length read.entries.lines
+    unfolding joined
+    longer = length-append so_far.entries.lines read.entries.lines
+
+    -- each line counts once
+    pub counts-joined : CountsPuts before more.added more.taken now
+    counts-joined = rw (both_added, both_taken)
+        (CountsPuts-more before counts now loaded.added loaded.taken part.loaded.added
+        part.loaded.taken so_far.counted counted)
+
+    -- it was the last one
+    pub loaded-all : part.is_last ≡ true → IsGuarding (sight old) (may_have old_kept) first
+        → is_known new → is_kept kept
+        → LoadsAll from left (sight old).has (sight new).has more
+    loaded-all is guards told kept_told = record {
+      lines = joined.lines;
+      whole = IsReadWhole-read from left after.bytes joined.lines joined.reads (read.last is);
+      loads = (joined.puts guards told kept_told).loads;
+      counted = joined.counted;
+      gains = (joined.puts guards told kept_told).gains;
+    }
+
+    -- there may be more
+    pub loading-more : {last : DefaultFilter} → part.is_last ≡ false → IsReading after left
+        → (IsGuarding (sight mid) (may_have mid_kept) filter → is_known new → is_kept kept
+        → IsGuarding (sight new) (may_have kept) last)
+        → IsLoading sight may_have is_known is_kept batch from first old old_kept before after left
+        last new kept now more (done + batch) (turn + 1)
+    loading-more is reading guards =
+        let whole = read.whole is in
+        let fits = read.fits in
+        record {
+          entries = joined;
+          turns = omega (arith, so_far.turns);
+          numbered = omega (arith, so_far.numbered, whole, longer);
+          fits = omega (arith, whole, fits);
+          reading = reading;
+          guards = λ guarded told kept_told.
+              guards (so_far.guards guarded (known told) (kept_known kept_told)) told kept_told;
+          known = λ told. so_far.known (known told);
+          kept_known = λ told. so_far.kept_known (kept_known told);
+          counted = counts-joined;
+        }
