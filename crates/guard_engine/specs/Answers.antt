@@ -10,12 +10,18 @@ use Rattle.guard_engine.specs.declared.guard.Found.{Found}
 use Rattle.guard_engine.specs.declared.guard.Found.TheVariants.{Spared, FalseAlarm, Value}
 use Rattle.guard_engine.specs.declared.guard.Put.{Put}
 use Rattle.guard_engine.specs.declared.guard.Put.TheVariants.{Taken}
+use Rattle.guard_engine.specs.declared.guard.Fault.{Fault}
 use Rattle.guard_engine.specs.declared.guard.loads.Loaded.{Loaded}
+use Rattle.guard_engine.specs.declared.guard.loads.Stop.{Stop}
+use Rattle.guard_engine.specs.declared.guard.loads.Why.TheVariants.{Line}
+use Rattle.guard_engine.specs.declared.line.BadLine.{BadLine}
 use Rattle.guard_engine.specs.declared.task.Task.{Task}
 use Rattle.guard_engine.specs.declared.task.Task.TheVariants as tasks
+use Rattle.bloom_plain.specs.Data.{DefaultFilter}
+use Rattle.guard_engine.specs.Counted.{CountsPuts, TalliesAll}
 use Rattle.guard_engine.specs.Guarded.{Entries, Lacks, Loses, Stays}
-use Rattle.guard_engine.specs.Loaded.{LoadsAll, LoadsFirst}
-use Rattle.guard_engine.specs.Puts.{IsPut}
+use Rattle.guard_engine.specs.Loaded.{HasEntry, IsBadAt, IsKey, LoadsAll, LoadsFirst}
+use Rattle.guard_engine.specs.Puts.{IsPut, added_by, taken_by}
 
 -- a look-up whose answer is no value, or nothing that could be taken away
 abbrev pub IsAbsence : Answer → Type 0
@@ -58,18 +64,30 @@ module _ {R : Type 0} (remaining : R → Option (List ℕ)) where
   Leaves (tasks.Load input batch) old new (troubles.Key error) = ⊥
   Leaves (tasks.Stats input) old new trouble = Stays old new
 
--- the trouble is one of the task
-abbrev pub IsTroubleOf : {R E F : Type 0} → Task R → Trouble E F → Type 0
-IsTroubleOf {R} {E} {F} (tasks.Put key value) trouble = (fault : _) × (trouble ≡ troubles.Put fault)
-IsTroubleOf (tasks.Get key) trouble = (error : _) × (trouble ≡ troubles.Key error)
-IsTroubleOf (tasks.Delete key) trouble = (error : _) × (trouble ≡ troubles.Key error)
-IsTroubleOf (tasks.Load input batch) trouble = (stop : _) × (trouble ≡ troubles.Lines stop)
-IsTroubleOf (tasks.Stats input) trouble = (stop : _) × (trouble ≡ troubles.Lines stop)
+  -- the trouble is one of the task, and a line that is told is the first bad one
+  abbrev pub IsTroubleOf : {E F : Type 0} → Task R → Trouble E F → Type 0
+  IsTroubleOf {E} {F} (tasks.Put key value) trouble =
+      (fault : Fault E F) × (trouble ≡ troubles.Put fault)
+  IsTroubleOf {E} {F} (tasks.Get key) trouble = (error : E) × (trouble ≡ troubles.Key error)
+  IsTroubleOf {E} {F} (tasks.Delete key) trouble = (error : E) × (trouble ≡ troubles.Key error)
+  IsTroubleOf {E} {F} (tasks.Load input batch) trouble =
+      (stop : Stop E F) × (trouble ≡ troubles.Lines stop) × ((bad : BadLine)
+      → stop.why ≡ Line bad → IsBadAt HasEntry 1048576 (remaining input) stop.number bad)
+  IsTroubleOf {E} {F} (tasks.Stats input) trouble =
+      (stop : Stop E F) × (trouble ≡ troubles.Lines stop) × ((bad : BadLine)
+      → stop.why ≡ Line bad → IsBadAt IsKey 1048576 (remaining input) stop.number bad)
 
--- the answer tells these counts, or none
-abbrev pub TellsCounts : Answer → Counts → Type 0
-TellsCounts (answers.Put put) counts = ⊤
-TellsCounts (answers.Found found) counts = ⊤
-TellsCounts (answers.Deleted had) counts = ⊤
-TellsCounts (answers.Loaded loaded told) counts = told ≡ counts
-TellsCounts (answers.Counted told) counts = told ≡ counts
+  -- from old to new the look-ups of the task were counted, and the answer tells the counts if it
+  -- tells any. What a filter lacks is spared, and where the store told what it has, the keys that
+  -- it was asked for and that have no value are the false alarms
+  abbrev pub CountsTask : DefaultFilter → Type 0 → Task R → Entries → Counts → Counts → Answer
+      → Type 0
+  CountsTask f is_told (tasks.Put key value) entries old new answer = (put : Put)
+      × (answer ≡ answers.Put put) × CountsPuts old (added_by put) (taken_by put) new
+  CountsTask f is_told (tasks.Get key) entries old new answer = ⊤
+  CountsTask f is_told (tasks.Delete key) entries old new answer = ⊤
+  CountsTask f is_told (tasks.Load input batch) entries old new answer = (loaded : Loaded)
+      × (answer ≡ answers.Loaded loaded new) × CountsPuts old loaded.added loaded.taken new
+  CountsTask f is_told (tasks.Stats input) entries old new answer =
+      (answer ≡ answers.Counted new) × ((left : Option (List ℕ))
+      × TalliesAll f is_told entries (remaining input) left old new)

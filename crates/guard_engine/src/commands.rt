@@ -1,8 +1,6 @@
 //! Tasks and their answers, over any store.
 ghost use Rattle.std.specs.Prelude.{◌≡◌, ◌↔◌, Ok, IfErr, IfOk, OnErr, IsTrue};
-ghost use Rattle.bloom_plain.specs.Filter.{contains};
-ghost use Rattle.guard_engine.specs.Answers.{IsAbsence, IsAnswerTo, IsNo, IsTroubleOf, Leaves, TellsCounts};
-ghost use Rattle.guard_engine.specs.Guarded.{key_hash};
+ghost use Rattle.guard_engine.specs.Answers.{CountsTask, IsAbsence, IsAnswerTo, IsNo, IsTroubleOf, Leaves};
 
 use crate::counts::Counts;
 use crate::guard::{Fault, Found, Guard, Loaded, Put, Stop};
@@ -115,10 +113,12 @@ pub fn carry_out<T: Store + Drop, K: Kept + Drop, R: Read + Drop>(
         (T.sight guard.new.store).has) }
     // The store was asked nothing where it is told as spared.
     ensures spared { result ≡ Ok (Answer.Found Found.Spared) → guard.new.store ≡ guard.old.store }
-    // The counts that an answer tells are those of the guard.
-    ensures counts { IfOk result (λ answer. TellsCounts answer guard.new.counts) }
+    // Each look-up counts once, and the counts that an answer tells are those of the guard.
+    ensures counts { IfOk result (CountsTask R.remaining guard.old.filter
+        (T.is_known guard.new.store × K.is_known guard.new.kept) task.entry
+        (T.sight guard.old.store).has guard.old.counts guard.new.counts) }
     // Why a task isn't carried out, and what that leaves of the store.
-    ensures refused { IfErr result (IsTroubleOf task.entry) }
+    ensures refused { IfErr result (IsTroubleOf R.remaining task.entry) }
     ensures err { T.is_known guard.new.store → K.is_known guard.new.kept → IfErr result
         (Leaves R.remaining task.entry (T.sight guard.old.store).has
         (T.sight guard.new.store).has) }
