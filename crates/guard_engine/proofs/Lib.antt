@@ -1,5 +1,7 @@
 mod CountLemmas
+mod CoverFacts
 mod EntryLemmas
 mod FoundLemmas
+mod GuardedFacts
 pub mod OnDemandLemmas
 mod OpenLemmas
