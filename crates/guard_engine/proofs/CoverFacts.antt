@@ -79,9 +79,9 @@ covers-off is = let e = sym missed ∙ is (1 ∷ []) (2 ∷ []) (refl, refl) in 
 covers-value : Covers (filter 33619968 2) one → ⊥
 covers-value is = let e = sym missed-other ∙ is (1 ∷ []) (2 ∷ []) (refl, refl) in cc
 
--- a filter that has nothing has each key of no entries
-pub covers-none : Covers (filter 0 2) none
-covers-none key value has = absurd has
+-- each filter has each key of no entries
+pub covers-none : (f : DefaultFilter) → Covers f none
+covers-none f key value has = absurd has
 
 -- the filter has the one key
 holds : HoldsKeys (filter 17180000256 2) ((1 ∷ []) ∷ [])
