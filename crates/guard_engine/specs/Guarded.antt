@@ -36,10 +36,6 @@ pub record Gains (old : Entries) (key value : List ℕ) (new : Entries) : Type 0
 abbrev pub Loses : Entries → List ℕ → Entries → Type 0
 Loses old key new = (k v : List ℕ) → new k v ↔ (old k v × ¬ (k ≡ key))
 
--- no key has two values
-abbrev pub IsSingle : Entries → Type 0
-IsSingle entries = (key one other : List ℕ) → entries key one → entries key other → one ≡ other
-
 -- these are the keys that have values
 abbrev pub Names : List (List ℕ) → Entries → Type 0
 Names keys entries =
