@@ -1,14 +1,21 @@
 mod AskingLemmas
 mod BatchLemmas
 mod CountLemmas
+mod CoverFacts
 mod EntryLemmas
 mod FoundLemmas
+mod GuardedFacts
+mod GuardingFacts
 mod KeyLemmas
 mod LoadLemmas
 mod LoadingLemmas
 mod OnDemandFacts
 pub mod OnDemandLemmas
 mod OpenLemmas
+mod PutCountFacts
+mod PutFacts
 mod PuttingLemmas
 mod ReadLemmas
+mod StoreCallFacts
+mod StoreFacts
 mod TallyLemmas
