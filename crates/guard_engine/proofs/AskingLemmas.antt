@@ -15,7 +15,7 @@ use Rattle.guard_engine.specs.declared.line.BadLine.{BadLine}
 use Rattle.guard_engine.specs.declared.line.BadLine.TheVariants.{NotText, TooLong}
 use Rattle.guard_engine.specs.Batches.{IsReading, ReadsLines}
 use Rattle.guard_engine.specs.Counted.{Tallies, TalliesAll, TalliesFirst, one_more}
-use Rattle.guard_engine.specs.Guarded.{Entries, Lacks, Stays, key_hash}
+use Rattle.guard_engine.specs.Guarded.{Lacks, Stays, key_hash}
 use Rattle.guard_engine.specs.Loaded.{IsBad, IsBadAt, IsKey}
 use Rattle.guard_engine.specs.Stores.{Sight}
 use Rattle.guard_engine.proofs.BatchLemmas.{Stays-same}

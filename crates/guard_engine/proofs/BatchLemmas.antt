@@ -30,7 +30,8 @@ pub puts-line : (line key value : List ℕ) (old new : Sight) (put : Put)
     → PutsLines (line ∷ []) old new (added_by put)
 puts-line line key value old new Added is did = record {
   batch = did.batch;
-  loads = Loads-added line old.has new.has is.tab (rw (← is.key_is, ← is.value_is) did.is_put.1);
+  loads = Loads-added line old.has new.has is.tab (rw (← is.key_is) did.is_put.0)
+      (rw (← is.key_is, ← is.value_is) did.is_put.1);
   gains = GainsMany-one key value old.has new.has did.is_put.0 did.is_put.1;
   same = λ none. absurd (omega (arith, none));
   kept = did.kept;

@@ -1,9 +1,9 @@
 -- Entries that stay, and what a batch of one put comes to.
-use Rattle.std.proofs.Common.{◌≡◌, inl, inr, ℕ, List, ◌∙◌}
+use Rattle.std.proofs.Common.{◌≡◌, ◌⊎◌, inl, inr, ℕ, List, Ok, Err, Result, IfOk, OnErr, sym, subst, ◌∙◌}
 use Rattle.bloom_plain.specs.Data.{DefaultFilter}
 use Rattle.guard_engine.specs.declared.guard.Put.{Put}
 use Rattle.guard_engine.specs.declared.guard.Put.TheVariants.{Added, Taken}
-use Rattle.guard_engine.specs.Guarded.{Covers, Entries, Stays}
+use Rattle.guard_engine.specs.Guarded.{Covers, Entries, Gains, IsSingle, Lacks, Stays}
 use Rattle.guard_engine.specs.Guarding.{AllCover, IsGuarding, PutsInBatch, Watches}
 use Rattle.guard_engine.specs.Puts.{IsPut, added_by}
 use Rattle.guard_engine.specs.Stores.{Begins, Commits, IsReady, Keeps, Sight, TakesBack}
@@ -43,6 +43,33 @@ IsPut-within key value old mid after new Taken before h later = (
   (h.0.0, (before key h.0.0).0 h.0.1),
   Stays-after old mid new before (Stays-after mid after new h.1 later),
 )
+
+-- where all stays, no key gets a second value
+pub single-stays : (old new : Entries) → Stays old new → IsSingle old → IsSingle new
+single-stays old new stays single key one other has also =
+    single key one other ((stays key one).0 has) ((stays key other).0 also)
+
+-- where a key gets a value that had none, no key gets a second one
+pub single-gains : (key value : List ℕ) (old new : Entries) → Lacks old key
+    → Gains old key value new → IsSingle old → IsSingle new
+single-gains key value old new lacks gains single k one other has also =
+    by_each (gains.others k one has) (gains.others k other also)
+  where
+    by_each : old k one ⊎ ((k ≡ key) × (one ≡ value)) → old k other ⊎ ((k ≡ key) × (other ≡ value))
+        → one ≡ other
+    by_each (inl was) (inl too) = single k one other was too
+    by_each (inl was) (inr new_one) =
+        absurd (lacks one (subst (λ x. old x one) new_one.0 was))
+    by_each (inr new_one) (inl too) =
+        absurd (lacks other (subst (λ x. old x other) new_one.0 too))
+    by_each (inr here) (inr there) = here.1 ∙ sym there.1
+
+-- an entry that was put, or an error that changed nothing, gives no key a second value
+pub put-single : {E : Type 0} (key value : List ℕ) (old new : Entries) (r : Result Put E)
+    → IfOk r (IsPut key value old new) → OnErr r (Stays old new) → IsSingle old → IsSingle new
+put-single key value old new (Ok Added) is err = single-gains key value old new is.0 is.1
+put-single key value old new (Ok Taken) is err = single-stays old new is.1
+put-single key value old new (Err e) is err = single-stays old new err
 
 -- ---- a batch of one put
 

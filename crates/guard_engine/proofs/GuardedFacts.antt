@@ -1,5 +1,5 @@
 -- What becomes of a store's entries: cases that hold, and near ones that don't.
-use Rattle.std.proofs.Common.{◌≡◌, ◌⊎◌, inl, inr, ℕ, zero, suc, List, [], ◌∷◌, Contains, refl, sym, arith}
+use Rattle.std.proofs.Common.{◌≡◌, ◌⊎◌, inl, inr, [], ◌∷◌, refl, sym, ◌∙◌, arith}
 use Rattle.guard_engine.specs.Guarded.{Entries, Gains, IsSingle, Lacks, Lists, Loses, Stays}
 
 -- no entry

@@ -2,6 +2,7 @@
 use Rattle.std.proofs.Common.{◌≡◌, ℕ, ◌⊎◌, inl, inr, List, [], ◌∷◌, ◌++◌, Option, Some, None, Bor, IfSome, length, length-append, refl, sym, ap, subst, arith, Contains}
 use Rattle.std.proofs.lemmas.List.Elements.{Contains-append_left, Contains-append_right, Contains-append_cases}
 use Rattle.std.proofs.lemmas.Str.Pattern.{IsSplitOnceResult, split_once_first}
+use Rattle.guard_engine.proofs.EntryLemmas.{single-gains, single-stays}
 use Rattle.guard_engine.specs.Guarded.{Entries, Gains, Lacks, Stays}
 use Rattle.guard_engine.specs.Loaded.{HasTab, IsEntryIn, Loads, key_in, value_in}
 
@@ -45,6 +46,7 @@ Loads-stays old new stays = record {
   others = λ key value has. inl ((stays key value).0 has);
   found = λ line in_none. absurd (omega (arith, in_none.1));
   first = λ before after line is. absurd (no_element before after line is);
+  once = single-stays old new stays;
 }
 
 -- no line was put where nothing happened
@@ -52,15 +54,16 @@ pub Loads-nil : (entries : Entries) → Loads [] entries entries
 Loads-nil entries = Loads-stays entries entries (λ key value. (λ had. had, λ had. had))
 
 -- a line was put where its entry came
-pub Loads-added : (line : List ℕ) (old new : Entries) → HasTab line
+pub Loads-added : (line : List ℕ) (old new : Entries) → HasTab line → Lacks old (key_in line)
     → Gains old (key_in line) (value_in line) new → Loads (line ∷ []) old new
-Loads-added line old new tab gains = record {
+Loads-added line old new tab lacked gains = record {
   kept = gains.kept;
   others = λ key value has. came key value (gains.others key value has);
   found = λ other there. subst (λ l. HasTab l × ((v : List ℕ) × new (key_in l) v))
       (sym (only line other there)) (tab, (value_in line, gains.here));
   first = λ before after other is fresh lacks. subst (λ l. new (key_in l) (value_in l))
       (sole line other before after is) gains.here;
+  once = single-gains (key_in line) (value_in line) old new lacked gains;
 }
   where
     came : (key value : List ℕ) → old key value ⊎ ((key ≡ key_in line) × (value ≡ value_in line))
@@ -80,6 +83,7 @@ Loads-taken line old new tab had stays = record {
   first = λ before after other is fresh lacks.
       let same = sole line other before after is in
       absurd (lacks had.0 (subst (λ l. old (key_in l) had.0) same had.1));
+  once = single-stays old new stays;
 }
 
 -- some lines were put, and then more
@@ -91,6 +95,7 @@ Loads-more lines more old mid new first after = record {
   found = λ line there. each line (Contains-append_cases lines more line there);
   first = λ before after line is fresh lacks.
       wins before after line fresh lacks (cut_at lines more before after line is);
+  once = λ single. after.once (first.once single);
 }
   where
     -- the line stands in the first part, or in the second

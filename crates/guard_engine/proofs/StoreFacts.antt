@@ -1,6 +1,6 @@
 -- How a batch of a store stands, and what a call that fails leaves: cases that hold, and ones that
 -- differ from one of these in one thing and don't hold.
-use Rattle.std.proofs.Common.{◌≡◌, inl, inr, ℕ, Bool, true, false, List, [], ◌∷◌, refl}
+use Rattle.std.proofs.Common.{inl, inr, true, false, [], ◌∷◌, refl}
 use Rattle.std.specs.Prelude.{⊤}
 use Rattle.guard_engine.specs.Guarded.{Entries}
 use Rattle.guard_engine.specs.Stores.{Fails, IsInBatch, IsReady, IsUnderWay, Keeps, Sight, TakesBack}

@@ -7,7 +7,7 @@ use Rattle.lines.specs.Reading.{IsReadFrom, IsReadWhole}
 use Rattle.guard_engine.specs.declared.line.BadLine.{BadLine}
 use Rattle.guard_engine.specs.declared.line.BadLine.TheVariants.{NoTab, NotText, TooLong}
 use Rattle.guard_engine.specs.declared.guard.loads.Loaded.{Loaded}
-use Rattle.guard_engine.specs.Guarded.{Entries, Lacks}
+use Rattle.guard_engine.specs.Guarded.{Entries, IsSingle, Lacks}
 
 -- a byte is the tab
 abbrev pub is_tab : ℕ → Bool
@@ -38,7 +38,8 @@ IsBad longest line NotText = ¬ IsUtf8 line
 IsBad longest line TooLong = longest < length line
 
 -- from old to new each of these lines was put: what was there stays, what came is the entry of a
--- line, the key of each line has a value, and where it had none it has that of its first line
+-- line, the key of each line has a value, and where it had none it has that of its first line. Where
+-- no key had two values, none has two
 pub record Loads (lines : List (List ℕ)) (old new : Entries) : Type 0 where
   pub kept : (key value : List ℕ) → old key value → new key value
   pub others : (key value : List ℕ) → new key value
@@ -48,6 +49,7 @@ pub record Loads (lines : List (List ℕ)) (old new : Entries) : Type 0 where
   pub first : (before after : List (List ℕ)) (line : List ℕ) → lines ≡ before ++ line ∷ after
       → ((other : List ℕ) → Contains before other → ¬ (key_in other ≡ key_in line))
       → Lacks old (key_in line) → new (key_in line) (value_in line)
+  pub once : IsSingle old → IsSingle new
 
 -- no two elements are the same
 abbrev pub AreDistinct : {X : Type 0} → List X → Type 0

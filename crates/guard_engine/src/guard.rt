@@ -97,7 +97,7 @@ impl<T: Store + Drop, K: Kept + Drop> Guard<T, K> {
     ghost use Rattle.bloom_plain.specs.Filter.{contains};
     ghost use Rattle.guard_engine.specs.Puts.{IsPut};
     ghost use Rattle.guard_engine.specs.Counted.{CountsPuts, one_more};
-    ghost use Rattle.guard_engine.specs.Guarded.{Lacks, Loses, Stays, key_hash};
+    ghost use Rattle.guard_engine.specs.Guarded.{IsSingle, Lacks, Loses, Stays, key_hash};
     ghost use Rattle.guard_engine.specs.Puts.{added_by, taken_by};
 
     /// What the look-ups so far came to.
@@ -152,6 +152,9 @@ impl<T: Store + Drop, K: Kept + Drop> Guard<T, K> {
             (IsPut key.now value.now (T.sight self.old.store).has (T.sight self.new.store).has) }
         ensures err { T.is_known self.new.store → K.is_known self.new.kept → OnErr result
             (Stays (T.sight self.old.store).has (T.sight self.new.store).has) }
+        // Where no key had two values, none has two afterwards, also after an error.
+        ensures once { T.is_known self.new.store → K.is_known self.new.kept
+            → IsSingle (T.sight self.old.store).has → IsSingle (T.sight self.new.store).has }
         ensures known { T.is_known self.new.store → T.is_known self.old.store }
         ensures kept_known { K.is_known self.new.kept → K.is_known self.old.kept }
         // The key is looked up once.
