@@ -1,13 +1,16 @@
 mod AskingLemmas
 mod BatchLemmas
 mod CountLemmas
+mod CountedFacts
 mod CoverFacts
 mod EntryLemmas
 mod FoundLemmas
+mod GainedFacts
 mod GuardedFacts
 mod GuardingFacts
 mod KeyLemmas
 mod LoadLemmas
+mod LoadedFacts
 mod LoadingLemmas
 pub mod OnDemandLemmas
 mod OpenLemmas
@@ -15,6 +18,7 @@ mod PutCountFacts
 mod PutFacts
 mod PuttingLemmas
 mod ReadLemmas
+mod StoppedFacts
 mod StoreCallFacts
 mod StoreFacts
 mod TallyLemmas
