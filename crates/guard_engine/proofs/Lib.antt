@@ -1,4 +1,6 @@
+mod AskLemmas
 mod AskingLemmas
+mod BadLineFacts
 mod BatchLemmas
 mod CountLemmas
 mod CountedFacts
@@ -11,11 +13,15 @@ mod GuardingFacts
 mod KeyLemmas
 mod LoadLemmas
 mod LoadedFacts
+mod LoadedLemmas
 mod LoadingLemmas
 pub mod OnDemandLemmas
 mod OpenLemmas
 mod PutCountFacts
+mod PutCountLemmas
 mod PutFacts
+mod PutLinesLemmas
+mod PutNextLemmas
 mod PuttingLemmas
 mod ReadLemmas
 mod StoppedFacts
