@@ -18,54 +18,11 @@ use Rattle.guard_engine.specs.Counted.{Tallies, TalliesAll, TalliesFirst, one_mo
 use Rattle.guard_engine.specs.Guarded.{Lacks, Stays, key_hash}
 use Rattle.guard_engine.specs.Loaded.{IsBad, IsBadAt, IsKey}
 use Rattle.guard_engine.specs.Stores.{Sight}
-use Rattle.guard_engine.proofs.BatchLemmas.{Stays-same}
+use Rattle.guard_engine.proofs.PutLinesLemmas.{Stays-same}
 use Rattle.guard_engine.proofs.EntryLemmas.{Stays-after}
 use Rattle.guard_engine.proofs.ReadLemmas.{IsBadAt-after, IsBadAt-long, IsBadAt-next, IsReadFrom-read, IsReadWhole-read, ReadsLines-end, ReadsLines-more, ReadsLines-new, ReadsLines-one, reading-new}
 use Rattle.guard_engine.proofs.TallyLemmas.{Tallies-more, Tallies-none}
-
--- a line that is too long is no key
-no_key-long : (line : List ℕ) → 1048576 < length line → ¬ IsKey 1048576 line
-no_key-long line long is = absurd (omega (arith, long, is.short))
-
--- half-way: these keys were looked up and counted, and the guard is as before
-pub record IsAsking {S L : Type 0} (sight : S → Sight) (is_known : S → Type 0)
-    (is_kept : L → Type 0) (from : Option (List ℕ)) (f : DefaultFilter) (old : S) (old_kept : L)
-    (start : Counts) (reader : Waiting) (rest : Option (List ℕ)) (last : DefaultFilter) (new : S)
-    (kept : L) (end : Counts) (number : ℕ) : Type 0 where
-  pub keys : List (List ℕ)
-  pub reads : ReadsLines from keys (left_of reader rest)
-  pub good : All (IsKey 1048576) keys
-  pub numbered : number ≡ length keys
-  pub tallies : Tallies f (is_known new × is_kept kept) (sight old).has keys start end
-  pub filter : last ≡ f
-  pub same_kept : kept ≡ old_kept
-  pub reading : IsReading reader rest
-  pub stays : is_known new → is_kept kept → Stays (sight old).has (sight new).has
-  pub known : is_known new → is_known old
-
--- before the first key
-pub asking-nil : {S L : Type 0} {sight : S → Sight} {is_known : S → Type 0}
-    {is_kept : L → Type 0} {f : DefaultFilter} {old : S} {old_kept : L} {start : Counts}
-    (reader : Waiting) (rest : Option (List ℕ)) → reader.bytes ≡ [] → reader.ended ≡ false
-    → reader.longest ≡ 1048576 → {told : Counts} → told ≡ start → told.spared < 2 ^ 64
-    → told.asked < 2 ^ 64 → told.false_alarms < 2 ^ 64
-    → IsAsking sight is_known is_kept rest f old old_kept start reader rest f old old_kept start 0
-asking-nil {sight = sight} {is_known = is_known} {is_kept = is_kept} {f = f} {old = old}
-    {old_kept = old_kept} {start = start} reader rest empty opened longest same spared asked alarms =
-    record {
-      keys = [];
-      reads = ReadsLines-new reader.bytes rest empty;
-      good = All-nil (IsKey 1048576);
-      numbered = refl;
-      tallies = Tallies-none f (is_known old × is_kept old_kept) (sight old).has start
-          (subst (λ c. c.spared < 2 ^ 64) same spared) (subst (λ c. c.asked < 2 ^ 64) same asked)
-          (subst (λ c. c.false_alarms < 2 ^ 64) same alarms);
-      filter = refl;
-      same_kept = refl;
-      reading = reading-new reader rest opened longest;
-      stays = λ known kept. Stays-same (sight old).has;
-      known = λ known. known;
-    }
+use Rattle.guard_engine.proofs.AskLemmas.{IsAsking, no_key-long}
 
 -- a look-up found a value, a false alarm, or was spared
 abbrev Came : Type 0 → Found → Found → Type 0

@@ -1,5 +1,5 @@
 use Rattle.std.proofs.Common.{rules, ◌≡◌, max, arith}
-use Rattle.guard_engine.proofs.LoadingLemmas.{first-none}
+use Rattle.guard_engine.proofs.LoadedLemmas.{first-none}
 use Rattle.guard_engine.proofs.guard.Guard.load.Goals as goal
 
 -- there was no memory for the reader

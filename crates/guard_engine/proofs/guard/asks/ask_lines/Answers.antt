@@ -1,4 +1,5 @@
-use Rattle.guard_engine.proofs.AskingLemmas.{asked-all, asking-more, asking-nil, bad-next, next-bad, next-long}
+use Rattle.guard_engine.proofs.AskLemmas.{asking-nil}
+use Rattle.guard_engine.proofs.AskingLemmas.{asked-all, asking-more, bad-next, next-bad, next-long}
 use Rattle.guard_engine.proofs.guard.asks.ask_lines.Goals as goal
 
 pub keys-init : goal.keys-init

@@ -1,4 +1,4 @@
-use Rattle.guard_engine.proofs.AskingLemmas.{IsAsking}
+use Rattle.guard_engine.proofs.AskLemmas.{IsAsking}
 use Rattle.guard_engine.proofs.guard.asks.ask_lines.Given as goal
 
 -- the keys so far were looked up and counted; filter and entries are as before

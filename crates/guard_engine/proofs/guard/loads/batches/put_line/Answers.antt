@@ -1,6 +1,6 @@
 use Rattle.std.proofs.Common.{◌≡◌, subst}
 use Rattle.guard_engine.specs.Loaded.{IsBad}
-use Rattle.guard_engine.proofs.BatchLemmas.{puts-line}
+use Rattle.guard_engine.proofs.PutLinesLemmas.{puts-line}
 use Rattle.guard_engine.proofs.guard.loads.batches.put_line.Goals as goal
 
 -- the line is bad as it is told

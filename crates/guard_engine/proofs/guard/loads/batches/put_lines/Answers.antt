@@ -1,5 +1,6 @@
 use Rattle.std.proofs.Common.{ap, Err, arith}
-use Rattle.guard_engine.proofs.PuttingLemmas.{bad-next, counts-more, next-bad, next-long, part-last, part-whole, putting-more, putting-nil}
+use Rattle.guard_engine.proofs.PutNextLemmas.{counts-more, next-bad, part-whole, putting-more}
+use Rattle.guard_engine.proofs.PuttingLemmas.{bad-next, next-long, part-last, putting-nil}
 use Rattle.guard_engine.proofs.guard.loads.batches.put_lines.Goals as goal
 
 pub lines-init : goal.lines-init

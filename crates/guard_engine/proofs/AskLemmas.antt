@@ -1,0 +1,68 @@
+-- Look-ups of the lines of a reader, as they begin.
+use Rattle.std.proofs.Common.{◌≡◌, ◌↔◌, ◌<◌, ◌≤◌, ◌+◌, ◌^◌, ℕ, false, List, [], ◌∷◌, ◌++◌, length, length-append, string_bytes, Option, Result, Ok, refl, sym, ap, subst, append-nil, arith, ◌∙◌}
+use Rattle.std.proofs.lemmas.List.Elements.{All-append, All-from_recursion, All-nil}
+use Rattle.std.specs.Prelude.{All, IsUtf8}
+use Rattle.bloom_plain.specs.Data.{DefaultFilter}
+use Rattle.bloom_plain.specs.Filter.{contains}
+use Rattle.lines.specs.Reading.{Ends, KnowsEnd, TakesLine, TakesLong, TakesShort, Waiting, left_of}
+use Rattle.guard_engine.specs.declared.counts.Counts.{Counts}
+use Rattle.guard_engine.specs.declared.guard.Found.{Found}
+use Rattle.guard_engine.specs.declared.guard.Found.TheVariants.{Spared, FalseAlarm, Value}
+use Rattle.guard_engine.specs.declared.guard.loads.Stop.{Stop}
+use Rattle.guard_engine.specs.declared.guard.loads.Why.{Why}
+use Rattle.guard_engine.specs.declared.guard.loads.Why.TheVariants.{Line}
+use Rattle.guard_engine.specs.declared.line.BadLine.{BadLine}
+use Rattle.guard_engine.specs.declared.line.BadLine.TheVariants.{NotText, TooLong}
+use Rattle.guard_engine.specs.Batches.{IsReading, ReadsLines}
+use Rattle.guard_engine.specs.Counted.{Tallies, TalliesAll, TalliesFirst, one_more}
+use Rattle.guard_engine.specs.Guarded.{Entries, Lacks, Stays, key_hash}
+use Rattle.guard_engine.specs.Loaded.{IsBad, IsBadAt, IsKey}
+use Rattle.guard_engine.specs.Stores.{Sight}
+use Rattle.guard_engine.proofs.PutLinesLemmas.{Stays-same}
+use Rattle.guard_engine.proofs.EntryLemmas.{Stays-after}
+use Rattle.guard_engine.proofs.ReadLemmas.{IsBadAt-after, IsBadAt-long, IsBadAt-next, IsReadFrom-read, IsReadWhole-read, ReadsLines-end, ReadsLines-more, ReadsLines-new, ReadsLines-one, reading-new}
+use Rattle.guard_engine.proofs.TallyLemmas.{Tallies-more, Tallies-none}
+
+-- a line that is too long is no key
+pub no_key-long : (line : List ℕ) → 1048576 < length line → ¬ IsKey 1048576 line
+no_key-long line long is = absurd (omega (arith, long, is.short))
+
+-- half-way: these keys were looked up and counted, and the guard is as before
+pub record IsAsking {S L : Type 0} (sight : S → Sight) (is_known : S → Type 0)
+    (is_kept : L → Type 0) (from : Option (List ℕ)) (f : DefaultFilter) (old : S) (old_kept : L)
+    (start : Counts) (reader : Waiting) (rest : Option (List ℕ)) (last : DefaultFilter) (new : S)
+    (kept : L) (end : Counts) (number : ℕ) : Type 0 where
+  pub keys : List (List ℕ)
+  pub reads : ReadsLines from keys (left_of reader rest)
+  pub good : All (IsKey 1048576) keys
+  pub numbered : number ≡ length keys
+  pub tallies : Tallies f (is_known new × is_kept kept) (sight old).has keys start end
+  pub filter : last ≡ f
+  pub same_kept : kept ≡ old_kept
+  pub reading : IsReading reader rest
+  pub stays : is_known new → is_kept kept → Stays (sight old).has (sight new).has
+  pub known : is_known new → is_known old
+
+-- before the first key
+pub asking-nil : {S L : Type 0} {sight : S → Sight} {is_known : S → Type 0}
+    {is_kept : L → Type 0} {f : DefaultFilter} {old : S} {old_kept : L} {start : Counts}
+    (reader : Waiting) (rest : Option (List ℕ)) → reader.bytes ≡ [] → reader.ended ≡ false
+    → reader.longest ≡ 1048576 → {told : Counts} → told ≡ start → told.spared < 2 ^ 64
+    → told.asked < 2 ^ 64 → told.false_alarms < 2 ^ 64
+    → IsAsking sight is_known is_kept rest f old old_kept start reader rest f old old_kept start 0
+asking-nil {sight = sight} {is_known = is_known} {is_kept = is_kept} {f = f} {old = old}
+    {old_kept = old_kept} {start = start} reader rest empty opened longest same spared asked alarms =
+    record {
+      keys = [];
+      reads = ReadsLines-new reader.bytes rest empty;
+      good = All-nil (IsKey 1048576);
+      numbered = refl;
+      tallies = Tallies-none f (is_known old × is_kept old_kept) (sight old).has start
+          (subst (λ c. c.spared < 2 ^ 64) same spared) (subst (λ c. c.asked < 2 ^ 64) same asked)
+          (subst (λ c. c.false_alarms < 2 ^ 64) same alarms);
+      filter = refl;
+      same_kept = refl;
+      reading = reading-new reader rest opened longest;
+      stays = λ known kept. Stays-same (sight old).has;
+      known = λ known. known;
+    }

@@ -1,0 +1,51 @@
+-- Puts that are counted, one after the other.
+use Rattle.std.proofs.Common.{◌≡◌, ℕ, ◌+◌, ◌-◌, ◌^◌, ◌<◌, ◌≤◌, true, false, List, [], ◌∷◌, ◌++◌, length, length-append, Option, refl, sym, ◌∙◌, ap, subst, append-nil, arith}
+use Rattle.std.proofs.lemmas.List.Elements.{All-append, All-from_recursion, All-nil}
+use Rattle.std.specs.Prelude.{IsUtf8}
+use Rattle.bloom_plain.specs.Data.{DefaultFilter}
+use Rattle.lines.specs.Reading.{Ends, KnowsEnd, TakesLine, TakesLong, TakesShort, Waiting, left_of}
+use Rattle.guard_engine.specs.declared.counts.Counts.{Counts}
+use Rattle.guard_engine.specs.declared.guard.Put.{Put}
+use Rattle.guard_engine.specs.declared.guard.Put.TheVariants.{Added, Taken}
+use Rattle.guard_engine.specs.declared.guard.loads.Loaded.{Loaded}
+use Rattle.guard_engine.specs.declared.guard.loads.Stop.{Stop}
+use Rattle.guard_engine.specs.declared.guard.loads.Why.{Why}
+use Rattle.guard_engine.specs.declared.guard.loads.Why.TheVariants.{Line}
+use Rattle.guard_engine.specs.declared.line.BadLine.{BadLine}
+use Rattle.guard_engine.specs.declared.line.BadLine.TheVariants.{NoTab, NotText, TooLong}
+use Rattle.guard_engine.specs.Batches.{IsReading, PutsLines, ReadsEntries, ReadsLines, ReadsPart}
+use Rattle.guard_engine.specs.Counted.{CountsPuts}
+use Rattle.guard_engine.specs.Guarding.{Watches}
+use Rattle.guard_engine.specs.Loaded.{HasEntry, HasTab, IsBad, IsBadAt}
+use Rattle.guard_engine.specs.Puts.{added_by, taken_by}
+use Rattle.guard_engine.specs.Stores.{IsInBatch, Sight}
+
+-- no put leaves the counts as they were
+pub CountsPuts-nil : (counts : Counts) → counts.spared < 2 ^ 64 → counts.asked < 2 ^ 64
+    → counts.false_alarms < 2 ^ 64 → CountsPuts counts 0 0 counts
+CountsPuts-nil counts spared asked alarms = record {
+  spared = 0;
+  alarms = 0;
+  both = refl;
+  new_spared = omega (arith, spared);
+  new_asked = omega (arith, asked);
+  new_alarms = omega (arith, alarms);
+}
+
+-- some puts were counted, and then more
+pub CountsPuts-more : (old mid new : Counts) (added taken more_added more_taken : ℕ)
+    → CountsPuts old added taken mid → CountsPuts mid more_added more_taken new
+    → CountsPuts old (added + more_added) (taken + more_taken) new
+CountsPuts-more old mid new added taken more_added more_taken first after = record {
+  spared = first.spared + after.spared;
+  alarms = first.alarms + after.alarms;
+  both = omega (arith, first.both, after.both);
+  new_spared = omega (arith, first.new_spared, after.new_spared);
+  new_asked = omega (arith, first.new_asked, after.new_asked);
+  new_alarms = omega (arith, first.new_alarms, after.new_alarms);
+}
+
+-- a put counts once
+pub by_one : (put : Put) → added_by put + taken_by put ≡ 1
+by_one Added = refl
+by_one Taken = refl
