@@ -1,6 +1,6 @@
 -- What a guard keeps true: cases that hold, and ones that differ from one of these in one thing and
 -- don't hold. A filter of the word 17180000256 and two hashes has the key 1, one of 131072 hasn't.
-use Rattle.std.proofs.Common.{◌≡◌, ◌⊎◌, inl, inr, [], ◌∷◌, refl, sym, subst}
+use Rattle.std.proofs.Common.{◌≡◌, ◌⊎◌, inr, [], ◌∷◌, refl, sym, subst}
 use Rattle.bloom_plain.specs.Data.{DefaultFilter}
 use Rattle.guard_engine.specs.declared.guard.Put.TheVariants.{Added, Taken}
 use Rattle.guard_engine.specs.Guarded.{Covers}

@@ -4,7 +4,9 @@ mod EntryLemmas
 mod FoundLemmas
 mod GuardedFacts
 mod GuardingFacts
+mod MadeFacts
 pub mod OnDemandLemmas
+mod NoFilterFacts
 mod OpenLemmas
 mod PutCountFacts
 mod PutFacts

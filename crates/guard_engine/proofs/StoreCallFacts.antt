@@ -1,6 +1,6 @@
 -- What the changes in a batch of a store come to: cases that hold, and ones that differ from one of
 -- these in one thing and don't hold.
-use Rattle.std.proofs.Common.{◌≡◌, [], ◌∷◌, refl}
+use Rattle.std.proofs.Common.{[], ◌∷◌}
 use Rattle.guard_engine.specs.Stores.{Adds, Begins, Commits, Removes}
 use Rattle.guard_engine.proofs.GuardedFacts.{beside, gains-beside, gains-nothing, loses, loses-more, loses-nothing, none, one, stays, stays-less, stays-more}
 use Rattle.guard_engine.proofs.StoreFacts.{in_batch, in_batch-without, ready, ready-open, ready-unsettled, with_batch, without_batch}

@@ -1,6 +1,6 @@
 -- How a batch of a store stands, and what a call that fails leaves: cases that hold, and ones that
 -- differ from one of these in one thing and don't hold.
-use Rattle.std.proofs.Common.{◌≡◌, inl, inr, ℕ, Bool, true, false, List, [], ◌∷◌, refl}
+use Rattle.std.proofs.Common.{inl, inr, true, false, [], ◌∷◌, refl}
 use Rattle.std.specs.Prelude.{⊤}
 use Rattle.guard_engine.specs.Guarded.{Entries}
 use Rattle.guard_engine.specs.Stores.{Fails, IsInBatch, IsReady, IsUnderWay, Keeps, Sight, TakesBack}
@@ -122,5 +122,6 @@ fails-committed (inr is) = takes_back-committed is
 
 -- a call that failed takes back no part of a batch
 fails-part : Fails (with_batch beside none) (with_batch one none) → ⊥
-fails-part (inl is) = let has = (is.has (3 ∷ []) (4 ∷ [])).1 (inr (refl, refl)) in let e = has.0 in cc
+fails-part (inl is) =
+    let has = (is.has (3 ∷ []) (4 ∷ [])).1 (inr (refl, refl)) in let same = has.0 in cc
 fails-part (inr is) = let e = is.ready.closed in cc
