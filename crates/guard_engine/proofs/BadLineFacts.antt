@@ -1,17 +1,13 @@
 -- Lines that are good or bad, and the first that is bad: cases that hold, and near ones that don't.
 -- Byte 9 is the tab, and byte 10 ends a line.
-use Rattle.std.proofs.Common.{◌≡◌, ◌<◌, ◌+◌, inl, inr, ℕ, true, List, [], ◌∷◌, ◌++◌, Option, Some, None, length, refl, sym, ◌∙◌, ap, subst, arith}
+use Rattle.std.proofs.Common.{◌≡◌, ◌+◌, ℕ, List, [], ◌∷◌, ◌++◌, Some, None, length, refl, sym, ◌∙◌, subst, arith}
 use Rattle.std.proofs.lemmas.List.Elements.{All-from_recursion}
 use lib.Utf8.{encode}
 use Rattle.std.specs.Prelude.{All, IsUtf8}
 use Rattle.lines.specs.Lines.{lines_of}
-use Rattle.guard_engine.specs.declared.guard.loads.Loaded.{Loaded}
 use Rattle.guard_engine.specs.declared.line.BadLine.TheVariants.{NoTab, NotText, TooLong}
-use Rattle.guard_engine.specs.Guarded.{Entries}
-use Rattle.guard_engine.specs.Loaded.{HasEntry, IsBad, IsBadAt, IsKey, Loads, LoadsAll, LoadsFirst}
-use Rattle.guard_engine.proofs.GainedFacts.{gains-none, gains-one}
-use Rattle.guard_engine.proofs.GuardedFacts.{none, one}
-use Rattle.guard_engine.proofs.LoadedFacts.{line, loads, tab, tab-none}
+use Rattle.guard_engine.specs.Loaded.{HasEntry, IsBad, IsBadAt, IsKey}
+use Rattle.guard_engine.proofs.LoadedFacts.{line, tab, tab-none}
 
 -- a line without a tab
 abbrev pub untabbed : List ℕ
@@ -76,7 +72,7 @@ bad-tab is = is.1 tab
 -- ---- the first line that is bad
 
 -- the second line is the first that is bad
-bad-second : IsBadAt HasEntry 1048576 (Some bytes) 2 NoTab
+pub bad-second : IsBadAt HasEntry 1048576 (Some bytes) 2 NoTab
 bad-second = record {
   before = line ∷ [];
   line = untabbed;
@@ -93,7 +89,7 @@ bad-unknown : IsBadAt HasEntry 1048576 None 7 NoTab
 bad-unknown = tt
 
 -- the first line isn't bad
-bad-first : IsBadAt HasEntry 1048576 (Some bytes) 1 NoTab → ⊥
+pub bad-first : IsBadAt HasEntry 1048576 (Some bytes) 1 NoTab → ⊥
 bad-first is = of is.before is.number_is (sym cut ∙ is.cut)
   where
     of : (before : List (List ℕ)) → 1 ≡ length before + 1
@@ -125,7 +121,7 @@ bad-reason : IsBadAt HasEntry 1048576 (Some bytes) 2 NotText → ⊥
 bad-reason is = (told HasEntry is).0 text-untabbed
 
 -- as a key the second line isn't bad
-bad-key : IsBadAt IsKey 1048576 (Some bytes) 2 NoTab → ⊥
+pub bad-key : IsBadAt IsKey 1048576 (Some bytes) 2 NoTab → ⊥
 bad-key is = (told IsKey is).1 is_key
 
 -- two lines without a tab

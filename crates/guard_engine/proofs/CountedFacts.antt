@@ -1,6 +1,6 @@
 -- How look-ups are counted, of three keys: the first has a value, the second isn't in the filter,
 -- and the third is, and has none. Cases that hold, and near ones that don't.
-use Rattle.std.proofs.Common.{◌≡◌, inl, inr, ℕ, List, [], ◌∷◌, Some, None, Option, length, refl, sym, ap, subst, ◌∙◌, arith}
+use Rattle.std.proofs.Common.{◌≡◌, inl, inr, ℕ, List, [], ◌∷◌, Some, Option, length, refl, sym, ap, subst, ◌∙◌, arith}
 use Rattle.bloom_parts.specs.Chain.{chain}
 use Rattle.bloom_parts.specs.Content.{content}
 use Rattle.bloom_parts.specs.Places.{are_in}
@@ -18,11 +18,11 @@ abbrev keys : List (List ℕ)
 keys = (1 ∷ []) ∷ (3 ∷ []) ∷ (2 ∷ []) ∷ []
 
 -- a filter of the keys 1 and 2
-abbrev both : DefaultFilter
+abbrev pub both : DefaultFilter
 both = filter 17213620224 2
 
 -- what look-ups came to, by three numbers
-abbrev counts : ℕ → ℕ → ℕ → Counts
+abbrev pub counts : ℕ → ℕ → ℕ → Counts
 counts spared asked false_alarms =
     record { spared = spared; asked = asked; false_alarms = false_alarms }
 
@@ -135,7 +135,7 @@ tallies-three is = absurd (omega (arith, is.false_alarms, is.at_most, many_asked
 -- ---- the lines of a reader
 
 -- the three keys, each on a line
-abbrev read : Option (List ℕ)
+abbrev pub read : Option (List ℕ)
 read = Some (1 ∷ 10 ∷ 3 ∷ 10 ∷ 2 ∷ 10 ∷ [])
 
 -- its lines
@@ -144,7 +144,7 @@ unfolding lines_of
 cut = refl
 
 -- all lines were looked up
-all : TalliesAll both (Unit {0}) one read (Some []) (counts 0 0 0) (counts 1 2 1)
+pub all : TalliesAll both (Unit {0}) one read (Some []) (counts 0 0 0) (counts 1 2 1)
 all = record {
   lines = keys;
   whole = record { are_lines = cut; none_left = refl };
@@ -156,7 +156,7 @@ all-left : TalliesAll both (Unit {0}) one read (Some (2 ∷ [])) (counts 0 0 0) 
 all-left is = let none = is.whole.none_left in cc
 
 -- not all lines were looked up where none is counted
-all-uncounted : TalliesAll both (Unit {0}) one read (Some []) (counts 0 0 0) (counts 0 0 0) → ⊥
+pub all-uncounted : TalliesAll both (Unit {0}) one read (Some []) (counts 0 0 0) (counts 0 0 0) → ⊥
 all-uncounted is =
     let same : is.lines ≡ keys = sym is.whole.are_lines ∙ cut in
     tallies-nothing

@@ -1,3 +1,4 @@
+mod AnswerFacts
 mod AskLemmas
 mod AskingLemmas
 mod BadLineFacts
@@ -15,6 +16,8 @@ mod LoadLemmas
 mod LoadedFacts
 mod LoadedLemmas
 mod LoadingLemmas
+mod MadeFacts
+mod NoFilterFacts
 mod OnDemandFacts
 pub mod OnDemandLemmas
 mod OpenLemmas
@@ -29,3 +32,4 @@ mod StoppedFacts
 mod StoreCallFacts
 mod StoreFacts
 mod TallyLemmas
+mod TaskFacts

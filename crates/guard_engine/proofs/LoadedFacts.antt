@@ -58,11 +58,21 @@ entry-untabbed is = tab-none is.tab
 
 -- the line was put where its entry came
 pub loads : Loads (line ∷ []) none one
-loads = Loads-added line none one tab (record {
+loads = Loads-added line none one tab (λ value had. had) (record {
   here = (refl, refl);
   kept = λ k v had. absurd had;
   others = λ k v has. inr has;
 })
+
+-- the key 1 with the values 2 and 3
+abbrev both : Entries
+both key value = (key ≡ 1 ∷ []) × ((value ≡ 2 ∷ []) ⊎ (value ≡ 3 ∷ []))
+
+-- a key gets no second value
+loads-twice : Loads (line ∷ (1 ∷ 9 ∷ 3 ∷ []) ∷ []) none both → ⊥
+loads-twice is =
+    let same = is.once (λ key value other had. absurd had) (1 ∷ []) (2 ∷ []) (3 ∷ [])
+    (refl, inl refl) (refl, inr refl) in cc
 
 -- the line wasn't put where nothing came
 loads-nothing : Loads (line ∷ []) none none → ⊥

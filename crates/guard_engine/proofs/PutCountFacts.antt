@@ -5,7 +5,7 @@ use Rattle.guard_engine.specs.declared.counts.Counts.{Counts}
 use Rattle.guard_engine.specs.Counted.{CountsPuts, more_by, one_more}
 
 -- what look-ups came to, by three numbers
-abbrev counts : ℕ → ℕ → ℕ → Counts
+abbrev pub counts : ℕ → ℕ → ℕ → Counts
 counts spared asked false_alarms =
     record { spared = spared; asked = asked; false_alarms = false_alarms }
 
@@ -34,7 +34,7 @@ one_more-most : one_more (2 ^ 64 - 1) ≡ 2 ^ 64 - 1
 one_more-most = refl
 
 -- of three puts one was spared and added, one was a false alarm and added, and one was taken
-counts_puts : CountsPuts (counts 5 6 7) 2 1 (counts 6 8 8)
+pub counts_puts : CountsPuts (counts 5 6 7) 2 1 (counts 6 8 8)
 counts_puts = record {
   spared = 1;
   alarms = 1;
@@ -95,7 +95,7 @@ counts_puts-taken_alarm : CountsPuts (counts 0 0 0) 0 1 (counts 0 1 1) → ⊥
 counts_puts-taken_alarm is = absurd (omega (arith, is.both, is.new_alarms))
 
 -- a key is looked up once
-counts_puts-twice : CountsPuts (counts 0 0 0) 1 0 (counts 2 0 0) → ⊥
+pub counts_puts-twice : CountsPuts (counts 0 0 0) 1 0 (counts 2 0 0) → ⊥
 counts_puts-twice is = absurd (omega (arith, is.both, is.new_spared))
 
 counts_puts-taken_twice : CountsPuts (counts 0 0 0) 0 1 (counts 0 2 0) → ⊥

@@ -6,7 +6,7 @@ use Rattle.guard_engine.specs.Puts.{IsPut, added_by, taken_by}
 use Rattle.guard_engine.proofs.GuardedFacts.{each, gains, gains-two, none, one, stays, stays-less}
 
 -- an entry that came, at a key that had no value, was added
-put-added : IsPut (1 ∷ []) (2 ∷ []) none one Added
+pub put-added : IsPut (1 ∷ []) (2 ∷ []) none one Added
 put-added = (λ value had. had, gains)
 
 -- where nothing came no entry was added
@@ -30,7 +30,7 @@ put-free : IsPut (3 ∷ []) (2 ∷ []) one one Taken → ⊥
 put-free is = let same = is.0.1.0 in cc
 
 -- where the entry came the key wasn't taken
-put-both : IsPut (1 ∷ []) (2 ∷ []) none one Taken → ⊥
+pub put-both : IsPut (1 ∷ []) (2 ∷ []) none one Taken → ⊥
 put-both is = is.0.1
 
 -- a key that is taken gets no other value

@@ -1,23 +1,18 @@
 -- What a load leaves that ends, or stops: cases that hold, and near ones that don't. Byte 9 is the
 -- tab, and byte 10 ends a line.
-use Rattle.std.proofs.Common.{◌≡◌, ◌<◌, ◌+◌, inl, inr, ℕ, true, List, [], ◌∷◌, ◌++◌, Option, Some, None, length, refl, sym, ◌∙◌, ap, subst, arith}
-use Rattle.std.proofs.lemmas.List.Elements.{All-from_recursion}
-use lib.Utf8.{encode}
-use Rattle.std.specs.Prelude.{All, IsUtf8}
+use Rattle.std.proofs.Common.{◌≡◌, inl, inr, ℕ, List, [], ◌∷◌, Some, length, refl, sym, ◌∙◌, ap, subst, arith}
 use Rattle.lines.specs.Lines.{lines_of}
 use Rattle.guard_engine.specs.declared.guard.loads.Loaded.{Loaded}
-use Rattle.guard_engine.specs.declared.line.BadLine.TheVariants.{NoTab, NotText, TooLong}
-use Rattle.guard_engine.specs.Guarded.{Entries}
-use Rattle.guard_engine.specs.Loaded.{HasEntry, IsBad, IsBadAt, IsKey, Loads, LoadsAll, LoadsFirst}
+use Rattle.guard_engine.specs.Loaded.{Loads, LoadsAll, LoadsFirst}
 use Rattle.guard_engine.proofs.GainedFacts.{gains-none, gains-one}
 use Rattle.guard_engine.proofs.GuardedFacts.{none, one}
-use Rattle.guard_engine.proofs.LoadedFacts.{line, loads, tab, tab-none}
+use Rattle.guard_engine.proofs.LoadedFacts.{line, loads}
 use Rattle.guard_engine.proofs.BadLineFacts.{bytes, cut, untabbed}
 
 -- ---- what a load leaves that stops
 
 -- at the second line the first was put, in a batch of one line
-stops : LoadsFirst (Some bytes) 1 none one 1 2
+pub stops : LoadsFirst (Some bytes) 1 none one 1 2
 stops = record {
   lines = line ∷ [];
   first = record { later = untabbed ∷ []; cut = cut };
@@ -34,7 +29,7 @@ stops-part : LoadsFirst (Some bytes) 2 none one 1 2 → ⊥
 stops-part is = absurd (omega (arith, is.whole))
 
 -- a line that is done was put
-stops-nothing : LoadsFirst (Some bytes) 1 none none 1 2 → ⊥
+pub stops-nothing : LoadsFirst (Some bytes) 1 none none 1 2 → ⊥
 stops-nothing is = of is.lines is.counted is.loads
   where
     of : (lines : List (List ℕ)) → 1 ≡ length lines → Loads lines none none → ⊥
@@ -63,7 +58,7 @@ stops-done is = absurd (omega (arith, is.before))
 -- ---- what a load of all lines comes to
 
 -- how many were added and taken
-abbrev counted : ℕ → ℕ → Loaded
+abbrev pub counted : ℕ → ℕ → Loaded
 counted added taken = record { added = added; taken = taken }
 
 -- one line, with its end
@@ -72,7 +67,7 @@ unfolding lines_of
 one_line = refl
 
 -- the line was put, and counts as added
-all : LoadsAll (Some (1 ∷ 9 ∷ 2 ∷ 10 ∷ [])) (Some []) none one (counted 1 0)
+pub all : LoadsAll (Some (1 ∷ 9 ∷ 2 ∷ 10 ∷ [])) (Some []) none one (counted 1 0)
 all = record {
   lines = line ∷ [];
   whole = record { are_lines = one_line; none_left = refl };
@@ -96,7 +91,7 @@ all-taken : LoadsAll (Some (1 ∷ 9 ∷ 2 ∷ 10 ∷ [])) (Some []) none one (co
 all-taken is = gains-none is.gains
 
 -- a line isn't put where no entry came
-all-nothing : LoadsAll (Some (1 ∷ 9 ∷ 2 ∷ 10 ∷ [])) (Some []) none none (counted 1 0) → ⊥
+pub all-nothing : LoadsAll (Some (1 ∷ 9 ∷ 2 ∷ 10 ∷ [])) (Some []) none none (counted 1 0) → ⊥
 all-nothing is =
     let same : is.lines ≡ line ∷ [] = sym is.whole.are_lines ∙ one_line in
     ((subst (λ l. Loads l none none) same is.loads).found line (0, omega arith, refl)).1.1

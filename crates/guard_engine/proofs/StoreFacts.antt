@@ -122,5 +122,6 @@ fails-committed (inr is) = takes_back-committed is
 
 -- a call that failed takes back no part of a batch
 fails-part : Fails (with_batch beside none) (with_batch one none) → ⊥
-fails-part (inl is) = let has = (is.has (3 ∷ []) (4 ∷ [])).1 (inr (refl, refl)) in let e = has.0 in cc
+fails-part (inl is) =
+    let has = (is.has (3 ∷ []) (4 ∷ [])).1 (inr (refl, refl)) in let same = has.0 in cc
 fails-part (inr is) = let e = is.ready.closed in cc

@@ -1,5 +1,5 @@
 //! The guard: a store, and a filter that has each of its keys.
-ghost use Rattle.std.specs.Prelude.{◌≡◌, ◌↔◌, false, string_bytes, Ok, IfOk, OnOk, OnErr, IsTrue};
+ghost use Rattle.std.specs.Prelude.{◌≡◌, ◌↔◌, false, true, string_bytes, Ok, IfOk, OnOk, OnErr, IsTrue};
 
 mod asks;
 mod loads;
@@ -185,6 +185,18 @@ impl<T: Store + Drop, K: Kept + Drop> Guard<T, K> {
         ensures filter { self.new.filter ≡ self.old.filter }
         ensures kept { self.new.kept ≡ self.old.kept }
         ensures known { T.is_known self.new.store → T.is_known self.old.store }
+        // The key is looked up once.
+        ensures count_spared { contains self.old.filter (key_hash key.now) ≡ false
+            → self.new.counts
+            ≡ record self.old.counts { spared = one_more self.old.counts.spared } }
+        ensures count_alarm { result ≡ Ok false
+            → contains self.old.filter (key_hash key.now) ≡ true → self.new.counts
+            ≡ record self.old.counts {
+              asked = one_more self.old.counts.asked;
+              false_alarms = one_more self.old.counts.false_alarms;
+            } }
+        ensures count_value { result ≡ Ok true → self.new.counts
+            ≡ record self.old.counts { asked = one_more self.old.counts.asked } }
     {
         match self.get(key)? {
             Found::Spared => Ok(false),

@@ -102,6 +102,9 @@ impl<T: Store + Drop, K: Kept + Drop> Guard<T, K> {
         ensures untouched { IfOk result (λ it. it.1 ≡ Origin.Kept → it.0.store ≡ store) }
         ensures made { IfOk result (λ it. it.1 ≢ Origin.Kept → T.is_known it.0.store
             → IsMadeOf rate room (T.sight store).has it.0.filter) }
+        // Nothing is saved.
+        ensures unsaved { IfOk result (λ it. K.is_known it.0.kept
+            → (other : _) → K.may_have it.0.kept other → K.may_have kept other) }
         ensures refused { (error : FilterError) → result ≡ Err (Refusal.Filter error)
             → LacksFilter rate room T.is_known (T.sight store).has error }
     {
