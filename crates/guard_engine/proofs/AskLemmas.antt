@@ -1,27 +1,18 @@
 -- Look-ups of the lines of a reader, as they begin.
-use Rattle.std.proofs.Common.{◌≡◌, ◌↔◌, ◌<◌, ◌≤◌, ◌+◌, ◌^◌, ℕ, false, List, [], ◌∷◌, ◌++◌, length, length-append, string_bytes, Option, Result, Ok, refl, sym, ap, subst, append-nil, arith, ◌∙◌}
-use Rattle.std.proofs.lemmas.List.Elements.{All-append, All-from_recursion, All-nil}
-use Rattle.std.specs.Prelude.{All, IsUtf8}
+use Rattle.std.proofs.Common.{◌≡◌, ◌<◌, ◌^◌, ℕ, false, List, [], length, Option, refl, subst, arith}
+use Rattle.std.proofs.lemmas.List.Elements.{All-nil}
+use Rattle.std.specs.Prelude.{All}
 use Rattle.bloom_plain.specs.Data.{DefaultFilter}
-use Rattle.bloom_plain.specs.Filter.{contains}
-use Rattle.lines.specs.Reading.{Ends, KnowsEnd, TakesLine, TakesLong, TakesShort, Waiting, left_of}
+use Rattle.lines.specs.Reading.{Waiting, left_of}
 use Rattle.guard_engine.specs.declared.counts.Counts.{Counts}
-use Rattle.guard_engine.specs.declared.guard.Found.{Found}
-use Rattle.guard_engine.specs.declared.guard.Found.TheVariants.{Spared, FalseAlarm, Value}
-use Rattle.guard_engine.specs.declared.guard.loads.Stop.{Stop}
-use Rattle.guard_engine.specs.declared.guard.loads.Why.{Why}
-use Rattle.guard_engine.specs.declared.guard.loads.Why.TheVariants.{Line}
-use Rattle.guard_engine.specs.declared.line.BadLine.{BadLine}
-use Rattle.guard_engine.specs.declared.line.BadLine.TheVariants.{NotText, TooLong}
 use Rattle.guard_engine.specs.Batches.{IsReading, ReadsLines}
-use Rattle.guard_engine.specs.Counted.{Tallies, TalliesAll, TalliesFirst, one_more}
-use Rattle.guard_engine.specs.Guarded.{Entries, Lacks, Stays, key_hash}
-use Rattle.guard_engine.specs.Loaded.{IsBad, IsBadAt, IsKey}
+use Rattle.guard_engine.specs.Counted.{Tallies}
+use Rattle.guard_engine.specs.Guarded.{Stays}
+use Rattle.guard_engine.specs.Loaded.{IsKey}
 use Rattle.guard_engine.specs.Stores.{Sight}
 use Rattle.guard_engine.proofs.PutLinesLemmas.{Stays-same}
-use Rattle.guard_engine.proofs.EntryLemmas.{Stays-after}
-use Rattle.guard_engine.proofs.ReadLemmas.{IsBadAt-after, IsBadAt-long, IsBadAt-next, IsReadFrom-read, IsReadWhole-read, ReadsLines-end, ReadsLines-more, ReadsLines-new, ReadsLines-one, reading-new}
-use Rattle.guard_engine.proofs.TallyLemmas.{Tallies-more, Tallies-none}
+use Rattle.guard_engine.proofs.ReadLemmas.{ReadsLines-new, reading-new}
+use Rattle.guard_engine.proofs.TallyLemmas.{Tallies-none}
 
 -- a line that is too long is no key
 pub no_key-long : (line : List ℕ) → 1048576 < length line → ¬ IsKey 1048576 line

@@ -1,7 +1,7 @@
 -- Look-ups of the lines of a reader, half-way and at their end.
-use Rattle.std.proofs.Common.{◌≡◌, ◌↔◌, ◌<◌, ◌≤◌, ◌+◌, ◌^◌, ℕ, false, List, [], ◌∷◌, ◌++◌, length, length-append, string_bytes, Option, Result, Ok, refl, sym, ap, subst, append-nil, arith, ◌∙◌}
-use Rattle.std.proofs.lemmas.List.Elements.{All-append, All-from_recursion, All-nil}
-use Rattle.std.specs.Prelude.{All, IsUtf8}
+use Rattle.std.proofs.Common.{◌≡◌, ◌↔◌, ◌≤◌, ◌+◌, ℕ, false, List, [], ◌∷◌, ◌++◌, length, length-append, string_bytes, Option, Result, Ok, sym, ap, subst, append-nil, arith, ◌∙◌}
+use Rattle.std.proofs.lemmas.List.Elements.{All-append, All-from_recursion}
+use Rattle.std.specs.Prelude.{IsUtf8}
 use Rattle.bloom_plain.specs.Data.{DefaultFilter}
 use Rattle.bloom_plain.specs.Filter.{contains}
 use Rattle.lines.specs.Reading.{Ends, KnowsEnd, TakesLine, TakesLong, TakesShort, Waiting, left_of}
@@ -13,15 +13,14 @@ use Rattle.guard_engine.specs.declared.guard.loads.Why.{Why}
 use Rattle.guard_engine.specs.declared.guard.loads.Why.TheVariants.{Line}
 use Rattle.guard_engine.specs.declared.line.BadLine.{BadLine}
 use Rattle.guard_engine.specs.declared.line.BadLine.TheVariants.{NotText, TooLong}
-use Rattle.guard_engine.specs.Batches.{IsReading, ReadsLines}
-use Rattle.guard_engine.specs.Counted.{Tallies, TalliesAll, TalliesFirst, one_more}
-use Rattle.guard_engine.specs.Guarded.{Entries, Lacks, Stays, key_hash}
+use Rattle.guard_engine.specs.Batches.{ReadsLines}
+use Rattle.guard_engine.specs.Counted.{TalliesAll, TalliesFirst, one_more}
+use Rattle.guard_engine.specs.Guarded.{Lacks, Stays, key_hash}
 use Rattle.guard_engine.specs.Loaded.{IsBad, IsBadAt, IsKey}
 use Rattle.guard_engine.specs.Stores.{Sight}
-use Rattle.guard_engine.proofs.PutLinesLemmas.{Stays-same}
 use Rattle.guard_engine.proofs.EntryLemmas.{Stays-after}
-use Rattle.guard_engine.proofs.ReadLemmas.{IsBadAt-after, IsBadAt-long, IsBadAt-next, IsReadFrom-read, IsReadWhole-read, ReadsLines-end, ReadsLines-more, ReadsLines-new, ReadsLines-one, reading-new}
-use Rattle.guard_engine.proofs.TallyLemmas.{Tallies-more, Tallies-none}
+use Rattle.guard_engine.proofs.ReadLemmas.{IsBadAt-after, IsBadAt-long, IsBadAt-next, IsReadFrom-read, IsReadWhole-read, ReadsLines-end, ReadsLines-more, ReadsLines-one}
+use Rattle.guard_engine.proofs.TallyLemmas.{Tallies-more}
 use Rattle.guard_engine.proofs.AskLemmas.{IsAsking, no_key-long}
 
 -- a look-up found a value, a false alarm, or was spared

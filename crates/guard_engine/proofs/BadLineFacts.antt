@@ -1,17 +1,13 @@
 -- Lines that are good or bad, and the first that is bad: cases that hold, and near ones that don't.
 -- Byte 9 is the tab, and byte 10 ends a line.
-use Rattle.std.proofs.Common.{◌≡◌, ◌<◌, ◌+◌, inl, inr, ℕ, true, List, [], ◌∷◌, ◌++◌, Option, Some, None, length, refl, sym, ◌∙◌, ap, subst, arith}
+use Rattle.std.proofs.Common.{◌≡◌, ◌+◌, ℕ, List, [], ◌∷◌, ◌++◌, Some, None, length, refl, sym, ◌∙◌, subst, arith}
 use Rattle.std.proofs.lemmas.List.Elements.{All-from_recursion}
 use lib.Utf8.{encode}
 use Rattle.std.specs.Prelude.{All, IsUtf8}
 use Rattle.lines.specs.Lines.{lines_of}
-use Rattle.guard_engine.specs.declared.guard.loads.Loaded.{Loaded}
 use Rattle.guard_engine.specs.declared.line.BadLine.TheVariants.{NoTab, NotText, TooLong}
-use Rattle.guard_engine.specs.Guarded.{Entries}
-use Rattle.guard_engine.specs.Loaded.{HasEntry, IsBad, IsBadAt, IsKey, Loads, LoadsAll, LoadsFirst}
-use Rattle.guard_engine.proofs.GainedFacts.{gains-none, gains-one}
-use Rattle.guard_engine.proofs.GuardedFacts.{none, one}
-use Rattle.guard_engine.proofs.LoadedFacts.{line, loads, tab, tab-none}
+use Rattle.guard_engine.specs.Loaded.{HasEntry, IsBad, IsBadAt, IsKey}
+use Rattle.guard_engine.proofs.LoadedFacts.{line, tab, tab-none}
 
 -- a line without a tab
 abbrev pub untabbed : List ℕ

@@ -1,18 +1,14 @@
 -- A batch of lines, from its begin to its end.
-use Rattle.std.proofs.Common.{◌≡◌, ℕ, ◌+◌, List, [], ◌∷◌, ◌++◌, Option, inl, inr, ◌∙◌, subst, append-nil, arith}
+use Rattle.std.proofs.Common.{◌≡◌, ℕ, List, [], Option, inl, inr, subst, append-nil}
 use Rattle.bloom_plain.specs.Data.{DefaultFilter}
-use Rattle.guard_engine.specs.declared.guard.Put.{Put}
-use Rattle.guard_engine.specs.declared.guard.Put.TheVariants.{Added, Taken}
 use Rattle.guard_engine.specs.declared.guard.loads.batches.Part.{Part}
-use Rattle.guard_engine.specs.Batches.{Breaks, LoadsMany, PutsLines, ReadsPart}
+use Rattle.guard_engine.specs.Batches.{LoadsMany, PutsLines, ReadsPart}
 use Rattle.guard_engine.specs.Guarded.{Entries, Stays}
-use Rattle.guard_engine.specs.Guarding.{AllCover, IsGuarding, PutsInBatch, Watches}
-use Rattle.guard_engine.specs.Loaded.{GainsMany, IsEntryIn, Loads}
-use Rattle.guard_engine.specs.Puts.{added_by}
-use Rattle.guard_engine.specs.Stores.{Begins, Commits, Fails, IsInBatch, IsReady, Sight, TakesBack}
+use Rattle.guard_engine.specs.Guarding.{AllCover, IsGuarding, Watches}
+use Rattle.guard_engine.specs.Loaded.{GainsMany, Loads}
+use Rattle.guard_engine.specs.Stores.{Begins, Commits, IsReady, Sight, TakesBack}
 use Rattle.guard_engine.proofs.EntryLemmas.{Covers-stays, Stays-after, Stays-back}
-use Rattle.guard_engine.proofs.KeyLemmas.{GainsMany-more, GainsMany-none, GainsMany-one}
-use Rattle.guard_engine.proofs.LoadLemmas.{Loads-added, Loads-more, Loads-nil, Loads-stays, Loads-taken}
+use Rattle.guard_engine.proofs.LoadLemmas.{Loads-more, Loads-stays}
 
 -- each filter that covered the entries covers them where they stay
 pub AllCover-stays : (may_have : DefaultFilter → Type 0) (old new : Entries)

@@ -1,6 +1,6 @@
 -- How look-ups are counted, of three keys: the first has a value, the second isn't in the filter,
 -- and the third is, and has none. Cases that hold, and near ones that don't.
-use Rattle.std.proofs.Common.{◌≡◌, inl, inr, ℕ, List, [], ◌∷◌, Some, None, Option, length, refl, sym, ap, subst, ◌∙◌, arith}
+use Rattle.std.proofs.Common.{◌≡◌, inl, inr, ℕ, List, [], ◌∷◌, Some, Option, length, refl, sym, ap, subst, ◌∙◌, arith}
 use Rattle.bloom_parts.specs.Chain.{chain}
 use Rattle.bloom_parts.specs.Content.{content}
 use Rattle.bloom_parts.specs.Places.{are_in}

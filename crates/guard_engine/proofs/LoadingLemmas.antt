@@ -1,25 +1,20 @@
 -- Loads of batches, half-way, at their end, and at an error.
-use Rattle.std.proofs.Common.{◌≡◌, ℕ, ◌+◌, ◌-◌, ◌*◌, ◌^◌, ◌<◌, max, true, false, List, [], ◌++◌, length, length-append, Option, refl, sym, ◌∙◌, ap, subst, append-nil, arith}
+use Rattle.std.proofs.Common.{◌≡◌, ℕ, ◌+◌, ◌-◌, ◌*◌, ◌^◌, ◌<◌, true, false, List, [], ◌++◌, length, length-append, Option, refl, sym, ◌∙◌, subst, arith}
 use Rattle.std.proofs.lemmas.List.Elements.{All-append, All-nil}
 use Rattle.bloom_plain.specs.Data.{DefaultFilter}
 use Rattle.lines.specs.Reading.{Waiting, left_of}
 use Rattle.guard_engine.specs.declared.counts.Counts.{Counts}
 use Rattle.guard_engine.specs.declared.guard.loads.Loaded.{Loaded}
-use Rattle.guard_engine.specs.declared.guard.loads.Stop.{Stop}
-use Rattle.guard_engine.specs.declared.guard.loads.Why.{Why}
 use Rattle.guard_engine.specs.declared.guard.loads.batches.Part.{Part}
 use Rattle.guard_engine.specs.declared.line.BadLine.{BadLine}
 use Rattle.guard_engine.specs.Batches.{IsReading, IsWithin, LoadsMany, ReadsEntries, ReadsPart}
 use Rattle.guard_engine.specs.Counted.{CountsPuts}
-use Rattle.guard_engine.specs.Guarded.{Entries, Stays}
+use Rattle.guard_engine.specs.Guarded.{Stays}
 use Rattle.guard_engine.specs.Guarding.{IsGuarding}
-use Rattle.guard_engine.specs.Loaded.{HasEntry, IsBadAt, Loads, LoadsAll, LoadsFirst}
+use Rattle.guard_engine.specs.Loaded.{HasEntry, IsBadAt, LoadsAll, LoadsFirst}
 use Rattle.guard_engine.specs.Stores.{Sight}
-use Rattle.guard_engine.proofs.PutLinesLemmas.{Stays-same}
-use Rattle.guard_engine.proofs.KeyLemmas.{GainsMany-more, GainsMany-none}
-use Rattle.guard_engine.proofs.LoadLemmas.{Loads-more, Loads-nil, Loads-stays}
 use Rattle.guard_engine.proofs.PutCountLemmas.{CountsPuts-more, CountsPuts-nil}
-use Rattle.guard_engine.proofs.ReadLemmas.{IsBadAt-after, IsReadFrom-read, IsReadWhole-read, ReadsLines-more, ReadsLines-new, ReadsLines-nil, reading-new}
+use Rattle.guard_engine.proofs.ReadLemmas.{IsBadAt-after, IsReadFrom-read, IsReadWhole-read, ReadsLines-more, ReadsLines-new, reading-new}
 use Rattle.guard_engine.proofs.LoadedLemmas.{LoadsMany-more, LoadsMany-nil, Loads-kept}
 
 -- half-way through a load: these lines were read and put, in whole batches, and each counts once

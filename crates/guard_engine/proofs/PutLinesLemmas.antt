@@ -1,18 +1,16 @@
 -- Lines that are put in an open batch, and errors within it.
-use Rattle.std.proofs.Common.{◌≡◌, ℕ, ◌+◌, List, [], ◌∷◌, ◌++◌, Option, inl, inr, ◌∙◌, subst, append-nil, arith}
-use Rattle.bloom_plain.specs.Data.{DefaultFilter}
+use Rattle.std.proofs.Common.{ℕ, ◌+◌, List, [], ◌∷◌, ◌++◌, inl, inr, ◌∙◌, arith}
 use Rattle.guard_engine.specs.declared.guard.Put.{Put}
 use Rattle.guard_engine.specs.declared.guard.Put.TheVariants.{Added, Taken}
-use Rattle.guard_engine.specs.declared.guard.loads.batches.Part.{Part}
-use Rattle.guard_engine.specs.Batches.{Breaks, LoadsMany, PutsLines, ReadsPart}
+use Rattle.guard_engine.specs.Batches.{Breaks, PutsLines}
 use Rattle.guard_engine.specs.Guarded.{Entries, Stays}
-use Rattle.guard_engine.specs.Guarding.{AllCover, IsGuarding, PutsInBatch, Watches}
-use Rattle.guard_engine.specs.Loaded.{GainsMany, IsEntryIn, Loads}
+use Rattle.guard_engine.specs.Guarding.{PutsInBatch}
+use Rattle.guard_engine.specs.Loaded.{IsEntryIn}
 use Rattle.guard_engine.specs.Puts.{added_by}
-use Rattle.guard_engine.specs.Stores.{Begins, Commits, Fails, IsInBatch, IsReady, Sight, TakesBack}
-use Rattle.guard_engine.proofs.EntryLemmas.{Covers-stays, Stays-after, Stays-back}
+use Rattle.guard_engine.specs.Stores.{Fails, IsInBatch, Sight}
+use Rattle.guard_engine.proofs.EntryLemmas.{Stays-after}
 use Rattle.guard_engine.proofs.KeyLemmas.{GainsMany-more, GainsMany-none, GainsMany-one}
-use Rattle.guard_engine.proofs.LoadLemmas.{Loads-added, Loads-more, Loads-nil, Loads-stays, Loads-taken}
+use Rattle.guard_engine.proofs.LoadLemmas.{Loads-added, Loads-more, Loads-nil, Loads-taken}
 
 -- all stays where nothing happens
 pub Stays-same : (entries : Entries) → Stays entries entries

@@ -1,26 +1,21 @@
 -- The next line of a batch, which is put or is bad.
-use Rattle.std.proofs.Common.{◌≡◌, ℕ, ◌+◌, ◌-◌, ◌^◌, ◌<◌, ◌≤◌, true, false, List, [], ◌∷◌, ◌++◌, length, length-append, Option, refl, sym, ◌∙◌, ap, subst, append-nil, arith}
-use Rattle.std.proofs.lemmas.List.Elements.{All-append, All-from_recursion, All-nil}
+use Rattle.std.proofs.Common.{◌≡◌, ℕ, ◌+◌, ◌-◌, ◌^◌, ◌<◌, ◌≤◌, false, List, [], ◌∷◌, ◌++◌, length, length-append, Option, sym, ◌∙◌, subst, arith}
+use Rattle.std.proofs.lemmas.List.Elements.{All-append, All-from_recursion}
 use Rattle.std.specs.Prelude.{IsUtf8}
 use Rattle.bloom_plain.specs.Data.{DefaultFilter}
-use Rattle.lines.specs.Reading.{Ends, KnowsEnd, TakesLine, TakesLong, TakesShort, Waiting, left_of}
+use Rattle.lines.specs.Reading.{KnowsEnd, TakesLine, TakesShort, Waiting, left_of}
 use Rattle.guard_engine.specs.declared.counts.Counts.{Counts}
 use Rattle.guard_engine.specs.declared.guard.Put.{Put}
-use Rattle.guard_engine.specs.declared.guard.Put.TheVariants.{Added, Taken}
 use Rattle.guard_engine.specs.declared.guard.loads.Loaded.{Loaded}
-use Rattle.guard_engine.specs.declared.guard.loads.Stop.{Stop}
-use Rattle.guard_engine.specs.declared.guard.loads.Why.{Why}
-use Rattle.guard_engine.specs.declared.guard.loads.Why.TheVariants.{Line}
 use Rattle.guard_engine.specs.declared.line.BadLine.{BadLine}
-use Rattle.guard_engine.specs.declared.line.BadLine.TheVariants.{NoTab, NotText, TooLong}
-use Rattle.guard_engine.specs.Batches.{IsReading, PutsLines, ReadsEntries, ReadsLines, ReadsPart}
+use Rattle.guard_engine.specs.Batches.{PutsLines, ReadsEntries, ReadsLines, ReadsPart}
 use Rattle.guard_engine.specs.Counted.{CountsPuts}
 use Rattle.guard_engine.specs.Guarding.{Watches}
 use Rattle.guard_engine.specs.Loaded.{HasEntry, HasTab, IsBad, IsBadAt}
 use Rattle.guard_engine.specs.Puts.{added_by, taken_by}
 use Rattle.guard_engine.specs.Stores.{IsInBatch, Sight}
-use Rattle.guard_engine.proofs.PutLinesLemmas.{PutsLines-more, PutsLines-nil}
-use Rattle.guard_engine.proofs.ReadLemmas.{IsBadAt-after, IsBadAt-long, IsBadAt-next, ReadsLines-end, ReadsLines-more, ReadsLines-nil, ReadsLines-one}
+use Rattle.guard_engine.proofs.PutLinesLemmas.{PutsLines-more}
+use Rattle.guard_engine.proofs.ReadLemmas.{IsBadAt-next, ReadsLines-more, ReadsLines-one}
 use Rattle.guard_engine.proofs.PutCountLemmas.{CountsPuts-more, by_one}
 use Rattle.guard_engine.proofs.PuttingLemmas.{IsPutting, no_entry-bad}
 

@@ -1,12 +1,9 @@
 -- Lines that are put in an open batch, half-way.
-use Rattle.std.proofs.Common.{◌≡◌, ℕ, ◌+◌, ◌-◌, ◌^◌, ◌<◌, ◌≤◌, true, false, List, [], ◌∷◌, ◌++◌, length, length-append, Option, refl, sym, ◌∙◌, ap, subst, append-nil, arith}
-use Rattle.std.proofs.lemmas.List.Elements.{All-append, All-from_recursion, All-nil}
-use Rattle.std.specs.Prelude.{IsUtf8}
+use Rattle.std.proofs.Common.{◌≡◌, ℕ, ◌+◌, ◌-◌, ◌^◌, ◌<◌, ◌≤◌, true, List, [], length, Option, refl, sym, ◌∙◌, ap, subst, append-nil, arith}
+use Rattle.std.proofs.lemmas.List.Elements.{All-nil}
 use Rattle.bloom_plain.specs.Data.{DefaultFilter}
-use Rattle.lines.specs.Reading.{Ends, KnowsEnd, TakesLine, TakesLong, TakesShort, Waiting, left_of}
+use Rattle.lines.specs.Reading.{Ends, TakesLong, Waiting, left_of}
 use Rattle.guard_engine.specs.declared.counts.Counts.{Counts}
-use Rattle.guard_engine.specs.declared.guard.Put.{Put}
-use Rattle.guard_engine.specs.declared.guard.Put.TheVariants.{Added, Taken}
 use Rattle.guard_engine.specs.declared.guard.loads.Loaded.{Loaded}
 use Rattle.guard_engine.specs.declared.guard.loads.Stop.{Stop}
 use Rattle.guard_engine.specs.declared.guard.loads.Why.{Why}
@@ -16,11 +13,10 @@ use Rattle.guard_engine.specs.declared.line.BadLine.TheVariants.{NoTab, NotText,
 use Rattle.guard_engine.specs.Batches.{IsReading, PutsLines, ReadsEntries, ReadsLines, ReadsPart}
 use Rattle.guard_engine.specs.Counted.{CountsPuts}
 use Rattle.guard_engine.specs.Guarding.{Watches}
-use Rattle.guard_engine.specs.Loaded.{HasEntry, HasTab, IsBad, IsBadAt}
-use Rattle.guard_engine.specs.Puts.{added_by, taken_by}
+use Rattle.guard_engine.specs.Loaded.{HasEntry, IsBad, IsBadAt}
 use Rattle.guard_engine.specs.Stores.{IsInBatch, Sight}
-use Rattle.guard_engine.proofs.PutLinesLemmas.{PutsLines-more, PutsLines-nil}
-use Rattle.guard_engine.proofs.ReadLemmas.{IsBadAt-after, IsBadAt-long, IsBadAt-next, ReadsLines-end, ReadsLines-more, ReadsLines-nil, ReadsLines-one}
+use Rattle.guard_engine.proofs.PutLinesLemmas.{PutsLines-nil}
+use Rattle.guard_engine.proofs.ReadLemmas.{IsBadAt-after, IsBadAt-long, ReadsLines-end, ReadsLines-more, ReadsLines-nil}
 use Rattle.guard_engine.proofs.PutCountLemmas.{CountsPuts-nil}
 
 -- a line that is too long has no entry

@@ -1,17 +1,12 @@
 -- What a load leaves that ends, or stops: cases that hold, and near ones that don't. Byte 9 is the
 -- tab, and byte 10 ends a line.
-use Rattle.std.proofs.Common.{◌≡◌, ◌<◌, ◌+◌, inl, inr, ℕ, true, List, [], ◌∷◌, ◌++◌, Option, Some, None, length, refl, sym, ◌∙◌, ap, subst, arith}
-use Rattle.std.proofs.lemmas.List.Elements.{All-from_recursion}
-use lib.Utf8.{encode}
-use Rattle.std.specs.Prelude.{All, IsUtf8}
+use Rattle.std.proofs.Common.{◌≡◌, inl, inr, ℕ, List, [], ◌∷◌, Some, length, refl, sym, ◌∙◌, ap, subst, arith}
 use Rattle.lines.specs.Lines.{lines_of}
 use Rattle.guard_engine.specs.declared.guard.loads.Loaded.{Loaded}
-use Rattle.guard_engine.specs.declared.line.BadLine.TheVariants.{NoTab, NotText, TooLong}
-use Rattle.guard_engine.specs.Guarded.{Entries}
-use Rattle.guard_engine.specs.Loaded.{HasEntry, IsBad, IsBadAt, IsKey, Loads, LoadsAll, LoadsFirst}
+use Rattle.guard_engine.specs.Loaded.{Loads, LoadsAll, LoadsFirst}
 use Rattle.guard_engine.proofs.GainedFacts.{gains-none, gains-one}
 use Rattle.guard_engine.proofs.GuardedFacts.{none, one}
-use Rattle.guard_engine.proofs.LoadedFacts.{line, loads, tab, tab-none}
+use Rattle.guard_engine.proofs.LoadedFacts.{line, loads}
 use Rattle.guard_engine.proofs.BadLineFacts.{bytes, cut, untabbed}
 
 -- ---- what a load leaves that stops
