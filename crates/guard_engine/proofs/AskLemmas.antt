@@ -42,7 +42,8 @@ pub asking-nil : {S L : Type 0} {sight : S → Sight} {is_known : S → Type 0}
     → told.asked < 2 ^ 64 → told.false_alarms < 2 ^ 64
     → IsAsking sight is_known is_kept rest f old old_kept start reader rest f old old_kept start 0
 asking-nil {sight = sight} {is_known = is_known} {is_kept = is_kept} {f = f} {old = old}
-    {old_kept = old_kept} {start = start} reader rest empty opened longest same spared asked alarms =
+    {old_kept = old_kept} {start = start} reader rest empty opened longest same
+    spared asked alarms =
     record {
       keys = [];
       reads = ReadsLines-new reader.bytes rest empty;

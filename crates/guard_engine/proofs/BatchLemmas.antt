@@ -130,7 +130,8 @@ pub guards-unbegun : (may_have : DefaultFilter → Type 0) (filter : DefaultFilt
     → IsGuarding new may_have filter
 guards-unbegun may_have filter old new guards back = record {
   ready = back.ready;
-  covers = Covers-stays filter old.has new.has guards.covers (Stays-unbegun old new guards.ready back);
+  covers = Covers-stays filter old.has new.has guards.covers
+      (Stays-unbegun old new guards.ready back);
   saved = AllCover-stays may_have old.kept new.kept guards.saved back.kept;
 }
   where

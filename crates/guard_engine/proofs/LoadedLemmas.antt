@@ -1,14 +1,23 @@
--- Lines that were loaded, and more after them.
-use Rattle.std.proofs.Common.{◌≡◌, ℕ, ◌+◌, max, List, [], ◌++◌, Option, ap, subst, append-nil, arith}
+-- Lines that were loaded, and a load half-way, as it begins.
+use Rattle.std.proofs.Common.{◌≡◌, ℕ, ◌+◌, max, List, [], ◌++◌, Option, ap, subst, append-nil, arith, ◌-◌, ◌*◌, ◌^◌, ◌<◌, false, length, refl}
 use Rattle.guard_engine.specs.declared.guard.loads.Stop.{Stop}
 use Rattle.guard_engine.specs.declared.guard.loads.Why.{Why}
-use Rattle.guard_engine.specs.Batches.{LoadsMany}
+use Rattle.guard_engine.specs.Batches.{LoadsMany, IsReading, ReadsEntries}
 use Rattle.guard_engine.specs.Guarded.{Entries, Stays}
-use Rattle.guard_engine.specs.Loaded.{Loads, LoadsFirst}
+use Rattle.guard_engine.specs.Loaded.{Loads, LoadsFirst, HasEntry}
 use Rattle.guard_engine.proofs.PutLinesLemmas.{Stays-same}
 use Rattle.guard_engine.proofs.KeyLemmas.{GainsMany-more, GainsMany-none}
 use Rattle.guard_engine.proofs.LoadLemmas.{Loads-more, Loads-nil, Loads-stays}
-use Rattle.guard_engine.proofs.ReadLemmas.{IsReadFrom-read, ReadsLines-nil}
+use Rattle.guard_engine.proofs.ReadLemmas.{IsReadFrom-read, ReadsLines-nil, ReadsLines-new, reading-new}
+use Rattle.std.proofs.lemmas.List.Elements.{All-nil}
+use Rattle.bloom_plain.specs.Data.{DefaultFilter}
+use Rattle.lines.specs.Reading.{Waiting, left_of}
+use Rattle.guard_engine.specs.declared.counts.Counts.{Counts}
+use Rattle.guard_engine.specs.declared.guard.loads.Loaded.{Loaded}
+use Rattle.guard_engine.specs.Counted.{CountsPuts}
+use Rattle.guard_engine.specs.Guarding.{IsGuarding}
+use Rattle.guard_engine.specs.Stores.{Sight}
+use Rattle.guard_engine.proofs.PutCountLemmas.{CountsPuts-nil}
 
 -- no line was loaded yet
 pub LoadsMany-nil : (entries : Entries) → LoadsMany [] entries entries 0
@@ -49,4 +58,50 @@ first-none {stop = stop} read batch entries is =
       whole = omega (arith, none);
       before = omega (arith, none, one);
       near = omega (arith, none, one);
+    }
+
+-- half-way through a load: these lines were read and put, in whole batches, and each counts once
+pub record IsLoading {S L : Type 0} (sight : S → Sight) (may_have : L → DefaultFilter → Type 0)
+    (is_known : S → Type 0) (is_kept : L → Type 0) (batch : ℕ) (from : Option (List ℕ))
+    (first : DefaultFilter) (old : S) (old_kept : L) (before : Counts) (reader : Waiting)
+    (rest : Option (List ℕ)) (filter : DefaultFilter) (new : S) (kept : L) (counts : Counts)
+    (loaded : Loaded) (done turn : ℕ) : Type 0 where
+  pub entries : ReadsEntries from (left_of reader rest) (λ lines added.
+      IsGuarding (sight old) (may_have old_kept) first → is_known new → is_kept kept
+      → LoadsMany lines (sight old).has (sight new).has added) loaded
+  pub turns : done ≡ turn * batch
+  pub numbered : done ≡ length entries.lines
+  pub fits : done < 2 ^ 64 - 1
+  pub reading : IsReading reader rest
+  pub guards : IsGuarding (sight old) (may_have old_kept) first → is_known new → is_kept kept
+      → IsGuarding (sight new) (may_have kept) filter
+  pub known : is_known new → is_known old
+  pub kept_known : is_kept kept → is_kept old_kept
+  pub counted : CountsPuts before loaded.added loaded.taken counts
+
+-- before the first batch
+pub loading-nil : {S L : Type 0} {sight : S → Sight} {may_have : L → DefaultFilter → Type 0}
+    {is_known : S → Type 0} {is_kept : L → Type 0} {batch : ℕ} {first : DefaultFilter} {old : S}
+    {old_kept : L} {before : Counts} (reader : Waiting) (rest : Option (List ℕ))
+    → reader.bytes ≡ [] → reader.ended ≡ false → reader.longest ≡ 1048576
+    → before.spared < 2 ^ 64 → before.asked < 2 ^ 64 → before.false_alarms < 2 ^ 64
+    → IsLoading sight may_have is_known is_kept batch rest first old old_kept before reader rest
+    first old old_kept before (record { added = 0; taken = 0 }) 0 0
+loading-nil {sight = sight} {old = old} {before = before} reader rest empty opened longest spared
+    asked alarms = record {
+      entries = record {
+        lines = [];
+        reads = ReadsLines-new reader.bytes rest empty;
+        good = All-nil (HasEntry 1048576);
+        counted = refl;
+        puts = λ guards known kept_known. LoadsMany-nil (sight old).has;
+      };
+      turns = omega arith;
+      numbered = refl;
+      fits = omega arith;
+      reading = reading-new reader rest opened longest;
+      guards = λ guards known kept_known. guards;
+      known = λ known. known;
+      kept_known = λ known. known;
+      counted = CountsPuts-nil before spared asked alarms;
     }

@@ -1,6 +1,6 @@
 -- Loads of batches, half-way, at their end, and at an error.
-use Rattle.std.proofs.Common.{◌≡◌, ℕ, ◌+◌, ◌-◌, ◌*◌, ◌^◌, ◌<◌, true, false, List, [], ◌++◌, length, length-append, Option, refl, sym, ◌∙◌, subst, arith}
-use Rattle.std.proofs.lemmas.List.Elements.{All-append, All-nil}
+use Rattle.std.proofs.Common.{◌≡◌, ℕ, ◌+◌, ◌-◌, ◌^◌, ◌<◌, true, false, List, ◌++◌, length, length-append, Option, sym, ◌∙◌, subst, arith}
+use Rattle.std.proofs.lemmas.List.Elements.{All-append}
 use Rattle.bloom_plain.specs.Data.{DefaultFilter}
 use Rattle.lines.specs.Reading.{Waiting, left_of}
 use Rattle.guard_engine.specs.declared.counts.Counts.{Counts}
@@ -13,55 +13,10 @@ use Rattle.guard_engine.specs.Guarded.{Stays}
 use Rattle.guard_engine.specs.Guarding.{IsGuarding}
 use Rattle.guard_engine.specs.Loaded.{HasEntry, IsBadAt, LoadsAll, LoadsFirst}
 use Rattle.guard_engine.specs.Stores.{Sight}
-use Rattle.guard_engine.proofs.PutCountLemmas.{CountsPuts-more, CountsPuts-nil}
-use Rattle.guard_engine.proofs.ReadLemmas.{IsBadAt-after, IsReadFrom-read, IsReadWhole-read, ReadsLines-more, ReadsLines-new, reading-new}
-use Rattle.guard_engine.proofs.LoadedLemmas.{LoadsMany-more, LoadsMany-nil, Loads-kept}
-
--- half-way through a load: these lines were read and put, in whole batches, and each counts once
-pub record IsLoading {S L : Type 0} (sight : S → Sight) (may_have : L → DefaultFilter → Type 0)
-    (is_known : S → Type 0) (is_kept : L → Type 0) (batch : ℕ) (from : Option (List ℕ))
-    (first : DefaultFilter) (old : S) (old_kept : L) (before : Counts) (reader : Waiting)
-    (rest : Option (List ℕ)) (filter : DefaultFilter) (new : S) (kept : L) (counts : Counts)
-    (loaded : Loaded) (done turn : ℕ) : Type 0 where
-  pub entries : ReadsEntries from (left_of reader rest) (λ lines added.
-      IsGuarding (sight old) (may_have old_kept) first → is_known new → is_kept kept
-      → LoadsMany lines (sight old).has (sight new).has added) loaded
-  pub turns : done ≡ turn * batch
-  pub numbered : done ≡ length entries.lines
-  pub fits : done < 2 ^ 64 - 1
-  pub reading : IsReading reader rest
-  pub guards : IsGuarding (sight old) (may_have old_kept) first → is_known new → is_kept kept
-      → IsGuarding (sight new) (may_have kept) filter
-  pub known : is_known new → is_known old
-  pub kept_known : is_kept kept → is_kept old_kept
-  pub counted : CountsPuts before loaded.added loaded.taken counts
-
--- before the first batch
-pub loading-nil : {S L : Type 0} {sight : S → Sight} {may_have : L → DefaultFilter → Type 0}
-    {is_known : S → Type 0} {is_kept : L → Type 0} {batch : ℕ} {first : DefaultFilter} {old : S}
-    {old_kept : L} {before : Counts} (reader : Waiting) (rest : Option (List ℕ))
-    → reader.bytes ≡ [] → reader.ended ≡ false → reader.longest ≡ 1048576
-    → before.spared < 2 ^ 64 → before.asked < 2 ^ 64 → before.false_alarms < 2 ^ 64
-    → IsLoading sight may_have is_known is_kept batch rest first old old_kept before reader rest
-    first old old_kept before (record { added = 0; taken = 0 }) 0 0
-loading-nil {sight = sight} {old = old} {before = before} reader rest empty opened longest spared
-    asked alarms = record {
-      entries = record {
-        lines = [];
-        reads = ReadsLines-new reader.bytes rest empty;
-        good = All-nil (HasEntry 1048576);
-        counted = refl;
-        puts = λ guards known kept_known. LoadsMany-nil (sight old).has;
-      };
-      turns = omega arith;
-      numbered = refl;
-      fits = omega arith;
-      reading = reading-new reader rest opened longest;
-      guards = λ guards known kept_known. guards;
-      known = λ known. known;
-      kept_known = λ known. known;
-      counted = CountsPuts-nil before spared asked alarms;
-    }
+use Rattle.guard_engine.proofs.PutCountLemmas.{CountsPuts-more}
+use Rattle.guard_engine.proofs.ReadLemmas.{IsBadAt-after, IsReadFrom-read, IsReadWhole-read, ReadsLines-more}
+use Rattle.guard_engine.proofs.LoadedLemmas.{LoadsMany-more, Loads-kept}
+use Rattle.guard_engine.proofs.LoadedLemmas.{IsLoading}
 
 -- half-way, and what the next batch came to
 module _ {S L : Type 0} {sight : S → Sight} {may_have : L → DefaultFilter → Type 0}

@@ -1,6 +1,5 @@
 //! Many entries at once, in batches.
-ghost use Rattle.std.specs.Prelude.{◌≡◌, ◌≤◌, ◌<◌, ◌^◌, ◌-◌, ◌+◌, max, false, [], IfErr, IfOk};
-ghost use Rattle.guard_engine.specs.Batches.{IsReading, LoadsMany};
+ghost use Rattle.std.specs.Prelude.{◌≡◌, ◌≤◌, ◌<◌, ◌^◌, ◌+◌, max, false, [], IfErr, IfOk};
 ghost use Rattle.guard_engine.specs.Counted.{CountsPuts};
 ghost use Rattle.guard_engine.specs.Guarding.{IsGuarding};
 ghost use Rattle.guard_engine.specs.Loaded.{HasEntry, IsBadAt, LoadsAll, LoadsFirst};
@@ -49,7 +48,8 @@ pub enum Why<E, F> {
 #[derive(Debug, Drop)]
 pub struct Stop<E, F> {
     pub why: Why<E, F>,
-    /// The number, from 1, of the line at which it stopped.
+    /// The number, from 1, of the line at which it stopped. Where a batch couldn't be begun or
+    /// ended, that is its first line.
     pub number: u64,
     /// How many lines are done: those of the batches before.
     pub done: u64,

@@ -1,5 +1,6 @@
 use Rattle.std.proofs.Common.{rules, ◌≡◌, Err}
-use Rattle.guard_engine.proofs.LoadingLemmas.{bad-later, counts-joined, first-put, loaded-all, loading-more, loading-nil}
+use Rattle.guard_engine.proofs.LoadedLemmas.{loading-nil}
+use Rattle.guard_engine.proofs.LoadingLemmas.{bad-later, counts-joined, first-put, loaded-all, loading-more}
 use Rattle.guard_engine.proofs.guard.loads.load_all.Goals as goal
 
 pub batches-init : goal.batches-init

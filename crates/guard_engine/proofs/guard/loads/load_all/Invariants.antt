@@ -1,4 +1,4 @@
-use Rattle.guard_engine.proofs.LoadingLemmas.{IsLoading}
+use Rattle.guard_engine.proofs.LoadedLemmas.{IsLoading}
 use Rattle.guard_engine.proofs.guard.loads.load_all.Given as goal
 
 -- the lines so far were put and counted, in whole batches

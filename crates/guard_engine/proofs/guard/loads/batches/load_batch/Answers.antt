@@ -25,8 +25,9 @@ returns-in-Ok-end_batch-clause-guards g c guards known kept_known =
     guards-committed _ _ _ _ guards begins _ _ _ _
     (c.in-Ok-end_batch.ensures.ok so.batch
     (none-added _ _ _ _ guards begins _ entries.lines _ so) known) watched
-    (c.end_batch.ensures.saved so.batch watched (saved-begun _ _ _ _ guards begins (g.T.Store.sight c.put_lines.new.store) so.kept) known
-    kept_known)
+    (c.end_batch.ensures.saved so.batch watched
+    (saved-begun _ _ _ _ guards begins (g.T.Store.sight c.put_lines.new.store) so.kept)
+    known kept_known)
 
 -- after an error the batch is taken back
 pub returns-in-Err-put_lines-clause-guards : goal.returns-in-Err-put_lines-clause-guards

@@ -39,7 +39,8 @@ returns-then-at-done-clause-ok g c =
     let put = c.in-Ok.ensures in
     let sum = c.after-loaded.ensures in
     part-whole c.lines.invariant c.next_line.new.self _
-    (rw c.in-Ok-Line.field-0-is at c.in-Ok-Line.ensures.next) c.line.ensures put.text c.in-Ok.put put.puts
+    (rw c.in-Ok-Line.field-0-is at c.in-Ok-Line.ensures.next) c.line.ensures
+    put.text c.in-Ok.put put.puts
     put.known put.counts (omega arith) sum.added sum.taken (omega arith)
 
 pub returns-then-at-done-clause-counts : goal.returns-then-at-done-clause-counts
@@ -47,7 +48,8 @@ returns-then-at-done-clause-counts g c =
     let put = c.in-Ok.ensures in
     let sum = c.after-loaded.ensures in
     counts-more c.lines.invariant c.next_line.new.self _
-    (rw c.in-Ok-Line.field-0-is at c.in-Ok-Line.ensures.next) c.line.ensures put.text c.in-Ok.put put.puts
+    (rw c.in-Ok-Line.field-0-is at c.in-Ok-Line.ensures.next) c.line.ensures
+    put.text c.in-Ok.put put.puts
     put.known put.counts (omega arith) sum.added sum.taken
 
 -- the batch goes on
@@ -56,6 +58,7 @@ lines-preserved g c =
     let put = c.in-Ok.ensures in
     let sum = c.after-loaded.ensures in
     putting-more c.lines.invariant c.next_line.new.self _
-    (rw c.in-Ok-Line.field-0-is at c.in-Ok-Line.ensures.next) c.line.ensures put.text c.in-Ok.put put.puts
+    (rw c.in-Ok-Line.field-0-is at c.in-Ok-Line.ensures.next) c.line.ensures
+    put.text c.in-Ok.put put.puts
     put.known put.counts (omega arith) sum.added sum.taken (omega arith)
     c.in-Ok-Line.ensures.knows c.in-Ok-Line.ensures.longest put.watches
