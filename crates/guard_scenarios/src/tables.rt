@@ -1,5 +1,5 @@
-//! Stores over tables in memory: that a table is made where memory allows, and which statements
-//! make another.
+//! Stores over tables in memory: that a table is made where memory allows, what a batch leaves, and
+//! which statements make another table.
 
 use guard_engine::Store;
 use guard_store::{EntryTable, Unfit};
@@ -19,6 +19,10 @@ fn make_store(alloc: Global, conn: Connection<MemStore>) -> Result<EntryTable<Me
     EntryTable::over(alloc, conn)
 }
 
+fn found_store(alloc: Global, conn: Connection<MemStore>) -> Result<EntryTable<MemStore>, Unfit> {
+    EntryTable::found(alloc, conn)
+}
+
 fn keys(table: &mut EntryTable<MemStore>) -> Result<Vec<String>, Error> {
     table.keys()
 }
@@ -29,6 +33,26 @@ fn value_of(table: &mut EntryTable<MemStore>, key: &str) -> Result<Option<String
 
 fn add(table: &mut EntryTable<MemStore>, key: &str, value: &str) -> Result<(), Error> {
     table.add(key, value)
+}
+
+fn remove(table: &mut EntryTable<MemStore>, key: &str) -> Result<(), Error> {
+    table.remove(key)
+}
+
+fn begin(table: &mut EntryTable<MemStore>) -> Result<(), Error> {
+    table.begin()
+}
+
+fn commit(table: &mut EntryTable<MemStore>) -> Result<(), Error> {
+    table.commit()
+}
+
+fn roll_back(table: &mut EntryTable<MemStore>) -> Result<(), Error> {
+    table.roll_back()
+}
+
+fn entries(table: &mut EntryTable<MemStore>) -> Result<Vec<(String, String)>, Error> {
+    table.entries()
 }
 
 // Opens a connection in memory, and runs these statements.
@@ -54,8 +78,10 @@ fn a_table_is_made_where_there_is_none(rt: HostRuntime) -> Result<(), Fail> {
     let Ok(mut table) = make_store(rt.alloc(), conn) else {
         return Err(Fail::from("an empty connection was refused"));
     };
+    begin(&mut table)?;
     add(&mut table, "crab", "10")?;
     add(&mut table, "", "")?;
+    commit(&mut table)?;
     assert!(rt; has(&mut table, "crab", "10")?);
     assert!(rt; has(&mut table, "", "")?);
     assert!(rt; value_of(&mut table, "lobster")?.is_none());
@@ -71,11 +97,67 @@ fn what_a_table_had_is_found(rt: HostRuntime) -> Result<(), Fail> {
         return Err(Fail::from("the table was refused"));
     };
     assert!(rt; has(&mut table, "crab", "10")?);
+    begin(&mut table)?;
     assert!(rt;
         add(&mut table, "crab", "11")
             == Err(Error::SqliteFailure(ErrorCode::ConstraintViolation(Constraint::Unique)))
     );
+    commit(&mut table)?;
     assert!(rt; has(&mut table, "crab", "10")?);
+    Ok(())
+}
+
+// A table with a crab and an eel.
+fn two_entries(alloc: Global) -> Result<EntryTable<MemStore>, Fail> {
+    let entry = "INSERT INTO entry (name, value) VALUES ('crab', '10'), ('eel', '20')";
+    let conn = open_after(alloc, &[TABLE, entry])?;
+    match found_store(alloc, conn) {
+        Ok(table) => Ok(table),
+        Err(_) => Err(Fail::from("the table was refused")),
+    }
+}
+
+#[test]
+fn a_batch_that_is_committed_stays(rt: HostRuntime) -> Result<(), Fail> {
+    let mut table = two_entries(rt.alloc())?;
+    begin(&mut table)?;
+    remove(&mut table, "crab")?;
+    add(&mut table, "squid", "30")?;
+    commit(&mut table)?;
+    assert!(rt; roll_back(&mut table).is_err());
+    assert!(rt; value_of(&mut table, "crab")?.is_none());
+    let all = entries(&mut table)?;
+    assert_eq!(rt; all.len(), 2);
+    for (name, value) in &all {
+        let is = (name.as_str(), value.as_str());
+        assert!(rt; (is == ("eel", "20")) | (is == ("squid", "30")));
+    }
+    Ok(())
+}
+
+#[test]
+fn a_batch_that_is_rolled_back_leaves_nothing(rt: HostRuntime) -> Result<(), Fail> {
+    let mut table = two_entries(rt.alloc())?;
+    begin(&mut table)?;
+    remove(&mut table, "crab")?;
+    remove(&mut table, "lobster")?;
+    add(&mut table, "squid", "30")?;
+    assert!(rt; has(&mut table, "squid", "30")?);
+    roll_back(&mut table)?;
+    assert!(rt; has(&mut table, "crab", "10")?);
+    assert!(rt; has(&mut table, "eel", "20")?);
+    assert!(rt; value_of(&mut table, "squid")?.is_none());
+    Ok(())
+}
+
+#[test]
+fn no_table_is_found_where_there_is_none(rt: HostRuntime) -> Result<(), Fail> {
+    let empty = open_after(rt.alloc(), &[])?;
+    assert!(rt; matches!(found_store(rt.alloc(), empty), Err(Unfit::Empty)));
+    let other = open_after(rt.alloc(), &["CREATE TABLE t (a)"])?;
+    assert!(rt; matches!(found_store(rt.alloc(), other), Err(Unfit::Schema)));
+    let begun = open_after(rt.alloc(), &[TABLE, "BEGIN"])?;
+    assert!(rt; matches!(found_store(rt.alloc(), begun), Err(Unfit::Transaction)));
     Ok(())
 }
 
@@ -146,6 +228,7 @@ fn refusals_have_texts(rt: HostRuntime) -> Result<(), Fail> {
     let texts = [
         (Unfit::Schema, "it has another schema than a store's"),
         (Unfit::Transaction, "a transaction is open"),
+        (Unfit::Empty, "it has no table of entries"),
     ];
     for (unfit, text) in texts {
         assert_eq!(rt; unfit.to_string(rt.alloc())?.as_str(), text);
