@@ -2,9 +2,36 @@
 
 use bloom_plain::Rate;
 use clap::error::ErrorKind;
-use clap::{Arg, ArgMatches, Command, Error};
-use guard_engine::Task;
+use clap::{Arg, ArgMatches, Command, Error, value_parser};
 use std::alloc::Global;
+
+/// What is to be done with a store.
+#[derive(Clone, Copy)]
+pub enum Request<'a> {
+    /// Put a value at a key.
+    Put(&'a str, &'a str),
+    /// Show the value of a key.
+    Get(&'a str),
+    /// Take the value of a key away.
+    Delete(&'a str),
+    /// Put the entries of a file.
+    Load(Load<'a>),
+    /// Show all entries.
+    List,
+    /// Look up the keys of standard input.
+    Stats,
+}
+
+/// What is to be loaded, and how.
+#[derive(Clone, Copy)]
+pub struct Load<'a> {
+    /// The name of the file.
+    pub file: &'a str,
+    /// How many lines are put together.
+    pub batch: u64,
+    /// How many lines are expected where the file can't be read twice.
+    pub items: u64,
+}
 
 /// What the words after the program's name ask for.
 #[derive(Clone, Copy)]
@@ -13,7 +40,7 @@ pub struct Options<'a> {
     pub store: &'a str,
     /// The share of absent keys that may be looked up in the store for nothing.
     pub rate: Rate,
-    pub task: Task<'a>,
+    pub request: Request<'a>,
 }
 
 fn word<'a>(alloc: Global, id: &'a str, help: &'a str) -> Arg<'a> {
@@ -37,18 +64,44 @@ fn get_command<'a>(alloc: Global) -> Result<Command<'a>, Error> {
     )
 }
 
+fn delete_command<'a>(alloc: Global) -> Result<Command<'a>, Error> {
+    Ok(
+        Command::new(alloc, "delete")
+            .about("Takes the value of a key away, and prints deleted")
+            .arg(word(alloc, "KEY", "A key"))?,
+    )
+}
+
 fn load_command<'a>(alloc: Global) -> Result<Command<'a>, Error> {
+    let batch = Arg::new(alloc, "batch")
+        .long("batch")
+        .value_name("N")
+        .default_value("10000")
+        .help("How many lines are put together, or not at all")
+        .value_parser(value_parser!(u64).range(1..=1_000_000_000_000));
+    let items = Arg::new(alloc, "items")
+        .long("items")
+        .value_name("N")
+        .default_value("1000000")
+        .help("How many lines are expected, where FILE is no regular file")
+        .value_parser(value_parser!(u64).range(0..=1_000_000_000_000));
     Ok(
         Command::new(alloc, "load")
             .about("Puts the entries of a file, and prints what that came to")
+            .arg(batch)?
+            .arg(items)?
             .arg(word(alloc, "FILE", "Each line has a key, a tab, and a value"))?,
     )
 }
 
-fn stats_command<'a>(alloc: Global) -> Result<Command<'a>, Error> {
-    Ok(Command::new(alloc, "stats").about(
+fn list_command<'a>(alloc: Global) -> Command<'a> {
+    Command::new(alloc, "list").about("Prints all entries, as load reads them")
+}
+
+fn stats_command<'a>(alloc: Global) -> Command<'a> {
+    Command::new(alloc, "stats").about(
         "Looks up the keys of its input, one a line, and prints what that came to",
-    ))
+    )
 }
 
 // The words that the program understands.
@@ -72,8 +125,10 @@ fn command<'a>(alloc: Global) -> Result<Command<'a>, Error> {
             .arg(store)?
             .subcommand(put_command(alloc)?)?
             .subcommand(get_command(alloc)?)?
+            .subcommand(delete_command(alloc)?)?
             .subcommand(load_command(alloc)?)?
-            .subcommand(stats_command(alloc)?)?,
+            .subcommand(list_command(alloc))?
+            .subcommand(stats_command(alloc))?,
     )
 }
 
@@ -89,14 +144,25 @@ fn rate_of(text: &str) -> Option<Rate> {
     }
 }
 
-// The task of a command's words.
-fn task_of<'a>(matches: &ArgMatches<'a>) -> Option<Task<'a>> {
+// The load of a command's words.
+fn load_of<'a>(words: &ArgMatches<'a>) -> Option<Load<'a>> {
+    Some(Load {
+        file: words.get_str("FILE")?,
+        batch: words.get_one::<u64>("batch")?,
+        items: words.get_one::<u64>("items")?,
+    })
+}
+
+// What a command's words ask for.
+fn request_of<'a>(matches: &ArgMatches<'a>) -> Option<Request<'a>> {
     let (name, words) = matches.subcommand()?;
     match name {
-        "put" => Some(Task::Put(words.get_str("KEY")?, words.get_str("VALUE")?)),
-        "get" => Some(Task::Get(words.get_str("KEY")?)),
-        "load" => Some(Task::Load(words.get_str("FILE")?)),
-        "stats" => Some(Task::Stats),
+        "put" => Some(Request::Put(words.get_str("KEY")?, words.get_str("VALUE")?)),
+        "get" => Some(Request::Get(words.get_str("KEY")?)),
+        "delete" => Some(Request::Delete(words.get_str("KEY")?)),
+        "load" => Some(Request::Load(load_of(words)?)),
+        "list" => Some(Request::List),
+        "stats" => Some(Request::Stats),
         _ => None,
     }
 }
@@ -111,8 +177,12 @@ pub fn arguments<'a>(alloc: Global, words: &'a [String]) -> Result<Options<'a>, 
         Some(text) => rate_of(text),
         None => None,
     };
-    match (matches.get_str("STORE"), rate, task_of(&matches)) {
-        (Some(store), Some(rate), Some(task)) => Ok(Options { store, rate, task }),
+    match (matches.get_str("STORE"), rate, request_of(&matches)) {
+        (Some(store), Some(rate), Some(request)) => Ok(Options {
+            store,
+            rate,
+            request,
+        }),
         _ => {
             let told = "the rate is a fraction between 0 and 1, as 1/1000";
             Err(command(alloc)?.error(ErrorKind::ValueValidation, told)?)

@@ -1,0 +1,128 @@
+//! What is done by a guard, over any store and any place for its filter.
+
+use crate::filter_file::FilterFault;
+use crate::names::Names;
+use crate::store_file::StoreFault;
+use crate::telling::{DONE, FAILED, Input, NO, tell, tell_filter, tell_origin, tell_trouble};
+use guard_engine::{Answer, Guard, Kept, Origin, Store, Task, Trouble, carry_out};
+use std::io;
+use std::io::{BufWriter, Read, Write};
+
+/// Tells that the answer can't be printed.
+fn tell_output(rt: &HostRuntime, error: io::Error) -> u8 {
+    tell(rt, "standard output", error.kind());
+    FAILED
+}
+
+/// Tells where the filter was made anew, and tries to save it.
+pub fn save_made<T: Store + Drop, K: Kept<Error = FilterFault> + Drop>(
+    rt: &HostRuntime,
+    names: &Names,
+    guard: &mut Guard<T, K>,
+    origin: Origin<FilterFault>,
+) {
+    if tell_origin(rt, names, &origin) {
+        match guard.save() {
+            Ok(()) => {}
+            Err(fault) => {
+                tell_filter(rt, names, &fault);
+            }
+        }
+    }
+}
+
+// Prints an answer: an absence on standard error, and all else on standard output.
+fn print_answer(rt: &HostRuntime, answer: &Answer) -> u8 {
+    let status = if answer.is_no() { NO } else { DONE };
+    if answer.is_absence() {
+        let _ = eprintln!(rt; "{answer}");
+        return status;
+    }
+    match println!(rt; "{answer}") {
+        Ok(()) => status,
+        Err(error) => tell_output(rt, error),
+    }
+}
+
+/// Carries a task out and prints its answer; the status.
+pub fn serve<T, K, R>(
+    rt: &HostRuntime,
+    names: &Names,
+    guard: &mut Guard<T, K>,
+    task: Task<R>,
+    input: Input,
+) -> u8
+where
+    T: Store<Error = StoreFault> + Drop,
+    K: Kept<Error = FilterFault> + Drop,
+    R: Read + Drop,
+{
+    match carry_out(rt.alloc(), guard, task) {
+        Ok(answer) => print_answer(rt, &answer),
+        Err(trouble) => tell_trouble(rt, names, input, &trouble),
+    }
+}
+
+/// Looks up the lines of a reader and prints what that came to; the status. The kit's standard
+/// input can't be a part of a task.
+pub fn count<T, K, R>(
+    rt: &HostRuntime,
+    names: &Names,
+    guard: &mut Guard<T, K>,
+    lines: &mut R,
+    input: Input,
+) -> u8
+where
+    T: Store<Error = StoreFault> + Drop,
+    K: Kept<Error = FilterFault> + Drop,
+    R: Read,
+{
+    match guard.ask(rt.alloc(), lines) {
+        Ok(()) => print_answer(rt, &Answer::Counted(guard.counts())),
+        Err(stop) => tell_trouble(rt, names, input, &Trouble::Lines(stop)),
+    }
+}
+
+// Whether an entry can stand on a line: its key has no tab, and neither text has a line's end.
+fn fits_line(key: &str, value: &str) -> bool {
+    let (key, value) = (key.as_bytes(), value.as_bytes());
+    !key.contains(&9) && !key.contains(&10) && !value.contains(&10)
+}
+
+// Writes each entry on a line, but those that can't stand on one; how many those are.
+fn write_entries<W: Write>(output: &mut W, entries: &[(String, String)]) -> io::Result<u64> {
+    let mut left_out = 0u64;
+    'entries: for entry in entries {
+        let (key, value) = (entry.0.as_str(), entry.1.as_str());
+        if fits_line(key, value) {
+            output.write_all(key.as_bytes())?;
+            output.write_all(b"\t")?;
+            output.write_all(value.as_bytes())?;
+            output.write_all(b"\n")?;
+        } else {
+            left_out = left_out.saturating_add(1);
+        }
+    }
+    output.flush()?;
+    Ok(left_out)
+}
+
+/// Prints the entries of a store; the status.
+pub fn print_entries(rt: &HostRuntime, names: &Names, entries: &[(String, String)]) -> u8 {
+    let mut output = match BufWriter::new(rt.alloc(), std::io::writer(rt)) {
+        Ok(output) => output,
+        Err(error) => return tell_output(rt, error),
+    };
+    match write_entries(&mut output, entries) {
+        Ok(0) => DONE,
+        Ok(many) => {
+            tell(
+                rt,
+                names.store.as_str(),
+                format_args!("not listed, since a line's end or a tab is in the way: {many}"),
+            );
+            FAILED
+        }
+        Err(error) => tell_output(rt, error),
+    }
+}
