@@ -23,7 +23,7 @@ use Rattle.guard_store.proofs.CompareLemmas.{equals_only, number_itself}
 use Rattle.guard_store.proofs.InsertLemmas.{same_value, went}
 use Rattle.guard_store.proofs.ListLemmas.{In, from_filter, from_in, in_filter, in_map, from_map, to_in}
 use Rattle.guard_store.proofs.ReadLemmas.{delete_is, delete_plain, delete_text, equals_parameter, of_row, shows_columns}
-use Rattle.guard_store.proofs.SelectLemmas.{equals, named, picked, picks_each, picks_only, shown_of}
+use Rattle.guard_store.proofs.PickLemmas.{equals, named, picked, picks_each, picks_only, shown_of}
 use Rattle.guard_store.proofs.StateLemmas.{write_failed, written_in_batch}
 use Rattle.guard_store.specs.Answers.{HasOwnNumber}
 use Rattle.guard_store.specs.Entry.{HasEntry, IsKnown, entry, entry_schema, sight_of}

@@ -11,6 +11,7 @@ mod NumberFacts
 mod NumberLemmas
 mod OpenLemmas
 mod PairLemmas
+mod PickLemmas
 mod PutLemmas
 mod QueryLemmas
 mod ReadLemmas

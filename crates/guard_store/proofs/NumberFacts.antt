@@ -1,10 +1,10 @@
 -- Pairs and numbers that queries show: cases that hold, and near ones that don't.
-use Rattle.std.proofs.Common.{◌≡◌, inl, inr, pos, List, [], ◌∷◌, refl, ap, ◌∙◌, sym, arith, Contains}
-use Rattle.sqlite.specs.declared.types.Value.TheVariants.{Int, Text}
+use Rattle.std.proofs.Common.{◌≡◌, inl, inr, pos, [], ◌∷◌, refl, ap, ◌∙◌, sym, arith}
+use Rattle.sqlite.specs.declared.types.Value.TheVariants.{Text}
 use Rattle.sqlite.specs.Order.{Row, column, value_cmp}
 use Rattle.sqlite_trees.specs.Tree.{has_rowid}
 use Rattle.guard_store.proofs.EntryFacts.{both, first, second}
-use Rattle.guard_store.proofs.ListLemmas.{from_in, to_in}
+use Rattle.guard_store.proofs.ListLemmas.{to_in}
 use Rattle.guard_store.specs.Answers.{AreEntries, AreNumbered, AreNumbers, HasOwnNumber, IsOneText, ListsEntries, ShowPairs}
 use Rattle.guard_store.specs.Entry.{HasEntry, stored}
 
@@ -76,7 +76,8 @@ lists-more is = let had = is.sound (5 ∷ []) (6 ∷ []) (0, omega arith, refl) 
 -- an empty list doesn't list an entry
 lists-less : ListsEntries [] (HasEntry both) → ⊥
 lists-less is =
-    to_in [] (7 ∷ [], 8 ∷ []) (is.whole (7 ∷ []) (8 ∷ []) (second, (1, omega arith, refl), refl, refl))
+    let has = is.whole (7 ∷ []) (8 ∷ []) (second, (1, omega arith, refl), refl, refl) in
+    to_in [] (7 ∷ [], 8 ∷ []) has
 
 -- ---- numbers
 
@@ -109,7 +110,8 @@ own-none one there has = absurd (to_in [] one there)
 -- a row whose number isn't an integer has no number to itself
 own-text : HasOwnNumber ((Text [] ∷ Text [] ∷ Text (7 ∷ []) ∷ Text [] ∷ []) ∷ []) (7 ∷ []) → ⊥
 own-text own =
-    let number = own (Text [] ∷ Text [] ∷ Text (7 ∷ []) ∷ Text [] ∷ []) (0, omega arith, refl) refl in
+    let row = Text [] ∷ Text [] ∷ Text (7 ∷ []) ∷ Text [] ∷ [] in
+    let number = own row (0, omega arith, refl) refl in
     let same = number.1 in cc
 
 -- a number of no row shows no name

@@ -25,7 +25,8 @@ text_same s t e = cc
 same_pair : (r : Row) (p : Pair) (key value : List ℕ) → first_columns r ≡ two_texts p
     → r ≡ Text key ∷ Text value ∷ [] → p ≡ (key, value)
 same_pair r (k, v) key value e is =
-    let keys = text_same k key (sym (ap (λ (c : Value × Value). c.0) e) ∙ ap (λ x. column x 0) is) in
+    let keys =
+    text_same k key (sym (ap (λ (c : Value × Value). c.0) e) ∙ ap (λ x. column x 0) is) in
     let values =
     text_same v value (sym (ap (λ (c : Value × Value). c.1) e) ∙ ap (λ x. column x 1) is) in
     ap (λ x. (x, v)) keys ∙ ap (λ x. (key, x)) values

@@ -62,8 +62,8 @@ sight = refl
 sight-has : (sight_of (at entries (database entry_schema []) true true true)).has (7 ∷ []) (8 ∷ [])
 sight-has = has
 
-sight-kept : (sight_of (at entries (database entry_schema []) true true true)).kept (7 ∷ []) (8 ∷ [])
-    → ⊥
+sight-kept :
+    (sight_of (at entries (database entry_schema []) true true true)).kept (7 ∷ []) (8 ∷ []) → ⊥
 sight-kept is = absurd (omega (arith, is.1.1))
 
 -- an open connection whose disk returned what was written is known
