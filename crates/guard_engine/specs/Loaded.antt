@@ -38,8 +38,8 @@ IsBad longest line NotText = ¬ IsUtf8 line
 IsBad longest line TooLong = longest < length line
 
 -- from old to new each of these lines was put: what was there stays, what came is the entry of a
--- line, the key of each line has a value, and where it had none it has that of its first line. Where
--- no key had two values, none has two
+-- line, the key of each line has a value, and where it had none it has that of its first line.
+-- Where no key had two values, none has two
 pub record Loads (lines : List (List ℕ)) (old new : Entries) : Type 0 where
   pub kept : (key value : List ℕ) → old key value → new key value
   pub others : (key value : List ℕ) → new key value

@@ -83,7 +83,8 @@ fn add<T: Store>(
     store.add(key, value)
 }
 
-/// Puts an entry whose key has no value yet in the open batch. The key is hashed and looked up once.
+/// Puts an entry whose key has no value yet in the open batch. The key is hashed once, and looked
+/// up once.
 pub fn put<T: Store>(
     store: &mut T,
     filter: &mut BloomFilter,

@@ -163,9 +163,9 @@ fn load_all<T: Store, K: Kept, R: Read>(
 }
 
 impl<T: Store + Drop, K: Kept + Drop> Guard<T, K> {
-    /// Puts the entries of a reader: each line has a key, a tab and a value. At most this many lines
-    /// make a batch, which is put whole or not at all; 0 counts as 1. The filter is saved before a
-    /// batch is committed.
+    /// Puts the entries of a reader: each line has a key, a tab and a value. At most this many
+    /// lines make a batch, which is put whole or not at all; 0 counts as 1. The filter is saved
+    /// before a batch is committed.
     ///
     /// # Errors
     /// At the first line that is no entry, and where the store, the place of the filter, a read or

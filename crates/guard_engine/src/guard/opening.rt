@@ -73,9 +73,9 @@ impl<T: Store + Drop, K: Kept + Drop> Guard<T, K> {
     ghost use Rattle.guard_engine.specs.Guarded.{Stays};
     ghost use Rattle.guard_engine.specs.Guarding.{AllCover};
 
-    /// Opens a guard before a store that has no open batch, by the filter that is kept beside it. It
-    /// makes a filter of all keys anew where none can be read, or where that has no room for this
-    /// many more keys, and doesn't save it.
+    /// Opens a guard before a store that has no open batch, by the filter that is kept beside it.
+    /// It makes a filter of all keys anew where none can be read, or where that has no room for
+    /// this many more keys, and doesn't save it.
     ///
     /// # Errors
     /// `Store` where the keys can't be read, and `Filter` where there is no such filter.

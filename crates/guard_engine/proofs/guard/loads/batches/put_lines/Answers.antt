@@ -1,7 +1,11 @@
+mod Whole
+mod Errors
 use Rattle.std.proofs.Common.{ap, Err, arith}
 use Rattle.guard_engine.proofs.PutNextLemmas.{counts-more, next-bad, part-whole, putting-more}
 use Rattle.guard_engine.proofs.PuttingLemmas.{bad-next, next-long, part-last, putting-nil}
 use Rattle.guard_engine.proofs.guard.loads.batches.put_lines.Goals as goal
+use Rattle.guard_engine.proofs.guard.loads.batches.put_lines.Answers.Errors.{error-line, error-long, error-read}
+use Rattle.guard_engine.proofs.guard.loads.batches.put_lines.Answers.Whole.{more-preserved, whole-counts, whole-ok}
 
 pub lines-init : goal.lines-init
 lines-init g c =
@@ -16,49 +20,20 @@ returns-in-Ok-End-clause-ok g c =
     (rw c.in-Ok-End.field-0-is at c.in-Ok-End.ensures.next)
 
 pub returns-in-Ok-TooLong-clause-bad : goal.returns-in-Ok-TooLong-clause-bad
-returns-in-Ok-TooLong-clause-bad g c =
-    bad-next c.lines.invariant c.stopped.ensures
-    (next-long c.lines.invariant _ (rw c.in-Ok-TooLong.field-0-is at c.in-Ok-TooLong.ensures.next))
+returns-in-Ok-TooLong-clause-bad = error-long
 
--- where a read failed, no line is told
 pub returns-in-Err-clause-bad : goal.returns-in-Err-clause-bad
-returns-in-Err-clause-bad g c =
-    bad-next c.lines.invariant c.stopped-in-Err.ensures
-    (λ bad told. absurd (c.of_read.ensures bad told))
+returns-in-Err-clause-bad = error-read
 
 pub returns-in-Err-put_line-clause-bad : goal.returns-in-Err-put_line-clause-bad
-returns-in-Err-put_line-clause-bad g c =
-    bad-next c.lines.invariant c.stopped-in-Err-put_line.ensures
-    (λ bad told. next-bad c.lines.invariant c.next_line.new.self _
-    (rw c.in-Ok-Line.field-0-is at c.in-Ok-Line.ensures.next) c.line.ensures bad
-    (c.in-Err-put_line.ensures.bad 1048576 bad (ap Err told)))
+returns-in-Err-put_line-clause-bad = error-line
 
--- the batch has all its lines
 pub returns-then-at-done-clause-ok : goal.returns-then-at-done-clause-ok
-returns-then-at-done-clause-ok g c =
-    let put = c.in-Ok.ensures in
-    let sum = c.after-loaded.ensures in
-    part-whole c.lines.invariant c.next_line.new.self _
-    (rw c.in-Ok-Line.field-0-is at c.in-Ok-Line.ensures.next) c.line.ensures
-    put.text c.in-Ok.put put.puts
-    put.known put.counts (omega arith) sum.added sum.taken (omega arith)
+returns-then-at-done-clause-ok = whole-ok
 
 pub returns-then-at-done-clause-counts : goal.returns-then-at-done-clause-counts
-returns-then-at-done-clause-counts g c =
-    let put = c.in-Ok.ensures in
-    let sum = c.after-loaded.ensures in
-    counts-more c.lines.invariant c.next_line.new.self _
-    (rw c.in-Ok-Line.field-0-is at c.in-Ok-Line.ensures.next) c.line.ensures
-    put.text c.in-Ok.put put.puts
-    put.known put.counts (omega arith) sum.added sum.taken
+returns-then-at-done-clause-counts = whole-counts
 
 -- the batch goes on
 pub lines-preserved : goal.lines-preserved
-lines-preserved g c =
-    let put = c.in-Ok.ensures in
-    let sum = c.after-loaded.ensures in
-    putting-more c.lines.invariant c.next_line.new.self _
-    (rw c.in-Ok-Line.field-0-is at c.in-Ok-Line.ensures.next) c.line.ensures
-    put.text c.in-Ok.put put.puts
-    put.known put.counts (omega arith) sum.added sum.taken (omega arith)
-    c.in-Ok-Line.ensures.knows c.in-Ok-Line.ensures.longest put.watches
+lines-preserved = more-preserved
