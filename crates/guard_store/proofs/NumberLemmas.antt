@@ -8,11 +8,11 @@ use Rattle.guard_store.proofs.ListLemmas.{In, to_in}
 use Rattle.guard_store.specs.Answers.{AreNumbered, AreNumbers, HasOwnNumber, IsOneText, first_column}
 
 -- a list of one element
-pub only_one : (rows : List Row) (row : Row) → row ≡ slice_index_or rows 0 row
-    → length rows ≡ 1 → rows ≡ row ∷ []
-only_one [] row is one = absurd (omega (arith, one))
-only_one (r ∷ []) row is one = ap (λ x. x ∷ []) (sym is)
-only_one (r ∷ s ∷ rows) row is one = absurd (omega (arith, one))
+pub only_one : (shown : List Row) (a_row : Row) → a_row ≡ slice_index_or shown 0 a_row
+    → length shown ≡ 1 → shown ≡ a_row ∷ []
+only_one [] a_row is one = absurd (omega (arith, one))
+only_one (r ∷ []) a_row is one = ap (λ x. x ∷ []) (sym is)
+only_one (r ∷ s ∷ shown) a_row is one = absurd (omega (arith, one))
 
 -- a name of no row has no number
 pub none_owned : (rows : List Row) (name : List ℕ) → AreNumbers rows name []
@@ -20,18 +20,18 @@ pub none_owned : (rows : List Row) (name : List ℕ) → AreNumbers rows name []
 none_owned rows name numbers one there has = absurd (to_in [] _ (numbers one there has))
 
 -- a name has its number to itself, where that number shows no other name
-pub one_owned : (rows : List Row) (name : List ℕ) (id : ℤ) (row : Row) (shown : List Row)
-    → AreNumbers rows name (row ∷ []) → column row 0 ≡ Int id → AreNumbered rows id shown
+pub one_owned : (rows : List Row) (name : List ℕ) (id : ℤ) (a_row : Row) (shown : List Row)
+    → AreNumbers rows name (a_row ∷ []) → column a_row 0 ≡ Int id → AreNumbered rows id shown
     → IsOneText shown name → HasOwnNumber rows name
-one_owned rows name id row shown numbers is names only one there has = (
+one_owned rows name id a_row shown numbers is names only one there has = (
   id,
-  number (to_in (row ∷ []) _ (numbers one there has)),
+  number (to_in (a_row ∷ []) _ (numbers one there has)),
   λ other is_there same.
       by_shown other (subst (λ all. In all (column other 2 ∷ [])) only.1
       (to_in shown _ (names other is_there same))),
 )
   where
-    number : In (row ∷ []) (column one 0 ∷ []) → column one 0 ≡ Int id
+    number : In (a_row ∷ []) (column one 0 ∷ []) → column one 0 ≡ Int id
     number (inl e) = sym (ap first_column e) ∙ is
     number (inr none) = absurd none
 
@@ -40,17 +40,17 @@ one_owned rows name id row shown numbers is names only one there has = (
     by_shown other (inr none) = absurd none
 
 -- the same, over the two queries that tell it, which change nothing
-pub owned_after : (old mid new : Database) (name : List ℕ) (id : ℤ) (row : Row)
-    (first shown : List Row) → mid ≡ old → new ≡ mid → first ≡ row ∷ []
-    → AreNumbers (old.trees 0) name first → column row 0 ≡ Int id
+pub owned_after : (old mid new : Database) (name : List ℕ) (id : ℤ) (a_row : Row)
+    (first shown : List Row) → mid ≡ old → new ≡ mid → first ≡ a_row ∷ []
+    → AreNumbers (old.trees 0) name first → column a_row 0 ≡ Int id
     → AreNumbered (mid.trees 0) id shown → IsOneText shown name
     → HasOwnNumber (new.trees 0) name
-owned_after old mid new name id row first shown same next is numbers number names only =
-    let mid_numbers : AreNumbers (mid.trees 0) name (row ∷ []) =
-    subst (λ (d : Database). AreNumbers (d.trees 0) name (row ∷ [])) (sym same)
+owned_after old mid new name id a_row first shown same next is numbers number names only =
+    let mid_numbers : AreNumbers (mid.trees 0) name (a_row ∷ []) =
+    subst (λ (d : Database). AreNumbers (d.trees 0) name (a_row ∷ [])) (sym same)
     (subst (AreNumbers (old.trees 0) name) is numbers) in
     subst (λ (d : Database). HasOwnNumber (d.trees 0) name) (sym next)
-    (one_owned (mid.trees 0) name id row shown mid_numbers number names only)
+    (one_owned (mid.trees 0) name id a_row shown mid_numbers number names only)
 
 -- what a test tells, where it is true
 pub when_true : {P Q : Type 0} (r : Result Bool Error) → (P → Q)
