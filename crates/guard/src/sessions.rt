@@ -10,8 +10,8 @@ use crate::{guards, tasks};
 use bloom_plain::Rate;
 use guard_engine::Task;
 
-// How many more keys a filter has room for at least, where a task may put some.
-const LEAST_ROOM: usize = 1000;
+// How many keys a filter that a put makes has room for.
+const PUT_ROOM: usize = 1000;
 
 // Opens the filter of a store that is there. Where it is made anew, that is told.
 fn open_reader<'a>(rt: &'a HostRuntime, names: &'a Names, rate: Rate) -> Result<Reader<'a>, u8> {
@@ -118,7 +118,7 @@ fn delete<'a>(rt: &'a HostRuntime, names: &'a Names, rate: Rate, key: &str) -> u
 }
 
 fn put<'a>(rt: &'a HostRuntime, names: &'a Names, rate: Rate, key: &str, value: &str) -> u8 {
-    match open_writer(rt, names, rate, LEAST_ROOM) {
+    match open_writer(rt, names, rate, PUT_ROOM) {
         Ok(mut guard) => {
             let task: Task<&[u8]> = Task::Put(key, value);
             let status = tasks::serve(rt, names, &mut guard, task, NO_INPUT);
@@ -144,7 +144,7 @@ fn load<'a>(rt: &'a HostRuntime, names: &'a Names, rate: Rate, load: Load) -> u8
         place: load.file,
         is_put: true,
     };
-    match open_writer(rt, names, rate, LEAST_ROOM.max(lines as usize)) {
+    match open_writer(rt, names, rate, lines as usize) {
         Ok(mut guard) => {
             let task = Task::Load(file, load.batch);
             let status = tasks::serve(rt, names, &mut guard, task, input);
