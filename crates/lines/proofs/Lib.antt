@@ -1,3 +1,4 @@
+mod EndFacts
 mod LineFacts
 pub mod LineLemmas
 mod ReadingFacts

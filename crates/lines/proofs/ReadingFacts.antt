@@ -3,7 +3,7 @@ use Rattle.std.proofs.Common.{◌≡◌, ℕ, true, false, List, [], ◌∷◌, 
 use Rattle.std.specs.Prelude.{codes}
 use Rattle.std.proofs.lemmas.List.{append_cancel_right}
 use Rattle.lines.specs.declared.reader.Next.TheVariants.{End, Line, TooLong}
-use Rattle.lines.specs.Lines.{lines_of, has_no_end}
+use Rattle.lines.specs.Lines.{lines_by, lines_of, has_no_end}
 use Rattle.lines.specs.Reading.{KnowsEnd, TakesLine, TakesLong, Ends, NextLine, has_next, IsReadWhole, IsReadFrom, IsReadToLong}
 use Rattle.lines.proofs.ReadingLemmas.{taken-ended}
 
@@ -25,7 +25,7 @@ takes_line = taken-ended refl refl
 
 -- a line isn't taken while its end is left
 takes_line-not : TakesLine (Some (codes "i 1\nx\n")) (Some (codes "\nx\n")) (codes "i 1") → ⊥
-unfolding lines_of
+unfolding lines_by
 takes_line-not takes =
     let taken : codes "i 1" ≡ takes.taken =
     append_cancel_right (codes "i 1") takes.taken (codes "\nx\n") takes.cut in
@@ -108,7 +108,7 @@ next_long-not is =
 
 -- these are all lines
 whole : IsReadWhole (Some (codes "a\nb")) (Some []) (codes "a" ∷ codes "b" ∷ [])
-unfolding lines_of
+unfolding lines_by
 whole = record { are_lines = refl; none_left = refl }
 
 -- a reader that has a byte left isn't read to its end
@@ -117,18 +117,18 @@ whole-left is = let left : ◌≡◌ {A = Option (List ℕ)} (Some (98 ∷ [])) 
 
 -- a line may not be left out
 whole-lines : IsReadWhole (Some (codes "a\nb")) (Some []) (codes "a" ∷ []) → ⊥
-unfolding lines_of
+unfolding lines_by
 whole-lines is =
     let lines : codes "a" ∷ codes "b" ∷ [] ≡ codes "a" ∷ [] = is.are_lines in cc
 
 -- this is the first line
 from : IsReadFrom (Some (codes "a\nb")) (codes "a" ∷ [])
-unfolding lines_of
+unfolding lines_by
 from = record { later = codes "b" ∷ []; cut = refl }
 
 -- the second line isn't the first
 from-not : IsReadFrom (Some (codes "a\nb")) (codes "b" ∷ []) → ⊥
-unfolding lines_of
+unfolding lines_by
 from-not is =
     let lines : codes "a" ∷ codes "b" ∷ [] ≡ codes "b" ∷ is.later = is.cut in
     let first : 97 ≡ 98 = ap (λ l. get_or (get_or l 0 []) 0 0) lines in
@@ -136,12 +136,12 @@ from-not is =
 
 -- the line after the first has four bytes
 to_long : IsReadToLong 3 (Some (codes "a\nbcde\n")) (codes "a" ∷ [])
-unfolding lines_of
+unfolding lines_by
 to_long = record { long = codes "bcde"; later = []; cut = refl; is_long = omega arith }
 
 -- the line of four bytes isn't longer than four
 to_long-not : IsReadToLong 4 (Some (codes "a\nbcde\n")) (codes "a" ∷ []) → ⊥
-unfolding lines_of
+unfolding lines_by
 to_long-not is =
     let lines : codes "a" ∷ codes "bcde" ∷ [] ≡ codes "a" ∷ is.long ∷ is.later = is.cut in
     let line : codes "bcde" ≡ is.long = cc in

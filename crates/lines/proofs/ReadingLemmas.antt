@@ -3,34 +3,35 @@ use Rattle.std.proofs.Common.{◌≡◌, ℕ, ◌<◌, ◌≤◌, Bool, true, fa
 use Rattle.std.specs.Prelude.{nat_lt}
 use Rattle.std.proofs.lemmas.Bool.{le-ltb, not-true, both_ways}
 use Rattle.std.specs.Io.KnownBytes.{Consumes, IsAtEnd, prepend_known}
-use Rattle.lines.specs.Lines.{has_no_end}
-use Rattle.lines.specs.Reading.{HasTakenLine, TakesLine, TakesShort, TakesLong, GrowsToEnd, GrowsByAll, GrowsTooLong, is_told}
-use Rattle.lines.proofs.LineLemmas.{lines_of-nil, lines_of-ended, lines_of-last, has_no_end-append, IsEnded-line}
+use Rattle.lines.specs.Lines.{has_no_end_by}
+use Rattle.lines.specs.Pieces.{GrowsToEnd, GrowsByAll, GrowsTooLong}
+use Rattle.lines.specs.Reading.{HasTakenLineBy, TakesLineBy, TakesShortBy, TakesLongBy, is_told_by}
+use Rattle.lines.proofs.LineLemmas.{lines_by-nil, lines_by-ended, lines_by-last, has_no_end-append, IsEnded-line}
 
 -- a line that was taken with its end
-pub taken-ended : {old new line : List ℕ} → old ≡ (line ++ 10 ∷ []) ++ new → has_no_end line ≡ true
-    → HasTakenLine old new line
-taken-ended {line = line} cut inside = record {
-  taken = line ++ 10 ∷ [];
+pub taken-ended : {end : ℕ} {old new line : List ℕ} → old ≡ (line ++ end ∷ []) ++ new
+    → has_no_end_by end line ≡ true → HasTakenLineBy end old new line
+taken-ended {end = end} {line = line} cut inside = record {
+  taken = line ++ end ∷ [];
   cut = cut;
-  is_line = lines_of-ended line [] inside ∙ ap (λ l. line ∷ l) lines_of-nil;
-  last = inl (IsEnded-line line inside);
+  is_line = lines_by-ended end line [] inside ∙ ap (λ l. line ∷ l) (lines_by-nil end);
+  last = inl (IsEnded-line end line inside);
 }
 
 -- a last line that has no end
-pub taken-last : {old new line : List ℕ} → old ≡ line ++ new → has_no_end line ≡ true
-    → 0 < length line → new ≡ [] → HasTakenLine old new line
-taken-last {line = line} cut inside some none = record {
+pub taken-last : {end : ℕ} {old new line : List ℕ} → old ≡ line ++ new
+    → has_no_end_by end line ≡ true → 0 < length line → new ≡ [] → HasTakenLineBy end old new line
+taken-last {end = end} {line = line} cut inside some none = record {
   taken = line;
   cut = cut;
-  is_line = lines_of-last line inside some;
+  is_line = lines_by-last end line inside some;
   last = inr none;
 }
 
 -- half-way through a line: its bytes so far were taken, none ends it, and they aren't too many
-pub record IsHalfway (longest : ℕ) (old now : Option (List ℕ)) (line : List ℕ) : Type 0 where
+pub record IsHalfway (end longest : ℕ) (old now : Option (List ℕ)) (line : List ℕ) : Type 0 where
   pub taken : Consumes old now line
-  pub inside : has_no_end line ≡ true
+  pub inside : has_no_end_by end line ≡ true
   pub short : length line ≤ longest
 
 -- nothing is left of a block, and a new one was read
@@ -43,52 +44,52 @@ refilled (Some x) (Some y) None block more line p q fresh r = absurd r
 refilled (Some x) (Some y) (Some z) block more line p q fresh r =
     p ∙ sym (append_assoc line block y) ∙ ap (λ l. l ++ y) (sym q) ∙ ap (λ l. more ++ l) r
 
-module _ {longest : ℕ} (old rest : Option (List ℕ)) {block line : List ℕ}
-    (so_far : IsHalfway longest old (prepend_known block rest) line) where
+module _ {end longest : ℕ} (old rest : Option (List ℕ)) {block line : List ℕ}
+    (so_far : IsHalfway end longest old (prepend_known block rest) line) where
   -- the line grew by the whole block, and a new one was read
-  pub halfway-more : {new more : List ℕ} → GrowsByAll longest block new line more
+  pub halfway-more : {new more : List ℕ} → GrowsByAll end longest block new line more
       → (left : Option (List ℕ)) (fresh : List ℕ) → Consumes rest left fresh
-      → IsHalfway longest old (prepend_known fresh left) more
+      → IsHalfway end longest old (prepend_known fresh left) more
   halfway-more {more = more} all left fresh read = record {
     taken = refilled old rest left block more line so_far.taken all.grows.joined fresh read;
     inside =
-        ap has_no_end all.grows.joined
-        ∙ has_no_end-append line block so_far.inside all.grows.inside;
+        ap (has_no_end_by end) all.grows.joined
+        ∙ has_no_end-append end line block so_far.inside all.grows.inside;
     short = all.grows.short;
   }
 
   -- the line has its end
-  pub takes-ended : {new more : List ℕ} → GrowsToEnd longest block new line more
-      → TakesShort longest old (prepend_known new rest) more
-  takes-ended {new = new} {more = more} end = record {
+  pub takes-ended : {new more : List ℕ} → GrowsToEnd end longest block new line more
+      → TakesShortBy end longest old (prepend_known new rest) more
+  takes-ended {new = new} {more = more} found = record {
     takes = at old rest so_far.taken;
-    short = end.grows.short;
+    short = found.grows.short;
   }
     where
       at : (old rest : Option (List ℕ)) → Consumes old (prepend_known block rest) line
-          → TakesLine old (prepend_known new rest) more
+          → TakesLineBy end old (prepend_known new rest) more
       at None rest p = tt
       at (Some x) None p = absurd p
       at (Some x) (Some y) p =
-          let part = end.part in
-          let joined : line ++ part ≡ more = sym end.grows.joined in
-          let all : line ++ (block ++ y) ≡ line ++ (part ++ 10 ∷ (new ++ y)) =
-          ap (λ l. line ++ l) (ap (λ l. l ++ y) end.cut ∙ append_assoc part (10 ∷ new) y) in
-          let cut : x ≡ (more ++ 10 ∷ []) ++ (new ++ y) =
-          p ∙ all ∙ sym (append_assoc line part (10 ∷ (new ++ y)))
-          ∙ ap (λ l. l ++ 10 ∷ (new ++ y)) joined
-          ∙ sym (append_assoc more (10 ∷ []) (new ++ y)) in
+          let part = found.part in
+          let joined : line ++ part ≡ more = sym found.grows.joined in
+          let all : line ++ (block ++ y) ≡ line ++ (part ++ end ∷ (new ++ y)) =
+          ap (λ l. line ++ l) (ap (λ l. l ++ y) found.cut ∙ append_assoc part (end ∷ new) y) in
+          let cut : x ≡ (more ++ end ∷ []) ++ (new ++ y) =
+          p ∙ all ∙ sym (append_assoc line part (end ∷ (new ++ y)))
+          ∙ ap (λ l. l ++ end ∷ (new ++ y)) joined
+          ∙ sym (append_assoc more (end ∷ []) (new ++ y)) in
           taken-ended cut
-          (ap has_no_end end.grows.joined
-          ∙ has_no_end-append line part so_far.inside end.grows.inside)
+          (ap (has_no_end_by end) found.grows.joined
+          ∙ has_no_end-append end line part so_far.inside found.grows.inside)
 
   -- the line is too long
-  pub takes-long : {new : List ℕ} → GrowsTooLong longest block new line
-      → TakesLong longest old (prepend_known new rest)
+  pub takes-long : {new : List ℕ} → GrowsTooLong end longest block new line
+      → TakesLongBy end longest old (prepend_known new rest)
   takes-long {new = new} grows = at old rest so_far.taken
     where
       at : (old rest : Option (List ℕ)) → Consumes old (prepend_known block rest) line
-          → TakesLong longest old (prepend_known new rest)
+          → TakesLongBy end longest old (prepend_known new rest)
       at None rest p = tt
       at (Some x) None p = absurd p
       at (Some x) (Some y) p =
@@ -98,52 +99,55 @@ module _ {longest : ℕ} (old rest : Option (List ℕ)) {block line : List ℕ}
             cut =
                 p ∙ ap (λ l. line ++ l) (ap (λ l. l ++ y) grows.cut ∙ append_assoc part new y)
                 ∙ sym (append_assoc line part (new ++ y));
-            inside = has_no_end-append line part so_far.inside grows.inside;
+            inside = has_no_end-append end line part so_far.inside grows.inside;
             long = simp length-append (omega (arith, grows.long));
           }
 
 -- a line that is told without a read: where all bytes that wait were moved to an empty line, and
 -- they were its first, the end was told
-pub told-ended : (ended : Bool) (longest : ℕ) {block new line more : List ℕ} → line ≡ []
-    → is_told ended longest block ≡ true → GrowsByAll longest block new line more → ended ≡ true
+pub told-ended : {end : ℕ} (ended : Bool) (longest : ℕ) {block new line more : List ℕ} → line ≡ []
+    → is_told_by end ended longest block ≡ true → GrowsByAll end longest block new line more
+    → ended ≡ true
 told-ended true longest none told all = refl
-told-ended false longest {block = block} {line = line} {more = more} none told all =
+told-ended {end} false longest {block = block} {line = line} {more = more} none told all =
     let grown : more ≡ block = all.grows.joined ∙ ap (λ l. l ++ block) none in
     let few : length block ≤ longest = omega (arith, all.grows.short, ap length grown) in
     let fits : nat_lt longest (length block) ≡ false = le-ltb longest (length block) few in
-    let same : not (has_no_end block) ≡ true =
-    sym (ap (λ b. b || not (has_no_end block)) fits) ∙ told in
-    absurd (both_ways (has_no_end block) (not-true (has_no_end block) same) all.grows.inside)
+    let same : not (has_no_end_by end block) ≡ true =
+    sym (ap (λ b. b || not (has_no_end_by end block)) fits) ∙ told in
+    absurd (both_ways (has_no_end_by end block) (not-true (has_no_end_by end block) same)
+    all.grows.inside)
 
 -- the same within the loop of a reader that began with a block and an empty line
-pub told-now : {began ended : Bool} {longest : ℕ} {first block new line more : List ℕ}
+pub told-now : {end : ℕ} {began ended : Bool} {longest : ℕ} {first block new line more : List ℕ}
     → (began ≡ true → ended ≡ true)
     → (ended ≡ true) ⊎ record { empty : line ≡ []; block : block ≡ first }
-    → is_told began longest first ≡ true → GrowsByAll longest block new line more → ended ≡ true
-told-now {began} {ended} {longest} stays (inl is) told all = is
-told-now {began} {ended} {longest} stays (inr start) told all =
+    → is_told_by end began longest first ≡ true → GrowsByAll end longest block new line more
+    → ended ≡ true
+told-now {end} {began} {ended} {longest} stays (inl is) told all = is
+told-now {end} {began} {ended} {longest} stays (inr start) told all =
     stays (told-ended began longest start.empty
-    (subst (λ b. is_told began longest b ≡ true) (sym start.block) told) all)
+    (subst (λ b. is_told_by end began longest b ≡ true) (sym start.block) told) all)
 
 -- nothing follows the bytes of the line
-module _ {longest : ℕ} (old left : Option (List ℕ)) {line fresh : List ℕ}
-    (so_far : IsHalfway longest old (prepend_known fresh left) line) (none : fresh ≡ [])
-    (end : IsAtEnd left) where
+module _ {end longest : ℕ} (old left : Option (List ℕ)) {line fresh : List ℕ}
+    (so_far : IsHalfway end longest old (prepend_known fresh left) line) (none : fresh ≡ [])
+    (over : IsAtEnd left) where
   -- what is left of both is nothing
   at-end : (left : Option (List ℕ)) → IsAtEnd left → IsAtEnd (prepend_known fresh left)
-  at-end None end = tt
-  at-end (Some y) end = ap (λ l. l ++ y) none ∙ end
+  at-end None over = tt
+  at-end (Some y) over = ap (λ l. l ++ y) none ∙ over
 
   -- there is a last line
-  pub takes-last : 0 < length line → TakesShort longest old (prepend_known fresh left) line
+  pub takes-last : 0 < length line → TakesShortBy end longest old (prepend_known fresh left) line
   takes-last some = record {
-    takes = at old left so_far.taken end;
+    takes = at old left so_far.taken over;
     short = so_far.short;
   }
     where
       at : (old left : Option (List ℕ)) → Consumes old (prepend_known fresh left) line
-          → IsAtEnd left → TakesLine old (prepend_known fresh left) line
-      at None left p end = tt
-      at (Some x) None p end = absurd p
-      at (Some x) (Some y) p end =
-          taken-last p so_far.inside some (ap (λ l. l ++ y) none ∙ end)
+          → IsAtEnd left → TakesLineBy end old (prepend_known fresh left) line
+      at None left p over = tt
+      at (Some x) None p over = absurd p
+      at (Some x) (Some y) p over =
+          taken-last p so_far.inside some (ap (λ l. l ++ y) none ∙ over)

@@ -1,7 +1,7 @@
 -- What taking one line promises: each part of a relation fails alone at the values here.
 use Rattle.std.proofs.Common.{◌≡◌, ℕ, ◌+◌, false, List, [], ◌∷◌, ◌++◌, length, length-append, append-nil, get_or, None, Some, refl, sym, ◌∙◌, ap, arith}
 use Rattle.std.specs.Prelude.{codes}
-use Rattle.lines.specs.Lines.{lines_of}
+use Rattle.lines.specs.Lines.{lines_by, lines_of}
 use Rattle.lines.specs.Reading.{AreShort, IsReadToLong, KnowsEnd, TakesLine, TakesLong, TakesShort, left_of}
 
 -- the bytes that wait come before those that the reader has
@@ -30,7 +30,7 @@ takes_line-more line takes = no-front takes.taken takes.cut
 
 -- the line that is told is the line that was taken
 takes_line-other : TakesLine (Some (codes "ab\n")) (Some []) (codes "a") → ⊥
-unfolding lines_of
+unfolding lines_by
 takes_line-other takes = wrong takes.taken takes.cut takes.is_line
   where
     wrong : (taken : List ℕ) → codes "ab\n" ≡ taken ++ [] → lines_of taken ≡ codes "a" ∷ [] → ⊥
@@ -62,7 +62,7 @@ are_short-second short = omega (arith, short 1 [] (omega arith))
 
 -- the lines before one that is too long are the first of the bytes
 to_long-other : IsReadToLong 0 (Some (codes "a\nb\n")) (codes "b" ∷ []) → ⊥
-unfolding lines_of
+unfolding lines_by
 to_long-other is =
     let lines : codes "a" ∷ codes "b" ∷ [] ≡ codes "b" ∷ is.long ∷ is.later = is.cut in
     let first : 97 ≡ 98 = ap (λ l. get_or (get_or l 0 []) 0 0) lines in

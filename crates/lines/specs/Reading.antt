@@ -1,12 +1,11 @@
 -- What reading one line takes, and what a program read that took one line after the other. What a
--- reader has left is Some of the bytes, or None where it doesn't tell.
-use Rattle.std.specs.Prelude.{◌≡◌, ◌⊎◌, ℕ, ◌+◌, ◌<◌, ◌≤◌, List, [], ◌∷◌, ◌++◌, length, take, slice_index, Bool, true, not, nat_lt, ◌||◌, All, Option, Some, None, IfSome}
+-- reader has left is Some of the bytes, or None where it doesn't tell. A name with `by` takes first
+-- the byte that ends a line; the same name without it is the case of byte 10.
+use Rattle.std.specs.Prelude.{◌≡◌, ◌⊎◌, ℕ, ◌<◌, ◌≤◌, List, [], ◌∷◌, ◌++◌, length, take, slice_index, Bool, true, not, nat_lt, ◌||◌, All, Option, Some, None, IfSome}
 use Rattle.std.specs.Io.KnownBytes.{Consumes, IsAtEnd, prepend_known}
 use Rattle.lines.specs.declared.reader.Next.{Next}
 use Rattle.lines.specs.declared.reader.Next.TheVariants.{End, Line, TooLong}
-use Rattle.lines.specs.declared.piece.Piece.{Piece}
-use Rattle.lines.specs.declared.piece.Piece.TheVariants as piece
-use Rattle.lines.specs.Lines.{lines_of, has_no_end, IsEnded}
+use Rattle.lines.specs.Lines.{lines_by, has_no_end_by, IsEndedBy}
 
 -- what contracts see of a reader of lines: the line that it read last, the bytes that were read and
 -- wait, whether the end was told, and how long a line may be
@@ -26,44 +25,45 @@ KnowsEnd ended rest = ended ≡ true → IsAtEnd rest
 
 -- whether the next line is told without asking the reader: the end was told, more bytes wait than a
 -- line may have, or one of them ends a line
-abbrev pub is_told : Bool → ℕ → List ℕ → Bool
-is_told ended longest bytes = ended || (nat_lt longest (length bytes) || not (has_no_end bytes))
+abbrev pub is_told_by : ℕ → Bool → ℕ → List ℕ → Bool
+is_told_by end ended longest bytes =
+    ended || (nat_lt longest (length bytes) || not (has_no_end_by end bytes))
 
 -- the same of a reader of lines
-abbrev pub has_next : Waiting → Bool
-has_next waiting = is_told waiting.ended waiting.longest waiting.bytes
+abbrev pub has_next_by : ℕ → Waiting → Bool
+has_next_by end waiting = is_told_by end waiting.ended waiting.longest waiting.bytes
 
 -- the first line of these bytes has n bytes, and its end is there too
-pub record HasEndAt (bytes : List ℕ) (n : ℕ) : Type 0 where
+pub record HasEndAtBy (end : ℕ) (bytes : List ℕ) (n : ℕ) : Type 0 where
   pub within : n < length bytes
-  pub ended : slice_index bytes n ≡ 10
-  pub inside : has_no_end (take n bytes) ≡ true
+  pub ended : slice_index bytes n ≡ end
+  pub inside : has_no_end_by end (take n bytes) ≡ true
 
 -- from these bytes to those one line was taken, with its end or with all that was left
-pub record HasTakenLine (old new line : List ℕ) : Type 0 where
+pub record HasTakenLineBy (end : ℕ) (old new line : List ℕ) : Type 0 where
   pub taken : List ℕ
   pub cut : old ≡ taken ++ new
-  pub is_line : lines_of taken ≡ line ∷ []
-  pub last : IsEnded taken ⊎ (new ≡ [])
+  pub is_line : lines_by end taken ≡ line ∷ []
+  pub last : IsEndedBy end taken ⊎ (new ≡ [])
 
 -- one line was taken, for a reader that may not tell its bytes
-abbrev pub TakesLine : Option (List ℕ) → Option (List ℕ) → List ℕ → Type 0
-TakesLine None new line = Unit {0}
-TakesLine (Some old) None line = ⊥
-TakesLine (Some old) (Some new) line = HasTakenLine old new line
+abbrev pub TakesLineBy : ℕ → Option (List ℕ) → Option (List ℕ) → List ℕ → Type 0
+TakesLineBy end None new line = Unit {0}
+TakesLineBy end (Some old) None line = ⊥
+TakesLineBy end (Some old) (Some new) line = HasTakenLineBy end old new line
 
 -- from these bytes to those more bytes of one line were taken than a line may have
-pub record HasTakenLong (longest : ℕ) (old new : List ℕ) : Type 0 where
+pub record HasTakenLongBy (end longest : ℕ) (old new : List ℕ) : Type 0 where
   pub taken : List ℕ
   pub cut : old ≡ taken ++ new
-  pub inside : has_no_end taken ≡ true
+  pub inside : has_no_end_by end taken ≡ true
   pub long : longest < length taken
 
 -- more of a line was taken than it may have, for a reader that may not tell its bytes
-abbrev pub TakesLong : ℕ → Option (List ℕ) → Option (List ℕ) → Type 0
-TakesLong longest None new = Unit {0}
-TakesLong longest (Some old) None = ⊥
-TakesLong longest (Some old) (Some new) = HasTakenLong longest old new
+abbrev pub TakesLongBy : ℕ → ℕ → Option (List ℕ) → Option (List ℕ) → Type 0
+TakesLongBy end longest None new = Unit {0}
+TakesLongBy end longest (Some old) None = ⊥
+TakesLongBy end longest (Some old) (Some new) = HasTakenLongBy end longest old new
 
 -- nothing is left, and nothing was taken
 pub record Ends (old new : Option (List ℕ)) : Type 0 where
@@ -71,8 +71,8 @@ pub record Ends (old new : Option (List ℕ)) : Type 0 where
   pub end : IsAtEnd new
 
 -- a line was taken that is short enough
-pub record TakesShort (longest : ℕ) (old new : Option (List ℕ)) (line : List ℕ) : Type 0 where
-  pub takes : TakesLine old new line
+pub record TakesShortBy (end longest : ℕ) (old new : Option (List ℕ)) (line : List ℕ) : Type 0 where
+  pub takes : TakesLineBy end old new line
   pub short : length line ≤ longest
 
 -- each of these lines is short enough
@@ -80,67 +80,71 @@ abbrev pub AreShort : ℕ → List (List ℕ) → Type 0
 AreShort longest lines = All (λ line. length line ≤ longest) lines
 
 -- what the next line came to
-abbrev pub NextLine : ℕ → Option (List ℕ) → Option (List ℕ) → List ℕ → Next → Type 0
-NextLine longest old new line End = Ends old new
-NextLine longest old new line Line = TakesShort longest old new line
-NextLine longest old new line TooLong = TakesLong longest old new
-
--- a line grew by bytes that end no line, and isn't too long
-pub record Grows (longest : ℕ) (line more part : List ℕ) : Type 0 where
-  pub joined : more ≡ line ++ part
-  pub inside : has_no_end part ≡ true
-  pub short : length more ≤ longest
-
--- a line grew by bytes whose end was taken too
-pub record GrowsToEnd (longest : ℕ) (old new line more : List ℕ) : Type 0 where
-  pub part : List ℕ
-  pub cut : old ≡ part ++ 10 ∷ new
-  pub grows : Grows longest line more part
-
--- a line grew by all the bytes that there are
-pub record GrowsByAll (longest : ℕ) (old new line more : List ℕ) : Type 0 where
-  pub none_left : new ≡ []
-  pub grows : Grows longest line more old
-
--- bytes were taken that would make a line too long
-pub record GrowsTooLong (longest : ℕ) (old new line : List ℕ) : Type 0 where
-  pub part : List ℕ
-  pub cut : old ≡ part ++ new
-  pub inside : has_no_end part ≡ true
-  pub long : longest < length line + length part
-
--- what came of moving waiting bytes to a line
-abbrev pub MovesPiece : ℕ → List ℕ → List ℕ → List ℕ → List ℕ → Piece → Type 0
-MovesPiece longest old new line more piece.Ended = GrowsToEnd longest old new line more
-MovesPiece longest old new line more piece.All = GrowsByAll longest old new line more
-MovesPiece longest old new line more piece.TooLong = GrowsTooLong longest old new line
+abbrev pub NextLineBy : ℕ → ℕ → Option (List ℕ) → Option (List ℕ) → List ℕ → Next → Type 0
+NextLineBy end longest old new line End = Ends old new
+NextLineBy end longest old new line Line = TakesShortBy end longest old new line
+NextLineBy end longest old new line TooLong = TakesLongBy end longest old new
 
 -- these are all lines of the bytes, and the reader is at its end
-pub record HasReadAll (bytes : List ℕ) (left : Option (List ℕ)) (lines : List (List ℕ)) : Type 0
-  where
-    pub are_lines : lines_of bytes ≡ lines
-    pub none_left : left ≡ Some []
+pub record HasReadAllBy (end : ℕ) (bytes : List ℕ) (left : Option (List ℕ))
+    (lines : List (List ℕ)) : Type 0 where
+  pub are_lines : lines_by end bytes ≡ lines
+  pub none_left : left ≡ Some []
 
 -- these are all lines of a reader that may not tell its bytes, and it is at its end
-abbrev pub IsReadWhole : Option (List ℕ) → Option (List ℕ) → List (List ℕ) → Type 0
-IsReadWhole read left lines = IfSome read (λ bytes. HasReadAll bytes left lines)
+abbrev pub IsReadWholeBy : ℕ → Option (List ℕ) → Option (List ℕ) → List (List ℕ) → Type 0
+IsReadWholeBy end read left lines = IfSome read (λ bytes. HasReadAllBy end bytes left lines)
 
 -- these are the first lines of the bytes
-pub record AreFirst (bytes : List ℕ) (lines : List (List ℕ)) : Type 0 where
+pub record AreFirstBy (end : ℕ) (bytes : List ℕ) (lines : List (List ℕ)) : Type 0 where
   pub later : List (List ℕ)
-  pub cut : lines_of bytes ≡ lines ++ later
+  pub cut : lines_by end bytes ≡ lines ++ later
 
 -- the lines are the first, for a reader that may not tell its bytes
-abbrev pub IsReadFrom : Option (List ℕ) → List (List ℕ) → Type 0
-IsReadFrom read lines = IfSome read (λ bytes. AreFirst bytes lines)
+abbrev pub IsReadFromBy : ℕ → Option (List ℕ) → List (List ℕ) → Type 0
+IsReadFromBy end read lines = IfSome read (λ bytes. AreFirstBy end bytes lines)
 
 -- the line after these is longer than a line may be
-pub record AreBeforeLong (longest : ℕ) (bytes : List ℕ) (lines : List (List ℕ)) : Type 0 where
-  pub long : List ℕ
-  pub later : List (List ℕ)
-  pub cut : lines_of bytes ≡ lines ++ long ∷ later
-  pub is_long : longest < length long
+pub record AreBeforeLongBy (end longest : ℕ) (bytes : List ℕ) (lines : List (List ℕ)) : Type 0
+  where
+    pub long : List ℕ
+    pub later : List (List ℕ)
+    pub cut : lines_by end bytes ≡ lines ++ long ∷ later
+    pub is_long : longest < length long
 
 -- the line after these is too long, for a reader that may not tell its bytes
+abbrev pub IsReadToLongBy : ℕ → ℕ → Option (List ℕ) → List (List ℕ) → Type 0
+IsReadToLongBy end longest read lines =
+    IfSome read (λ bytes. AreBeforeLongBy end longest bytes lines)
+
+-- whether the next line is told, where byte 10 ends a line
+abbrev pub has_next : Waiting → Bool
+has_next waiting = has_next_by 10 waiting
+
+-- one line was taken that byte 10 ends
+abbrev pub TakesLine : Option (List ℕ) → Option (List ℕ) → List ℕ → Type 0
+TakesLine old new line = TakesLineBy 10 old new line
+
+-- more of a line that byte 10 ends was taken than it may have
+abbrev pub TakesLong : ℕ → Option (List ℕ) → Option (List ℕ) → Type 0
+TakesLong longest old new = TakesLongBy 10 longest old new
+
+-- a line was taken that byte 10 ends and that is short enough
+abbrev pub TakesShort : ℕ → Option (List ℕ) → Option (List ℕ) → List ℕ → Type 0
+TakesShort longest old new line = TakesShortBy 10 longest old new line
+
+-- what the next line came to, where byte 10 ends a line
+abbrev pub NextLine : ℕ → Option (List ℕ) → Option (List ℕ) → List ℕ → Next → Type 0
+NextLine longest old new line next = NextLineBy 10 longest old new line next
+
+-- these are all lines that byte 10 ends
+abbrev pub IsReadWhole : Option (List ℕ) → Option (List ℕ) → List (List ℕ) → Type 0
+IsReadWhole read left lines = IsReadWholeBy 10 read left lines
+
+-- these are the first lines that byte 10 ends
+abbrev pub IsReadFrom : Option (List ℕ) → List (List ℕ) → Type 0
+IsReadFrom read lines = IsReadFromBy 10 read lines
+
+-- the line after these is too long, where byte 10 ends a line
 abbrev pub IsReadToLong : ℕ → Option (List ℕ) → List (List ℕ) → Type 0
-IsReadToLong longest read lines = IfSome read (λ bytes. AreBeforeLong longest bytes lines)
+IsReadToLong longest read lines = IsReadToLongBy 10 longest read lines

@@ -7,6 +7,6 @@ mod reader;
 mod reads;
 mod writer;
 
-pub use reader::{LineReader, Next};
+pub use reader::{LineReader, LineReaderBy, Next};
 pub use reads::{read_full, read_some};
-pub use writer::{put_bytes, put_line};
+pub use writer::{put_bytes, put_line, put_line_by};

@@ -1,7 +1,8 @@
 //! Moves waiting bytes to a line.
 ghost use Rattle.std.specs.Prelude.{◌≡◌, ◌+◌, ◌<◌, ◌≤◌, true, false, not, ◌++◌, length, IfOk, MatchOption};
-ghost use Rattle.lines.specs.Lines.{has_no_end};
-ghost use Rattle.lines.specs.Reading.{HasEndAt, MovesPiece};
+ghost use Rattle.lines.specs.Lines.{has_no_end_by};
+ghost use Rattle.lines.specs.Pieces.{MovesPiece};
+ghost use Rattle.lines.specs.Reading.{HasEndAtBy};
 
 use crate::block::Block;
 use std::io;
@@ -18,12 +19,16 @@ pub enum Piece {
 }
 
 /// Moves the bytes up to the line's end, and takes that end.
-pub fn move_piece(block: &mut Block, line: &mut Vec<u8>, longest: usize) -> io::Result<Piece>
+pub fn move_piece<const END: u8>(
+    block: &mut Block,
+    line: &mut Vec<u8>,
+    longest: usize,
+) -> io::Result<Piece>
     requires { length line.old.items ≤ longest }
     ensures { IfOk result
-        (MovesPiece longest block.old block.new line.old.items line.new.items) }
+        (MovesPiece END longest block.old block.new line.old.items line.new.items) }
 {
-    match first_end(block.as_slice()) {
+    match first_end::<END>(block.as_slice()) {
         Some(count) => {
             if !append(line, &block.as_slice()[..count], longest)? {
                 block.skip(count);
@@ -44,11 +49,11 @@ pub fn move_piece(block: &mut Block, line: &mut Vec<u8>, longest: usize) -> io::
 }
 
 // Where the first line ends, if its end is among the bytes.
-fn first_end(bytes: &[u8]) -> Option<usize>
-    ensures { MatchOption result (has_no_end bytes.now ≡ true) (HasEndAt bytes.now) }
+fn first_end<const END: u8>(bytes: &[u8]) -> Option<usize>
+    ensures { MatchOption result (has_no_end_by END bytes.now ≡ true) (HasEndAtBy END bytes.now) }
 {
     'bytes: for (at, byte) in bytes.iter().enumerate() {
-        if *byte == b'\n' {
+        if *byte == END {
             return Some(at);
         }
     }
@@ -56,10 +61,10 @@ fn first_end(bytes: &[u8]) -> Option<usize>
 }
 
 /// Whether one of the bytes ends a line.
-pub fn has_end(bytes: &[u8]) -> bool
-    ensures { result ≡ not (has_no_end bytes.now) }
+pub fn has_end<const END: u8>(bytes: &[u8]) -> bool
+    ensures { result ≡ not (has_no_end_by END bytes.now) }
 {
-    match first_end(bytes) {
+    match first_end::<END>(bytes) {
         Some(_) => true,
         None => false,
     }

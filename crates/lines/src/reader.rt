@@ -1,7 +1,7 @@
 //! Reading one line after the other.
 ghost use Rattle.std.specs.Prelude.{◌≡◌, false, true, [], IfOk, OnOk};
 ghost use Rattle.std.specs.Io.KnownBytes.{Consumes, prepend_known};
-ghost use Rattle.lines.specs.Reading.{KnowsEnd, NextLine, has_next, is_told, left_of};
+ghost use Rattle.lines.specs.Reading.{KnowsEnd, NextLineBy, has_next_by, is_told_by, left_of};
 
 use crate::block::Block;
 use crate::piece::{Piece, has_end, move_piece};
@@ -25,17 +25,21 @@ pub enum Next {
 }
 
 /// Gives the lines of a reader one after the other, and never reads on once a read told the end.
+/// The byte `END` ends a line.
 ///
 /// The reader keeps one block of bytes and one line, which takes memory as it needs it.
 #[derive(Drop)]
-pub struct LineReader {
+pub struct LineReaderBy<const END: u8> {
     block: Block,
     line: Vec<u8>,
     ended: bool,
     longest: usize,
 }
 
-impl Model for LineReader {
+/// The reader of lines as text has them: byte 10 ends a line.
+pub type LineReader = LineReaderBy<10>;
+
+impl<const END: u8> Model for LineReaderBy<END> {
     ghost use Rattle.lines.specs.Reading.{Waiting};
 
     ghost Value = { Waiting };
@@ -48,14 +52,14 @@ impl Model for LineReader {
     } };
 }
 
-impl LineReader {
+impl<const END: u8> LineReaderBy<END> {
     /// Nothing was read yet. A line may have at most this many bytes, without its end.
     pub fn new(alloc: Global, longest: usize) -> Result<Self, AllocError>
         ensures empty { IfOk result (λ reader. reader.bytes ≡ []) }
         ensures open { IfOk result (λ reader. reader.ended ≡ false) }
         ensures longest { IfOk result (λ reader. reader.longest ≡ longest) }
     {
-        Ok(LineReader {
+        Ok(LineReaderBy {
             block: Block::new(alloc)?,
             line: Vec::with_capacity(alloc, longest.min(FIRST_ROOM))?,
             ended: false,
@@ -73,7 +77,7 @@ impl LineReader {
     /// Whether the next line is told without a read: its end waits, or more bytes than a line may
     /// have, or the input has ended.
     pub fn has_next(&self) -> bool
-        ensures { result ≡ has_next self.now }
+        ensures { result ≡ has_next_by END self.now }
     {
         if self.ended {
             return true;
@@ -82,7 +86,7 @@ impl LineReader {
         if bytes.len() > self.longest {
             return true;
         }
-        has_end(bytes)
+        has_end::<END>(bytes)
     }
 
     /// Reads the next line. After the end it reads nothing.
@@ -91,7 +95,7 @@ impl LineReader {
     /// of the line is lost.
     pub fn next_line<R: Read>(&mut self, input: &mut R) -> io::Result<Next>
         requires { KnowsEnd self.old.ended (R.remaining input.old) }
-        ensures next { IfOk result (NextLine self.old.longest
+        ensures next { IfOk result (NextLineBy END self.old.longest
             (left_of self.old (R.remaining input.old))
             (left_of self.new (R.remaining input.new)) self.new.line) }
         ensures knows { KnowsEnd self.new.ended (R.remaining input.new) }
@@ -99,10 +103,10 @@ impl LineReader {
         // The end stays told.
         ensures told { self.old.ended ≡ true → self.new.ended ≡ true }
         // The reader isn't asked where it needn't be.
-        ensures quiet { has_next self.old ≡ true → input.new ≡ input.old }
+        ensures quiet { has_next_by END self.old ≡ true → input.new ≡ input.old }
     {
         self.line.clear();
-        fill_line(
+        fill_line::<END, R>(
             &mut self.block,
             &mut self.line,
             &mut self.ended,
@@ -113,7 +117,7 @@ impl LineReader {
 }
 
 // Reads into an empty line up to its end.
-fn fill_line<R: Read>(
+fn fill_line<const END: u8, R: Read>(
     block: &mut Block,
     line: &mut Vec<u8>,
     ended: &mut bool,
@@ -122,16 +126,16 @@ fn fill_line<R: Read>(
 ) -> io::Result<Next>
     requires empty { line.old.items ≡ [] }
     requires knows { KnowsEnd ended.old (R.remaining input.old) }
-    ensures next { IfOk result (NextLine longest
+    ensures next { IfOk result (NextLineBy END longest
         (prepend_known block.old (R.remaining input.old))
         (prepend_known block.new (R.remaining input.new)) line.new.items) }
     ensures knows { KnowsEnd ended.new (R.remaining input.new) }
     ensures told { ended.old ≡ true → ended.new ≡ true }
-    ensures quiet { is_told ended.old longest block.old ≡ true → input.new ≡ input.old }
+    ensures quiet { is_told_by END ended.old longest block.old ≡ true → input.new ≡ input.old }
 {
     // A count that no input outlasts: each turn but the last takes a byte or more.
     'pieces: for _piece in 0..u64::MAX {
-        match move_piece(block, line, longest)? {
+        match move_piece::<END>(block, line, longest)? {
             Piece::Ended => return Ok(Next::Line),
             Piece::TooLong => return Ok(Next::TooLong),
             Piece::All => {}

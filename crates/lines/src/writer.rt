@@ -6,7 +6,7 @@ ghost use Rattle.lines.specs.Writing.{AppendsPart};
 use std::io;
 use std::io::{ErrorKind, Write};
 
-/// Writes a line and its end.
+/// Writes a line and its end, byte 10.
 ///
 /// An interrupted write is tried again. After an error a beginning of both was written.
 pub fn put_line<W: Write>(output: &mut W, line: &[u8]) -> io::Result<()>
@@ -15,8 +15,20 @@ pub fn put_line<W: Write>(output: &mut W, line: &[u8]) -> io::Result<()>
     ensures part { OnErr result
         (AppendsPart (line.now ++ 10 ∷ []) (W.contents output.old) (W.contents output.new)) }
 {
+    put_line_by(output, line, 10)
+}
+
+/// Writes a line and the byte that ends it.
+///
+/// An interrupted write is tried again. After an error a beginning of both was written.
+pub fn put_line_by<W: Write>(output: &mut W, line: &[u8], end: u8) -> io::Result<()>
+    ensures whole { OnOk result
+        (Appends (W.contents output.old) (W.contents output.new) (line.now ++ end ∷ [])) }
+    ensures part { OnErr result
+        (AppendsPart (line.now ++ end ∷ []) (W.contents output.old) (W.contents output.new)) }
+{
     put_bytes(output, line)?;
-    put_bytes(output, b"\n")
+    put_bytes(output, &[end])
 }
 
 /// Writes bytes. Of what was written before an error std's `write_all` says nothing.

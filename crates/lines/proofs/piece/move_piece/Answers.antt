@@ -1,12 +1,13 @@
 use Rattle.std.proofs.Common.{◌+◌, ◌<◌, ◌++◌, length, sym, ◌∙◌, ap, subst, take, take-append-drop}
-use Rattle.lines.specs.Reading.{HasEndAt}
+use Rattle.lines.specs.Reading.{HasEndAtBy}
 use Rattle.lines.proofs.piece.move_piece.Goals as goal
 
 pub returns-then-not-branch : goal.returns-then-not-branch
-returns-then-not-branch c =
+returns-then-not-branch g c =
     let block = c.args.block.now in
     let count = c.in-Some.count in
-    let end = subst (λ bytes. HasEndAt bytes count) c.as_slice.ensures c.in-Some.ensures in
+    let end =
+    subst (λ bytes. HasEndAtBy g.row.END bytes count) c.as_slice.ensures c.in-Some.ensures in
     record {
       part = take count block;
       cut =

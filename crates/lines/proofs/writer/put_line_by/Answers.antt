@@ -1,5 +1,5 @@
 use Rattle.lines.proofs.WritingLemmas.{part-both}
-use Rattle.lines.proofs.writer.put_line.Goals as goal
+use Rattle.lines.proofs.writer.put_line_by.Goals as goal
 
 pub returns-clause-part : goal.returns-clause-part
 returns-clause-part g c =
