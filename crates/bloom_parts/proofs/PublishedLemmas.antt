@@ -14,6 +14,8 @@ pub use Rattle.bloom_parts.proofs.PowerBounds.{pow-pow}
 pub use Rattle.bloom_parts.proofs.ContentLemmas.{test-bit, bit_is_on-mask}
 -- bits of words that are or-ed or and-ed, and of the word 0
 pub use Rattle.bloom_parts.proofs.ContentLemmas.{bit_is_on-or, bit_is_on-and, bit_is_on-zero}
+-- a position that is turned on by its mask
+pub use Rattle.bloom_parts.proofs.ContentLemmas.{content-set, get_or-itself}
 -- the content at a bit of a word, and past the words, where no position is on
 pub use Rattle.bloom_parts.proofs.WordLemmas.{content-at, content-past}
 -- no position is on in zero words

@@ -18,6 +18,13 @@ mod FileRefusalFacts
 mod FileStopFacts
 mod FilterFacts
 mod FoundLemmas
+mod GrowingFacts
+mod GrowingInsertFacts
+mod GrowingKeptLemmas
+mod GrowingLawLemmas
+mod GrowingLemmas
+mod GrowingRefusalLemmas
+mod GrowingTakesLemmas
 mod HashFacts
 mod HeadRefusalFacts
 mod InsertFacts

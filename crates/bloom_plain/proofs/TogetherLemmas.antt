@@ -19,7 +19,7 @@ adds-nothing false false p = refl
 
 module _ {S : Type 0} (old : Filter S) where
   -- an insert of a hash that is contained changes nothing
-  contained-insert : (hash : ℕ) → contains old hash ≡ true → Inserts old hash old true
+  pub contained-insert : (hash : ℕ) → contains old hash ≡ true → Inserts old hash old true
   contained-insert hash is = record {
     answers = sym is;
     bits = λ p. adds-nothing (content old.words p) (positions_of old hash p)

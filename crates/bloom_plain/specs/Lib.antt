@@ -6,6 +6,9 @@ pub mod FileCodes
 pub mod FileReads
 pub mod FileRefusals
 pub mod Filter
+pub mod Growing
+pub mod GrowingInserts
+pub mod GrowingLaws
 pub mod Laws
 pub mod Replies
 pub mod SourceHash

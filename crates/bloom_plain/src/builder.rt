@@ -45,7 +45,7 @@ impl<S> Model for BuilderWithBits<S> {
 }
 
 // The default hasher with the key of a seed, which is its sixteen big-endian bytes.
-fn hasher_of_seed(seed: &u128) -> DefaultHasher
+pub(crate) fn hasher_of_seed(seed: &u128) -> DefaultHasher
     ensures { let bytes = to_be_bytes w128 seed.now in
         HasKey result (key_low bytes) (key_high bytes) }
 {

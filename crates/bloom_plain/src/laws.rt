@@ -8,6 +8,7 @@ ghost use Rattle.bloom_plain.specs.Data.{DataLaw, SameItemsLaw};
 ghost use Rattle.bloom_plain.specs.File.{FileLaw, SameFileItemsLaw};
 ghost use Rattle.bloom_plain.specs.FileRefusals.{ReadableLaw};
 ghost use Rattle.bloom_plain.specs.Filter.{Unites, Intersects};
+ghost use Rattle.bloom_plain.specs.GrowingLaws.{GrowingKeptLaw, GrowingFoundLaw, RatesBelowLaw};
 ghost use Rattle.bloom_plain.specs.Laws.{InsertLaw, KeptByInsertLaw, KeptByUnionLaw, KeptByListLaw, KeptByInsertsLaw, IntersectionLaw, UnionLaw, ClearLaw, IsCommutative, IsAssociative, IsIdempotent, RebuiltLaw, EqualityLaw, EqualContentLaw, EqualStartsLaw, EqualRateStartsLaw, JoinedListsLaw, UnitedInsertsLaw, FoundLaw, FoundAfterInsertsLaw, FoundAfterReplayLaw};
 ghost use Rattle.bloom_plain.specs.SourceHash.{source_hash_of, IsFunctionOfBytes};
 
@@ -93,6 +94,18 @@ pub fn inserted_stays_found<S>()
     ensures operations { FoundLaw S }
     ensures inserts { FoundAfterInsertsLaw S }
     ensures replay { FoundAfterReplayLaw S }
+{}
+
+/// In a filter that grows, what is contained stays contained, and so does each hash that came.
+pub fn growing_inserted_stays_found<S>()
+    ensures kept { GrowingKeptLaw S }
+    ensures found { GrowingFoundLaw S }
+{}
+
+/// The rates of the filters of one that grows, however many they are, sum to less than the rate
+/// that was asked for.
+pub fn growing_rates_stay_below()
+    ensures { RatesBelowLaw }
 {}
 
 /// Under the default hasher a source hash is SipHash-1-3 of the bytes that the item writes.

@@ -4,6 +4,7 @@
 mod bloom;
 pub mod builder;
 pub mod file;
+mod growing;
 pub mod laws;
 
 pub use bloom::{
@@ -14,3 +15,4 @@ pub use bloom_parts::hasher::{CloneBuildHasher, DefaultHasher, RandomDefaultHash
 pub use bloom_parts::math::Rate;
 pub use bloom_parts::text::Text;
 pub use builder::{BuilderWithBits, BuilderWithFalsePositiveRate};
+pub use growing::GrowingFilter;

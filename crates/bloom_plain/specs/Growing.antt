@@ -1,0 +1,102 @@
+-- A filter that grows: Bloom filters one after the other, each for twice the items of the one
+-- before it at half its rate (P. S. Almeida, C. Baquero, N. Preguiça and D. Hutchison, "Scalable
+-- Bloom Filters", 2007, with growth 2 and tightening 1/2).
+use Rattle.std.specs.Prelude.{◌≡◌, ℕ, ◌+◌, ◌*◌, ◌^◌, ◌≤◌, Bool, false, List, [], ◌∷◌, ◌++◌, length, map, All, ⊤}
+use Rattle.std.specs.List.{list_any}
+use Rattle.bloom_parts.specs.declared.hasher.CloneBuildHasher.{CloneBuildHasher}
+use Rattle.bloom_parts.specs.declared.hasher.sip.RandomDefaultHasher.{RandomDefaultHasher}
+use Rattle.bloom_parts.specs.declared.math.rate.Rate.{Rate}
+use Rattle.bloom_parts.specs.Keys.{HasKey}
+use Rattle.bloom_parts.specs.Operations.{Insert}
+use Rattle.bloom_parts.specs.Rates.{num_of, den_of}
+use Rattle.bloom_plain.specs.Builders.{RateStart, IsMadeFor}
+use Rattle.bloom_plain.specs.Filter.{Filter, contains}
+use Rattle.bloom_plain.specs.Replies.{CarriesOut}
+
+-- what was asked for: a rate, which the rates of all filters together stay below, the room of the
+-- first filter, which is the number of items that it is made for, and the hasher of all
+pub record Plan (S : Type 0) : Type 0 where
+  pub rate : Rate
+  pub room : ℕ
+  pub hasher : S
+
+-- the plan of these parts
+abbrev pub plan_of : {S : Type 0} → Rate → ℕ → S → Plan S
+plan_of rate room hasher = record { rate = rate; room = room; hasher = hasher }
+
+-- a filter that grows: its plan, its full filters, the oldest first, its newest filter, and how
+-- many new hashes that one took
+pub record Growing (S : Type 0) : Type 0 where
+  pub plan : Plan S
+  pub older : List (Filter S)
+  pub newest : Filter S
+  pub taken : ℕ
+
+-- the room of filter number i, where the oldest is number 0, from the room of number 0
+abbrev pub room_at : ℕ → ℕ → ℕ
+room_at room i = room * 2 ^ i
+
+-- the lower part of the rate of filter number i, from the rate asked for. Its upper part is that of
+-- the rate asked for
+abbrev pub den_at : Rate → ℕ → ℕ
+den_at rate i = den_of rate * 2 ^ (i + 1)
+
+-- the room of the newest filter
+abbrev pub newest_room : {S : Type 0} → Growing S → ℕ
+newest_room g = room_at g.plan.room (length g.older)
+
+-- the builder of a rate with this hasher
+abbrev pub rate_start : {S : Type 0} → Rate → S → RateStart S
+rate_start rate hasher = record { rate = rate; hasher = hasher }
+
+-- this is the filter that the builders make for number i
+pub record IsNumber {S : Type 0} (plan : Plan S) (i : ℕ) (made : Filter S) : Type 0 where
+  pub rate : Rate
+  pub num : num_of rate ≡ num_of plan.rate
+  pub den : den_of rate ≡ den_at plan.rate i
+  pub is_made : IsMadeFor (rate_start rate plan.hasher) (room_at plan.room i) made
+
+-- whether one of some filters contains a hash
+abbrev pub any_contains : {S : Type 0} → List (Filter S) → ℕ → Bool
+any_contains filters hash = list_any (λ f. contains f hash) filters
+
+-- whether a filter that grows contains a hash
+abbrev pub has : {S : Type 0} → Growing S → ℕ → Bool
+has g hash = any_contains (g.older ++ g.newest ∷ []) hash
+
+-- a filter was made as the next behind these older ones, and then took this many hashes. None of
+-- them was contained in it, or in an older one, when it came
+pub record Took {S : Type 0} (plan : Plan S) (older : List (Filter S)) (count : ℕ)
+    (filter : Filter S) : Type 0 where
+  pub made : Filter S
+  pub is_made : IsNumber plan (length older) made
+  pub hashes : List ℕ
+  pub counted : length hashes ≡ count
+  pub new : All (λ hash. any_contains older hash ≡ false) hashes
+  pub did : CarriesOut made (map Insert hashes) filter (map (λ _. false) hashes)
+
+-- each of these filters, which stand behind those before them, took as many hashes as its room
+abbrev pub AreFull : {S : Type 0} → Plan S → List (Filter S) → List (Filter S) → Type 0
+AreFull {S} plan before [] = ⊤
+AreFull {S} plan before (f ∷ later) =
+    Took plan before (room_at plan.room (length before)) f × AreFull plan (before ++ f ∷ []) later
+
+-- the rule of a filter that grows: all filters but the newest are full
+pub record IsGrown {S : Type 0} (g : Growing S) : Type 0 where
+  pub some_room : 1 ≤ g.plan.room
+  pub full : AreFull g.plan [] g.older
+  pub newest : Took g.plan g.older g.taken g.newest
+  pub most : g.taken ≤ newest_room g
+
+-- the default hasher has some key, and has taken in nothing
+abbrev pub IsKeyed : CloneBuildHasher RandomDefaultHasher → Type 0
+IsKeyed hasher = (k0 : ℕ) × (k1 : ℕ) × HasKey hasher k0 k1
+
+-- what a filter that grows keeps: the rule, a key, and the rate and the room of its newest filter
+pub record IsKept (g : Growing (CloneBuildHasher RandomDefaultHasher)) (rate : Rate) (room : ℕ)
+    : Type 0 where
+  pub grown : IsGrown g
+  pub key : IsKeyed g.plan.hasher
+  pub num : num_of rate ≡ num_of g.plan.rate
+  pub den : den_of rate ≡ den_at g.plan.rate (length g.older)
+  pub newest_is : room ≡ newest_room g
