@@ -116,7 +116,8 @@ upto (Some x) (Some y) (Some z) block lines p (inl q) =
     let took = q.takes in
     let good = ap (map line_of) before.are_lines ∙ p.good in
     let ended =
-    ended-before before.taken y took.taken (block ++ z) q.text before.last took.cut took.is_line in
+    ended-before 10 before.taken y took.taken (block ++ z) q.text before.last took.cut
+    took.is_line in
     subst (λ bytes. IsReadUpTo bytes (Some bytes) (Some z) lines) (sym before.cut)
     (upto-short before.taken y took.taken block z lines good ended took.cut q.text took.is_line
     took.last q.asks)

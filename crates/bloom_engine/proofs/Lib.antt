@@ -1,3 +1,4 @@
+mod ArgumentFacts
 mod BadLineLemmas
 mod CarriedFacts
 mod CarriedLemmas

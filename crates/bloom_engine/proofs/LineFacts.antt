@@ -1,12 +1,12 @@
--- Lines, numbers, arguments and texts at values from outside: a wrong definition fails here.
+-- Lines, numbers, faults and texts at values from outside: a wrong definition fails here.
 use Rattle.std.proofs.Common.{◌≡◌, true, false, [], ◌∷◌, ◌++◌, length, map, replicate, Some, None, refl}
 use Rattle.std.specs.Prelude.{codes}
 use Rattle.bloom_parts.specs.Content.{content}
 use Rattle.bloom_parts.specs.Operations as command
 use Rattle.bloom_engine.specs.declared.engine.line.Line.TheVariants.{Insert, Contains, Clear, Words}
 use Rattle.bloom_engine.specs.declared.fault.Fault.TheVariants as fault
-use Rattle.bloom_engine.specs.Arguments.{within_limits, asked_of}
-use Rattle.bloom_engine.specs.Faults.{status_of, IsOfStream}
+use Rattle.std.specs.declared.io.ErrorKind.TheVariants.{IsADirectory, StorageFull}
+use Rattle.bloom_engine.specs.Faults.{status_of, IsOfStream, IsOutput}
 use Rattle.bloom_engine.specs.Lines.{number_of, line_of, longest_line, operations}
 use Rattle.bloom_engine.specs.Texts.{hex_text, words_text, reply_text, word_with_bits, words_with_content, text_of}
 
@@ -40,32 +40,6 @@ bad_lines : map line_of ([] ∷ codes "i  1" ∷ codes "i 1 " ∷ codes "z 1" �
 unfolding line_of number_of
 bad_lines = refl
 
--- two numbers are arguments
-asked : asked_of (codes "1" ∷ codes "3" ∷ []) ≡ Some (1, 3)
-unfolding number_of
-asked = refl
-
--- one word, three words, and one that is no number
-not_asked : map asked_of ((codes "1" ∷ []) ∷ (codes "1" ∷ codes "2" ∷ codes "3" ∷ [])
-    ∷ (codes "1" ∷ codes "x" ∷ []) ∷ [])
-    ≡ replicate 3 None
-unfolding number_of
-not_asked = refl
-
--- the fewest words and hashes
-fewest : within_limits (Some 1) (Some 0) ≡ Some (1, 0)
-fewest = refl
-
--- the most words and hashes
-most : within_limits (Some 1048576) (Some 4294967295) ≡ Some (1048576, 4294967295)
-most = refl
-
--- no word, one word more, and one hash more
-past_limits : within_limits (Some 0) (Some 0) ∷ within_limits (Some 1048577) (Some 1)
-    ∷ within_limits (Some 1) (Some 4294967296) ∷ []
-    ≡ replicate 3 None
-past_limits = refl
-
 -- sixteen digits of base 16, in lower case
 hex_digits : hex_text 16 0x0123_4567_89ab_cdef ≡ codes "0123456789abcdef"
 unfolding hex_text
@@ -87,13 +61,13 @@ unfolding content words_with_content word_with_bits
 words_back = refl
 
 -- the status of each fault
-statuses : map status_of (fault.Usage ∷ fault.Line
-    7 ∷ fault.Memory ∷ fault.Input ∷ fault.Output ∷ [])
-    ≡ 2 ∷ 2 ∷ 3 ∷ 4 ∷ 4 ∷ []
+statuses : map status_of (fault.Input IsADirectory ∷ fault.Usage ∷ fault.NotText ∷ fault.Line 7
+    ∷ fault.Memory ∷ fault.Output StorageFull ∷ [])
+    ≡ 1 ∷ 2 ∷ 2 ∷ 2 ∷ 5 ∷ 6 ∷ []
 statuses = refl
 
 -- a stream's faults
-of_stream : IsOfStream fault.Input × IsOfStream fault.Output
+of_stream : IsOfStream (fault.Input IsADirectory) × IsOfStream (fault.Output StorageFull)
 of_stream = (tt, tt)
 
 -- a stream doesn't run out of memory
@@ -104,13 +78,19 @@ memory-not is = is
 usage-not : IsOfStream fault.Usage → ⊥
 usage-not is = is
 
+text-not : IsOfStream fault.NotText → ⊥
+text-not is = is
+
 line-not : IsOfStream (fault.Line 7) → ⊥
 line-not is = is
 
--- no word at all, and a first word that is no number, ask for nothing
-not_asked-first : map asked_of ([] ∷ (codes "x" ∷ codes "1" ∷ []) ∷ []) ≡ replicate 2 None
-unfolding number_of
-not_asked-first = refl
+-- a writer's fault
+of_writer : IsOutput (fault.Output StorageFull)
+of_writer = tt
+
+-- a reader's fault is none
+of_writer-not : IsOutput (fault.Input IsADirectory) → ⊥
+of_writer-not is = is
 
 -- three of four lines are commands to the filter
 commands : operations (Insert 1 ∷ Words ∷ Contains 2 ∷ Clear ∷ [])

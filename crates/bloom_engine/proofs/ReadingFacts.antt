@@ -4,7 +4,7 @@ use Rattle.std.specs.Prelude.{codes}
 use Rattle.std.proofs.lemmas.List.{append_cancel_right}
 use Rattle.bloom_engine.specs.declared.engine.line.Line.TheVariants.{Words}
 use Rattle.bloom_engine.specs.declared.engine.commands.Next.TheVariants.{End, Good, Bad}
-use Rattle.lines.specs.Lines.{lines_of}
+use Rattle.lines.specs.Lines.{lines_by}
 use Rattle.lines.proofs.ReadingLemmas.{taken-ended}
 use Rattle.bloom_engine.specs.Lines.{line_of, number_of}
 use Rattle.bloom_engine.specs.Reading.{Asks, NextCommand}
@@ -21,17 +21,17 @@ asks-not is = let bad : Good Words ≡ Bad = is in cc
 
 -- a good line comes next
 next_good : NextCommand (Some (codes "w\nx\n")) (Some (codes "x\n")) (Good Words)
-unfolding lines_of line_of
+unfolding lines_by line_of
 next_good = record { text = codes "w"; takes = taken-ended refl refl; asks = refl }
 
 -- a bad line comes next
 next_bad : NextCommand (Some (codes "x\n")) (Some []) Bad
-unfolding lines_of line_of
+unfolding lines_by line_of
 next_bad = inl (record { text = codes "x"; takes = taken-ended refl refl; asks = refl })
 
 -- a good line isn't bad
 next_bad-not : NextCommand (Some (codes "w\n")) (Some []) Bad → ⊥
-unfolding lines_of line_of
+unfolding lines_by line_of
 next_bad-not next = elim next [
   | inl short ↦ (
       let took = short.takes in
@@ -60,7 +60,7 @@ asks-good is = let good : Bad ≡ Good Words = is in cc
 
 -- a bad line isn't good
 next_good-bad : NextCommand (Some (codes "x\n")) (Some []) (Good Words) → ⊥
-unfolding lines_of line_of
+unfolding lines_by line_of
 next_good-bad next =
     let took = next.takes in
     let taken : codes "x\n" ≡ took.taken =

@@ -3,7 +3,7 @@ use Rattle.std.proofs.Common.{◌≡◌, ℕ, ◌+◌, ◌-◌, ◌^◌, ◌≤�
 use Rattle.std.specs.Prelude.{codes}
 use Rattle.bloom_engine.specs.declared.engine.line.Line.{Line}
 use Rattle.bloom_engine.specs.declared.engine.line.Line.TheVariants.{Insert}
-use Rattle.lines.specs.Lines.{lines_of}
+use Rattle.lines.specs.Lines.{lines_by}
 use Rattle.bloom_engine.specs.Lines.{line_of, number_of}
 use Rattle.bloom_engine.specs.Served.{IsReadGood, Reaches, IsReadUpTo, ServedAll, ServedUpTo}
 use Rattle.bloom_plain.specs.Filter.{Filter}
@@ -11,7 +11,7 @@ use Rattle.bloom_engine.proofs.CarriedFacts.{zeros, with_one, carried, carried-t
 
 -- each line was good, and nothing is left
 whole : IsReadGood (Some (codes "i 1\n")) (Some []) (Insert 1 ∷ [])
-unfolding lines_of line_of number_of
+unfolding lines_by line_of number_of
 whole = record { good = refl; none_left = refl }
 
 -- no byte may be left
@@ -22,7 +22,7 @@ whole-left lines is = let left : ◌≡◌ {A = Option (List ℕ)} (Some (10 ∷
 
 -- no line may be bad
 whole-bad : (lines : List Line) → IsReadGood (Some (codes "x\n")) (Some []) lines → ⊥
-unfolding lines_of line_of
+unfolding lines_by line_of
 whole-bad [] is = let bad : ◌≡◌ {A = List (Option Line)} (None ∷ []) [] = is.good in cc
 whole-bad (line ∷ lines) is =
     let bad : ◌≡◌ {A = List (Option Line)} (None ∷ []) (Some line ∷ map Some lines) = is.good in cc
@@ -30,7 +30,7 @@ whole-bad (line ∷ lines) is =
 -- only these lines are good
 whole-lines : (left : Option (List ℕ)) (lines : List Line)
     → IsReadGood (Some (codes "i 1\n")) left lines → lines ≡ Insert 1 ∷ []
-unfolding lines_of line_of number_of
+unfolding lines_by line_of number_of
 whole-lines left [] is =
     let good : ◌≡◌ {A = List (Option Line)} (Some (Insert 1) ∷ []) [] = is.good in cc
 whole-lines left (line ∷ []) is = let good : Some (Insert 1) ∷ [] ≡ Some line ∷ [] = is.good in cc
@@ -39,18 +39,18 @@ whole-lines left (line ∷ (other ∷ lines)) is =
 
 -- a bad line was given to its end
 reaches : Reaches (codes "i 1\nx\n") (codes "i 1" ∷ []) (codes "x")
-unfolding lines_of
+unfolding lines_by
 reaches = record { seen = codes "x"; later = []; cut = refl; enough = inl refl }
 
 -- 23 bytes of a bad line were given
 reaches-long : Reaches (replicate 23 49) [] (replicate 30 49)
-unfolding lines_of
+unfolding lines_by
 reaches-long =
     record { seen = replicate 23 49; later = []; cut = refl; enough = inr (omega arith) }
 
 -- 22 bytes of a longer bad line aren't enough
 reaches-short : Reaches (replicate 22 49) [] (replicate 30 49) → ⊥
-unfolding lines_of
+unfolding lines_by
 reaches-short is =
     let line : replicate 22 49 ∷ [] ≡ is.seen ∷ is.later = is.cut in
     let seen : replicate 22 49 ≡ is.seen = cc in
@@ -62,13 +62,13 @@ reaches-short is =
 
 -- a bad line isn't reached of which nothing was given
 reaches-before : Reaches (codes "i 1\n") (codes "i 1" ∷ []) (codes "x") → ⊥
-unfolding lines_of
+unfolding lines_by
 reaches-before is = let lines : codes "i 1" ∷ [] ≡ codes "i 1" ∷ is.seen ∷ is.later = is.cut in cc
 
 -- line 2 is bad, and the first was carried out
 served : ServedUpTo 2 (Some (codes "i 1\nx\n")) (Some []) zeros with_one (Some [])
     (Some (codes "false\n"))
-unfolding lines_of line_of number_of
+unfolding lines_by line_of number_of
 served = record {
   lines = Insert 1 ∷ [];
   carried = carried;
@@ -119,7 +119,7 @@ one-line (g ∷ (h ∷ (i ∷ gs))) bad later lines cut all is_bad =
 -- the good lines before the bad one are this one alone, wherever the reader stands
 upto-lines : (left : Option (List ℕ)) (lines : List Line)
     → IsReadUpTo (codes "i 1\nx\n") (Some (codes "i 1\nx\n")) left lines → lines ≡ Insert 1 ∷ []
-unfolding lines_of
+unfolding lines_by
 upto-lines left lines is = one-line is.good is.bad is.later lines is.cut is.all_good is.is_bad
 
 -- line 1 isn't the bad one
@@ -144,7 +144,7 @@ served-filter did = carried-bits did.lines (upto-lines _ did.lines did.upto) did
 upto-unread : (lines : List Line)
     → IsReadUpTo (codes "i 1\nx\n") (Some (codes "i 1\nx\n")) (Some (codes "i 1\nx\n")) lines
     → ⊥
-unfolding lines_of
+unfolding lines_by
 upto-unread lines is = of is.given is.gave is.reached
   where
     of : (given : List ℕ) → codes "i 1\nx\n" ≡ given ++ codes "i 1\nx\n"

@@ -53,7 +53,7 @@ IsReadGood-from : (read left mid : Option (List ℕ)) (block : List ℕ) (lines 
     → TakesGood read mid lines → Ends mid (prepend_known block left)
     → IsReadGood read left lines
 IsReadGood-from read left mid block lines took ends =
-    at read (taken.IsReadWhole-from read mid left block took.texts took.taken ends)
+    at read (taken.IsReadWhole-from 10 read mid left block took.texts took.taken ends)
   where
     at : (read : Option (List ℕ)) → reading.IsReadWhole read left took.texts
         → IsReadGood read left lines

@@ -17,7 +17,7 @@ pub record TakesGood (old new : Option (List ℕ)) (lines : List Line) : Type 0 
 pub TakesGood-nil : (block : List ℕ) (read : Option (List ℕ)) → block ≡ []
     → TakesGood read (prepend_known block read) []
 TakesGood-nil block read empty =
-    record { texts = []; taken = TakesLines-nil block read empty; good = refl }
+    record { texts = []; taken = TakesLines-nil 10 block read empty; good = refl }
 
 -- one more good line was taken
 pub TakesGood-more : (a b c : Option (List ℕ)) (lines : List Line) (text : List ℕ) (line : Line)
@@ -25,7 +25,7 @@ pub TakesGood-more : (a b c : Option (List ℕ)) (lines : List Line) (text : Lis
     → TakesGood a c (lines ++ line ∷ [])
 TakesGood-more a b c lines text line so_far one good = record {
   texts = so_far.texts ++ text ∷ [];
-  taken = TakesLines-more a b c so_far.texts text so_far.taken one;
+  taken = TakesLines-more 10 a b c so_far.texts text so_far.taken one;
   good =
       map-append line_of so_far.texts (text ∷ [])
       ∙ ap (λ l. l ++ line_of text ∷ []) so_far.good
