@@ -2,71 +2,69 @@
 #![tactic(auto)]
 
 mod command_line;
+mod files;
+mod run;
+mod telling;
 
-use anyhow::Context;
-use bloom_plain::{BloomFilter, FilterError};
-use command_line::{Options, arguments};
-use duplicates_engine::{Progress, Tally, keep_new};
-use std::alloc::Global;
-use std::env;
-use std::io::{BufWriter, IsTerminal};
+use clap::{ArgMatches, Error};
+use command_line::{matched, misuse, request_of};
 use std::process::ExitCode;
+use telling::{DONE, MISUSED, UNWRITTEN, tell_no_room};
 
-// Tells how far a run is where standard error is a terminal.
-#[derive(Drop)]
-struct OnTerminal<'a> {
-    rt: &'a HostRuntime,
-    is_on: bool,
-}
-
-impl Progress for OnTerminal<'_> {
-    ghost use Rattle.std.specs.Prelude.{None};
-
-    // Nothing is known of what a terminal shows.
-    ghost tells = { λ _. None };
-
-    fn tell(&mut self, tally: Tally) {
-        if self.is_on {
-            let _ = eprintln!(self.rt; "{} lines, {} held back", tally.read, tally.held);
-        }
+// Prints what clap has to say, and gives the status.
+fn print(rt: &HostRuntime, error: &Error) -> u8 {
+    let is_printed = error.print(rt).is_ok();
+    if error.use_stderr() {
+        MISUSED
+    } else if is_printed {
+        DONE
+    } else {
+        UNWRITTEN
     }
 }
 
-// An empty filter for this many lines, under the zero key, so that equal runs write equal text.
-fn filter_of(alloc: Global, options: Options) -> Result<BloomFilter, FilterError> {
-    BloomFilter::with_false_pos(options.rate).expected_items(alloc, options.items)
+// Tells that a value is none, and gives the status.
+fn refuse(rt: &HostRuntime, text: &str) -> u8 {
+    match misuse(rt.alloc(), text) {
+        Ok(error) => print(rt, &error),
+        Err(error) => print(rt, &error),
+    }
 }
 
-fn run(rt: &HostRuntime, options: Options) -> anyhow::Result<Tally> {
-    let mut filter = filter_of(rt.alloc(), options).context("no filter for this many lines")?;
-    let mut input = rt.reader();
-    let mut output = BufWriter::new(rt.alloc(), std::io::writer(rt))?;
-    let mut progress = OnTerminal {
-        rt,
-        is_on: rt.stderr().is_terminal(),
-    };
-    let tally = keep_new(
-        rt.alloc(),
-        &mut filter,
-        options.longest,
-        &mut input,
-        &mut output,
-        &mut progress,
-    )?;
-    Ok(tally)
+// What words that were read ask for is done; the status.
+fn serve_matched(rt: &HostRuntime, matches: &ArgMatches) -> u8 {
+    match request_of(matches) {
+        Some(request) => match run::run(rt, &request) {
+            Ok(status) => status,
+            Err(text) => refuse(rt, text),
+        },
+        None => refuse(rt, "the rate is a fraction between 0 and 1, as 1/1000"),
+    }
 }
 
-fn main(rt: HostRuntime) -> anyhow::Result<ExitCode> {
-    let words: Vec<String> = env::args(&rt)?.collect(rt.alloc())?;
-    match arguments(rt.alloc(), words.as_slice()) {
-        Ok(options) => {
-            let tally = run(&rt, options)?;
-            eprintln!(rt; "{} of {} lines held back", tally.held, tally.read)?;
-            Ok(ExitCode::SUCCESS)
-        }
+// What the words ask for is done; the status.
+fn serve(rt: &HostRuntime, words: &[String]) -> u8 {
+    match matched(rt.alloc(), words) {
+        Ok(matches) => serve_matched(rt, &matches),
+        Err(error) => print(rt, &error),
+    }
+}
+
+// The words after the program's name, which is the first of them.
+fn words_of(rt: &HostRuntime) -> std::io::Result<Vec<String>> {
+    Ok(std::env::args(rt)?.collect(rt.alloc())?)
+}
+
+fn main(rt: HostRuntime) -> ExitCode {
+    match words_of(&rt) {
+        Ok(words) => ExitCode::from(serve(&rt, words.as_slice())),
         Err(error) => {
-            error.print(&rt)?;
-            Ok(ExitCode::from(error.exit_code() as u8))
+            if error.kind() == std::io::ErrorKind::InvalidData {
+                let _ = eprintln!(rt; "duplicates: an argument isn't UTF-8");
+                ExitCode::from(MISUSED)
+            } else {
+                ExitCode::from(tell_no_room(&rt, "out of memory"))
+            }
         }
     }
 }

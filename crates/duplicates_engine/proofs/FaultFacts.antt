@@ -2,10 +2,8 @@
 use Rattle.std.proofs.Common.{◌≡◌, ◌≤◌, ℕ, ◌-◌, ◌^◌, List, [], ◌∷◌, length, get_or, Option, Some, refl, ap, arith}
 use Rattle.std.specs.Prelude.{codes}
 use Rattle.std.specs.declared.io.ErrorKind.TheVariants as kind
-use Rattle.lines.specs.Lines.{lines_of}
-use Rattle.lines.specs.Reading.{IsReadFrom}
-use Rattle.duplicates_engine.specs.declared.fault.Fault.TheVariants.{TooLong, Memory, Input, Output}
-use Rattle.duplicates_engine.specs.Faults.{IsOfReader, IsReadAt, IsWrittenAt}
+use Rattle.duplicates_engine.specs.declared.fault.Fault.TheVariants.{TooLong, Memory, Full, Open, Input, Output}
+use Rattle.duplicates_engine.specs.Faults.{IsOfReader, IsOfOpen, IsOfWriter, IsOfSystem, IsReadAt, IsWrittenAt}
 
 -- a line that is too long is no fault of a reader
 reader-long : (number : ℕ) → IsOfReader (TooLong number) → ⊥
@@ -42,47 +40,46 @@ written-input is = let more : 1 ≡ 2 = ap length is in omega (arith, more)
 written-long : IsWrittenAt (TooLong 2) (codes "a\n") (codes "a") → ⊥
 written-long is = let more : 1 ≡ 2 = ap length is in omega (arith, more)
 
--- line 2 has four bytes
-reached : IsReadAt 3 (TooLong 2) (Some (codes "a\nbcde\n")) (codes "a" ∷ [])
-unfolding lines_of
-reached = record {
-  is_number = refl;
-  is_long = record { long = codes "bcde"; later = []; cut = refl; is_long = omega arith };
-}
+-- the first of the lines that come, and the second, at each fault
+module _ (bytes : List ℕ) where
+  reached-memory : IsReadAt 10 3 Memory (Some []) (bytes ∷ []) → ⊥
+  reached-memory is = cc is.cut
 
--- line 2 isn't line 1
-reached-first : IsReadAt 3 (TooLong 1) (Some (codes "a\nbcde\n")) (codes "a" ∷ []) → ⊥
-reached-first is = let number : 1 ≡ 2 = is.is_number in omega (arith, number)
+  reached-full : IsReadAt 10 3 Full (Some []) (bytes ∷ []) → ⊥
+  reached-full is = cc is.cut
 
--- line 2 isn't longer than four bytes
-reached-short : IsReadAt 4 (TooLong 2) (Some (codes "a\nbcde\n")) (codes "a" ∷ []) → ⊥
-unfolding lines_of
-reached-short is =
-    let lines : codes "a" ∷ codes "bcde" ∷ [] ≡ codes "a" ∷ is.is_long.long ∷ is.is_long.later =
-    is.is_long.cut in
-    let line : codes "bcde" ≡ is.is_long.long = cc in
-    let count : 4 ≡ length is.is_long.long = ap length line in
-    omega (arith, count, is.is_long.is_long)
+  reached-open : IsReadAt 10 3 (Open kind.BrokenPipe) (Some []) (bytes ∷ []) → ⊥
+  reached-open is = cc is.cut
 
--- the number stays at 2^64 - 1
-reached-most : (longest number : ℕ) (read : Option (List ℕ)) (lines : List (List ℕ))
-    → IsReadAt longest (TooLong number) read lines → number ≤ 2 ^ 64 - 1
-reached-most longest number read lines is = omega (arith, is.is_number)
+  reached-input : IsReadAt 10 3 (Input kind.BrokenPipe) (Some []) (bytes ∷ []) → ⊥
+  reached-input is = cc is.cut
 
--- the second line isn't the first of the input
-second-not : IsReadFrom (Some (codes "a\nb")) (codes "b" ∷ []) → ⊥
-unfolding lines_of
-second-not is =
-    let lines : codes "a" ∷ codes "b" ∷ [] ≡ codes "b" ∷ is.later = is.cut in
-    let first : 97 ≡ 98 = ap (λ l. get_or (get_or l 0 []) 0 0) lines in
-    omega (arith, first)
+  reached-output : IsReadAt 10 3 (Output kind.BrokenPipe) (Some []) (bytes ∷ []) → ⊥
+  reached-output is = cc is.cut
 
--- at each other fault the lines are the first of the input
-reached-memory : IsReadAt 3 Memory (Some (codes "a\nb")) (codes "b" ∷ []) → ⊥
-reached-memory is = second-not is
+-- at a line that is too long, its number is told, which stays at 2^64 - 1
+reached-most : (longest number : ℕ) (come : Option (List (List ℕ))) (lines : List (List ℕ))
+    → IsReadAt 10 longest (TooLong number) come lines → number ≤ 2 ^ 64 - 1
+reached-most longest number come lines is = omega (arith, is.is_number)
 
-reached-input : IsReadAt 3 (Input kind.BrokenPipe) (Some (codes "a\nb")) (codes "b" ∷ []) → ⊥
-reached-input is = second-not is
+-- an open is no reader, and no writer
+open-reader : IsOfReader (Open kind.NotFound) → ⊥
+open-reader is = is
 
-reached-output : IsReadAt 3 (Output kind.BrokenPipe) (Some (codes "a\nb")) (codes "b" ∷ []) → ⊥
-reached-output is = second-not is
+open-writer : IsOfWriter (Open kind.NotFound) → ⊥
+open-writer is = is
+
+open-open : IsOfOpen (Open kind.NotFound)
+open-open = tt
+
+-- a line that is too long is no fault of the system
+long-system : (number : ℕ) → IsOfSystem (TooLong number) → ⊥
+long-system number is = is
+
+-- where a file can't be opened, no part of the text is missing
+written-open : IsWrittenAt (Open kind.NotFound) (codes "a\n") (codes "a") → ⊥
+written-open is = let more : 1 ≡ 2 = ap length is in omega (arith, more)
+
+-- nor where a sieve refuses a line
+written-full : IsWrittenAt Full (codes "a\n") (codes "a") → ⊥
+written-full is = let more : 1 ≡ 2 = ap length is in omega (arith, more)

@@ -1,52 +1,154 @@
--- One more line of a run, whose filter hashes by the same hasher throughout.
-use Rattle.std.proofs.Common.{◌≡◌, ℕ, ◌+◌, ◌-◌, ◌%◌, ◌^◌, ◌≢◌, min, Bool, cond, List, Option, Result, Ok, Err, ap, subst}
-use Rattle.std.specs.declared.hash.Hasher as hasher
-use Rattle.bloom_plain.specs.Filter.{Filter}
-use Rattle.bloom_plain.specs.Laws.{JoinedListsLaw, FoundAfterInsertsLaw}
-use Rattle.lines.specs.Reading.{Waiting, left_of, KnowsEnd, TakesShort}
+-- A run that stands half-way, from step to step, and how it ends.
+use Rattle.std.proofs.Common.{◌≡◌, ℕ, ◌+◌, ◌-◌, ◌^◌, ◌≤◌, min, length, Bool, true, List, [], ◌∷◌, ◌++◌, Option, Result, Ok, Err, refl, sym, ◌∙◌, ap, subst, arith}
+use Rattle.std.proofs.lemmas.Bool.{both_ways}
+use Rattle.std.proofs.lemmas.List.Elements.{All-append, All-from_recursion, All-nil}
+use Rattle.std.specs.Io.KnownBytes.{Appends, Keeps}
+use Rattle.std.proofs.KnownBytes.{Appends-nil, Appends-trans, Appends-kept}
+use Rattle.lines.specs.Reading.{Waiting, left_of, KnowsEnd, AreShort}
+use Rattle.lines.proofs.WritingLemmas.{Begins-after}
 use Rattle.duplicates_engine.specs.declared.fault.Fault.{Fault}
+use Rattle.duplicates_engine.specs.declared.fault.Fault.TheVariants.{TooLong, Memory}
+use Rattle.duplicates_engine.specs.declared.options.Options.{Options}
 use Rattle.duplicates_engine.specs.declared.tally.Tally.{Tally}
-use Rattle.duplicates_engine.specs.Kept.{line_hash, KeepsLine, KeepsUntil}
-use Rattle.duplicates_engine.specs.Told.{Tells}
-use Rattle.duplicates_engine.proofs.RunLemmas.{sifting-more, until-writer}
-use Rattle.duplicates_engine.proofs.StartLemmas.{IsSifting}
+use Rattle.duplicates_engine.specs.Faults.{IsOfSystem, IsOfWriter, IsWrittenAt}
+use Rattle.duplicates_engine.specs.Inputs.{Opens, NoneComes, IsFresh, TakesNext, OpensNext, EndsAll, FindsLong}
+use Rattle.duplicates_engine.specs.Kept.{text_of, piece, Writes, KeepsNew, KeepsUntil}
+use Rattle.duplicates_engine.specs.Sieves.{HasSifted}
+use Rattle.duplicates_engine.specs.Told.{Counts, CountsLine, TellsOf, WarnsOf, HasRoom}
+use Rattle.duplicates_engine.proofs.InputLemmas.{IsReading, opens-left, reading-first, reading-more, reading-next}
+use Rattle.duplicates_engine.proofs.EndLemmas.{none-read, all-read, first-read, first-none, long-read}
+use Rattle.duplicates_engine.proofs.SiftLemmas.{sifted-nil, sifted-more}
+use Rattle.duplicates_engine.proofs.TextLemmas.{text-more}
+use Rattle.duplicates_engine.proofs.ToldLemmas.{told-nil, told-step}
+use Rattle.duplicates_engine.proofs.WarnLemmas.{counts-nil, counts-more, warns-nil, room-nil, warns-more}
+use Rattle.duplicates_engine.proofs.WriteLemmas.{from-begins, to-begins, written-all, writer-system, reached-at}
+use Rattle.duplicates_engine.proofs.HalfwayLemmas.{IsSifting, IsKeeping}
 
-module _ {S H : Type 0} (h : hasher.Ghosts H) (build : S → H) {longest : ℕ}
-    {read : Option (List ℕ)} {old : Filter S} {from : Option (List ℕ)}
-    {before : Option (List Tally)} {waiting : Waiting} {rest : Option (List ℕ)} {now : Filter S}
-    {to : Option (List ℕ)} {then : Option (List Tally)} {tally : Tally}
-    (so_far : IsSifting longest (line_hash h (build old.hasher)) read old from before waiting rest
-    now to then tally)
-    (after : Waiting) (left : Option (List ℕ))
-    (took : TakesShort waiting.longest (left_of waiting rest) (left_of after left) after.line)
-    (joined : JoinedListsLaw S) (found : FoundAfterInsertsLaw S) {line : List ℕ}
-    (is_line : line ≡ after.line) {new : Filter S} {end : Option (List ℕ)} where
-  -- the line of the reader is kept under the hash of the filter at the start
-  as_at_start : {result : Result Bool Fault}
-      → KeepsLine (line_hash h (build now.hasher)) line now new to end result
-      → KeepsLine (line_hash h (build old.hasher)) after.line now new to end result
-  as_at_start {result = result} kept =
-      subst (λ l. KeepsLine (line_hash h (build old.hasher)) l now new to end result) is_line
-      (subst (λ f. KeepsLine f line now new to end result)
-      (ap (λ s. line_hash h (build s)) so_far.sifts.carried.hasher) kept)
+module _ {V : Type 0} (has : V → List ℕ → Type 0) (sifts : V → List ℕ → Bool → V → Type 0)
+    (end : ℕ) (options : Options) (come : Option (List (List ℕ))) (old : V) (from : Option (List ℕ))
+    (before calm : Option (List Tally)) where
+  -- no input came
+  pub keeps-none : (left : Option (List (List ℕ))) (tally : Tally) → NoneComes come left
+      → tally.read ≡ 0 → tally.held ≡ 0
+      → KeepsNew has sifts end options come left old old from from before before calm calm tally
+  keeps-none left tally none none_read none_held = record {
+    lines = [];
+    replies = [];
+    sifted = sifted-nil has sifts old;
+    text = Appends-nil from;
+    whole = none-read end come left none;
+    short = All-nil (λ line. length line ≤ options.longest);
+    counts = counts-nil tally none_read none_held;
+    tells = told-nil before;
+    warns = warns-nil options.most calm;
+  }
 
-  -- where the line can't be kept, the run ends with the fault of the writer
-  pub until-unkept : {fault : Fault}
-      → KeepsLine (line_hash h (build now.hasher)) line now new to end (Err fault)
-      → KeepsUntil longest (line_hash h (build old.hasher)) read old new from end before then fault
-  until-unkept {fault = fault} kept =
-      until-writer so_far after left took joined found new end fault (as_at_start kept)
+  -- before any line a fault may come
+  pub until-none : (fault : Fault) → IsOfSystem fault
+      → KeepsUntil has sifts end options come old old from from before before calm calm fault
+  until-none fault is = record {
+    lines = [];
+    replies = [];
+    sifted = sifted-nil has sifts old;
+    written = [];
+    text = Appends-nil from;
+    is_text = written-all fault [];
+    reached = reached-at end options.longest fault come [] is (first-none end come);
+    short = All-nil (λ line. length line ≤ options.longest);
+    tells = told-nil before;
+    warns = warns-nil options.most calm;
+  }
 
-  -- where the line is kept or held back, the run is half-way behind it
-  pub sifting-next : {held : Bool} {more : Tally} {last : Option (List Tally)}
-      → KeepsLine (line_hash h (build now.hasher)) line now new to end (Ok held)
-      → after.longest ≡ waiting.longest → KnowsEnd after.ended left
-      → more.read ≡ min (tally.read + 1) (2 ^ 64 - 1)
-      → more.held ≡ cond held (min (tally.held + 1) (2 ^ 64 - 1)) tally.held
-      → (more.read % 1000000 ≡ 0 → Tells then last more)
-      → (more.read % 1000000 ≢ 0 → last ≡ then)
-      → IsSifting longest (line_hash h (build old.hasher)) read old from before after left new end
-      last more
-  sifting-next {held = held} {more = more} {last = last} kept as_long knows =
-      sifting-more so_far after left took joined found new end held more last knows as_long
-      (as_at_start kept)
+  module _ {waiting : Waiting} {rest : Option (List ℕ)} {coming : Option (List (List ℕ))}
+      {number : ℕ} {now : V} {to : Option (List ℕ)} {after warned : Option (List Tally)}
+      {tally : Tally} {room : Option ℕ}
+      (so_far : IsKeeping has sifts end options come old from before calm waiting rest coming
+      number now to after warned tally room)
+      (kept : Option (List ℕ)) (keeps : Keeps to kept) where
+    -- the text so far, behind a flush
+    text_kept : Appends from kept (text_of end options so_far.lines so_far.replies)
+    text_kept = Appends-kept from to kept _ so_far.sifting.text keeps
+
+    -- all inputs have ended
+    pub keeps-all : (left : Option (List (List ℕ))) → EndsAll (left_of waiting rest) coming left
+        → KeepsNew has sifts end options come left old now from kept before after calm warned tally
+    keeps-all left ends = record {
+      lines = so_far.lines;
+      replies = so_far.replies;
+      sifted = so_far.sifting.sifted;
+      text = text_kept;
+      whole =
+          all-read end come coming left (left_of waiting rest) ends.last so_far.lines number
+          so_far.reading ends.ends ends.none;
+      short = so_far.sifting.short;
+      counts = so_far.sifting.counts;
+      tells = so_far.sifting.tells;
+      warns = so_far.sifting.warns;
+    }
+
+    -- a fault came before the next line
+    pub until-fault : (fault : Fault) → IsOfSystem fault
+        → KeepsUntil has sifts end options come old now from kept before after calm warned fault
+    until-fault fault is = record {
+      lines = so_far.lines;
+      replies = so_far.replies;
+      sifted = so_far.sifting.sifted;
+      written = text_of end options so_far.lines so_far.replies;
+      text = text_kept;
+      is_text = written-all fault (text_of end options so_far.lines so_far.replies);
+      reached =
+          reached-at end options.longest fault come so_far.lines is
+          (first-read end come coming (left_of waiting rest) so_far.lines number so_far.reading);
+      short = so_far.sifting.short;
+      tells = so_far.sifting.tells;
+      warns = so_far.sifting.warns;
+    }
+
+    -- the next line is too long
+    pub until-long : (new : Option (List ℕ)) (same next : ℕ)
+        → FindsLong end options.longest (left_of waiting rest) new number same
+        → next ≡ min (same + 1) (2 ^ 64 - 1)
+        → KeepsUntil has sifts end options come old now from kept before after calm warned
+        (TooLong next)
+    until-long new same next long counts = record {
+      lines = so_far.lines;
+      replies = so_far.replies;
+      sifted = so_far.sifting.sifted;
+      written = text_of end options so_far.lines so_far.replies;
+      text = text_kept;
+      is_text = refl;
+      reached =
+          long-read end come coming
+          (left_of waiting rest) new so_far.lines options.longest number next
+          so_far.reading long.long
+          (counts ∙ ap (λ n. min (n + 1) (2 ^ 64 - 1)) long.same);
+      short = so_far.sifting.short;
+      tells = so_far.sifting.tells;
+      warns = so_far.sifting.warns;
+    }
+
+    -- the next input was opened
+    pub keeping-next : (next : Waiting) (input : Option (List ℕ))
+        (left : Option (List (List ℕ))) (first : ℕ)
+        → OpensNext (left_of waiting rest) (left_of next input) coming left first
+        → KnowsEnd next.ended input → next.longest ≡ options.longest
+        → IsKeeping has sifts end options come old from before calm next input left first now kept
+        after warned tally room
+    keeping-next next input left first opened knows has_longest = record {
+      lines = so_far.lines;
+      replies = so_far.replies;
+      sifting = record {
+        sifted = so_far.sifting.sifted;
+        text = text_kept;
+        short = so_far.sifting.short;
+        counts = so_far.sifting.counts;
+        tells = so_far.sifting.tells;
+        warns = so_far.sifting.warns;
+        has_room = so_far.sifting.has_room;
+      };
+      reading =
+          reading-next end come coming left (left_of waiting rest) (left_of next input) so_far.lines
+          number first so_far.reading opened;
+      knows = knows;
+      has_longest = has_longest;
+    }

@@ -1,9 +1,7 @@
 -- What a progress is told: of each relation cases that hold, and near ones that don't.
-use Rattle.std.proofs.Common.{◌≡◌, ℕ, ◌+◌, ◌-◌, ◌^◌, inl, inr, min, Bool, true, false, List, [], ◌∷◌, ◌++◌, length, map, take, get_or, length-append, Some, None, refl, sym, ◌∙◌, ap, subst, arith}
-use Rattle.std.specs.declared.io.ErrorKind.TheVariants as kind
-use Rattle.duplicates_engine.specs.declared.fault.Fault.TheVariants.{TooLong, Memory, Input, Output}
+use Rattle.std.proofs.Common.{◌≡◌, ℕ, ◌+◌, ◌-◌, ◌^◌, min, Bool, true, false, List, [], ◌∷◌, ◌++◌, length, map, take, get_or, length-append, Some, None, refl, sym, ◌∙◌, ap, subst, arith}
 use Rattle.duplicates_engine.specs.declared.tally.Tally.{Tally}
-use Rattle.duplicates_engine.specs.Told.{Tells, held_back, millions, tally_after, TellsMillions, TellsOf, TellsUntil}
+use Rattle.duplicates_engine.specs.Told.{Tells, held_back, millions, tally_after, TellsMillions, TellsOf}
 
 -- the counts at a million lines
 abbrev one : Tally
@@ -81,23 +79,6 @@ module _ (replies : List Bool) where
       ap (λ told. get_or (map (λ t. t.held) told) 0 0) is in
       omega (arith, three, number)
 
-  -- where the last line makes the first million, the writer may have failed before it was told
-  until-last : (reply : Bool) → length replies ≡ 999999
-      → TellsUntil (Output kind.BrokenPipe) (Some []) (Some []) (replies ++ reply ∷ [])
-  until-last reply size =
-      inr (record { earlier = replies; last = reply; cut = refl; tells = rw size refl })
-
-  -- at another fault it was told
-  until-memory : (reply : Bool) → length replies ≡ 999999
-      → TellsUntil Memory (Some []) (Some []) (replies ++ reply ∷ []) → ⊥
-  until-memory reply size tells =
-      let all = replies ++ reply ∷ [] in
-      let number : min (length all) (2 ^ 64 - 1) ≡ 1000000 =
-      omega (arith, size, length-append replies (reply ∷ [])) in
-      let told = subst (TellsMillions (Some []) (Some []) all) number tells in
-      let more : 0 ≡ 1 = ap length told in
-      omega (arith, more)
-
 -- what was lost of the millions doesn't come back
 millions-again : TellsMillions None (Some []) [] 0 → ⊥
 millions-again is = is
@@ -114,25 +95,3 @@ of-replies replies size tells =
     let told = subst (TellsMillions (Some []) (Some []) replies) number tells in
     let more : 0 ≡ 1 = ap length told in
     omega (arith, more)
-
--- at a line that is too long, and where a read failed, each million of the lines was told
-until-long : (replies : List Bool) (number : ℕ) → length replies ≡ 1000000
-    → TellsUntil (TooLong number) (Some []) (Some []) replies → ⊥
-until-long replies number size tells = of-replies replies size tells
-
-until-input : (replies : List Bool) → length replies ≡ 1000000
-    → TellsUntil (Input kind.BrokenPipe) (Some []) (Some []) replies → ⊥
-until-input replies size tells = of-replies replies size tells
-
--- where the writer failed, a million isn't left out that the last line but one made
-until-earlier : (replies : List Bool) → length replies ≡ 1000001
-    → TellsUntil (Output kind.BrokenPipe) (Some []) (Some []) replies → ⊥
-until-earlier replies size (inl tells) =
-    let number : min (length replies) (2 ^ 64 - 1) ≡ 1000001 = omega (arith, size) in
-    let told = subst (TellsMillions (Some []) (Some []) replies) number tells in
-    let more : 0 ≡ 1 = ap length told in
-    omega (arith, more)
-until-earlier replies size (inr but) =
-    let count : 1000001 ≡ length but.earlier + 1 =
-    sym size ∙ ap length but.cut ∙ length-append but.earlier (but.last ∷ []) in
-    of-replies but.earlier (omega (arith, count)) but.tells

@@ -1,10 +1,12 @@
 -- What was written of a text at each fault.
-use Rattle.std.proofs.Common.{ℕ, List, Option, Err}
+use Rattle.std.proofs.Common.{ℕ, ◌≡◌, List, Option, Ok, Err, refl}
+use Rattle.std.specs.Io.KnownBytes.{Appends}
 use Rattle.lines.specs.Writing.{AppendsPart, Begins}
 use Rattle.lines.proofs.WritingLemmas.{Begins-whole}
 use Rattle.duplicates_engine.specs.declared.fault.Fault.{Fault}
-use Rattle.duplicates_engine.specs.declared.fault.Fault.TheVariants.{TooLong, Memory, Input, Output}
-use Rattle.duplicates_engine.specs.Faults.{IsOfWriter, IsWrittenAt}
+use Rattle.duplicates_engine.specs.declared.fault.Fault.TheVariants.{TooLong, Memory, Full, Open, Input, Output}
+use Rattle.duplicates_engine.specs.Faults.{IsOfOpen, IsOfSystem, IsOfWriter, IsWrittenAt, IsReadAt}
+use Rattle.duplicates_engine.specs.Inputs.{AreFirstRead}
 use Rattle.duplicates_engine.specs.Kept.{Writes}
 
 -- at a fault of a writer a beginning was written
@@ -12,6 +14,8 @@ pub from-begins : (fault : Fault) (text written : List ℕ) → IsOfWriter fault
     → Begins text written → IsWrittenAt fault text written
 from-begins (TooLong number) text written is begins = absurd is
 from-begins Memory text written is begins = absurd is
+from-begins Full text written is begins = absurd is
+from-begins (Open kind) text written is begins = absurd is
 from-begins (Input kind) text written is begins = absurd is
 from-begins (Output kind) text written is begins = begins
 
@@ -20,8 +24,19 @@ pub to-begins : (fault : Fault) (text written : List ℕ) → IsWrittenAt fault 
     → Begins text written
 to-begins (TooLong number) text written is = Begins-whole text written is
 to-begins Memory text written is = Begins-whole text written is
+to-begins Full text written is = Begins-whole text written is
+to-begins (Open kind) text written is = Begins-whole text written is
 to-begins (Input kind) text written is = Begins-whole text written is
 to-begins (Output kind) text written is = is
+
+-- where all of the text was written, any fault may come
+pub written-all : (fault : Fault) (text : List ℕ) → IsWrittenAt fault text text
+written-all (TooLong number) text = refl
+written-all Memory text = refl
+written-all Full text = refl
+written-all (Open kind) text = refl
+written-all (Input kind) text = refl
+written-all (Output kind) text = Begins-whole text text refl
 
 -- a line was written, or at a fault of the writer a part of it
 pub writes-part : (whole : List ℕ) (from to : Option (List ℕ)) (fault : Fault) → IsOfWriter fault
@@ -31,3 +46,38 @@ writes-part whole from to fault is part = record {
   text = part.appended;
   told = (is, from-begins fault whole part.written is part.begins);
 }
+
+-- the fault of a writer is no long line
+pub writer-system : (fault : Fault) → IsOfWriter fault → IsOfSystem fault
+writer-system (TooLong number) is = absurd is
+writer-system Memory is = absurd is
+writer-system Full is = absurd is
+writer-system (Open kind) is = absurd is
+writer-system (Input kind) is = absurd is
+writer-system (Output kind) is = tt
+
+-- at a fault that isn't a long line, the lines are the first ones
+pub reached-at : (end longest : ℕ) (fault : Fault) (come : Option (List (List ℕ)))
+    (lines : List (List ℕ)) → IsOfSystem fault → AreFirstRead end come lines
+    → IsReadAt end longest fault come lines
+reached-at end longest (TooLong number) come lines is first = absurd is
+reached-at end longest Memory come lines is first = first
+reached-at end longest Full come lines is first = first
+reached-at end longest (Open kind) come lines is first = first
+reached-at end longest (Input kind) come lines is first = first
+reached-at end longest (Output kind) come lines is first = first
+
+-- the fault of an open is no long line
+pub open-system : (fault : Fault) → IsOfOpen fault → IsOfSystem fault
+open-system (TooLong number) is = absurd is
+open-system Memory is = tt
+open-system Full is = absurd is
+open-system (Open kind) is = tt
+open-system (Input kind) is = absurd is
+open-system (Output kind) is = absurd is
+
+-- a text was written by what was written of it
+pub writes-all : (whole other : List ℕ) (from to : Option (List ℕ)) → Appends from to whole
+    → whole ≡ other → Writes other from to (Ok tt)
+writes-all whole other from to appended same =
+    record { written = whole; text = appended; told = same }

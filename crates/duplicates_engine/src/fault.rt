@@ -1,26 +1,34 @@
 //! Why a run ends early.
-ghost use Rattle.duplicates_engine.specs.Faults.{IsOfReader};
+ghost use Rattle.std.specs.Prelude.{◌≡◌, ◌≢◌};
+ghost use Rattle.duplicates_engine.specs.Faults.{IsOfOpen, IsOfReader, IsOfSystem};
 
+use bloom_plain::FilterError;
 use std::io;
 use std::io::ErrorKind;
 use thiserror::Error;
 
-/// Why a run ends early. The lines before are done, and the new ones among them were written, at
-/// `Output` as far as the writer took them.
+/// Why a run ends early. The lines before are done, and those to be written among them were
+/// written, at `Output` as far as the writer took them.
 #[derive(Clone, Copy, Debug, PartialEq, Eq, Drop, Error)]
 pub enum Fault {
-    /// The line with this number is longer than a line may be. Lines count from 1; the count stays
-    /// at 2^64 - 1.
+    /// The line with this number in its input is longer than a line may be. Lines count from 1; the
+    /// count stays at 2^64 - 1.
     #[error("line {0} is too long")]
     TooLong(u64),
-    /// There is no room.
-    #[error("no memory")]
+    /// Out of memory.
+    #[error("out of memory")]
     Memory,
+    /// The sieve can take no more lines.
+    #[error("the filter can take no more lines")]
+    Full,
+    /// An input can't be opened.
+    #[error("it can't be opened: {0}")]
+    Open(ErrorKind),
     /// A read failed.
-    #[error("input failed: {0}")]
+    #[error("it can't be read: {0}")]
     Input(ErrorKind),
     /// A write or a flush failed.
-    #[error("output failed: {0}")]
+    #[error("the output can't be written: {0}")]
     Output(ErrorKind),
 }
 
@@ -32,6 +40,28 @@ impl Fault {
         match error.kind() {
             ErrorKind::OutOfMemory => Fault::Memory,
             kind => Fault::Input(kind),
+        }
+    }
+
+    /// The fault of a sieve.
+    pub fn of_sieve(error: FilterError) -> Fault
+        ensures memory { error ≡ FilterError.Memory → result ≡ Fault.Memory }
+        ensures full { error ≢ FilterError.Memory → result ≡ Fault.Full }
+        ensures kind { IsOfSystem result }
+    {
+        match error {
+            FilterError::Memory => Fault::Memory,
+            _ => Fault::Full,
+        }
+    }
+
+    /// The fault of an open.
+    pub fn of_open(error: io::Error) -> Fault
+        ensures { IsOfOpen result }
+    {
+        match error.kind() {
+            ErrorKind::OutOfMemory => Fault::Memory,
+            kind => Fault::Open(kind),
         }
     }
 }

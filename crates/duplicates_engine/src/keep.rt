@@ -1,107 +1,108 @@
-//! Writes each line that is certainly new.
-ghost use Rattle.std.specs.Prelude.{◌≡◌, false, [], IfOk, IfErr};
-ghost use Rattle.duplicates_engine.specs.Kept.{KeepsLine, KeepsNew, KeepsUntil, line_hash};
+//! Writes the lines that are asked for.
+ghost use Rattle.std.specs.Prelude.{IfOk, IfErr};
+ghost use Rattle.duplicates_engine.specs.Kept.{KeepsNew, KeepsUntil};
 
+use crate::counted::{Counted, count_line};
 use crate::fault::Fault;
-use crate::output::put_line;
-use crate::progress::{Progress, tell};
+use crate::inputs::Inputs;
+use crate::opened::{Opened, Step, flush, next_step, open_next};
+use crate::options::Options;
+use crate::output::put_chosen;
+use crate::progress::Progress;
+use crate::sieve::Sieve;
 use crate::tally::Tally;
-use bloom_plain::laws::{inserted_stays_found, lists_join};
-use bloom_plain::{BloomFilter, Text};
-use lines::{LineReader, Next};
 use std::alloc::Global;
-use std::hash::BuildHasher;
-use std::io::{ErrorKind, Read, Write};
+use std::io::{ErrorKind, Write};
 
-// Inserts a line, and writes it where it is new. Answers whether it was held back.
-fn keep_line<S: BuildHasher, W: Write>(
-    filter: &mut BloomFilter<S>,
-    line: &[u8],
-    output: &mut W,
-) -> Result<bool, Fault>
-    ensures { KeepsLine (line_hash S.Hasher.Hasher (S.build_hasher filter.old.hasher)) line.now
-        filter.old filter.new (W.contents output.old) (W.contents output.new) result }
-{
-    let is_held = filter.insert(&Text(line));
-    if !is_held {
-        put_line(output, line)?;
-    }
-    Ok(is_held)
-}
-
-// Keeps each line of an input of which nothing was read yet.
-fn keep_lines<S: BuildHasher, R: Read, W: Write, P: Progress>(
-    lines: &mut LineReader,
-    filter: &mut BloomFilter<S>,
-    input: &mut R,
+// Keeps each line of all inputs.
+fn keep_lines<V: Sieve, I: Inputs, W: Write, P: Progress, const END: u8>(
+    alloc: Global,
+    sieve: &mut V,
+    options: Options,
+    inputs: &mut I,
     output: &mut W,
     progress: &mut P,
 ) -> Result<Tally, Fault>
-    requires empty { lines.old.bytes ≡ [] }
-    requires open { lines.old.ended ≡ false }
-    ensures all { IfOk result (KeepsNew lines.old.longest
-        (line_hash S.Hasher.Hasher (S.build_hasher filter.old.hasher))
-        (R.remaining input.old) (R.remaining input.new) filter.old filter.new
+    ensures all { IfOk result (KeepsNew V.has V.sifts END options
+        (I.coming inputs.old) (I.coming inputs.new) sieve.old sieve.new
         (W.contents output.old) (W.contents output.new)
-        (P.tells progress.old) (P.tells progress.new)) }
-    ensures fault { IfErr result (KeepsUntil lines.old.longest
-        (line_hash S.Hasher.Hasher (S.build_hasher filter.old.hasher)) (R.remaining input.old)
-        filter.old filter.new (W.contents output.old) (W.contents output.new)
-        (P.tells progress.old) (P.tells progress.new)) }
+        (P.tells progress.old) (P.tells progress.new)
+        (P.warnings progress.old) (P.warnings progress.new)) }
+    ensures fault { IfErr result (KeepsUntil V.has V.sifts END options
+        (I.coming inputs.old) sieve.old sieve.new
+        (W.contents output.old) (W.contents output.new)
+        (P.tells progress.old) (P.tells progress.new)
+        (P.warnings progress.old) (P.warnings progress.new)) }
 {
-    lists_join::<S>();
-    inserted_stays_found::<S>();
-    let mut tally = Tally { read: 0, held: 0 };
-    'lines: for _line in 0..u64::MAX {
-        match lines.next_line(input) {
-            Ok(Next::End) => return Ok(tally),
-            Ok(Next::TooLong) => return Err(Fault::TooLong(tally.read.saturating_add(1))),
-            Ok(Next::Line) => {}
-            Err(error) => return Err(Fault::of_reader(error)),
+    let mut counted = Counted {
+        tally: Tally { read: 0, held: 0 },
+        room: options.most,
+    };
+    let Some(mut input) = open_next(inputs)? else {
+        return Ok(counted.tally);
+    };
+    let mut opened = Opened::<END>::new(alloc, options.longest)?;
+    'steps: for _step in 0..u64::MAX {
+        match next_step(
+            alloc,
+            options.longest,
+            &mut opened,
+            &mut input,
+            inputs,
+            output,
+        )? {
+            Step::End => return Ok(counted.tally),
+            Step::Opened => continue,
+            Step::TooLong => return Err(Fault::TooLong(opened.number.saturating_add(1))),
+            Step::Line => {}
         }
-        let is_held = keep_line(filter, lines.line(), output)?;
-        tally = tally.after(is_held);
-        tell(progress, tally);
+        let line = opened.lines.line();
+        let is_held = match sieve.sift(alloc, line) {
+            Ok(is_held) => is_held,
+            Err(error) => return Err(Fault::of_sieve(error)),
+        };
+        count_line(&mut counted, is_held, progress);
+        put_chosen::<W, END>(output, options, line, is_held)?;
     }
     Err(Fault::Input(ErrorKind::TimedOut))
 }
 
-/// Writes each line whose insert into the filter is answered false, with an end, and counts those
-/// that it holds back. A line may have at most `longest` bytes without its end.
+/// Sifts each line of the inputs, and writes those that are asked for, each with its end.
 ///
-/// A line is held back by mistake only where the filter takes it for a line before; a line is never
-/// written twice. `progress` is told each million lines.
+/// A new line is held back by mistake only where the sieve takes it for a line before; no line is
+/// called new twice, in whichever inputs it stands. What was written is flushed before each read
+/// and open that may wait, and before the call returns. `progress` is told each million lines, and
+/// warned once where more new lines came than the most.
 ///
 /// # Errors
-/// `TooLong` at the first line that has more bytes; `Memory` where there is no room for a block or
-/// a line; `Input` and `Output` where a read, a write or a flush failed, with its kind.
-pub fn keep_new<S: BuildHasher, R: Read, W: Write, P: Progress>(
+/// `TooLong` at the first line that has more bytes than a line may have; `Memory` where the sieve,
+/// a block or a line is out of memory; `Full` where the sieve can take no more lines; `Open`,
+/// `Input` and `Output` where an open, a read, or a write or a flush failed, with its kind.
+pub fn keep_new<V: Sieve, I: Inputs, W: Write, P: Progress, const END: u8>(
     alloc: Global,
-    filter: &mut BloomFilter<S>,
-    longest: usize,
-    input: &mut R,
+    sieve: &mut V,
+    options: Options,
+    inputs: &mut I,
     output: &mut W,
     progress: &mut P,
 ) -> Result<Tally, Fault>
-    // All lines were inserted in order, those answered false were written, and each of these
-    // differs from every line before it. The progress was told each million of the lines.
-    ensures all { IfOk result (KeepsNew longest
-        (line_hash S.Hasher.Hasher (S.build_hasher filter.old.hasher))
-        (R.remaining input.old) (R.remaining input.new) filter.old filter.new
+    // All lines were sifted in order; each that was answered false differs from every line before
+    // it. Those that are asked for were written, and progress was told what there was to tell.
+    ensures all { IfOk result (KeepsNew V.has V.sifts END options
+        (I.coming inputs.old) (I.coming inputs.new) sieve.old sieve.new
         (W.contents output.old) (W.contents output.new)
-        (P.tells progress.old) (P.tells progress.new)) }
+        (P.tells progress.old) (P.tells progress.new)
+        (P.warnings progress.old) (P.warnings progress.new)) }
     // The same of the lines before a fault.
-    ensures fault { IfErr result (KeepsUntil longest
-        (line_hash S.Hasher.Hasher (S.build_hasher filter.old.hasher)) (R.remaining input.old)
-        filter.old filter.new (W.contents output.old) (W.contents output.new)
-        (P.tells progress.old) (P.tells progress.new)) }
+    ensures fault { IfErr result (KeepsUntil V.has V.sifts END options
+        (I.coming inputs.old) sieve.old sieve.new
+        (W.contents output.old) (W.contents output.new)
+        (P.tells progress.old) (P.tells progress.new)
+        (P.warnings progress.old) (P.warnings progress.new)) }
 {
-    let Ok(mut lines) = LineReader::new(alloc, longest) else {
-        return Err(Fault::Memory);
-    };
-    let kept = keep_lines(&mut lines, filter, input, output, progress);
-    match output.flush() {
+    let kept = keep_lines::<V, I, W, P, END>(alloc, sieve, options, inputs, output, progress);
+    match flush(output) {
         Ok(()) => kept,
-        Err(error) => Err(Fault::Output(error.kind())),
+        Err(fault) => Err(fault),
     }
 }

@@ -1,15 +1,37 @@
 //! Writing lines.
-ghost use Rattle.std.specs.Prelude.{[], ◌∷◌, ◌++◌};
-ghost use Rattle.duplicates_engine.specs.Kept.{Writes};
+ghost use Rattle.std.specs.Prelude.{◌≡◌};
+ghost use Rattle.duplicates_engine.specs.Kept.{Writes, is_written, piece};
 
 use crate::fault::Fault;
+use crate::options::{Options, Written};
+use lines::put_line_by;
 use std::io::Write;
 
-/// Writes a line and its end.
-pub fn put_line<W: Write>(output: &mut W, line: &[u8]) -> Result<(), Fault>
-    ensures { Writes (line.now ++ 10 ∷ []) (W.contents output.old) (W.contents output.new) result }
+// Whether a line is written that was answered this.
+fn writes(written: Written, is_held: bool) -> bool
+    ensures { result ≡ is_written written is_held }
 {
-    match lines::put_line(output, line) {
+    match written {
+        Written::New => !is_held,
+        Written::HeldBack => is_held,
+        Written::Nothing => false,
+    }
+}
+
+/// Writes a line and its end, if it is to be written.
+pub fn put_chosen<W: Write, const END: u8>(
+    output: &mut W,
+    options: Options,
+    line: &[u8],
+    is_held: bool,
+) -> Result<(), Fault>
+    ensures { Writes (piece END options line.now is_held)
+        (W.contents output.old) (W.contents output.new) result }
+{
+    if !writes(options.written, is_held) {
+        return Ok(());
+    }
+    match put_line_by(output, line, END) {
         Ok(()) => Ok(()),
         Err(error) => Err(Fault::Output(error.kind())),
     }

@@ -1,38 +1,39 @@
-use Rattle.std.proofs.Common.{◌≡◌, ap, refl, rules, Err}
-use Rattle.lines.specs.Reading.{left_of}
-use Rattle.duplicates_engine.proofs.KeepingLemmas.{until-unkept, sifting-next}
-use Rattle.duplicates_engine.proofs.RunLemmas.{keeps-all, until-long}
-use Rattle.duplicates_engine.proofs.StartLemmas.{sifting-nil}
+mod Steps
+use Rattle.duplicates_engine.proofs.keep.keep_lines.Answers.Steps.{error-input, error-opened, none-comes, first-opened, error-step, all-ended, next-opened, error-long, error-timed, error-sieve, error-output, line-kept}
 use Rattle.duplicates_engine.proofs.keep.keep_lines.Goals as goal
 
-pub lines-init : goal.lines-init
-lines-init g c = sifting-nil _ _ _ _ _ _ _ _ c.requires.empty c.requires.open refl refl refl
+pub returns-in_err-input-clause-fault : goal.returns-in_err-input-clause-fault
+returns-in_err-input-clause-fault = error-input
 
-pub returns-in-Ok-End-clause-all : goal.returns-in-Ok-End-clause-all
-returns-in-Ok-End-clause-all g c =
-    keeps-all c.lines.invariant c.next_line.new.self _
-    (rw c.in-Ok-End.field-0-is at c.in-Ok-End.ensures.next)
+pub returns-in_err-opened-clause-fault : goal.returns-in_err-opened-clause-fault
+returns-in_err-opened-clause-fault = error-opened
 
-pub returns-in-Ok-TooLong-clause-fault : goal.returns-in-Ok-TooLong-clause-fault
-returns-in-Ok-TooLong-clause-fault g c =
-    until-long c.lines.invariant _ c.saturating_add.ensures
-    (left_of c.next_line.new.self (g.R.Read.remaining c.next_line.new.input))
-    (rw c.in-Ok-TooLong.field-0-is at c.in-Ok-TooLong.ensures.next)
+pub returns-in_default-clause-all : goal.returns-in_default-clause-all
+returns-in_default-clause-all = none-comes
 
-pub returns-in_err-is_held-clause-fault : goal.returns-in_err-is_held-clause-fault
-returns-in_err-is_held-clause-fault g c =
-    let same : c.from_residual.result ≡ Err c.in_err-is_held.field-0.0 = search rules in
-    rw same
-    (until-unkept g.S.Hasher.Hasher g.S.BuildHasher.build_hasher c.lines.invariant
-    c.next_line.new.self _ (rw c.in-Ok-Line.field-0-is at c.in-Ok-Line.ensures.next)
-    c.lists_join.ensures c.inserted_stays_found.ensures.inserts c.line.ensures
-    (rw c.in_err-is_held.was at c.keep_line.ensures))
+pub steps-init : goal.steps-init
+steps-init = first-opened
 
-pub lines-preserved : goal.lines-preserved
-lines-preserved g c =
-    sifting-next g.S.Hasher.Hasher g.S.BuildHasher.build_hasher c.lines.invariant
-    c.next_line.new.self _ (rw c.in-Ok-Line.field-0-is at c.in-Ok-Line.ensures.next)
-    c.lists_join.ensures c.inserted_stays_found.ensures.inserts c.line.ensures
-    (rw c.in_ok-is_held.was at c.keep_line.ensures) c.in-Ok-Line.ensures.longest
-    c.in-Ok-Line.ensures.knows c.after-tally.ensures.read c.after-tally.ensures.held
-    c.tell.ensures.told (λ within. ap g.P.Progress.tells (c.tell.ensures.quiet within))
+pub returns-in_err-next_step-clause-fault : goal.returns-in_err-next_step-clause-fault
+returns-in_err-next_step-clause-fault = error-step
+
+pub returns-in-End-clause-all : goal.returns-in-End-clause-all
+returns-in-End-clause-all = all-ended
+
+pub steps-preserved-in-Opened : goal.steps-preserved-in-Opened
+steps-preserved-in-Opened = next-opened
+
+pub returns-in-TooLong-clause-fault : goal.returns-in-TooLong-clause-fault
+returns-in-TooLong-clause-fault = error-long
+
+pub returns-in-Err-clause-fault : goal.returns-in-Err-clause-fault
+returns-in-Err-clause-fault = error-sieve
+
+pub returns-in_err-put_chosen-clause-fault : goal.returns-in_err-put_chosen-clause-fault
+returns-in_err-put_chosen-clause-fault = error-output
+
+pub steps-preserved : goal.steps-preserved
+steps-preserved = line-kept
+
+pub returns-clause-fault : goal.returns-clause-fault
+returns-clause-fault = error-timed

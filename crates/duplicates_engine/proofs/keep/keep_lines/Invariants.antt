@@ -1,12 +1,13 @@
-use Rattle.duplicates_engine.specs.Kept.{line_hash}
-use Rattle.duplicates_engine.proofs.StartLemmas.{IsSifting}
+use Rattle.duplicates_engine.proofs.HalfwayLemmas.{IsKeeping}
 use Rattle.duplicates_engine.proofs.keep.keep_lines.Given as goal
 
--- the lines so far were kept or held back, and each million of them was told
-abbrev pub invariant-lines : goal.invariant-lines
-invariant-lines g l =
-    IsSifting l.fn.lines.longest
-    (line_hash g.S.Hasher.Hasher (g.S.BuildHasher.build_hasher l.fn.filter.hasher))
-    (g.R.Read.remaining l.fn.input) l.fn.filter (g.W.Write.contents l.fn.output)
-    (g.P.Progress.tells l.fn.progress) l.lines (g.R.Read.remaining l.input) l.filter
-    (g.W.Write.contents l.output) (g.P.Progress.tells l.progress) l.tally
+-- the lines so far were sifted, the chosen ones written, and each was counted and told
+abbrev pub invariant-steps : goal.invariant-steps
+invariant-steps g l =
+    IsKeeping g.V.Sieve.has g.V.Sieve.sifts g.row.END l.fn.options
+    (g.I.Inputs.coming l.fn.inputs) l.fn.sieve
+    (g.W.Write.contents l.fn.output) (g.P.Progress.tells l.fn.progress)
+    (g.P.Progress.warnings l.fn.progress) l.opened.lines
+    (g.I.Input.Read.remaining l.input) (g.I.Inputs.coming l.inputs) l.opened.number
+    l.sieve (g.W.Write.contents l.output) (g.P.Progress.tells l.progress)
+    (g.P.Progress.warnings l.progress) l.counted.tally l.counted.room

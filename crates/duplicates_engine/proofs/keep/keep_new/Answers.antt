@@ -1,12 +1,8 @@
-use Rattle.duplicates_engine.proofs.FlushLemmas.{broken}
-use Rattle.duplicates_engine.proofs.StartLemmas.{until-nil}
+use Rattle.duplicates_engine.proofs.FlushLemmas.{all-flushed, until-flushed, broken}
 use Rattle.duplicates_engine.proofs.keep.keep_new.Goals as goal
 
-pub returns-in_default-clause-fault : goal.returns-in_default-clause-fault
-returns-in_default-clause-fault g c = until-nil _ _ _ _ _ _
-
-pub returns-clause-fault : goal.returns-clause-fault
-returns-clause-fault g c =
-    broken _ _ _ _ _ _ _ _ _ _ c.flush.ensures.bytes _ _ _ tt
-    (rw c.in-Ok.ensures.longest at c.keep_lines-kept.ensures.all)
-    (rw c.in-Ok.ensures.longest at c.keep_lines-kept.ensures.fault)
+pub returns-in-Err-clause-fault : goal.returns-in-Err-clause-fault
+returns-in-Err-clause-fault g c =
+    broken g.V.Sieve.has g.V.Sieve.sifts g.row.END c.args.options _ _ _ _ _ _ _ _ _ _
+    c.flush.ensures.kept _
+    c.in-Err.ensures.fault _ _ c.keep_lines-kept.ensures.all c.keep_lines-kept.ensures.fault

@@ -1,0 +1,120 @@
+//! What is told on standard error, and the statuses. Where standard error can't be written, nothing
+//! is told, and the status stays.
+
+use duplicates_engine::{Fault, Progress, Tally};
+use std::fmt;
+use std::fmt::Display;
+use std::io::ErrorKind;
+
+/// All lines were done.
+pub const DONE: u8 = 0;
+
+/// An input can't be opened or read, or a line of it is too long.
+pub const UNREAD: u8 = 1;
+
+/// The words after the program's name are wrong.
+pub const MISUSED: u8 = 2;
+
+/// More different lines came than a filter that doesn't grow was made for.
+pub const OVERFULL: u8 = 4;
+
+/// Out of memory, or of room for one more filter.
+pub const NO_ROOM: u8 = 5;
+
+/// A write failed.
+pub const UNWRITTEN: u8 = 6;
+
+/// Tells how far a run is where standard error is a terminal, and warns where more different lines
+/// came than the filter was made for.
+#[derive(Drop)]
+pub struct Teller<'a> {
+    pub rt: &'a HostRuntime,
+    /// Whether it is told how far the run is.
+    pub is_on: bool,
+    pub items: u64,
+    pub is_warned: bool,
+}
+
+impl Progress for Teller<'_> {
+    ghost use Rattle.std.specs.Prelude.{None};
+
+    // Nothing is known of what a terminal shows.
+    ghost tells = { λ _. None };
+
+    ghost warnings = { λ _. None };
+
+    fn tell(&mut self, tally: Tally) {
+        if self.is_on {
+            let _ = eprintln!(self.rt; "{} lines, {} held back", tally.read, tally.held);
+        }
+    }
+
+    fn warn(&mut self, _tally: Tally) {
+        self.is_warned = true;
+        let _ = eprintln!(self.rt;
+            "duplicates: more than {} different lines: more new ones will be held back by mistake",
+            self.items
+        );
+    }
+}
+
+// Why a call of the system failed, behind what failed. A kind that has no words of its own has none
+// here.
+#[derive(Drop)]
+struct Reason(ErrorKind);
+
+impl Display for Reason {
+    fn fmt<W: fmt::Write>(&self, f: &mut fmt::Formatter<W>) -> fmt::Result {
+        match self.0 {
+            ErrorKind::Uncategorized => Ok(()),
+            ErrorKind::Other => Ok(()),
+            ErrorKind::NotFound => f.write_str(": there is no such file"),
+            ErrorKind::IsADirectory => f.write_str(": it is a folder"),
+            ErrorKind::StorageFull => f.write_str(": no space is left"),
+            kind => write!(f, ": {kind}"),
+        }
+    }
+}
+
+// How an input is called: its name, or standard input.
+fn called(name: &str) -> &str {
+    if name == "-" { "standard input" } else { name }
+}
+
+/// Tells why a run ended early, in which input it was, and answers the status.
+pub fn tell_fault(rt: &HostRuntime, name: &str, is_named: bool, fault: Fault) -> u8 {
+    let place = called(name);
+    match fault {
+        Fault::TooLong(number) => {
+            if is_named {
+                let _ = eprintln!(rt; "duplicates: {place}: line {number} is too long");
+            } else {
+                let _ = eprintln!(rt; "duplicates: line {number} is too long");
+            }
+            UNREAD
+        }
+        Fault::Open(kind) => {
+            let _ = eprintln!(rt; "duplicates: {place} can't be opened{}", Reason(kind));
+            UNREAD
+        }
+        Fault::Input(kind) => {
+            let _ = eprintln!(rt; "duplicates: {place} can't be read{}", Reason(kind));
+            UNREAD
+        }
+        Fault::Output(kind) => {
+            let _ = eprintln!(rt;
+                "duplicates: standard output can't be written{}",
+                Reason(kind)
+            );
+            UNWRITTEN
+        }
+        Fault::Memory => tell_no_room(rt, "out of memory"),
+        Fault::Full => tell_no_room(rt, "the filter can't grow any more at this rate"),
+    }
+}
+
+/// Tells that there is no room, and answers the status.
+pub fn tell_no_room(rt: &HostRuntime, what: &str) -> u8 {
+    let _ = eprintln!(rt; "duplicates: {what}");
+    NO_ROOM
+}

@@ -1,0 +1,79 @@
+-- A run that stands half-way.
+use Rattle.std.proofs.Common.{◌≡◌, ℕ, ◌+◌, ◌-◌, ◌^◌, ◌≤◌, min, length, Bool, true, List, [], ◌∷◌, ◌++◌, Option, Result, Ok, Err, refl, sym, ◌∙◌, ap, subst, arith}
+use Rattle.std.proofs.lemmas.Bool.{both_ways}
+use Rattle.std.proofs.lemmas.List.Elements.{All-append, All-from_recursion, All-nil}
+use Rattle.std.specs.Io.KnownBytes.{Appends, Keeps}
+use Rattle.std.proofs.KnownBytes.{Appends-nil, Appends-trans, Appends-kept}
+use Rattle.lines.specs.Reading.{Waiting, left_of, KnowsEnd, AreShort}
+use Rattle.lines.proofs.WritingLemmas.{Begins-after}
+use Rattle.duplicates_engine.specs.declared.fault.Fault.{Fault}
+use Rattle.duplicates_engine.specs.declared.fault.Fault.TheVariants.{TooLong, Memory}
+use Rattle.duplicates_engine.specs.declared.options.Options.{Options}
+use Rattle.duplicates_engine.specs.declared.tally.Tally.{Tally}
+use Rattle.duplicates_engine.specs.Faults.{IsOfSystem, IsOfWriter, IsWrittenAt}
+use Rattle.duplicates_engine.specs.Inputs.{Opens, NoneComes, IsFresh, TakesNext, OpensNext, EndsAll, FindsLong}
+use Rattle.duplicates_engine.specs.Kept.{text_of, piece, Writes, KeepsNew, KeepsUntil}
+use Rattle.duplicates_engine.specs.Sieves.{HasSifted}
+use Rattle.duplicates_engine.specs.Told.{Counts, CountsLine, TellsOf, WarnsOf, HasRoom}
+use Rattle.duplicates_engine.proofs.InputLemmas.{IsReading, opens-left, reading-first, reading-more, reading-next}
+use Rattle.duplicates_engine.proofs.EndLemmas.{none-read, all-read, first-read, first-none, long-read}
+use Rattle.duplicates_engine.proofs.SiftLemmas.{sifted-nil, sifted-more}
+use Rattle.duplicates_engine.proofs.TextLemmas.{text-more}
+use Rattle.duplicates_engine.proofs.ToldLemmas.{told-nil, told-step}
+use Rattle.duplicates_engine.proofs.WarnLemmas.{counts-nil, counts-more, warns-nil, room-nil, warns-more}
+use Rattle.duplicates_engine.proofs.WriteLemmas.{from-begins, to-begins, written-all, writer-system, reached-at}
+
+module _ {V : Type 0} (has : V → List ℕ → Type 0) (sifts : V → List ℕ → Bool → V → Type 0)
+    (end : ℕ) (options : Options) (come : Option (List (List ℕ))) (old : V) (from : Option (List ℕ))
+    (before calm : Option (List Tally)) where
+  -- half-way: these lines were sifted, the chosen ones written, and each was counted and told
+  pub record IsSifting (now : V) (to : Option (List ℕ)) (after warned : Option (List Tally))
+      (tally : Tally) (room : Option ℕ) (lines : List (List ℕ)) (replies : List Bool) : Type 0
+    where
+      pub sifted : HasSifted has sifts old now lines replies
+      pub text : Appends from to (text_of end options lines replies)
+      pub short : AreShort options.longest lines
+      pub counts : Counts replies tally
+      pub tells : TellsOf before after replies
+      pub warns : WarnsOf options.most calm warned replies
+      pub has_room : HasRoom options.most replies room
+
+  -- nothing was sifted yet
+  sifting-nil : (tally : Tally) → tally.read ≡ 0 → tally.held ≡ 0
+      → IsSifting old from before calm tally options.most [] []
+  sifting-nil tally none_read none_held = record {
+    sifted = sifted-nil has sifts old;
+    text = Appends-nil from;
+    short = All-nil (λ line. length line ≤ options.longest);
+    counts = counts-nil tally none_read none_held;
+    tells = told-nil before;
+    warns = warns-nil options.most calm;
+    has_room = room-nil options.most;
+  }
+
+  -- half-way through the inputs
+  pub record IsKeeping (waiting : Waiting) (rest : Option (List ℕ))
+      (coming : Option (List (List ℕ))) (number : ℕ) (now : V) (to : Option (List ℕ))
+      (after warned : Option (List Tally)) (tally : Tally) (room : Option ℕ) : Type 0 where
+    pub lines : List (List ℕ)
+    pub replies : List Bool
+    pub sifting : IsSifting now to after warned tally room lines replies
+    pub reading : IsReading end come (left_of waiting rest) coming number lines
+    pub knows : KnowsEnd waiting.ended rest
+    pub has_longest : waiting.longest ≡ options.longest
+
+  -- the first input was opened
+  pub keeping-first : (waiting : Waiting) (rest : Option (List ℕ))
+      (coming : Option (List (List ℕ))) (number : ℕ) (tally : Tally) → Opens come coming rest
+      → IsFresh options.longest waiting number → tally.read ≡ 0 → tally.held ≡ 0
+      → IsKeeping waiting rest coming number old from before calm tally options.most
+  keeping-first waiting rest coming number tally opens fresh none_read none_held = record {
+    lines = [];
+    replies = [];
+    sifting = sifting-nil tally none_read none_held;
+    reading =
+        reading-first end come coming (left_of waiting rest) number
+        (opens-left come coming rest waiting.bytes fresh.empty opens) fresh.none_read;
+    knows = λ is. absurd (both_ways waiting.ended fresh.untold is);
+    has_longest = fresh.has_longest;
+  }

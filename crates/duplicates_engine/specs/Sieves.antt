@@ -1,0 +1,38 @@
+-- What is true of lines that a sieve sifts one after the other. What a sieve has, and what one line
+-- does to it, each sieve says for itself. A reply is true where a line may have come before.
+use Rattle.std.specs.Prelude.{◌≡◌, ◌≢◌, ◌<◌, ℕ, Bool, true, false, List, [], ◌∷◌, length, get_or}
+
+module _ {V : Type 0} (sifts : V → List ℕ → Bool → V → Type 0) where
+  -- from old to new these lines were sifted, in order, with these replies
+  abbrev pub SiftsAll : V → List (List ℕ) → List Bool → V → Type 0
+  SiftsAll old [] [] new = new ≡ old
+  SiftsAll old [] (reply ∷ replies) new = ⊥
+  SiftsAll old (line ∷ lines) [] new = ⊥
+  SiftsAll old (line ∷ lines) (reply ∷ replies) new =
+      (next : V) × sifts old line reply next × SiftsAll next lines replies new
+
+-- a line that was answered false differs from every line before it
+abbrev pub AreNew : List (List ℕ) → List Bool → Type 0
+AreNew lines replies = (i j : ℕ) → i < j → j < length lines
+    → get_or replies j true ≡ false → get_or lines i [] ≢ get_or lines j []
+
+-- a sieve has each of these lines
+abbrev pub HasAll : (List ℕ → Type 0) → List (List ℕ) → Type 0
+HasAll has lines = (i : ℕ) → i < length lines → has (get_or lines i [])
+
+-- a sieve had no line that was answered false
+abbrev pub AreUnseen : (List ℕ → Type 0) → List (List ℕ) → List Bool → Type 0
+AreUnseen has lines replies = (j : ℕ) → j < length lines
+    → get_or replies j true ≡ false → has (get_or lines j []) → ⊥
+
+-- these lines were sifted, in order, with these replies: those answered false are new, also to what
+-- the sieve had before, and in the end it has all of them, and what it had
+pub record HasSifted {V : Type 0} (has : V → List ℕ → Type 0)
+    (sifts : V → List ℕ → Bool → V → Type 0) (old new : V) (lines : List (List ℕ))
+    (replies : List Bool) : Type 0 where
+  pub all : SiftsAll sifts old lines replies new
+  pub count : length replies ≡ length lines
+  pub are_new : AreNew lines replies
+  pub are_unseen : AreUnseen (has old) lines replies
+  pub are_in : HasAll (has new) lines
+  pub stay : (line : List ℕ) → has old line → has new line

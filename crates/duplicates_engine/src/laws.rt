@@ -1,0 +1,12 @@
+//! Laws of sieves. These functions do nothing: their contracts are the laws.
+ghost use Rattle.duplicates_engine.specs.Plain.{SiftedLaw};
+
+use bloom_plain::laws::lists_join;
+use std::hash::BuildHasher;
+
+/// What a plain filter sifted it inserted, as one list of commands.
+pub fn plain_filter_inserts<S: BuildHasher>()
+    ensures { SiftedLaw S.Hasher.Hasher S.build_hasher }
+{
+    lists_join::<S>();
+}

@@ -1,0 +1,142 @@
+//! An input that is open.
+ghost use Rattle.std.specs.Prelude.{◌≡◌, ◌↔◌, true, false, [], IfOk, IfErr, IfSome, OnOk, MatchOption};
+ghost use Rattle.std.specs.Io.KnownBytes.{Keeps};
+ghost use Rattle.lines.specs.Reading.{KnowsEnd, left_of};
+ghost use Rattle.duplicates_engine.specs.Faults.{IsOfOpen, IsOfSystem, IsOfWriter};
+ghost use Rattle.duplicates_engine.specs.Inputs.{IsFresh, NoneComes, Opens, Steps};
+
+use crate::fault::Fault;
+use crate::inputs::Inputs;
+use lines::{LineReaderBy, Next};
+use std::alloc::Global;
+use std::io::{Read, Write};
+
+/// The lines of an input that is open.
+#[derive(Drop)]
+pub struct Opened<const END: u8> {
+    pub lines: LineReaderBy<END>,
+    /// How many of them were read. The number stays at 2^64 - 1.
+    pub number: u64,
+}
+
+impl<const END: u8> Opened<END> {
+    /// Nothing was read yet.
+    pub fn new(alloc: Global, longest: usize) -> Result<Self, Fault>
+        ensures fresh { IfOk result (λ opened. IsFresh longest opened.lines opened.number) }
+        ensures fault { IfErr result IsOfOpen }
+    {
+        match LineReaderBy::new(alloc, longest) {
+            Ok(lines) => Ok(Opened { lines, number: 0 }),
+            Err(_) => Err(Fault::Memory),
+        }
+    }
+}
+
+/// What the next step came to.
+#[derive(Clone, Copy, Debug, PartialEq, Eq)]
+pub enum Step {
+    /// All inputs have ended.
+    End,
+    /// An input has ended, and the next was opened.
+    Opened,
+    /// There is a next line.
+    Line,
+    /// The next line is longer than a line may be.
+    TooLong,
+}
+
+/// Opens the next input, if one comes.
+pub fn open_next<I: Inputs>(inputs: &mut I) -> Result<Option<I::Input>, Fault>
+    ensures opened { IfOk result (λ found. MatchOption found
+        (NoneComes (I.coming inputs.old) (I.coming inputs.new))
+        (λ input. Opens (I.coming inputs.old) (I.coming inputs.new) (I.Input.remaining input))) }
+    ensures fault { IfErr result IsOfOpen }
+{
+    match inputs.open_next() {
+        Ok(found) => Ok(found),
+        Err(error) => Err(Fault::of_open(error)),
+    }
+}
+
+/// Flushes what was written.
+pub fn flush<W: Write>(output: &mut W) -> Result<(), Fault>
+    ensures kept { Keeps (W.contents output.old) (W.contents output.new) }
+    ensures fault { IfErr result IsOfWriter }
+{
+    match output.flush() {
+        Ok(()) => Ok(()),
+        Err(error) => Err(Fault::Output(error.kind())),
+    }
+}
+
+// Flushes what was written, where the next line may have to wait for a read.
+fn flush_before_a_read<W: Write, const END: u8>(
+    lines: &LineReaderBy<END>,
+    output: &mut W,
+) -> Result<(), Fault>
+    ensures kept { Keeps (W.contents output.old) (W.contents output.new) }
+    ensures fault { IfErr result IsOfWriter }
+{
+    if lines.has_next() {
+        Ok(())
+    } else {
+        flush(output)
+    }
+}
+
+// Opens the next input behind one that has ended. The open may wait, too.
+fn open_after<I: Inputs, W: Write>(
+    inputs: &mut I,
+    output: &mut W,
+) -> Result<Option<I::Input>, Fault>
+    ensures opened { IfOk result (λ found. MatchOption found
+        (NoneComes (I.coming inputs.old) (I.coming inputs.new))
+        (λ input. Opens (I.coming inputs.old) (I.coming inputs.new) (I.Input.remaining input))) }
+    ensures kept { Keeps (W.contents output.old) (W.contents output.new) }
+    ensures fault { IfErr result IsOfSystem }
+{
+    flush(output)?;
+    open_next(inputs)
+}
+
+/// Reads the next line, or opens the next input behind one that has ended. Before a read or an open
+/// that may wait, what was written is flushed.
+pub fn next_step<I: Inputs, W: Write, const END: u8>(
+    alloc: Global,
+    longest: usize,
+    opened: &mut Opened<END>,
+    input: &mut I::Input,
+    inputs: &mut I,
+    output: &mut W,
+) -> Result<Step, Fault>
+    requires knows { KnowsEnd opened.old.lines.ended (I.Input.remaining input.old) }
+    requires limit { opened.old.lines.longest ≡ longest }
+    ensures step { IfOk result (Steps END longest
+        (left_of opened.old.lines (I.Input.remaining input.old))
+        (left_of opened.new.lines (I.Input.remaining input.new))
+        (I.coming inputs.old) (I.coming inputs.new) opened.old.number opened.new.number
+        opened.new.lines.line) }
+    ensures knows { OnOk result (KnowsEnd opened.new.lines.ended (I.Input.remaining input.new)) }
+    ensures limit { OnOk result (opened.new.lines.longest ≡ longest) }
+    ensures kept { Keeps (W.contents output.old) (W.contents output.new) }
+    ensures fault { IfErr result IsOfSystem }
+{
+    flush_before_a_read(&opened.lines, output)?;
+    match opened.lines.next_line(input) {
+        Ok(Next::End) => {}
+        Ok(Next::Line) => {
+            opened.number = opened.number.saturating_add(1);
+            return Ok(Step::Line);
+        }
+        Ok(Next::TooLong) => return Ok(Step::TooLong),
+        Err(error) => return Err(Fault::of_reader(error)),
+    }
+    match open_after(inputs, output)? {
+        Some(next) => {
+            *opened = Opened::new(alloc, longest)?;
+            *input = next;
+            Ok(Step::Opened)
+        }
+        None => Ok(Step::End),
+    }
+}
