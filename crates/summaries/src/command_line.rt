@@ -22,6 +22,15 @@ pub const MOST_HASHES: &str = "hashes-up-to";
 
 pub const FILTER: &str = "FILTER";
 
+pub const FILE: &str = "FILE";
+
+pub const ZERO: &str = "zero";
+
+pub const ABSENT: &str = "absent";
+
+// The version of the library whose filters these are.
+const VERSION: &str = "0.17.0";
+
 // An argument that counts bits or keys.
 fn counted<'a>(arg: Arg<'a>) -> Arg<'a> {
     arg.value_parser(value_parser!(u64).range(1..1_000_000_000_001))
@@ -83,6 +92,25 @@ fn with_sizes<'a>(alloc: Global, command: Command<'a>) -> Result<Command<'a>, Er
     Ok(command.group(size(alloc)?)?)
 }
 
+fn zero<'a>(alloc: Global) -> Arg<'a> {
+    Arg::new(alloc, ZERO)
+        .short('z')
+        .long("zero")
+        .action(ArgAction::SetTrue)
+        .help("A zero byte ends each key, in place of a line's end")
+}
+
+fn key_files<'a>(alloc: Global) -> Arg<'a> {
+    Arg::new(alloc, FILE)
+        .action(ArgAction::Append)
+        .num_args(0..)
+        .help("Files with keys, one a line; none, or -, is standard input")
+}
+
+fn with_keys<'a>(alloc: Global, command: Command<'a>) -> Result<Command<'a>, Error> {
+    Ok(command.arg(zero(alloc))?.arg(key_files(alloc))?)
+}
+
 fn build_command<'a>(alloc: Global) -> Result<Command<'a>, Error> {
     let workers = Arg::new(alloc, WORKERS)
         .long("workers")
@@ -93,7 +121,8 @@ fn build_command<'a>(alloc: Global) -> Result<Command<'a>, Error> {
     let command = Command::new(alloc, "build").about(
         "Reads keys, one a line, and writes their filter",
     );
-    Ok(with_sizes(alloc, command)?.arg(workers)?.arg(json(alloc))?)
+    let command = with_sizes(alloc, command)?.arg(workers)?.arg(json(alloc))?;
+    with_keys(alloc, command)
 }
 
 fn json<'a>(alloc: Global) -> Arg<'a> {
@@ -133,13 +162,20 @@ fn unite_command<'a>(alloc: Global) -> Result<Command<'a>, Error> {
     )
 }
 
+fn absent<'a>(alloc: Global) -> Arg<'a> {
+    Arg::new(alloc, ABSENT)
+        .long("absent")
+        .action(ArgAction::SetTrue)
+        .help("Writes the keys that are surely not in, in place of those that may be")
+}
+
 fn ask_command<'a>(alloc: Global) -> Result<Command<'a>, Error> {
-    Ok(
-        Command::new(alloc, "ask")
-            .about("Reads keys, one a line, and writes those that may be in a filter")
-            .arg(most_hashes(alloc))?
-            .arg(file(alloc))?,
-    )
+    let command = Command::new(alloc, "ask")
+        .about("Reads keys, one a line, and writes those that may be in a filter")
+        .arg(most_hashes(alloc))?
+        .arg(absent(alloc))?
+        .arg(file(alloc))?;
+    with_keys(alloc, command)
 }
 
 fn info_command<'a>(alloc: Global) -> Result<Command<'a>, Error> {
@@ -155,6 +191,7 @@ fn command<'a>(alloc: Global) -> Result<Command<'a>, Error> {
     Ok(
         Command::new(alloc, "summaries")
             .about("Filters of the keys of shards")
+            .version(VERSION)
             .subcommand_required(true)
             .arg_required_else_help(true)
             .subcommand(build_command(alloc)?)?

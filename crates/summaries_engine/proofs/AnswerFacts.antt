@@ -9,9 +9,10 @@ use Rattle.bloom_parts.specs.Places.{are_in}
 use Rattle.bloom_parts.specs.Sip.{sip, start, whole_words, rest}
 use Rattle.fastbloom.specs.Data.{DefaultFilter}
 use Rattle.fastbloom.specs.Filter.{contains}
-use Rattle.lines.specs.Lines.{lines_of}
+use Rattle.lines.specs.Lines.{lines_by, lines_of}
 use Rattle.lines.specs.Reading.{AreShort}
-use Rattle.summaries_engine.specs.Answers.{IsKeyed, HashesAll, found_text, AnswersAll}
+use Rattle.summaries_engine.specs.declared.answers.Told.TheVariants.{Found, Absent}
+use Rattle.summaries_engine.specs.Answers.{IsKeyed, HashesAll, told_text, AnswersAll}
 use Rattle.summaries_engine.specs.Summaries.{hash_in}
 use Rattle.summaries_engine.proofs.SummaryFacts.{IsFilter, hash-a, hash-b, hash-in}
 
@@ -22,9 +23,9 @@ both-short key other one two =
     All-from_recursion (λ key. length key ≤ 65536) (key ∷ other ∷ []) (one, (two, tt))
 
 -- the hashes of "a" and "b", of which the last has no end
-hashes-both : HashesAll (Some (97 ∷ 10 ∷ 98 ∷ [])) (Some [])
+hashes-both : HashesAll 10 (Some (97 ∷ 10 ∷ 98 ∷ [])) (Some []) []
     (0x4074_48d2_b89b_1813 ∷ 0x8b22_cf26_02fb_60ce ∷ [])
-unfolding lines_of
+unfolding lines_by
 hashes-both = record {
   keys = (97 ∷ []) ∷ (98 ∷ []) ∷ [];
   whole = record { are_lines = refl; none_left = refl };
@@ -34,14 +35,16 @@ hashes-both = record {
 }
 
 -- none of them is too long
-hashes-long : (read left : Option (List ℕ)) (hashes : List ℕ) (did : HashesAll read left hashes)
+hashes-long : (read left : Option (List ℕ)) (hashes : List ℕ)
+    (did : HashesAll 10 read left [] hashes)
     (key : List ℕ) → did.keys ≡ key ∷ [] → length key ≡ 65537 → ⊥
 hashes-long read left hashes did key is long =
     omega (arith, long, subst (AreShort 65536) is did.short 0 [] (omega arith))
 
 -- no key may be left out
-hashes-less : HashesAll (Some (97 ∷ 10 ∷ 98 ∷ [])) (Some []) (0x4074_48d2_b89b_1813 ∷ []) → ⊥
-unfolding lines_of
+hashes-less : HashesAll 10 (Some (97 ∷ 10 ∷ 98 ∷ [])) (Some []) []
+    (0x4074_48d2_b89b_1813 ∷ []) → ⊥
+unfolding lines_by
 hashes-less did = none did.keys did.whole.are_lines did.hashed
   where
     none : (keys : List (List ℕ)) → (97 ∷ []) ∷ (98 ∷ []) ∷ [] ≡ keys
@@ -51,7 +54,7 @@ hashes-less did = none did.keys did.whole.are_lines did.hashed
         omega (arith, wrong)
 
 -- nothing may be left to read when all keys were hashed
-hashes-left : HashesAll (Some (97 ∷ [])) (Some (98 ∷ [])) (0x4074_48d2_b89b_1813 ∷ []) → ⊥
+hashes-left : HashesAll 10 (Some (97 ∷ [])) (Some (98 ∷ [])) [] (0x4074_48d2_b89b_1813 ∷ []) → ⊥
 hashes-left did = cc (did.whole.none_left)
 
 -- whether the filter of "a" contains each
@@ -71,14 +74,57 @@ found-b f is =
 
 -- the second of "b" and "a" is written, with an end
 text-a : (f : DefaultFilter) → IsFilter f 268500992 0
-    → found_text f ((98 ∷ []) ∷ (97 ∷ []) ∷ []) ≡ 97 ∷ 10 ∷ []
+    → told_text f Found 10 ((98 ∷ []) ∷ (97 ∷ []) ∷ []) ≡ 97 ∷ 10 ∷ []
 text-a f is = rw (found-b f is, found-a f is) refl
+
+-- of the same keys the first is told as absent
+text-absent : (f : DefaultFilter) → IsFilter f 268500992 0
+    → told_text f Absent 10 ((98 ∷ []) ∷ (97 ∷ []) ∷ []) ≡ 98 ∷ 10 ∷ []
+text-absent f is = rw (found-b f is, found-a f is) refl
+
+-- a key is written with a zero byte where that ends keys
+text-zero : (f : DefaultFilter) → IsFilter f 268500992 0
+    → told_text f Found 0 ((98 ∷ []) ∷ (97 ∷ []) ∷ []) ≡ 97 ∷ 0 ∷ []
+text-zero f is = rw (found-b f is, found-a f is) refl
+
+-- a key that is in may not be told as absent
+absent-found : (f : DefaultFilter) → IsFilter f 268500992 0
+    → AnswersAll f Absent 10 (Some (97 ∷ [])) (Some []) (Some []) (Some (97 ∷ 10 ∷ [])) → ⊥
+unfolding lines_by
+absent-found f is did = none did.keys did.whole.are_lines did.text
+  where
+    written : (g : DefaultFilter) → IsFilter g 268500992 0
+        → told_text g Absent 10 ((97 ∷ []) ∷ []) ≡ []
+    written g has = rw (found-a g has) refl
+
+    none : (keys : List (List ℕ)) → (97 ∷ []) ∷ [] ≡ keys
+        → 97 ∷ 10 ∷ [] ≡ told_text f Absent 10 keys → ⊥
+    none keys same text =
+        let wrong : 2 ≡ 0 =
+        ap length (text ∙ ap (told_text f Absent 10) (sym same) ∙ written f is) in
+        omega (arith, wrong)
+
+-- where a zero byte ends keys, byte 10 is one of the key's
+hashes-zero : HashesAll 0 (Some (97 ∷ 0 ∷ 98 ∷ [])) (Some []) (5 ∷ [])
+    (5 ∷ 0x4074_48d2_b89b_1813 ∷ 0x8b22_cf26_02fb_60ce ∷ [])
+unfolding lines_by
+hashes-zero = record {
+  keys = (97 ∷ []) ∷ (98 ∷ []) ∷ [];
+  whole = record { are_lines = refl; none_left = refl };
+  short = both-short (97 ∷ []) (98 ∷ []) (omega arith) (omega arith);
+  hashed = ap (λ h. 5 ∷ h ∷ 0x8b22_cf26_02fb_60ce ∷ []) (sym hash-a)
+      ∙ ap (λ h. 5 ∷ sip 0 0 (97 ∷ []) ∷ h ∷ []) (sym hash-b);
+}
+
+-- the hashes that were there may not be lost
+hashes-lost : HashesAll 10 (Some []) (Some []) (5 ∷ []) [] → ⊥
+hashes-lost did = cc (did.hashed)
 
 -- both keys were asked for
 answers-a : (f : DefaultFilter) → IsFilter f 268500992 0
-    → AnswersAll f (Some (98 ∷ 10 ∷ 97 ∷ 10 ∷ [])) (Some [])
+    → AnswersAll f Found 10 (Some (98 ∷ 10 ∷ 97 ∷ 10 ∷ [])) (Some [])
     (Some (5 ∷ [])) (Some (5 ∷ 97 ∷ 10 ∷ []))
-unfolding lines_of
+unfolding lines_by
 answers-a f is = record {
   keys = (98 ∷ []) ∷ (97 ∷ []) ∷ [];
   whole = record { are_lines = refl; none_left = refl };
@@ -88,25 +134,25 @@ answers-a f is = record {
 
 -- none of them is too long
 answers-long : (f : DefaultFilter) (read left from to : Option (List ℕ))
-    (did : AnswersAll f read left from to) (key : List ℕ) → did.keys ≡ key ∷ []
+    (did : AnswersAll f Found 10 read left from to) (key : List ℕ) → did.keys ≡ key ∷ []
     → length key ≡ 65537 → ⊥
 answers-long f read left from to did key is long =
     omega (arith, long, subst (AreShort 65536) is did.short 0 [] (omega arith))
 
 -- a key that is in may not be left out
 answers-less : (f : DefaultFilter) → IsFilter f 268500992 0
-    → AnswersAll f (Some (97 ∷ [])) (Some []) (Some []) (Some []) → ⊥
-unfolding lines_of
+    → AnswersAll f Found 10 (Some (97 ∷ [])) (Some []) (Some []) (Some []) → ⊥
+unfolding lines_by
 answers-less f is did = none did.keys did.whole.are_lines did.text
   where
     written : (g : DefaultFilter) → IsFilter g 268500992 0
-        → found_text g ((97 ∷ []) ∷ []) ≡ 97 ∷ 10 ∷ []
+        → told_text g Found 10 ((97 ∷ []) ∷ []) ≡ 97 ∷ 10 ∷ []
     written g has = rw (found-a g has) refl
 
-    none : (keys : List (List ℕ)) → (97 ∷ []) ∷ [] ≡ keys → [] ≡ found_text f keys → ⊥
+    none : (keys : List (List ℕ)) → (97 ∷ []) ∷ [] ≡ keys → [] ≡ told_text f Found 10 keys → ⊥
     none keys same text =
         let wrong : 0 ≡ 2 =
-        ap length (text ∙ ap (found_text f) (sym same) ∙ written f is) in
+        ap length (text ∙ ap (told_text f Found 10) (sym same) ∙ written f is) in
         omega (arith, wrong)
 
 -- a filter whose hasher has taken in nothing is keyed
@@ -122,12 +168,12 @@ keyed-byte f is has = omega (arith, is, has.count)
 
 -- nothing may be left to read when all keys were asked for
 answers-left : (f : DefaultFilter) (from to : Option (List ℕ))
-    → AnswersAll f (Some (97 ∷ [])) (Some (98 ∷ [])) from to → ⊥
+    → AnswersAll f Found 10 (Some (97 ∷ [])) (Some (98 ∷ [])) from to → ⊥
 answers-left f from to did = cc (did.whole.none_left)
 
 -- the hash of another key isn't that of "a"
-hashes-other : HashesAll (Some (97 ∷ [])) (Some []) (0x8b22_cf26_02fb_60ce ∷ []) → ⊥
-unfolding lines_of
+hashes-other : HashesAll 10 (Some (97 ∷ [])) (Some []) [] (0x8b22_cf26_02fb_60ce ∷ []) → ⊥
+unfolding lines_by
 hashes-other did = wrong (sym (hashed ∙ ap (map (sip 0 0)) (sym did.whole.are_lines)))
   where
     hashed : 0x8b22_cf26_02fb_60ce ∷ [] ≡ map (sip 0 0) did.keys

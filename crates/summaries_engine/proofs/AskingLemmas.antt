@@ -1,81 +1,82 @@
--- Keys that are asked for one after the other, with the answers written so far.
-use Rattle.std.proofs.Common.{◌≡◌, ℕ, ◌+◌, Bool, false, List, [], ◌∷◌, ◌++◌, filter, flat_map, length, Ok, Option, refl, sym, subst, ◌∙◌, ap}
+-- Keys of one input that are asked for one after the other, with the answers written so far.
+use Rattle.std.proofs.Common.{◌≡◌, ℕ, ◌+◌, Bool, false, List, [], ◌∷◌, ◌++◌, filter, flat_map, Ok, Option, refl, sym, subst}
 use Rattle.std.proofs.lemmas.Grind.{flat_map-append}
 use Rattle.std.proofs.lemmas.List.Elements.{filter-append}
 use Rattle.std.proofs.KnownBytes.{Appends-nil, Appends-trans}
+use Rattle.std.proofs.Common.{◌∙◌, ap, length}
 use Rattle.std.specs.Prelude.{IfOk, Result}
 use Rattle.std.specs.Io.KnownBytes.{Appends}
 use Rattle.fastbloom.specs.Data.{DefaultFilter}
 use Rattle.fastbloom.specs.Filter.{contains}
-use Rattle.lines.specs.Reading.{Waiting, KnowsEnd, left_of}
-use Rattle.lines.specs.declared.reader.Next.{Next}
-use Rattle.lines.specs.declared.reader.Next.TheVariants.{End, Line}
+use Rattle.lines.specs.Reading.{Waiting, Ends, KnowsEnd, TakesShortBy, left_of}
 use Rattle.lines.proofs.TakenLemmas.{IsReadWhole-from}
-use Rattle.summaries_engine.specs.Answers.{AnswersAll, found_text}
+use Rattle.summaries_engine.specs.declared.answers.Told.{Told}
+use Rattle.summaries_engine.specs.Answers.{AnswersAll, is_told, told_text}
 use Rattle.summaries_engine.specs.Summaries.{hash_in}
-use Rattle.summaries_engine.proofs.KeyLemmas.{HasRead, Reads, one-more, read-next, read-none, reads-as}
+use Rattle.summaries_engine.proofs.KeyLemmas.{HasRead, one-more, read-next, read-none}
 
--- the text of one key more
-pub found_text-more : (f : DefaultFilter) (keys : List (List ℕ)) (key : List ℕ)
-    → found_text f (keys ++ key ∷ []) ≡ found_text f keys ++ found_text f (key ∷ [])
-found_text-more f keys key =
-    let is_found : List ℕ → Bool = λ k. contains f (hash_in f k) in
-    let line : List ℕ → List ℕ = λ k. k ++ 10 ∷ [] in
-    ap (flat_map line) (filter-append is_found keys (key ∷ []))
-    ∙ flat_map-append line (filter is_found keys) (filter is_found (key ∷ []))
+-- the text of further keys
+pub told_text-append : (f : DefaultFilter) (told : Told) (end : ℕ) (keys more : List (List ℕ))
+    → told_text f told end (keys ++ more) ≡ told_text f told end keys ++ told_text f told end more
+told_text-append f told end keys more =
+    let tells : List ℕ → Bool = λ k. is_told told (contains f (hash_in f k)) in
+    let line : List ℕ → List ℕ = λ k. k ++ end ∷ [] in
+    ap (flat_map line) (filter-append tells keys more)
+    ∙ flat_map-append line (filter tells keys) (filter tells more)
 
 -- the keys so far were answered
-pub record IsAnswering (f : DefaultFilter) (read : Option (List ℕ)) (reader : Waiting)
-    (left : Option (List ℕ)) (number : ℕ) (from to : Option (List ℕ)) : Type 0 where
-  pub keys : List (List ℕ)
-  pub has_read : HasRead read reader left keys
-  pub counted : number ≡ length keys
-  pub text : Appends from to (found_text f keys)
+pub record IsAnswering (f : DefaultFilter) (told : Told) (end : ℕ) (read : Option (List ℕ))
+    (reader : Waiting) (left : Option (List ℕ)) (number : ℕ) (from to : Option (List ℕ)) : Type 0
+  where
+    pub keys : List (List ℕ)
+    pub has_read : HasRead end read reader left keys
+    pub counted : number ≡ length keys
+    pub text : Appends from to (told_text f told end keys)
 
 -- no key yet
-pub answering-none : {E : Type 0} {f : DefaultFilter} {read from : Option (List ℕ)}
-    {result : Result Waiting E} {reader : Waiting} → result ≡ Ok reader
-    → IfOk result (λ new. new.bytes ≡ []) → IfOk result (λ new. new.ended ≡ false)
-    → IfOk result (λ new. new.longest ≡ 65536) → IsAnswering f read reader read 0 from from
-answering-none {from = from} made empty opened longest = record {
+pub answering-none : {f : DefaultFilter} (told : Told) (end : ℕ) {E : Type 0}
+    {read from : Option (List ℕ)} {result : Result Waiting E} {reader : Waiting}
+    → result ≡ Ok reader → IfOk result (λ new. new.bytes ≡ [])
+    → IfOk result (λ new. new.ended ≡ false) → IfOk result (λ new. new.longest ≡ 65536)
+    → IsAnswering f told end read reader read 0 from from
+answering-none told end {from = from} made empty opened longest = record {
   keys = [];
-  has_read = read-none made empty opened longest;
+  has_read = read-none end made empty opened longest;
   counted = refl;
   text = Appends-nil from;
 }
 
 -- one key more, whose answer was written
-pub answering-next : {E : Type 0} {f : DefaultFilter}
-    {read left rest from to more : Option (List ℕ)} {old new : Waiting} {number : ℕ}
-    {key : List ℕ} {result : Result Next E} {next : Next}
-    → IsAnswering f read old left number from to
-    → result ≡ Ok next → next ≡ Line → IfOk result (Reads old left new rest)
+pub answering-next : {f : DefaultFilter} {told : Told} {end : ℕ}
+    {read left rest from to more : Option (List ℕ)} {old : Waiting} {number : ℕ} {key : List ℕ}
+    → IsAnswering f told end read old left number from to → (new : Waiting)
+    → TakesShortBy end old.longest (left_of old left) (left_of new rest) new.line
     → KnowsEnd new.ended rest → new.longest ≡ old.longest
-    → key ≡ new.line → Appends to more (found_text f (key ∷ []))
-    → IsAnswering f read new rest (number + 1) from more
-answering-next {f = f} {read = read} {left = left} {rest = rest} {from = from} {to = to}
-    {more = more} {old = old} {new = new} {number = number} so_far was is came knows same line
-    wrote =
+    → key ≡ new.line → Appends to more (told_text f told end (key ∷ []))
+    → IsAnswering f told end read new rest (number + 1) from more
+answering-next {f = f} {told = told} {end = end} {read = read} {left = left} {rest = rest}
+    {from = from} {to = to} {more = more} {old = old} {number = number} so_far new next knows same
+    line wrote =
     let keys = so_far.keys in record {
       keys = keys ++ new.line ∷ [];
-      has_read = read-next read old new left rest keys so_far.has_read
-          (reads-as old new left rest Line was is came) knows same;
+      has_read = read-next end read old new left rest keys so_far.has_read next knows same;
       counted = one-more number keys new.line so_far.counted;
-      text = subst (Appends from more) (sym (found_text-more f keys new.line))
+      text = subst (Appends from more)
+          (sym (told_text-append f told end keys (new.line ∷ [])))
           (Appends-trans from to more _ _ so_far.text
-          (subst (λ k. Appends to more (found_text f (k ∷ []))) line wrote));
+          (subst (λ k. Appends to more (told_text f told end (k ∷ []))) line wrote));
     }
 
 -- all keys were answered
-pub answering-end : {E : Type 0} {f : DefaultFilter} {read left rest from to : Option (List ℕ)}
-    {old : Waiting} {number : ℕ} {result : Result Next E} {next : Next}
-    → IsAnswering f read old left number from to → (new : Waiting) → result ≡ Ok next
-    → next ≡ End → IfOk result (Reads old left new rest) → AnswersAll f read rest from to
-answering-end {read = read} {left = left} {rest = rest} {old = old} so_far new was is came =
-    record {
-      keys = so_far.keys;
-      whole = IsReadWhole-from read (left_of old left) rest new.bytes so_far.keys
-          so_far.has_read.taken (reads-as old new left rest End was is came);
-      short = so_far.has_read.short;
-      text = so_far.text;
-    }
+pub answering-end : {f : DefaultFilter} {told : Told} {end : ℕ}
+    {read left from to : Option (List ℕ)} {old : Waiting} {number : ℕ}
+    → IsAnswering f told end read old left number from to → (new : Waiting)
+    (rest : Option (List ℕ)) → Ends (left_of old left) (left_of new rest)
+    → AnswersAll f told end read rest from to
+answering-end {end = end} {read = read} {left = left} {old = old} so_far new rest ends = record {
+  keys = so_far.keys;
+  whole = IsReadWhole-from end read (left_of old left) rest new.bytes so_far.keys
+      so_far.has_read.taken ends;
+  short = so_far.has_read.short;
+  text = so_far.text;
+}

@@ -2,6 +2,8 @@ mod AnswerFacts
 mod AskingLemmas
 mod CutLemmas
 mod CuttingLemmas
+mod InputFacts
+mod InputLemmas
 mod KeyLemmas
 mod LoadedFacts
 mod LoadedLemmas

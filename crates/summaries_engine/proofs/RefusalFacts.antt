@@ -57,14 +57,14 @@ misfit-none : (f : DefaultFilter) (number : ℕ) (how : Difference)
 misfit-none f number how did = some-given [] did.others did.shard refl did.came
 
 -- the seventh key is too long
-seventh : too_long_text 6 ≡ codes "key 7 has more than 65536 bytes"
+seventh : too_long_text (codes "k") 6 ≡ codes "k: key 7 has more than 65536 bytes"
 seventh = let digits : decimal 7 ≡ codes "7" = decimal-digits_of 7 (omega arith) (omega arith) in
-    ap (λ number. codes "key " ++ (number ++ codes " has more than 65536 bytes")) digits
+    ap (λ number. codes "k: key " ++ (number ++ codes " has more than 65536 bytes")) digits
 
 -- the text of the seventh key isn't that of the sixth
-seventh-sixth : too_long_text 6 ≡ codes "key 6 has more than 65536 bytes" → ⊥
+seventh-sixth : too_long_text (codes "k") 6 ≡ codes "k: key 6 has more than 65536 bytes" → ⊥
 seventh-sixth is =
-    let digit : ◌≡◌ {A = ℕ} 55 54 = ap (λ text. get_or text 4 0) (sym seventh ∙ is) in
+    let digit : ◌≡◌ {A = ℕ} 55 54 = ap (λ text. get_or text 7 0) (sym seventh ∙ is) in
     absurd (omega (arith, digit))
 
 -- a filter that is the first again doesn't differ from it
@@ -125,9 +125,9 @@ stops-silent f refusal stop = of stop.given stop.came refusal stop.refused
     of (item ∷ given) came refusal is = cc (came.1)
 
 -- the number of a key stays at 2^64 - 1
-last-number : too_long_text (2 ^ 64) ≡ too_long_text (2 ^ 64 - 2)
+last-number : too_long_text (codes "k") (2 ^ 64) ≡ too_long_text (codes "k") (2 ^ 64 - 2)
 last-number =
-    ap (λ n. codes "key " ++ (decimal n ++ codes " has more than 65536 bytes"))
+    ap (λ n. codes "k: key " ++ (decimal n ++ codes " has more than 65536 bytes"))
     (cap (2 ^ 64) (omega arith))
   where
     cap : (most : ℕ) → 2 ≤ most → min (most + 1) (most - 1) ≡ min (most - 2 + 1) (most - 1)

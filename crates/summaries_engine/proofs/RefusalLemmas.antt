@@ -67,18 +67,19 @@ counted-more most number next others shard so_far more =
 
 -- ---- a key that is too long
 
--- its text, of a number and a limit
-abbrev says : ℕ → List ℕ → List ℕ
-says number limit =
-    codes "key " ++ (decimal number ++ (codes " has more than " ++ (limit ++ codes " bytes")))
+-- its text, of the name of its input, a number and a limit
+abbrev says : List ℕ → ℕ → List ℕ → List ℕ
+says name number limit =
+    name ++ (codes ": key " ++ (decimal number
+    ++ (codes " has more than " ++ (limit ++ codes " bytes"))))
 
 -- the text of a key that is too long has the number of the key
-pub too_long-message : (before number : ℕ) (error : Error)
+pub too_long-message : (name : List ℕ) (before number : ℕ) (error : Error)
     → number ≡ min (before + 1) (2 ^ 64 - 1)
-    → HasMessage (Some (says number (decimal 65536))) error
-    → HasMessage (Some (too_long_text before)) error
-too_long-message before number error next message =
+    → HasMessage (Some (says name number (decimal 65536))) error
+    → HasMessage (Some (too_long_text name before)) error
+too_long-message name before number error next message =
     let limit : decimal 65536 ≡ codes "65536" =
     decimal-digits_of 65536 (omega arith) (omega arith) in
-    subst (λ n. HasMessage (Some (says n (codes "65536"))) error) next
-    (subst (λ l. HasMessage (Some (says number l)) error) limit message)
+    subst (λ n. HasMessage (Some (says name n (codes "65536"))) error) next
+    (subst (λ l. HasMessage (Some (says name number l)) error) limit message)

@@ -1,5 +1,5 @@
--- Why keys aren't taken to their end: cases that hold, and some that nearly do. Byte 10 ends a
--- line.
+-- Why keys aren't taken to their end: cases that hold, and some that nearly do. The input has the
+-- name "k".
 use Rattle.std.proofs.Common.{◌≡◌, ◌≤◌, ℕ, ◌+◌, ◌-◌, ◌^◌, ◌==◌, true, min, if◌then◌else◌, None, inl, inr, List, [], ◌∷◌, ◌++◌, codes, length, length-append, get_or, Option, Some, sym, ap, subst, ◌∙◌, arith}
 use Rattle.std.proofs.lemmas.Bool.{and_from, le-leb}
 use Rattle.std.proofs.lemmas.List.Elements.{All-nil}
@@ -8,11 +8,14 @@ use Rattle.std.specs.Fmt.Cut.{EndsInDots}
 use Rattle.anyhow.specs.Error.{AddsCause, HasMessage, IsMadeOf, error_causes, error_left_out, error_message, keeps_message}
 use Rattle.anyhow.specs.declared.error.Error.{Error}
 use Rattle.fastbloom.specs.Data.{DefaultFilter}
-use Rattle.lines.specs.Lines.{lines_of}
-use Rattle.lines.specs.Reading.{AreShort, IsReadFrom}
+use Rattle.lines.specs.Lines.{lines_by}
+use Rattle.lines.specs.Reading.{AreShort, IsReadFromBy}
+use Rattle.summaries_engine.specs.declared.answers.Told.{Told}
+use Rattle.summaries_engine.specs.declared.stop.Stop.{Stop}
+use Rattle.summaries_engine.specs.declared.stop.Stop.TheVariants.{Memory, Worker, Input, Output}
 use Rattle.summaries_engine.specs.Refusals.{too_long_text}
-use Rattle.summaries_engine.specs.Stops.{IsReasonAfter, Says, SaysOver, StopsAfter, StopsAsking, StopsBuilding, StopsHashing}
-use Rattle.summaries_engine.proofs.StopLemmas.{from-none}
+use Rattle.summaries_engine.specs.Stops.{IsReasonAfter, Says, SaysOver, StopsAfter, StopsAnswers, StopsHashing}
+use Rattle.summaries_engine.proofs.StopLemmas.{from-none, stops-none}
 
 -- an error that says one text says no other
 pub says-other : (is text : List ℕ) (said : Error) → error_message said ≡ is → (is ≡ text → ⊥)
@@ -25,71 +28,92 @@ pub no-whole : EndsInDots 120 (codes "no") → ⊥
 no-whole ends =
     let byte : ◌≡◌ {A = ℕ} 110 46 = ap (λ t. get_or t 0 0) ends in absurd (omega (arith, byte))
 
--- ---- keys
-
 -- memory was out
-hashing-room : (said : Error) → SaysOver (codes "no memory") said → StopsHashing (Some []) said
-hashing-room said over = record {
-  keys = [];
-  first = from-none (Some []);
-  short = All-nil (λ key. length key ≤ 65536);
-  done = tt;
-  reason = inl over;
-}
+hashing-room : StopsHashing 10 (codes "k") (Some []) Memory
+hashing-room = stops-none 10 (codes "k") (Some []) (λ keys. Unit {0}) tt
 
 -- no key before is too long
-hashing-long : (read : Option (List ℕ)) (said : Error) (stop : StopsHashing read said)
-    (key : List ℕ) → stop.keys ≡ key ∷ [] → length key ≡ 65537 → ⊥
-hashing-long read said stop key is long =
-    omega (arith, long, subst (AreShort 65536) is stop.short 0 [] (omega arith))
+hashing-long : (read : Option (List ℕ)) (stop : Stop) (did : StopsHashing 10 (codes "k") read stop)
+    (key : List ℕ) → did.keys ≡ key ∷ [] → length key ≡ 65537 → ⊥
+hashing-long read stop did key is long =
+    omega (arith, long, subst (AreShort 65536) is did.short 0 [] (omega arith))
 
 -- no reason says no
-reason-no : (read : Option (List ℕ)) (keys : List (List ℕ)) (said : Error)
-    → error_message said ≡ codes "no" → IsReasonAfter read keys said → ⊥
-reason-no read keys said told (inl over) =
-    says-other (codes "no") (codes "no memory") said told (λ same. cc) no-whole over.0
-reason-no read keys said told (inr (inl over)) =
-    says-other (codes "no") (codes "the keys can't be read") said told (λ same. cc) no-whole over.0
-reason-no read keys said told (inr (inr (inl at))) =
-    says-other (codes "no") (too_long_text (length keys)) said told (λ same. cc) no-whole
+reason-no : (end : ℕ) (read : Option (List ℕ)) (keys : List (List ℕ)) (said : Error)
+    → error_message said ≡ codes "no" → IsReasonAfter end (codes "k") read keys (Input said) → ⊥
+reason-no end read keys said told (inl (inl memory)) = memory
+reason-no end read keys said told (inl (inr over)) =
+    says-other (codes "no") (codes "k: it can't be read") said told (λ same. cc) no-whole over.0
+reason-no end read keys said told (inr (inl at)) =
+    says-other (codes "no") (too_long_text (codes "k") (length keys)) said told (λ same. cc)
+    no-whole at.1.message
+reason-no end read keys said told (inr (inr at)) =
+    says-other (codes "no") (codes "k: it has too many keys") said told (λ same. cc) no-whole
     at.1.message
-reason-no read keys said told (inr (inr (inr at))) =
-    says-other (codes "no") (codes "there are too many keys") said told (λ same. cc) no-whole
-    at.1.message
+
+-- a write that failed is no reason, and no worker is
+reason-output : (end : ℕ) (read : Option (List ℕ)) (keys : List (List ℕ)) (said : Error)
+    → IsReasonAfter end (codes "k") read keys (Output said) → ⊥
+reason-output end read keys said (inl (inl memory)) = memory
+reason-output end read keys said (inl (inr over)) = over
+reason-output end read keys said (inr (inl at)) = at.1
+reason-output end read keys said (inr (inr at)) = at.1
+
+reason-worker : (end : ℕ) (read : Option (List ℕ)) (keys : List (List ℕ))
+    → IsReasonAfter end (codes "k") read keys Worker → ⊥
+reason-worker end read keys (inl (inl memory)) = memory
+reason-worker end read keys (inl (inr over)) = over
+reason-worker end read keys (inr (inl at)) = at.1
+reason-worker end read keys (inr (inr at)) = at.1
+
+-- a read that failed names its input
+reason-name : (end : ℕ) (read : Option (List ℕ)) (keys : List (List ℕ)) (said : Error)
+    → error_message said ≡ codes "j: it can't be read"
+    → IsReasonAfter end (codes "k") read keys (Input said) → ⊥
+reason-name end read keys said told reason = of reason
+  where
+    whole : EndsInDots 120 (codes "j: it can't be read") → ⊥
+    whole ends =
+        let byte : ◌≡◌ {A = ℕ} 101 46 = ap (λ t. get_or t 0 0) ends in
+        absurd (omega (arith, byte))
+
+    other : (rest : List ℕ) → codes "j: it can't be read" ≡ 107 ∷ rest → ⊥
+    other rest same =
+        let byte : ◌≡◌ {A = ℕ} 106 107 = ap (λ t. get_or t 0 0) same in
+        absurd (omega (arith, byte))
+
+    of : IsReasonAfter end (codes "k") read keys (Input said) → ⊥
+    of (inl (inl memory)) = memory
+    of (inl (inr over)) =
+        says-other (codes "j: it can't be read") (codes "k: it can't be read") said told
+        (other _) whole over.0
+    of (inr (inl at)) =
+        says-other (codes "j: it can't be read") (too_long_text (codes "k") (length keys)) said
+        told (other _) whole at.1.message
+    of (inr (inr at)) =
+        says-other (codes "j: it can't be read") (codes "k: it has too many keys") said told
+        (other _) whole at.1.message
 
 -- nothing is refused for no reason
-hashing-no : (read : Option (List ℕ)) (said : Error) → error_message said ≡ codes "no"
-    → StopsHashing read said → ⊥
-hashing-no read said told stop = reason-no read stop.keys said told stop.reason
+hashing-no : (end : ℕ) (read : Option (List ℕ)) (said : Error) → error_message said ≡ codes "no"
+    → StopsHashing end (codes "k") read (Input said) → ⊥
+hashing-no end read said told stop = reason-no end read stop.keys said told stop.reason
 
-asking-no : (f : DefaultFilter) (read from to : Option (List ℕ)) (said : Error)
-    → error_message said ≡ codes "no" → StopsAsking f read from to said → ⊥
-asking-no f read from to said told (inl stop) = reason-no read stop.keys said told stop.reason
-asking-no f read from to said told (inr stop) =
-    says-other (codes "no") (codes "the keys can't be written") said told (λ same. cc) no-whole
-    stop.says.0
+answers-no : (f : DefaultFilter) (which : Told) (end : ℕ) (earlier : List (List ℕ))
+    (read from to : Option (List ℕ)) (said : Error) → error_message said ≡ codes "no"
+    → StopsAnswers f which end (codes "k") earlier read from to (Input said) → ⊥
+answers-no f which end earlier read from to said told (inl stop) =
+    reason-no end read stop.keys said told stop.reason
+answers-no f which end earlier read from to said told (inr stop) = stop.says
 
-building-no : (read : Option (List ℕ)) (said : Error) → error_message said ≡ codes "no"
-    → StopsBuilding read said → ⊥
-building-no read said told (inl stop) = hashing-no read said told stop
-building-no read said told (inr (inl over)) =
-    says-other (codes "no") (codes "no memory") said told (λ same. cc) no-whole over.0
-building-no read said told (inr (inr over)) =
-    says-other (codes "no") (codes "the filter can't be filled") said told (λ same. cc) no-whole
-    over.0
-
--- the threads couldn't be started
-building-worker : (read : Option (List ℕ)) (said : Error)
-    → SaysOver (codes "the filter can't be filled") said → StopsBuilding read said
-building-worker read said over = inr (inr over)
-
--- the one key of a reader isn't too long
+-- the one key of an input isn't too long
 abbrev first_long : List ℕ
-first_long = codes "key 1 has more than 65536 bytes"
+first_long = codes "k: key 1 has more than 65536 bytes"
 
 short-key : (keys : List (List ℕ)) (said : Error) → error_message said ≡ first_long
-    → IsReadFrom (Some (1 ∷ 10 ∷ [])) keys → IsReasonAfter (Some (1 ∷ 10 ∷ [])) keys said → ⊥
-unfolding lines_of
+    → IsReadFromBy 10 (Some (1 ∷ 10 ∷ [])) keys
+    → IsReasonAfter 10 (codes "k") (Some (1 ∷ 10 ∷ [])) keys (Input said) → ⊥
+unfolding lines_by
 short-key keys said told first reason = of reason
   where
     whole : EndsInDots 120 first_long → ⊥
@@ -97,21 +121,16 @@ short-key keys said told first reason = of reason
         let byte : ◌≡◌ {A = ℕ} 116 46 = ap (λ t. get_or t 0 0) ends in
         absurd (omega (arith, byte))
 
-    memory : first_long ≡ codes "no memory" → ⊥
-    memory same =
-        let byte : ◌≡◌ {A = ℕ} 107 110 = ap (λ t. get_or t 0 0) same in
-        absurd (omega (arith, byte))
-
-    unread : first_long ≡ codes "the keys can't be read" → ⊥
+    unread : first_long ≡ codes "k: it can't be read" → ⊥
     unread same =
-        let byte : ◌≡◌ {A = ℕ} 107 116 = ap (λ t. get_or t 0 0) same in
+        let byte : ◌≡◌ {A = ℕ} 107 105 = ap (λ t. get_or t 3 0) same in
         absurd (omega (arith, byte))
 
-    of : IsReasonAfter (Some (1 ∷ 10 ∷ [])) keys said → ⊥
-    of (inl over) = says-other first_long (codes "no memory") said told memory whole over.0
-    of (inr (inl over)) =
-        says-other first_long (codes "the keys can't be read") said told unread whole over.0
-    of (inr (inr (inl at))) = one keys at.0.cut
+    of : IsReasonAfter 10 (codes "k") (Some (1 ∷ 10 ∷ [])) keys (Input said) → ⊥
+    of (inl (inl memory)) = memory
+    of (inl (inr over)) =
+        says-other first_long (codes "k: it can't be read") said told unread whole over.0
+    of (inr (inl at)) = one keys at.0.cut
       where
         one : (keys : List (List ℕ)) → (1 ∷ []) ∷ [] ≡ keys ++ at.0.long ∷ at.0.later → ⊥
         one [] cut =
@@ -120,22 +139,23 @@ short-key keys said told first reason = of reason
         one (key ∷ keys) cut =
             let none : ◌≡◌ {A = List (List ℕ)} [] (keys ++ at.0.long ∷ at.0.later) = cc in
             absurd (omega (arith, ap length none, length-append keys (at.0.long ∷ at.0.later)))
-    of (inr (inr (inr at))) =
+    of (inr (inr at)) =
         let few : 1 ≡ length keys + length first.later =
         ap length first.cut ∙ length-append keys first.later in
         absurd (omega (arith, few, at.0))
 
 hashing-short : (said : Error) → error_message said ≡ first_long
-    → StopsHashing (Some (1 ∷ 10 ∷ [])) said → ⊥
+    → StopsHashing 10 (codes "k") (Some (1 ∷ 10 ∷ [])) (Input said) → ⊥
 hashing-short said told stop = short-key stop.keys said told stop.first stop.reason
 
--- no key is the first of a reader that has none, whatever is done with it
-stops-none : (said : Error) → StopsAfter (Some []) (λ keys. length keys ≡ 1) said → ⊥
-unfolding lines_of
-stops-none said stop =
-    let none : 0 ≡ length stop.keys + length stop.first.later =
-    ap length stop.first.cut ∙ length-append stop.keys stop.first.later in
-    omega (arith, none, stop.done)
+-- no key is the first of an input that has none, whatever is done with it
+stops-empty : (stop : Stop)
+    → StopsAfter 10 (codes "k") (Some []) (λ keys. length keys ≡ 1) stop → ⊥
+unfolding lines_by
+stops-empty stop did =
+    let none : 0 ≡ length did.keys + length did.first.later =
+    ap length did.first.cut ∙ length-append did.keys did.first.later in
+    omega (arith, none, did.done)
 
 -- an error that says a text has no cause
 says-alone : (text : List ℕ) (said : Error) → Says text said → error_causes said ≡ []

@@ -1,5 +1,6 @@
 pub mod Answers
 pub mod Facts
+pub mod Inputs
 pub mod Loaded
 pub mod Named
 pub mod Refusals

@@ -40,7 +40,8 @@ pub record RefusesGiven {I E : Type 0} (steps : I → Option (Result DefaultFilt
   pub came : Yields steps start given end
   pub refused : IsRefusedFor first given refusal
 
--- what is said of the key after this many, where it is too long
-abbrev pub too_long_text : ℕ → List ℕ
-too_long_text before =
-    codes "key " ++ (decimal (min (before + 1) (2 ^ 64 - 1)) ++ codes " has more than 65536 bytes")
+-- what is said of the key after this many of an input, where it is too long
+abbrev pub too_long_text : List ℕ → ℕ → List ℕ
+too_long_text name before =
+    name ++ (codes ": key " ++ (decimal (min (before + 1) (2 ^ 64 - 1))
+    ++ codes " has more than 65536 bytes"))

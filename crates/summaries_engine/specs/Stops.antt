@@ -1,13 +1,17 @@
--- Why keys aren't taken to their end, and what is said of it. What a reader had is Some of the
--- bytes, or None where it doesn't tell. These definitions are this project's own.
-use Rattle.std.specs.Prelude.{◌≡◌, ◌⊎◌, ℕ, ◌-◌, ◌^◌, codes, List, length, Option, None, Some}
+-- Why the keys of an input aren't taken to their end, and what is said of it. What an input had
+-- is Some of the bytes, or None where it doesn't tell, and the byte `end` ends a key. These
+-- definitions are this project's own.
+use Rattle.std.specs.Prelude.{◌≡◌, ◌⊎◌, ℕ, ◌-◌, ◌^◌, codes, List, ◌++◌, length, Option, None, Some, ⊤}
 use Rattle.std.specs.Io.KnownBytes.{Appends}
 use Rattle.anyhow.specs.Error.{IsContextOn, IsMadeOf}
 use Rattle.anyhow.specs.declared.error.Error.{Error}
 use Rattle.fastbloom.specs.Data.{DefaultFilter}
-use Rattle.lines.specs.Reading.{AreShort, IsReadFrom, IsReadToLong}
+use Rattle.lines.specs.Reading.{AreShort, IsReadFromBy, IsReadToLongBy}
 use Rattle.lines.specs.Writing.{AppendsPart}
-use Rattle.summaries_engine.specs.Answers.{found_text}
+use Rattle.summaries_engine.specs.declared.answers.Told.{Told}
+use Rattle.summaries_engine.specs.declared.stop.Stop.{Stop}
+use Rattle.summaries_engine.specs.declared.stop.Stop.TheVariants.{Memory, Worker, Input, Output}
+use Rattle.summaries_engine.specs.Answers.{told_text}
 use Rattle.summaries_engine.specs.Refusals.{too_long_text}
 
 -- the error says this and has no cause
@@ -18,45 +22,75 @@ Says text said = IsMadeOf (Some text) said
 abbrev pub SaysOver : List ℕ → Error → Type 0
 SaysOver text said = IsContextOn (IsMadeOf None) (Some text) said
 
+-- memory was out
+abbrev pub IsMemory : Stop → Type 0
+IsMemory Memory = ⊤
+IsMemory Worker = ⊥
+IsMemory (Input said) = ⊥
+IsMemory (Output said) = ⊥
+
+-- a thread couldn't be started
+abbrev pub IsWorker : Stop → Type 0
+IsWorker Memory = ⊥
+IsWorker Worker = ⊤
+IsWorker (Input said) = ⊥
+IsWorker (Output said) = ⊥
+
+-- an input is at fault, and of it this holds
+abbrev pub IsInput : (Error → Type 0) → Stop → Type 0
+IsInput P Memory = ⊥
+IsInput P Worker = ⊥
+IsInput P (Input said) = P said
+IsInput P (Output said) = ⊥
+
+-- a write failed, and that the keys can't be written is said
+abbrev pub IsUnwritten : Stop → Type 0
+IsUnwritten Memory = ⊥
+IsUnwritten Worker = ⊥
+IsUnwritten (Input said) = ⊥
+IsUnwritten (Output said) = SaysOver (codes "the keys can't be written") said
+
+-- a read failed for want of memory, or for another reason, and its input is named
+abbrev pub IsUnreadable : List ℕ → Stop → Type 0
+IsUnreadable name stop =
+    IsMemory stop ⊎ IsInput (SaysOver (name ++ codes ": it can't be read")) stop
+
 -- behind these keys memory was out, or a read failed, or the next key is too long, or no number is
 -- left for it
-abbrev pub IsReasonAfter : Option (List ℕ) → List (List ℕ) → Error → Type 0
-IsReasonAfter read keys said = SaysOver (codes "no memory") said
-    ⊎ SaysOver (codes "the keys can't be read") said
-    ⊎ (IsReadToLong 65536 read keys × Says (too_long_text (length keys)) said)
-    ⊎ ((length keys ≡ 2 ^ 64 - 1) × Says (codes "there are too many keys") said)
+abbrev pub IsReasonAfter : ℕ → List ℕ → Option (List ℕ) → List (List ℕ) → Stop → Type 0
+IsReasonAfter end name read keys stop = IsUnreadable name stop
+    ⊎ (IsReadToLongBy end 65536 read keys
+    × IsInput (Says (too_long_text name (length keys))) stop)
+    ⊎ ((length keys ≡ 2 ^ 64 - 1) × IsInput (Says (name ++ codes ": it has too many keys")) stop)
 
 -- a run stopped behind these first keys, none of which is too long, and `Done` holds of them
-pub record StopsAfter (read : Option (List ℕ)) (Done : List (List ℕ) → Type 0) (said : Error)
-    : Type 0 where
+pub record StopsAfter (end : ℕ) (name : List ℕ) (read : Option (List ℕ))
+    (Done : List (List ℕ) → Type 0) (stop : Stop) : Type 0 where
   pub keys : List (List ℕ)
-  pub first : IsReadFrom read keys
+  pub first : IsReadFromBy end read keys
   pub short : AreShort 65536 keys
   pub done : Done keys
-  pub reason : IsReasonAfter read keys said
+  pub reason : IsReasonAfter end name read keys stop
 
 -- hashing stopped before the last key
-abbrev pub StopsHashing : Option (List ℕ) → Error → Type 0
-StopsHashing read said = StopsAfter read (λ keys. Unit {0}) said
+abbrev pub StopsHashing : ℕ → List ℕ → Option (List ℕ) → Stop → Type 0
+StopsHashing end name read stop = StopsAfter end name read (λ keys. Unit {0}) stop
 
--- a write failed at the answers to these first keys, none of which is too long: what was written is
--- a beginning of their text
-pub record StopsWriting (f : DefaultFilter) (read from to : Option (List ℕ)) (said : Error) : Type 0
-  where
-    pub keys : List (List ℕ)
-    pub first : IsReadFrom read keys
-    pub short : AreShort 65536 keys
-    pub part : AppendsPart (found_text f keys) from to
-    pub says : SaysOver (codes "the keys can't be written") said
+-- a write failed at the answers to earlier keys and to these first keys, none of which is too long:
+-- what was written is a beginning of their text
+pub record StopsWriting (f : DefaultFilter) (told : Told) (end : ℕ) (earlier : List (List ℕ))
+    (read from to : Option (List ℕ)) (stop : Stop) : Type 0 where
+  pub keys : List (List ℕ)
+  pub first : IsReadFromBy end read keys
+  pub short : AreShort 65536 keys
+  pub part : AppendsPart (told_text f told end (earlier ++ keys)) from to
+  pub says : IsUnwritten stop
 
--- asking stopped behind keys whose answers were written, or within an answer, where a write failed
-abbrev pub StopsAsking : DefaultFilter → Option (List ℕ) → Option (List ℕ) → Option (List ℕ)
-    → Error → Type 0
-StopsAsking f read from to said =
-    StopsAfter read (λ keys. Appends from to (found_text f keys)) said
-    ⊎ StopsWriting f read from to said
-
--- there is no filter of all keys: not all were hashed, or memory or a worker was refused
-abbrev pub StopsBuilding : Option (List ℕ) → Error → Type 0
-StopsBuilding read said = StopsHashing read said ⊎ SaysOver (codes "no memory") said
-    ⊎ SaysOver (codes "the filter can't be filled") said
+-- asking stopped behind keys whose answers were written, behind those to earlier keys, or within an
+-- answer, where a write failed
+abbrev pub StopsAnswers : DefaultFilter → Told → ℕ → List ℕ → List (List ℕ) → Option (List ℕ)
+    → Option (List ℕ) → Option (List ℕ) → Stop → Type 0
+StopsAnswers f told end name earlier read from to stop =
+    StopsAfter end name read
+    (λ keys. Appends from to (told_text f told end (earlier ++ keys))) stop
+    ⊎ StopsWriting f told end earlier read from to stop

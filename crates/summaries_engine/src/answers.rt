@@ -1,58 +1,119 @@
-//! Which keys of a reader a filter contains.
-ghost use Rattle.std.specs.Prelude.{◌∷◌, [], codes, IfErr, OnErr, OnOk};
+//! Which keys of inputs a filter contains, and which it doesn't.
+ghost use Rattle.std.specs.Prelude.{◌≡◌, ◌∷◌, [], map, IfErr, OnErr, OnOk};
 ghost use Rattle.std.specs.Io.KnownBytes.{Appends};
 ghost use Rattle.lines.specs.Writing.{AppendsPart};
-ghost use Rattle.summaries_engine.specs.Answers.{IsKeyed, AnswersAll, found_text};
-ghost use Rattle.summaries_engine.specs.Stops.{SaysOver, StopsAsking};
+ghost use Rattle.summaries_engine.specs.Answers.{IsKeyed, AnswersAll, is_told, told_text};
+ghost use Rattle.summaries_engine.specs.Inputs.{AnswersInputs, StopsAsking};
+ghost use Rattle.summaries_engine.specs.Stops.{IsUnwritten, StopsAnswers};
 
-use crate::keys::{LONGEST, hash_of, too_long};
-use anyhow::{Context, anyhow};
+use crate::inputs::Inputs;
+use crate::keys::{LONGEST, hash_of, too_long, too_many, unread};
+use crate::stop::Stop;
+use anyhow::Context;
 use fastbloom::BloomFilter;
-use lines::{LineReader, Next, put_line};
+use lines::{LineReaderBy, Next, put_line_by};
 use std::alloc::Global;
 use std::io::{Read, Write};
 
-// Writes a key if it may be in.
-fn answer_key<O: Write>(filter: &BloomFilter, key: &[u8], output: &mut O) -> anyhow::Result<()>
-    requires { IsKeyed filter.now }
-    ensures wrote { OnOk result (Appends (O.contents output.old) (O.contents output.new)
-        (found_text filter.now (key.now ∷ []))) }
-    ensures failed { IfErr result (SaysOver (codes "the keys can't be written")) }
-    ensures part { OnErr result (AppendsPart (found_text filter.now (key.now ∷ []))
-        (O.contents output.old) (O.contents output.new)) }
-{
-    if !filter.contains_hash(hash_of(filter.hasher(), key)) {
-        return Ok(());
-    }
-    put_line(output, key).context("the keys can't be written")
+/// Which keys are told of a filter.
+#[derive(Clone, Copy, Debug, PartialEq, Eq)]
+pub enum Told {
+    /// Those that may be in: each that is in, and by mistake some others.
+    Found,
+    /// Those that are surely not in.
+    Absent,
 }
 
-/// Writes the keys of a reader that may be in: each key that is in, and by mistake some others.
-///
-/// # Errors
-/// At the first key that is too long, and where a read or a write fails. The keys before were
-/// answered; where a write fails, the answers end within the text of the last key.
-pub fn ask<I: Read, O: Write>(
-    alloc: Global,
+// Whether a key is told that a filter contains, or not.
+fn is_told(told: Told, is_contained: bool) -> bool
+    ensures { result ≡ is_told told is_contained }
+{
+    match told {
+        Told::Found => is_contained,
+        Told::Absent => !is_contained,
+    }
+}
+
+// Writes a key if it is told.
+fn answer_key<const END: u8, O: Write>(
     filter: &BloomFilter,
-    input: &mut I,
+    told: Told,
+    key: &[u8],
     output: &mut O,
-) -> anyhow::Result<()>
+) -> Result<(), Stop>
     requires { IsKeyed filter.now }
-    ensures all { OnOk result (AnswersAll filter.now (I.remaining input.old)
-        (I.remaining input.new) (O.contents output.old) (O.contents output.new)) }
-    // Why not all were answered, and what was written: the text of the keys before, and where a
-    // write fails a beginning of it.
-    ensures stops { IfErr result (StopsAsking filter.now (I.remaining input.old)
+    ensures wrote { OnOk result (Appends (O.contents output.old) (O.contents output.new)
+        (told_text filter.now told END (key.now ∷ []))) }
+    ensures failed { IfErr result IsUnwritten }
+    ensures part { OnErr result (AppendsPart (told_text filter.now told END (key.now ∷ []))
         (O.contents output.old) (O.contents output.new)) }
 {
-    let mut lines = LineReader::new(alloc, LONGEST).context("no memory")?;
-    'keys: for number in 0..u64::MAX {
-        match lines.next_line(input).context("the keys can't be read")? {
-            Next::End => return Ok(()),
-            Next::Line => answer_key(filter, lines.line(), output)?,
-            Next::TooLong => return Err(too_long(number)),
-        }
+    if !is_told(told, filter.contains_hash(hash_of(filter.hasher(), key))) {
+        return Ok(());
     }
-    Err(anyhow!("there are too many keys"))
+    match put_line_by(output, key, END).context("the keys can't be written") {
+        Ok(()) => Ok(()),
+        Err(error) => Err(Stop::Output(error)),
+    }
+}
+
+// Answers the keys of one input.
+fn ask_input<const END: u8, I: Read, O: Write>(
+    alloc: Global,
+    filter: &BloomFilter,
+    told: Told,
+    name: &str,
+    input: &mut I,
+    output: &mut O,
+) -> Result<(), Stop>
+    requires { IsKeyed filter.now }
+    ensures all { OnOk result (AnswersAll filter.now told END (I.remaining input.old)
+        (I.remaining input.new) (O.contents output.old) (O.contents output.new)) }
+    ensures stops { IfErr result (StopsAnswers filter.now told END name.now []
+        (I.remaining input.old) (O.contents output.old) (O.contents output.new)) }
+{
+    let Ok(mut lines) = LineReaderBy::<END>::new(alloc, LONGEST) else {
+        return Err(Stop::Memory);
+    };
+    'keys: for number in 0..u64::MAX {
+        match lines.next_line(input) {
+            Ok(Next::End) => return Ok(()),
+            Ok(Next::Line) => {}
+            Ok(Next::TooLong) => return Err(too_long(name, number)),
+            Err(error) => return Err(unread(name, error)),
+        }
+        answer_key::<END, O>(filter, told, lines.line(), output)?;
+    }
+    Err(too_many(name))
+}
+
+/// Writes those keys of the inputs of these names that are told of a filter, in order, and nothing
+/// else. The byte `END` ends a key, read or written, and so does the end of an input.
+///
+/// # Errors
+/// At the first input that can't be had or read, or has a key that is too long, where a write
+/// fails, and out of memory. The keys before were answered; where a write fails, the answers end
+/// within the text of the last key.
+pub fn ask<const END: u8, S: Inputs, O: Write>(
+    alloc: Global,
+    filter: &BloomFilter,
+    told: Told,
+    inputs: &S,
+    names: &[&str],
+    output: &mut O,
+) -> Result<(), Stop>
+    requires { IsKeyed filter.now }
+    ensures all { OnOk result (AnswersInputs (S.has inputs.now) filter.now told END
+        (map (λ name. name.now) names.now) (O.contents output.old) (O.contents output.new)) }
+    // Why not all were answered, and what was written: the text of the keys before, and where a
+    // write fails a beginning of it.
+    ensures stops { IfErr result (StopsAsking (S.has inputs.now) (S.fails inputs.now) filter.now
+        told END (map (λ name. name.now) names.now)
+        (O.contents output.old) (O.contents output.new)) }
+{
+    'names: for name in names {
+        let mut input = inputs.open(name)?;
+        ask_input::<END, S::Input, O>(alloc, filter, told, name, &mut input, output)?;
+    }
+    Ok(())
 }

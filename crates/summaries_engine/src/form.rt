@@ -6,6 +6,7 @@ ghost use Rattle.fastbloom.specs.File.{file_of};
 ghost use Rattle.summaries_engine.specs.Answers.{IsKeyed};
 ghost use Rattle.summaries_engine.specs.Stops.{SaysOver};
 
+use crate::stop::Stop;
 use anyhow::Context;
 use fastbloom::{BloomFilter, FilterData};
 use std::alloc::Global;
@@ -61,9 +62,17 @@ fn write_file<W: Write>(filter: &BloomFilter, output: &mut W) -> std::io::Result
 ///
 /// # Errors
 /// Out of memory for the text, and where a write or the flush fails.
-pub fn put<W: Write>(alloc: Global, filter: &BloomFilter, output: &mut W) -> anyhow::Result<()> {
-    let text = serde_json::to_string(alloc, &filter.to_data(alloc)?)?;
-    write_line(text.as_str(), output).context("the filter can't be written")
+pub fn put<W: Write>(alloc: Global, filter: &BloomFilter, output: &mut W) -> Result<(), Stop> {
+    let Ok(data) = filter.to_data(alloc) else {
+        return Err(Stop::Memory);
+    };
+    let Ok(text) = serde_json::to_string(alloc, &data) else {
+        return Err(Stop::Memory);
+    };
+    match write_line(text.as_str(), output).context("the filter can't be written") {
+        Ok(()) => Ok(()),
+        Err(error) => Err(Stop::Output(error)),
+    }
 }
 
 fn write_line<W: Write>(text: &str, output: &mut W) -> std::io::Result<()> {

@@ -1,19 +1,22 @@
-//! Keys: the lines of a reader, without their ends.
-ghost use Rattle.std.specs.Prelude.{◌≡◌, ℕ, Some, IfErr, IfOk};
-ghost use Rattle.anyhow.specs.Error.{IsMadeOf};
+//! Keys: the lines of inputs, without their ends.
+ghost use Rattle.std.specs.Prelude.{◌≡◌, ℕ, Some, codes, ◌++◌, map, IfErr, IfOk, OnOk};
 ghost use Rattle.bloom_parts.specs.Keys.{HasKey};
 ghost use Rattle.bloom_parts.specs.Sip.{sip};
 ghost use Rattle.summaries_engine.specs.Answers.{HashesAll};
+ghost use Rattle.summaries_engine.specs.Inputs.{HashesInputs, StopsHashes};
 ghost use Rattle.summaries_engine.specs.Refusals.{too_long_text};
-ghost use Rattle.summaries_engine.specs.Stops.{StopsHashing};
+ghost use Rattle.summaries_engine.specs.Stops.{IsInput, IsUnreadable, Says, StopsHashing};
 
-use anyhow::{Context, anyhow};
+use crate::inputs::Inputs;
+use crate::stop::Stop;
+use anyhow::anyhow;
 use fastbloom::laws::source_hash_by_default;
 use fastbloom::{DefaultHasher, Text};
-use lines::{LineReader, Next};
+use lines::{LineReaderBy, Next};
 use std::alloc::Global;
 use std::hash::{BuildHasher, Hash, Hasher};
-use std::io::Read;
+use std::io;
+use std::io::{ErrorKind, Read};
 
 /// The most bytes of a key.
 pub const LONGEST: usize = 65536;
@@ -28,35 +31,82 @@ pub fn hash_of(builder: &DefaultHasher, key: &[u8]) -> u64
     state.finish()
 }
 
-/// The hashes of all keys, under the zero key.
-///
-/// # Errors
-/// At the first key that is too long, where a read fails, and out of memory.
-pub fn hashes_of<I: Read>(alloc: Global, input: &mut I) -> anyhow::Result<Vec<u64>>
-    ensures all { IfOk result
-        (λ hashes. HashesAll (I.remaining input.old) (I.remaining input.new) hashes.items) }
-    // Why not all were hashed.
-    ensures stops { IfErr result (StopsHashing (I.remaining input.old)) }
+/// Why an input isn't read on where a read failed.
+pub fn unread(name: &str, error: io::Error) -> Stop
+    ensures { IsUnreadable name.now result }
 {
-    let builder = DefaultHasher::keyed(0, 0);
-    let mut lines = LineReader::new(alloc, LONGEST).context("no memory")?;
-    let mut hashes = Vec::new(alloc);
-    'keys: for number in 0..u64::MAX {
-        match lines.next_line(input).context("the keys can't be read")? {
-            Next::End => return Ok(hashes),
-            Next::Line => hashes
-                .push(hash_of(&builder, lines.line()))
-                .context("no memory")?,
-            Next::TooLong => return Err(too_long(number)),
-        }
+    if error.kind() == ErrorKind::OutOfMemory {
+        return Stop::Memory;
     }
-    Err(anyhow!("there are too many keys"))
+    let error = anyhow::Error::from(error);
+    Stop::Input(error.context(format_args!("{name}: it can't be read")))
 }
 
-/// The error of a key that is too long, after this many others.
-pub fn too_long(before: u64) -> anyhow::Error
-    ensures { IsMadeOf (Some (too_long_text before)) result }
+/// Why an input isn't read on where its key is too long that comes after this many others.
+pub fn too_long(name: &str, before: u64) -> Stop
+    ensures { IsInput (Says (too_long_text name.now before)) result }
 {
     let number = before.saturating_add(1);
-    anyhow!("key {number} has more than {LONGEST} bytes")
+    Stop::Input(anyhow!("{name}: key {number} has more than {LONGEST} bytes"))
+}
+
+/// Why an input isn't read on where no number is left for its next key.
+pub fn too_many(name: &str) -> Stop
+    ensures { IsInput (Says (name.now ++ codes ": it has too many keys")) result }
+{
+    Stop::Input(anyhow!("{name}: it has too many keys"))
+}
+
+// Puts the hashes of all keys of an input behind the others.
+fn hash_keys<const END: u8, I: Read>(
+    alloc: Global,
+    name: &str,
+    input: &mut I,
+    hashes: &mut Vec<u64>,
+) -> Result<(), Stop>
+    ensures all { OnOk result (HashesAll END (I.remaining input.old) (I.remaining input.new)
+        hashes.old.items hashes.new.items) }
+    // Why not all were hashed.
+    ensures stops { IfErr result (StopsHashing END name.now (I.remaining input.old)) }
+{
+    let builder = DefaultHasher::keyed(0, 0);
+    let Ok(mut lines) = LineReaderBy::<END>::new(alloc, LONGEST) else {
+        return Err(Stop::Memory);
+    };
+    'keys: for number in 0..u64::MAX {
+        match lines.next_line(input) {
+            Ok(Next::End) => return Ok(()),
+            Ok(Next::Line) => {}
+            Ok(Next::TooLong) => return Err(too_long(name, number)),
+            Err(error) => return Err(unread(name, error)),
+        }
+        let Ok(()) = hashes.push(hash_of(&builder, lines.line())) else {
+            return Err(Stop::Memory);
+        };
+    }
+    Err(too_many(name))
+}
+
+/// The hashes of all keys of the inputs of these names, under the zero key. The byte `END` ends a
+/// key, and so does the end of an input.
+///
+/// # Errors
+/// At the first input that can't be had or read, or has a key that is too long, and out of memory.
+pub fn hashes_of<const END: u8, S: Inputs>(
+    alloc: Global,
+    inputs: &S,
+    names: &[&str],
+) -> Result<Vec<u64>, Stop>
+    ensures all { IfOk result (λ hashes. HashesInputs (S.has inputs.now) END
+        (map (λ name. name.now) names.now) hashes.items) }
+    // Why not all were hashed.
+    ensures stops { IfErr result (StopsHashes (S.has inputs.now) (S.fails inputs.now) END
+        (map (λ name. name.now) names.now)) }
+{
+    let mut hashes = Vec::new(alloc);
+    'names: for name in names {
+        let mut input = inputs.open(name)?;
+        hash_keys::<END, S::Input>(alloc, name, &mut input, &mut hashes)?;
+    }
+    Ok(hashes)
 }

@@ -4,19 +4,23 @@
 mod answers;
 mod facts;
 mod form;
+mod inputs;
 mod keys;
 mod loading;
 mod shards;
 mod sizes;
+mod stop;
 mod summary;
 mod unions;
 
-pub use answers::ask;
+pub use answers::{Told, ask};
 pub use facts::facts_of;
 pub use form::{Form, filter_of, put, put_file};
-pub use keys::{LONGEST, hash_of, hashes_of};
+pub use inputs::Inputs;
+pub use keys::{LONGEST, hash_of, hashes_of, unread};
 pub use loading::load;
 pub use shards::{Shelf, unite_named};
 pub use sizes::shape_for;
+pub use stop::Stop;
 pub use summary::{build, cut};
 pub use unions::{Difference, Refusal, add, unite};

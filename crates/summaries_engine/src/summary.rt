@@ -1,17 +1,16 @@
-//! The filter of all keys of a reader, filled by workers.
-ghost use Rattle.std.specs.Prelude.{◌≡◌, ◌<◌, ◌≤◌, All, IfErr, IfOk, IfSome, length, map};
+//! The filter of all keys of inputs, filled by workers.
+ghost use Rattle.std.specs.Prelude.{◌≡◌, ◌<◌, ◌≤◌, ◌⊎◌, All, IfErr, IfOk, length, map};
 ghost use Rattle.std.specs.List.{concat};
 ghost use Rattle.bloom_parts.specs.Keys.{HasKey};
-ghost use Rattle.lines.specs.Lines.{lines_of};
 ghost use Rattle.summaries_engine.specs.Answers.{IsKeyed};
-ghost use Rattle.summaries_engine.specs.Stops.{StopsBuilding};
-ghost use Rattle.summaries_engine.specs.Summaries.{IsSummaryOf};
+ghost use Rattle.summaries_engine.specs.Inputs.{StopsBuilding, SummarizesInputs};
+ghost use Rattle.summaries_engine.specs.Stops.{IsMemory, IsWorker};
 
+use crate::inputs::Inputs;
 use crate::keys::hashes_of;
-use anyhow::Context;
+use crate::stop::Stop;
 use fastbloom::{BloomFilter, FilterError, Gate, Shape, fill};
 use std::alloc::Global;
-use std::io::Read;
 use std::sync::Arc;
 use std::thread::Threads;
 
@@ -42,32 +41,53 @@ pub fn cut(alloc: Global, hashes: &[u64], workers: usize) -> Result<Vec<Vec<u64>
     Ok(parts)
 }
 
-/// The filter of all keys of a reader, under the zero key. At most this many workers fill it, each
-/// with a part of the keys, which `cut` gives it, and a filter of its own.
+// Why hashes make no filter.
+fn unfilled(error: FilterError) -> Stop
+    ensures { IsMemory result ⊎ IsWorker result }
+{
+    if error == FilterError::Worker {
+        Stop::Worker
+    } else {
+        Stop::Memory
+    }
+}
+
+/// The filter of all keys of the inputs of these names, under the zero key. The byte `END` ends a
+/// key, and so does the end of an input. At most this many workers fill the filter, each with a
+/// part of the keys, which `cut` gives it, and a filter of its own.
 ///
 /// # Errors
-/// At the first key that is too long, where a read fails, out of memory, and where a thread can't
-/// be started.
-pub fn build<R: Threads, I: Read>(
+/// At the first input that can't be had or read, or has a key that is too long, out of memory, and
+/// where a thread can't be started.
+pub fn build<const END: u8, R: Threads, S: Inputs>(
     rt: &R,
     alloc: Global,
     shape: Shape,
     workers: usize,
-    input: &mut I,
-) -> anyhow::Result<BloomFilter>
+    inputs: &S,
+    names: &[&str],
+) -> Result<BloomFilter, Stop>
     requires { 0 < workers }
-    ensures summary { IfOk result (λ filter. IfSome (I.remaining input.old)
-        (λ bytes. IsSummaryOf shape (lines_of bytes) filter)) }
+    ensures summary { IfOk result (SummarizesInputs (S.has inputs.now) END
+        (map (λ name. name.now) names.now) shape) }
     ensures key { IfOk result (λ filter. HasKey filter.hasher 0 0) }
     ensures keyed { IfOk result IsKeyed }
     // Why there is none.
-    ensures stops { IfErr result (StopsBuilding (I.remaining input.old)) }
+    ensures stops { IfErr result (StopsBuilding (S.has inputs.now) (S.fails inputs.now) END
+        (map (λ name. name.now) names.now)) }
 {
-    let hashes = hashes_of(alloc, input)?;
-    let parts = cut(alloc, hashes.as_slice(), workers).context("no memory")?;
+    let hashes = hashes_of::<END, S>(alloc, inputs, names)?;
+    let Ok(parts) = cut(alloc, hashes.as_slice(), workers) else {
+        return Err(Stop::Memory);
+    };
     drop(hashes);
     // Each part has a worker of its own.
     prove!(parts.len() <= workers);
-    let gate = Arc::new(alloc, Open).context("no memory")?;
-    Ok(fill(rt, alloc, gate, shape, parts).context("the filter can't be filled")?)
+    let Ok(gate) = Arc::new(alloc, Open) else {
+        return Err(Stop::Memory);
+    };
+    match fill(rt, alloc, gate, shape, parts) {
+        Ok(filter) => Ok(filter),
+        Err(error) => Err(unfilled(error)),
+    }
 }

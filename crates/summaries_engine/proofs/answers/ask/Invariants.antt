@@ -1,8 +1,10 @@
-use Rattle.summaries_engine.proofs.AskingLemmas.{IsAnswering}
+use Rattle.std.proofs.Common.{map}
+use Rattle.summaries_engine.proofs.InputLemmas.{AreAnswered}
 use Rattle.summaries_engine.proofs.answers.ask.Given as goal
 
--- the keys so far were answered
-abbrev pub invariant-keys : goal.invariant-keys
-invariant-keys g l =
-    IsAnswering l.filter (g.I.Read.remaining l.fn.input) l.lines (g.I.Read.remaining l.input)
-    l.number (g.O.Write.contents l.fn.output) (g.O.Write.contents l.output)
+-- the inputs so far were answered
+abbrev pub invariant-names : goal.invariant-names
+invariant-names g l =
+    AreAnswered (g.S.Inputs.has l.inputs) l.filter l.told g.row.END
+    (map (λ name. name.now) l.names) l.name-index (g.O.Write.contents l.fn.output)
+    (g.O.Write.contents l.output)

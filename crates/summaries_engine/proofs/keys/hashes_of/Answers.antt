@@ -1,39 +1,29 @@
-mod Errors
-use Rattle.summaries_engine.proofs.KeyLemmas.{hashing-none, hashing-next, hashing-end}
-use Rattle.summaries_engine.proofs.keys.hashes_of.Answers.Errors.{error-long, error-many, error-memory, error-read, error-room}
+use Rattle.std.proofs.Common.{◌≡◌, Err, rules}
+use Rattle.summaries_engine.proofs.InputLemmas.{hashed-more, hashes-stopped, hashes-unopened}
 use Rattle.summaries_engine.proofs.keys.hashes_of.Goals as goal
 
--- no key yet
-pub keys-init : goal.keys-init
-keys-init g c =
-    let new = c.new.ensures in
-    hashing-none c.in_ok-lines.ensures new.empty new.«open» new.longest c.new-hashes.ensures.items
+-- an input isn't had
+pub returns-in_err-input-clause-stops : goal.returns-in_err-input-clause-stops
+returns-in_err-input-clause-stops g c =
+    let is : c.from_residual.result ≡ Err c.in_err-input.field-0.0 = search rules in
+    rw is
+    (hashes-unopened (g.S.Inputs.has c.args.inputs.now) g.row.END c.args.names.now
+    c.names.name-index _ c.names-test.true (g.S.Inputs.fails c.args.inputs.now) c.names.invariant
+    c.in_err-input.ensures.failed)
 
--- all keys
-pub returns-in-End-clause-all : goal.returns-in-End-clause-all
-returns-in-End-clause-all g c =
-    hashing-end c.keys.invariant c.next_line.new.self c.in_ok-context.ensures c.in-End.is
-    c.next_line.ensures.next
+-- hashing stops within an input
+pub returns-in_err-hash_keys-clause-stops : goal.returns-in_err-hash_keys-clause-stops
+returns-in_err-hash_keys-clause-stops g c =
+    let is : c.from_residual-in_err-hash_keys.result ≡ Err c.in_err-hash_keys.field-0.0 =
+    search rules in
+    rw is
+    (hashes-stopped (g.S.Inputs.has c.args.inputs.now) g.row.END c.args.names.now
+    c.names.name-index _ c.names-test.true (g.S.Inputs.fails c.args.inputs.now) c.names.invariant
+    c.in_ok-input.ensures.opened c.in_err-hash_keys.ensures.stops)
 
--- one key more
-pub keys-preserved : goal.keys-preserved
-keys-preserved g c =
-    let now = c.next_line.ensures in
-    hashing-next c.keys.invariant c.in_ok-context.ensures c.in-Line.is now.next now.knows
-    now.longest c.line.ensures (c.hash_of.ensures 0 0 c.keyed-builder.ensures)
-    c.in_ok-context-in-Line.ensures c.push.ensures.items
-
-pub returns-in_err-lines-clause-stops : goal.returns-in_err-lines-clause-stops
-returns-in_err-lines-clause-stops = error-memory
-
-pub returns-in_err-context-clause-stops : goal.returns-in_err-context-clause-stops
-returns-in_err-context-clause-stops = error-read
-
-pub returns-in_err-context-in-Line-clause-stops : goal.returns-in_err-context-in-Line-clause-stops
-returns-in_err-context-in-Line-clause-stops = error-room
-
-pub returns-in-TooLong-clause-stops : goal.returns-in-TooLong-clause-stops
-returns-in-TooLong-clause-stops = error-long
-
-pub returns-clause-stops : goal.returns-clause-stops
-returns-clause-stops = error-many
+-- one input more
+pub names-preserved : goal.names-preserved
+names-preserved g c =
+    hashed-more (g.S.Inputs.has c.args.inputs.now) g.row.END c.args.names.now c.names.name-index _
+    c.names-test.true c.names.invariant c.in_ok-input.ensures.opened
+    c.in_ok-hash_keys.ensures.all

@@ -1,8 +1,9 @@
-use Rattle.summaries_engine.proofs.KeyLemmas.{IsHashing}
+use Rattle.std.proofs.Common.{map}
+use Rattle.summaries_engine.proofs.InputLemmas.{AreHashed}
 use Rattle.summaries_engine.proofs.keys.hashes_of.Given as goal
 
--- the keys so far were hashed
-abbrev pub invariant-keys : goal.invariant-keys
-invariant-keys g l =
-    IsHashing (g.I.Read.remaining l.fn.input) l.lines (g.I.Read.remaining l.input) l.number
+-- the inputs so far were hashed
+abbrev pub invariant-names : goal.invariant-names
+invariant-names g l =
+    AreHashed (g.S.Inputs.has l.inputs) g.row.END (map (λ name. name.now) l.names) l.name-index
     l.hashes.items

@@ -1,0 +1,206 @@
+//! The tasks that the program's words ask for.
+
+use crate::command_line::{
+    ABSENT, BITS, FILE, FILTER, HASHES, ITEMS, JSON, MOST_HASHES, RATE, WORKERS, ZERO, rate_of,
+};
+use crate::form::{Disk, load_named};
+use crate::key_files::{KeyFiles, STANDARD};
+use anyhow::{Context, anyhow};
+use clap::ArgMatches;
+use fastbloom::{BloomFilter, FilterError, Shape};
+use std::io::{BufWriter, Write};
+use std::rt::Files;
+use std::thread::Threads;
+use summaries_engine::{
+    Shelf, Stop, Told, ask, build, facts_of, put, put_file, shape_for, unite_named,
+};
+
+// The error of words that the command line lets through only by a mistake of the program.
+fn unsaid(what: &str) -> Stop {
+    Stop::Input(anyhow!("which {what}?"))
+}
+
+fn shape_by_rate(matches: &ArgMatches, items: u64) -> Result<Shape, Stop> {
+    let Some(text) = matches.get_str(RATE) else {
+        return Err(unsaid(RATE));
+    };
+    let Some(rate) = rate_of(text) else {
+        return Err(unsaid(RATE));
+    };
+    made(shape_for(items as usize, rate))
+}
+
+fn shape_by_bits(matches: &ArgMatches) -> Result<Shape, Stop> {
+    let Some(bits) = matches.get_one::<u64>(BITS) else {
+        return Err(unsaid(BITS));
+    };
+    let Some(hashes) = matches.get_one::<u32>(HASHES) else {
+        return Err(unsaid(HASHES));
+    };
+    made(Shape::new(bits as usize, hashes))
+}
+
+// A shape, or that there is none.
+fn made(shape: Result<Shape, FilterError>) -> Result<Shape, Stop> {
+    match shape {
+        Ok(shape) => Ok(shape),
+        Err(FilterError::Memory) => Err(Stop::Memory),
+        Err(error) => Err(Stop::Input(anyhow::Error::from(error))),
+    }
+}
+
+// The shape that the words ask for: by keys and a rate, or by bits and hashes.
+fn shape_of(matches: &ArgMatches) -> Result<Shape, Stop> {
+    match matches.get_one::<u64>(ITEMS) {
+        Some(items) => shape_by_rate(matches, items),
+        None => shape_by_bits(matches),
+    }
+}
+
+// Writes a filter in the form that the words ask for.
+fn write<R: Print + AllocGlobal>(
+    rt: &R,
+    matches: &ArgMatches,
+    filter: &BloomFilter,
+) -> Result<(), Stop> {
+    if matches.get_flag(JSON) {
+        return put(rt.alloc(), filter, &mut std::io::writer(rt));
+    }
+    match put_file(filter, &mut std::io::writer(rt)) {
+        Ok(()) => Ok(()),
+        Err(error) => Err(Stop::Output(error)),
+    }
+}
+
+// Builds the filter of the keys of these inputs, and writes it.
+fn build_of<R: Files + Input + Print + AllocGlobal + Threads>(
+    rt: &R,
+    matches: &ArgMatches,
+    names: &[&str],
+) -> Result<(), Stop> {
+    let shape = shape_of(matches)?;
+    let Some(workers) = matches.get_one::<u16>(WORKERS) else {
+        return Err(unsaid(WORKERS));
+    };
+    let workers = usize::from(workers.max(1));
+    let files = KeyFiles { rt };
+    let filter = if matches.get_flag(ZERO) {
+        build::<0, _, _>(rt, rt.alloc(), shape, workers, &files, names)?
+    } else {
+        build::<10, _, _>(rt, rt.alloc(), shape, workers, &files, names)?
+    };
+    write(rt, matches, &filter)
+}
+
+// Standard input has the keys where no input is named.
+fn run_build<R: Files + Input + Print + AllocGlobal + Threads>(
+    rt: &R,
+    matches: &ArgMatches,
+) -> Result<(), Stop> {
+    match matches.get_strs(FILE) {
+        None => build_of(rt, matches, &[STANDARD]),
+        Some([]) => build_of(rt, matches, &[STANDARD]),
+        Some(names) => build_of(rt, matches, names),
+    }
+}
+
+// The files with filters, of which none may have more hashes than the words allow.
+fn disk_of<'a, R: Files + AllocGlobal>(
+    rt: &'a R,
+    matches: &ArgMatches,
+) -> Result<Disk<'a, R>, Stop> {
+    match matches.get_one::<u32>(MOST_HASHES) {
+        Some(most) => Ok(Disk { rt, most }),
+        None => Err(unsaid(MOST_HASHES)),
+    }
+}
+
+fn run_unite<R: Files + Print + AllocGlobal>(rt: &R, matches: &ArgMatches) -> Result<(), Stop> {
+    let Some(names) = matches.get_strs(FILTER) else {
+        return Err(unsaid(FILTER));
+    };
+    let disk = disk_of(rt, matches)?;
+    match unite_named(&disk, names) {
+        Ok(filter) => write(rt, matches, &filter),
+        Err(error) => Err(Stop::Input(error)),
+    }
+}
+
+// Asks a filter for the keys of these inputs.
+fn ask_of<R: Files + Input + Print + AllocGlobal>(
+    rt: &R,
+    matches: &ArgMatches,
+    names: &[&str],
+) -> Result<(), Stop> {
+    let Some(name) = matches.get_str(FILTER) else {
+        return Err(unsaid(FILTER));
+    };
+    let filter = match disk_of(rt, matches)?.load(name) {
+        Ok(filter) => filter,
+        Err(error) => return Err(Stop::Input(error)),
+    };
+    let told = if matches.get_flag(ABSENT) {
+        Told::Absent
+    } else {
+        Told::Found
+    };
+    let Ok(mut output) = BufWriter::new(rt.alloc(), std::io::writer(rt)) else {
+        return Err(Stop::Memory);
+    };
+    let files = KeyFiles { rt };
+    let asked = if matches.get_flag(ZERO) {
+        ask::<0, _, _>(rt.alloc(), &filter, told, &files, names, &mut output)
+    } else {
+        ask::<10, _, _>(rt.alloc(), &filter, told, &files, names, &mut output)
+    };
+    match output.flush().context("the keys can't be written") {
+        Ok(()) => asked,
+        Err(error) => {
+            asked?;
+            Err(Stop::Output(error))
+        }
+    }
+}
+
+// The same: standard input where no input is named.
+fn run_ask<R: Files + Input + Print + AllocGlobal>(
+    rt: &R,
+    matches: &ArgMatches,
+) -> Result<(), Stop> {
+    match matches.get_strs(FILE) {
+        None => ask_of(rt, matches, &[STANDARD]),
+        Some([]) => ask_of(rt, matches, &[STANDARD]),
+        Some(names) => ask_of(rt, matches, names),
+    }
+}
+
+fn run_info<R: Files + Print + AllocGlobal>(rt: &R, matches: &ArgMatches) -> Result<(), Stop> {
+    let Some(name) = matches.get_str(FILTER) else {
+        return Err(unsaid(FILTER));
+    };
+    let (filter, form) = match load_named(rt, name, u32::MAX) {
+        Ok(read) => read,
+        Err(error) => return Err(Stop::Input(error)),
+    };
+    let Ok(facts) = facts_of(rt.alloc(), &filter, form) else {
+        return Err(Stop::Memory);
+    };
+    match print!(rt; "{facts}").context("the facts can't be written") {
+        Ok(()) => Ok(()),
+        Err(error) => Err(Stop::Output(error)),
+    }
+}
+
+/// Does what the words ask for.
+pub fn run<R: Files + Input + Print + AllocGlobal + Threads>(
+    rt: &R,
+    matches: &ArgMatches,
+) -> Result<(), Stop> {
+    match matches.subcommand() {
+        Some(("build", matches)) => run_build(rt, matches),
+        Some(("unite", matches)) => run_unite(rt, matches),
+        Some(("ask", matches)) => run_ask(rt, matches),
+        Some(("info", matches)) => run_info(rt, matches),
+        _ => Err(unsaid("command")),
+    }
+}

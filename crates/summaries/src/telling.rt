@@ -1,0 +1,37 @@
+//! What is told on standard error, and the statuses. Where standard error can't be written, nothing
+//! is told, and the status stays.
+
+use std::fmt::Display;
+use summaries_engine::Stop;
+
+/// The task was carried out.
+pub const DONE: u8 = 0;
+
+/// A file or standard input can't be had or read, or isn't what it should be.
+pub const UNREAD: u8 = 1;
+
+/// The words after the program's name are wrong.
+pub const MISUSED: u8 = 2;
+
+/// Out of memory, or a thread can't be started.
+pub const NO_ROOM: u8 = 5;
+
+/// A write failed.
+pub const UNWRITTEN: u8 = 6;
+
+/// Tells what failed, on one line.
+pub fn tell<R: Eprint, D: Display + Drop>(rt: &R, what: D) {
+    let _ = eprintln!(rt; "summaries: {what}");
+}
+
+/// Tells why a run stopped; the status.
+pub fn tell_stop<R: Eprint>(rt: &R, stop: Stop) -> u8 {
+    let status = match &stop {
+        Stop::Memory => NO_ROOM,
+        Stop::Worker => NO_ROOM,
+        Stop::Input(_) => UNREAD,
+        Stop::Output(_) => UNWRITTEN,
+    };
+    tell(rt, stop);
+    status
+}

@@ -1,0 +1,211 @@
+-- Inputs that were taken one after the other.
+use Rattle.std.proofs.Common.{◌≡◌, zero, suc, ◌<◌, ℕ, ◌+◌, inl, inr, List, [], ◌∷◌, ◌++◌, map, length, get_or, take, Bor, Option, refl, sym, subst, ◌∙◌, ap, arith, append_assoc, append-nil}
+use Rattle.std.proofs.KnownBytes.{Appends-nil, Appends-trans}
+use Rattle.std.proofs.lemmas.Grind.{flat_map-append}
+use Rattle.std.proofs.lemmas.List.{length-map, map-append, take_more}
+use Rattle.std.specs.Io.KnownBytes.{Appends}
+use Rattle.bloom_parts.specs.Sip.{sip}
+use Rattle.fastbloom.specs.Data.{DefaultFilter}
+use Rattle.lines.proofs.WritingLemmas.{part-second}
+use Rattle.lines.specs.Writing.{AppendsPart}
+use Rattle.summaries_engine.specs.declared.answers.Told.{Told}
+use Rattle.summaries_engine.specs.declared.stop.Stop.{Stop}
+use Rattle.summaries_engine.specs.Answers.{AnswersAll, HashesAll, told_text}
+use Rattle.summaries_engine.specs.Inputs.{HasKeys, HaveKeys, Lies, StopsAsking, StopsAt, StopsAnswered, StopsHashes, StopsInput}
+use Rattle.summaries_engine.specs.Stops.{StopsAnswers, StopsHashing}
+use Rattle.summaries_engine.specs.Summaries.{joined}
+use Rattle.summaries_engine.proofs.AskingLemmas.{told_text-append}
+
+-- all keys of one input more
+HaveKeys-more : (lies : Lies) (end : ℕ) (names : List (List ℕ)) (name : List ℕ)
+    (parts : List (List (List ℕ))) (keys : List (List ℕ)) → HaveKeys lies end names parts
+    → HasKeys lies end name keys → HaveKeys lies end (names ++ name ∷ []) (parts ++ keys ∷ [])
+HaveKeys-more lies end [] name [] keys so_far one = (one, tt)
+HaveKeys-more lies end [] name (part ∷ parts) keys so_far one = absurd so_far
+HaveKeys-more lies end (first ∷ names) name [] keys so_far one = absurd so_far
+HaveKeys-more lies end (first ∷ names) name (part ∷ parts) keys so_far one =
+    (so_far.0, HaveKeys-more lies end names name parts keys so_far.1 one)
+
+-- the keys of one part more
+joined-more : (parts : List (List (List ℕ))) (keys : List (List ℕ))
+    → joined (parts ++ keys ∷ []) ≡ joined parts ++ keys
+joined-more parts keys =
+    flat_map-append (λ part. part) parts (keys ∷ [])
+    ∙ ap (λ l. joined parts ++ l) (append-nil keys)
+
+-- the inputs of the first of these names were hashed
+pub record AreHashed (lies : Lies) (end : ℕ) (names : List (List ℕ)) (count : ℕ)
+    (hashes : List ℕ) : Type 0 where
+  pub parts : List (List (List ℕ))
+  pub keys : HaveKeys lies end (take count names) parts
+  pub hashed : hashes ≡ map (sip 0 0) (joined parts)
+
+-- the inputs of the first of these names were answered
+pub record AreAnswered (lies : Lies) (f : DefaultFilter) (told : Told) (end : ℕ)
+    (names : List (List ℕ)) (count : ℕ) (from to : Option (List ℕ)) : Type 0 where
+  pub parts : List (List (List ℕ))
+  pub keys : HaveKeys lies end (take count names) parts
+  pub text : Appends from to (told_text f told end (joined parts))
+
+-- answers to keys behind those to earlier keys
+answers-after : (f : DefaultFilter) (told : Told) (end : ℕ) (name : List ℕ)
+    (earlier : List (List ℕ)) (read from mid to : Option (List ℕ)) (stop : Stop)
+    → Appends from mid (told_text f told end earlier)
+    → StopsAnswers f told end name [] read mid to stop
+    → StopsAnswers f told end name earlier read from to stop
+answers-after f told end name earlier read from mid to stop wrote (inl after) = inl (record {
+  keys = after.keys;
+  first = after.first;
+  short = after.short;
+  done = subst (Appends from to) (sym (told_text-append f told end earlier after.keys))
+      (Appends-trans from mid to _ _ wrote after.done);
+  reason = after.reason;
+})
+answers-after f told end name earlier read from mid to stop wrote (inr cut) = inr (record {
+  keys = cut.keys;
+  first = cut.first;
+  short = cut.short;
+  part = subst (λ text. AppendsPart text from to)
+      (sym (told_text-append f told end earlier cut.keys))
+      (part-second (told_text f told end earlier) (told_text f told end cut.keys) from mid to wrote
+      cut.part);
+  says = cut.says;
+})
+
+-- the texts of names
+abbrev texts : List (Bor (List ℕ)) → List (List ℕ)
+texts names = map (λ name. name.now) names
+
+-- the text at a place
+text-at : (names : List (Bor (List ℕ))) (count : ℕ) (other : Bor (List ℕ)) → count < length names
+    → (get_or names count other).now ≡ get_or (texts names) count []
+text-at [] count other within = absurd (omega (arith, within))
+text-at (name ∷ names) zero other within = refl
+text-at (name ∷ names) (suc count) other within =
+    text-at names count other (omega (arith, within))
+
+-- names up to a place, and then the others
+names-from : (names : List (Bor (List ℕ))) (count : ℕ) (other : Bor (List ℕ))
+    → count < length names → (after : List (List ℕ))
+    × (texts names ≡ take count (texts names) ++ (get_or names count other).now ∷ after)
+names-from [] count other within = absurd (omega (arith, within))
+names-from (name ∷ names) zero other within = (texts names, refl)
+names-from (name ∷ names) (suc count) other within =
+    let rest = names-from names count other (omega (arith, within)) in
+    (rest.0, ap (λ l. name.now ∷ l) rest.1)
+
+module _ (lies : Lies) (end : ℕ) (names : List (Bor (List ℕ))) (count : ℕ)
+    (other : Bor (List ℕ)) (within : count < length names) where
+  -- the first names and the next
+  next-name : take (count + 1) (texts names)
+      ≡ take count (texts names) ++ (get_or names count other).now ∷ []
+  next-name =
+      take_more (texts names) count []
+      (subst (λ n. count < n) (sym (length-map names (λ name. name.now))) within)
+      ∙ ap (λ n. take count (texts names) ++ n ∷ []) (sym (text-at names count other within))
+
+  -- one input more was hashed
+  pub hashed-more : {read left : Option (List ℕ)} {hashes more : List ℕ}
+      → AreHashed lies end (texts names) count hashes
+      → lies (get_or names count other).now read → HashesAll end read left hashes more
+      → AreHashed lies end (texts names) (count + 1) more
+  hashed-more {read = read} {left = left} {hashes = hashes} so_far there all = record {
+    parts = so_far.parts ++ all.keys ∷ [];
+    keys = subst (λ l. HaveKeys lies end l (so_far.parts ++ all.keys ∷ [])) (sym next-name)
+        (HaveKeys-more lies end (take count (texts names)) (get_or names count other).now
+        so_far.parts all.keys so_far.keys (record {
+          read = read;
+          left = left;
+          there = there;
+          whole = all.whole;
+          short = all.short;
+        }));
+    hashed =
+        all.hashed ∙ ap (λ l. l ++ map (sip 0 0) all.keys) so_far.hashed
+        ∙ sym (map-append (sip 0 0) (joined so_far.parts) all.keys)
+        ∙ ap (map (sip 0 0)) (sym (joined-more so_far.parts all.keys));
+  }
+
+  -- one input more was answered
+  pub answered-more : {f : DefaultFilter} {told : Told} {read left from to more : Option (List ℕ)}
+      → AreAnswered lies f told end (texts names) count from to
+      → lies (get_or names count other).now read → AnswersAll f told end read left to more
+      → AreAnswered lies f told end (texts names) (count + 1) from more
+  answered-more {f = f} {told = told} {read = read} {left = left} {from = from} {to = to}
+      {more = more} so_far there all = record {
+        parts = so_far.parts ++ all.keys ∷ [];
+        keys = subst (λ l. HaveKeys lies end l (so_far.parts ++ all.keys ∷ [])) (sym next-name)
+            (HaveKeys-more lies end (take count (texts names)) (get_or names count other).now
+            so_far.parts all.keys so_far.keys (record {
+              read = read;
+              left = left;
+              there = there;
+              whole = all.whole;
+              short = all.short;
+            }));
+        text = subst (Appends from more)
+            (sym (ap (told_text f told end) (joined-more so_far.parts all.keys)
+            ∙ told_text-append f told end (joined so_far.parts) all.keys))
+            (Appends-trans from to more _ _ so_far.text all.text);
+      }
+
+  -- a run stops at a name behind the first of these
+  stops-at : (parts : List (List (List ℕ))) → HaveKeys lies end (take count (texts names)) parts
+      → (Within : List (List ℕ) → List ℕ → Type 0)
+      → Within (joined parts) (get_or names count other).now
+      → StopsAt lies end (texts names) Within
+  stops-at parts keys Within stopped =
+      let from = names-from names count other within in record {
+        parts = parts;
+        before = take count (texts names);
+        name = (get_or names count other).now;
+        after = from.0;
+        are = from.1;
+        keys = keys;
+        within = stopped;
+      }
+
+  module _ (fails : List ℕ → Stop → Type 0) {stop : Stop} where
+    -- hashing stops at an input that isn't had
+    pub hashes-unopened : {hashes : List ℕ} → AreHashed lies end (texts names) count hashes
+        → fails (get_or names count other).now stop → StopsHashes lies fails end (texts names) stop
+    hashes-unopened so_far failed =
+        stops-at so_far.parts so_far.keys
+        (λ keys name. StopsInput lies fails end name stop) (inl failed)
+
+    -- hashing stops within an input
+    pub hashes-stopped : {hashes : List ℕ} {read : Option (List ℕ)}
+        → AreHashed lies end (texts names) count hashes
+        → lies (get_or names count other).now read
+        → StopsHashing end (get_or names count other).now read stop
+        → StopsHashes lies fails end (texts names) stop
+    hashes-stopped {read = read} so_far there stopped =
+        stops-at so_far.parts so_far.keys
+        (λ keys name. StopsInput lies fails end name stop) (inr (read, there, stopped))
+
+    -- asking stops at an input that isn't had
+    pub asking-unopened : {f : DefaultFilter} {told : Told} {from to : Option (List ℕ)}
+        → AreAnswered lies f told end (texts names) count from to
+        → fails (get_or names count other).now stop
+        → StopsAsking lies fails f told end (texts names) from to stop
+    asking-unopened {f = f} {told = told} {from = from} {to = to} so_far failed =
+        stops-at so_far.parts so_far.keys
+        (λ keys name. StopsAnswered lies fails f told end from to keys name stop)
+        (inl (failed, so_far.text))
+
+    -- asking stops within an input
+    pub asking-stopped : {f : DefaultFilter} {told : Told} {from mid to read : Option (List ℕ)}
+        → AreAnswered lies f told end (texts names) count from mid
+        → lies (get_or names count other).now read
+        → StopsAnswers f told end (get_or names count other).now [] read mid to stop
+        → StopsAsking lies fails f told end (texts names) from to stop
+    asking-stopped {f = f} {told = told} {from = from} {mid = mid} {to = to} {read = read} so_far
+        there stopped =
+        stops-at so_far.parts so_far.keys
+        (λ keys name. StopsAnswered lies fails f told end from to keys name stop)
+        (inr (
+          read,
+          there,
+          answers-after f told end (get_or names count other).now
+              (joined so_far.parts) read from mid to stop so_far.text stopped,
+        ))

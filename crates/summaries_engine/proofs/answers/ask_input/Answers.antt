@@ -1,0 +1,40 @@
+use Rattle.std.proofs.Common.{◌≡◌, Err, rules}
+use Rattle.summaries_engine.proofs.AskingLemmas.{answering-end, answering-next, answering-none}
+use Rattle.summaries_engine.proofs.StopLemmas.{asking-cut, asking-stops, why-long}
+use Rattle.summaries_engine.proofs.answers.ask_input.Goals as goal
+
+-- no key yet
+pub keys-init : goal.keys-init
+keys-init g c =
+    let new = c.new.ensures in
+    answering-none c.args.told g.row.END c.in-Ok.is new.empty new.«open» new.longest
+
+-- all keys
+pub returns-in-Ok-End-clause-all : goal.returns-in-Ok-End-clause-all
+returns-in-Ok-End-clause-all g c =
+    answering-end c.keys.invariant c.next_line.new.self _
+    (rw c.in-Ok-End.field-0-is at c.in-Ok-End.ensures.next)
+
+-- a key is too long
+pub returns-in-Ok-TooLong-clause-stops : goal.returns-in-Ok-TooLong-clause-stops
+returns-in-Ok-TooLong-clause-stops g c =
+    asking-stops c.keys.invariant
+    (why-long c.next_line.new.self _ c.keys.invariant.has_read.longest
+    (rw c.in-Ok-TooLong.field-0-is at c.in-Ok-TooLong.ensures.next) c.too_long.ensures)
+
+-- a write failed
+pub returns-in_err-answer_key-clause-stops : goal.returns-in_err-answer_key-clause-stops
+returns-in_err-answer_key-clause-stops g c =
+    let now = c.in-Ok-Line.ensures in
+    let cut = c.in_err-answer_key in
+    let is : c.from_residual.result ≡ Err cut.field-0.0 = search rules in
+    rw is
+    (asking-cut c.keys.invariant c.next_line.new.self _ (rw c.in-Ok-Line.field-0-is at now.next)
+    now.knows now.longest c.line.ensures cut.ensures.part cut.ensures.failed)
+
+-- one key more
+pub keys-preserved : goal.keys-preserved
+keys-preserved g c =
+    let now = c.in-Ok-Line.ensures in
+    answering-next c.keys.invariant c.next_line.new.self (rw c.in-Ok-Line.field-0-is at now.next)
+    now.knows now.longest c.line.ensures c.in_ok-answer_key.ensures.wrote

@@ -1,0 +1,95 @@
+-- Keys that lie in several inputs, which have names, as files do. A name is its list of bytes, and
+-- the byte `end` ends a key. These definitions are this project's own.
+use Rattle.std.specs.Prelude.{◌≡◌, ◌⊎◌, ℕ, List, [], ◌∷◌, ◌++◌, Option, ⊤, map}
+use Rattle.std.specs.Io.KnownBytes.{Appends}
+use Rattle.bloom_parts.specs.Sip.{sip}
+use Rattle.fastbloom.specs.Data.{DefaultFilter}
+use Rattle.fastbloom.specs.declared.parallel.shape.Shape.{Shape}
+use Rattle.lines.specs.Reading.{AreShort, IsReadWholeBy}
+use Rattle.summaries_engine.specs.declared.answers.Told.{Told}
+use Rattle.summaries_engine.specs.declared.stop.Stop.{Stop}
+use Rattle.summaries_engine.specs.Answers.{told_text}
+use Rattle.summaries_engine.specs.Stops.{IsMemory, IsWorker, StopsAnswers, StopsHashing}
+use Rattle.summaries_engine.specs.Summaries.{IsSummaryOf, joined}
+
+-- what lies under which names: Some of the bytes, or None where that isn't told
+abbrev pub Lies : Type 1
+Lies = List ℕ → Option (List ℕ) → Type 0
+
+-- these are all keys of the input of a name, and none is too long
+pub record HasKeys (lies : Lies) (end : ℕ) (name : List ℕ) (keys : List (List ℕ)) : Type 0 where
+  pub read : Option (List ℕ)
+  pub left : Option (List ℕ)
+  pub there : lies name read
+  pub whole : IsReadWholeBy end read left keys
+  pub short : AreShort 65536 keys
+
+-- each list has all keys of the input of the name at its place, and there are no others
+abbrev pub HaveKeys : Lies → ℕ → List (List ℕ) → List (List (List ℕ)) → Type 0
+HaveKeys lies end [] [] = ⊤
+HaveKeys lies end [] (keys ∷ parts) = ⊥
+HaveKeys lies end (name ∷ names) [] = ⊥
+HaveKeys lies end (name ∷ names) (keys ∷ parts) =
+    HasKeys lies end name keys × HaveKeys lies end names parts
+
+-- these are the hashes, under the zero key, of all keys of all inputs
+pub record HashesInputs (lies : Lies) (end : ℕ) (names : List (List ℕ)) (hashes : List ℕ) : Type 0
+  where
+    pub parts : List (List (List ℕ))
+    pub keys : HaveKeys lies end names parts
+    pub hashed : hashes ≡ map (sip 0 0) (joined parts)
+
+-- all keys of all inputs were asked for, and those that are told were written
+pub record AnswersInputs (lies : Lies) (f : DefaultFilter) (told : Told) (end : ℕ)
+    (names : List (List ℕ)) (from to : Option (List ℕ)) : Type 0 where
+  pub parts : List (List (List ℕ))
+  pub keys : HaveKeys lies end names parts
+  pub text : Appends from to (told_text f told end (joined parts))
+
+-- exactly the bits of all keys of all inputs are set in a filter of this shape
+pub record SummarizesInputs (lies : Lies) (end : ℕ) (names : List (List ℕ)) (shape : Shape)
+    (f : DefaultFilter) : Type 0 where
+  pub parts : List (List (List ℕ))
+  pub keys : HaveKeys lies end names parts
+  pub summary : IsSummaryOf shape (joined parts) f
+
+-- a run took all keys of the inputs before this name, and of this one `Within` holds
+pub record StopsAt (lies : Lies) (end : ℕ) (names : List (List ℕ))
+    (Within : List (List ℕ) → List ℕ → Type 0) : Type 0 where
+  pub parts : List (List (List ℕ))
+  pub before : List (List ℕ)
+  pub name : List ℕ
+  pub after : List (List ℕ)
+  pub are : names ≡ before ++ name ∷ after
+  pub keys : HaveKeys lies end before parts
+  pub within : Within (joined parts) name
+
+-- an input wasn't had, or hashing stopped within it
+abbrev pub StopsInput : Lies → (List ℕ → Stop → Type 0) → ℕ → List ℕ → Stop → Type 0
+StopsInput lies fails end name stop =
+    fails name stop ⊎ ((read : Option (List ℕ)) × lies name read × StopsHashing end name read stop)
+
+-- not all inputs were hashed
+abbrev pub StopsHashes : Lies → (List ℕ → Stop → Type 0) → ℕ → List (List ℕ) → Stop → Type 0
+StopsHashes lies fails end names stop =
+    StopsAt lies end names (λ keys name. StopsInput lies fails end name stop)
+
+-- there is no filter of all keys: not all were hashed, or memory or a worker was refused
+abbrev pub StopsBuilding : Lies → (List ℕ → Stop → Type 0) → ℕ → List (List ℕ) → Stop → Type 0
+StopsBuilding lies fails end names stop =
+    StopsHashes lies fails end names stop ⊎ IsMemory stop ⊎ IsWorker stop
+
+-- an input wasn't had, with the answers to the keys before it written; or asking stopped within it
+abbrev pub StopsAnswered : Lies → (List ℕ → Stop → Type 0) → DefaultFilter → Told → ℕ
+    → Option (List ℕ) → Option (List ℕ) → List (List ℕ) → List ℕ → Stop → Type 0
+StopsAnswered lies fails f told end from to keys name stop =
+    (fails name stop × Appends from to (told_text f told end keys))
+    ⊎ ((read : Option (List ℕ)) × lies name read
+    × StopsAnswers f told end name keys read from to stop)
+
+-- not all keys of all inputs were answered
+abbrev pub StopsAsking : Lies → (List ℕ → Stop → Type 0) → DefaultFilter → Told → ℕ
+    → List (List ℕ) → Option (List ℕ) → Option (List ℕ) → Stop → Type 0
+StopsAsking lies fails f told end names from to stop =
+    StopsAt lies end names
+    (λ keys name. StopsAnswered lies fails f told end from to keys name stop)

@@ -1,0 +1,28 @@
+//! Why a run stopped.
+use std::fmt;
+use std::fmt::Display;
+
+/// Why a run stopped, with what is said of it.
+#[derive(Drop)]
+pub enum Stop {
+    /// Out of memory.
+    Memory,
+    /// A thread can't be started.
+    Worker,
+    /// An input can't be had or read, or isn't what it should be.
+    Input(anyhow::Error),
+    /// A write failed.
+    Output(anyhow::Error),
+}
+
+/// What is said, with its causes, on one line.
+impl Display for Stop {
+    fn fmt<W: fmt::Write>(&self, f: &mut fmt::Formatter<W>) -> fmt::Result {
+        match self {
+            Stop::Memory => f.write_str("no memory"),
+            Stop::Worker => f.write_str("a thread can't be started"),
+            Stop::Input(error) => write!(f, "{error:#}"),
+            Stop::Output(error) => write!(f, "{error:#}"),
+        }
+    }
+}
