@@ -5,6 +5,9 @@ use clap::error::ErrorKind;
 use clap::{Arg, ArgMatches, Command, Error, value_parser};
 use std::alloc::Global;
 
+/// The version that the program tells.
+const VERSION: &str = "0.17.0";
+
 /// What is to be done with a store.
 #[derive(Clone, Copy)]
 pub enum Request<'a> {
@@ -118,6 +121,7 @@ fn command<'a>(alloc: Global) -> Result<Command<'a>, Error> {
     );
     Ok(
         Command::new(alloc, "guard")
+            .version(VERSION)
             .about("A store of values by keys, behind a filter of its keys")
             .subcommand_required(true)
             .arg_required_else_help(true)

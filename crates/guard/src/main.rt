@@ -13,7 +13,7 @@ mod telling;
 
 use command_line::arguments;
 use std::process::ExitCode;
-use telling::{DONE, FAILED, MISUSED};
+use telling::{DONE, FAILED, MISUSED, UNWRITTEN};
 
 // What the words ask for is done; the status.
 fn run(rt: &HostRuntime, words: &[String]) -> u8 {
@@ -26,7 +26,7 @@ fn run(rt: &HostRuntime, words: &[String]) -> u8 {
             } else if is_printed {
                 DONE
             } else {
-                FAILED
+                UNWRITTEN
             }
         }
     }

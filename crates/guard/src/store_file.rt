@@ -1,4 +1,5 @@
 //! The store in a file.
+ghost use Rattle.std.specs.Prelude.{◌≡◌, ◌≢◌, ◌↔◌};
 
 use crate::names::Names;
 use guard_engine::{Source, Store};
@@ -13,6 +14,12 @@ pub enum StoreFault {
     /// A call of SQLite failed.
     #[error("{0}")]
     Sql(Error),
+    /// Out of memory.
+    #[error("out of memory")]
+    NoMemory,
+    /// The disk has no space.
+    #[error("database or disk is full")]
+    DiskFull,
     /// Another process has it open.
     #[error("it is locked: another process has it open")]
     Locked,
@@ -35,9 +42,21 @@ pub struct StoreFile<'a> {
 }
 
 // What an error of SQLite says of the store.
-fn fault_of(error: Error) -> StoreFault {
+fn fault_of(error: Error) -> StoreFault
+    ensures locked { (result ≡ StoreFault.Locked)
+        ↔ (error ≡ Error.SqliteFailure ErrorCode.DatabaseBusy) }
+    ensures no_memory { (result ≡ StoreFault.NoMemory)
+        ↔ (error ≡ Error.SqliteFailure ErrorCode.OutOfMemory) }
+    ensures full { (result ≡ StoreFault.DiskFull)
+        ↔ (error ≡ Error.SqliteFailure ErrorCode.DiskFull) }
+    ensures other { error ≢ Error.SqliteFailure ErrorCode.DatabaseBusy
+        → error ≢ Error.SqliteFailure ErrorCode.OutOfMemory
+        → error ≢ Error.SqliteFailure ErrorCode.DiskFull → result ≡ StoreFault.Sql error }
+{
     match error {
         Error::SqliteFailure(ErrorCode::DatabaseBusy) => StoreFault::Locked,
+        Error::SqliteFailure(ErrorCode::OutOfMemory) => StoreFault::NoMemory,
+        Error::SqliteFailure(ErrorCode::DiskFull) => StoreFault::DiskFull,
         error => StoreFault::Sql(error),
     }
 }
@@ -84,11 +103,21 @@ fn open_file(
 }
 
 impl FileTable {
+    ghost use Rattle.std.specs.Prelude.{IfOk, OnErr, OnOk, map, string_bytes, vec_items};
+    ghost use Rattle.sqlite.specs.Files.{file_state};
+    ghost use Rattle.guard_engine.specs.Stores.{Fails, IsReady, Keeps};
+    ghost use Rattle.guard_store.specs.Answers.{ListsEntries};
+    ghost use Rattle.guard_store.specs.Entry.{HasTable, IsKnown, sight_of};
+    ghost use Rattle.guard_store.specs.Fit.{IsFit};
+
     /// The store of a file for writing, which is made where there is none.
     ///
     /// # Errors
     /// Where the file can't be opened, or is no store.
-    pub fn over(rt: &HostRuntime, names: &Names) -> Result<Self, StoreFault> {
+    pub fn over(rt: &HostRuntime, names: &Names) -> Result<Self, StoreFault>
+        ensures ready { IfOk result (λ file. IsKnown (file_state file.table.conn)
+            → IsReady (sight_of (file_state file.table.conn))) }
+    {
         let conn = open_file(rt, names, true)?;
         match EntryTable::over(rt.alloc(), conn) {
             Ok(table) => Ok(FileTable { table }),
@@ -100,7 +129,11 @@ impl FileTable {
     ///
     /// # Errors
     /// Where the file can't be opened, or is no store.
-    pub fn found(rt: &HostRuntime, names: &Names) -> Result<Self, StoreFault> {
+    pub fn found(rt: &HostRuntime, names: &Names) -> Result<Self, StoreFault>
+        ensures ready { IfOk result (λ file. IsKnown (file_state file.table.conn)
+            → IsReady (sight_of (file_state file.table.conn))) }
+        ensures fit { IfOk result (λ file. IsFit (file_state file.table.conn)) }
+    {
         let conn = open_file(rt, names, false)?;
         match EntryTable::found(rt.alloc(), conn) {
             Ok(table) => Ok(FileTable { table }),
@@ -112,7 +145,22 @@ impl FileTable {
     ///
     /// # Errors
     /// Where the file can't be read, and where there is no memory.
-    pub fn entries(&mut self) -> Result<Vec<(String, String)>, StoreFault> {
+    pub fn entries(&mut self) -> Result<Vec<(String, String)>, StoreFault>
+        ensures known { IsKnown (file_state self.new.table.conn)
+            → IsKnown (file_state self.old.table.conn) }
+        ensures entries { HasTable (file_state self.old.table.conn)
+            → IsKnown (file_state self.new.table.conn) → IfOk result (λ entries.
+            ListsEntries (map (λ pair. (string_bytes pair.0, string_bytes pair.1))
+            (vec_items entries)) (sight_of (file_state self.old.table.conn)).has) }
+        ensures ok { HasTable (file_state self.old.table.conn)
+            → IsKnown (file_state self.new.table.conn) → OnOk result (Keeps
+            (sight_of (file_state self.old.table.conn))
+            (sight_of (file_state self.new.table.conn))) }
+        ensures err { HasTable (file_state self.old.table.conn)
+            → IsKnown (file_state self.new.table.conn) → OnErr result (Fails
+            (sight_of (file_state self.old.table.conn))
+            (sight_of (file_state self.new.table.conn))) }
+    {
         match self.table.entries() {
             Ok(entries) => Ok(entries),
             Err(error) => Err(fault_of(error)),
@@ -139,7 +187,7 @@ impl<'a> StoreFile<'a> {
     }
 }
 
-// All that is said of the file stands under `IsAsLeft`.
+// What is said of a file that isn't open stands under `IsAsLeft`.
 #[tactic(auto, unfolding(crate::specs::Trusted::IsAsLeft))]
 impl Source for StoreFile<'_> {
     ghost use Rattle.guard.specs.Trusted.{FileHas, IsAsLeft};
@@ -157,21 +205,22 @@ impl Source for StoreFile<'_> {
     }
 }
 
-// The same.
-#[tactic(auto, unfolding(crate::specs::Trusted::IsAsLeft))]
+// The file is open: what is said of it is what its connection shows, while the disk is clean.
 impl Store for FileTable {
     ghost use Rattle.sqlite.specs.Files.{file_state};
-    ghost use Rattle.guard_store.specs.Entry.{sight_of};
-    ghost use Rattle.guard.specs.Trusted.{IsAsLeft};
+    ghost use Rattle.guard_store.specs.Entry.{IsKnown, sight_of};
 
     ghost sight = { λ file. sight_of (file_state file.table.conn) };
 
-    ghost is_known = { λ _. IsAsLeft };
+    ghost is_known = { λ file. IsKnown (file_state file.table.conn) };
 
     type Error = StoreFault;
 
     fn keys(&mut self) -> Result<Vec<String>, StoreFault> {
-        self.table.keys().map_err(fault_of)
+        match self.table.keys() {
+            Ok(keys) => Ok(keys),
+            Err(error) => Err(fault_of(error)),
+        }
     }
 
     fn value_of(&mut self, key: &str) -> Result<Option<String>, StoreFault> {

@@ -4,7 +4,7 @@ use Rattle.std.proofs.Common.{◌≡◌, ◌+◌, ℕ, List, [], ◌∷◌, ◌+
 use Rattle.std.proofs.lemmas.List.Elements.{All-from_recursion}
 use lib.Utf8.{encode}
 use Rattle.std.specs.Prelude.{All, IsUtf8}
-use Rattle.lines.specs.Lines.{lines_of}
+use Rattle.lines.specs.Lines.{lines_by, lines_of}
 use Rattle.guard_engine.specs.declared.line.BadLine.TheVariants.{NoTab, NotText, TooLong}
 use Rattle.guard_engine.specs.Loaded.{HasEntry, IsBad, IsBadAt, IsKey}
 use Rattle.guard_engine.proofs.LoadedFacts.{line, tab, tab-none}
@@ -19,7 +19,7 @@ bytes = 1 ∷ 9 ∷ 2 ∷ 10 ∷ 1 ∷ 2 ∷ []
 
 -- their lines
 pub cut : lines_of bytes ≡ line ∷ untabbed ∷ []
-unfolding lines_of
+unfolding lines_by
 cut = refl
 
 -- both lines are text
@@ -126,7 +126,7 @@ bad-key is = (told IsKey is).1 is_key
 
 -- two lines without a tab
 two : lines_of (1 ∷ 2 ∷ 10 ∷ 1 ∷ 2 ∷ []) ≡ untabbed ∷ untabbed ∷ []
-unfolding lines_of
+unfolding lines_by
 two = refl
 
 -- of two bad lines the second isn't told

@@ -6,7 +6,7 @@ use Rattle.bloom_parts.specs.Content.{content}
 use Rattle.bloom_parts.specs.Places.{are_in}
 use Rattle.bloom_parts.specs.Sip.{sip, start, round, absorb, answer, whole_words, rest}
 use Rattle.bloom_plain.specs.Data.{DefaultFilter}
-use Rattle.lines.specs.Lines.{lines_of}
+use Rattle.lines.specs.Lines.{lines_by, lines_of}
 use Rattle.guard_engine.specs.declared.counts.Counts.{Counts}
 use Rattle.guard_engine.specs.Counted.{AreAbsent, Tallies, TalliesAll, TalliesFirst, asked_keys, more_by, spared_keys}
 use Rattle.guard_engine.specs.Guarded.{Lacks}
@@ -140,7 +140,7 @@ read = Some (1 ∷ 10 ∷ 3 ∷ 10 ∷ 2 ∷ 10 ∷ [])
 
 -- its lines
 cut : lines_of (1 ∷ 10 ∷ 3 ∷ 10 ∷ 2 ∷ 10 ∷ []) ≡ keys
-unfolding lines_of
+unfolding lines_by
 cut = refl
 
 -- all lines were looked up

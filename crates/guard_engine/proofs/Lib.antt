@@ -28,8 +28,11 @@ mod PutLinesLemmas
 mod PutNextLemmas
 mod PuttingLemmas
 mod ReadLemmas
+mod RoomFacts
+mod RoomLemmas
 mod StoppedFacts
 mod StoreCallFacts
 mod StoreFacts
 mod TallyLemmas
 mod TaskFacts
+mod ToldFacts

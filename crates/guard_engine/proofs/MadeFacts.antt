@@ -29,11 +29,11 @@ abbrev rate_of : (num den : ℕ) → 0 < num → 0 < den → Rate
 rate_of num den some some' = record { num = num; den = den; num_above = some; den_above = some' }
 
 -- the rate 3/2, which takes no halving
-abbrev above : Rate
+abbrev pub above : Rate
 above = rate_of 3 2 (lit< tt) (lit< tt)
 
 -- a rate of one or more is reached by no halving
-halvings-above : IsHalvings 3 2 0
+pub halvings-above : IsHalvings 3 2 0
 halvings-above =
     let root : IsRoot 0 4294967296 = record { at_most = lit≤ tt; greatest = lit< tt } in
     record { enough = (4294967296, root, lit≤ tt); least = λ other is. omega arith }

@@ -62,9 +62,17 @@ ready-batch is = let begun = is.begun in cc
 known : IsKnownOf (λ _. ⊤) (λ _. ⊥) shut
 known = tt
 
--- an open store isn't known by its source
-known-open : IsKnownOf (λ _. ⊤) (λ _. ⊥) opened → ⊥
-known-open is = is
+-- an open store is known by itself and its source
+known-open : IsKnownOf (λ source. source ≡ 3) (λ store. store ≡ 4) opened
+known-open = (refl, refl)
+
+-- an open store isn't known by its source alone
+known-source : IsKnownOf (λ _. ⊤) (λ _. ⊥) opened → ⊥
+known-source is = is.1
+
+-- an open store isn't known by itself alone
+known-store : IsKnownOf (λ _. ⊥) (λ _. ⊤) opened → ⊥
+known-store is = is.0
 
 -- a closed store isn't known by what an open one would say
 known-closed : IsKnownOf (λ _. ⊥) (λ _. ⊤) shut → ⊥

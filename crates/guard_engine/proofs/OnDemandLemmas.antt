@@ -46,7 +46,7 @@ pub keeps-opened : {T X : Type 0} (source_known : Type 0) (is_known : T → Type
     (sight : T → Sight) (before after : Option T) (store : T) → after ≡ Some store
     → (IsSome before → (after ≡ before) × X)
     → (IsKnownIn source_known is_known after → before ≡ None → Opens has sight after)
-    → is_known store → (sight_in has sight before).is_fit
+    → source_known × is_known store → (sight_in has sight before).is_fit
     → Keeps (sight_in has sight before) (sight store)
 keeps-opened {T = T} source_known is_known has sight None after store is again opens known fit =
     let from : IsKnownIn source_known is_known (Some store) → ◌≡◌ {A = Option T} None None

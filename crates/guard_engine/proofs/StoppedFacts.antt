@@ -1,7 +1,7 @@
 -- What a load leaves that ends, or stops: cases that hold, and near ones that don't. Byte 9 is the
 -- tab, and byte 10 ends a line.
 use Rattle.std.proofs.Common.{◌≡◌, inl, inr, ℕ, List, [], ◌∷◌, Some, length, refl, sym, ◌∙◌, ap, subst, arith}
-use Rattle.lines.specs.Lines.{lines_of}
+use Rattle.lines.specs.Lines.{lines_by, lines_of}
 use Rattle.guard_engine.specs.declared.guard.loads.Loaded.{Loaded}
 use Rattle.guard_engine.specs.Loaded.{Loads, LoadsAll, LoadsFirst}
 use Rattle.guard_engine.proofs.GainedFacts.{gains-none, gains-one}
@@ -63,7 +63,7 @@ counted added taken = record { added = added; taken = taken }
 
 -- one line, with its end
 one_line : lines_of (1 ∷ 9 ∷ 2 ∷ 10 ∷ []) ≡ line ∷ []
-unfolding lines_of
+unfolding lines_by
 one_line = refl
 
 -- the line was put, and counts as added

@@ -6,4 +6,6 @@ pub mod Guarding
 pub mod Loaded
 pub mod OnDemand
 pub mod Puts
+pub mod Room
 pub mod Stores
+pub mod Told

@@ -25,10 +25,10 @@ sight_in has sight (Some store) = sight store
 abbrev pub sight_of : {O T : Type 0} → (O → Entries) → (T → Sight) → Demand O T → Sight
 sight_of has sight demand = sight_in (has demand.source) sight demand.store
 
--- the medium is known: the open store says so, or else its source
+-- the medium is known: the source says so, and so does the store if it is open
 abbrev pub IsKnownIn : {T : Type 0} → Type 0 → (T → Type 0) → Option T → Type 0
 IsKnownIn source_known is_known None = source_known
-IsKnownIn source_known is_known (Some store) = is_known store
+IsKnownIn source_known is_known (Some store) = source_known × is_known store
 
 -- the same for a store on demand, by what its source says and what an open store says
 abbrev pub IsKnownOf : {O T : Type 0} → (O → Type 0) → (T → Type 0) → Demand O T

@@ -1,6 +1,8 @@
 //! Tasks and their answers, over any store.
-ghost use Rattle.std.specs.Prelude.{◌≡◌, ◌↔◌, Ok, IfErr, IfOk, OnErr, IsTrue};
+ghost use Rattle.std.specs.Prelude.{◌≡◌, ◌↔◌, Ok, IfErr, IfOk, OnErr, IsTrue, Some};
+ghost use Rattle.std.specs.Fmt.{WritesOnOk};
 ghost use Rattle.guard_engine.specs.Answers.{CountsTask, IsAbsence, IsAnswerTo, IsNo, IsTroubleOf, Leaves};
+ghost use Rattle.guard_engine.specs.Told.{answer_text, counts_text};
 
 use crate::counts::Counts;
 use crate::guard::{Fault, Found, Guard, Loaded, Put, Stop};
@@ -64,7 +66,10 @@ impl Answer {
     }
 }
 
-fn write_counts<W: fmt::Write>(counts: &Counts, f: &mut fmt::Formatter<W>) -> fmt::Result {
+// Writes what look-ups came to.
+fn write_counts<W: fmt::Write>(counts: &Counts, f: &mut fmt::Formatter<W>) -> fmt::Result
+    ensures { WritesOnOk W.write_str_gives f.old result (counts_text counts.now) f.new }
+{
     let Counts {
         spared,
         asked,
@@ -77,6 +82,8 @@ fn write_counts<W: fmt::Write>(counts: &Counts, f: &mut fmt::Formatter<W>) -> fm
 }
 
 impl fmt::Display for Answer {
+    ghost output = { λ answer. Some (answer_text answer) };
+
     fn fmt<W: fmt::Write>(&self, f: &mut fmt::Formatter<W>) -> fmt::Result {
         match self {
             Answer::Put(Put::Added) => f.write_str("added"),

@@ -12,6 +12,7 @@ mod line;
 mod on_demand;
 mod store;
 mod task;
+mod told;
 
 pub use commands::{Answer, Trouble, carry_out};
 pub use counts::Counts;
@@ -21,3 +22,4 @@ pub use line::{BadLine, entry_of, text_of};
 pub use on_demand::{OnDemand, Source};
 pub use store::Store;
 pub use task::Task;
+pub use told::{Subject, Told};

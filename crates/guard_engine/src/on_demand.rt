@@ -21,13 +21,12 @@ pub trait Source {
 
     /// Opens the store.
     fn open(&mut self) -> Result<Self::Store, Self::Error>
-        ensures known { IfOk result (λ store. Self.Store.is_known store → is_known self.old) }
+        ensures known { is_known self.new → is_known self.old }
         ensures ready { IfOk result (λ store. Self.Store.is_known store
             → IsReady (Self.Store.sight store)) }
-        ensures stays { IfOk result (λ store. Self.Store.is_known store
+        ensures stays { is_known self.new → IfOk result (λ store. Self.Store.is_known store
             → Stays (has self.old) (Self.Store.sight store).has) }
-        ensures err { OnErr result (Stays (has self.old) (has self.new)) }
-        ensures err_known { OnErr result (is_known self.new → is_known self.old) };
+        ensures err { OnErr result (Stays (has self.old) (has self.new)) };
 }
 
 /// A store that is opened by the first call that asks it.

@@ -1,6 +1,7 @@
 //! How a guard is opened.
-ghost use Rattle.std.specs.Prelude.{◌≡◌, ◌≢◌, Err, IfOk};
+ghost use Rattle.std.specs.Prelude.{◌≡◌, ◌≢◌, ◌↔◌, ◌<◌, ◌≤◌, ◌*◌, ◌^◌, Err, IfOk, IsTrue, count_ones, length};
 ghost use Rattle.guard_engine.specs.Guarded.{Covers, IsMadeOf, LacksFilter};
+ghost use Rattle.guard_engine.specs.Room.{HasRoom, ones_of};
 ghost use Rattle.guard_engine.specs.Stores.{IsReady, TakesBack};
 
 use super::{Guard, Refusal};
@@ -8,6 +9,7 @@ use crate::counts::Counts;
 use crate::kept::Kept;
 use crate::keys::insert_keys;
 use crate::store::Store;
+use bloom_parts::laws::size_of_rate;
 use bloom_parts::math::optimal_size;
 use bloom_plain::{BloomFilter, FilterError, Rate};
 use std::alloc::Global;
@@ -25,17 +27,44 @@ pub enum Origin<F> {
     Full,
 }
 
+// How many bits of a word are set.
+fn ones_in(word: u64) -> u64
+    ensures value { result ≡ count_ones word }
+    ensures most { result ≤ 64 }
+{
+    u64::from(word.count_ones())
+}
+
+// How many bits of some words are set.
+fn ones_of(words: &[u64]) -> u64
+    requires { length words.now < 2 ^ 58 }
+    ensures value { result ≡ ones_of words.now }
+    ensures most { result ≤ 64 * length words.now }
+{
+    let mut ones = 0;
+    'words: for word in words {
+        ones += ones_in(*word);
+    }
+    ones
+}
+
 // Whether a filter has room for this many more keys: as many bits as one made for them, of which
 // fewer than half are set.
-fn has_room(filter: &BloomFilter, rate: Rate, room: usize) -> bool {
+fn has_room(filter: &BloomFilter, rate: Rate, room: usize) -> bool
+    ensures { IsTrue result ↔ HasRoom rate room filter.now }
+{
+    size_of_rate();
+    let wide = filter.num_bits();
+    if room == 0 {
+        return true;
+    }
     let Ok(bits) = optimal_size(room, rate) else {
         return false;
     };
-    let mut set = 0u64;
-    for word in filter.as_slice() {
-        set = set.saturating_add(u64::from(word.count_ones()));
+    if bits > wide {
+        return false;
     }
-    room == 0 || (bits <= filter.num_bits() && set < filter.num_bits() as u64 / 2)
+    ones_of(filter.as_slice()) < wide as u64 / 2
 }
 
 // A filter of all keys of a store, with room for more.
@@ -100,6 +129,10 @@ impl<T: Store + Drop, K: Kept + Drop> Guard<T, K> {
         ensures taken { IfOk result (λ it. it.1 ≡ Origin.Kept → K.is_known it.0.kept
             → K.may_have kept it.0.filter) }
         ensures untouched { IfOk result (λ it. it.1 ≡ Origin.Kept → it.0.store ≡ store) }
+        // A filter that was kept is taken just where it has room, and else called full.
+        ensures roomy { IfOk result (λ it. it.1 ≡ Origin.Kept → HasRoom rate room it.0.filter) }
+        ensures full { IfOk result (λ it. it.1 ≡ Origin.Full → (filter : _)
+            × (K.is_known it.0.kept → K.may_have kept filter) × ¬ HasRoom rate room filter) }
         ensures made { IfOk result (λ it. it.1 ≢ Origin.Kept → T.is_known it.0.store
             → IsMadeOf rate room (T.sight store).has it.0.filter) }
         // Nothing is saved.

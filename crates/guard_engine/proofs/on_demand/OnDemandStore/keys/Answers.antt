@@ -11,6 +11,6 @@ pub returns-clause-keys : goal.returns-clause-keys
 returns-clause-keys g c = λ fit known.
     let opened = c.in_ok-open.ensures in
     let keeps = keeps-opened _ g.O.Store.Store.is_known _ g.O.Store.Store.sight _ _ _ c.in-Some.is
-    opened.again opened.ok (c.keys.ensures.known known) (rw (← c.self.view_is) at fit) in
+    opened.again opened.ok (known.0, c.keys.ensures.known known.1) (rw (← c.self.view_is) at fit) in
     rw (← c.self.view_is) (lists-back (λ keys. map string_bytes (vec_items keys)) keeps.has
-    c.keys.result (c.keys.ensures.keys keeps.fit known))
+    c.keys.result (c.keys.ensures.keys keeps.fit known.1))

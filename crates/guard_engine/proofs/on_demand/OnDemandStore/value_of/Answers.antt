@@ -11,6 +11,7 @@ pub returns-clause-value : goal.returns-clause-value
 returns-clause-value g c = λ fit known.
     let opened = c.in_ok-open.ensures in
     let keeps = keeps-opened _ g.O.Store.Store.is_known _ g.O.Store.Store.sight _ _ _ c.in-Some.is
-    opened.again opened.ok (c.value_of.ensures.known known) (rw (← c.self.view_is) at fit) in
+    opened.again opened.ok (known.0, c.value_of.ensures.known known.1)
+    (rw (← c.self.view_is) at fit) in
     rw (← c.self.view_is) (value-back c.args.key.now string_bytes keeps.has
-    c.value_of.result (c.value_of.ensures.value keeps.fit known))
+    c.value_of.result (c.value_of.ensures.value keeps.fit known.1))
