@@ -1,4 +1,5 @@
-/* Bloom filters over words that the caller owns: the library fastbloom_c.
+/* Bloom filters over words that the caller owns: the library fastbloom_c. For C++ there is a class
+ * over it in fastbloom.hpp.
  *
  * A filter is an array of num_words words of 64 bits, and a number of hashes from 1 to 2^32 - 1,
  * where 0 counts as 1. The caller makes the array, may map or store it, and frees it. An array of
@@ -9,9 +10,9 @@
  * nothing.
  *
  * The caller must keep these rules, which nothing checks:
- *  - words, hashes, key, head, bytes and the out parameters are not NULL, even where a length is 0.
- *    They are aligned: words, hashes and seal to 8, num_words to the alignment of size_t,
- *    num_hashes to 4;
+ *  - words, hashes, found, fresh, key, head, bytes and the out parameters are not NULL, even where
+ *    a length is 0. They are aligned: words, hashes, found, fresh, seal, low and high to 8,
+ *    num_words to the alignment of size_t, num_hashes to 4;
  *  - each pointer is to memory of the length that is given, at most 2^63 - 1 bytes. This memory
  *    stays in its place while the call runs;
  *  - memory that a call may write (a parameter that isn't const) overlaps with nothing else that
@@ -24,39 +25,73 @@
 #ifndef FASTBLOOM_H
 #define FASTBLOOM_H
 
+#ifndef __cplusplus
 #include <stdbool.h>
+#endif
 #include <stddef.h>
 #include <stdint.h>
+
+/* The version of the library. The major version is the number in the shared library's name: a
+ * release that changes or removes a call raises it. */
+#define FASTBLOOM_VERSION "0.17.0"
+#define FASTBLOOM_VERSION_MAJOR 0
+#define FASTBLOOM_VERSION_MINOR 17
+#define FASTBLOOM_VERSION_PATCH 0
+
+/* Marks a call whose answer must be looked at. It is empty where the compiler has no such mark. */
+#ifndef FASTBLOOM_MUST_USE
+#if defined(__cplusplus) && __cplusplus >= 201703L
+#define FASTBLOOM_MUST_USE [[nodiscard]]
+#elif !defined(__cplusplus) && defined(__STDC_VERSION__) && __STDC_VERSION__ >= 202311L
+#define FASTBLOOM_MUST_USE [[nodiscard]]
+#elif defined(__GNUC__)
+#define FASTBLOOM_MUST_USE __attribute__((warn_unused_result))
+#else
+#define FASTBLOOM_MUST_USE
+#endif
+#endif
 
 #ifdef __cplusplus
 extern "C" {
 #endif
 
-/* Why a plan or a file is refused. The library answers 2 to 5, 7, 9, 10 and 13. The other numbers
- * are those of the Rattle library, for programs that read files. */
-enum {
-    FASTBLOOM_EMPTY_WORDS = 2,    /* no words */
-    FASTBLOOM_TOO_MANY_WORDS = 3, /* more than 2^58 - 1 words */
-    FASTBLOOM_ZERO_RATE = 4,      /* a part of the rate is zero */
-    FASTBLOOM_SIZE_OVERFLOW = 5,  /* 2^64 bits or more */
-    FASTBLOOM_MEMORY = 6,         /* out of memory */
-    FASTBLOOM_HASH_COUNT = 7,     /* 0 hashes, or 2^32 and more */
-    FASTBLOOM_NOT_A_FILTER = 9,   /* the file doesn't begin with `fbloom` and a zero byte */
-    FASTBLOOM_VERSION = 10,       /* the version isn't `1` */
-    FASTBLOOM_CUT = 11,           /* the file ends before its last word */
-    FASTBLOOM_TOO_LONG = 12,      /* bytes follow the last word */
-    FASTBLOOM_RESERVED = 13,      /* a byte that must be zero isn't */
-    FASTBLOOM_SEAL = 14,          /* the seal is wrong: the file was changed */
-    FASTBLOOM_INPUT = 15          /* a read failed */
+/* Status codes. FASTBLOOM_OK is success, and each other number is the reason for a refusal. This
+ * library answers 2 to 5, 7, 9, 10 and 13. The other numbers are those of the Rattle library, for
+ * programs that read files. */
+enum fastbloom_status {
+    FASTBLOOM_OK = 0,
+    FASTBLOOM_ZERO_BITS = 1,        /* zero bits */
+    FASTBLOOM_EMPTY_WORDS = 2,      /* no words */
+    FASTBLOOM_TOO_MANY_WORDS = 3,   /* more than 2^58 - 1 words */
+    FASTBLOOM_ZERO_RATE = 4,        /* a part of the rate is zero */
+    FASTBLOOM_SIZE_OVERFLOW = 5,    /* 2^64 bits or more */
+    FASTBLOOM_MEMORY = 6,           /* out of memory */
+    FASTBLOOM_HASH_COUNT = 7,       /* 0 hashes, or 2^32 and more */
+    FASTBLOOM_WORKER = 8,           /* a thread couldn't be started */
+    FASTBLOOM_NOT_A_FILTER = 9,     /* the file doesn't begin with `fbloom` and a zero byte */
+    FASTBLOOM_UNKNOWN_VERSION = 10, /* the version of the file isn't `1` */
+    FASTBLOOM_CUT = 11,             /* the file ends before its last word */
+    FASTBLOOM_TOO_LONG = 12,        /* bytes follow the last word */
+    FASTBLOOM_RESERVED = 13,        /* a byte that must be zero isn't */
+    FASTBLOOM_SEAL = 14,            /* the seal is wrong: the file was changed */
+    FASTBLOOM_INPUT = 15            /* a read failed */
 };
 
 /* The numbers of words and of hashes for this many items, where 0 counts as 1, at the rate
- * num / den of false positives. It answers 0, or why it is refused. A refusal writes neither. */
-uint8_t fastbloom_plan(uint64_t num, uint64_t den, size_t items, size_t *num_words,
-                       uint32_t *num_hashes);
+ * num / den of false positives. It answers FASTBLOOM_OK; or FASTBLOOM_ZERO_RATE,
+ * FASTBLOOM_SIZE_OVERFLOW or FASTBLOOM_TOO_MANY_WORDS, and then both numbers are 0, so that a
+ * caller who doesn't look has no words, which are no filter. */
+FASTBLOOM_MUST_USE uint8_t fastbloom_plan(uint64_t num, uint64_t den, size_t items,
+                                          size_t *num_words, uint32_t *num_hashes);
 
 /* 64 * num_words, or 0 where num_words is more than 2^58 - 1. */
 size_t fastbloom_num_bits(size_t num_words);
+
+/* Two bounds of the rate of false positives to expect once this many items are in the filter, as
+ * fractions of 2^63. It answers FASTBLOOM_OK; or FASTBLOOM_EMPTY_WORDS or FASTBLOOM_TOO_MANY_WORDS,
+ * and then the bounds are 0 and 2^63. */
+FASTBLOOM_MUST_USE uint8_t fastbloom_expected_rate(size_t num_words, uint32_t num_hashes,
+                                                   size_t items, uint64_t *low, uint64_t *high);
 
 /* SipHash-1-3 of exactly these bytes under the key. The key's first eight bytes are the
  * little-endian word k0. The item `Text` of the Rattle library has the same hash. */
@@ -75,6 +110,23 @@ bool fastbloom_insert_hashes(uint64_t *words, size_t num_words, uint32_t num_has
 bool fastbloom_contains_hash(const uint64_t *words, size_t num_words, uint32_t num_hashes,
                              uint64_t hash);
 
+/* Many hashes at once, with a bit for each in words that the caller owns: bit i % 64, from the
+ * lowest one, of word i / 64 is that of hashes[i]. Both answer true. Where there are no words, or
+ * more hashes than bits, they answer false and change nothing. Otherwise each bit past the hashes
+ * goes off.
+ *
+ * The first looks them up: a bit is on where all positions of its hash are on. The second inserts
+ * them, one after the other: a bit is on where not all positions of its hash were on just before
+ * its insert. So a hash that comes twice is new once at most. */
+FASTBLOOM_MUST_USE bool fastbloom_contains_hashes(const uint64_t *words, size_t num_words,
+                                                  uint32_t num_hashes, const uint64_t *hashes,
+                                                  size_t count, uint64_t *found,
+                                                  size_t num_found);
+FASTBLOOM_MUST_USE bool fastbloom_insert_hashes_tell_new(uint64_t *words, size_t num_words,
+                                                         uint32_t num_hashes,
+                                                         const uint64_t *hashes, size_t count,
+                                                         uint64_t *fresh, size_t num_fresh);
+
 /* fastbloom_insert_hash and fastbloom_contains_hash at the hash of the bytes. */
 bool fastbloom_insert(uint64_t *words, size_t num_words, uint32_t num_hashes,
                       const uint8_t key[16], const uint8_t *bytes, size_t len);
@@ -88,13 +140,17 @@ bool fastbloom_clear(uint64_t *words, size_t num_words);
  * every position that is off in it. Both answer true. Where the numbers of words differ, they
  * answer false and change nothing. The caller sees to it that the numbers of hashes are equal, and
  * the keys: otherwise the words are those of no filter. */
-bool fastbloom_union(uint64_t *words, size_t num_words, const uint64_t *other, size_t num_other);
-bool fastbloom_intersect(uint64_t *words, size_t num_words, const uint64_t *other,
-                         size_t num_other);
+FASTBLOOM_MUST_USE bool fastbloom_union(uint64_t *words, size_t num_words, const uint64_t *other,
+                                        size_t num_other);
+FASTBLOOM_MUST_USE bool fastbloom_intersect(uint64_t *words, size_t num_words,
+                                            const uint64_t *other, size_t num_other);
 
 /* Whether both filters have as many words, and equal ones. */
 bool fastbloom_equal(const uint64_t *words, size_t num_words, const uint64_t *other,
                      size_t num_other);
+
+/* The number of positions that are on, or 0 where num_words is more than 2^58 - 1. */
+size_t fastbloom_count_ones(const uint64_t *words, size_t num_words);
 
 /* A file is a head of 64 bytes and then the words. All numbers in it are little-endian. */
 
@@ -103,18 +159,24 @@ bool fastbloom_equal(const uint64_t *words, size_t num_words, const uint64_t *ot
 uint64_t fastbloom_seal(const uint64_t *words, size_t num_words, uint32_t num_hashes,
                         const uint8_t key[16]);
 
-/* Writes the head of a file with this seal, where 0 stands for a file without one. It answers 0; or
- * FASTBLOOM_EMPTY_WORDS or FASTBLOOM_TOO_MANY_WORDS, and then it writes nothing. */
-uint8_t fastbloom_head_write(size_t num_words, uint32_t num_hashes, const uint8_t key[16],
-                             uint64_t seal, uint8_t head[64]);
+/* Writes the head of a file with this seal, where 0 stands for a file without one. It answers
+ * FASTBLOOM_OK; or FASTBLOOM_EMPTY_WORDS or FASTBLOOM_TOO_MANY_WORDS, and then it writes
+ * nothing. */
+FASTBLOOM_MUST_USE uint8_t fastbloom_head_write(size_t num_words, uint32_t num_hashes,
+                                                const uint8_t key[16], uint64_t seal,
+                                                uint8_t head[64]);
 
-/* Reads the head of a file, and answers 0; or the first reason for which these bytes are no head:
- * FASTBLOOM_NOT_A_FILTER, FASTBLOOM_VERSION, FASTBLOOM_HASH_COUNT, FASTBLOOM_EMPTY_WORDS,
- * FASTBLOOM_TOO_MANY_WORDS or FASTBLOOM_RESERVED. Then it writes nothing. The size of the file and
- * the seal are the caller's to compare: the file has 64 + 8 * num_words bytes, and the seal is 0 or
- * that of `fastbloom_seal`. */
-uint8_t fastbloom_head_read(const uint8_t head[64], size_t *num_words, uint32_t *num_hashes,
-                            uint8_t key[16], uint64_t *seal);
+/* Reads the head of a file, and answers FASTBLOOM_OK; or the first reason for which these bytes are
+ * no head: FASTBLOOM_NOT_A_FILTER, FASTBLOOM_UNKNOWN_VERSION, FASTBLOOM_HASH_COUNT,
+ * FASTBLOOM_EMPTY_WORDS, FASTBLOOM_TOO_MANY_WORDS or FASTBLOOM_RESERVED. Then it writes nothing.
+ *
+ * The size of the file and the seal are the caller's to compare: the file has 64 + 8 * num_words
+ * bytes, and the seal is 0 or that of `fastbloom_seal`. Each call on a filter takes as many steps
+ * as it has hashes, and a file may say 2^32 - 1 of them. So set a limit for files that others
+ * made. */
+FASTBLOOM_MUST_USE uint8_t fastbloom_head_read(const uint8_t head[64], size_t *num_words,
+                                               uint32_t *num_hashes, uint8_t key[16],
+                                               uint64_t *seal);
 
 #ifdef __cplusplus
 }

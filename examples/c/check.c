@@ -31,20 +31,38 @@ static uint64_t *zero_words(size_t num_words) {
     return words;
 }
 
-/* Sizes and refusals. A refusal writes neither number. */
+/* Sizes and refusals. A refusal sets both numbers to 0. */
 static void plans(void) {
-    size_t words = 7;
-    uint32_t hashes = 9;
-    CHECK(fastbloom_plan(0, 1, 10, &words, &hashes) == FASTBLOOM_ZERO_RATE);
-    CHECK(fastbloom_plan(1, 0, 10, &words, &hashes) == FASTBLOOM_ZERO_RATE);
-    CHECK(fastbloom_plan(1, 2, 12786308645202655227u, &words, &hashes) == FASTBLOOM_SIZE_OVERFLOW);
-    CHECK(fastbloom_plan(1, 2, 12786308645202655226u, &words, &hashes) == FASTBLOOM_TOO_MANY_WORDS);
-    CHECK(words == 7 && hashes == 9);
+    static const struct {
+        uint64_t num, den;
+        size_t items;
+        uint8_t code;
+    } rows[] = {{0, 1, 10, FASTBLOOM_ZERO_RATE},
+                {1, 0, 10, FASTBLOOM_ZERO_RATE},
+                {1, 2, 12786308645202655227u, FASTBLOOM_SIZE_OVERFLOW},
+                {1, 2, 12786308645202655226u, FASTBLOOM_TOO_MANY_WORDS}};
+    size_t words;
+    uint32_t hashes;
+    for (size_t i = 0; i < sizeof rows / sizeof *rows; i++) {
+        words = 7, hashes = 9;
+        CHECK(fastbloom_plan(rows[i].num, rows[i].den, rows[i].items, &words, &hashes) ==
+              rows[i].code);
+        CHECK(words == 0 && hashes == 0);
+    }
     CHECK(fastbloom_plan(1, 2, 1000, &words, &hashes) == 0 && words == 23);
     CHECK(fastbloom_plan(3, 2, 1000, &words, &hashes) == 0 && words == 1 && hashes == 1);
     CHECK(fastbloom_plan(3, 2, 0, &words, &hashes) == 0 && words == 1 && hashes == 44);
     CHECK(fastbloom_num_bits(0) == 0 && fastbloom_num_bits(225) == 14400);
     CHECK(fastbloom_num_bits(((size_t)1 << 58) - 1) == SIZE_MAX - 63);
+    uint64_t low, high;
+    CHECK(fastbloom_expected_rate(0, 7, 1, &low, &high) == FASTBLOOM_EMPTY_WORDS);
+    CHECK(low == 0 && high == (uint64_t)1 << 63);
+    CHECK(fastbloom_expected_rate(1, 0, 0, &low, &high) == 0 && low == 0 && high == 0);
+    CHECK(fastbloom_expected_rate((size_t)1 << 58, 7, 1, &low, &high) == FASTBLOOM_TOO_MANY_WORDS);
+    CHECK(low == 0 && high == (uint64_t)1 << 63);
+    /* One of 64 bits is on: one hash of 64. */
+    CHECK(fastbloom_expected_rate(1, 1, 1, &low, &high) == 0 && low == high);
+    CHECK(low == (uint64_t)1 << 57);
     CHECK(fastbloom_num_bits((size_t)1 << 58) == 0 && fastbloom_num_bits(SIZE_MAX) == 0);
 }
 
@@ -206,6 +224,55 @@ static void items(void) {
     free(words);
 }
 
+/* Bits for many hashes, and a count, against the calls by one hash, at each number of hashes up to
+ * 130 that are drawn from 64, so that some come twice. */
+static void many(size_t num_words) {
+    uint64_t state = num_words, hashes[130], bits[4], *words = zero_words(num_words);
+    uint64_t *one_by_one = zero_words(num_words);
+    for (size_t count = 0; count <= 130; count++) {
+        bool seen[130];
+        for (size_t i = 0; i < count; i++) {
+            hashes[i] = (drawn(&state) >> 58) * 0x9e3779b97f4a7c15u;
+            seen[i] = fastbloom_contains_hash(words, num_words, 3, hashes[i]);
+        }
+        size_t room = (count + 63) / 64;
+        memset(bits, 0xa5, sizeof bits);
+        CHECK(fastbloom_contains_hashes(words, num_words, 3, hashes, count, bits, room + 1));
+        for (size_t i = 0; i < 64 * (room + 1); i++)
+            CHECK((bits[i / 64] >> i % 64 & 1) == (i < count && seen[i]));
+        memset(bits, 0xa5, sizeof bits);
+        CHECK(fastbloom_insert_hashes_tell_new(words, num_words, 3, hashes, count, bits, room));
+        for (size_t i = 0; i < 64 * room; i++) {
+            bool fresh =
+                i < count && !fastbloom_insert_hash(one_by_one, num_words, 3, hashes[i]);
+            CHECK((bits[i / 64] >> i % 64 & 1) == fresh);
+        }
+        CHECK(bits[room] == 0xa5a5a5a5a5a5a5a5u);
+        CHECK(fastbloom_equal(words, num_words, one_by_one, num_words));
+        if (count % 13 != 12) continue;
+        CHECK(fastbloom_clear(words, num_words) && fastbloom_clear(one_by_one, num_words));
+    }
+    /* Too few bits, and no words, change nothing. */
+    memset(bits, 0xa5, sizeof bits);
+    CHECK(!fastbloom_contains_hashes(words, num_words, 3, hashes, 129, bits, 2));
+    CHECK(!fastbloom_insert_hashes_tell_new(words, num_words, 3, hashes, 129, bits, 2));
+    CHECK(!fastbloom_contains_hashes(words, 0, 3, hashes, 1, bits, 2));
+    CHECK(!fastbloom_insert_hashes_tell_new(words, 0, 3, hashes, 1, bits, 2));
+    for (size_t i = 0; i < 4; i++) CHECK(bits[i] == 0xa5a5a5a5a5a5a5a5u);
+    CHECK(fastbloom_equal(words, num_words, one_by_one, num_words));
+    free(words);
+    free(one_by_one);
+}
+
+/* How many positions are on. */
+static void counts(void) {
+    uint64_t words[3] = {0, 0, 0};
+    CHECK(fastbloom_count_ones(words, 3) == 0 && fastbloom_count_ones(words, 0) == 0);
+    words[0] = 1, words[1] = UINT64_MAX, words[2] = (uint64_t)1 << 63;
+    CHECK(fastbloom_count_ones(words, 3) == 66 && fastbloom_count_ones(words, 1) == 1);
+    CHECK(fastbloom_count_ones(words, (size_t)1 << 58) == 0);
+}
+
 /* The file in lines of hexadecimal digits: one word and three hashes, of `crab` and `lobster`,
  * under the key bytes 0 to 15. */
 static void read_hex(const char *path, uint8_t bytes[72]) {
@@ -222,12 +289,12 @@ static void heads(const uint8_t file[72]) {
         size_t place;
         uint8_t byte, code;
     } rows[] = {
-        {0, 'F', FASTBLOOM_NOT_A_FILTER},  {6, 1, FASTBLOOM_NOT_A_FILTER},
-        {7, '2', FASTBLOOM_VERSION},       {8, 0, FASTBLOOM_HASH_COUNT},
-        {12, 1, FASTBLOOM_HASH_COUNT},     {16, 0, FASTBLOOM_EMPTY_WORDS},
-        {23, 4, FASTBLOOM_TOO_MANY_WORDS}, {48, 1, FASTBLOOM_RESERVED},
-        {63, 128, FASTBLOOM_RESERVED},     {23, 3, 0},
-        {24, 9, 0},                        {47, 0, 0}};
+        {0, 'F', FASTBLOOM_NOT_A_FILTER},    {6, 1, FASTBLOOM_NOT_A_FILTER},
+        {7, '2', FASTBLOOM_UNKNOWN_VERSION}, {8, 0, FASTBLOOM_HASH_COUNT},
+        {12, 1, FASTBLOOM_HASH_COUNT},       {16, 0, FASTBLOOM_EMPTY_WORDS},
+        {23, 4, FASTBLOOM_TOO_MANY_WORDS},   {48, 1, FASTBLOOM_RESERVED},
+        {63, 128, FASTBLOOM_RESERVED},       {23, 3, 0},
+        {24, 9, 0},                          {47, 0, 0}};
     for (size_t i = 0; i < sizeof rows / sizeof *rows; i++) {
         uint8_t head[64], key[16] = {42};
         size_t num_words = 7;
@@ -282,6 +349,9 @@ int main(int argc, char **argv) {
     whole();
     refused();
     items();
+    many(5);
+    many((size_t)1 << 19);
+    counts();
     file(argv[2], argv[3]);
     printf("checks %u\n", checks);
     return 0;

@@ -1,2 +1,4 @@
 pub mod Files
+pub mod Many
 pub mod Plans
+pub mod Rates

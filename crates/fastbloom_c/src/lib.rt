@@ -7,6 +7,8 @@
 
 pub mod files;
 pub mod hashes;
+pub mod many;
 pub mod plans;
+pub mod rates;
 pub mod texts;
 pub mod whole;

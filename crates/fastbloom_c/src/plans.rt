@@ -28,7 +28,7 @@ fn numbers(num: u64, den: u64, items: usize) -> Result<(usize, u32), FilterError
 /// `num / den` of false positives.
 ///
 /// It answers 0, or the number of a refusal: 4 for a zero part of the rate, 5 for 2^64 bits or
-/// more, 3 for more than 2^58 - 1 words. A refusal changes neither number.
+/// more, 3 for more than 2^58 - 1 words. A refusal sets both numbers to 0.
 #[unsafe(no_mangle)]
 pub extern "C" fn fastbloom_plan(
     num: u64,
@@ -43,9 +43,9 @@ pub extern "C" fn fastbloom_plan(
         → num_hashes.new ≡ hashes_for (64 * num_words.new) (max 1 items) }
     // Only one number of bits is the size, so the answer is decided.
     ensures code { IsCodeFor num den items result }
-    // A refusal changes neither number.
-    ensures words_stay { 0 < result → num_words.new ≡ num_words.old }
-    ensures hashes_stay { 0 < result → num_hashes.new ≡ num_hashes.old }
+    // A refusal sets both numbers to 0, the size of no filter.
+    ensures words_zero { 0 < result → num_words.new ≡ 0 }
+    ensures hashes_zero { 0 < result → num_hashes.new ≡ 0 }
 {
     match numbers(num, den, items) {
         Ok((words, hashes)) => {
@@ -53,7 +53,11 @@ pub extern "C" fn fastbloom_plan(
             *num_hashes = hashes;
             0
         }
-        Err(error) => error.code(),
+        Err(error) => {
+            *num_words = 0;
+            *num_hashes = 0;
+            error.code()
+        }
     }
 }
 

@@ -1,7 +1,9 @@
 //! Calls on all of a filter, or on two of them.
-ghost use Rattle.std.specs.Prelude.{◌≡◌, ◌↔◌, ℕ, ◌≤◌, ◌||◌, ◌&&◌, false, IsTrue, length};
+ghost use Rattle.std.specs.Prelude.{◌≡◌, ◌↔◌, ℕ, ◌*◌, ◌^◌, ◌<◌, ◌≤◌, ◌||◌, ◌&&◌, false, IsTrue, length};
 ghost use Rattle.bloom_parts.specs.Content.{content};
+ghost use Rattle.fastbloom_c.specs.Many.{count_on};
 
+use bloom_parts::bit_vector::MAX_WORDS;
 use bloom_parts::slices;
 
 /// Turns every position off, and answers whether there are words.
@@ -62,4 +64,21 @@ pub extern "C" fn fastbloom_equal(words: &[u64], other: &[u64]) -> bool
         return false;
     }
     slices::are_equal(words, other)
+}
+
+/// The number of positions that are on, or 0 for more than 2^58 - 1 words.
+#[unsafe(no_mangle)]
+pub extern "C" fn fastbloom_count_ones(words: &[u64]) -> usize
+    ensures value { length words.now < 2 ^ 58
+        → result ≡ count_on (content words.now) (64 * length words.now) }
+    ensures none { 2 ^ 58 ≤ length words.now → result ≡ 0 }
+{
+    if words.len() > MAX_WORDS {
+        return 0;
+    }
+    let mut count: usize = 0;
+    'words: for word in words {
+        count += word.count_ones() as usize;
+    }
+    count
 }

@@ -1,0 +1,69 @@
+-- The positions of a word are counted by its digits.
+use Rattle.std.proofs.Common.{◌≡◌, ◌<◌, ◌≤◌, ◌+◌, ◌*◌, ◌%◌, ◌^◌, ℕ, Bool, true, false, zero, suc, eqb, if◌then◌else◌, List, get_or, count_ones, ◌∙◌, ap, arith}
+use Rattle.std.specs.Int.{bit_at}
+use Rattle.std.specs.Int.Count.{ones_cat, ones_step}
+use Rattle.std.proofs.lemmas.Nat.{mod-pow-add, pow_pos, ones_le_self}
+use Rattle.std.proofs.lemmas.Nat.Bits.{bit_at-lt}
+use Rattle.std.proofs.Math.Nat.{mod-lt, mod-eq_of_lt}
+use Rattle.bloom_parts.specs.Content.{content}
+use Rattle.bloom_parts.proofs.PublishedLemmas.{content-at}
+use Rattle.fastbloom_c.specs.Many.{count_on}
+
+-- no more positions are on than there are
+pub count-most : (A : ℕ → Bool) (n : ℕ) → count_on A n ≤ n
+unfolding count_on
+count-most A zero = omega arith
+count-most A (suc n) = elim (A n) as (λ b. count_on A n + (if b then 1 else 0) ≤ suc n) [
+  | true ↦ omega (arith, count-most A n)
+  | false ↦ omega (arith, count-most A n)
+]
+
+-- zero has no digit
+ones-zero : count_ones 0 ≡ 0
+ones-zero = omega (arith, ones_le_self 0)
+
+-- a digit counts as itself
+ones-digit : (d : ℕ) → d < 2 → count_ones d ≡ (if eqb d 1 then 1 else 0)
+ones-digit zero below = ones-zero
+ones-digit (suc zero) below = omega (arith, ones_step 1, ones-zero)
+ones-digit (suc (suc d)) below = absurd (omega arith)
+
+-- the digits below one more place
+ones-next : (w j : ℕ)
+    → count_ones (w % 2 ^ suc j) ≡ (if eqb (bit_at w j) 1 then 1 else 0) + count_ones (w % 2 ^ j)
+ones-next w j =
+    let next : suc j ≡ 1 + j = omega arith in
+    ap (λ k. count_ones (w % 2 ^ k)) next
+    ∙ ap count_ones (mod-pow-add w 1 j)
+    ∙ ones_cat j (bit_at w j) (w % 2 ^ j) (mod-lt w (pow_pos j))
+    ∙ ap (λ n. n + count_ones (w % 2 ^ j)) (ones-digit (bit_at w j) (bit_at-lt w j))
+
+-- no digits are on
+ones-none : (w : ℕ) → count_ones (w % 2 ^ 0) ≡ 0
+ones-none w = let none : w % 1 ≡ 0 = omega arith in ap count_ones none ∙ ones-zero
+
+-- the first positions of a word, and those before it
+count-part : (words : List ℕ) (i j : ℕ) → j ≤ 64 → count_on (content words) (64 * i + j)
+    ≡ count_on (content words) (64 * i) + count_ones (get_or words i 0 % 2 ^ j)
+unfolding count_on
+count-part words i zero within =
+    let none : 64 * i + 0 ≡ 64 * i = omega arith in
+    ap (count_on (content words)) none ∙ omega (arith, ones-none (get_or words i 0))
+count-part words i (suc j) within =
+    let before = count-part words i j (omega (arith, within)) in
+    let next = ones-next (get_or words i 0) j in
+    let more : 64 * i + suc j ≡ suc (64 * i + j) = omega arith in
+    ap (count_on (content words)) more
+    ∙ ap (λ b. count_on (content words) (64 * i + j) + (if b then 1 else 0))
+    (content-at words i j (omega (arith, within)))
+    ∙ omega (arith, before, next)
+
+-- the positions of a word, and those before it
+pub count-word : (words : List ℕ) (i : ℕ) → get_or words i 0 < 2 ^ 64
+    → count_on (content words) (64 * (i + 1))
+    ≡ count_on (content words) (64 * i) + count_ones (get_or words i 0)
+count-word words i fits =
+    let next : 64 * (i + 1) ≡ 64 * i + 64 = omega arith in
+    ap (count_on (content words)) next
+    ∙ count-part words i 64 (omega arith)
+    ∙ ap (λ n. count_on (content words) (64 * i) + count_ones n) (mod-eq_of_lt fits)

@@ -1,0 +1,18 @@
+use Rattle.std.proofs.Common.{◌≡◌, ◌*◌, ◌&&◌, ℕ, not, length, nat_lt, slice_index}
+use Rattle.bloom_parts.specs.Content.{content}
+use Rattle.bloom_parts.specs.Places.{are_in}
+use Rattle.fastbloom_c.specs.Many.{after_first}
+use Rattle.fastbloom_c.proofs.many.insert_each_telling.Given as goal
+
+-- the hashes so far were inserted, their bits tell which were new, and no other is on
+abbrev pub invariant-hashes : goal.invariant-hashes
+invariant-hashes l = record {
+  bits : (p : ℕ) → content l.fresh p ≡ (nat_lt p l.hash-index && not
+      (are_in (64 * length l.fn.words) l.fn.num_hashes (slice_index l.hashes p)
+      (after_first (64 * length l.fn.words) l.fn.num_hashes (content l.fn.words) l.hashes p)));
+  content : (p : ℕ) → content l.words p ≡ after_first (64 * length l.fn.words) l.fn.num_hashes
+      (content l.fn.words) l.hashes l.hash-index p;
+  words_shape : length l.words ≡ length l.fn.words;
+  shape : length l.fresh ≡ length l.fn.fresh;
+  at : l.i ≡ l.hash-index;
+}

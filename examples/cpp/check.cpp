@@ -1,0 +1,197 @@
+// Calls the class of C++, and prints the lines of the other languages' checks.
+//
+// `check HEX FOLDER [FILE..]` leaves the file of the items in FOLDER/cpp.bloom. HEX is the file in
+// hexadecimal digits. Each FILE is to be one of the items too. One in a folder `refused` is to be
+// refused by the number with which its name begins.
+#include "fastbloom.hpp"
+
+#include <cstdio>
+#include <cstdlib>
+#include <string>
+#include <type_traits>
+#include <utility>
+#include <vector>
+
+using fastbloom::filter;
+using fastbloom::status;
+
+static void check(bool holds, int line, const char *text) {
+    if (holds) return;
+    std::fprintf(stderr, "check: line %d: %s\n", line, text);
+    std::exit(1);
+}
+
+#define CHECK(x) check((x), __LINE__, #x)
+
+static_assert(!std::is_copy_constructible_v<filter> && !std::is_copy_assignable_v<filter>);
+static_assert(std::is_nothrow_move_constructible_v<filter>);
+static_assert(std::is_nothrow_move_assignable_v<filter>);
+
+static fastbloom::key_bytes counting_key() {
+    fastbloom::key_bytes key{};
+    for (std::size_t i = 0; i < key.size(); i++) key[i] = static_cast<std::uint8_t>(i);
+    return key;
+}
+
+static std::string item(int number) { return "item" + std::to_string(number); }
+
+static filter empty(const fastbloom::key_bytes &key = {}) {
+    auto made = filter::make(1, 1000, 1000, key);
+    CHECK(static_cast<bool>(made) && made.status() == status::ok);
+    return *std::move(made);
+}
+
+// The filter that each language builds; what it answers is printed.
+static filter items() {
+    filter seen = empty(), at_once = empty();
+    std::vector<std::uint64_t> hashes;
+    for (int i = 0; i < 1000; i++) {
+        seen.insert(item(i));
+        hashes.push_back(seen.hash(item(i)));
+        CHECK(seen.contains(item(i)) && seen.contains_hash(hashes.back()));
+        CHECK(seen.insert_hash(hashes.back()) && seen.insert(item(i).data(), item(i).size()));
+    }
+    at_once.insert_hashes(hashes.data(), hashes.size());
+    CHECK(at_once == seen);
+    unsigned wrong = 0;
+    for (int i = 1000; i < 101000; i++) wrong += seen.contains(item(i));
+    std::uint64_t digest = 1469598103934665603u;
+    for (std::size_t i = 0; i < seen.num_words(); i++) {
+        digest = (digest ^ seen.data()[i]) * 1099511628211u;
+    }
+    const filter keyed = empty(counting_key());
+    std::printf("words %zu hashes %u\n", seen.num_words(), unsigned{seen.num_hashes()});
+    std::printf("hash %016llx\n", static_cast<unsigned long long>(keyed.hash(
+                                      counting_key().data(), counting_key().size() - 1)));
+    std::printf("digest %016llx\n", static_cast<unsigned long long>(digest));
+    std::printf("false %u of 100000\n", wrong);
+    return seen;
+}
+
+static void sets(const filter &seen) {
+    filter odd = empty(), even = empty(), other = empty(counting_key());
+    for (int i = 0; i < 1000; i++) (i % 2 == 1 ? odd : even).insert(item(i));
+    CHECK(odd != even && even.unite(odd) && even == seen && even.unite(even) && even == seen);
+    CHECK(even.intersect(odd) && even == odd && even.intersect(even) && even == odd);
+    CHECK(!other.unite(odd) && !other.intersect(odd) && other != empty() && !even.unite(other));
+    even.clear();
+    CHECK(even == empty() && !even.contains("item1"));
+}
+
+// Moves, clones, and filters with no words.
+static void owners(const filter &seen) {
+    auto cloned = seen.clone();
+    CHECK(cloned && *cloned == seen && cloned->data() != seen.data());
+    filter moved = *std::move(cloned);
+    const std::uint64_t *words = moved.data();
+    filter last = std::move(moved);
+    CHECK(last == seen && last.data() == words);
+    filter none, &gone = moved; // what was moved from has no words
+    for (filter *bare : {&none, &gone}) {
+        CHECK(bare->num_words() == 0 && bare->num_bits() == 0 && *bare == filter{});
+        CHECK(!bare->insert("crab") && !bare->contains("crab") && !bare->insert_hash(1));
+        CHECK(!bare->unite(*bare) && !bare->unite(seen) && !bare->intersect(none));
+        CHECK(!bare->clone() && bare->head().status() == status::empty_words);
+        bare->insert_hashes(words, 1);
+        bare->clear();
+    }
+    filter &same = last;
+    last = std::move(same);
+    CHECK(last == seen);
+    gone = std::move(last);
+    CHECK(gone == seen && last == none);
+    // No bytes are an item, wherever they lie.
+    CHECK(!gone.contains(std::string_view{}) && !gone.insert(nullptr, 0) && gone.insert(""));
+    gone.insert_hashes(nullptr, 0);
+}
+
+static void spans() {
+#ifdef __cpp_lib_span
+    filter seen = empty(), at_once = empty();
+    const std::vector<std::byte> crab{std::byte{'c'}, std::byte{'r'}, std::byte{'a'},
+                                      std::byte{'b'}};
+    CHECK(!seen.insert(crab) && seen.contains(crab) && seen.contains("crab"));
+    CHECK(seen.hash(crab) == seen.hash("crab") && seen.words().size() == seen.num_words());
+    at_once.insert_hashes(std::vector{seen.hash(crab)});
+    CHECK(at_once == seen);
+#endif
+}
+
+static void refused() {
+    CHECK(filter::make(1, 0, 10).status() == status::zero_rate);
+    CHECK(filter::make(1, 2, 12786308645202655226u).status() == status::too_many_words);
+    CHECK(filter::make(1, 2, 12786308645202655227u).status() == status::size_overflow);
+    CHECK(filter::with_shape(0, 3).status() == status::empty_words);
+    CHECK(filter::with_shape(std::size_t{1} << 58, 3).status() == status::too_many_words);
+    CHECK(filter::with_shape((std::size_t{1} << 58) - 1, 3).status() == status::memory);
+    CHECK(std::string{fastbloom::reason(status::zero_rate)} == "rate with a zero part");
+    CHECK(filter::from_bytes(nullptr, 0).status() == status::not_a_filter);
+}
+
+static std::vector<char> bytes_of(const filter &seen, bool sealed = true) {
+    const auto head = seen.head(sealed);
+    CHECK(static_cast<bool>(head));
+    std::vector<char> bytes(head->begin(), head->end());
+    const char *words = reinterpret_cast<const char *>(seen.data());
+    bytes.insert(bytes.end(), words, words + 8 * seen.num_words());
+    return bytes;
+}
+
+// The file in hexadecimal digits is written and read.
+static void worked(const char *path) {
+    std::vector<char> wanted;
+    std::FILE *file = std::fopen(path, "r");
+    CHECK(file != nullptr);
+    for (unsigned byte; std::fscanf(file, "%2x", &byte) == 1;) {
+        wanted.push_back(static_cast<char>(byte));
+    }
+    std::fclose(file);
+    auto made = filter::with_shape(1, 3, counting_key());
+    CHECK(made && !made->insert("crab") && !made->insert("lobster"));
+    CHECK(wanted.size() == 72 && bytes_of(*made) == wanted);
+    const auto read = filter::from_bytes(wanted.data(), wanted.size());
+    CHECK(read && *read == *made && read->key() == counting_key());
+}
+
+// A file with more hashes than are allowed.
+static void limits() {
+    const auto made = filter::with_shape(1, 65);
+    CHECK(static_cast<bool>(made));
+    for (const bool sealed : {true, false}) {
+        const std::vector<char> bytes = bytes_of(*made, sealed);
+        const auto read = filter::from_bytes(bytes.data(), bytes.size(), 65);
+        CHECK(read && *read == *made);
+        CHECK(filter::from_bytes(bytes.data(), bytes.size()).status() == status::too_many_hashes);
+    }
+}
+
+static void read_file(const std::string &path, const filter &seen) {
+    std::vector<char> bytes;
+    std::FILE *file = std::fopen(path.c_str(), "rb");
+    CHECK(file != nullptr);
+    for (int byte; (byte = std::fgetc(file)) != EOF;) bytes.push_back(static_cast<char>(byte));
+    std::fclose(file);
+    const std::size_t at = path.find("refused/");
+    const int wanted = at == std::string::npos ? 0 : std::atoi(path.c_str() + at + 8);
+    const auto read = filter::from_bytes(bytes.data(), bytes.size());
+    if (static_cast<int>(read.status()) == wanted && (wanted != 0 || *read == seen)) return;
+    std::fprintf(stderr, "check: %s: %s\n", path.c_str(), fastbloom::reason(read.status()));
+    std::exit(1);
+}
+
+int main(int argc, char **argv) {
+    if (argc < 3) return 2;
+    const filter seen = items();
+    sets(seen);
+    owners(seen);
+    spans();
+    refused();
+    limits();
+    worked(argv[1]);
+    const std::vector<char> bytes = bytes_of(seen);
+    std::FILE *file = std::fopen((std::string{argv[2]} + "/cpp.bloom").c_str(), "wb");
+    CHECK(file != nullptr && std::fwrite(bytes.data(), bytes.size(), 1, file) == 1);
+    CHECK(std::fclose(file) == 0);
+    for (int i = 3; i < argc; i++) read_file(argv[i], seen);
+    return 0;
+}

@@ -1,0 +1,318 @@
+// Bloom filters for C++17 and later, over the library fastbloom_c.
+//
+//     auto made = fastbloom::filter::make(1, 1000, 1'000'000);
+//     if (!made) std::puts(fastbloom::reason(made.status())), std::exit(1);
+//     fastbloom::filter &seen = *made;
+//     seen.insert("crab");   // false: it is new
+//     seen.contains("crab"); // true
+//
+// A filter owns its words. It moves, and it is copied by `clone` alone. Nothing here throws: a call
+// that can fail answers a `result`, or a bool. A filter that was moved from, or made by default,
+// has no words: it contains nothing, and an insert changes nothing.
+//
+// Threads may read one filter at once. While a thread changes it, no other touches it.
+#ifndef FASTBLOOM_HPP
+#define FASTBLOOM_HPP
+
+#include "fastbloom.h"
+
+#include <array>
+#include <cstddef>
+#include <cstdint>
+#include <cstdlib>
+#include <cstring>
+#include <optional>
+#include <string_view>
+#include <utility>
+#if __has_include(<span>)
+#include <span>
+#endif
+
+namespace fastbloom {
+
+// Success, or why something is refused.
+enum class status : std::uint8_t {
+    ok = FASTBLOOM_OK,
+    empty_words = FASTBLOOM_EMPTY_WORDS,
+    too_many_words = FASTBLOOM_TOO_MANY_WORDS,
+    zero_rate = FASTBLOOM_ZERO_RATE,
+    size_overflow = FASTBLOOM_SIZE_OVERFLOW,
+    memory = FASTBLOOM_MEMORY,
+    hash_count = FASTBLOOM_HASH_COUNT,
+    not_a_filter = FASTBLOOM_NOT_A_FILTER,
+    unknown_version = FASTBLOOM_UNKNOWN_VERSION,
+    cut = FASTBLOOM_CUT,
+    too_long = FASTBLOOM_TOO_LONG,
+    reserved = FASTBLOOM_RESERVED,
+    seal = FASTBLOOM_SEAL,
+    too_many_hashes = 255, // more hashes than the caller allows
+};
+
+// A status in words.
+inline const char *reason(status why) noexcept {
+    switch (why) {
+    case status::ok: return "no refusal";
+    case status::empty_words: return "no words";
+    case status::too_many_words: return "too many words";
+    case status::zero_rate: return "rate with a zero part";
+    case status::size_overflow: return "size too large";
+    case status::memory: return "no memory";
+    case status::hash_count: return "hash count out of range";
+    case status::not_a_filter: return "not a filter";
+    case status::unknown_version: return "a version of the file that isn't known";
+    case status::cut: return "the file is cut";
+    case status::too_long: return "the file goes on after its last word";
+    case status::reserved: return "a reserved byte isn't zero";
+    case status::seal: return "the seal is wrong: the file was changed";
+    case status::too_many_hashes: return "more hashes than are allowed";
+    }
+    return "an unknown refusal";
+}
+
+// A value, or why there is none. The value is read only where there is one.
+template <typename T> class [[nodiscard]] result {
+public:
+    result(T &&value) noexcept : value_(std::move(value)), status_(fastbloom::status::ok) {}
+    result(fastbloom::status why) noexcept : status_(why) {}
+
+    explicit operator bool() const noexcept { return value_.has_value(); }
+    fastbloom::status status() const noexcept { return status_; }
+
+    T &operator*() & noexcept { return *value_; }
+    const T &operator*() const & noexcept { return *value_; }
+    T &&operator*() && noexcept { return *std::move(value_); }
+    T *operator->() noexcept { return &*value_; }
+    const T *operator->() const noexcept { return &*value_; }
+
+private:
+    std::optional<T> value_;
+    fastbloom::status status_;
+};
+
+// Sixteen bytes. Where others choose the items, draw them.
+using key_bytes = std::array<std::uint8_t, 16>;
+
+// The bytes of a file before its words.
+using head_bytes = std::array<std::uint8_t, 64>;
+
+// A set of byte strings that never misses a member, and now and then takes something else for one.
+class filter {
+public:
+    // No words: it contains nothing.
+    filter() noexcept = default;
+
+    // The empty filter for this many items, where 0 counts as 1, at the rate num / den of false
+    // positives.
+    static result<filter> make(std::uint64_t num, std::uint64_t den, std::size_t items,
+                               const key_bytes &key = {}) noexcept {
+        std::size_t num_words = 0;
+        std::uint32_t num_hashes = 0;
+        const std::uint8_t code = fastbloom_plan(num, den, items, &num_words, &num_hashes);
+        if (code != FASTBLOOM_OK) return static_cast<fastbloom::status>(code);
+        return with_shape(num_words, num_hashes, key);
+    }
+
+    // The empty filter with this many words and hashes, where 0 hashes count as 1.
+    static result<filter> with_shape(std::size_t num_words, std::uint32_t num_hashes,
+                                     const key_bytes &key = {}) noexcept {
+        if (num_words == 0) return status::empty_words;
+        if (fastbloom_num_bits(num_words) == 0) return status::too_many_words;
+        void *words = std::calloc(num_words, sizeof(std::uint64_t));
+        if (words == nullptr) return status::memory;
+        filter made;
+        made.words_ = static_cast<std::uint64_t *>(words);
+        made.num_words_ = num_words;
+        made.num_hashes_ = num_hashes == 0 ? 1 : num_hashes;
+        made.key_ = key;
+        return made;
+    }
+
+    // The filter of a file's bytes, which are copied. A file with more than max_hashes hashes is
+    // refused, since each call takes as many steps.
+    static result<filter> from_bytes(const void *bytes, std::size_t size,
+                                     std::uint32_t max_hashes = 64) noexcept {
+        filter read;
+        std::size_t num_words = 0;
+        std::uint64_t seal = 0;
+        const std::uint8_t code = read_head(bytes, size, read, num_words, seal);
+        if (code != FASTBLOOM_OK) return static_cast<fastbloom::status>(code);
+        if (read.num_hashes_ > max_hashes) return status::too_many_hashes;
+        auto made = with_shape(num_words, read.num_hashes_, read.key_);
+        if (!made) return made;
+        std::memcpy(made->words_, static_cast<const char *>(bytes) + 64, 8 * num_words);
+        if (seal != 0 && seal != made->seal()) return status::seal;
+        return made;
+    }
+
+    filter(filter &&other) noexcept { swap(other); }
+    filter &operator=(filter &&other) noexcept {
+        filter(std::move(other)).swap(*this);
+        return *this;
+    }
+    filter(const filter &) = delete;
+    filter &operator=(const filter &) = delete;
+    ~filter() {
+        if (num_words_ != 0) std::free(words_);
+    }
+
+    void swap(filter &other) noexcept {
+        std::swap(words_, other.words_);
+        std::swap(num_words_, other.num_words_);
+        std::swap(num_hashes_, other.num_hashes_);
+        std::swap(key_, other.key_);
+    }
+
+    // A filter with words of its own, which are equal to these.
+    result<filter> clone() const noexcept {
+        auto made = with_shape(num_words_, num_hashes_, key_);
+        if (made) std::memcpy(made->words_, words_, 8 * num_words_);
+        return made;
+    }
+
+    // Inserts an item, and answers whether it was contained, maybe by mistake.
+    bool insert(std::string_view item) noexcept { return insert(item.data(), item.size()); }
+    bool insert(const void *bytes, std::size_t size) noexcept {
+        return fastbloom_insert(words_, num_words_, num_hashes_, key_.data(), not_null(bytes),
+                                size);
+    }
+
+    // Whether an item is contained, maybe by mistake. False means that it was never inserted.
+    bool contains(std::string_view item) const noexcept {
+        return contains(item.data(), item.size());
+    }
+    bool contains(const void *bytes, std::size_t size) const noexcept {
+        return fastbloom_contains(words_, num_words_, num_hashes_, key_.data(), not_null(bytes),
+                                  size);
+    }
+
+    // The hash of an item: SipHash-1-3 of its bytes under the key.
+    std::uint64_t hash(std::string_view item) const noexcept {
+        return hash(item.data(), item.size());
+    }
+    std::uint64_t hash(const void *bytes, std::size_t size) const noexcept {
+        return fastbloom_hash(key_.data(), not_null(bytes), size);
+    }
+
+    // The same by hash.
+    bool insert_hash(std::uint64_t hash) noexcept {
+        return fastbloom_insert_hash(words_, num_words_, num_hashes_, hash);
+    }
+    bool contains_hash(std::uint64_t hash) const noexcept {
+        return fastbloom_contains_hash(words_, num_words_, num_hashes_, hash);
+    }
+
+    // Inserts many hashes, which costs less than a call for each.
+    void insert_hashes(const std::uint64_t *hashes, std::size_t count) noexcept {
+        if (count != 0) fastbloom_insert_hashes(words_, num_words_, num_hashes_, hashes, count);
+    }
+
+#ifdef __cpp_lib_span
+    bool insert(std::span<const std::byte> item) noexcept {
+        return insert(item.data(), item.size());
+    }
+    bool contains(std::span<const std::byte> item) const noexcept {
+        return contains(item.data(), item.size());
+    }
+    std::uint64_t hash(std::span<const std::byte> item) const noexcept {
+        return hash(item.data(), item.size());
+    }
+    void insert_hashes(std::span<const std::uint64_t> hashes) noexcept {
+        insert_hashes(hashes.data(), hashes.size());
+    }
+    std::span<const std::uint64_t> words() const noexcept { return {words_, num_words_}; }
+#endif
+
+    // Removes every item.
+    void clear() noexcept { fastbloom_clear(words_, num_words_); }
+
+    // Whether both have as many words and hashes, and the same key.
+    bool same_shape(const filter &other) const noexcept {
+        return num_words_ == other.num_words_ && num_hashes_ == other.num_hashes_ &&
+               key_ == other.key_;
+    }
+
+    // Takes the items of the other in, or keeps only what may be in both. They answer false, and
+    // change nothing, where the shapes differ or there are no words.
+    [[nodiscard]] bool unite(const filter &other) noexcept {
+        if (!same_shape(other) || num_words_ == 0) return false;
+        // The library asks for words that lie apart.
+        return this == &other ||
+               fastbloom_union(words_, num_words_, other.words_, other.num_words_);
+    }
+    [[nodiscard]] bool intersect(const filter &other) noexcept {
+        if (!same_shape(other) || num_words_ == 0) return false;
+        return this == &other ||
+               fastbloom_intersect(words_, num_words_, other.words_, other.num_words_);
+    }
+
+    // Whether shapes and words are equal.
+    friend bool operator==(const filter &one, const filter &other) noexcept {
+        return one.same_shape(other) &&
+               (one.num_words_ == 0 ||
+                fastbloom_equal(one.words_, one.num_words_, other.words_, other.num_words_));
+    }
+    friend bool operator!=(const filter &one, const filter &other) noexcept {
+        return !(one == other);
+    }
+
+    std::size_t num_words() const noexcept { return num_words_; }
+    std::size_t num_bits() const noexcept { return fastbloom_num_bits(num_words_); }
+    std::uint32_t num_hashes() const noexcept { return num_hashes_; }
+    const key_bytes &key() const noexcept { return key_; }
+
+    // The words. In a file they are behind the head, as they are in memory.
+    const std::uint64_t *data() const noexcept { return words_; }
+
+    // The head of this filter's file: with a seal, by which a reader finds out whether a byte was
+    // changed, or without. A filter with no words has no file.
+    result<head_bytes> head(bool sealed = true) const noexcept {
+        head_bytes bytes{};
+        const std::uint8_t code = fastbloom_head_write(num_words_, num_hashes_, key_.data(),
+                                                       sealed ? seal() : 0, bytes.data());
+        if (code != FASTBLOOM_OK) return static_cast<fastbloom::status>(code);
+        return bytes;
+    }
+
+private:
+    // A word that nobody reads or writes: the address of no words, since the library asks for one.
+    static inline std::uint64_t no_words = 0;
+
+    // The library asks for an address even where there are no bytes.
+    static const std::uint8_t *not_null(const void *bytes) noexcept {
+        return bytes == nullptr ? reinterpret_cast<const std::uint8_t *>(&no_words)
+                                : static_cast<const std::uint8_t *>(bytes);
+    }
+
+    std::uint64_t seal() const noexcept {
+        return fastbloom_seal(words_, num_words_, num_hashes_, key_.data());
+    }
+
+    // Reads the head of a file of this size into the filter's number of hashes and its key.
+    static std::uint8_t read_head(const void *bytes, std::size_t size, filter &read,
+                                  std::size_t &num_words, std::uint64_t &seal) noexcept {
+        // A copy of the numbers that are there, with good ones in the place of those that a cut
+        // file lacks. The last two, which must be zero, are read after the size.
+        head_bytes head{};
+        head[8] = head[16] = 1;
+        const std::size_t there = size < 48 ? size / 8 * 8 : 48;
+        if (there != 0) std::memcpy(head.data(), bytes, there);
+        const auto code = [&] {
+            return fastbloom_head_read(head.data(), &num_words, &read.num_hashes_,
+                                       read.key_.data(), &seal);
+        };
+        if (const std::uint8_t why = code(); why != FASTBLOOM_OK) return why;
+        if (size < 64 + 8 * num_words) return FASTBLOOM_CUT;
+        if (size > 64 + 8 * num_words) return FASTBLOOM_TOO_LONG;
+        std::memcpy(head.data() + 48, static_cast<const char *>(bytes) + 48, 16);
+        return code();
+    }
+
+    std::uint64_t *words_ = &no_words;
+    std::size_t num_words_ = 0;
+    std::uint32_t num_hashes_ = 1;
+    key_bytes key_{};
+};
+
+} // namespace fastbloom
+
+#endif
