@@ -1,7 +1,8 @@
-"""Calls the class, and prints the lines of the other languages' checks: `check.py FOLDER [FILE..]`.
+"""Calls the package, and prints the lines of the other languages' checks.
 
-It leaves the file of the items in FOLDER/python.bloom, and in FOLDER/refused files that a reader
-refuses, each by the number with which its name begins. Each FILE is to be one of the items too.
+`check.py FOLDER [FILE..]` leaves the file of the items in FOLDER/python.bloom. In FOLDER/refused it
+leaves files that a reader refuses, each by the number with which its name begins. Each FILE is to
+be one of the items too.
 """
 
 import os

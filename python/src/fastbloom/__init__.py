@@ -1,0 +1,17 @@
+"""Bloom filters: sets that never miss a member, and now and then take something else for one.
+
+    seen = Filter(1_000_000, "1/1000")
+    seen.add("crab")           # False: it is new
+    "crab" in seen             # True
+    seen.save("seen.bloom")
+    Filter.load("seen.bloom")  # maps the file: processes that read it share its pages
+
+Items are texts, which count as their UTF-8 bytes, and bytes-like objects. Threads may use one
+filter at once. The work is done by the shared library fastbloom_c; importing the package raises
+ImportError where that isn't found.
+"""
+
+from ._filter import Filter, Refusal
+
+__version__ = "0.17.0"
+__all__ = ["Filter", "Refusal", "__version__"]

@@ -1,0 +1,434 @@
+"""The class of filters."""
+
+from __future__ import annotations
+
+import copy
+import ctypes
+import mmap
+import operator
+import os
+import struct
+import threading
+from decimal import Decimal
+from fractions import Fraction
+from numbers import Real
+from typing import TYPE_CHECKING, Any, Callable, Iterable, List, Optional, Tuple, Type, Union
+
+from . import _library as library
+from ._locks import alone, alone_with, new_lock
+
+if TYPE_CHECKING:
+    from typing_extensions import Buffer, Self
+
+    Item = Union[str, Buffer]
+    Rate = Union[str, float, Fraction, Decimal]
+
+_ZERO_RATE, _CUT, _TOO_LONG, _SEAL = 4, 11, 12, 14
+_REASONS = {
+    2: "no words",
+    3: "too many words",
+    _ZERO_RATE: "rate with a zero part",
+    5: "size too large",
+    7: "hash count out of range",
+    9: "not a filter",
+    10: "a version of the file that isn't known",
+    _CUT: "the file is cut",
+    _TOO_LONG: "the file goes on after its last word",
+    13: "a reserved byte isn't zero",
+    _SEAL: "the seal is wrong: the file was changed",
+}
+_HEAD = 64  # bytes; the words of a file come next
+_AT_ONCE = 4096  # hashes that are inserted by one call
+
+
+class Refusal(ValueError):
+    """Why a size or a file is refused. `code` is the number that the header fastbloom.h names."""
+
+    def __init__(self, code: int) -> None:
+        super().__init__(code)
+        self.code = code
+
+    def __str__(self) -> str:
+        return _REASONS[self.code]
+
+
+def _check(code: int) -> None:
+    if code:
+        raise Refusal(code)
+
+
+def _bytes_of(item: Item) -> bytes:
+    """The bytes of an item."""
+    if isinstance(item, str):
+        return str.encode(item)
+    return _plain_bytes(item, "an item is a str or a bytes-like object")
+
+
+def _plain_bytes(value: Buffer, wanted: str) -> bytes:
+    """The bytes of an object, whose class may not tell another length. It raises what is wanted."""
+    if type(value) is bytes:
+        return value
+    try:
+        return memoryview(value).tobytes()
+    except TypeError:
+        raise TypeError(f"{wanted}, not {type(value).__name__}") from None
+
+
+def _hash_value(value: int) -> int:
+    value = operator.index(value)
+    if not 0 <= value < 2**64:
+        raise ValueError("a hash is from 0 to 2^64 - 1")
+    return value
+
+
+def _parts(rate: Rate) -> Tuple[int, int]:
+    """The two parts of a rate. That of a float is read from its shortest text."""
+    if not isinstance(rate, (str, Real, Decimal)):
+        raise TypeError(f"a rate is a text or a number, not {type(rate).__name__}")
+    try:
+        fraction = Fraction(str(rate))
+    except ZeroDivisionError:
+        raise Refusal(_ZERO_RATE) from None
+    if not 0 <= fraction.numerator < 2**64 or fraction.denominator >= 2**64:
+        raise ValueError("the parts of a rate are from 0 to 2^64 - 1")
+    return fraction.numerator, fraction.denominator
+
+
+def _read_head(head: bytes) -> Tuple[int, int, bytes, int]:
+    """The numbers of words and of hashes, the key and the seal that a head tells."""
+    words, hashes = ctypes.c_size_t(), ctypes.c_uint32()
+    key, seal = ctypes.create_string_buffer(16), ctypes.c_uint64()
+    _check(library.head_read(head, words, hashes, key, seal))
+    return words.value, hashes.value, key.raw, seal.value
+
+
+def _check_file(head: bytes, size: int, max_hashes: Optional[int]) -> Tuple[int, int, bytes, int]:
+    """What the first 64 bytes of a file of this size tell, if the file isn't refused for them."""
+    # Where the head is cut, good numbers stand for those that it lacks. The last two, which must be
+    # zero, are read after the size.
+    good = struct.pack("<8Q", 0, 1, 1, 0, 0, 0, 0, 0)
+    there = min(len(head) // 8 * 8, 48)
+    wanted = _HEAD + 8 * _read_head(head[:there] + good[there:])[0]
+    if size > wanted:
+        raise Refusal(_TOO_LONG)
+    if size < wanted or len(head) < _HEAD:  # a file that grows may have been short
+        raise Refusal(_CUT)
+    told = _read_head(head)
+    if max_hashes is not None and told[1] > max_hashes:
+        raise ValueError(f"the file has {told[1]} hashes, and max_hashes is {max_hashes}")
+    return told
+
+
+def _restored(cls: Type[Filter], data: bytes) -> Filter:
+    """The filter that was pickled."""
+    return cls.from_bytes(data, max_hashes=None)
+
+
+class Filter:
+    """A set of texts or bytes that never misses a member, and may take something else for one.
+
+    Items are `str`, which count as their UTF-8 bytes, and bytes-like objects. Everything else
+    raises TypeError, and a `str` that has no UTF-8 raises UnicodeEncodeError. Threads may call one
+    filter at once, and none loses what another one adds. Calls come one after the other, but
+    `update`, `contains_many`, `|` and `&` are several, and other calls may come between.
+    """
+
+    __slots__ = ("_view", "_at", "_num_words", "_num_hashes", "_key", "_lock", "__weakref__")
+    _view: memoryview
+    _at: int
+    _num_words: int
+    _num_hashes: int
+    _key: bytes
+    _lock: Any
+
+    def __init__(self, items: int, rate: Rate, key: Buffer = bytes(16)) -> None:
+        """The empty filter for this many items, at a rate of false positives.
+
+        `rate` is a text such as "1/1000", a Fraction or another number. `key` is sixteen bytes:
+        where others choose the items, draw it (`os.urandom(16)`). A refused number raises
+        ValueError (`Refusal` where the library refuses it), another type TypeError, and too large
+        a filter MemoryError.
+        """
+        items = operator.index(items)
+        if not 0 <= items < 2**64:
+            raise ValueError("items are from 0 to 2^64 - 1")
+        num, den = _parts(rate)
+        words, hashes = ctypes.c_size_t(), ctypes.c_uint32()
+        _check(library.plan(num, den, items, words, hashes))
+        key = _plain_bytes(key, "a key is a bytes-like object")
+        self._set(bytearray(8 * words.value), 0, words.value, hashes.value, key)
+
+    def _set(self, memory: Buffer, offset: int, num_words: int, num_hashes: int,
+             key: bytes) -> None:
+        """Takes the words that lie in the memory, which has no other user."""
+        if len(key) != 16:
+            raise ValueError("a key is sixteen bytes")
+        # The view keeps the memory where it is.
+        self._view = memoryview(memory)[offset:offset + 8 * num_words]
+        self._at = ctypes.addressof(ctypes.c_char.from_buffer(self._view))
+        assert self._at % 8 == 0
+        self._num_words, self._num_hashes, self._key = num_words, num_hashes, key
+        self._lock = new_lock()
+
+    @property
+    def num_words(self) -> int:
+        """The number of words of 64 bits."""
+        return self._num_words
+
+    @property
+    def num_bits(self) -> int:
+        """The number of bits."""
+        return 64 * self._num_words
+
+    @property
+    def num_hashes(self) -> int:
+        """The number of positions that an item has."""
+        return self._num_hashes
+
+    @property
+    def key(self) -> bytes:
+        """The sixteen bytes of the key."""
+        return self._key
+
+    # One item
+
+    @alone
+    def add(self, item: Item) -> bool:
+        """Adds an item, and answers whether it was contained, maybe by mistake."""
+        data = _bytes_of(item)
+        return library.insert(
+            self._at, self._num_words, self._num_hashes, self._key, data, len(data))
+
+    @alone
+    def __contains__(self, item: Item) -> bool:
+        """Whether an item is contained, maybe by mistake. False: it was never added."""
+        data = _bytes_of(item)
+        return library.contains(
+            self._at, self._num_words, self._num_hashes, self._key, data, len(data))
+
+    def hash(self, item: Item) -> int:
+        """The hash of an item: SipHash-1-3 of its bytes under the key."""
+        data = _bytes_of(item)
+        return library.hash_of(self._key, data, len(data))
+
+    @alone
+    def add_hash(self, value: int) -> bool:
+        """As `add`, by the hash. One out of range raises ValueError."""
+        return library.insert_hash(
+            self._at, self._num_words, self._num_hashes, _hash_value(value))
+
+    @alone
+    def contains_hash(self, value: int) -> bool:
+        """As `in`, by the hash. One out of range raises ValueError."""
+        return library.contains_hash(
+            self._at, self._num_words, self._num_hashes, _hash_value(value))
+
+    # Many items
+
+    def update(self, items: Iterable[Item]) -> None:
+        """Adds each item of an iterable, many by one call.
+
+        Where the iterable raises, or an item is refused, those before it were added. A single `str`
+        or bytes-like object raises TypeError: it is an item.
+        """
+        if isinstance(items, (str, bytes, bytearray, memoryview)):
+            raise TypeError("this is one item, which `add` takes")
+        hash_of, key = library.hash_of, self._key
+        hashes, count = (ctypes.c_uint64 * _AT_ONCE)(), 0
+        try:
+            for item in items:
+                data = _bytes_of(item)
+                hashes[count] = hash_of(key, data, len(data))
+                count += 1
+                if count == _AT_ONCE:
+                    self._add_hashes(hashes, count)
+                    count = 0
+        finally:
+            self._add_hashes(hashes, count)
+
+    @alone
+    def _add_hashes(self, hashes: ctypes.Array[ctypes.c_uint64], count: int) -> None:
+        library.insert_hashes(self._at, self._num_words, self._num_hashes, hashes, count)
+
+    def contains_many(self, items: Iterable[Item]) -> List[bool]:
+        """Whether each item of an iterable is contained, in their order. It raises as `update`."""
+        if isinstance(items, (str, bytes, bytearray, memoryview)):
+            raise TypeError("this is one item, which `in` takes")
+        return [item in self for item in items]
+
+    @alone
+    def clear(self) -> None:
+        """Removes every item."""
+        library.clear(self._at, self._num_words)
+
+    # Two filters
+
+    @alone_with
+    def _with(self, other: Filter, call: Callable[..., bool]) -> bool:
+        return call(self._at, self._num_words, other._at, other._num_words)
+
+    def _change(self, other: Filter, call: Callable[..., bool]) -> None:
+        """Changes this filter by another one. Where they don't fit, it raises ValueError."""
+        for name in ("num_words", "num_hashes", "key"):
+            if getattr(self, name) != getattr(other, name):
+                raise ValueError(f"the filters differ in {name}")
+        if other is not self:  # the library asks for words that lie apart
+            self._with(other, call)
+
+    def __ior__(self, other: Filter) -> Self:
+        """Takes in what the other contains.
+
+        A filter of another size, number of hashes or key raises ValueError.
+        """
+        if not isinstance(other, Filter):
+            return NotImplemented
+        self._change(other, library.union)
+        return self
+
+    def __iand__(self, other: Filter) -> Self:
+        """Keeps what both may contain. It raises as `|=`."""
+        if not isinstance(other, Filter):
+            return NotImplemented
+        self._change(other, library.intersect)
+        return self
+
+    def __or__(self, other: Filter) -> Self:
+        """A filter of what one of the two contains. It raises as `|=`."""
+        if not isinstance(other, Filter):
+            return NotImplemented
+        united = self.copy()
+        united |= other
+        return united
+
+    def __and__(self, other: Filter) -> Self:
+        """A filter of what both may contain. It raises as `|=`."""
+        if not isinstance(other, Filter):
+            return NotImplemented
+        common = self.copy()
+        common &= other
+        return common
+
+    def __eq__(self, other: object) -> bool:
+        """Whether words, numbers of hashes and keys are equal."""
+        if not isinstance(other, Filter):
+            return NotImplemented
+        alike = (self._num_hashes, self._key) == (other._num_hashes, other._key)
+        return alike and self._with(other, library.equal)
+
+    __hash__ = None  # type: ignore[assignment]
+
+    # Copies
+
+    @alone
+    def _copy_words(self, memory: bytearray, offset: int) -> None:
+        memoryview(memory)[offset:] = self._view
+
+    def _copy(self) -> Self:
+        memory = bytearray(8 * self._num_words)
+        self._copy_words(memory, 0)
+        other = type(self).__new__(type(self))
+        other._set(memory, 0, self._num_words, self._num_hashes, self._key)
+        return other
+
+    def copy(self) -> Self:
+        """A filter with words of its own, which are equal to these."""
+        other = self._copy()
+        if hasattr(self, "__dict__"):  # a subclass may have attributes
+            other.__dict__.update(self.__dict__)
+        return other
+
+    __copy__ = copy
+
+    def __deepcopy__(self, memo: Any) -> Self:
+        other = self._copy()
+        memo[id(self)] = other
+        if hasattr(self, "__dict__"):
+            other.__dict__.update(copy.deepcopy(self.__dict__, memo))
+        return other
+
+    def __reduce__(self) -> Tuple[Any, ...]:
+        """Pickles the bytes of the file, which have the key."""
+        return _restored, (type(self), self.to_bytes()), getattr(self, "__dict__", None)
+
+    def words(self) -> List[int]:
+        """The words, as a list of numbers."""
+        memory = bytearray(8 * self._num_words)
+        self._copy_words(memory, 0)
+        return memoryview(memory).cast("Q").tolist()
+
+    def __repr__(self) -> str:
+        """The size, and whether there is a key. The key itself isn't shown: it may be secret."""
+        key = "a key" if any(self._key) else "the zero key"
+        return f"<{type(self).__name__}: {self.num_bits} bits, {self._num_hashes} hashes, {key}>"
+
+    # Files
+
+    def _file(self, sealed: bool) -> bytearray:
+        """The bytes of the file, of the words as they are at one instant."""
+        file = bytearray(_HEAD + 8 * self._num_words)
+        self._copy_words(file, _HEAD)
+        at = ctypes.addressof(ctypes.c_char.from_buffer(file))
+        seal = 0
+        if sealed:
+            seal = library.seal(at + _HEAD, self._num_words, self._num_hashes, self._key)
+        _check(library.head_write(self._num_words, self._num_hashes, self._key, seal, at))
+        return file
+
+    def to_bytes(self, sealed: bool = True) -> bytes:
+        """The bytes of the file that `save` writes."""
+        return bytes(self._file(sealed))
+
+    def save(self, path: Union[str, os.PathLike[str]], sealed: bool = True) -> None:
+        """Writes a file, whole or not at all. It raises OSError where that fails.
+
+        A reader of a sealed file finds out whether a byte was changed. A file that is to be changed
+        while others map it is not sealed.
+        """
+        path = os.fspath(path)
+        part = f"{path}.{os.getpid()}-{threading.get_ident()}.part"
+        try:
+            with open(part, "wb") as file:
+                file.write(self._file(sealed))
+                file.flush()
+                os.fsync(file.fileno())
+            os.replace(part, path)
+        except BaseException:
+            if os.path.exists(part):
+                os.remove(part)
+            raise
+
+    @classmethod
+    def from_bytes(cls, data: Buffer, *, max_hashes: Optional[int] = 64) -> Self:
+        """The filter of a file's bytes, which are copied.
+
+        Bytes that are no such file raise Refusal, which is a ValueError, with the first reason. A
+        file with more than `max_hashes` hashes raises ValueError too, since each call on it takes
+        as many steps; None stands for no limit. A filter of one's own has more than 64 only where
+        it is made for a few items at a rate below 10^-13.
+        """
+        memory = bytearray(_plain_bytes(data, "a file is a bytes-like object"))
+        told = _check_file(bytes(memory[:_HEAD]), len(memory), max_hashes)
+        return cls._read(memory, *told)
+
+    @classmethod
+    def load(cls, path: Union[str, os.PathLike[str]], *,
+             max_hashes: Optional[int] = 64) -> Self:
+        """The filter of a file, which is mapped: what this process adds stays its own.
+
+        It raises OSError where the file can't be read, and as `from_bytes` where it is refused. A
+        sealed file is read whole, to check the seal. The file isn't to be cut or written while it
+        is mapped; `save` puts a new one in its place.
+        """
+        with open(path, "rb") as file:
+            head, size = file.read(_HEAD), os.fstat(file.fileno()).st_size
+            told = _check_file(head, size, max_hashes)
+            memory = mmap.mmap(file.fileno(), size, access=mmap.ACCESS_COPY)
+        return cls._read(memory, *told)
+
+    @classmethod
+    def _read(cls, memory: Buffer, num_words: int, num_hashes: int, key: bytes, seal: int) -> Self:
+        read = cls.__new__(cls)
+        read._set(memory, _HEAD, num_words, num_hashes, key)
+        if seal and seal != library.seal(read._at, num_words, num_hashes, key):
+            raise Refusal(_SEAL)
+        return read

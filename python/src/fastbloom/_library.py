@@ -1,0 +1,76 @@
+"""The calls of the shared library fastbloom_c.
+
+It is the one that FASTBLOOM_LIB names, a folder or a file; or else the one beside this module; or
+else the one that the system's loader finds.
+"""
+
+from __future__ import annotations
+
+import ctypes
+import os
+from pathlib import Path
+from typing import Any, Callable, Type
+
+# The number is that of the calls' form: a library with another number isn't taken.
+NAME = "libfastbloom_c.so.0"
+
+
+def _file() -> str:
+    """What the loader is to open."""
+    chosen = os.environ.get("FASTBLOOM_LIB")
+    if chosen:
+        path = Path(chosen).absolute()
+        return str(path / NAME if path.is_dir() else path)
+    beside = Path(__file__).with_name(NAME)
+    return str(beside) if beside.exists() else NAME
+
+
+def _load(loader: Type[ctypes.CDLL], file: str) -> ctypes.CDLL:
+    try:
+        return loader(file)
+    except OSError as error:
+        raise ImportError(
+            f"the shared library of fastbloom isn't found ({error}). Build it by bin/build-c, and "
+            f"name its folder in FASTBLOOM_LIB, or put {NAME} where the loader looks") from None
+
+
+_FILE = _file()
+# A call by PyDLL keeps the interpreter's lock, so that no two calls touch the words of a filter at
+# once. One by CDLL lets go of it.
+_KEEPING = _load(ctypes.PyDLL, _FILE)
+_LETTING_GO = _load(ctypes.CDLL, _FILE)
+
+_BOOL, _CODE, _HASH = ctypes.c_bool, ctypes.c_uint8, ctypes.c_uint64
+_WORDS, _SIZE, _HASHES = ctypes.c_void_p, ctypes.c_size_t, ctypes.c_uint32
+_BYTES, _MANY = ctypes.c_char_p, ctypes.POINTER(ctypes.c_uint64)
+_TO_SIZE, _TO_HASHES = ctypes.POINTER(ctypes.c_size_t), ctypes.POINTER(ctypes.c_uint32)
+
+
+def _call(name: str, answer: Any, *kinds: Any, library: ctypes.CDLL = _KEEPING) -> Any:
+    try:
+        call = getattr(library, "fastbloom_" + name)
+    except AttributeError as error:
+        raise ImportError(f"{_FILE} is no library of fastbloom, or an older one: {error}") from None
+    call.restype, call.argtypes = answer, kinds
+    return call
+
+
+plan: Callable[..., int] = _call("plan", _CODE, _HASH, _HASH, _SIZE, _TO_SIZE, _TO_HASHES)
+hash_of: Callable[..., int] = _call("hash", _HASH, _BYTES, _BYTES, _SIZE)
+insert_hash: Callable[..., bool] = _call("insert_hash", _BOOL, _WORDS, _SIZE, _HASHES, _HASH)
+insert_hashes: Callable[..., bool] = _call(
+    "insert_hashes", _BOOL, _WORDS, _SIZE, _HASHES, _MANY, _SIZE)
+contains_hash: Callable[..., bool] = _call("contains_hash", _BOOL, _WORDS, _SIZE, _HASHES, _HASH)
+insert: Callable[..., bool] = _call(
+    "insert", _BOOL, _WORDS, _SIZE, _HASHES, _BYTES, _BYTES, _SIZE)
+contains: Callable[..., bool] = _call(
+    "contains", _BOOL, _WORDS, _SIZE, _HASHES, _BYTES, _BYTES, _SIZE)
+clear: Callable[..., bool] = _call("clear", _BOOL, _WORDS, _SIZE)
+union: Callable[..., bool] = _call("union", _BOOL, _WORDS, _SIZE, _WORDS, _SIZE)
+intersect: Callable[..., bool] = _call("intersect", _BOOL, _WORDS, _SIZE, _WORDS, _SIZE)
+equal: Callable[..., bool] = _call("equal", _BOOL, _WORDS, _SIZE, _WORDS, _SIZE)
+head_write: Callable[..., int] = _call("head_write", _CODE, _SIZE, _HASHES, _BYTES, _HASH, _WORDS)
+head_read: Callable[..., int] = _call(
+    "head_read", _CODE, _BYTES, _TO_SIZE, _TO_HASHES, _BYTES, _MANY)
+# The words that a seal is asked for are no filter's yet, so other threads may go on meanwhile.
+seal: Callable[..., int] = _call("seal", _HASH, _WORDS, _SIZE, _HASHES, _BYTES, library=_LETTING_GO)

@@ -1,0 +1,137 @@
+"""Files that are written, read and refused. The form is that of docs/FILE.md."""
+
+import os
+import tempfile
+import unittest
+from pathlib import Path
+
+import storm
+from fastbloom import Filter, Refusal
+
+COUNTING_KEY = bytes(range(16))
+# One word, three hashes, and the key bytes 0 to 15, of `crab` and `lobster`: the file of a model,
+# which docs/FILE.md explains.
+WORKED = bytes.fromhex(
+    "66626c6f6f6d0031 0300000000000000 0100000000000000 0001020304050607 08090a0b0c0d0e0f"
+    "a81b0ad4ee8d9d5d 0000000000000000 0000000000000000 0014004080008010")
+
+
+def changed(file, place, byte):
+    return file[:place] + bytes([byte]) + file[place + 1:]
+
+
+def refused_files(file):
+    """Files that differ from a good one, by the number of the refusal that a reader tells."""
+    return {
+        2: [changed(file, 16, 0), changed(file, 16, 0)[:24]],
+        3: [changed(file, 23, 4), changed(file, 23, 4)[:24]],
+        7: [changed(file, 8, 0), changed(file, 12, 1), changed(file, 8, 0)[:16]],
+        9: [b"", file[:7], changed(file, 0, 70), changed(changed(file, 6, 1), 7, 50)],
+        10: [changed(file, 7, 50), changed(changed(file, 7, 50), 8, 0)[:8]],
+        11: [file[:8], changed(file, 8, 0)[:15], file[:63], file[:64], file[:-1],
+             changed(file, 48, 1)[:60], changed(file, 23, 3)],
+        12: [file + b"\0", changed(file, 63, 1) + b"\0"],
+        13: [changed(file, 48, 1), changed(file, 63, 128)],
+        14: [changed(file, place, 1) for place in (8, 24, 39, 40, 64, len(file) - 1)],
+    }
+
+
+class Files(unittest.TestCase):
+    def setUp(self):
+        self.folder = tempfile.TemporaryDirectory()
+        self.addCleanup(self.folder.cleanup)
+        self.path = Path(self.folder.name) / "seen.bloom"
+
+    def readers(self, file):
+        """The calls that read these bytes."""
+        self.path.write_bytes(file)
+        yield lambda **options: Filter.from_bytes(file, **options)
+        yield lambda **options: Filter.load(self.path, **options)
+
+    def test_a_worked_file_is_read_and_written(self):
+        for read in self.readers(WORKED):
+            seen = read()
+            self.assertEqual((seen.num_words, seen.num_hashes, seen.key), (1, 3, COUNTING_KEY))
+            self.assertEqual(seen.words(), [0x1080008040001400])
+            self.assertEqual(seen.contains_many(["crab", "lobster"]), [True, True])
+            self.assertEqual(seen.to_bytes(), WORKED)
+            seen.clear()
+            self.assertEqual([seen.add("crab"), seen.add("lobster")], [False, False])
+            seen.save(str(self.path))
+            self.assertEqual(self.path.read_bytes(), WORKED)
+
+    def test_a_file_without_a_seal(self):
+        seen = Filter.from_bytes(WORKED)
+        plain = seen.to_bytes(sealed=False)
+        self.assertEqual(plain, WORKED[:40] + bytes(8) + WORKED[48:])
+        for read in self.readers(plain):
+            self.assertEqual(read(), seen)
+        seen.save(self.path, sealed=False)
+        self.assertEqual(self.path.read_bytes(), plain)
+
+    def test_refused_files(self):
+        for code, files in refused_files(WORKED).items():
+            for file in files:
+                for read in self.readers(file):
+                    with self.assertRaises(Refusal) as told:
+                        read()
+                    self.assertEqual(told.exception.code, code)
+                    self.assertIsInstance(told.exception, ValueError)
+
+    def test_a_file_with_many_hashes_is_refused(self):
+        few = changed(Filter.from_bytes(WORKED).to_bytes(sealed=False), 8, 64)
+        many = few[:8] + b"\xff\xff\xff\xff" + few[12:]
+        for read in self.readers(few):
+            self.assertEqual(read().num_hashes, 64)
+            with self.assertRaises(ValueError) as told:
+                read(max_hashes=63)
+            self.assertEqual(str(told.exception), "the file has 64 hashes, and max_hashes is 63")
+        for read in self.readers(many):
+            self.assertRaises(ValueError, read)
+            for most in (2**32 - 1, None):
+                self.assertEqual(read(max_hashes=most).num_hashes, 2**32 - 1)
+
+    def test_what_is_added_to_a_loaded_filter_stays_its_own(self):
+        self.path.write_bytes(WORKED)
+        seen = Filter.load(self.path)
+        seen.add("whale")
+        self.assertEqual(self.path.read_bytes(), WORKED)
+        self.assertNotEqual(seen, Filter.load(self.path))
+        self.path.unlink()
+        self.assertIn("whale", seen)
+
+    def test_bytes_like_objects_are_read(self):
+        for data in (bytearray(WORKED), memoryview(WORKED)):
+            self.assertEqual(Filter.from_bytes(data).to_bytes(), WORKED)
+        data = bytearray(WORKED)
+        seen = Filter.from_bytes(data)
+        data[64:] = bytes(8)
+        self.assertEqual(seen.to_bytes(), WORKED)
+        for data in ("crab", 72, None, [1, 2]):
+            self.assertRaises(TypeError, Filter.from_bytes, data)
+
+    def test_a_write_that_fails_leaves_the_old_file(self):
+        seen = Filter.from_bytes(WORKED)
+        self.assertRaises(OSError, seen.save, Path(self.folder.name) / "none" / "seen.bloom")
+        self.path.mkdir()
+        self.assertRaises(OSError, seen.save, self.path)
+        self.assertEqual(os.listdir(self.folder.name), [self.path.name])
+        self.assertRaises(OSError, Filter.load, self.path)
+        self.assertRaises(OSError, Filter.load, Path(self.folder.name) / "none")
+
+    def test_threads_that_save_one_file_leave_a_whole_one(self):
+        filters = [Filter(100_000, "1/1000") for _ in range(4)]
+        for number, seen in enumerate(filters):
+            seen.add(f"item{number}")
+
+        def save(seen):
+            for _ in range(5):
+                seen.save(self.path)
+
+        storm.at_once(*(lambda seen=seen: save(seen) for seen in filters))
+        self.assertIn(Filter.load(self.path), filters)
+        self.assertEqual(os.listdir(self.folder.name), [self.path.name])
+
+
+if __name__ == "__main__":
+    unittest.main()

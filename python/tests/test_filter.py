@@ -1,0 +1,251 @@
+"""What a filter takes, answers and refuses."""
+
+import array
+import copy
+import pickle
+import unittest
+from decimal import Decimal
+from fractions import Fraction
+
+import fastbloom
+from fastbloom import Filter, Refusal
+
+COUNTING_KEY = bytes(range(16))
+# SipHash-1-3 under the key bytes 0 to 15, by the crate siphasher 0.3.10, of the first bytes of this
+# text, by their number.
+TEXT = bytes((3 + 7 * place) % 256 for place in range(17))
+HASHES = {0: 12370263754033579228, 1: 3398045899470988360, 7: 14029210848122290102,
+          8: 6796821499482615526, 15: 6323795259543584655, 17: 12612916429403578116}
+
+
+def small(**options):
+    return Filter(1000, "1/1000", **options)
+
+
+class Named(Filter):
+    """A subclass with an attribute."""
+
+    def __init__(self, name):
+        super().__init__(1000, "1/1000")
+        self.name = [name]
+
+
+class Bytes(bytes):
+    """Bytes that tell another length."""
+
+    def __len__(self):
+        return 10**12
+
+
+class Items(unittest.TestCase):
+    def test_texts_count_as_their_bytes(self):
+        seen = small()
+        for item in ("crab", "Krabbe ü", "", "nul\0nul"):
+            self.assertFalse(seen.add(item))
+            self.assertTrue(seen.add(item.encode()))
+            self.assertIn(item, seen)
+        self.assertNotIn("nul", seen)
+
+    def test_bytes_like_objects_are_their_bytes(self):
+        seen, numbers = small(), array.array("I", [1, 2, 3])
+        raw = numbers.tobytes()
+        for item in (numbers, bytearray(b"ab"), memoryview(b"abcd")[::2], Bytes(b"crab")):
+            self.assertFalse(seen.add(item))
+        for item in (raw, b"ab", b"ac", b"crab"):
+            self.assertIn(item, seen)
+
+    def test_nothing_else_is_an_item(self):
+        seen = small()
+        for item in (5, 10**12, 0, True, 1.5, None, ["crab"], ("crab",), range(3), object()):
+            for call in (seen.add, seen.hash, lambda item: item in seen,
+                         lambda item: seen.update([item]), lambda item: seen.contains_many([item])):
+                with self.assertRaises(TypeError):
+                    call(item)
+        with self.assertRaises(UnicodeEncodeError):
+            seen.add("\ud800")
+        self.assertEqual(seen, small())
+
+    def test_hashes_are_those_of_the_bytes_under_the_key(self):
+        keyed = Filter(1, 1, COUNTING_KEY)
+        for length, value in HASHES.items():
+            self.assertEqual(keyed.hash(TEXT[:length]), value)
+
+    def test_a_hash_is_in_its_range(self):
+        seen = small()
+        self.assertFalse(seen.add_hash(2**64 - 1))
+        self.assertTrue(seen.contains_hash(2**64 - 1))
+        for value in (-1, 2**64):
+            for call in (seen.add_hash, seen.contains_hash):
+                self.assertRaises(ValueError, call, value)
+                self.assertRaises(TypeError, call, float(value))
+                self.assertRaises(TypeError, call, "crab")
+
+    def test_a_filter_has_no_length_and_no_elements(self):
+        seen = small()
+        self.assertRaises(TypeError, len, seen)
+        self.assertRaises(TypeError, iter, seen)
+        self.assertRaises(TypeError, hash, seen)
+        self.assertTrue(seen)
+
+
+class Many(unittest.TestCase):
+    def test_many_are_added_as_one_by_one(self):
+        for count in (0, 1, 4095, 4096, 4097, 10_000):
+            items = [f"item{number}" for number in range(count)]
+            one, many = Filter(10_000, "1/1000"), Filter(10_000, "1/1000")
+            for item in items:
+                one.add(item)
+            many.update(iter(items))
+            self.assertEqual(one, many)
+            self.assertEqual(many.contains_many(item for item in items), [True] * count)
+
+    def test_answers_are_in_order(self):
+        seen = small()
+        seen.update(["crab", b"lobster"])
+        self.assertEqual(seen.contains_many(["crab", "whale", "lobster"]), [True, False, True])
+
+    def test_what_came_before_a_refusal_is_added(self):
+        seen = small()
+        with self.assertRaises(TypeError):
+            seen.update(["crab", 5, "whale"])
+        self.assertEqual(seen.contains_many(["crab", "whale"]), [True, False])
+
+    def test_one_item_is_not_many(self):
+        seen = small()
+        for item in ("crab", b"crab", bytearray(b"crab"), memoryview(b"crab"), 5):
+            self.assertRaises(TypeError, seen.update, item)
+            self.assertRaises(TypeError, seen.contains_many, item)
+        self.assertEqual(seen, small())
+
+
+class Sizes(unittest.TestCase):
+    def test_a_rate_is_a_text_or_a_number(self):
+        wanted = Filter(1000, "1/1000")
+        for rate in (0.001, Fraction(1, 1000), Decimal("0.001"), "0.001", "1e-3"):
+            self.assertEqual(Filter(1000, rate), wanted)
+        self.assertEqual((wanted.num_words, wanted.num_bits, wanted.num_hashes), (225, 14400, 10))
+
+    def test_refusals(self):
+        for rate, code in ((0, 4), ("0/5", 4), ("1/0", 4)):
+            with self.assertRaises(Refusal) as told:
+                Filter(10, rate)
+            self.assertEqual((told.exception.code, str(told.exception)),
+                             (code, "rate with a zero part"))
+        # The last size below 2^64 bits, and the first that isn't.
+        for items, code in ((12786308645202655226, 3), (12786308645202655227, 5)):
+            with self.assertRaises(Refusal) as told:
+                Filter(items, "1/2")
+            self.assertEqual(told.exception.code, code)
+        self.assertEqual(str(pickle.loads(pickle.dumps(Refusal(5)))), "size too large")
+        for items, rate in ((-1, "1/2"), (2**64, "1/2"), (10, -0.5), (10, "crab"),
+                            (10, float("nan")), (10, float("inf")), (10, f"1/{2**64}")):
+            self.assertRaises(ValueError, Filter, items, rate)
+        for items, rate in ((1.5, "1/2"), ("10", "1/2"), (10, None), (10, b"1/2"), (10, (1, 2))):
+            self.assertRaises(TypeError, Filter, items, rate)
+
+    def test_keys(self):
+        self.assertEqual(small(key=bytearray(COUNTING_KEY)).key, COUNTING_KEY)
+        for key in (b"", bytes(15), bytes(17)):
+            self.assertRaises(ValueError, small, key=key)
+        for key in (16, "sixteen letters.", None):
+            self.assertRaises(TypeError, small, key=key)
+        for name in ("num_words", "num_bits", "num_hashes", "key"):
+            self.assertRaises(AttributeError, setattr, small(), name, 1)
+
+    def test_the_text_of_a_filter_hides_its_key(self):
+        self.assertEqual(repr(small()), "<Filter: 14400 bits, 10 hashes, the zero key>")
+        self.assertEqual(repr(small(key=COUNTING_KEY)), "<Filter: 14400 bits, 10 hashes, a key>")
+
+    def test_the_version(self):
+        self.assertRegex(fastbloom.__version__, r"\d+\.\d+\.\d+")
+
+
+class Sets(unittest.TestCase):
+    def setUp(self):
+        names = [f"item{number}" for number in range(1000)]
+        self.odd, self.even, self.all = small(), small(), small()
+        self.odd.update(names[1::2])
+        self.even.update(names[::2])
+        self.all.update(names)
+
+    def test_unions_and_intersections(self):
+        odd, even = self.odd.copy(), self.even.copy()
+        self.assertEqual(odd | even, self.all)
+        self.assertEqual((odd | even) & odd, odd)
+        self.assertEqual((odd, even), (self.odd, self.even))
+        both = odd
+        both |= even
+        self.assertIs(both, odd)
+        self.assertEqual(odd, self.all)
+        odd &= even
+        self.assertEqual(odd, even)
+        odd |= odd
+        odd &= odd
+        self.assertEqual(odd, even)
+
+    def test_other_filters_are_refused(self):
+        for other, name in ((Filter(10, "1/1000"), "num_words"),
+                            (small(key=COUNTING_KEY), "key"), (self.other_hashes(), "num_hashes")):
+            before = self.odd.copy()
+            for call in ("__or__", "__and__", "__ior__", "__iand__"):
+                with self.assertRaises(ValueError) as told:
+                    getattr(self.odd, call)(other)
+                self.assertEqual(str(told.exception), f"the filters differ in {name}")
+            self.assertEqual(self.odd, before)
+            self.assertNotEqual(self.odd, other)
+
+    def other_hashes(self):
+        file = bytearray(small().to_bytes(sealed=False))
+        file[8] = 9
+        return Filter.from_bytes(file)
+
+    def test_what_is_no_filter_is_refused(self):
+        for other in (None, 5, {"crab"}, "crab"):
+            with self.assertRaises(TypeError):
+                self.odd | other
+            with self.assertRaises(TypeError):
+                self.odd &= other
+            self.assertNotEqual(self.odd, other)
+
+    def test_clearing(self):
+        self.odd.clear()
+        self.assertEqual(self.odd, small())
+
+
+class Copies(unittest.TestCase):
+    def copies(self, seen):
+        yield from (seen.copy(), copy.copy(seen), copy.deepcopy(seen))
+        for protocol in range(pickle.HIGHEST_PROTOCOL + 1):
+            yield pickle.loads(pickle.dumps(seen, protocol))
+
+    def test_copies_are_filters_of_their_own(self):
+        seen = small(key=COUNTING_KEY)
+        seen.add("crab")
+        for other in self.copies(seen):
+            self.assertEqual(other, seen)
+            self.assertEqual(other.key, COUNTING_KEY)
+            self.assertFalse(other.add("whale"))
+            self.assertNotIn("whale", seen)
+            self.assertNotEqual(other, seen)
+
+    def test_copies_keep_what_a_subclass_adds(self):
+        seen = Named("fish")
+        for other in self.copies(seen):
+            self.assertIs(type(other), Named)
+            self.assertEqual(other.name, ["fish"])
+        self.assertIs(copy.copy(seen).name, seen.name)
+        self.assertIsNot(copy.deepcopy(seen).name, seen.name)
+        self.assertIs(type(seen | small()), Named)
+
+    def test_one_filter_twice_stays_one(self):
+        one, other = copy.deepcopy([small()] * 2)
+        self.assertIs(one, other)
+
+    def test_a_filter_with_many_hashes_is_pickled(self):
+        seen = Filter(1, f"1/{2**64 - 1}")
+        self.assertEqual(seen.num_hashes, 89)
+        self.assertEqual(pickle.loads(pickle.dumps(seen)), seen)
+
+
+if __name__ == "__main__":
+    unittest.main()
