@@ -4,6 +4,7 @@ use bloom_engine::{Fault, serve};
 use bloom_plain::BloomFilter;
 use std::alloc::{AllocError, Global};
 use std::cell::Cell;
+use std::io::ErrorKind;
 use std::process::Abort;
 use std::test::Fail;
 
@@ -62,6 +63,8 @@ const ONE: u64 = 0x100001;
 
 const TWO: u64 = 0x8000080000100001;
 
+const NO_INPUT: Result<(), Fault> = Err(Fault::Input(ErrorKind::BrokenPipe));
+
 // An input and whether its reader fails at its end; what is written, how the run ends, and the
 // filter's word. The bytes before a fault are answered up to the last whole line. The end of the
 // input ends a line without its own.
@@ -80,17 +83,17 @@ const READS: [(&str, bool, &str, Result<(), Fault>, u64); 18] = [
         Err(Fault::Line(6)),
         0,
     ),
-    ("", true, "", Err(Fault::Input), 0),
-    ("i", true, "", Err(Fault::Input), 0),
-    ("i ", true, "", Err(Fault::Input), 0),
-    ("i 1", true, "", Err(Fault::Input), 0),
-    ("i 1\n", true, "false\n", Err(Fault::Input), ONE),
-    ("i 1\nc", true, "false\n", Err(Fault::Input), ONE),
-    ("i 1\nc ", true, "false\n", Err(Fault::Input), ONE),
-    ("i 1\nc 1", true, "false\n", Err(Fault::Input), ONE),
-    ("i 1\nc 1\n", true, "false\ntrue\n", Err(Fault::Input), ONE),
-    ("i 1\nc 1\nw", true, "false\ntrue\n", Err(Fault::Input), ONE),
-    (SESSION, true, ANSWERS, Err(Fault::Input), ONE),
+    ("", true, "", NO_INPUT, 0),
+    ("i", true, "", NO_INPUT, 0),
+    ("i ", true, "", NO_INPUT, 0),
+    ("i 1", true, "", NO_INPUT, 0),
+    ("i 1\n", true, "false\n", NO_INPUT, ONE),
+    ("i 1\nc", true, "false\n", NO_INPUT, ONE),
+    ("i 1\nc ", true, "false\n", NO_INPUT, ONE),
+    ("i 1\nc 1", true, "false\n", NO_INPUT, ONE),
+    ("i 1\nc 1\n", true, "false\ntrue\n", NO_INPUT, ONE),
+    ("i 1\nc 1\nw", true, "false\ntrue\n", NO_INPUT, ONE),
+    (SESSION, true, ANSWERS, NO_INPUT, ONE),
     ("", false, "", Ok(()), 0),
     ("i 1\n", false, "false\n", Ok(()), ONE),
     ("i 1", false, "false\n", Ok(()), ONE),
@@ -158,14 +161,19 @@ fn a_write_or_a_flush_may_fail(rt: HostRuntime) -> Result<(), Fail> {
             ..ROOMY
         };
         let left = run(&rt, rt.alloc(), input.as_bytes(), WHOLE, writing, b"")?;
-        assert_eq!(rt; left.ended, Err(Fault::Output), "on {input:?}");
+        let kind = if flush_fails {
+            ErrorKind::BrokenPipe
+        } else {
+            ErrorKind::StorageFull
+        };
+        assert_eq!(rt; left.ended, Err(Fault::Output(kind)), "on {input:?}");
     }
     for room in 0..29 {
         let writing = Writing { room, ..NARROW };
         let output = ANSWERS.as_bytes().get(..room).unwrap_or(&[]);
         let left = run(&rt, rt.alloc(), SESSION.as_bytes(), WHOLE, writing, output)?;
         let wanted = if room < 28 {
-            Err(Fault::Output)
+            Err(Fault::Output(ErrorKind::StorageFull))
         } else {
             Ok(())
         };
@@ -174,12 +182,24 @@ fn a_write_or_a_flush_may_fail(rt: HostRuntime) -> Result<(), Fail> {
     Ok(())
 }
 
+const UNNAMED: &str = "standard input: bad file descriptor, or input/output error";
+
 #[test]
 fn faults_have_texts_and_statuses(rt: HostRuntime) -> Result<(), Fail> {
     for (fault, text, status) in [
-        (Fault::Memory, "no memory", 3),
-        (Fault::Input, "input failed", 4),
-        (Fault::Output, "output failed", 4),
+        (Fault::NotText, "an argument isn't UTF-8", 2),
+        (Fault::Memory, "out of memory", 5),
+        (
+            Fault::Input(ErrorKind::IsADirectory),
+            "standard input: is a directory",
+            1,
+        ),
+        (Fault::Input(ErrorKind::Uncategorized), UNNAMED, 1),
+        (
+            Fault::Output(ErrorKind::StorageFull),
+            "standard output: no storage space",
+            6,
+        ),
     ] {
         assert_eq!(rt; fault.to_string(rt.alloc())?.as_str(), text);
         assert_eq!(rt; fault.status(), status);

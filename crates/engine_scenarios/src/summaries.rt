@@ -5,7 +5,7 @@ use std::alloc::Global;
 use std::cell::Cell;
 use std::test::Fail;
 use std::thread::Threads;
-use summaries_engine::{ask, build, filter_of, put};
+use summaries_engine::{Inputs, Stop, Told, ask, build, filter_of, put};
 
 // Filters of 64 bits and two hashes, of the key "a", and of "a" and "b". These words were worked
 // out by another program, from the papers on SipHash and on the multiply and shift.
@@ -22,20 +22,52 @@ const FAILING: Reading = Reading {
     fails: true,
 };
 
-// The text of an error, or none.
-fn told<T: Drop>(alloc: Global, ended: anyhow::Result<T>) -> Result<String, Fail> {
-    match ended {
-        Ok(_) => Ok(String::new(alloc)),
-        Err(error) => Ok(error.to_string(alloc)?),
+// Inputs whose names are their keys. Each gives them as told.
+#[derive(Drop)]
+struct Odd<'a> {
+    keys: &'a [u8],
+    reading: Reading,
+    waiting: &'a Cell<usize>,
+}
+
+impl<'a> Inputs for Odd<'a> {
+    type Input = Source<'a>;
+
+    ghost has = { λ odd name read. Unit {0} };
+
+    ghost fails = { λ odd name stop. Unit {0} };
+
+    fn open(&self, name: &str) -> Result<Source<'a>, Stop> {
+        if name == "whole" {
+            return Ok(Source::new(b"a\nb\n", b"", WHOLE, self.waiting));
+        }
+        Ok(Source::new(self.keys, b"", self.reading, self.waiting))
     }
 }
 
-// Builds a filter of keys: why there is none, if so.
+// The text of an error, or none.
+fn told<T: Drop>(alloc: Global, ended: Result<T, Stop>) -> Result<String, Fail> {
+    match ended {
+        Ok(_) => Ok(String::new(alloc)),
+        Err(Stop::Input(error)) => Ok(error.to_string(alloc)?),
+        Err(Stop::Output(error)) => Ok(error.to_string(alloc)?),
+        Err(stop) => Ok(stop.to_string(alloc)?),
+    }
+}
+
+// Builds a filter of the keys of two inputs: why there is none, if so.
 fn built<R: Threads>(rt: &R, alloc: Global, keys: &[u8], reading: Reading) -> Result<String, Fail> {
     let waiting = Cell::new(0);
-    let mut input = Source::new(keys, b"", reading, &waiting);
-    let made = build(rt, alloc, Shape::new(64, 2)?, 2, &mut input);
-    told(alloc, made)
+    let odd = Odd {
+        keys,
+        reading,
+        waiting: &waiting,
+    };
+    let shape = Shape::new(64, 2)?;
+    told(
+        alloc,
+        build::<10, _, _>(rt, alloc, shape, 2, &odd, &["whole", "odd"]),
+    )
 }
 
 // Asks the filter of a text: why not all keys were answered, if so, and what was written.
@@ -48,9 +80,13 @@ fn asked(
 ) -> Result<(String, Vec<u8>), Fail> {
     let waiting = Cell::new(0);
     let filter = filter_of(alloc, text)?;
-    let mut input = Source::new(keys, b"", reading, &waiting);
+    let odd = Odd {
+        keys,
+        reading,
+        waiting: &waiting,
+    };
     let mut output = Sink::new(alloc, writing, &waiting);
-    let asked = ask(alloc, &filter, &mut input, &mut output);
+    let asked = ask::<10, _, _>(alloc, &filter, Told::Found, &odd, &["odd"], &mut output);
     let Sink { written, .. } = output;
     Ok((told(alloc, asked)?, written))
 }
@@ -60,10 +96,10 @@ fn a_read_that_fails_ends_the_keys(rt: HostRuntime) -> Result<(), Fail> {
     for end in 0..5 {
         let keys = b"a\nb\n".get(..end).unwrap_or(&[]);
         let told = built(&rt, rt.alloc(), keys, FAILING)?;
-        assert_eq!(rt; told.as_str(), "the keys can't be read");
+        assert_eq!(rt; told.as_str(), "odd: it can't be read");
     }
     let (told, written) = asked(rt.alloc(), A, b"a\na\na", FAILING, ROOMY)?;
-    assert_eq!(rt; told.as_str(), "the keys can't be read");
+    assert_eq!(rt; told.as_str(), "odd: it can't be read");
     assert_eq!(rt; written.as_slice(), b"a\na\n".as_slice());
     Ok(())
 }
@@ -71,7 +107,7 @@ fn a_read_that_fails_ends_the_keys(rt: HostRuntime) -> Result<(), Fail> {
 // A key of 65536 bytes is the longest.
 #[test]
 fn a_key_may_be_too_long(rt: HostRuntime) -> Result<(), Fail> {
-    for (count, text) in [(65536, ""), (65537, "key 2 has more than 65536 bytes")] {
+    for (count, text) in [(65536, ""), (65537, "odd: key 2 has more than 65536 bytes")] {
         let mut keys = vec![in rt.alloc(); b'b'; count]?;
         keys.insert(0, b'\n')?;
         keys.insert(0, b'a')?;

@@ -8,6 +8,8 @@ mod by_hash;
 #[cfg(test)]
 mod files;
 #[cfg(test)]
+mod growing;
+#[cfg(test)]
 mod hashing;
 #[cfg(test)]
 mod items;

@@ -4,6 +4,8 @@
 #![tactic(auto)]
 
 #[cfg(test)]
+mod growing;
+#[cfg(test)]
 mod parts;
 #[cfg(test)]
 mod plain;

@@ -10,6 +10,8 @@ mod files;
 #[cfg(test)]
 mod filled;
 #[cfg(test)]
+mod growing;
+#[cfg(test)]
 mod keys;
 #[cfg(test)]
 mod lists;

@@ -1,11 +1,8 @@
-//! The four kinds of filter, as README shows them.
+//! Three kinds of filter, as README shows them.
 
-use fastbloom::{
-    AtomicBloomFilter, BloomFilter, FilterError, Gate, Rate, SeatedBloomFilter, Shape, fill,
-};
-use std::alloc::{AllocError, Global};
+use fastbloom::{AtomicBloomFilter, BloomFilter, FilterError, Rate, SeatedBloomFilter};
+use std::alloc::Global;
 use std::sync::Arc;
-use std::thread::Threads;
 
 /// One owner. The answers are false and true.
 pub fn plain_filter(alloc: Global, key: &u128) -> Result<(bool, bool), FilterError> {
@@ -37,21 +34,4 @@ pub fn seated_filter(alloc: Global) -> Result<(bool, bool, Vec<u64>), FilterErro
     filter.meet(&mut first, &mut second); // each then knows what either knew
     let after = filter.contains_hash_as(&mut second, 1); // true
     Ok((before, after, filter.close(alloc, second)?)) // one word, with bits 0 and 20
-}
-
-/// Lets every worker begin at once.
-#[derive(Drop)]
-pub struct Open;
-
-impl Gate for Open {
-    fn pass(&self, _worker: usize) {}
-}
-
-/// A filter of the hashes 1 to 5, filled by two threads.
-pub fn filled_filter<R: Threads>(rt: &R, alloc: Global) -> Result<BloomFilter, FilterError> {
-    let mut parts = Vec::new(alloc); // one for each thread
-    parts.push(vec![in alloc; 1u64, 2, 3]?)?;
-    parts.push(vec![in alloc; 4u64, 5]?)?;
-    let shape = Shape::new(1 << 20, 7)?;
-    fill(rt, alloc, Arc::new(alloc, Open)?, shape, parts)
 }

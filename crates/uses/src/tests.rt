@@ -7,13 +7,13 @@ use crate::filled::filter_of;
 use crate::keys::drawn_key;
 use crate::lists::replies;
 use crate::plain::count_repeated;
-use crate::readme::{filled_filter, plain_filter, seated_filter, shared_filter};
+use crate::readme::{plain_filter, seated_filter, shared_filter};
 use crate::rotated::rotate;
-use crate::saved;
 use crate::saved::parts_of;
 use crate::seated::insert_hashes;
 use crate::sets::keep_common;
 use crate::shared::count_found;
+use crate::{growing, saved};
 use fastbloom::{AtomicBloomFilter, BloomFilter, FilterError, SeatedBloomFilter};
 use std::alloc::Global;
 use std::fs;
@@ -38,7 +38,6 @@ fn each_kind_of_filter_in_readme_finds_what_was_inserted(rt: HostRuntime) -> Res
     let (before, after, words) = seated_filter(rt.alloc())?;
     assert_eq!(rt; (before, after), (false, true));
     assert!(rt; words.as_slice() == [WORD_OF_ONE].as_slice());
-    assert_eq!(rt; count_hashes(&filled_filter(&rt, rt.alloc())?, 5), 5);
     Ok(())
 }
 
@@ -95,6 +94,9 @@ fn kept(alloc: Global) -> Result<[(bool, bool); 4], FilterError> {
 fn plain_filters_are_built_saved_and_asked(rt: HostRuntime) -> Result<(), Fail> {
     let names = ["crab", "lobster", "crab"];
     assert_eq!(rt; count_repeated(rt.alloc(), &drawn_key(&rt)?, &names)?, 1);
+    let many = ["crab", "lobster", "crab", "ray", "eel"];
+    let grown = growing::count_repeated(rt.alloc(), &42, &many)?;
+    assert!(rt; grown == (1, 2));
     assert!(rt; shapes(rt.alloc())? == [(1024, 4), (1024, 7), (14400, 10), (64, 2)]);
     assert!(rt; by_words(rt.alloc())? == filter_of_one(rt.alloc())?);
     assert!(rt; restored(rt.alloc())? == filter_of_one(rt.alloc())?);
