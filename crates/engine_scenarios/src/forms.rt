@@ -4,7 +4,7 @@ use fastbloom::BloomFilter;
 use std::alloc::Global;
 use std::cell::Cell;
 use std::test::Fail;
-use summaries_engine::{Form, load, put_file};
+use summaries_engine::{Form, Stop, load, put_file};
 
 // The file of a filter of 64 bits and two hashes, of the key "a". Its word was worked out by
 // another program, from the papers on SipHash and on the multiply and shift. Its seal is what
@@ -30,7 +30,7 @@ const FAILING: Reading = Reading {
 };
 
 // The filter of bytes, and its form.
-fn loaded(alloc: Global, bytes: &[u8], reading: Reading) -> anyhow::Result<(BloomFilter, Form)> {
+fn loaded(alloc: Global, bytes: &[u8], reading: Reading) -> Result<(BloomFilter, Form), Stop> {
     let waiting = Cell::new(0);
     let mut input = Source::new(bytes, b"", reading, &waiting);
     load(alloc, "a", 64, &mut input)
@@ -40,7 +40,9 @@ fn loaded(alloc: Global, bytes: &[u8], reading: Reading) -> anyhow::Result<(Bloo
 fn told(alloc: Global, bytes: &[u8], reading: Reading) -> Result<String, Fail> {
     match loaded(alloc, bytes, reading) {
         Ok(_) => Ok(String::new(alloc)),
-        Err(error) => Ok(error.to_string(alloc)?),
+        Err(Stop::Input(error)) => Ok(format!(in alloc; "a read: {error}")?),
+        Err(Stop::Bad(error)) => Ok(format!(in alloc; "bad: {error}")?),
+        Err(stop) => Ok(stop.to_string(alloc)?),
     }
 }
 
@@ -61,13 +63,13 @@ fn a_file_may_be_cut_or_fail_at_any_byte(rt: HostRuntime) -> Result<(), Fail> {
     for end in 0..72 {
         let bytes = FILE.get(..end).unwrap_or(&[]);
         let cut = told(rt.alloc(), bytes, SLOW)?;
-        assert_eq!(rt; cut.as_str(), "a: it holds no filter", "at byte {end}");
+        assert_eq!(rt; cut.as_str(), "bad: a: it holds no filter", "at byte {end}");
         let failed = told(rt.alloc(), bytes, FAILING)?;
-        assert_eq!(rt; failed.as_str(), "a: it can't be read", "at byte {end}");
+        assert_eq!(rt; failed.as_str(), "a read: a: it can't be read", "at byte {end}");
     }
     // The end of a whole file is looked for too.
     let failed = told(rt.alloc(), FILE, FAILING)?;
-    assert_eq!(rt; failed.as_str(), "a: it can't be read");
+    assert_eq!(rt; failed.as_str(), "a read: a: it can't be read");
     Ok(())
 }
 

@@ -5,7 +5,7 @@ use std::alloc::Global;
 use std::cell::Cell;
 use std::test::Fail;
 use std::thread::Threads;
-use summaries_engine::{Inputs, Stop, Told, ask, build, filter_of, put};
+use summaries_engine::{Inputs, Stop, Told, ask, build, load, put};
 
 // Filters of 64 bits and two hashes, of the key "a", and of "a" and "b". These words were worked
 // out by another program, from the papers on SipHash and on the multiply and shift.
@@ -45,11 +45,18 @@ impl<'a> Inputs for Odd<'a> {
     }
 }
 
+// The filter of a text.
+fn filter_in(alloc: Global, text: &str) -> Result<BloomFilter, Stop> {
+    let (filter, _form) = load(alloc, "a", 64, &mut text.as_bytes())?;
+    Ok(filter)
+}
+
 // The text of an error, or none.
 fn told<T: Drop>(alloc: Global, ended: Result<T, Stop>) -> Result<String, Fail> {
     match ended {
         Ok(_) => Ok(String::new(alloc)),
         Err(Stop::Input(error)) => Ok(error.to_string(alloc)?),
+        Err(Stop::Bad(error)) => Ok(error.to_string(alloc)?),
         Err(Stop::Output(error)) => Ok(error.to_string(alloc)?),
         Err(stop) => Ok(stop.to_string(alloc)?),
     }
@@ -79,7 +86,7 @@ fn asked(
     writing: Writing,
 ) -> Result<(String, Vec<u8>), Fail> {
     let waiting = Cell::new(0);
-    let filter = filter_of(alloc, text)?;
+    let filter = filter_in(alloc, text)?;
     let odd = Odd {
         keys,
         reading,
@@ -124,7 +131,7 @@ fn a_key_may_be_too_long(rt: HostRuntime) -> Result<(), Fail> {
 #[test]
 fn a_write_may_fail_at_any_byte_of_a_filter(rt: HostRuntime) -> Result<(), Fail> {
     let waiting = Cell::new(0);
-    let filter = filter_of(rt.alloc(), BOTH)?;
+    let filter = filter_in(rt.alloc(), BOTH)?;
     for room in 0..76 {
         let writing = Writing { room, ..NARROW };
         let mut output = Sink::new(rt.alloc(), writing, &waiting);

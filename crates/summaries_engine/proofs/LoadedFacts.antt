@@ -2,13 +2,16 @@
 -- that nearly do.
 use Rattle.std.proofs.Common.{◌≡◌, ℕ, List, [], ◌∷◌, ◌++◌, codes, drop, get_or, Some, refl, ap, arith, inl, inr}
 use Rattle.std.specs.Fmt.{digits}
-use Rattle.anyhow.specs.Error.{HasMessage}
+use Rattle.std.specs.Fmt.Cut.{EndsInDots}
+use Rattle.anyhow.specs.Error.{HasMessage, error_message}
 use Rattle.anyhow.specs.declared.error.Error.{Error}
 use Rattle.fastbloom.specs.Data.{DefaultFilter}
 use Rattle.fastbloom.specs.File.{IsFileOf}
 use Rattle.bloom_plain.specs.FileRefusals.{number_at}
 use Rattle.summaries_engine.specs.declared.form.Form.TheVariants.{Sealed, Unsealed, Json}
+use Rattle.summaries_engine.specs.declared.stop.Stop.TheVariants.{Memory, Worker, Input, Bad, Output}
 use Rattle.summaries_engine.specs.Loaded.{HasManyHashes, IsInForm, IsUnloaded, IsUnread, file_form, hashes_text, mark_bytes}
+use Rattle.summaries_engine.proofs.StopFacts.{says-other}
 
 -- the mark is the name and a zero
 mark-text : mark_bytes ≡ codes "fbloom" ++ 0 ∷ []
@@ -67,7 +70,7 @@ many-text = refl
 module _ (said : Error) where
   -- 65 hashes are more than 64
   many-more : HasMessage (Some (hashes_text (codes "a") 65 64)) said
-      → IsUnloaded (codes "a") 64 said
+      → IsUnloaded (codes "a") 64 (Bad said)
   many-more says = inr (record { hashes = 65; many = omega arith; says = says })
 
   -- 64 hashes aren't
@@ -75,9 +78,46 @@ module _ (said : Error) where
   many-allowed many is = omega (arith, many.many, is)
 
   -- a file can't be read
-  unread-failed : HasMessage (Some (codes "a: it can't be read")) said → IsUnread (codes "a") said
-  unread-failed says = inl says
+  unread-failed : HasMessage (Some (codes "a: it can't be read")) said
+      → IsUnread (codes "a") (Input said)
+  unread-failed says = inr (inl says)
 
   -- a file holds no filter
-  unread-none : HasMessage (Some (codes "a: it holds no filter")) said → IsUnread (codes "a") said
-  unread-none says = inr says
+  unread-none : HasMessage (Some (codes "a: it holds no filter")) said
+      → IsUnread (codes "a") (Bad said)
+  unread-none says = inr (inr says)
+
+  -- what is said of a file that can't be read isn't said of one that is read and holds no filter
+  unread-bad : error_message said ≡ codes "a: it can't be read" → IsUnread (codes "a") (Bad said)
+      → ⊥
+  unread-bad told (inl memory) = memory
+  unread-bad told (inr (inl failed)) = failed
+  unread-bad told (inr (inr none)) =
+      says-other (codes "a: it can't be read") (codes "a: it holds no filter") said told
+      (λ same. byte-6 (ap (λ t. get_or t 6 0) same)) whole none
+    where
+      byte-6 : ◌≡◌ {A = ℕ} 99 104 → ⊥
+      byte-6 is = absurd (omega (arith, is))
+
+      whole : EndsInDots 120 (codes "a: it can't be read") → ⊥
+      whole ends =
+          let byte : ◌≡◌ {A = ℕ} 101 46 = ap (λ t. get_or t 0 0) ends in
+          absurd (omega (arith, byte))
+
+  -- a write that fails is no reason
+  unread-output : IsUnloaded (codes "a") 64 (Output said) → ⊥
+  unread-output (inl (inl memory)) = memory
+  unread-output (inl (inr (inl failed))) = failed
+  unread-output (inl (inr (inr none))) = none
+  unread-output (inr many) = many
+
+-- memory was out
+unread-room : IsUnloaded (codes "a") 64 Memory
+unread-room = inl (inl tt)
+
+-- no thread is started for a file
+unread-worker : IsUnloaded (codes "a") 64 Worker → ⊥
+unread-worker (inl (inl memory)) = memory
+unread-worker (inl (inr (inl failed))) = failed
+unread-worker (inl (inr (inr none))) = none
+unread-worker (inr many) = many

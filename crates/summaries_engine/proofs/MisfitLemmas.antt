@@ -1,12 +1,12 @@
 -- The place of a name whose filter differs from the first.
 use Rattle.std.proofs.Common.{◌≡◌, ◌<◌, ◌+◌, ◌-◌, ◌^◌, ℕ, suc, Bor, min, List, [], ◌∷◌, ◌++◌, map, length, length-append, get_or, refl, sym, subst, ap, ◌∙◌, arith}
 use Rattle.std.proofs.lemmas.List.{get_or-map, length-map}
-use Rattle.anyhow.specs.declared.error.Error.{Error}
+use Rattle.summaries_engine.specs.declared.stop.Stop.{Stop}
 use Rattle.fastbloom.specs.Data.{DefaultFilter}
 use Rattle.summaries_engine.specs.declared.unions.Difference.{Difference}
 use Rattle.summaries_engine.specs.Named.{Named, AreNamed, LoadedBefore, StopsAtMisfit, misfit_text}
 use Rattle.summaries_engine.specs.Refusals.{DiffersBy}
-use Rattle.summaries_engine.specs.Stops.{Says}
+use Rattle.summaries_engine.specs.Stops.{IsBad, Says}
 
 -- as few texts as names
 pub few-names : (names : List (Bor (List ℕ))) → length names < 2 ^ 64
@@ -59,12 +59,12 @@ pub record MisfitAt (has : Named) (names : List (List ℕ)) (first : DefaultFilt
 
 -- what is said names it and the first
 pub misfit-said : (has : Named) (names : List (Bor (List ℕ))) (first : DefaultFilter) (number : ℕ)
-    (how : Difference) (other : Bor (List ℕ)) (name : List ℕ) (said : Error)
+    (how : Difference) (other : Bor (List ℕ)) (name : List ℕ) (stop : Stop)
     → MisfitAt has (map (λ name. name.now) names) first number how → number < length names
     → get_or (map (λ name. name.now) names) 0 [] ≡ name
-    → Says (misfit_text how (get_or names number other).now name) said
-    → StopsAtMisfit has (map (λ name. name.now) names) said
-misfit-said has names first number how other name said at within is_first says = record {
+    → IsBad (Says (misfit_text how (get_or names number other).now name)) stop
+    → StopsAtMisfit has (map (λ name. name.now) names) stop
+misfit-said has names first number how other name stop at within is_first says = record {
   first = first;
   filters = at.filters;
   name = at.name;
@@ -73,7 +73,7 @@ misfit-said has names first number how other name said at within is_first says =
   reaches = at.reaches;
   loaded = at.loaded;
   differs = at.differs;
-  says = subst (λ n. Says (misfit_text how at.name n) said) (sym is_first)
-      (subst (λ n. Says (misfit_text how n name) said)
+  says = subst (λ n. IsBad (Says (misfit_text how at.name n)) stop) (sym is_first)
+      (subst (λ n. IsBad (Says (misfit_text how n name)) stop)
       (sym (get_or-map (λ n. n.now) names number other [] within) ∙ at.is_name) says);
 }

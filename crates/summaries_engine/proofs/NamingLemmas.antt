@@ -5,15 +5,15 @@ use Rattle.std.proofs.lemmas.List.{length-map}
 use Rattle.std.specs.List.{IsFirstAndRest}
 use Rattle.std.specs.Prelude.{MatchOption, Result}
 use Rattle.std.specs.Iterator.Runs.{WholeRun}
-use Rattle.anyhow.specs.declared.error.Error.{Error}
 use Rattle.fastbloom.specs.Data.{DefaultFilter}
 use Rattle.summaries_engine.specs.declared.shards.Shards.{Shards}
+use Rattle.summaries_engine.specs.declared.stop.Stop.{Stop}
 use Rattle.summaries_engine.specs.declared.unions.Difference.{Difference}
 use Rattle.summaries_engine.specs.declared.unions.Refusal.{Refusal}
 use Rattle.summaries_engine.specs.declared.unions.Refusal.TheVariants.{Unread, Differs}
 use Rattle.summaries_engine.specs.Named.{Named, AreNamed, GivesNext, StopsUniting, misfit_text}
 use Rattle.summaries_engine.specs.Refusals.{RefusesGiven}
-use Rattle.summaries_engine.specs.Stops.{Says}
+use Rattle.summaries_engine.specs.Stops.{IsBad, Says}
 use Rattle.summaries_engine.specs.Summaries.{UnitesGiven, UnitesShards}
 use Rattle.summaries_engine.proofs.MisfitLemmas.{MisfitAt, few-names, misfit-said}
 use Rattle.summaries_engine.proofs.NamedLemmas.{misfit-at, named-run, unloaded}
@@ -23,12 +23,12 @@ abbrev texts : List (Bor (List ℕ)) → List (List ℕ)
 texts names = map (λ name. name.now) names
 
 -- what a call of the iterator over names gives
-abbrev Gives : {S : Type 0} → (S → Named) → (S → List ℕ → Error → Type 0) → Shards S
-    → Option (Result DefaultFilter Error) → Shards S → Type 0
+abbrev Gives : {S : Type 0} → (S → Named) → (S → List ℕ → Stop → Type 0) → Shards S
+    → Option (Result DefaultFilter Stop) → Shards S → Type 0
 Gives has fails =
     GivesNext has fails (λ shards. shards.shelf.now) (λ shards. texts shards.names.rest.now)
 
-module _ {S : Type 0} (has : S → Named) (fails : S → List ℕ → Error → Type 0)
+module _ {S : Type 0} (has : S → Named) (fails : S → List ℕ → Stop → Type 0)
     (names : List (Bor (List ℕ)))
     {found : Option (Bor (Bor (List ℕ)) × Bor (List (Bor (List ℕ))))}
     {name : Bor (Bor (List ℕ))} {others : Bor (List (Bor (List ℕ)))}
@@ -41,8 +41,8 @@ module _ {S : Type 0} (has : S → Named) (fails : S → List ℕ → Error → 
       is cut).0
 
   -- the filter of the first name couldn't be loaded
-  pub stops-first : {on : S} {said : Error} → fails on name.now.now said
-      → StopsUniting (has on) (fails on) (texts names) said
+  pub stops-first : {on : S} {stop : Stop} → fails on name.now.now stop
+      → StopsUniting (has on) (fails on) (texts names) stop
   stops-first failed = inr (inl (record {
     filters = [];
     name = name.now.now;
@@ -71,22 +71,22 @@ module _ {S : Type 0} (has : S → Named) (fails : S → List ℕ → Error → 
         → (filters : List DefaultFilter) × AreNamed (has shelf.now) (texts names) filters
         × UnitesShards filters made
     named-whole {made = made} whole =
-        named-run Error has fails (λ shards. shards.shelf.now)
+        named-run Stop has fails (λ shards. shards.shelf.now)
         (λ shards. texts shards.names.rest.now) first made name.now.now whole.0 shelf.now
         (texts names) (ap (λ s. s.shelf.now) whole.1) (left-behind whole.0 whole.1) here whole.2
 
     -- the filter of another name couldn't be loaded
-    pub stops-unread : {refusal : Refusal Error} {error : Error}
+    pub stops-unread : {refusal : Refusal Stop} {stop : Stop}
         → (it : Shards S) × (it ≡ record { shelf = shelf; names = iter })
-        × RefusesGiven (Gives has fails) it first refusal → refusal ≡ Unread error
-        → StopsUniting (has shelf.now) (fails shelf.now) (texts names) error
-    stops-unread {refusal = refusal} {error = error} refused told =
-        inr (inl (unloaded Error has fails (λ shards. shards.shelf.now)
+        × RefusesGiven (Gives has fails) it first refusal → refusal ≡ Unread stop
+        → StopsUniting (has shelf.now) (fails shelf.now) (texts names) stop
+    stops-unread {refusal = refusal} {stop = stop} refused told =
+        inr (inl (unloaded Stop has fails (λ shards. shards.shelf.now)
         (λ shards. texts shards.names.rest.now) first name.now.now refused.0 shelf.now
         (texts names) (ap (λ s. s.shelf.now) refused.1) (left-behind refused.0 refused.1) here
-        error refusal told refused.2))
+        stop refusal told refused.2))
 
-    module _ (few : length names ≤ 2 ^ 64 - 1) {refusal : Refusal Error} {number : ℕ}
+    module _ (few : length names ≤ 2 ^ 64 - 1) {refusal : Refusal Stop} {number : ℕ}
         {how : Difference}
         (refused : (it : Shards S) × (it ≡ record { shelf = shelf; names = iter })
         × RefusesGiven (Gives has fails) it first refusal) (told : refusal ≡ Differs number how)
@@ -94,7 +94,7 @@ module _ {S : Type 0} (has : S → Named) (fails : S → List ℕ → Error → 
         -- the filter of a name differs from the first, and its number is the place of that name
         misfit-there : MisfitAt (has shelf.now) (texts names) first number how
         misfit-there =
-            misfit-at Error has fails (λ shards. shards.shelf.now)
+            misfit-at Stop has fails (λ shards. shards.shelf.now)
             (λ shards. texts shards.names.rest.now) first name.now.now refused.0 shelf.now
             (texts names) (ap (λ s. s.shelf.now) refused.1) (left-behind refused.0 refused.1) here
             number how refusal told (few-names names (omega (arith, few))) refused.2
@@ -104,9 +104,9 @@ module _ {S : Type 0} (has : S → Named) (fails : S → List ℕ → Error → 
         misfit-within = subst (λ n. number < n) (length-map names (λ n. n.now)) misfit-there.within
 
         -- what is said of the filter that differs names it and the first
-        pub stops-misfit : (other : Bor (List ℕ)) {said : Error}
-            → Says (misfit_text how (get_or names number other).now name.now.now) said
-            → StopsUniting (has shelf.now) (fails shelf.now) (texts names) said
-        stops-misfit other {said = said} says =
-            inr (inr (misfit-said (has shelf.now) names first number how other name.now.now said
+        pub stops-misfit : (other : Bor (List ℕ)) {stop : Stop}
+            → IsBad (Says (misfit_text how (get_or names number other).now name.now.now)) stop
+            → StopsUniting (has shelf.now) (fails shelf.now) (texts names) stop
+        stops-misfit other {stop = stop} says =
+            inr (inr (misfit-said (has shelf.now) names first number how other name.now.now stop
             misfit-there misfit-within (ap (λ l. get_or (texts l) 0 []) first-and-others) says))

@@ -12,7 +12,7 @@ use Rattle.lines.specs.Lines.{lines_by}
 use Rattle.lines.specs.Reading.{AreShort, IsReadFromBy}
 use Rattle.summaries_engine.specs.declared.answers.Told.{Told}
 use Rattle.summaries_engine.specs.declared.stop.Stop.{Stop}
-use Rattle.summaries_engine.specs.declared.stop.Stop.TheVariants.{Memory, Worker, Input, Output}
+use Rattle.summaries_engine.specs.declared.stop.Stop.TheVariants.{Memory, Worker, Input, Bad, Output}
 use Rattle.summaries_engine.specs.Refusals.{too_long_text}
 use Rattle.summaries_engine.specs.Stops.{IsReasonAfter, Says, SaysOver, StopsAfter, StopsAnswers, StopsHashing}
 use Rattle.summaries_engine.proofs.StopLemmas.{from-none, stops-none}
@@ -44,12 +44,50 @@ reason-no : (end : ℕ) (read : Option (List ℕ)) (keys : List (List ℕ)) (sai
 reason-no end read keys said told (inl (inl memory)) = memory
 reason-no end read keys said told (inl (inr over)) =
     says-other (codes "no") (codes "k: it can't be read") said told (λ same. cc) no-whole over.0
-reason-no end read keys said told (inr (inl at)) =
+reason-no end read keys said told (inr (inl at)) = at.1
+reason-no end read keys said told (inr (inr at)) = at.1
+
+bad-no : (end : ℕ) (read : Option (List ℕ)) (keys : List (List ℕ)) (said : Error)
+    → error_message said ≡ codes "no" → IsReasonAfter end (codes "k") read keys (Bad said) → ⊥
+bad-no end read keys said told (inl (inl memory)) = memory
+bad-no end read keys said told (inl (inr over)) = over
+bad-no end read keys said told (inr (inl at)) =
     says-other (codes "no") (too_long_text (codes "k") (length keys)) said told (λ same. cc)
     no-whole at.1.message
-reason-no end read keys said told (inr (inr at)) =
+bad-no end read keys said told (inr (inr at)) =
     says-other (codes "no") (codes "k: it has too many keys") said told (λ same. cc) no-whole
     at.1.message
+
+-- a failed read isn't bad input, nor the other way round
+failed-read : (end : ℕ) (read : Option (List ℕ)) (keys : List (List ℕ)) (said : Error)
+    → error_message said ≡ codes "k: it can't be read"
+    → IsReasonAfter end (codes "k") read keys (Bad said) → ⊥
+failed-read end read keys said told reason = of reason
+  where
+    whole : EndsInDots 120 (codes "k: it can't be read") → ⊥
+    whole ends =
+        let byte : ◌≡◌ {A = ℕ} 101 46 = ap (λ t. get_or t 0 0) ends in
+        absurd (omega (arith, byte))
+
+    long : (rest : List ℕ) → codes "k: it can't be read" ≡ codes "k: k" ++ rest → ⊥
+    long rest same =
+        let byte : ◌≡◌ {A = ℕ} 105 107 = ap (λ t. get_or t 3 0) same in
+        absurd (omega (arith, byte))
+
+    many : codes "k: it can't be read" ≡ codes "k: it has too many keys" → ⊥
+    many same =
+        let byte : ◌≡◌ {A = ℕ} 99 104 = ap (λ t. get_or t 6 0) same in
+        absurd (omega (arith, byte))
+
+    of : IsReasonAfter end (codes "k") read keys (Bad said) → ⊥
+    of (inl (inl memory)) = memory
+    of (inl (inr over)) = over
+    of (inr (inl at)) =
+        says-other (codes "k: it can't be read") (too_long_text (codes "k") (length keys)) said
+        told (long _) whole at.1.message
+    of (inr (inr at)) =
+        says-other (codes "k: it can't be read") (codes "k: it has too many keys") said told many
+        whole at.1.message
 
 -- a write that failed is no reason, and no worker is
 reason-output : (end : ℕ) (read : Option (List ℕ)) (keys : List (List ℕ)) (said : Error)
@@ -87,17 +125,17 @@ reason-name end read keys said told reason = of reason
     of (inl (inr over)) =
         says-other (codes "j: it can't be read") (codes "k: it can't be read") said told
         (other _) whole over.0
-    of (inr (inl at)) =
-        says-other (codes "j: it can't be read") (too_long_text (codes "k") (length keys)) said
-        told (other _) whole at.1.message
-    of (inr (inr at)) =
-        says-other (codes "j: it can't be read") (codes "k: it has too many keys") said told
-        (other _) whole at.1.message
+    of (inr (inl at)) = at.1
+    of (inr (inr at)) = at.1
 
 -- nothing is refused for no reason
 hashing-no : (end : ℕ) (read : Option (List ℕ)) (said : Error) → error_message said ≡ codes "no"
     → StopsHashing end (codes "k") read (Input said) → ⊥
 hashing-no end read said told stop = reason-no end read stop.keys said told stop.reason
+
+hashing-bad : (end : ℕ) (read : Option (List ℕ)) (said : Error) → error_message said ≡ codes "no"
+    → StopsHashing end (codes "k") read (Bad said) → ⊥
+hashing-bad end read said told stop = bad-no end read stop.keys said told stop.reason
 
 answers-no : (f : DefaultFilter) (which : Told) (end : ℕ) (earlier : List (List ℕ))
     (read from to : Option (List ℕ)) (said : Error) → error_message said ≡ codes "no"
@@ -112,7 +150,7 @@ first_long = codes "k: key 1 has more than 65536 bytes"
 
 short-key : (keys : List (List ℕ)) (said : Error) → error_message said ≡ first_long
     → IsReadFromBy 10 (Some (1 ∷ 10 ∷ [])) keys
-    → IsReasonAfter 10 (codes "k") (Some (1 ∷ 10 ∷ [])) keys (Input said) → ⊥
+    → IsReasonAfter 10 (codes "k") (Some (1 ∷ 10 ∷ [])) keys (Bad said) → ⊥
 unfolding lines_by
 short-key keys said told first reason = of reason
   where
@@ -121,15 +159,9 @@ short-key keys said told first reason = of reason
         let byte : ◌≡◌ {A = ℕ} 116 46 = ap (λ t. get_or t 0 0) ends in
         absurd (omega (arith, byte))
 
-    unread : first_long ≡ codes "k: it can't be read" → ⊥
-    unread same =
-        let byte : ◌≡◌ {A = ℕ} 107 105 = ap (λ t. get_or t 3 0) same in
-        absurd (omega (arith, byte))
-
-    of : IsReasonAfter 10 (codes "k") (Some (1 ∷ 10 ∷ [])) keys (Input said) → ⊥
+    of : IsReasonAfter 10 (codes "k") (Some (1 ∷ 10 ∷ [])) keys (Bad said) → ⊥
     of (inl (inl memory)) = memory
-    of (inl (inr over)) =
-        says-other first_long (codes "k: it can't be read") said told unread whole over.0
+    of (inl (inr over)) = over
     of (inr (inl at)) = one keys at.0.cut
       where
         one : (keys : List (List ℕ)) → (1 ∷ []) ∷ [] ≡ keys ++ at.0.long ∷ at.0.later → ⊥
@@ -145,7 +177,7 @@ short-key keys said told first reason = of reason
         absurd (omega (arith, few, at.0))
 
 hashing-short : (said : Error) → error_message said ≡ first_long
-    → StopsHashing 10 (codes "k") (Some (1 ∷ 10 ∷ [])) (Input said) → ⊥
+    → StopsHashing 10 (codes "k") (Some (1 ∷ 10 ∷ [])) (Bad said) → ⊥
 hashing-short said told stop = short-key stop.keys said told stop.first stop.reason
 
 -- no key is the first of an input that has none, whatever is done with it

@@ -14,7 +14,7 @@ use Rattle.summaries_engine.specs.declared.stop.Stop.{Stop}
 use Rattle.summaries_engine.specs.declared.stop.Stop.TheVariants.{Memory}
 use Rattle.summaries_engine.specs.Answers.{told_text}
 use Rattle.summaries_engine.specs.Refusals.{too_long_text}
-use Rattle.summaries_engine.specs.Stops.{IsInput, IsReasonAfter, IsUnreadable, IsUnwritten, Says, StopsAfter, StopsAnswers, StopsHashing}
+use Rattle.summaries_engine.specs.Stops.{IsBad, IsReasonAfter, IsUnreadable, IsUnwritten, Says, StopsAfter, StopsAnswers, StopsHashing}
 use Rattle.summaries_engine.proofs.AskingLemmas.{IsAnswering, told_text-append}
 use Rattle.summaries_engine.proofs.KeyLemmas.{IsHashing, read-next}
 
@@ -49,18 +49,18 @@ module _ {end : ℕ} {name : List ℕ} {read left : Option (List ℕ)} {reader :
   -- keys aren't taken on where the next is too long
   pub why-long : (new : Waiting) (rest : Option (List ℕ)) → reader.longest ≡ 65536
       → TakesLongBy end reader.longest (left_of reader left) (left_of new rest)
-      → IsInput (Says (too_long_text name number)) stop
+      → IsBad (Says (too_long_text name number)) stop
       → Why end name read reader left number stop
   why-long new rest longest next says = record {
     reason = λ keys counted taken. inr (inl (
       IsReadToLong-from end 65536 read (left_of reader left) (left_of new rest) keys taken
           (subst (λ n. TakesLongBy end n (left_of reader left) (left_of new rest)) longest next),
-      subst (λ n. IsInput (Says (too_long_text name n)) stop) counted says,
+      subst (λ n. IsBad (Says (too_long_text name n)) stop) counted says,
     ));
   }
 
   -- keys aren't taken on where no number is left
-  pub why-many : number ≡ 2 ^ 64 - 1 → IsInput (Says (name ++ codes ": it has too many keys")) stop
+  pub why-many : number ≡ 2 ^ 64 - 1 → IsBad (Says (name ++ codes ": it has too many keys")) stop
       → Why end name read reader left number stop
   why-many all says = record {
     reason = λ keys counted taken. inr (inr (sym counted ∙ all, says));

@@ -4,6 +4,8 @@ use Rattle.anyhow.specs.Error.{error_message}
 use Rattle.anyhow.specs.declared.error.Error.{Error}
 use Rattle.fastbloom.specs.Data.{DefaultFilter}
 use Rattle.fastbloom.specs.Filter.{SameShape}
+use Rattle.summaries_engine.specs.declared.stop.Stop.{Stop}
+use Rattle.summaries_engine.specs.declared.stop.Stop.TheVariants.{Bad}
 use Rattle.summaries_engine.specs.declared.unions.Difference.{Difference}
 use Rattle.summaries_engine.specs.declared.unions.Difference.TheVariants as difference
 use Rattle.summaries_engine.specs.Named.{AreNamed, StopsAtMisfit, StopsUniting, StopsUnloaded, misfit_text}
@@ -13,20 +15,20 @@ use Rattle.summaries_engine.proofs.NamedFacts.{counted}
 use Rattle.summaries_engine.proofs.StopFacts.{no-whole, says-other}
 
 -- a load of a name fails by no error
-abbrev never : List ℕ → Error → Type 0
-never name said = ⊥
+abbrev never : List ℕ → Stop → Type 0
+never name stop = ⊥
 
 -- without a name there is no union
 uniting-none : (said : Error) → Says (codes "no filter was named") said
-    → StopsUniting counted never [] said
+    → StopsUniting counted never [] (Bad said)
 uniting-none said says = inl (refl, says)
 
 -- a name alone whose filter is loaded stops nothing
-uniting-one : (name : List ℕ) (said : Error) → StopsUniting counted never (name ∷ []) said → ⊥
-uniting-one name said (inl none) =
+uniting-one : (name : List ℕ) (why : Stop) → StopsUniting counted never (name ∷ []) why → ⊥
+uniting-one name why (inl none) =
     let wrong : ◌≡◌ {A = List (List ℕ)} (name ∷ []) [] = none.0 in cc
-uniting-one name said (inr (inl stop)) = stop.failed
-uniting-one name said (inr (inr stop)) = of stop.reaches.before stop.reaches.are stop.reaches.loaded
+uniting-one name why (inr (inl stop)) = stop.failed
+uniting-one name why (inr (inr stop)) = of stop.reaches.before stop.reaches.are stop.reaches.loaded
   where
     of : (before : List (List ℕ)) → name ∷ [] ≡ before ++ stop.name ∷ stop.reaches.after
         → AreNamed counted before (stop.first ∷ stop.filters) → ⊥
@@ -77,7 +79,7 @@ unloaded-other f said stop = of stop.reaches.before stop.reaches.are stop.failed
 misfit-second : (f g : DefaultFilter) (said : Error) → f.hashes ≡ 2 → g.hashes ≡ 3
     → DiffersBy f g difference.Shape
     → Says ((3 ∷ []) ++ (codes ": its shape isn't that of " ++ (2 ∷ []))) said
-    → StopsAtMisfit counted ((2 ∷ []) ∷ (3 ∷ []) ∷ []) said
+    → StopsAtMisfit counted ((2 ∷ []) ∷ (3 ∷ []) ∷ []) (Bad said)
 misfit-second f g said two three differs says = record {
   first = f;
   filters = [];
@@ -115,14 +117,14 @@ text-key : misfit_text difference.Key (codes "b") (codes "a") ≡ codes "b: its 
 text-key = refl
 
 -- the filter that differs lies under the name that is told
-misfit-lies : (names : List (List ℕ)) (said : Error) (stop : StopsAtMisfit counted names said)
+misfit-lies : (names : List (List ℕ)) (why : Stop) (stop : StopsAtMisfit counted names why)
     → stop.name ≡ stop.shard.hashes ∷ []
-misfit-lies names said stop = stop.loaded
+misfit-lies names why stop = stop.loaded
 
 -- a filter of the first one's shape isn't refused for its shape
-misfit-differs : (names : List (List ℕ)) (said : Error) (stop : StopsAtMisfit counted names said)
+misfit-differs : (names : List (List ℕ)) (why : Stop) (stop : StopsAtMisfit counted names why)
     → stop.how ≡ difference.Shape → SameShape stop.first stop.shard → ⊥
-misfit-differs names said stop how same =
+misfit-differs names why stop how same =
     subst (DiffersBy stop.first stop.shard) how stop.differs same
 
 -- every text of a filter that differs is longer than "no"
@@ -142,7 +144,7 @@ longer difference.Key name first same =
 
 -- no reason says "no"
 uniting-no : (names : List (List ℕ)) (said : Error) → error_message said ≡ codes "no"
-    → StopsUniting counted never names said → ⊥
+    → StopsUniting counted never names (Bad said) → ⊥
 uniting-no names said told (inl none) =
     says-other (codes "no") (codes "no filter was named") said told (λ same. cc) no-whole
     none.1.message

@@ -9,6 +9,8 @@ use Rattle.bloom_plain.specs.FileRefusals.{number_at}
 use Rattle.lines.specs.Writing.{Begins}
 use Rattle.summaries_engine.specs.declared.form.Form.{Form}
 use Rattle.summaries_engine.specs.declared.form.Form.TheVariants.{Sealed, Unsealed, Json}
+use Rattle.summaries_engine.specs.declared.stop.Stop.{Stop}
+use Rattle.summaries_engine.specs.Stops.{IsBad, IsInput, IsMemory}
 
 -- the bytes with which each file of the form begins, whatever its version: `fbloom` and 0
 abbrev pub mark_bytes : List ℕ
@@ -34,10 +36,12 @@ IsInForm Json f bytes = Begins bytes mark_bytes → ⊥
 abbrev pub file_form : ℕ → Form
 file_form seal = if nat_eq seal 0 then Unsealed else Sealed
 
--- the error tells the name, and that no filter is read
-abbrev pub IsUnread : List ℕ → Error → Type 0
-IsUnread name said = HasMessage (Some (name ++ codes ": it can't be read")) said
-    ⊎ HasMessage (Some (name ++ codes ": it holds no filter")) said
+-- no filter is read: memory was out, or a read failed, or what was read is none; and the name is
+-- said
+abbrev pub IsUnread : List ℕ → Stop → Type 0
+IsUnread name stop = IsMemory stop
+    ⊎ IsInput (HasMessage (Some (name ++ codes ": it can't be read"))) stop
+    ⊎ IsBad (HasMessage (Some (name ++ codes ": it holds no filter"))) stop
 
 -- what is said of a filter with more hashes than are allowed
 abbrev pub hashes_text : List ℕ → ℕ → ℕ → List ℕ
@@ -52,5 +56,5 @@ pub record HasManyHashes (name : List ℕ) (most : ℕ) (said : Error) : Type 0 
   pub says : HasMessage (Some (hashes_text name hashes most)) said
 
 -- no filter with few enough hashes is read, and why
-abbrev pub IsUnloaded : List ℕ → ℕ → Error → Type 0
-IsUnloaded name most said = IsUnread name said ⊎ HasManyHashes name most said
+abbrev pub IsUnloaded : List ℕ → ℕ → Stop → Type 0
+IsUnloaded name most stop = IsUnread name stop ⊎ IsBad (HasManyHashes name most) stop

@@ -1,11 +1,11 @@
 -- Filters that have names, and what an iterator over names gives. A name is its list of bytes.
 use Rattle.std.specs.Prelude.{◌≡◌, ◌⊎◌, ℕ, codes, List, [], ◌∷◌, ◌++◌, get_or, Option, Result, MatchOption, MatchResult, ⊤}
-use Rattle.anyhow.specs.declared.error.Error.{Error}
 use Rattle.fastbloom.specs.Data.{DefaultFilter}
+use Rattle.summaries_engine.specs.declared.stop.Stop.{Stop}
 use Rattle.summaries_engine.specs.declared.unions.Difference.{Difference}
 use Rattle.summaries_engine.specs.declared.unions.Difference.TheVariants as difference
 use Rattle.summaries_engine.specs.Refusals.{DiffersBy}
-use Rattle.summaries_engine.specs.Stops.{Says}
+use Rattle.summaries_engine.specs.Stops.{IsBad, Says}
 
 -- which filters lie under which names
 abbrev pub Named : Type 1
@@ -50,7 +50,7 @@ misfit_text difference.Shape name first =
 misfit_text difference.Key name first = name ++ (codes ": its key isn't that of " ++ first)
 
 -- the filter of a name differs from that of the first, and both names are said
-pub record StopsAtMisfit (has : Named) (names : List (List ℕ)) (said : Error) : Type 0 where
+pub record StopsAtMisfit (has : Named) (names : List (List ℕ)) (stop : Stop) : Type 0 where
   pub first : DefaultFilter
   pub filters : List DefaultFilter
   pub name : List ℕ
@@ -59,9 +59,10 @@ pub record StopsAtMisfit (has : Named) (names : List (List ℕ)) (said : Error) 
   pub reaches : LoadedBefore has names (first ∷ filters) name
   pub loaded : has name shard
   pub differs : DiffersBy first shard how
-  pub says : Says (misfit_text how name (get_or names 0 [])) said
+  pub says : IsBad (Says (misfit_text how name (get_or names 0 []))) stop
 
 -- there is no union: of no name, and else at the first name whose filter can't be loaded or differs
-abbrev pub StopsUniting : Named → (List ℕ → Error → Type 0) → List (List ℕ) → Error → Type 0
-StopsUniting has fails names said = ((names ≡ []) × Says (codes "no filter was named") said)
-    ⊎ StopsUnloaded has fails names said ⊎ StopsAtMisfit has names said
+abbrev pub StopsUniting : Named → (List ℕ → Stop → Type 0) → List (List ℕ) → Stop → Type 0
+StopsUniting has fails names stop =
+    ((names ≡ []) × IsBad (Says (codes "no filter was named")) stop)
+    ⊎ StopsUnloaded has fails names stop ⊎ StopsAtMisfit has names stop

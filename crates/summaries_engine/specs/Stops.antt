@@ -10,7 +10,7 @@ use Rattle.lines.specs.Reading.{AreShort, IsReadFromBy, IsReadToLongBy}
 use Rattle.lines.specs.Writing.{AppendsPart}
 use Rattle.summaries_engine.specs.declared.answers.Told.{Told}
 use Rattle.summaries_engine.specs.declared.stop.Stop.{Stop}
-use Rattle.summaries_engine.specs.declared.stop.Stop.TheVariants.{Memory, Worker, Input, Output}
+use Rattle.summaries_engine.specs.declared.stop.Stop.TheVariants.{Memory, Worker, Input, Bad, Output}
 use Rattle.summaries_engine.specs.Answers.{told_text}
 use Rattle.summaries_engine.specs.Refusals.{too_long_text}
 
@@ -27,6 +27,7 @@ abbrev pub IsMemory : Stop → Type 0
 IsMemory Memory = ⊤
 IsMemory Worker = ⊥
 IsMemory (Input said) = ⊥
+IsMemory (Bad said) = ⊥
 IsMemory (Output said) = ⊥
 
 -- a thread couldn't be started
@@ -34,20 +35,31 @@ abbrev pub IsWorker : Stop → Type 0
 IsWorker Memory = ⊥
 IsWorker Worker = ⊤
 IsWorker (Input said) = ⊥
+IsWorker (Bad said) = ⊥
 IsWorker (Output said) = ⊥
 
--- an input is at fault, and of it this holds
+-- an input wasn't had, or a read failed, and of what is said this holds
 abbrev pub IsInput : (Error → Type 0) → Stop → Type 0
 IsInput P Memory = ⊥
 IsInput P Worker = ⊥
 IsInput P (Input said) = P said
+IsInput P (Bad said) = ⊥
 IsInput P (Output said) = ⊥
+
+-- an input isn't what it should be, and of what is said this holds
+abbrev pub IsBad : (Error → Type 0) → Stop → Type 0
+IsBad P Memory = ⊥
+IsBad P Worker = ⊥
+IsBad P (Input said) = ⊥
+IsBad P (Bad said) = P said
+IsBad P (Output said) = ⊥
 
 -- a write failed, and that the keys can't be written is said
 abbrev pub IsUnwritten : Stop → Type 0
 IsUnwritten Memory = ⊥
 IsUnwritten Worker = ⊥
 IsUnwritten (Input said) = ⊥
+IsUnwritten (Bad said) = ⊥
 IsUnwritten (Output said) = SaysOver (codes "the keys can't be written") said
 
 -- a read failed for want of memory, or for another reason, and its input is named
@@ -60,8 +72,8 @@ IsUnreadable name stop =
 abbrev pub IsReasonAfter : ℕ → List ℕ → Option (List ℕ) → List (List ℕ) → Stop → Type 0
 IsReasonAfter end name read keys stop = IsUnreadable name stop
     ⊎ (IsReadToLongBy end 65536 read keys
-    × IsInput (Says (too_long_text name (length keys))) stop)
-    ⊎ ((length keys ≡ 2 ^ 64 - 1) × IsInput (Says (name ++ codes ": it has too many keys")) stop)
+    × IsBad (Says (too_long_text name (length keys))) stop)
+    ⊎ ((length keys ≡ 2 ^ 64 - 1) × IsBad (Says (name ++ codes ": it has too many keys")) stop)
 
 -- a run stopped behind these first keys, none of which is too long, and `Done` holds of them
 pub record StopsAfter (end : ℕ) (name : List ℕ) (read : Option (List ℕ))

@@ -1,14 +1,13 @@
 //! How a filter lies in a file: in the file form of the library, or as JSON text.
-ghost use Rattle.std.specs.Prelude.{codes, IfErr, IfOk, OnOk, OnErr};
+ghost use Rattle.std.specs.Prelude.{codes, IfErr, OnOk, OnErr};
 ghost use Rattle.std.specs.Io.KnownBytes.{Appends};
 ghost use Rattle.lines.specs.Writing.{AppendsPart};
 ghost use Rattle.fastbloom.specs.File.{file_of};
-ghost use Rattle.summaries_engine.specs.Answers.{IsKeyed};
 ghost use Rattle.summaries_engine.specs.Stops.{SaysOver};
 
 use crate::stop::Stop;
 use anyhow::Context;
-use fastbloom::{BloomFilter, FilterData};
+use fastbloom::BloomFilter;
 use std::alloc::Global;
 use std::io::Write;
 
@@ -21,17 +20,6 @@ pub enum Form {
     Unsealed,
     /// JSON text.
     Json,
-}
-
-/// The filter of a text.
-///
-/// # Errors
-/// Where the text isn't JSON of the form, and where no filter has such data.
-pub fn filter_of(alloc: Global, text: &str) -> anyhow::Result<BloomFilter>
-    ensures { IfOk result IsKeyed }
-{
-    let form: FilterData = serde_json::from_str(alloc, text)?;
-    Ok(BloomFilter::from_data(form)?)
 }
 
 /// Writes the file of a filter, with its seal.

@@ -5,7 +5,7 @@ ghost use Rattle.bloom_parts.specs.Sip.{sip};
 ghost use Rattle.summaries_engine.specs.Answers.{HashesAll};
 ghost use Rattle.summaries_engine.specs.Inputs.{HashesInputs, StopsHashes};
 ghost use Rattle.summaries_engine.specs.Refusals.{too_long_text};
-ghost use Rattle.summaries_engine.specs.Stops.{IsInput, IsUnreadable, Says, StopsHashing};
+ghost use Rattle.summaries_engine.specs.Stops.{IsBad, IsUnreadable, Says, StopsHashing};
 
 use crate::inputs::Inputs;
 use crate::stop::Stop;
@@ -44,17 +44,17 @@ pub fn unread(name: &str, error: io::Error) -> Stop
 
 /// Why an input isn't read on where its key is too long that comes after this many others.
 pub fn too_long(name: &str, before: u64) -> Stop
-    ensures { IsInput (Says (too_long_text name.now before)) result }
+    ensures { IsBad (Says (too_long_text name.now before)) result }
 {
     let number = before.saturating_add(1);
-    Stop::Input(anyhow!("{name}: key {number} has more than {LONGEST} bytes"))
+    Stop::Bad(anyhow!("{name}: key {number} has more than {LONGEST} bytes"))
 }
 
 /// Why an input isn't read on where no number is left for its next key.
 pub fn too_many(name: &str) -> Stop
-    ensures { IsInput (Says (name.now ++ codes ": it has too many keys")) result }
+    ensures { IsBad (Says (name.now ++ codes ": it has too many keys")) result }
 {
-    Stop::Input(anyhow!("{name}: it has too many keys"))
+    Stop::Bad(anyhow!("{name}: it has too many keys"))
 }
 
 // Puts the hashes of all keys of an input behind the others.

@@ -15,7 +15,7 @@ mod unions;
 
 pub use answers::{Told, ask};
 pub use facts::facts_of;
-pub use form::{Form, filter_of, put, put_file};
+pub use form::{Form, put, put_file};
 pub use inputs::Inputs;
 pub use keys::{LONGEST, hash_of, hashes_of, unread};
 pub use loading::load;

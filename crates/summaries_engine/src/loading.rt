@@ -1,32 +1,49 @@
 //! Filters of readers that have names, in either form.
-ghost use Rattle.std.specs.Prelude.{◌≡◌, ◌++◌, ◌≤◌, IfErr, IfOk, IfSome};
+ghost use Rattle.std.specs.Prelude.{◌≡◌, ◌++◌, ◌<◌, ◌≤◌, codes, IfErr, IfOk, IfSome, Some};
+ghost use Rattle.anyhow.specs.Error.{HasMessage};
 ghost use Rattle.fastbloom.specs.File.{IsFileOf};
 ghost use Rattle.bloom_plain.specs.FileRefusals.{number_at};
 ghost use Rattle.summaries_engine.specs.Answers.{IsKeyed};
-ghost use Rattle.summaries_engine.specs.Loaded.{IsInForm, IsUnloaded, IsUnread, file_form};
+ghost use Rattle.summaries_engine.specs.Loaded.{HasManyHashes, IsInForm, IsUnloaded, IsUnread, file_form};
+ghost use Rattle.summaries_engine.specs.Stops.{IsBad};
 
-use crate::form::{Form, filter_of};
-use anyhow::{Context, anyhow};
+use crate::form::Form;
+use crate::keys::unread;
+use crate::stop::Stop;
+use anyhow::anyhow;
 use fastbloom::file::read_head;
-use fastbloom::{BloomFilter, FileError};
+use fastbloom::{BloomFilter, FileError, FilterData};
 use lines::read_full;
 use std::alloc::Global;
-use std::io::Read;
+use std::io;
+use std::io::{ErrorKind, Read};
+
+// What is told where what was read is no filter.
+fn no_filter(name: &str, error: anyhow::Error) -> Stop
+    ensures { IsBad (HasMessage (Some (name.now ++ codes ": it holds no filter"))) result }
+{
+    Stop::Bad(error.context(format_args!("{name}: it holds no filter")))
+}
 
 // What is told where a file of the form isn't loaded.
-fn unloaded(name: &str, error: FileError) -> anyhow::Error
+fn unloaded(name: &str, error: FileError) -> Stop
     ensures { IsUnread name.now result }
 {
-    let is_refused = match error {
-        FileError::Memory => false,
-        FileError::Input(_) => false,
-        _ => true,
-    };
-    let error = anyhow::Error::from(error);
-    if is_refused {
-        error.context(format_args!("{name}: it holds no filter"))
+    match error {
+        FileError::Memory => Stop::Memory,
+        FileError::Input(kind) => unread(name, io::Error::from(kind)),
+        error => no_filter(name, anyhow::Error::from(error)),
+    }
+}
+
+// What is told where no text is read: what isn't UTF-8 is none.
+fn untold(name: &str, error: io::Error) -> Stop
+    ensures { IsUnread name.now result }
+{
+    if error.kind() == ErrorKind::InvalidData {
+        no_filter(name, anyhow::Error::from(error))
     } else {
-        error.context(format_args!("{name}: it can't be read"))
+        unread(name, error)
     }
 }
 
@@ -36,7 +53,7 @@ fn load_file<R: Read>(
     name: &str,
     start: &[u8],
     input: &mut R,
-) -> anyhow::Result<BloomFilter>
+) -> Result<BloomFilter, Stop>
     ensures keyed { IfOk result IsKeyed }
     ensures file { IfOk result (λ filter. IfSome (R.remaining input.old)
         (λ rest. IsFileOf (start.now ++ rest) filter)) }
@@ -48,27 +65,43 @@ fn load_file<R: Read>(
     }
 }
 
+// The filter of a JSON text.
+fn filter_of(alloc: Global, name: &str, text: &str) -> Result<BloomFilter, Stop>
+    ensures keyed { IfOk result IsKeyed }
+    ensures failed { IfErr result (IsUnread name.now) }
+{
+    match serde_json::from_str::<FilterData>(alloc, text) {
+        Ok(data) => match BloomFilter::from_data(data) {
+            Ok(filter) => Ok(filter),
+            Err(error) => Err(no_filter(name, anyhow::Error::from(error))),
+        },
+        Err(error) => {
+            if error.is_memory() {
+                return Err(Stop::Memory);
+            }
+            Err(no_filter(name, anyhow::Error::from(error)))
+        }
+    }
+}
+
 // Reads a filter as JSON text, of which the first bytes were read.
 fn load_text<R: Read>(
     alloc: Global,
     name: &str,
     start: &[u8],
     input: &mut R,
-) -> anyhow::Result<BloomFilter>
+) -> Result<BloomFilter, Stop>
     ensures keyed { IfOk result IsKeyed }
     ensures failed { IfErr result (IsUnread name.now) }
 {
-    let text = std::io::read_to_string(alloc, start.chain(input)).context(format_args!(
-        "{name}: it can't be read"
-    ))?;
-    let filter = filter_of(alloc, text.as_str()).context(format_args!(
-        "{name}: it holds no filter"
-    ))?;
-    Ok(filter)
+    match io::read_to_string(alloc, start.chain(input)) {
+        Ok(text) => filter_of(alloc, name, text.as_str()),
+        Err(error) => Err(untold(name, error)),
+    }
 }
 
 // The form of a file, by its head.
-fn form_of(name: &str, head: &[u8; 64]) -> anyhow::Result<Form>
+fn form_of(name: &str, head: &[u8; 64]) -> Result<Form, Stop>
     ensures form { IfOk result (λ form. form ≡ file_form (number_at head.now 5)) }
     ensures failed { IfErr result (IsUnread name.now) }
 {
@@ -84,13 +117,16 @@ fn load_any<R: Read>(
     alloc: Global,
     name: &str,
     input: &mut R,
-) -> anyhow::Result<(BloomFilter, Form)>
+) -> Result<(BloomFilter, Form), Stop>
     ensures keyed { IfOk result (λ read. IsKeyed read.0) }
     ensures form { IfOk result (λ read. IfSome (R.remaining input.old) (IsInForm read.1 read.0)) }
     ensures failed { IfErr result (IsUnread name.now) }
 {
     let mut start = [0u8; 64];
-    let count = read_full(input, &mut start).context(format_args!("{name}: it can't be read"))?;
+    let count = match read_full(input, &mut start) {
+        Ok(count) => count,
+        Err(error) => return Err(unread(name, error)),
+    };
     if start[..count].starts_with(b"fbloom\0") {
         let filter = load_file(alloc, name, &start[..count], input)?;
         let form = form_of(name, &start)?;
@@ -101,6 +137,14 @@ fn load_any<R: Read>(
     }
 }
 
+// What is told of a filter with more hashes than are allowed.
+fn too_many_hashes(name: &str, hashes: u32, most: u32) -> Stop
+    requires { most < hashes }
+    ensures { IsBad (HasManyHashes name.now most) result }
+{
+    Stop::Bad(anyhow!("{name}: it has {hashes} hashes, and --hashes-up-to allows {most}"))
+}
+
 /// The filter of a reader, to its end, and the form in which it lay. A reader whose first bytes are
 /// `fbloom` and 0 has a file of the form, and each other one JSON text.
 ///
@@ -108,14 +152,14 @@ fn load_any<R: Read>(
 /// words of its filter.
 ///
 /// # Errors
-/// Each tells the name. It is that the reader fails, or holds no filter, with the reason; or that
-/// the filter has more hashes than `most`.
+/// Out of memory, and where a read fails, the reader holds no filter, or its filter has more hashes
+/// than `most`; each but the first tells the name.
 pub fn load<R: Read>(
     alloc: Global,
     name: &str,
     most: u32,
     input: &mut R,
-) -> anyhow::Result<(BloomFilter, Form)>
+) -> Result<(BloomFilter, Form), Stop>
     ensures keyed { IfOk result (λ read. IsKeyed read.0) }
     ensures few { IfOk result (λ read. read.0.hashes ≤ most) }
     ensures form { IfOk result (λ read. IfSome (R.remaining input.old) (IsInForm read.1 read.0)) }
@@ -124,7 +168,7 @@ pub fn load<R: Read>(
     let (filter, form) = load_any(alloc, name, input)?;
     let hashes = filter.num_hashes();
     if hashes > most {
-        return Err(anyhow!("{name}: it has {hashes} hashes, and --hashes-up-to allows {most}"));
+        return Err(too_many_hashes(name, hashes, most));
     }
     Ok((filter, form))
 }

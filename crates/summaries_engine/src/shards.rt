@@ -3,28 +3,29 @@ ghost use Rattle.std.specs.Prelude.{map, IfErr, IfOk};
 ghost use Rattle.std.specs.Iterator.{item_count};
 ghost use Rattle.summaries_engine.specs.Answers.{IsKeyed};
 ghost use Rattle.summaries_engine.specs.Named.{AreNamed, GivesNext, StopsUniting, misfit_text};
-ghost use Rattle.summaries_engine.specs.Stops.{Says};
+ghost use Rattle.summaries_engine.specs.Stops.{IsBad, Says};
 ghost use Rattle.summaries_engine.specs.Summaries.{UnitesShards};
 
+use crate::stop::Stop;
 use crate::unions::{Difference, Refusal, unite};
-use anyhow::{Context, anyhow};
+use anyhow::anyhow;
 use fastbloom::BloomFilter;
 use std::slice;
 
 /// Where filters lie under names.
 pub trait Shelf {
     ghost use Rattle.std.specs.Prelude.{ℕ, List};
-    ghost use Rattle.anyhow.specs.declared.error.Error.{Error};
     ghost use Rattle.fastbloom.specs.Data.{DefaultFilter};
+    ghost use Rattle.summaries_engine.specs.declared.stop.Stop.{Stop};
 
     /// Which filters lie under which names.
     ghost has: { Self → List ℕ → DefaultFilter → Type 0 };
 
-    /// What errors say of a name.
-    ghost fails: { Self → List ℕ → Error → Type 0 };
+    /// Why the filter of a name isn't had.
+    ghost fails: { Self → List ℕ → Stop → Type 0 };
 
     /// The filter of this name.
-    fn load(&self, name: &str) -> anyhow::Result<BloomFilter>
+    fn load(&self, name: &str) -> Result<BloomFilter, Stop>
         ensures keyed { IfOk result IsKeyed }
         ensures named { IfOk result (has self.now name.now) }
         ensures failed { IfErr result (fails self.now name.now) };
@@ -38,34 +39,34 @@ struct Shards<'a, 'n, S> {
 }
 
 impl<'a, 'n, S: Shelf> Iterator for Shards<'a, 'n, S> {
-    type Item = anyhow::Result<BloomFilter>;
+    type Item = Result<BloomFilter, Stop>;
 
     ghost next_gives = { GivesNext S.has S.fails (λ shards. shards.shelf.now)
         (λ shards. map (λ name. name.now) shards.names.rest.now) };
 
     ghost remaining = { item_count (λ shards. shards.names.rest.now) };
 
-    fn next(&mut self) -> Option<anyhow::Result<BloomFilter>> {
+    fn next(&mut self) -> Option<Result<BloomFilter, Stop>> {
         let name = self.names.next()?;
         Some(self.shelf.load(name))
     }
 }
 
 // Why the filter of a name doesn't fit the first.
-fn misfit(name: &str, first: &str, how: Difference) -> anyhow::Error
-    ensures { Says (misfit_text how name.now first.now) result }
+fn misfit(name: &str, first: &str, how: Difference) -> Stop
+    ensures { IsBad (Says (misfit_text how name.now first.now)) result }
 {
-    match how {
+    Stop::Bad(match how {
         Difference::Shape => anyhow!("{name}: its shape isn't that of {first}"),
         Difference::Key => anyhow!("{name}: its key isn't that of {first}"),
-    }
+    })
 }
 
 /// The union of the filters of these names. At most two are in memory at once.
 ///
 /// # Errors
 /// At the first name whose filter can't be loaded, or has another shape or key than the first.
-pub fn unite_named<S: Shelf>(shelf: &S, names: &[&str]) -> anyhow::Result<BloomFilter>
+pub fn unite_named<S: Shelf>(shelf: &S, names: &[&str]) -> Result<BloomFilter, Stop>
     // One filter lies under each name, and this is their union, by the theorem of shards.
     ensures whole { IfOk result (λ made. (filters : _)
         × AreNamed (S.has shelf.now) (map (λ name. name.now) names.now) filters
@@ -74,7 +75,9 @@ pub fn unite_named<S: Shelf>(shelf: &S, names: &[&str]) -> anyhow::Result<BloomF
     ensures stops { IfErr result (StopsUniting (S.has shelf.now) (S.fails shelf.now)
         (map (λ name. name.now) names.now)) }
 {
-    let (name, others) = names.split_first().context("no filter was named")?;
+    let Some((name, others)) = names.split_first() else {
+        return Err(Stop::Bad(anyhow!("no filter was named")));
+    };
     let first = shelf.load(name)?;
     let others = Shards {
         shelf,
@@ -82,7 +85,7 @@ pub fn unite_named<S: Shelf>(shelf: &S, names: &[&str]) -> anyhow::Result<BloomF
     };
     match unite(first, others) {
         Ok(filter) => Ok(filter),
-        Err(Refusal::Unread(error)) => Err(error),
+        Err(Refusal::Unread(stop)) => Err(stop),
         Err(Refusal::Differs(number, how)) => {
             // The number of a filter is the place of its name.
             prove!(names.len() <= usize::MAX);

@@ -3,14 +3,16 @@ use std::fmt;
 use std::fmt::Display;
 
 /// Why a run stopped, with what is said of it.
-#[derive(Drop)]
+#[derive(Debug, Drop)]
 pub enum Stop {
     /// Out of memory.
     Memory,
     /// A thread can't be started.
     Worker,
-    /// An input can't be had or read, or isn't what it should be.
+    /// An input can't be had, or a read failed.
     Input(anyhow::Error),
+    /// An input isn't what it should be.
+    Bad(anyhow::Error),
     /// A write failed.
     Output(anyhow::Error),
 }
@@ -22,6 +24,7 @@ impl Display for Stop {
             Stop::Memory => f.write_str("no memory"),
             Stop::Worker => f.write_str("a thread can't be started"),
             Stop::Input(error) => write!(f, "{error:#}"),
+            Stop::Bad(error) => write!(f, "{error:#}"),
             Stop::Output(error) => write!(f, "{error:#}"),
         }
     }
