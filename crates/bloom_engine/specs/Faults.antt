@@ -6,12 +6,12 @@ use Rattle.bloom_engine.specs.declared.fault.Fault.TheVariants.{Usage, NotText, 
 
 -- the exit status
 abbrev pub status_of : Fault → ℕ
-status_of (Input kind) = 1
 status_of Usage = 2
 status_of NotText = 2
 status_of (Line number) = 2
 status_of Memory = 5
 status_of (Output kind) = 6
+status_of (Input kind) = 8
 
 -- the fault of a writer
 abbrev pub IsOutput : Fault → Type 0

@@ -2,6 +2,7 @@
 ghost use Rattle.std.specs.Prelude.{◌≡◌};
 ghost use Rattle.bloom_engine.specs.Faults.{status_of};
 
+use lines::Reason;
 use std::fmt;
 use std::io::ErrorKind;
 
@@ -20,20 +21,6 @@ pub enum Fault {
     Input(ErrorKind),
     /// A write or a flush failed.
     Output(ErrorKind),
-}
-
-// What a kind of error says.
-#[derive(Clone, Copy)]
-struct Reason(ErrorKind);
-
-impl fmt::Display for Reason {
-    fn fmt<W: fmt::Write>(&self, f: &mut fmt::Formatter<W>) -> fmt::Result {
-        match self.0 {
-            // The kinds lack these two, which a stream can end with.
-            ErrorKind::Uncategorized => f.write_str("bad file descriptor, or input/output error"),
-            kind => write!(f, "{kind}"),
-        }
-    }
 }
 
 impl fmt::Display for Fault {
@@ -57,10 +44,10 @@ impl Fault {
         ensures { result ≡ status_of self.now }
     {
         match self {
-            Fault::Input(_) => 1,
             Fault::Usage | Fault::NotText | Fault::Line(_) => 2,
             Fault::Memory => 5,
             Fault::Output(_) => 6,
+            Fault::Input(_) => 8,
         }
     }
 }

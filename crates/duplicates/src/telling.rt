@@ -2,6 +2,7 @@
 //! is told, and the status stays.
 
 use duplicates_engine::{Fault, Progress, Tally};
+use lines::Reason;
 use std::fmt;
 use std::fmt::Display;
 use std::io::ErrorKind;
@@ -9,8 +10,8 @@ use std::io::ErrorKind;
 /// All lines were done.
 pub const DONE: u8 = 0;
 
-/// An input can't be opened or read, or a line of it is too long.
-pub const UNREAD: u8 = 1;
+/// A line of an input is too long.
+pub const BAD: u8 = 1;
 
 /// The words after the program's name are wrong.
 pub const MISUSED: u8 = 2;
@@ -23,6 +24,9 @@ pub const NO_ROOM: u8 = 5;
 
 /// A write failed.
 pub const UNWRITTEN: u8 = 6;
+
+/// An input can't be opened or read.
+pub const UNREAD: u8 = 8;
 
 /// Tells how far a run is where standard error is a terminal, and warns where more different lines
 /// came than the filter was made for.
@@ -58,20 +62,18 @@ impl Progress for Teller<'_> {
     }
 }
 
-// Why a call of the system failed, behind what failed. A kind that has no words of its own has none
-// here.
+// Why a call of the system failed, behind what failed. A kind that says nothing has no words here.
 #[derive(Drop)]
-struct Reason(ErrorKind);
+struct Because(ErrorKind);
 
-impl Display for Reason {
+impl Display for Because {
     fn fmt<W: fmt::Write>(&self, f: &mut fmt::Formatter<W>) -> fmt::Result {
         match self.0 {
-            ErrorKind::Uncategorized => Ok(()),
             ErrorKind::Other => Ok(()),
             ErrorKind::NotFound => f.write_str(": there is no such file"),
             ErrorKind::IsADirectory => f.write_str(": it is a folder"),
             ErrorKind::StorageFull => f.write_str(": no space is left"),
-            kind => write!(f, ": {kind}"),
+            kind => write!(f, ": {}", Reason(kind)),
         }
     }
 }
@@ -91,20 +93,20 @@ pub fn tell_fault(rt: &HostRuntime, name: &str, is_named: bool, fault: Fault) ->
             } else {
                 let _ = eprintln!(rt; "duplicates: line {number} is too long");
             }
-            UNREAD
+            BAD
         }
         Fault::Open(kind) => {
-            let _ = eprintln!(rt; "duplicates: {place} can't be opened{}", Reason(kind));
+            let _ = eprintln!(rt; "duplicates: {place} can't be opened{}", Because(kind));
             UNREAD
         }
         Fault::Input(kind) => {
-            let _ = eprintln!(rt; "duplicates: {place} can't be read{}", Reason(kind));
+            let _ = eprintln!(rt; "duplicates: {place} can't be read{}", Because(kind));
             UNREAD
         }
         Fault::Output(kind) => {
             let _ = eprintln!(rt;
                 "duplicates: standard output can't be written{}",
-                Reason(kind)
+                Because(kind)
             );
             UNWRITTEN
         }

@@ -192,9 +192,9 @@ fn faults_have_texts_and_statuses(rt: HostRuntime) -> Result<(), Fail> {
         (
             Fault::Input(ErrorKind::IsADirectory),
             "standard input: is a directory",
-            1,
+            8,
         ),
-        (Fault::Input(ErrorKind::Uncategorized), UNNAMED, 1),
+        (Fault::Input(ErrorKind::Uncategorized), UNNAMED, 8),
         (
             Fault::Output(ErrorKind::StorageFull),
             "standard output: no storage space",

@@ -65,7 +65,11 @@ fn a_file_may_be_cut_or_fail_at_any_byte(rt: HostRuntime) -> Result<(), Fail> {
         let cut = told(rt.alloc(), bytes, SLOW)?;
         assert_eq!(rt; cut.as_str(), "bad: a: it holds no filter", "at byte {end}");
         let failed = told(rt.alloc(), bytes, FAILING)?;
-        assert_eq!(rt; failed.as_str(), "a read: a: it can't be read", "at byte {end}");
+        assert_eq!(rt;
+            failed.as_str(),
+            "a read: a: it can't be read",
+            "at byte {end}"
+        );
     }
     // The end of a whole file is looked for too.
     let failed = told(rt.alloc(), FILE, FAILING)?;

@@ -1,11 +1,12 @@
 -- With which status a task ends that isn't carried out: 5 where memory is out, 6 where a write
--- failed, 7 where another process has the store open, and else 1.
+-- failed, 7 where another process has the store open, 8 where a file or an input can't be opened
+-- or read, and else 1: what was read isn't what it should be.
 use Rattle.std.specs.Prelude.{ℕ}
 use Rattle.bloom_parts.specs.declared.error.FilterError.{FilterError}
 use Rattle.bloom_parts.specs.declared.error.FilterError.TheVariants.{ZeroBits, EmptyWords, TooManyWords, ZeroRate, SizeOverflow, Memory, HashCount, Worker}
 use Rattle.guard.specs.declared.filter_file.FilterFault.{FilterFault}
 use Rattle.guard.specs.declared.store_file.StoreFault.{StoreFault}
-use Rattle.guard.specs.declared.store_file.StoreFault.TheVariants.{Sql, NoMemory, DiskFull, Locked, Unfit}
+use Rattle.guard.specs.declared.store_file.StoreFault.TheVariants.{Sql, Unread, NoMemory, DiskFull, Locked, Unfit}
 use Rattle.guard_engine.specs.declared.commands.Trouble.{Trouble}
 use Rattle.guard_engine.specs.declared.commands.Trouble.TheVariants as troubles
 use Rattle.guard_engine.specs.declared.guard.Fault.TheVariants as faults
@@ -17,6 +18,7 @@ use Rattle.guard_engine.specs.declared.guard.loads.Why.TheVariants as why
 -- where the store failed
 abbrev pub status_for : StoreFault → ℕ
 status_for (Sql error) = 1
+status_for (Unread error) = 8
 status_for NoMemory = 5
 status_for DiskFull = 6
 status_for Locked = 7
@@ -25,7 +27,7 @@ status_for (Unfit reason) = 1
 -- where lines weren't taken to their end
 abbrev pub status_of_why : Why StoreFault FilterFault → ℕ
 status_of_why (why.Line bad) = 1
-status_of_why (why.Input kind) = 1
+status_of_why (why.Input kind) = 8
 status_of_why why.Memory = 5
 status_of_why (why.Store fault) = status_for fault
 status_of_why (why.Kept fault) = 6

@@ -4,7 +4,7 @@ use crate::names::Names;
 use bloom_plain::BloomFilter;
 use bloom_plain::file::{FileError, Head, read_head};
 use guard_engine::Kept;
-use lines::read_full;
+use lines::{Reason, read_full};
 use std::fs::{File, OpenOptions};
 use std::io::{ErrorKind, Seek, SeekFrom};
 use std::os::unix::fs::PermissionsExt;
@@ -19,7 +19,7 @@ const MOST_HASHES: u32 = 64;
 pub enum FilterFault {
     /// It can't be opened.
     #[error("it can't be read: {0}")]
-    Unread(ErrorKind),
+    Unread(Reason),
     /// It is a folder or a device.
     #[error("it is no regular file")]
     NoFile,
@@ -34,7 +34,7 @@ pub enum FilterFault {
     ManyHashes,
     /// It can't be written, or made durable.
     #[error("it can't be saved: {0}")]
-    Unsaved(ErrorKind),
+    Unsaved(Reason),
 }
 
 /// The file that keeps a store's filter.
@@ -68,14 +68,14 @@ fn check_head(head: Head, size: u64) -> Result<(), FilterFault> {
 fn read_filter(rt: &HostRuntime, file: &mut File, size: u64) -> Result<BloomFilter, FilterFault> {
     let mut start = [0u8; 64];
     if let Err(error) = read_full(file, &mut start) {
-        return Err(FilterFault::Unread(error.kind()));
+        return Err(FilterFault::Unread(Reason(error.kind())));
     }
     // Of a head that is no head the reader of the whole file tells why.
     if let Ok((head, _)) = read_head(&start) {
         check_head(head, size)?;
     }
     if let Err(error) = file.seek(SeekFrom::Start(0)) {
-        return Err(FilterFault::Unread(error.kind()));
+        return Err(FilterFault::Unread(Reason(error.kind())));
     }
     match BloomFilter::read_file(rt.alloc(), file) {
         Ok(filter) => Ok(filter),
@@ -95,7 +95,7 @@ fn load_filter(rt: &HostRuntime, path: &str) -> Result<Option<BloomFilter>, Filt
         Err(error) => {
             return match error.kind() {
                 ErrorKind::NotFound => Ok(None),
-                kind => Err(FilterFault::Unread(kind)),
+                kind => Err(FilterFault::Unread(Reason(kind))),
             };
         }
     };
@@ -104,7 +104,7 @@ fn load_filter(rt: &HostRuntime, path: &str) -> Result<Option<BloomFilter>, Filt
             let filter = read_filter(rt, &mut file, size)?;
             Ok(Some(filter))
         }
-        Err(error) => Err(FilterFault::Unread(error.kind())),
+        Err(error) => Err(FilterFault::Unread(Reason(error.kind()))),
     }
 }
 
@@ -166,7 +166,7 @@ impl Kept for FilterFile<'_> {
             Ok(()) => Ok(()),
             Err(error) => {
                 let _ = fs::remove_file(self.rt, self.names.new_filter.as_str());
-                Err(FilterFault::Unsaved(error.kind()))
+                Err(FilterFault::Unsaved(Reason(error.kind())))
             }
         }
     }

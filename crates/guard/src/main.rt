@@ -13,7 +13,7 @@ mod telling;
 
 use command_line::arguments;
 use std::process::ExitCode;
-use telling::{DONE, FAILED, MISUSED, UNWRITTEN};
+use telling::{DONE, MISUSED, NO_MEMORY, UNWRITTEN};
 
 // What the words ask for is done; the status.
 fn run(rt: &HostRuntime, words: &[String]) -> u8 {
@@ -45,8 +45,8 @@ fn main(rt: HostRuntime) -> ExitCode {
                 let _ = eprintln!(rt; "guard: an argument isn't UTF-8");
                 ExitCode::from(MISUSED)
             } else {
-                let _ = eprintln!(rt; "guard: {error}");
-                ExitCode::from(FAILED)
+                let _ = eprintln!(rt; "guard: out of memory");
+                ExitCode::from(NO_MEMORY)
             }
         }
     }

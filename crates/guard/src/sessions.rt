@@ -1,23 +1,38 @@
 //! One run over the files of a store: what is opened for a task, and what is closed.
+ghost use Rattle.std.specs.Prelude.{◌≡◌, ◌≢◌};
 
 use crate::command_line::{Load, Options, Request};
 use crate::guards::{Reader, Writer};
 use crate::input_file::open_input;
 use crate::names::Names;
 use crate::store_file::FileTable;
-use crate::telling::{DONE, FAILED, Input, NO, tell, tell_refusal, tell_store};
+use crate::telling::{DONE, Input, NO, NO_MEMORY, UNREAD, tell, tell_refusal, tell_store};
 use crate::{guards, tasks};
 use bloom_plain::Rate;
 use guard_engine::Task;
+use lines::Reason;
+use std::io::ErrorKind;
 
 // How many keys a filter that a put makes has room for.
 const PUT_ROOM: usize = 1000;
+
+// The status where a file can't be opened or read.
+fn status_of_read(kind: ErrorKind) -> u8
+    ensures memory { kind ≡ ErrorKind.OutOfMemory → result ≡ NO_MEMORY }
+    ensures other { kind ≢ ErrorKind.OutOfMemory → result ≡ UNREAD }
+{
+    if kind == ErrorKind::OutOfMemory {
+        NO_MEMORY
+    } else {
+        UNREAD
+    }
+}
 
 // Opens the filter of a store that is there. Where it is made anew, that is told.
 fn open_reader<'a>(rt: &'a HostRuntime, names: &'a Names, rate: Rate) -> Result<Reader<'a>, u8> {
     if !names.has_store(rt) {
         tell(rt, names.store.as_str(), "there is no such store");
-        return Err(FAILED);
+        return Err(UNREAD);
     }
     match guards::over_file(rt, names, rate) {
         Ok((mut guard, origin)) => {
@@ -135,9 +150,9 @@ fn load<'a>(rt: &'a HostRuntime, names: &'a Names, rate: Rate, load: Load) -> u8
             tell(
                 rt,
                 load.file,
-                format_args!("it can't be read: {}", error.kind()),
+                format_args!("it can't be read: {}", Reason(error.kind())),
             );
-            return FAILED;
+            return status_of_read(error.kind());
         }
     };
     let input = Input {
@@ -157,7 +172,7 @@ fn load<'a>(rt: &'a HostRuntime, names: &'a Names, rate: Rate, load: Load) -> u8
 fn list(rt: &HostRuntime, names: &Names) -> u8 {
     if !names.has_store(rt) {
         tell(rt, names.store.as_str(), "there is no such store");
-        return FAILED;
+        return UNREAD;
     }
     let mut table = match FileTable::found(rt, names) {
         Ok(table) => table,
@@ -177,9 +192,9 @@ pub fn run(rt: &HostRuntime, options: Options) -> u8 {
             tell(
                 rt,
                 options.store,
-                format_args!("it can't be opened: {}", error.kind()),
+                format_args!("it can't be opened: {}", Reason(error.kind())),
             );
-            return FAILED;
+            return status_of_read(error.kind());
         }
     };
     match options.request {

@@ -11,9 +11,12 @@ use thiserror::Error as Fault;
 /// Why a store's file can't be used.
 #[derive(Debug, Drop, Fault)]
 pub enum StoreFault {
-    /// A call of SQLite failed.
+    /// A call of SQLite failed for a reason that stands nowhere else here.
     #[error("{0}")]
     Sql(Error),
+    /// The file can't be opened, or a read or a write of it failed.
+    #[error("{0}")]
+    Unread(Error),
     /// Out of memory.
     #[error("out of memory")]
     NoMemory,
@@ -49,14 +52,23 @@ fn fault_of(error: Error) -> StoreFault
         ↔ (error ≡ Error.SqliteFailure ErrorCode.OutOfMemory) }
     ensures full { (result ≡ StoreFault.DiskFull)
         ↔ (error ≡ Error.SqliteFailure ErrorCode.DiskFull) }
+    ensures closed { error ≡ Error.SqliteFailure ErrorCode.CannotOpen
+        → result ≡ StoreFault.Unread error }
+    ensures failed { error ≡ Error.SqliteFailure ErrorCode.SystemIoFailure
+        → result ≡ StoreFault.Unread error }
     ensures other { error ≢ Error.SqliteFailure ErrorCode.DatabaseBusy
         → error ≢ Error.SqliteFailure ErrorCode.OutOfMemory
-        → error ≢ Error.SqliteFailure ErrorCode.DiskFull → result ≡ StoreFault.Sql error }
+        → error ≢ Error.SqliteFailure ErrorCode.DiskFull
+        → error ≢ Error.SqliteFailure ErrorCode.CannotOpen
+        → error ≢ Error.SqliteFailure ErrorCode.SystemIoFailure
+        → result ≡ StoreFault.Sql error }
 {
     match error {
         Error::SqliteFailure(ErrorCode::DatabaseBusy) => StoreFault::Locked,
         Error::SqliteFailure(ErrorCode::OutOfMemory) => StoreFault::NoMemory,
         Error::SqliteFailure(ErrorCode::DiskFull) => StoreFault::DiskFull,
+        Error::SqliteFailure(ErrorCode::CannotOpen) => StoreFault::Unread(error),
+        Error::SqliteFailure(ErrorCode::SystemIoFailure) => StoreFault::Unread(error),
         error => StoreFault::Sql(error),
     }
 }

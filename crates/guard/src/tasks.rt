@@ -4,15 +4,16 @@ use crate::filter_file::FilterFault;
 use crate::names::Names;
 use crate::store_file::StoreFault;
 use crate::telling::{
-    DONE, FAILED, Input, NO, UNWRITTEN, tell, tell_filter, tell_origin, tell_trouble,
+    BAD, DONE, Input, NO, UNWRITTEN, tell, tell_filter, tell_origin, tell_trouble,
 };
 use guard_engine::{Answer, Guard, Kept, Origin, Store, Task, Trouble, carry_out};
+use lines::Reason;
 use std::io;
 use std::io::{BufWriter, Read, Write};
 
 /// Tells that the answer can't be printed.
 fn tell_output(rt: &HostRuntime, error: io::Error) -> u8 {
-    tell(rt, "standard output", error.kind());
+    tell(rt, "standard output", Reason(error.kind()));
     UNWRITTEN
 }
 
@@ -123,7 +124,7 @@ pub fn print_entries(rt: &HostRuntime, names: &Names, entries: &[(String, String
                 names.store.as_str(),
                 format_args!("not listed, since a line's end or a tab is in the way: {many}"),
             );
-            FAILED
+            BAD
         }
         Err(error) => tell_output(rt, error),
     }

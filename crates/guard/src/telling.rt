@@ -13,8 +13,8 @@ use std::fmt::Display;
 /// The task was carried out.
 pub const DONE: u8 = 0;
 
-/// A file or an input can't be read, or isn't what it should be.
-pub const FAILED: u8 = 1;
+/// A file or an input isn't what it should be.
+pub const BAD: u8 = 1;
 
 /// The words after the program's name are wrong.
 pub const MISUSED: u8 = 2;
@@ -30,6 +30,9 @@ pub const UNWRITTEN: u8 = 6;
 
 /// Another process has the store open.
 pub const LOCKED: u8 = 7;
+
+/// A file or an input can't be opened or read.
+pub const UNREAD: u8 = 8;
 
 /// Where the lines of a task come from, as it is told, and whether they are put.
 #[derive(Clone, Copy)]
@@ -48,11 +51,12 @@ fn status_of(fault: &StoreFault) -> u8
     ensures { result ≡ status_for fault.now }
 {
     match fault {
-        StoreFault::Sql(_) => FAILED,
+        StoreFault::Sql(_) => BAD,
+        StoreFault::Unread(_) => UNREAD,
         StoreFault::NoMemory => NO_MEMORY,
         StoreFault::DiskFull => UNWRITTEN,
         StoreFault::Locked => LOCKED,
-        StoreFault::Unfit(_) => FAILED,
+        StoreFault::Unfit(_) => BAD,
     }
 }
 
@@ -61,8 +65,8 @@ fn status_of_why(why: &Why<StoreFault, FilterFault>) -> u8
     ensures { result ≡ status_of_why why.now }
 {
     match why {
-        Why::Line(_) => FAILED,
-        Why::Input(_) => FAILED,
+        Why::Line(_) => BAD,
+        Why::Input(_) => UNREAD,
         Why::Memory => NO_MEMORY,
         Why::Store(fault) => status_of(fault),
         Why::Kept(_) => UNWRITTEN,
@@ -86,14 +90,14 @@ fn status_of_lack(error: &FilterError) -> u8
     ensures { result ≡ status_of_lack error.now }
 {
     match error {
-        FilterError::ZeroBits => FAILED,
-        FilterError::EmptyWords => FAILED,
-        FilterError::TooManyWords => FAILED,
-        FilterError::ZeroRate => FAILED,
-        FilterError::SizeOverflow => FAILED,
+        FilterError::ZeroBits => BAD,
+        FilterError::EmptyWords => BAD,
+        FilterError::TooManyWords => BAD,
+        FilterError::ZeroRate => BAD,
+        FilterError::SizeOverflow => BAD,
         FilterError::Memory => NO_MEMORY,
-        FilterError::HashCount => FAILED,
-        FilterError::Worker => FAILED,
+        FilterError::HashCount => BAD,
+        FilterError::Worker => BAD,
     }
 }
 

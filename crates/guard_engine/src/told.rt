@@ -6,6 +6,7 @@ ghost use Rattle.guard_engine.specs.Told.{at_line_text, bad_text, fault_of, faul
 use crate::commands::Trouble;
 use crate::guard::{Fault, Stop, Why};
 use crate::line::BadLine;
+use lines::Reason;
 use std::fmt;
 use std::fmt::Display;
 
@@ -108,7 +109,7 @@ fn write_stop<E: Display, F: Display, W: fmt::Write>(
     };
     match &stop.why {
         Why::Line(bad) => write!(f, "line {number} {bad}{tail}"),
-        Why::Input(kind) => write_unread(kind, number, tail, f),
+        Why::Input(kind) => write_unread(&Reason(*kind), number, tail, f),
         Why::Memory => write!(f, "line {number}: out of memory{tail}"),
         Why::Store(error) => write_at_line(error, number, place, tail, f),
         Why::Kept(error) => write_at_line(error, number, place, tail, f),

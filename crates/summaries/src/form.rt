@@ -3,27 +3,29 @@ ghost use Rattle.std.specs.Prelude.{◌≤◌, IfErr, IfOk};
 ghost use Rattle.summaries_engine.specs.Answers.{IsKeyed};
 ghost use Rattle.summaries_engine.specs.Loaded.{IsUnloaded};
 
-use anyhow::Context;
 use fastbloom::BloomFilter;
 use std::fs;
 use std::rt::Files;
-use summaries_engine::{Form, Shelf, load};
+use summaries_engine::{Form, Shelf, Stop, load, unread};
 
 /// The filter of a file, which may have at most this many hashes, and its form.
 ///
 /// # Errors
-/// Each tells the name: the file can't be read, or holds no filter, or one with more hashes.
+/// Out of memory, and where the file can't be read, or holds no filter, or one with more hashes;
+/// each but the first tells the name.
 pub fn load_named<R: Files + AllocGlobal>(
     rt: &R,
     name: &str,
     most: u32,
-) -> anyhow::Result<(BloomFilter, Form)>
+) -> Result<(BloomFilter, Form), Stop>
     ensures keyed { IfOk result (λ read. IsKeyed read.0) }
     ensures few { IfOk result (λ read. read.0.hashes ≤ most) }
     ensures failed { IfErr result (IsUnloaded name.now most) }
 {
-    let mut file = fs::open(rt, name).context(format_args!("{name}: it can't be read"))?;
-    load(rt.alloc(), name, most, &mut file)
+    match fs::open(rt, name) {
+        Ok(mut file) => load(rt.alloc(), name, most, &mut file),
+        Err(error) => Err(unread(name, error)),
+    }
 }
 
 /// The files of a system, each with one filter.
@@ -38,10 +40,10 @@ impl<'a, R: Files + AllocGlobal> Shelf for Disk<'a, R> {
     // What files hold is known to no contract; but a filter that is loaded has few hashes.
     ghost has = { λ disk name filter. filter.hashes ≤ disk.most };
 
-    // Each error tells the name.
-    ghost fails = { λ disk name said. IsUnloaded name disk.most said };
+    // Each error but that of memory tells the name.
+    ghost fails = { λ disk name stop. IsUnloaded name disk.most stop };
 
-    fn load(&self, name: &str) -> anyhow::Result<BloomFilter> {
+    fn load(&self, name: &str) -> Result<BloomFilter, Stop> {
         let (filter, _form) = load_named(self.rt, name, self.most)?;
         Ok(filter)
     }

@@ -11,7 +11,8 @@ use command_line::arguments;
 use std::process::ExitCode;
 use std::rt::Files;
 use std::thread::Threads;
-use telling::{DONE, MISUSED, UNREAD, UNWRITTEN, tell, tell_stop};
+use summaries_engine::Stop;
+use telling::{DONE, MISUSED, UNWRITTEN, tell, tell_stop};
 
 // What the words ask for is done; the status.
 fn run<R: Files + Input + Print + Eprint + AllocGlobal + Threads>(rt: &R, words: &[String]) -> u8 {
@@ -46,8 +47,7 @@ fn main(rt: HostRuntime) -> ExitCode {
                 tell(&rt, "an argument isn't UTF-8");
                 ExitCode::from(MISUSED)
             } else {
-                tell(&rt, error);
-                ExitCode::from(UNREAD)
+                ExitCode::from(tell_stop(&rt, Stop::Memory))
             }
         }
     }

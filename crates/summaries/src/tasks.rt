@@ -17,7 +17,7 @@ use summaries_engine::{
 
 // The error of words that the command line lets through only by a mistake of the program.
 fn unsaid(what: &str) -> Stop {
-    Stop::Input(anyhow!("which {what}?"))
+    Stop::Bad(anyhow!("which {what}?"))
 }
 
 fn shape_by_rate(matches: &ArgMatches, items: u64) -> Result<Shape, Stop> {
@@ -45,7 +45,7 @@ fn made(shape: Result<Shape, FilterError>) -> Result<Shape, Stop> {
     match shape {
         Ok(shape) => Ok(shape),
         Err(FilterError::Memory) => Err(Stop::Memory),
-        Err(error) => Err(Stop::Input(anyhow::Error::from(error))),
+        Err(error) => Err(Stop::Bad(anyhow::Error::from(error))),
     }
 }
 
@@ -120,10 +120,8 @@ fn run_unite<R: Files + Print + AllocGlobal>(rt: &R, matches: &ArgMatches) -> Re
         return Err(unsaid(FILTER));
     };
     let disk = disk_of(rt, matches)?;
-    match unite_named(&disk, names) {
-        Ok(filter) => write(rt, matches, &filter),
-        Err(error) => Err(Stop::Input(error)),
-    }
+    let filter = unite_named(&disk, names)?;
+    write(rt, matches, &filter)
 }
 
 // Asks a filter for the keys of these inputs.
@@ -135,10 +133,7 @@ fn ask_of<R: Files + Input + Print + AllocGlobal>(
     let Some(name) = matches.get_str(FILTER) else {
         return Err(unsaid(FILTER));
     };
-    let filter = match disk_of(rt, matches)?.load(name) {
-        Ok(filter) => filter,
-        Err(error) => return Err(Stop::Input(error)),
-    };
+    let filter = disk_of(rt, matches)?.load(name)?;
     let told = if matches.get_flag(ABSENT) {
         Told::Absent
     } else {
@@ -178,10 +173,7 @@ fn run_info<R: Files + Print + AllocGlobal>(rt: &R, matches: &ArgMatches) -> Res
     let Some(name) = matches.get_str(FILTER) else {
         return Err(unsaid(FILTER));
     };
-    let (filter, form) = match load_named(rt, name, u32::MAX) {
-        Ok(read) => read,
-        Err(error) => return Err(Stop::Input(error)),
-    };
+    let (filter, form) = load_named(rt, name, u32::MAX)?;
     let Ok(facts) = facts_of(rt.alloc(), &filter, form) else {
         return Err(Stop::Memory);
     };

@@ -7,8 +7,8 @@ use summaries_engine::Stop;
 /// The task was carried out.
 pub const DONE: u8 = 0;
 
-/// A file or standard input can't be had or read, or isn't what it should be.
-pub const UNREAD: u8 = 1;
+/// A file or standard input isn't what it should be.
+pub const BAD: u8 = 1;
 
 /// The words after the program's name are wrong.
 pub const MISUSED: u8 = 2;
@@ -18,6 +18,9 @@ pub const NO_ROOM: u8 = 5;
 
 /// A write failed.
 pub const UNWRITTEN: u8 = 6;
+
+/// A file or standard input can't be opened or read.
+pub const UNREAD: u8 = 8;
 
 /// Tells what failed, on one line.
 pub fn tell<R: Eprint, D: Display + Drop>(rt: &R, what: D) {
@@ -30,6 +33,7 @@ pub fn tell_stop<R: Eprint>(rt: &R, stop: Stop) -> u8 {
         Stop::Memory => NO_ROOM,
         Stop::Worker => NO_ROOM,
         Stop::Input(_) => UNREAD,
+        Stop::Bad(_) => BAD,
         Stop::Output(_) => UNWRITTEN,
     };
     tell(rt, stop);

@@ -113,11 +113,7 @@ fn form_of(name: &str, head: &[u8; 64]) -> Result<Form, Stop>
 }
 
 // Reads a filter in the form that its first bytes tell.
-fn load_any<R: Read>(
-    alloc: Global,
-    name: &str,
-    input: &mut R,
-) -> Result<(BloomFilter, Form), Stop>
+fn load_any<R: Read>(alloc: Global, name: &str, input: &mut R) -> Result<(BloomFilter, Form), Stop>
     ensures keyed { IfOk result (λ read. IsKeyed read.0) }
     ensures form { IfOk result (λ read. IfSome (R.remaining input.old) (IsInForm read.1 read.0)) }
     ensures failed { IfErr result (IsUnread name.now) }

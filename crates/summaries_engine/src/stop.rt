@@ -21,7 +21,7 @@ pub enum Stop {
 impl Display for Stop {
     fn fmt<W: fmt::Write>(&self, f: &mut fmt::Formatter<W>) -> fmt::Result {
         match self {
-            Stop::Memory => f.write_str("no memory"),
+            Stop::Memory => f.write_str("out of memory"),
             Stop::Worker => f.write_str("a thread can't be started"),
             Stop::Input(error) => write!(f, "{error:#}"),
             Stop::Bad(error) => write!(f, "{error:#}"),

@@ -1,0 +1,19 @@
+//! Why a stream failed.
+
+use std::fmt;
+use std::io::ErrorKind;
+
+/// Shows why a read or a write failed.
+///
+/// A closed descriptor and a failed device have no kind of their own; the text names both.
+#[derive(Clone, Copy, Debug, PartialEq, Eq)]
+pub struct Reason(pub ErrorKind);
+
+impl fmt::Display for Reason {
+    fn fmt<W: fmt::Write>(&self, f: &mut fmt::Formatter<W>) -> fmt::Result {
+        match self.0 {
+            ErrorKind::Uncategorized => f.write_str("bad file descriptor, or input/output error"),
+            kind => write!(f, "{kind}"),
+        }
+    }
+}
