@@ -42,7 +42,14 @@ fn folder_by_pkg_config() -> Option<PathBuf> {
         variable(name);
     }
     pkg_config(&["--exists", WANTED[0], WANTED[1]])?;
-    pkg_config(&["--variable=libdir", "fastbloom"]).map(PathBuf::from)
+    let folder = pkg_config(&["--variable=libdir", "fastbloom"])?;
+    Path::new(&folder).canonicalize().ok()
+}
+
+/// The folder that `bin/build-c` fills, of the repository that this crate lies in.
+fn folder_of_repository() -> Option<PathBuf> {
+    let folder = Path::new(env!("CARGO_MANIFEST_DIR")).join("../../out/c");
+    folder.canonicalize().ok()
 }
 
 /// The kind of the library that a folder has, as the compiler calls it, and its file.
@@ -77,10 +84,9 @@ fn find(shared: bool) -> (PathBuf, &'static str, PathBuf) {
         return within(folder)
             .unwrap_or_else(|| refuse(format!("the folder FASTBLOOM_LIB={name} has no {what}")));
     }
-    let beside = Path::new(env!("CARGO_MANIFEST_DIR")).join("../../out/c");
     folder_by_pkg_config()
         .and_then(within)
-        .or_else(|| within(beside))
+        .or_else(|| within(folder_of_repository()?))
         .unwrap_or_else(|| {
             refuse(format!(
                 "there is no {what}.\n\

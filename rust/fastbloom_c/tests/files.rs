@@ -123,10 +123,12 @@ fn refused() -> Vec<(Error, Vec<Vec<u8>>)> {
             vec![
                 file[..8].to_vec(),
                 cut(8, 0, 15),
+                cut(16, 0, 23),
                 file[..63].to_vec(),
                 file[..64].to_vec(),
                 file[..file.len() - 1].to_vec(),
                 cut(48, 1, 60),
+                cut(48, 1, 71),
                 change(23, 3),
             ],
         ),
@@ -137,7 +139,14 @@ fn refused() -> Vec<(Error, Vec<Vec<u8>>)> {
                 [&change(63, 1)[..], &[0]].concat(),
             ],
         ),
-        (Error::Reserved, vec![change(48, 1), change(63, 128)]),
+        (
+            Error::Reserved,
+            vec![
+                change(48, 1),
+                change(63, 128),
+                changed(&change(55, 1), 40, 0),
+            ],
+        ),
         (
             Error::Seal,
             [8, 24, 39, 40, 64, 71]
@@ -156,7 +165,7 @@ fn files_are_refused_each_for_its_reason() {
             count += 1;
         }
     }
-    assert_eq!(count, 30);
+    assert_eq!(count, 33);
 }
 
 #[test]
