@@ -15,14 +15,8 @@ fn main() -> Result<(), Box<dyn Error>> {
     }
     fs::write(&path, seen.to_bytes())?;
     let read = BloomFilter::from_bytes(&fs::read(&path)?)?;
-    println!(
-        "{}",
-        if read.contains("crab") && read == seen {
-            "read back"
-        } else {
-            "lost"
-        }
-    );
+    let kept = read.contains("crab") && read == seen;
+    println!("{}", if kept { "read back" } else { "lost" });
     // end of example
     Ok(())
 }
