@@ -46,6 +46,8 @@ fn type_of_c(words: &str) -> String {
         "uint32_t" => "u32",
         "uint8_t" => "u8",
         "bool" => "bool",
+        // A struct has the same name in Rust.
+        own if own.starts_with("fastbloom_") => own,
         other => panic!("the header has the type {other}"),
     };
     format!("{pointer}{name}")
@@ -83,9 +85,13 @@ fn calls_of_header() -> BTreeMap<String, String> {
             let (name, rest) = rest.split_once('(').expect("parameters");
             let list = rest.strip_suffix(')').expect("the end of the parameters");
             let list: Vec<_> = list.split(", ").map(parameter_of_c).collect();
-            let (list, result) = (list.join(", "), type_of_c(result));
+            let list = list.join(", ");
+            let result = match result {
+                "void" => String::new(),
+                result => format!(" -> {}", type_of_c(result)),
+            };
             let name = format!("fastbloom_{name}");
-            let declaration = format!("{mark}pub fn {name}({list}) -> {result};");
+            let declaration = format!("{mark}pub fn {name}({list}){result};");
             (name, declaration)
         })
         .collect()

@@ -38,7 +38,12 @@
 //! # Threads
 //!
 //! A [`BloomFilter`] is `Send` and `Sync`: a call that changes it takes `&mut self`, and threads look
-//! up at once through `&self`. The processor has SSE4.2 (x86-64-v2).
+//! up at once through `&self`.
+//!
+//! # Panics
+//!
+//! The library is built for processors of x86-64-v2, which have SSE4.2. On an older one each call
+//! that makes a filter or a hash panics.
 #![deny(
     missing_docs,
     unsafe_code,

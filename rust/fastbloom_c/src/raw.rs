@@ -4,10 +4,12 @@
 //! length that is given. A reference and a slice of Rust are that, also where there are no elements.
 //! A `&mut` keeps every other thread away from words that are written, and a `&` keeps writers away
 //! from words that are read. A `&mut` overlaps with no other argument.
+//! The processor can run the library, since a filter is made only after `check_processor`.
 
 use crate::Error;
 use fastbloom_c_sys as sys;
 use std::alloc::{alloc_zeroed, Layout};
+use std::arch::is_x86_feature_detected;
 
 /// The sixteen bytes of a key.
 pub type Key = [u8; 16];
@@ -22,6 +24,16 @@ pub struct Head {
     pub num_hashes: u32,
     pub key: Key,
     pub seal: u64,
+}
+
+/// Panics where the processor can't run the library. The four calls below that need no filter ask
+/// this: one of them comes before each filter.
+fn check_processor() {
+    let fits = is_x86_feature_detected!("sse4.2") && is_x86_feature_detected!("popcnt");
+    assert!(
+        fits,
+        "the library fastbloom_c needs a processor of x86-64-v2, with SSE4.2"
+    );
 }
 
 /// This many words of zero.
@@ -42,6 +54,7 @@ pub fn zeros(num_words: usize) -> Result<Vec<u64>, Error> {
 
 /// The numbers of words and of hashes for this many items at the rate `num / den`.
 pub fn plan(num: u64, den: u64, items: usize) -> Result<(usize, u32), Error> {
+    check_processor();
     let (mut num_words, mut num_hashes) = (0, 0);
     // SAFETY: the pointers are to two locals of the types that the call writes.
     Error::check(unsafe { sys::fastbloom_plan(num, den, items, &mut num_words, &mut num_hashes) })?;
@@ -50,6 +63,7 @@ pub fn plan(num: u64, den: u64, items: usize) -> Result<(usize, u32), Error> {
 
 /// The number of bits, or 0 where there are too many words.
 pub fn num_bits(num_words: usize) -> usize {
+    check_processor();
     // SAFETY: the call takes no pointer.
     unsafe { sys::fastbloom_num_bits(num_words) }
 }
@@ -66,6 +80,7 @@ pub fn expected_rate(num_words: usize, num_hashes: u32, items: usize) -> Result<
 
 /// SipHash-1-3 of exactly these bytes.
 pub fn hash(key: &Key, bytes: &[u8]) -> u64 {
+    check_processor();
     // SAFETY: the key has sixteen bytes, and the slice its length.
     unsafe { sys::fastbloom_hash(key.as_ptr(), bytes.as_ptr(), bytes.len()) }
 }
@@ -230,6 +245,7 @@ pub fn write_head(head: &Head) -> Result<HeadBytes, Error> {
 
 /// What the head of a file tells.
 pub fn read_head(bytes: &HeadBytes) -> Result<Head, Error> {
+    check_processor();
     let mut head = Head::default();
     // SAFETY: the head has 64 bytes. The call writes four fields of a local, of the types that it
     // wants, which lie apart.
