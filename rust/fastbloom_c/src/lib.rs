@@ -14,9 +14,10 @@
 //! ```
 //!
 //! The work is done by the library fastbloom_c, each call of which is proved, through
-//! [`fastbloom_c_sys`]. The names are those of the Rust crate fastbloom 0.17.0 where it has them.
-//! Three things differ: rates are fractions; what that crate panics on is an [`Error`]; and an item
-//! is its bytes, so no `Hash` and no `BuildHasher` is asked for.
+//! [`fastbloom_c_sys`]. This crate itself is tested, and not proved. The names are those of the Rust
+//! crate fastbloom 0.17.0 where it has them. Three things differ: rates are fractions; what that
+//! crate panics on is an [`Error`]; and an item is its bytes, so no `Hash` and no `BuildHasher` is
+//! asked for.
 //!
 //! # Items
 //!
