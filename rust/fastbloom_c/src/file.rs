@@ -35,13 +35,11 @@ fn num_words_of(bytes: &HeadBytes, there: usize) -> Result<usize, Error> {
     Ok(raw::read_head(&good)?.num_words)
 }
 
-/// Reads this many words. Memory is asked for as they come.
+/// Reads this many words. Memory is asked for as they come, but for those that are sure to come.
 fn read_words(input: &mut impl Read, num_words: usize, sure: usize) -> Result<Vec<u64>, Error> {
     let mut words = Vec::new();
     let mut buffer = [0; 8 * AT_ONCE];
-    words
-        .try_reserve_exact(num_words.min(sure))
-        .map_err(|_| Error::Memory)?;
+    words.try_reserve_exact(sure).map_err(|_| Error::Memory)?;
     while words.len() < num_words {
         let count = AT_ONCE.min(num_words - words.len());
         let bytes = &mut buffer[..8 * count];
@@ -55,22 +53,17 @@ fn read_words(input: &mut impl Read, num_words: usize, sure: usize) -> Result<Ve
     Ok(words)
 }
 
-/// Reads a file, of which this many words are there for sure.
-fn read(input: &mut impl Read, max_hashes: u32, sure: usize) -> Result<BloomFilter, Error> {
-    let mut bytes = [0; 64];
-    let there = fill(input, &mut bytes)?;
-    let num_words = num_words_of(&bytes, there)?;
-    if there < bytes.len() {
-        return Err(Error::Cut);
-    }
-    let words = read_words(input, num_words, sure)?;
-    if fill(input, &mut [0])? > 0 {
-        return Err(Error::TooLong);
-    }
-    let head = raw::read_head(&bytes)?;
+/// What a whole head tells, which is refused for bytes that must be zero, or for its hashes.
+fn whole_head(bytes: &HeadBytes, max_hashes: u32) -> Result<Head, Error> {
+    let head = raw::read_head(bytes)?;
     if head.num_hashes > max_hashes {
         return Err(Error::TooManyHashes);
     }
+    Ok(head)
+}
+
+/// The filter of a head and its words, unless the seal is wrong.
+fn unsealed(head: Head, words: Vec<u64>) -> Result<BloomFilter, Error> {
     let filter = BloomFilter {
         words,
         num_hashes: head.num_hashes,
@@ -137,8 +130,8 @@ impl BloomFilter {
     /// ```
     ///
     /// # Errors
-    /// Of several reasons the first, as `docs/FILE.md` says; then [`Error::TooManyHashes`]; and then
-    /// [`Error::Memory`] or [`Error::Seal`].
+    /// Of several reasons the first, as `docs/FILE.md` says; then [`Error::TooManyHashes`]; and
+    /// then [`Error::Memory`] or [`Error::Seal`].
     pub fn from_bytes(bytes: &[u8]) -> Result<BloomFilter, Error> {
         BloomFilter::from_bytes_with_hashes(bytes, MAX_HASHES)
     }
@@ -156,7 +149,17 @@ impl BloomFilter {
     /// # Errors
     /// As [`from_bytes`](Self::from_bytes).
     pub fn from_bytes_with_hashes(bytes: &[u8], max_hashes: u32) -> Result<BloomFilter, Error> {
-        read(&mut &*bytes, max_hashes, bytes.len() / 8)
+        let mut head = [0; 64];
+        let there = fill(&mut &*bytes, &mut head)?;
+        let num_words = num_words_of(&head, there)?;
+        if bytes.len() < 64 + 8 * num_words {
+            return Err(Error::Cut);
+        }
+        if bytes.len() > 64 + 8 * num_words {
+            return Err(Error::TooLong);
+        }
+        let head = whole_head(&head, max_hashes)?;
+        unsealed(head, read_words(&mut &bytes[64..], num_words, num_words)?)
     }
 
     /// Writes the file of this filter, sealed.
@@ -194,9 +197,19 @@ impl BloomFilter {
     /// ```
     ///
     /// # Errors
-    /// As [`from_bytes`](Self::from_bytes), with [`Error::Memory`] before [`Error::Cut`] where both
-    /// apply, or [`Error::Input`] where a read failed.
+    /// As [`from_bytes`](Self::from_bytes), but [`Error::Memory`] may come before [`Error::Cut`]
+    /// and what is told after it; and [`Error::Input`] where a read failed.
     pub fn read_file(input: &mut impl Read) -> Result<BloomFilter, Error> {
-        read(input, MAX_HASHES, 0)
+        let mut head = [0; 64];
+        let there = fill(input, &mut head)?;
+        let num_words = num_words_of(&head, there)?;
+        if there < head.len() {
+            return Err(Error::Cut);
+        }
+        let words = read_words(input, num_words, 0)?;
+        if fill(input, &mut [0])? > 0 {
+            return Err(Error::TooLong);
+        }
+        unsealed(whole_head(&head, MAX_HASHES)?, words)
     }
 }

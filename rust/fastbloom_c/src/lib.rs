@@ -14,16 +14,16 @@
 //! ```
 //!
 //! The work is done by the library fastbloom_c, each call of which is proved, through
-//! [`fastbloom_c_sys`]. This crate itself is tested, and not proved. The names are those of the Rust
-//! crate fastbloom 0.17.0 where it has them. Three things differ: rates are fractions; what that
-//! crate panics on is an [`Error`]; and an item is its bytes, so no `Hash` and no `BuildHasher` is
-//! asked for.
+//! [`fastbloom_c_sys`]. This crate itself is tested, and not proved. The names are those of the
+//! Rust crate fastbloom 0.17.0 where it has them. Three things differ: rates are fractions; what
+//! that crate panics on is an [`Error`]; and an item is its bytes, so no `Hash` and no
+//! `BuildHasher` is asked for.
 //!
 //! # Items
 //!
-//! An item is anything that is `AsRef<[u8]>`: `str`, `String`, `[u8]`, `Vec<u8>`, arrays. Its hash is
-//! SipHash-1-3 of exactly these bytes under the filter's key. All languages of the library share this
-//! rule, so that one reads what another wrote. A number is no item:
+//! An item is anything that is `AsRef<[u8]>`: `str`, `String`, `[u8]`, `Vec<u8>`, arrays. Its hash
+//! is SipHash-1-3 of exactly these bytes under the filter's key. All languages of the library share
+//! this rule, so that one reads what another wrote. A number is no item:
 //!
 //! ```compile_fail,E0277
 //! let mut seen = fastbloom_c::BloomFilter::with_num_bits(64).unwrap().hashes(1);
@@ -38,8 +38,8 @@
 //!
 //! # Threads
 //!
-//! A [`BloomFilter`] is `Send` and `Sync`: a call that changes it takes `&mut self`, and threads look
-//! up at once through `&self`.
+//! A [`BloomFilter`] is `Send` and `Sync`: a call that changes it takes `&mut self`, and threads
+//! look up at once through `&self`.
 //!
 //! # Panics
 //!

@@ -1,10 +1,10 @@
 //! The calls of the library over slices: the only module with unsafe blocks.
 //!
 //! The library asks for pointers that aren't null and are aligned, to initialized memory of the
-//! length that is given. A reference and a slice of Rust are that, also where there are no elements.
-//! A `&mut` keeps every other thread away from words that are written, and a `&` keeps writers away
-//! from words that are read. A `&mut` overlaps with no other argument.
-//! The processor can run the library, since a filter is made only after `check_processor`.
+//! length that is given. A reference and a slice of Rust are that, also where there are no
+//! elements. A `&mut` keeps every other thread away from words that are written, and a `&` keeps
+//! writers away from words that are read. A `&mut` overlaps with no other argument. The processor
+//! can run the library, since a filter is made only after `check_processor`.
 
 use crate::Error;
 use fastbloom_c_sys as sys;
@@ -194,16 +194,16 @@ pub fn clear(words: &mut [u64]) -> bool {
 /// Takes the items of the other in. False: the numbers of words differ.
 #[must_use]
 pub fn union(words: &mut [u64], other: &[u64]) -> bool {
-    // SAFETY: both are slices of their lengths. The first is borrowed for writing, so that the other
-    // lies elsewhere.
+    // SAFETY: both are slices of their lengths. The first is borrowed for writing, so that the
+    // other lies elsewhere.
     unsafe { sys::fastbloom_union(words.as_mut_ptr(), words.len(), other.as_ptr(), other.len()) }
 }
 
 /// Keeps only what may be in both. False: the numbers of words differ.
 #[must_use]
 pub fn intersect(words: &mut [u64], other: &[u64]) -> bool {
-    // SAFETY: both are slices of their lengths. The first is borrowed for writing, so that the other
-    // lies elsewhere.
+    // SAFETY: both are slices of their lengths. The first is borrowed for writing, so that the
+    // other lies elsewhere.
     unsafe {
         sys::fastbloom_intersect(words.as_mut_ptr(), words.len(), other.as_ptr(), other.len())
     }

@@ -1,5 +1,5 @@
-//! What filters hold and answer. The values are from outside: SipHash-1-3 of Rust itself, a model in
-//! Python, and values worked by hand.
+//! What filters hold and answer. The values are from outside: SipHash-1-3 of Rust itself, a model
+//! in Python, and values worked by hand.
 
 use fastbloom_c::{hash, BloomFilter, Error, Rate};
 
