@@ -1,13 +1,22 @@
-//! A first use of the wrapper.
+//! A first use of the crate: `first FILE` keeps a filter of texts in a file.
 
-use fastbloom_over_c::{Filter, Refusal};
+use fastbloom_c::{BloomFilter, Rate};
+use std::error::Error;
+use std::fs;
 
-fn main() -> Result<(), Refusal> {
-    // Where others choose the items, draw the key.
-    let mut seen = Filter::new(1, 1000, 1_000_000, [0; 16])?;
+fn main() -> Result<(), Box<dyn Error>> {
+    let path = std::env::args().nth(1).ok_or("usage: first FILE")?;
+    // example filter
+    // Where others choose the items, draw the key: `.seed(&drawn)` before the size.
+    let mut seen = BloomFilter::with_false_pos(Rate::new(1, 1000)?).expected_items(1_000_000)?;
     for name in ["crab", "lobster", "crab"] {
-        let before = seen.insert(name.as_bytes());
+        let before = seen.insert(name);
         println!("{name}: {}", if before { "seen before" } else { "new" });
     }
+    fs::write(&path, seen.to_bytes())?;
+    let read = BloomFilter::from_bytes(&fs::read(&path)?)?;
+    let kept = read.contains("crab") && read == seen;
+    println!("{}", if kept { "read back" } else { "lost" });
+    // end of example
     Ok(())
 }

@@ -1,0 +1,229 @@
+//! The calls of the library fastbloom_c, as `include/fastbloom.h` declares them: Bloom filters over
+//! words that the caller owns. The crate `fastbloom_c` has safe calls over these.
+//!
+//! A filter is an array of `num_words` words of 64 bits, and a number of hashes, where none counts
+//! as one. An array of zeros is the empty filter. No words are no filter: each call that answers a
+//! `bool` answers false for them, and changes nothing. No call allocates memory, waits, unwinds, or
+//! keeps a pointer.
+//!
+//! # Safety
+//!
+//! The caller of each function keeps these rules:
+//!
+//! - No pointer is null, even where a length is 0. Pointers to `u64`, `u32` and `usize` are
+//!   aligned.
+//! - Each pointer is to memory of the length that is given, at most 2^63 - 1 bytes, which stays in
+//!   its place while the call runs. A key has 16 bytes, and a head 64. What is read is initialized.
+//! - Memory that a call may write, which a `*mut` points to, overlaps with nothing else that the
+//!   call is given.
+//! - While a call runs that may write words, no other thread or process touches them. While a call
+//!   runs that reads words, none writes them. Calls that read may run at once.
+//! - The processor has SSE4.2 (x86-64-v2).
+#![no_std]
+#![deny(missing_docs)]
+
+/// The version of the header that these declarations follow.
+pub const FASTBLOOM_VERSION: &str = "0.17.0";
+
+/// Success.
+pub const FASTBLOOM_OK: u8 = 0;
+/// Zero bits.
+pub const FASTBLOOM_ZERO_BITS: u8 = 1;
+/// No words.
+pub const FASTBLOOM_EMPTY_WORDS: u8 = 2;
+/// More than 2^58 - 1 words.
+pub const FASTBLOOM_TOO_MANY_WORDS: u8 = 3;
+/// A part of the rate is zero.
+pub const FASTBLOOM_ZERO_RATE: u8 = 4;
+/// 2^64 bits or more.
+pub const FASTBLOOM_SIZE_OVERFLOW: u8 = 5;
+/// Out of memory.
+pub const FASTBLOOM_MEMORY: u8 = 6;
+/// 0 hashes, or 2^32 and more.
+pub const FASTBLOOM_HASH_COUNT: u8 = 7;
+/// A thread couldn't be started.
+pub const FASTBLOOM_WORKER: u8 = 8;
+/// The file doesn't begin with `fbloom` and a zero byte.
+pub const FASTBLOOM_NOT_A_FILTER: u8 = 9;
+/// The version of the file isn't `1`.
+pub const FASTBLOOM_UNKNOWN_VERSION: u8 = 10;
+/// The file ends before its last word.
+pub const FASTBLOOM_CUT: u8 = 11;
+/// Bytes follow the last word.
+pub const FASTBLOOM_TOO_LONG: u8 = 12;
+/// A byte that must be zero isn't.
+pub const FASTBLOOM_RESERVED: u8 = 13;
+/// The seal is wrong: the file was changed.
+pub const FASTBLOOM_SEAL: u8 = 14;
+/// A read failed.
+pub const FASTBLOOM_INPUT: u8 = 15;
+
+extern "C" {
+    /// The numbers of words and of hashes for this many items at the rate `num / den`. It answers
+    /// [`FASTBLOOM_OK`]; or [`FASTBLOOM_ZERO_RATE`], [`FASTBLOOM_SIZE_OVERFLOW`] or
+    /// [`FASTBLOOM_TOO_MANY_WORDS`], and then both numbers are 0.
+    #[must_use]
+    pub fn fastbloom_plan(
+        num: u64,
+        den: u64,
+        items: usize,
+        num_words: *mut usize,
+        num_hashes: *mut u32,
+    ) -> u8;
+
+    /// 64 times `num_words`, or 0 where that is more than 2^58 - 1.
+    pub fn fastbloom_num_bits(num_words: usize) -> usize;
+
+    /// Two bounds of the rate of false positives to expect once this many items are in the filter,
+    /// as fractions of 2^63. It answers [`FASTBLOOM_OK`]; or [`FASTBLOOM_EMPTY_WORDS`] or
+    /// [`FASTBLOOM_TOO_MANY_WORDS`], and then the bounds are 0 and 2^63.
+    #[must_use]
+    pub fn fastbloom_expected_rate(
+        num_words: usize,
+        num_hashes: u32,
+        items: usize,
+        low: *mut u64,
+        high: *mut u64,
+    ) -> u8;
+
+    /// SipHash-1-3 of exactly these bytes under the key.
+    pub fn fastbloom_hash(key: *const u8, bytes: *const u8, len: usize) -> u64;
+
+    /// Turns on all positions of a hash, and answers whether all were on just before.
+    pub fn fastbloom_insert_hash(
+        words: *mut u64,
+        num_words: usize,
+        num_hashes: u32,
+        hash: u64,
+    ) -> bool;
+
+    /// Turns on all positions of each of `count` hashes, and answers true.
+    pub fn fastbloom_insert_hashes(
+        words: *mut u64,
+        num_words: usize,
+        num_hashes: u32,
+        hashes: *const u64,
+        count: usize,
+    ) -> bool;
+
+    /// Whether all positions of a hash are on.
+    pub fn fastbloom_contains_hash(
+        words: *const u64,
+        num_words: usize,
+        num_hashes: u32,
+        hash: u64,
+    ) -> bool;
+
+    /// Looks `count` hashes up, and answers true: bit `i % 64` of word `i / 64` of `found` goes on
+    /// where all positions of hash `i` are on, and every other bit goes off. Where there are more
+    /// hashes than bits, it answers false and changes nothing.
+    #[must_use]
+    pub fn fastbloom_contains_hashes(
+        words: *const u64,
+        num_words: usize,
+        num_hashes: u32,
+        hashes: *const u64,
+        count: usize,
+        found: *mut u64,
+        num_found: usize,
+    ) -> bool;
+
+    /// Inserts `count` hashes, one after the other, and answers true: bit `i % 64` of word `i / 64`
+    /// of `fresh` goes on where not all positions of hash `i` were on just before its insert, and
+    /// every other bit goes off. Where there are more hashes than bits, it answers false and
+    /// changes nothing.
+    #[must_use]
+    pub fn fastbloom_insert_hashes_tell_new(
+        words: *mut u64,
+        num_words: usize,
+        num_hashes: u32,
+        hashes: *const u64,
+        count: usize,
+        fresh: *mut u64,
+        num_fresh: usize,
+    ) -> bool;
+
+    /// [`fastbloom_insert_hash`] at the hash of the bytes.
+    pub fn fastbloom_insert(
+        words: *mut u64,
+        num_words: usize,
+        num_hashes: u32,
+        key: *const u8,
+        bytes: *const u8,
+        len: usize,
+    ) -> bool;
+
+    /// [`fastbloom_contains_hash`] at the hash of the bytes.
+    pub fn fastbloom_contains(
+        words: *const u64,
+        num_words: usize,
+        num_hashes: u32,
+        key: *const u8,
+        bytes: *const u8,
+        len: usize,
+    ) -> bool;
+
+    /// Turns every position off.
+    pub fn fastbloom_clear(words: *mut u64, num_words: usize) -> bool;
+
+    /// Turns on every position that is on in the other filter, and answers true. Where the numbers
+    /// of words differ, it answers false and changes nothing.
+    #[must_use]
+    pub fn fastbloom_union(
+        words: *mut u64,
+        num_words: usize,
+        other: *const u64,
+        num_other: usize,
+    ) -> bool;
+
+    /// Turns off every position that is off in the other filter, and answers true. Where the
+    /// numbers of words differ, it answers false and changes nothing.
+    #[must_use]
+    pub fn fastbloom_intersect(
+        words: *mut u64,
+        num_words: usize,
+        other: *const u64,
+        num_other: usize,
+    ) -> bool;
+
+    /// Whether both filters have as many words, and equal ones.
+    pub fn fastbloom_equal(
+        words: *const u64,
+        num_words: usize,
+        other: *const u64,
+        num_other: usize,
+    ) -> bool;
+
+    /// The number of positions that are on, or 0 where `num_words` is more than 2^58 - 1.
+    pub fn fastbloom_count_ones(words: *const u64, num_words: usize) -> usize;
+
+    /// The seal of the file of these words.
+    pub fn fastbloom_seal(
+        words: *const u64,
+        num_words: usize,
+        num_hashes: u32,
+        key: *const u8,
+    ) -> u64;
+
+    /// Writes the 64 bytes of the head of a file. It answers [`FASTBLOOM_OK`]; or
+    /// [`FASTBLOOM_EMPTY_WORDS`] or [`FASTBLOOM_TOO_MANY_WORDS`], and then it writes nothing.
+    #[must_use]
+    pub fn fastbloom_head_write(
+        num_words: usize,
+        num_hashes: u32,
+        key: *const u8,
+        seal: u64,
+        head: *mut u8,
+    ) -> u8;
+
+    /// Reads the 64 bytes of the head of a file, and answers [`FASTBLOOM_OK`]; or the first reason
+    /// for which these bytes are no head, and then it writes nothing.
+    #[must_use]
+    pub fn fastbloom_head_read(
+        head: *const u8,
+        num_words: *mut usize,
+        num_hashes: *mut u32,
+        key: *mut u8,
+        seal: *mut u64,
+    ) -> u8;
+}

@@ -1,0 +1,186 @@
+//! The declarations are those of `include/fastbloom.h`: each call with its parameters, their types,
+//! its result and whether that must be looked at; each number; and the version. The names are those
+//! of `include/fastbloom.symbols`.
+
+use std::collections::BTreeMap;
+
+const HEADER: &str = include_str!("../../../include/fastbloom.h");
+const SYMBOLS: &str = include_str!("../../../include/fastbloom.symbols");
+const DECLARATIONS: &str = include_str!("../src/lib.rs");
+
+/// The text between two others, the first of which stands before the second.
+fn between<'a>(text: &'a str, first: &str, last: &str) -> Option<&'a str> {
+    Some(text.split_once(first)?.1.split_once(last)?.0)
+}
+
+/// The text of C without its comments and its lines for the preprocessor.
+fn plain_c(text: &str) -> String {
+    let mut rest = text;
+    let mut plain = String::new();
+    while let Some((before, comment)) = rest.split_once("/*") {
+        plain += before;
+        rest = comment.split_once("*/").expect("the end of a comment").1;
+    }
+    plain += rest;
+    let is_plain = |line: &&str| !line.starts_with('#');
+    plain
+        .lines()
+        .filter(is_plain)
+        .collect::<Vec<_>>()
+        .join("\n")
+}
+
+/// The type of Rust for one of C, of which an array is a pointer.
+fn type_of_c(words: &str) -> String {
+    let (constant, rest) = match words.strip_prefix("const ") {
+        Some(rest) => ("*const ", rest),
+        None => ("*mut ", words),
+    };
+    let (name, pointer) = match rest.strip_suffix('*') {
+        Some(name) => (name.trim(), constant),
+        None => (rest, ""),
+    };
+    let name = match name {
+        "size_t" => "usize",
+        "uint64_t" => "u64",
+        "uint32_t" => "u32",
+        "uint8_t" => "u8",
+        "bool" => "bool",
+        // A struct has the same name in Rust.
+        own if own.starts_with("fastbloom_") => own,
+        other => panic!("the header has the type {other}"),
+    };
+    format!("{pointer}{name}")
+}
+
+/// A parameter of C, as Rust declares it.
+fn parameter_of_c(text: &str) -> String {
+    let plain = text.split('[').next().expect("a parameter");
+    let at = plain.rfind([' ', '*']).expect("a type and a name") + 1;
+    let array = if text.contains('[') { "*" } else { "" };
+    format!(
+        "{}: {}",
+        &plain[at..],
+        type_of_c(&format!("{}{array}", plain[..at].trim()))
+    )
+}
+
+/// The calls that the header declares, as Rust declares them, by their names.
+fn calls_of_header() -> BTreeMap<String, String> {
+    let plain = plain_c(HEADER);
+    let calls = plain
+        .split(';')
+        .filter(|text| text.contains("fastbloom_") && text.contains('('));
+    calls
+        .map(|text| {
+            let words = text.split_whitespace().collect::<Vec<_>>().join(" ");
+            let words = words.rsplit('{').next().expect("a declaration").trim();
+            let (mark, words) = match words.strip_prefix("FASTBLOOM_MUST_USE ") {
+                Some(words) => ("#[must_use] ", words),
+                None => ("", words),
+            };
+            let (result, rest) = words
+                .split_once(" fastbloom_")
+                .expect("a result and a name");
+            let (name, rest) = rest.split_once('(').expect("parameters");
+            let list = rest.strip_suffix(')').expect("the end of the parameters");
+            let list: Vec<_> = list.split(", ").map(parameter_of_c).collect();
+            let list = list.join(", ");
+            let result = match result {
+                "void" => String::new(),
+                result => format!(" -> {}", type_of_c(result)),
+            };
+            let name = format!("fastbloom_{name}");
+            let declaration = format!("{mark}pub fn {name}({list}){result};");
+            (name, declaration)
+        })
+        .collect()
+}
+
+/// The calls that the crate declares, by their names.
+fn calls_of_crate() -> BTreeMap<String, String> {
+    let block = between(DECLARATIONS, "extern \"C\" {", "\n}").expect("a block of calls");
+    let lines = block
+        .lines()
+        .map(str::trim)
+        .filter(|line| !line.starts_with("///"));
+    let text = lines.collect::<Vec<_>>().join(" ");
+    let calls = text
+        .split_inclusive(';')
+        .filter(|text| text.contains("pub fn"));
+    calls
+        .map(|text| {
+            let words = text.split_whitespace().collect::<Vec<_>>().join(" ");
+            let words = words.replace("( ", "(").replace(", )", ")");
+            let name = between(&words, "pub fn ", "(").expect("a name").to_owned();
+            (name, words)
+        })
+        .collect()
+}
+
+#[test]
+fn each_call_is_declared_as_in_the_header() {
+    let (header, declared) = (calls_of_header(), calls_of_crate());
+    assert!(header.len() > 1 && declared.len() > 1);
+    for (name, wanted) in &header {
+        let there = declared.get(name).map_or("nothing", String::as_str);
+        assert_eq!(there, wanted, "the declaration of {name} in src/lib.rs");
+    }
+    for name in declared.keys() {
+        assert!(header.contains_key(name), "the header has no {name}");
+    }
+}
+
+#[test]
+fn each_symbol_is_declared() {
+    let declared: Vec<_> = calls_of_crate().into_keys().collect();
+    assert_eq!(declared, SYMBOLS.lines().collect::<Vec<_>>());
+}
+
+#[test]
+fn each_number_is_that_of_the_header() {
+    let block = between(HEADER, "enum fastbloom_status {", "};").expect("numbers");
+    let wanted: Vec<_> = plain_c(block)
+        .split(',')
+        .map(|text| text.split_whitespace().collect::<Vec<_>>().join(" "))
+        .collect();
+    let lines = DECLARATIONS.lines().filter(|line| line.contains(": u8 = "));
+    let there: Vec<_> = lines
+        .map(|line| {
+            line.replace("pub const ", "")
+                .replace(": u8", "")
+                .replace(';', "")
+        })
+        .collect();
+    assert_eq!(there, wanted);
+}
+
+#[test]
+fn the_version_is_that_of_the_header() {
+    let wanted = between(HEADER, "#define FASTBLOOM_VERSION \"", "\"");
+    assert_eq!(Some(fastbloom_c_sys::FASTBLOOM_VERSION), wanted);
+    assert_eq!(Some(env!("CARGO_PKG_VERSION")), wanted);
+}
+
+/// Takes the addresses of these calls, so that the linker looks for each.
+macro_rules! linked {
+    ($($name:ident)*) => {
+        [$((stringify!($name), fastbloom_c_sys::$name as *const ())),*]
+    };
+}
+
+#[test]
+fn the_library_has_each_symbol() {
+    let linked = linked! {
+        fastbloom_clear fastbloom_contains fastbloom_contains_hash fastbloom_contains_hashes
+        fastbloom_count_ones fastbloom_equal fastbloom_expected_rate fastbloom_hash
+        fastbloom_head_read fastbloom_head_write fastbloom_insert fastbloom_insert_hash
+        fastbloom_insert_hashes fastbloom_insert_hashes_tell_new fastbloom_intersect
+        fastbloom_num_bits fastbloom_plan fastbloom_seal fastbloom_union
+    };
+    assert_eq!(
+        linked.map(|(name, _)| name).as_slice(),
+        SYMBOLS.lines().collect::<Vec<_>>()
+    );
+    assert!(linked.iter().all(|(_, address)| !address.is_null()));
+}

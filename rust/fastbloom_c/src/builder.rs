@@ -1,0 +1,267 @@
+//! How a filter is made: by its size, its words, or a rate of false positives.
+
+use crate::{raw, BloomFilter, Error, Rate};
+use std::fmt;
+
+const ZERO_KEY: raw::Key = [0; 16];
+
+// 2^53 times the natural logarithm of 2, as the nearest double has it.
+const LN_TWO: u128 = 6_243_314_768_165_359;
+
+/// The number of hashes that suits this many bits and items, where 0 items count as 1: the product
+/// of ln 2 and the bits for each item, rounded half up. The library has no call for it. In what
+/// `fastbloom_plan` answers the numbers have the same relation.
+fn hashes_for(num_bits: usize, items: usize) -> u32 {
+    let unit = (items.max(1) as u128) << 53;
+    let hashes = (2 * num_bits as u128 * LN_TWO + unit) / (2 * unit);
+    u32::try_from(hashes).unwrap_or(u32::MAX).max(1)
+}
+
+/// A builder of a filter with a given number of bits, or given words. `Debug` doesn't show the key.
+///
+/// ```
+/// use fastbloom_c::BloomFilter;
+///
+/// let seen = BloomFilter::with_num_bits(1024)?.seed(&42).hashes(4);
+/// assert_eq!((seen.num_bits(), seen.num_hashes()), (1024, 4));
+/// # Ok::<(), fastbloom_c::Error>(())
+/// ```
+#[derive(Clone, PartialEq, Eq)]
+pub struct BuilderWithBits {
+    // From 1 to 2^58 - 1.
+    words: Vec<u64>,
+    key: raw::Key,
+}
+
+/// A builder of a filter with a given rate of false positives. `Debug` doesn't show the key.
+///
+/// ```
+/// use fastbloom_c::{BloomFilter, Rate};
+///
+/// let seen = BloomFilter::with_false_pos(Rate::new(1, 2)?).expected_items(1000)?;
+/// assert_eq!((seen.num_bits(), seen.num_hashes()), (1472, 1));
+/// # Ok::<(), fastbloom_c::Error>(())
+/// ```
+#[derive(Clone, PartialEq, Eq)]
+pub struct BuilderWithFalsePositiveRate {
+    rate: Rate,
+    key: raw::Key,
+}
+
+impl BloomFilter {
+    /// A builder of a filter with at least this many bits, all of which are off.
+    ///
+    /// ```
+    /// # use fastbloom_c::{BloomFilter, Error};
+    /// let seen = BloomFilter::with_num_bits(1000)?.hashes(4);
+    /// assert_eq!(seen.num_bits(), 1024);
+    /// assert_eq!(BloomFilter::with_num_bits(0), Err(Error::ZeroBits));
+    /// # Ok::<(), Error>(())
+    /// ```
+    ///
+    /// # Errors
+    /// [`Error::ZeroBits`], [`Error::TooManyWords`] or [`Error::Memory`].
+    pub fn with_num_bits(num_bits: usize) -> Result<BuilderWithBits, Error> {
+        if num_bits == 0 {
+            return Err(Error::ZeroBits);
+        }
+        let num_words = num_bits.div_ceil(64);
+        if raw::num_bits(num_words) == 0 {
+            return Err(Error::TooManyWords);
+        }
+        let words = raw::zeros(num_words)?;
+        Ok(BuilderWithBits {
+            words,
+            key: ZERO_KEY,
+        })
+    }
+
+    /// A builder of a filter that keeps these words. No words are refused: they would forget all.
+    ///
+    /// ```
+    /// # use fastbloom_c::{BloomFilter, Error};
+    /// let first = BloomFilter::with_num_bits(1024)?.hashes(4);
+    /// let again = BloomFilter::from_vec(first.as_slice().to_vec())?.hashes(4);
+    /// assert_eq!(again, first);
+    /// assert_eq!(BloomFilter::from_vec(Vec::new()), Err(Error::EmptyWords));
+    /// # Ok::<(), Error>(())
+    /// ```
+    ///
+    /// # Errors
+    /// [`Error::EmptyWords`] or [`Error::TooManyWords`].
+    pub fn from_vec(bit_vec: Vec<u64>) -> Result<BuilderWithBits, Error> {
+        if bit_vec.is_empty() {
+            return Err(Error::EmptyWords);
+        }
+        if raw::num_bits(bit_vec.len()) == 0 {
+            return Err(Error::TooManyWords);
+        }
+        Ok(BuilderWithBits {
+            words: bit_vec,
+            key: ZERO_KEY,
+        })
+    }
+
+    /// A builder of a filter with this rate of false positives.
+    ///
+    /// ```
+    /// # use fastbloom_c::{BloomFilter, Error, Rate};
+    /// let seen = BloomFilter::with_false_pos(Rate::new(1, 1000)?).items(["42", "🦀"])?;
+    /// assert!(seen.contains("42") && seen.contains("🦀"));
+    /// # Ok::<(), Error>(())
+    /// ```
+    pub fn with_false_pos(rate: Rate) -> BuilderWithFalsePositiveRate {
+        BuilderWithFalsePositiveRate {
+            rate,
+            key: ZERO_KEY,
+        }
+    }
+}
+
+impl BuilderWithBits {
+    /// Sets the key: the sixteen big-endian bytes of the seed.
+    ///
+    /// ```
+    /// # use fastbloom_c::BloomFilter;
+    /// let key = *b"sixteen bytes...";
+    /// let seed = u128::from_be_bytes(key);
+    /// assert_eq!(BloomFilter::with_num_bits(64)?.seed(&seed).hashes(1).key(), &key);
+    /// # Ok::<(), fastbloom_c::Error>(())
+    /// ```
+    #[must_use]
+    pub fn seed(self, seed: &u128) -> Self {
+        BuilderWithBits {
+            key: seed.to_be_bytes(),
+            ..self
+        }
+    }
+
+    /// The filter with this many hashes, where 0 counts as 1.
+    ///
+    /// ```
+    /// # use fastbloom_c::BloomFilter;
+    /// assert_eq!(BloomFilter::with_num_bits(1024)?.hashes(4).num_hashes(), 4);
+    /// # Ok::<(), fastbloom_c::Error>(())
+    /// ```
+    #[must_use]
+    pub fn hashes(self, num_hashes: u32) -> BloomFilter {
+        BloomFilter {
+            words: self.words,
+            num_hashes: num_hashes.max(1),
+            key: self.key,
+        }
+    }
+
+    /// The filter with the number of hashes that suits this many items, where 0 counts as 1. This
+    /// number is computed here, and not by the library.
+    ///
+    /// ```
+    /// # use fastbloom_c::BloomFilter;
+    /// assert_eq!(BloomFilter::with_num_bits(1024)?.expected_items(2).num_hashes(), 355);
+    /// # Ok::<(), fastbloom_c::Error>(())
+    /// ```
+    #[must_use]
+    pub fn expected_items(self, expected_items: usize) -> BloomFilter {
+        let num_hashes = hashes_for(64 * self.words.len(), expected_items);
+        self.hashes(num_hashes)
+    }
+
+    /// The filter with the number of hashes that suits these items, and with the items.
+    ///
+    /// ```
+    /// # use fastbloom_c::BloomFilter;
+    /// let seen = BloomFilter::with_num_bits(1024)?.items(["42", "🦀"]);
+    /// assert!(seen.contains("42") && seen.contains("🦀"));
+    /// # Ok::<(), fastbloom_c::Error>(())
+    /// ```
+    #[must_use]
+    pub fn items<T, I>(self, items: I) -> BloomFilter
+    where
+        T: AsRef<[u8]>,
+        I: IntoIterator<Item = T>,
+        I::IntoIter: ExactSizeIterator,
+    {
+        let items = items.into_iter();
+        let mut filter = self.expected_items(items.len());
+        filter.insert_all(items);
+        filter
+    }
+}
+
+impl BuilderWithFalsePositiveRate {
+    /// Sets the key, as [`BuilderWithBits::seed`].
+    ///
+    /// ```
+    /// # use fastbloom_c::{BloomFilter, Rate};
+    /// let builder = BloomFilter::with_false_pos(Rate::new(1, 1000)?).seed(&42);
+    /// assert_eq!(u128::from_be_bytes(*builder.expected_items(10)?.key()), 42);
+    /// # Ok::<(), fastbloom_c::Error>(())
+    /// ```
+    #[must_use]
+    pub fn seed(self, seed: &u128) -> Self {
+        BuilderWithFalsePositiveRate {
+            key: seed.to_be_bytes(),
+            ..self
+        }
+    }
+
+    /// The empty filter for this many items, where 0 counts as 1.
+    ///
+    /// ```
+    /// # use fastbloom_c::{BloomFilter, Rate};
+    /// let seen = BloomFilter::with_false_pos(Rate::new(1, 1000)?).expected_items(1000)?;
+    /// assert_eq!((seen.as_slice().len(), seen.num_hashes()), (225, 10));
+    /// # Ok::<(), fastbloom_c::Error>(())
+    /// ```
+    ///
+    /// # Errors
+    /// [`Error::SizeOverflow`], [`Error::TooManyWords`] or [`Error::Memory`].
+    pub fn expected_items(self, expected_items: usize) -> Result<BloomFilter, Error> {
+        let (num_words, num_hashes) = raw::plan(self.rate.num(), self.rate.den(), expected_items)?;
+        Ok(BloomFilter {
+            words: raw::zeros(num_words)?,
+            num_hashes,
+            key: self.key,
+        })
+    }
+
+    /// The filter of these items.
+    ///
+    /// ```
+    /// # use fastbloom_c::{BloomFilter, Rate};
+    /// let seen = BloomFilter::with_false_pos(Rate::new(1, 1000)?).items(["42", "🦀"])?;
+    /// assert!(seen.contains("42") && seen.contains("🦀"));
+    /// # Ok::<(), fastbloom_c::Error>(())
+    /// ```
+    ///
+    /// # Errors
+    /// As [`expected_items`](Self::expected_items).
+    pub fn items<T, I>(self, items: I) -> Result<BloomFilter, Error>
+    where
+        T: AsRef<[u8]>,
+        I: IntoIterator<Item = T>,
+        I::IntoIter: ExactSizeIterator,
+    {
+        let items = items.into_iter();
+        let mut filter = self.expected_items(items.len())?;
+        filter.insert_all(items);
+        Ok(filter)
+    }
+}
+
+impl fmt::Debug for BuilderWithBits {
+    fn fmt(&self, f: &mut fmt::Formatter<'_>) -> fmt::Result {
+        let num_bits = 64 * self.words.len();
+        f.debug_struct("BuilderWithBits")
+            .field("num_bits", &num_bits)
+            .finish_non_exhaustive()
+    }
+}
+
+impl fmt::Debug for BuilderWithFalsePositiveRate {
+    fn fmt(&self, f: &mut fmt::Formatter<'_>) -> fmt::Result {
+        f.debug_struct("BuilderWithFalsePositiveRate")
+            .field("rate", &self.rate)
+            .finish_non_exhaustive()
+    }
+}

@@ -1,0 +1,122 @@
+//! Why a call is refused.
+
+use std::fmt;
+use std::io;
+
+/// Why a call is refused. What it would have changed is as before.
+///
+/// ```
+/// use fastbloom_c::{BloomFilter, Error};
+///
+/// let refused = BloomFilter::from_vec(Vec::new()).unwrap_err();
+/// assert_eq!(refused, Error::EmptyWords);
+/// assert_eq!(refused.code(), Some(2));
+/// assert_eq!(refused.to_string(), "no words");
+/// ```
+#[derive(Clone, Copy, Debug, PartialEq, Eq, Hash)]
+#[non_exhaustive]
+pub enum Error {
+    /// Zero bits were asked for.
+    ZeroBits,
+    /// There are no words, which are no filter.
+    EmptyWords,
+    /// There are more than 2^58 - 1 words.
+    TooManyWords,
+    /// A part of a rate is zero.
+    ZeroRate,
+    /// A size is 2^64 bits or more.
+    SizeOverflow,
+    /// Out of memory.
+    Memory,
+    /// A file has 0 hashes, or 2^32 and more.
+    HashCount,
+    /// A file doesn't begin with `fbloom` and a zero byte.
+    NotAFilter,
+    /// The version of a file isn't `1`.
+    Version,
+    /// A file ends before its last word.
+    Cut,
+    /// Bytes follow the last word of a file.
+    TooLong,
+    /// A byte of a file that must be zero isn't.
+    Reserved,
+    /// The seal of a file is wrong: the file was changed.
+    Seal,
+    /// A read failed.
+    Input(io::ErrorKind),
+    /// A file has more hashes than the caller allows.
+    TooManyHashes,
+    /// Two filters differ in their numbers of words or hashes, or in their keys.
+    OtherShape,
+}
+
+impl Error {
+    /// The number that the header `fastbloom.h` names. The last two have none.
+    ///
+    /// ```
+    /// use fastbloom_c::Error;
+    ///
+    /// assert_eq!(Error::Seal.code(), Some(14));
+    /// assert_eq!(Error::OtherShape.code(), None);
+    /// ```
+    pub fn code(&self) -> Option<u8> {
+        Some(match self {
+            Error::ZeroBits => fastbloom_c_sys::FASTBLOOM_ZERO_BITS,
+            Error::EmptyWords => fastbloom_c_sys::FASTBLOOM_EMPTY_WORDS,
+            Error::TooManyWords => fastbloom_c_sys::FASTBLOOM_TOO_MANY_WORDS,
+            Error::ZeroRate => fastbloom_c_sys::FASTBLOOM_ZERO_RATE,
+            Error::SizeOverflow => fastbloom_c_sys::FASTBLOOM_SIZE_OVERFLOW,
+            Error::Memory => fastbloom_c_sys::FASTBLOOM_MEMORY,
+            Error::HashCount => fastbloom_c_sys::FASTBLOOM_HASH_COUNT,
+            Error::NotAFilter => fastbloom_c_sys::FASTBLOOM_NOT_A_FILTER,
+            Error::Version => fastbloom_c_sys::FASTBLOOM_UNKNOWN_VERSION,
+            Error::Cut => fastbloom_c_sys::FASTBLOOM_CUT,
+            Error::TooLong => fastbloom_c_sys::FASTBLOOM_TOO_LONG,
+            Error::Reserved => fastbloom_c_sys::FASTBLOOM_RESERVED,
+            Error::Seal => fastbloom_c_sys::FASTBLOOM_SEAL,
+            Error::Input(_) => fastbloom_c_sys::FASTBLOOM_INPUT,
+            Error::TooManyHashes | Error::OtherShape => return None,
+        })
+    }
+
+    /// What a number says that a call of the library answers.
+    pub(crate) fn check(code: u8) -> Result<(), Error> {
+        Err(match code {
+            fastbloom_c_sys::FASTBLOOM_OK => return Ok(()),
+            fastbloom_c_sys::FASTBLOOM_EMPTY_WORDS => Error::EmptyWords,
+            fastbloom_c_sys::FASTBLOOM_TOO_MANY_WORDS => Error::TooManyWords,
+            fastbloom_c_sys::FASTBLOOM_ZERO_RATE => Error::ZeroRate,
+            fastbloom_c_sys::FASTBLOOM_SIZE_OVERFLOW => Error::SizeOverflow,
+            fastbloom_c_sys::FASTBLOOM_HASH_COUNT => Error::HashCount,
+            fastbloom_c_sys::FASTBLOOM_NOT_A_FILTER => Error::NotAFilter,
+            fastbloom_c_sys::FASTBLOOM_UNKNOWN_VERSION => Error::Version,
+            fastbloom_c_sys::FASTBLOOM_RESERVED => Error::Reserved,
+            _ => unreachable!("the library answers no other number"),
+        })
+    }
+}
+
+impl fmt::Display for Error {
+    fn fmt(&self, f: &mut fmt::Formatter<'_>) -> fmt::Result {
+        f.write_str(match self {
+            Error::ZeroBits => "zero bits",
+            Error::EmptyWords => "no words",
+            Error::TooManyWords => "too many words",
+            Error::ZeroRate => "rate with a zero part",
+            Error::SizeOverflow => "size too large",
+            Error::Memory => "no memory",
+            Error::HashCount => "hash count out of range",
+            Error::NotAFilter => "not a filter",
+            Error::Version => "a version of the file that isn't known",
+            Error::Cut => "the file is cut",
+            Error::TooLong => "the file goes on after its last word",
+            Error::Reserved => "a reserved byte isn't zero",
+            Error::Seal => "the seal is wrong: the file was changed",
+            Error::Input(kind) => return write!(f, "input failed: {kind}"),
+            Error::TooManyHashes => "more hashes than are allowed",
+            Error::OtherShape => "the filters differ in words, hashes or keys",
+        })
+    }
+}
+
+impl std::error::Error for Error {}

@@ -1,0 +1,67 @@
+//! Bloom filters: sets of texts and bytes that never miss a member, and now and then take something
+//! else for one.
+//!
+//! ```
+//! use fastbloom_c::{BloomFilter, Error, Rate};
+//!
+//! let mut seen = BloomFilter::with_false_pos(Rate::new(1, 1000)?).expected_items(1_000_000)?;
+//! assert!(!seen.insert("crab")); // it is new
+//! assert!(seen.contains("crab"));
+//!
+//! let file = seen.to_bytes();
+//! assert_eq!(BloomFilter::from_bytes(&file)?, seen);
+//! # Ok::<(), Error>(())
+//! ```
+//!
+//! The work is done by the library fastbloom_c, each call of which is proved, through
+//! [`fastbloom_c_sys`]. This crate itself is tested, and not proved. The names are those of the
+//! Rust crate fastbloom 0.17.0 where it has them. Three things differ: rates are fractions; what
+//! that crate panics on is an [`Error`]; and an item is its bytes, so no `Hash` and no
+//! `BuildHasher` is asked for.
+//!
+//! # Items
+//!
+//! An item is anything that is `AsRef<[u8]>`: `str`, `String`, `[u8]`, `Vec<u8>`, arrays. Its hash
+//! is SipHash-1-3 of exactly these bytes under the filter's key. All languages of the library share
+//! this rule, so that one reads what another wrote. A number is no item:
+//!
+//! ```compile_fail,E0277
+//! let mut seen = fastbloom_c::BloomFilter::with_num_bits(64).unwrap().hashes(1);
+//! seen.insert(&5u32);
+//! ```
+//!
+//! # Keys
+//!
+//! The key is zero unless [`seed`](BuilderWithBits::seed) sets another one. Where others choose the
+//! items, draw it: who knows the key can choose items that fill the filter, or that it takes for
+//! members. `Debug` doesn't show the key. A file has it.
+//!
+//! # Threads
+//!
+//! A [`BloomFilter`] is `Send` and `Sync`: a call that changes it takes `&mut self`, and threads
+//! look up at once through `&self`.
+//!
+//! # Panics
+//!
+//! The library is built for processors of x86-64-v2, which have SSE4.2. On an older one each call
+//! that makes a filter or a hash panics.
+#![deny(
+    missing_docs,
+    unsafe_code,
+    unsafe_op_in_unsafe_fn,
+    clippy::undocumented_unsafe_blocks
+)]
+
+mod bloom;
+mod builder;
+mod error;
+mod file;
+mod many;
+mod rate;
+#[allow(unsafe_code)]
+mod raw;
+
+pub use bloom::{hash, BloomFilter};
+pub use builder::{BuilderWithBits, BuilderWithFalsePositiveRate};
+pub use error::Error;
+pub use rate::{Bracket, Rate};

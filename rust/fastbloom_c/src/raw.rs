@@ -1,0 +1,262 @@
+//! The calls of the library over slices: the only module with unsafe blocks.
+//!
+//! The library asks for pointers that aren't null and are aligned, to initialized memory of the
+//! length that is given. A reference and a slice of Rust are that, also where there are no
+//! elements. A `&mut` keeps every other thread away from words that are written, and a `&` keeps
+//! writers away from words that are read. A `&mut` overlaps with no other argument. The processor
+//! can run the library, since a filter is made only after `check_processor`.
+
+use crate::Error;
+use fastbloom_c_sys as sys;
+use std::alloc::{alloc_zeroed, Layout};
+use std::arch::is_x86_feature_detected;
+
+/// The sixteen bytes of a key.
+pub type Key = [u8; 16];
+
+/// The first bytes of a file, which its words follow.
+pub type HeadBytes = [u8; 64];
+
+/// What a head tells of a filter, and the seal of its file.
+#[derive(Default)]
+pub struct Head {
+    pub num_words: usize,
+    pub num_hashes: u32,
+    pub key: Key,
+    pub seal: u64,
+}
+
+/// Panics where the processor can't run the library. The four calls below that need no filter ask
+/// this: one of them comes before each filter.
+fn check_processor() {
+    let fits = is_x86_feature_detected!("sse4.2") && is_x86_feature_detected!("popcnt");
+    assert!(
+        fits,
+        "the library fastbloom_c needs a processor of x86-64-v2, with SSE4.2"
+    );
+}
+
+/// This many words of zero.
+pub fn zeros(num_words: usize) -> Result<Vec<u64>, Error> {
+    let layout = Layout::array::<u64>(num_words).map_err(|_| Error::Memory)?;
+    if layout.size() == 0 {
+        return Ok(Vec::new());
+    }
+    // SAFETY: the size isn't zero.
+    let words = unsafe { alloc_zeroed(layout) }.cast::<u64>();
+    if words.is_null() {
+        return Err(Error::Memory);
+    }
+    // SAFETY: the allocator of every `Vec` gave this memory, for an array of this many words, and
+    // they are zeros.
+    Ok(unsafe { Vec::from_raw_parts(words, num_words, num_words) })
+}
+
+/// The numbers of words and of hashes for this many items at the rate `num / den`.
+pub fn plan(num: u64, den: u64, items: usize) -> Result<(usize, u32), Error> {
+    check_processor();
+    let (mut num_words, mut num_hashes) = (0, 0);
+    // SAFETY: the pointers are to two locals of the types that the call writes.
+    Error::check(unsafe { sys::fastbloom_plan(num, den, items, &mut num_words, &mut num_hashes) })?;
+    Ok((num_words, num_hashes))
+}
+
+/// The number of bits, or 0 where there are too many words.
+pub fn num_bits(num_words: usize) -> usize {
+    check_processor();
+    // SAFETY: the call takes no pointer.
+    unsafe { sys::fastbloom_num_bits(num_words) }
+}
+
+/// Two bounds of the rate to expect, in units of 2^-63.
+pub fn expected_rate(num_words: usize, num_hashes: u32, items: usize) -> Result<(u64, u64), Error> {
+    let (mut low, mut high) = (0, 0);
+    // SAFETY: the pointers are to two locals of the type that the call writes.
+    Error::check(unsafe {
+        sys::fastbloom_expected_rate(num_words, num_hashes, items, &mut low, &mut high)
+    })?;
+    Ok((low, high))
+}
+
+/// SipHash-1-3 of exactly these bytes.
+pub fn hash(key: &Key, bytes: &[u8]) -> u64 {
+    check_processor();
+    // SAFETY: the key has sixteen bytes, and the slice its length.
+    unsafe { sys::fastbloom_hash(key.as_ptr(), bytes.as_ptr(), bytes.len()) }
+}
+
+/// Inserts a hash, and answers whether it was contained.
+pub fn insert_hash(words: &mut [u64], num_hashes: u32, hash: u64) -> bool {
+    // SAFETY: the words are a slice of this length, which is borrowed for writing.
+    unsafe { sys::fastbloom_insert_hash(words.as_mut_ptr(), words.len(), num_hashes, hash) }
+}
+
+/// Inserts many hashes.
+pub fn insert_hashes(words: &mut [u64], num_hashes: u32, hashes: &[u64]) -> bool {
+    // SAFETY: both are slices of their lengths. The words are borrowed for writing, so that the
+    // hashes lie elsewhere.
+    unsafe {
+        sys::fastbloom_insert_hashes(
+            words.as_mut_ptr(),
+            words.len(),
+            num_hashes,
+            hashes.as_ptr(),
+            hashes.len(),
+        )
+    }
+}
+
+/// Whether a hash is contained.
+pub fn contains_hash(words: &[u64], num_hashes: u32, hash: u64) -> bool {
+    // SAFETY: the words are a slice of this length, which the call reads.
+    unsafe { sys::fastbloom_contains_hash(words.as_ptr(), words.len(), num_hashes, hash) }
+}
+
+/// Whether many hashes are contained, each with a bit. False: there are fewer bits than hashes.
+#[must_use]
+pub fn contains_hashes(words: &[u64], num_hashes: u32, hashes: &[u64], found: &mut [u64]) -> bool {
+    // SAFETY: all are slices of their lengths. The last is borrowed for writing, so that the others
+    // lie elsewhere.
+    unsafe {
+        sys::fastbloom_contains_hashes(
+            words.as_ptr(),
+            words.len(),
+            num_hashes,
+            hashes.as_ptr(),
+            hashes.len(),
+            found.as_mut_ptr(),
+            found.len(),
+        )
+    }
+}
+
+/// Inserts many hashes, and tells by a bit which were new. False: there are fewer bits than hashes.
+#[must_use]
+pub fn insert_hashes_tell_new(
+    words: &mut [u64],
+    num_hashes: u32,
+    hashes: &[u64],
+    fresh: &mut [u64],
+) -> bool {
+    // SAFETY: all are slices of their lengths. The words and the bits are borrowed for writing, so
+    // that no two of the three overlap.
+    unsafe {
+        sys::fastbloom_insert_hashes_tell_new(
+            words.as_mut_ptr(),
+            words.len(),
+            num_hashes,
+            hashes.as_ptr(),
+            hashes.len(),
+            fresh.as_mut_ptr(),
+            fresh.len(),
+        )
+    }
+}
+
+/// Inserts the hash of the bytes, and answers whether it was contained.
+pub fn insert(words: &mut [u64], num_hashes: u32, key: &Key, bytes: &[u8]) -> bool {
+    // SAFETY: the key has sixteen bytes, and the others are slices of their lengths. The words are
+    // borrowed for writing, so that the others lie elsewhere.
+    unsafe {
+        sys::fastbloom_insert(
+            words.as_mut_ptr(),
+            words.len(),
+            num_hashes,
+            key.as_ptr(),
+            bytes.as_ptr(),
+            bytes.len(),
+        )
+    }
+}
+
+/// Whether the hash of the bytes is contained.
+pub fn contains(words: &[u64], num_hashes: u32, key: &Key, bytes: &[u8]) -> bool {
+    // SAFETY: the key has sixteen bytes, and the others are slices of their lengths, which the call
+    // reads.
+    unsafe {
+        sys::fastbloom_contains(
+            words.as_ptr(),
+            words.len(),
+            num_hashes,
+            key.as_ptr(),
+            bytes.as_ptr(),
+            bytes.len(),
+        )
+    }
+}
+
+/// Removes every item.
+pub fn clear(words: &mut [u64]) -> bool {
+    // SAFETY: the words are a slice of this length, which is borrowed for writing.
+    unsafe { sys::fastbloom_clear(words.as_mut_ptr(), words.len()) }
+}
+
+/// Takes the items of the other in. False: the numbers of words differ.
+#[must_use]
+pub fn union(words: &mut [u64], other: &[u64]) -> bool {
+    // SAFETY: both are slices of their lengths. The first is borrowed for writing, so that the
+    // other lies elsewhere.
+    unsafe { sys::fastbloom_union(words.as_mut_ptr(), words.len(), other.as_ptr(), other.len()) }
+}
+
+/// Keeps only what may be in both. False: the numbers of words differ.
+#[must_use]
+pub fn intersect(words: &mut [u64], other: &[u64]) -> bool {
+    // SAFETY: both are slices of their lengths. The first is borrowed for writing, so that the
+    // other lies elsewhere.
+    unsafe {
+        sys::fastbloom_intersect(words.as_mut_ptr(), words.len(), other.as_ptr(), other.len())
+    }
+}
+
+/// Whether both have as many words, and equal ones.
+pub fn equal(words: &[u64], other: &[u64]) -> bool {
+    // SAFETY: both are slices of their lengths, which the call reads.
+    unsafe { sys::fastbloom_equal(words.as_ptr(), words.len(), other.as_ptr(), other.len()) }
+}
+
+/// The number of bits that are set.
+pub fn count_ones(words: &[u64]) -> usize {
+    // SAFETY: the words are a slice of this length, which the call reads.
+    unsafe { sys::fastbloom_count_ones(words.as_ptr(), words.len()) }
+}
+
+/// The seal of the file of these words.
+pub fn seal(words: &[u64], num_hashes: u32, key: &Key) -> u64 {
+    // SAFETY: the key has sixteen bytes, and the words are a slice of this length.
+    unsafe { sys::fastbloom_seal(words.as_ptr(), words.len(), num_hashes, key.as_ptr()) }
+}
+
+/// The head of a file.
+pub fn write_head(head: &Head) -> Result<HeadBytes, Error> {
+    let mut bytes = [0; 64];
+    // SAFETY: the key has sixteen bytes, and the local that the call writes has 64.
+    Error::check(unsafe {
+        sys::fastbloom_head_write(
+            head.num_words,
+            head.num_hashes,
+            head.key.as_ptr(),
+            head.seal,
+            bytes.as_mut_ptr(),
+        )
+    })?;
+    Ok(bytes)
+}
+
+/// What the head of a file tells.
+pub fn read_head(bytes: &HeadBytes) -> Result<Head, Error> {
+    check_processor();
+    let mut head = Head::default();
+    // SAFETY: the head has 64 bytes. The call writes four fields of a local, of the types that it
+    // wants, which lie apart.
+    Error::check(unsafe {
+        sys::fastbloom_head_read(
+            bytes.as_ptr(),
+            &mut head.num_words,
+            &mut head.num_hashes,
+            head.key.as_mut_ptr(),
+            &mut head.seal,
+        )
+    })?;
+    Ok(head)
+}
