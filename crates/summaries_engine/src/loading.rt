@@ -72,7 +72,7 @@ fn filter_of(alloc: Global, name: &str, text: &str) -> Result<BloomFilter, Stop>
 {
     match serde_json::from_str::<FilterData>(alloc, text) {
         Ok(data) => match BloomFilter::from_data(data) {
-            Ok(filter) => Ok(filter),
+            Ok(made) => Ok(made),
             Err(error) => Err(no_filter(name, anyhow::Error::from(error))),
         },
         Err(error) => {
