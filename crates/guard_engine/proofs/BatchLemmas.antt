@@ -123,19 +123,3 @@ module _ (may_have : DefaultFilter → Type 0) (filter : DefaultFilter) (old beg
     covers = Covers-stays last mid.has new.has watches.has commits.has;
     saved = saved;
   }
-
--- where no batch could be begun, the guard goes on
-pub guards-unbegun : (may_have : DefaultFilter → Type 0) (filter : DefaultFilter)
-    (old new : Sight) → IsGuarding old may_have filter → TakesBack old new
-    → IsGuarding new may_have filter
-guards-unbegun may_have filter old new guards back = record {
-  ready = back.ready;
-  covers = Covers-stays filter old.has new.has guards.covers
-      (Stays-unbegun old new guards.ready back);
-  saved = AllCover-stays may_have old.kept new.kept guards.saved back.kept;
-}
-  where
-    Stays-unbegun : (a b : Sight) → IsReady a → TakesBack a b → Stays a.has b.has
-    Stays-unbegun a b ready taken =
-        Stays-after a.has a.kept b.has (Stays-back a.kept a.has ready.settled)
-        (Stays-after a.kept b.kept b.has taken.kept taken.ready.settled)

@@ -46,18 +46,6 @@ HoldsKeys-next old new bytes items i item within is so_far stays same here =
         ap (map bytes) (take_more items i item within ∙ ap (λ x. take i items ++ x ∷ []) (sym is))
         ∙ map-append bytes (take i items) (item ∷ [])
 
--- no hash was inserted
-pub InsertsAll-none : (old : DefaultFilter) → InsertsAll old [] old
-InsertsAll-none old = (
-  [],
-  record {
-    bits = λ p. refl;
-    answers = refl;
-    shape = record { words = refl; hashes = refl };
-    hasher = refl;
-  },
-)
-
 -- the hashes of the first items were inserted, and then that of the item after them
 pub InsertsAll-next : {X : Type 0} → JoinedListsLaw (CloneBuildHasher RandomDefaultHasher)
     → (start old new : DefaultFilter) (hash_of : X → ℕ) (items : List X) (i : ℕ) (item : X)

@@ -70,15 +70,3 @@ Breaks-fails old new batch (inr back) = record {
   under_way = inr back.ready;
   kept = back.kept;
 }
-
--- a batch that goes on isn't committed
-pub Breaks-open : (old : Sight) → IsInBatch old → Breaks old old
-Breaks-open old batch = record { under_way = inl batch; kept = Stays-same old.kept }
-
--- some lines were put, and then an error came
-pub Breaks-after : (lines : List (List ℕ)) (old mid new : Sight) (n : ℕ)
-    → PutsLines lines old mid n → Breaks mid new → Breaks old new
-Breaks-after lines old mid new n first broke = record {
-  under_way = broke.under_way;
-  kept = Stays-after old.kept mid.kept new.kept first.kept broke.kept;
-}

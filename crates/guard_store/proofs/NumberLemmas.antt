@@ -14,11 +14,6 @@ only_one [] a_row is one = absurd (omega (arith, one))
 only_one (r ∷ []) a_row is one = ap (λ x. x ∷ []) (sym is)
 only_one (r ∷ s ∷ shown) a_row is one = absurd (omega (arith, one))
 
--- a name of no row has no number
-pub none_owned : (rows : List Row) (name : List ℕ) → AreNumbers rows name []
-    → HasOwnNumber rows name
-none_owned rows name numbers one there has = absurd (to_in [] _ (numbers one there has))
-
 -- a name has its number to itself, where that number shows no other name
 pub one_owned : (rows : List Row) (name : List ℕ) (id : ℤ) (a_row : Row) (shown : List Row)
     → AreNumbers rows name (a_row ∷ []) → column a_row 0 ≡ Int id → AreNumbered rows id shown
