@@ -7,7 +7,7 @@ ghost use Rattle.bloom_parts.specs.Sip.{sip};
 use bloom_parts::hasher::RandomDefaultHasher;
 use std::hash::Hasher;
 
-/// Makes the words those of a hasher that has the key and has taken in no bytes.
+/// Begins: the words become those of a hasher that has the key and has taken in no bytes.
 #[unsafe(no_mangle)]
 pub extern "C" fn fastbloom_hasher_init(hasher: &mut [u64; 8], key: &[u8; 16])
     ensures begins { IsHashing (key_low key.now) (key_high key.now) [] hasher.new }
@@ -15,7 +15,7 @@ pub extern "C" fn fastbloom_hasher_init(hasher: &mut [u64; 8], key: &[u8; 16])
     *hasher = RandomDefaultHasher::seeded(key).to_words();
 }
 
-/// Takes in a piece of the bytes. Words that no hasher left are changed to some others.
+/// Takes in a piece of the bytes. Words that were not begun become others of no meaning.
 #[unsafe(no_mangle)]
 pub extern "C" fn fastbloom_hasher_update(hasher: &mut [u64; 8], bytes: &[u8])
     ensures taken { (k0 k1 : ℕ) (before : List ℕ) → IsHashing k0 k1 before hasher.old
