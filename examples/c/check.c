@@ -93,6 +93,12 @@ static void hashes(void) {
         fastbloom_hasher_update(&hasher, bytes + first, len - first);
         CHECK(fastbloom_hasher_finish(&hasher) == rows[i].hash);
     }
+    /* The value of Rust's own SipHash-1-3. */
+    fastbloom_hasher outside;
+    fastbloom_hasher_init(&outside, counting_key);
+    fastbloom_hasher_update(&outside, counting_key, 9);
+    fastbloom_hasher_update(&outside, counting_key + 9, 6);
+    CHECK(fastbloom_hasher_finish(&outside) == 0xd320d86d2a519956u);
 }
 
 /* Bytes in pieces have the hash of the whole: three pieces of up to 24 bytes, cut anywhere, and
