@@ -10,9 +10,9 @@
  * nothing.
  *
  * The caller must keep these rules, which nothing checks:
- *  - words, hashes, found, fresh, key, head, bytes and the out parameters are not NULL, even where
- *    a length is 0. They are aligned: words, hashes, found, fresh, seal, low and high to 8,
- *    num_words to the alignment of size_t, num_hashes to 4;
+ *  - words, hashes, found, fresh, hasher, key, head, bytes and the out parameters are not NULL,
+ *    even where a length is 0. They are aligned: words, hashes, found, fresh, hasher, seal, low and
+ *    high to 8, num_words to the alignment of size_t, num_hashes to 4;
  *  - each pointer is to memory of the length that is given, at most 2^63 - 1 bytes. This memory
  *    stays in its place while the call runs;
  *  - memory that a call may write (a parameter that isn't const) overlaps with nothing else that
@@ -96,6 +96,19 @@ FASTBLOOM_MUST_USE uint8_t fastbloom_expected_rate(size_t num_words, uint32_t nu
 /* SipHash-1-3 of exactly these bytes under the key. The key's first eight bytes are the
  * little-endian word k0. The item `Text` of the Rattle library has the same hash. */
 uint64_t fastbloom_hash(const uint8_t key[16], const uint8_t *bytes, size_t len);
+
+/* The same hash of bytes that come in pieces. The caller owns the struct and may copy it. The key
+ * is in it, and up to seven of the bytes. */
+typedef struct fastbloom_hasher {
+    uint64_t words[8];
+} fastbloom_hasher;
+
+/* The first begins with no bytes, and the second takes in a piece. The third answers the hash of
+ * all pieces so far, one behind the other, as fastbloom_hash does. More pieces may follow. The last
+ * two take any struct, but one that wasn't begun has a hash of no meaning. */
+void fastbloom_hasher_init(fastbloom_hasher *hasher, const uint8_t key[16]);
+void fastbloom_hasher_update(fastbloom_hasher *hasher, const uint8_t *bytes, size_t len);
+uint64_t fastbloom_hasher_finish(const fastbloom_hasher *hasher);
 
 /* Turns on all positions of a hash, and answers whether all were on just before. */
 bool fastbloom_insert_hash(uint64_t *words, size_t num_words, uint32_t num_hashes, uint64_t hash);

@@ -95,6 +95,67 @@ using key_bytes = std::array<std::uint8_t, 16>;
 // The bytes of a file before its words.
 using head_bytes = std::array<std::uint8_t, 64>;
 
+// Two bounds of a rate, as fractions of 2^63.
+struct rate_bounds {
+    std::uint64_t low;
+    std::uint64_t high;
+};
+
+// Whether bit i of a bit set is on, as the calls on many hashes write it.
+inline bool bit_of(const std::uint64_t *bits, std::size_t i) noexcept {
+    return (bits[i / 64] >> (i % 64) & 1) != 0;
+}
+
+// How many words a bit set has for this many hashes.
+constexpr std::size_t words_of_bits(std::size_t count) noexcept {
+    return count / 64 + (count % 64 != 0);
+}
+
+namespace detail {
+
+// A word that nobody reads or writes. The library asks for an address even where there is nothing.
+inline std::uint64_t no_words = 0;
+
+inline const std::uint8_t *not_null(const void *bytes) noexcept {
+    return bytes == nullptr ? reinterpret_cast<const std::uint8_t *>(&no_words)
+                            : static_cast<const std::uint8_t *>(bytes);
+}
+inline const std::uint64_t *not_null_words(const std::uint64_t *words) noexcept {
+    return words == nullptr ? &no_words : words;
+}
+inline std::uint64_t *not_null_words(std::uint64_t *words) noexcept {
+    return words == nullptr ? &no_words : words;
+}
+
+} // namespace detail
+
+// The hash of bytes that come in pieces: SipHash-1-3 of all pieces, one behind the other. A copy
+// goes on by itself.
+class hasher {
+public:
+    explicit hasher(const key_bytes &key = {}) noexcept {
+        fastbloom_hasher_init(&state_, key.data());
+    }
+
+    // Takes in a piece.
+    hasher &update(std::string_view piece) noexcept { return update(piece.data(), piece.size()); }
+    hasher &update(const void *bytes, std::size_t size) noexcept {
+        fastbloom_hasher_update(&state_, detail::not_null(bytes), size);
+        return *this;
+    }
+#ifdef __cpp_lib_span
+    hasher &update(std::span<const std::byte> piece) noexcept {
+        return update(piece.data(), piece.size());
+    }
+#endif
+
+    // The hash of the pieces so far. More may follow.
+    std::uint64_t finish() const noexcept { return fastbloom_hasher_finish(&state_); }
+
+private:
+    fastbloom_hasher state_;
+};
+
 // A set of byte strings that never misses a member, and now and then takes something else for one.
 class filter {
 public:
@@ -172,8 +233,8 @@ public:
     // Inserts an item, and answers whether it was contained, maybe by mistake.
     bool insert(std::string_view item) noexcept { return insert(item.data(), item.size()); }
     bool insert(const void *bytes, std::size_t size) noexcept {
-        return fastbloom_insert(words_, num_words_, num_hashes_, key_.data(), not_null(bytes),
-                                size);
+        return fastbloom_insert(words_, num_words_, num_hashes_, key_.data(),
+                                detail::not_null(bytes), size);
     }
 
     // Whether an item is contained, maybe by mistake. False means that it was never inserted.
@@ -181,8 +242,8 @@ public:
         return contains(item.data(), item.size());
     }
     bool contains(const void *bytes, std::size_t size) const noexcept {
-        return fastbloom_contains(words_, num_words_, num_hashes_, key_.data(), not_null(bytes),
-                                  size);
+        return fastbloom_contains(words_, num_words_, num_hashes_, key_.data(),
+                                  detail::not_null(bytes), size);
     }
 
     // The hash of an item: SipHash-1-3 of its bytes under the key.
@@ -190,7 +251,7 @@ public:
         return hash(item.data(), item.size());
     }
     std::uint64_t hash(const void *bytes, std::size_t size) const noexcept {
-        return fastbloom_hash(key_.data(), not_null(bytes), size);
+        return fastbloom_hash(key_.data(), detail::not_null(bytes), size);
     }
 
     // The same by hash.
@@ -201,9 +262,32 @@ public:
         return fastbloom_contains_hash(words_, num_words_, num_hashes_, hash);
     }
 
+    // A hasher under the key of this filter, for the hash of an item that comes in pieces.
+    fastbloom::hasher begin_hash() const noexcept { return fastbloom::hasher(key_); }
+
     // Inserts many hashes, which costs less than a call for each.
     void insert_hashes(const std::uint64_t *hashes, std::size_t count) noexcept {
         if (count != 0) fastbloom_insert_hashes(words_, num_words_, num_hashes_, hashes, count);
+    }
+
+    // Calls on many hashes that tell of each, in a bit set that the caller owns: `bit_of(found, i)`
+    // is that of hashes[i]. Where there are more hashes than bits, or the filter has no words, they
+    // answer false and change nothing. Otherwise each bit past the hashes goes off.
+    //
+    // The first looks them up: a bit is on where its hash is contained. The second inserts them,
+    // one after the other: a bit is on where its hash was not contained just before its insert.
+    [[nodiscard]] bool contains_hashes(const std::uint64_t *hashes, std::size_t count,
+                                       std::uint64_t *found, std::size_t num_found) const noexcept {
+        return fastbloom_contains_hashes(words_, num_words_, num_hashes_,
+                                         detail::not_null_words(hashes), count,
+                                         detail::not_null_words(found), num_found);
+    }
+    [[nodiscard]] bool insert_hashes_tell_new(const std::uint64_t *hashes, std::size_t count,
+                                              std::uint64_t *fresh,
+                                              std::size_t num_fresh) noexcept {
+        return fastbloom_insert_hashes_tell_new(words_, num_words_, num_hashes_,
+                                                detail::not_null_words(hashes), count,
+                                                detail::not_null_words(fresh), num_fresh);
     }
 
 #ifdef __cpp_lib_span
@@ -218,6 +302,14 @@ public:
     }
     void insert_hashes(std::span<const std::uint64_t> hashes) noexcept {
         insert_hashes(hashes.data(), hashes.size());
+    }
+    [[nodiscard]] bool contains_hashes(std::span<const std::uint64_t> hashes,
+                                       std::span<std::uint64_t> found) const noexcept {
+        return contains_hashes(hashes.data(), hashes.size(), found.data(), found.size());
+    }
+    [[nodiscard]] bool insert_hashes_tell_new(std::span<const std::uint64_t> hashes,
+                                              std::span<std::uint64_t> fresh) noexcept {
+        return insert_hashes_tell_new(hashes.data(), hashes.size(), fresh.data(), fresh.size());
     }
     std::span<const std::uint64_t> words() const noexcept { return {words_, num_words_}; }
 #endif
@@ -260,6 +352,19 @@ public:
     std::uint32_t num_hashes() const noexcept { return num_hashes_; }
     const key_bytes &key() const noexcept { return key_; }
 
+    // How many bits are on.
+    std::size_t count_ones() const noexcept { return fastbloom_count_ones(words_, num_words_); }
+
+    // Two bounds of the rate of false positives to expect once this many items are in the filter.
+    // A filter with no words has none.
+    result<rate_bounds> expected_rate(std::size_t items) const noexcept {
+        rate_bounds bounds{};
+        const std::uint8_t code = fastbloom_expected_rate(num_words_, num_hashes_, items,
+                                                          &bounds.low, &bounds.high);
+        if (code != FASTBLOOM_OK) return static_cast<fastbloom::status>(code);
+        return bounds;
+    }
+
     // The words. In a file they are behind the head, as they are in memory.
     const std::uint64_t *data() const noexcept { return words_; }
 
@@ -274,15 +379,6 @@ public:
     }
 
 private:
-    // A word that nobody reads or writes: the address of no words, since the library asks for one.
-    static inline std::uint64_t no_words = 0;
-
-    // The library asks for an address even where there are no bytes.
-    static const std::uint8_t *not_null(const void *bytes) noexcept {
-        return bytes == nullptr ? reinterpret_cast<const std::uint8_t *>(&no_words)
-                                : static_cast<const std::uint8_t *>(bytes);
-    }
-
     std::uint64_t seal() const noexcept {
         return fastbloom_seal(words_, num_words_, num_hashes_, key_.data());
     }
@@ -307,7 +403,7 @@ private:
         return code();
     }
 
-    std::uint64_t *words_ = &no_words;
+    std::uint64_t *words_ = &detail::no_words;
     std::size_t num_words_ = 0;
     std::uint32_t num_hashes_ = 1;
     key_bytes key_{};

@@ -31,6 +31,12 @@ static uint64_t *zero_words(size_t num_words) {
     return words;
 }
 
+/* A word that was drawn. */
+static uint64_t drawn(uint64_t *state) {
+    *state = *state * 6364136223846793005u + 1442695040888963407u;
+    return *state ^ (*state >> 29);
+}
+
 /* Sizes and refusals. A refusal sets both numbers to 0. */
 static void plans(void) {
     static const struct {
@@ -78,8 +84,79 @@ static void hashes(void) {
         {17, 12612916429403578116u}};
     uint8_t bytes[17];
     for (size_t i = 0; i < sizeof bytes; i++) bytes[i] = (uint8_t)(3 + 7 * i);
-    for (size_t i = 0; i < sizeof rows / sizeof *rows; i++)
-        CHECK(fastbloom_hash(counting_key, bytes, rows[i].len) == rows[i].hash);
+    for (size_t i = 0; i < sizeof rows / sizeof *rows; i++) {
+        size_t len = rows[i].len, first = len / 2;
+        CHECK(fastbloom_hash(counting_key, bytes, len) == rows[i].hash);
+        fastbloom_hasher hasher;
+        fastbloom_hasher_init(&hasher, counting_key);
+        fastbloom_hasher_update(&hasher, bytes, first);
+        fastbloom_hasher_update(&hasher, bytes + first, len - first);
+        CHECK(fastbloom_hasher_finish(&hasher) == rows[i].hash);
+    }
+    /* The value of Rust's own SipHash-1-3. */
+    fastbloom_hasher outside;
+    fastbloom_hasher_init(&outside, counting_key);
+    fastbloom_hasher_update(&outside, counting_key, 9);
+    fastbloom_hasher_update(&outside, counting_key + 9, 6);
+    CHECK(fastbloom_hasher_finish(&outside) == 0xd320d86d2a519956u);
+}
+
+/* Bytes in pieces have the hash of the whole: three pieces of up to 24 bytes, cut anywhere, and
+ * 1,000 bytes in pieces of each size. The hash of the pieces so far leaves the hasher as it is, and
+ * a copy goes on by itself. */
+static void pieces(void) {
+    uint8_t bytes[1000];
+    for (size_t i = 0; i < sizeof bytes; i++) bytes[i] = (uint8_t)(3 + 7 * i);
+    fastbloom_hasher hasher, copy;
+    for (size_t len = 0; len <= 24; len++) {
+        uint64_t whole = fastbloom_hash(counting_key, bytes, len);
+        for (size_t first = 0; first <= len; first++) {
+            fastbloom_hasher_init(&hasher, counting_key);
+            fastbloom_hasher_update(&hasher, bytes, first);
+            uint64_t front = fastbloom_hash(counting_key, bytes, first);
+            for (size_t second = first; second <= len; second++) {
+                copy = hasher;
+                fastbloom_hasher_update(&copy, bytes + first, second - first);
+                fastbloom_hasher_update(&copy, bytes + second, len - second);
+                CHECK(fastbloom_hasher_finish(&copy) == whole);
+                CHECK(fastbloom_hasher_finish(&hasher) == front);
+            }
+        }
+    }
+    uint64_t whole = fastbloom_hash(zero_key, bytes, sizeof bytes);
+    for (size_t size = 1; size <= sizeof bytes; size++) {
+        fastbloom_hasher_init(&hasher, zero_key);
+        for (size_t at = 0; at < sizeof bytes; at += size) {
+            size_t left = sizeof bytes - at;
+            fastbloom_hasher_update(&hasher, bytes + at, size < left ? size : left);
+        }
+        CHECK(fastbloom_hasher_finish(&hasher) == whole);
+    }
+}
+
+/* Words that no hasher left: both calls end, and touch nothing but what they are given. */
+static void garbage(void) {
+    uint64_t state = 7;
+    struct {
+        uint64_t before;
+        fastbloom_hasher hasher;
+        uint64_t after;
+    } at;
+    for (size_t round = 0; round < 512; round++) {
+        at.before = at.after = 0xa5a5a5a5a5a5a5a5u;
+        for (size_t i = 0; i < 8; i++) at.hasher.words[i] = round % 2 ? drawn(&state) : UINT64_MAX;
+        at.hasher.words[7] -= round;
+        size_t len = round % 19;
+        uint8_t *bytes = calloc(len ? len : 1, 1); /* the sanitizer sees a byte too many */
+        CHECK(bytes != NULL);
+        fastbloom_hasher_update(&at.hasher, bytes, len);
+        fastbloom_hasher was = at.hasher;
+        uint64_t hash = fastbloom_hasher_finish(&at.hasher);
+        CHECK(fastbloom_hasher_finish(&was) == hash);
+        CHECK(memcmp(&was, &at.hasher, sizeof was) == 0);
+        CHECK(at.before == 0xa5a5a5a5a5a5a5a5u && at.after == 0xa5a5a5a5a5a5a5a5u);
+        free(bytes);
+    }
 }
 
 static size_t size_of(const char *text) {
@@ -140,12 +217,6 @@ static void sessions(const char *path) {
     }
     CHECK(played == 40);
     printf("sessions %zu\n", played);
-}
-
-/* A word that was drawn. */
-static uint64_t drawn(uint64_t *state) {
-    *state = *state * 6364136223846793005u + 1442695040888963407u;
-    return *state ^ (*state >> 29);
 }
 
 /* Calls on all words, at each number of words up to forty; the words before and after stay. */
@@ -345,6 +416,8 @@ int main(int argc, char **argv) {
     }
     plans();
     hashes();
+    pieces();
+    garbage();
     sessions(argv[1]);
     whole();
     refused();

@@ -68,6 +68,74 @@ static filter items() {
     return seen;
 }
 
+// Bytes in pieces, cut anywhere, have the hash of the whole; a copy goes on by itself.
+static void pieces() {
+    const std::string text = "crab, lobster, prawn, krill and barnacle";
+    const filter seen = empty(counting_key());
+    for (std::size_t at = 0; at <= text.size(); at++) {
+        const std::string_view first{text.data(), at}, second{text.data() + at, text.size() - at};
+        fastbloom::hasher pieces{counting_key()};
+        const fastbloom::hasher copy = pieces.update(first);
+        CHECK(pieces.update(second).finish() == seen.hash(text));
+        CHECK(copy.finish() == seen.hash(first));
+        CHECK(seen.begin_hash().update(first.data(), at).update(second).finish() ==
+              seen.hash(text));
+    }
+    fastbloom::hasher none;
+    CHECK(none.update(std::string_view{}).update(nullptr, 0).finish() == empty().hash(""));
+    // The value of Rust's own SipHash-1-3.
+    const fastbloom::key_bytes key = counting_key();
+    fastbloom::hasher outside{key};
+    outside.update(key.data(), 9).update(key.data() + 9, 6);
+    CHECK(outside.finish() == 0xd320d86d2a519956u);
+}
+
+// Many hashes at once, against the calls by one hash, and counts.
+static void many() {
+    filter seen = empty(), one_by_one = empty();
+    std::vector<std::uint64_t> hashes;
+    for (int i = 0; i < 100; i++) hashes.push_back(seen.hash(item(i % 70)));
+    CHECK(fastbloom::words_of_bits(0) == 0 && fastbloom::words_of_bits(64) == 1);
+    CHECK(fastbloom::words_of_bits(hashes.size()) == 2);
+    seen.insert_hashes(hashes.data(), 10);
+    one_by_one.insert_hashes(hashes.data(), 10);
+    std::uint64_t found[2] = {~std::uint64_t{0}, ~std::uint64_t{0}};
+    CHECK(seen.contains_hashes(hashes.data(), hashes.size(), found, 2));
+    for (std::size_t i = 0; i < 128; i++) {
+        CHECK(fastbloom::bit_of(found, i) == (i < 100 && seen.contains_hash(hashes[i])));
+    }
+    std::uint64_t fresh[2] = {~std::uint64_t{0}, ~std::uint64_t{0}};
+    CHECK(seen.insert_hashes_tell_new(hashes.data(), hashes.size(), fresh, 2));
+    for (std::size_t i = 0; i < 128; i++) {
+        const bool is_new = i < 100 && !one_by_one.insert_hash(hashes[i]);
+        CHECK(fastbloom::bit_of(fresh, i) == is_new);
+    }
+    CHECK(seen == one_by_one && !seen.contains_hashes(hashes.data(), 65, found, 1));
+    CHECK(!seen.insert_hashes_tell_new(hashes.data(), 65, fresh, 1));
+    CHECK(seen.contains_hashes(nullptr, 0, nullptr, 0));
+    CHECK(seen.insert_hashes_tell_new(nullptr, 0, nullptr, 0));
+    CHECK(!filter{}.contains_hashes(hashes.data(), 1, found, 2));
+#ifdef __cpp_lib_span
+    CHECK(seen.contains_hashes(hashes, found) && fastbloom::bit_of(found, 99));
+    CHECK(seen.insert_hashes_tell_new(hashes, fresh) && fresh[0] == 0 && fresh[1] == 0);
+    const std::byte bytes[] = {std::byte{'c'}, std::byte{'r'}};
+    CHECK(fastbloom::hasher{}.update(std::span<const std::byte>{bytes}).finish() ==
+          seen.hash("cr"));
+#endif
+}
+
+// One of 64 bits is on: one hash of 64.
+static void counts() {
+    auto made = filter::with_shape(1, 1);
+    CHECK(made && made->count_ones() == 0);
+    made->insert("crab");
+    CHECK(made->count_ones() == 1);
+    const auto rate = made->expected_rate(1);
+    CHECK(rate && rate->low == std::uint64_t{1} << 57 && rate->high == rate->low);
+    CHECK(made->expected_rate(0)->high == 0);
+    CHECK(filter{}.count_ones() == 0 && filter{}.expected_rate(1).status() == status::empty_words);
+}
+
 static void sets(const filter &seen) {
     filter odd = empty(), even = empty(), other = empty(counting_key());
     for (int i = 0; i < 1000; i++) (i % 2 == 1 ? odd : even).insert(item(i));
@@ -182,6 +250,9 @@ static void read_file(const std::string &path, const filter &seen) {
 int main(int argc, char **argv) {
     if (argc < 3) return 2;
     const filter seen = items();
+    pieces();
+    many();
+    counts();
     sets(seen);
     owners(seen);
     spans();

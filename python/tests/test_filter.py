@@ -6,9 +6,11 @@ import pickle
 import unittest
 from decimal import Decimal
 from fractions import Fraction
+from unittest import mock
 
 import fastbloom
 from fastbloom import Filter, Refusal
+from fastbloom import _library as library
 
 COUNTING_KEY = bytes(range(16))
 # SipHash-1-3 under the key bytes 0 to 15, by the crate siphasher 0.3.10, of the first bytes of this
@@ -104,6 +106,37 @@ class Many(unittest.TestCase):
         seen.update(["crab", b"lobster"])
         self.assertEqual(seen.contains_many(["crab", "whale", "lobster"]), [True, False, True])
 
+    def test_many_answers_are_those_of_single_look_ups(self):
+        seen = Filter(3000, "1/10")
+        seen.update(f"item{number}" for number in range(3000))
+        for count in (0, 1, 63, 64, 65, 4095, 4096, 4097, 9000):
+            items = [f"item{number}" for number in range(2950, 2950 + count)]
+            answers = seen.contains_many(iter(items))
+            self.assertEqual(answers, [item in seen for item in items])
+            self.assertTrue(all(type(answer) is bool for answer in answers))
+
+    def test_a_look_up_of_many_is_one_call_for_each_4096(self):
+        calls, seen = [], small()
+        found = library.contains_hashes
+
+        def told(*arguments):
+            calls.append(arguments[4])
+            return found(*arguments)
+
+        with mock.patch.object(library, "contains_hashes", told):
+            seen.contains_many(f"item{number}" for number in range(10_000))
+        self.assertEqual(calls, [4096, 4096, 10_000 - 2 * 4096])
+
+    def test_what_is_raised_on_the_way_comes_through(self):
+        def items():
+            yield "crab"
+            raise KeyError("whale")
+
+        seen = small()
+        self.assertRaises(KeyError, seen.contains_many, items())
+        self.assertRaises(KeyError, seen.update, items())
+        self.assertIn("crab", seen)
+
     def test_what_came_before_a_refusal_is_added(self):
         seen = small()
         with self.assertRaises(TypeError):
@@ -151,6 +184,32 @@ class Sizes(unittest.TestCase):
             self.assertRaises(TypeError, small, key=key)
         for name in ("num_words", "num_bits", "num_hashes", "key"):
             self.assertRaises(AttributeError, setattr, small(), name, 1)
+
+    def test_bits_that_are_on_are_counted(self):
+        seen = small()
+        self.assertEqual(seen.count_ones(), 0)
+        seen.update(f"item{number}" for number in range(1000))
+        self.assertEqual(seen.count_ones(), sum(bin(word).count("1") for word in seen.words()))
+        seen.clear()
+        self.assertEqual(seen.count_ones(), 0)
+
+    def test_the_expected_rate_lies_between_its_bounds(self):
+        # One hash, and one of 64 bits is on.
+        one = Filter(1000, "3/2")
+        self.assertEqual((one.num_words, one.num_hashes), (1, 1))
+        self.assertEqual(one.expected_rate(0), (0, 0))
+        self.assertEqual(one.expected_rate(1), (Fraction(1, 64), Fraction(1, 64)))
+        # The exact rate of 14,400 bits and 10 hashes, once 1,000 items are in it.
+        low, high = small().expected_rate(1000)
+        bits, hashes = 14_400, 10
+        off = Fraction((bits - 1) ** (hashes * 1000), bits ** (hashes * 1000))
+        self.assertLessEqual(low, (1 - off) ** hashes)
+        self.assertLessEqual((1 - off) ** hashes, high)
+        self.assertLess(high - low, Fraction(1, 2**40))
+        for items in (-1, 2**64):
+            self.assertRaises(ValueError, one.expected_rate, items)
+        for items in (1.5, "10", None):
+            self.assertRaises(TypeError, one.expected_rate, items)
 
     def test_the_text_of_a_filter_hides_its_key(self):
         self.assertEqual(repr(small()), "<Filter: 14400 bits, 10 hashes, the zero key>")

@@ -94,7 +94,7 @@ or-above bytes byte word at small last few is above =
     ∙ sym room.more
 
 -- the first of some bytes are bytes
-AreBytes-take : (n : ℕ) (bytes : List ℕ) → AreBytes bytes → AreBytes (take n bytes)
+pub AreBytes-take : (n : ℕ) (bytes : List ℕ) → AreBytes bytes → AreBytes (take n bytes)
 AreBytes-take zero bytes small i = lit< tt
 AreBytes-take (suc n) [] small i = lit< tt
 AreBytes-take (suc n) (byte ∷ bytes) small zero = small 0

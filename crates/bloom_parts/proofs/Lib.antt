@@ -12,6 +12,8 @@ mod HalvingFacts
 mod HalvingLemmas
 mod HashedLemmas
 mod HasherFacts
+mod HasherWordFacts
+mod HasherWordLemmas
 mod HoldsFacts
 mod LaneFacts
 mod LookLemmas

@@ -23,3 +23,5 @@ pub use Rattle.bloom_parts.proofs.SetLemmas.{content-zeros}
 -- two lists of deciders, one after the other, and the decisions that they come to
 pub use Rattle.bloom_parts.proofs.DeciderLemmas.{last_decision-append, state-append}
 pub use Rattle.bloom_parts.proofs.DeciderLemmas.{option_or-assoc, unwrap_or-option_or}
+-- bytes and more bytes are bytes
+pub use Rattle.bloom_parts.proofs.BufferLemmas.{AreBytes-append}

@@ -5,6 +5,7 @@ pub mod Codes
 pub mod Content
 pub mod Deciders
 pub mod Hashed
+pub mod HasherWords
 pub mod Keys
 pub mod Lanes
 pub mod Laws

@@ -4,5 +4,6 @@ mod FileFacts
 mod ManyFacts
 mod ManyLemmas
 mod NoWordLemmas
+mod PieceFacts
 mod PlanFacts
 mod RateFacts

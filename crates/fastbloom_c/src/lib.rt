@@ -8,6 +8,7 @@
 pub mod files;
 pub mod hashes;
 pub mod many;
+pub mod pieces;
 pub mod plans;
 pub mod rates;
 pub mod texts;

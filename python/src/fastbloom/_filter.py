@@ -38,7 +38,9 @@ _REASONS = {
     _SEAL: "the seal is wrong: the file was changed",
 }
 _HEAD = 64  # bytes; the words of a file come next
-_AT_ONCE = 4096  # hashes that are inserted by one call
+_AT_ONCE = 4096  # hashes that are inserted or looked up by one call
+# The bits of a byte, from the lowest one.
+_BITS = [[byte >> place & 1 == 1 for place in range(8)] for byte in range(256)]
 
 
 class Refusal(ValueError):
@@ -79,6 +81,13 @@ def _hash_value(value: int) -> int:
     if not 0 <= value < 2**64:
         raise ValueError("a hash is from 0 to 2^64 - 1")
     return value
+
+
+def _number_of_items(items: int) -> int:
+    items = operator.index(items)
+    if not 0 <= items < 2**64:
+        raise ValueError("items are from 0 to 2^64 - 1")
+    return items
 
 
 def _parts(rate: Rate) -> Tuple[int, int]:
@@ -149,9 +158,7 @@ class Filter:
         ValueError (`Refusal` where the library refuses it), another type TypeError, and too large
         a filter MemoryError.
         """
-        items = operator.index(items)
-        if not 0 <= items < 2**64:
-            raise ValueError("items are from 0 to 2^64 - 1")
+        items = _number_of_items(items)
         num, den = _parts(rate)
         words, hashes = ctypes.c_size_t(), ctypes.c_uint32()
         _check(library.plan(num, den, items, words, hashes))
@@ -251,15 +258,55 @@ class Filter:
         library.insert_hashes(self._at, self._num_words, self._num_hashes, hashes, count)
 
     def contains_many(self, items: Iterable[Item]) -> List[bool]:
-        """Whether each item of an iterable is contained, in their order. It raises as `update`."""
+        """Whether each item of an iterable is contained, in their order, many by one call.
+
+        An item that is refused, and a single `str` or bytes-like object, raise as in `update`.
+        """
         if isinstance(items, (str, bytes, bytearray, memoryview)):
             raise TypeError("this is one item, which `in` takes")
-        return [item in self for item in items]
+        hash_of, key = library.hash_of, self._key
+        hashes, count = (ctypes.c_uint64 * _AT_ONCE)(), 0
+        answers: List[bool] = []
+        for item in items:
+            data = _bytes_of(item)
+            hashes[count] = hash_of(key, data, len(data))
+            count += 1
+            if count == _AT_ONCE:
+                answers += self._contains_hashes(hashes, count)
+                count = 0
+        return answers + self._contains_hashes(hashes, count)
+
+    @alone
+    def _contains_hashes(self, hashes: ctypes.Array[ctypes.c_uint64], count: int) -> List[bool]:
+        found = (ctypes.c_uint64 * (_AT_ONCE // 64))()
+        library.contains_hashes(
+            self._at, self._num_words, self._num_hashes, hashes, count, found, len(found))
+        answers = [bit for byte in bytes(found) for bit in _BITS[byte]]
+        del answers[count:]
+        return answers
 
     @alone
     def clear(self) -> None:
         """Removes every item."""
         library.clear(self._at, self._num_words)
+
+    # What a filter tells of itself
+
+    @alone
+    def count_ones(self) -> int:
+        """How many of its bits are on."""
+        return library.count_ones(self._at, self._num_words)
+
+    def expected_rate(self, items: int) -> Tuple[Fraction, Fraction]:
+        """Two bounds of the rate of false positives to expect once it has this many items.
+
+        The bounds are proved, and are fractions of 2^63. A number of items below 0, or of 2^64 and
+        more, raises ValueError, and another type TypeError.
+        """
+        items = _number_of_items(items)
+        low, high = ctypes.c_uint64(), ctypes.c_uint64()
+        _check(library.expected_rate(self._num_words, self._num_hashes, items, low, high))
+        return Fraction(low.value, 2**63), Fraction(high.value, 2**63)
 
     # Two filters
 

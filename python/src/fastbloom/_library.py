@@ -61,6 +61,8 @@ insert_hash: Callable[..., bool] = _call("insert_hash", _BOOL, _WORDS, _SIZE, _H
 insert_hashes: Callable[..., bool] = _call(
     "insert_hashes", _BOOL, _WORDS, _SIZE, _HASHES, _MANY, _SIZE)
 contains_hash: Callable[..., bool] = _call("contains_hash", _BOOL, _WORDS, _SIZE, _HASHES, _HASH)
+contains_hashes: Callable[..., bool] = _call(
+    "contains_hashes", _BOOL, _WORDS, _SIZE, _HASHES, _MANY, _SIZE, _MANY, _SIZE)
 insert: Callable[..., bool] = _call(
     "insert", _BOOL, _WORDS, _SIZE, _HASHES, _BYTES, _BYTES, _SIZE)
 contains: Callable[..., bool] = _call(
@@ -69,6 +71,9 @@ clear: Callable[..., bool] = _call("clear", _BOOL, _WORDS, _SIZE)
 union: Callable[..., bool] = _call("union", _BOOL, _WORDS, _SIZE, _WORDS, _SIZE)
 intersect: Callable[..., bool] = _call("intersect", _BOOL, _WORDS, _SIZE, _WORDS, _SIZE)
 equal: Callable[..., bool] = _call("equal", _BOOL, _WORDS, _SIZE, _WORDS, _SIZE)
+count_ones: Callable[..., int] = _call("count_ones", _SIZE, _WORDS, _SIZE)
+expected_rate: Callable[..., int] = _call(
+    "expected_rate", _CODE, _SIZE, _HASHES, _SIZE, _MANY, _MANY)
 head_write: Callable[..., int] = _call("head_write", _CODE, _SIZE, _HASHES, _BYTES, _HASH, _WORDS)
 head_read: Callable[..., int] = _call(
     "head_read", _CODE, _BYTES, _TO_SIZE, _TO_HASHES, _BYTES, _MANY)

@@ -8,6 +8,7 @@ ghost use Rattle.bloom_parts.specs.Hashed.{Hashed};
 ghost use Rattle.bloom_parts.specs.Keys.{key_low, key_high};
 
 mod state;
+mod words;
 mod writes;
 
 use state::State;

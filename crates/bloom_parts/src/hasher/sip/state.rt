@@ -6,10 +6,10 @@ ghost use Rattle.bloom_parts.specs.Sip as sip;
 // The internal state of SipHash.
 #[derive(Clone, Copy, Debug)]
 pub(super) struct State {
-    v0: u64,
-    v1: u64,
-    v2: u64,
-    v3: u64,
+    pub(super) v0: u64,
+    pub(super) v1: u64,
+    pub(super) v2: u64,
+    pub(super) v3: u64,
 }
 
 impl State {
