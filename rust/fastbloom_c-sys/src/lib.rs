@@ -58,6 +58,16 @@ pub const FASTBLOOM_SEAL: u8 = 14;
 /// A read failed.
 pub const FASTBLOOM_INPUT: u8 = 15;
 
+/// A hasher of bytes that come in pieces. The caller owns it and may copy it. The key is in it, and
+/// up to seven of the bytes.
+#[repr(C)]
+#[derive(Clone, Copy)]
+#[allow(non_camel_case_types)]
+pub struct fastbloom_hasher {
+    /// What [`fastbloom_hasher_init`] begins, and [`fastbloom_hasher_update`] goes on with.
+    pub words: [u64; 8],
+}
+
 extern "C" {
     /// The numbers of words and of hashes for this many items at the rate `num / den`. It answers
     /// [`FASTBLOOM_OK`]; or [`FASTBLOOM_ZERO_RATE`], [`FASTBLOOM_SIZE_OVERFLOW`] or
@@ -88,6 +98,16 @@ extern "C" {
 
     /// SipHash-1-3 of exactly these bytes under the key.
     pub fn fastbloom_hash(key: *const u8, bytes: *const u8, len: usize) -> u64;
+
+    /// Begins with no bytes, under the key.
+    pub fn fastbloom_hasher_init(hasher: *mut fastbloom_hasher, key: *const u8);
+
+    /// Takes in a piece of the bytes.
+    pub fn fastbloom_hasher_update(hasher: *mut fastbloom_hasher, bytes: *const u8, len: usize);
+
+    /// [`fastbloom_hash`] of all pieces so far, one behind the other. More pieces may follow. A
+    /// hasher that wasn't begun has a hash of no meaning.
+    pub fn fastbloom_hasher_finish(hasher: *const fastbloom_hasher) -> u64;
 
     /// Turns on all positions of a hash, and answers whether all were on just before.
     pub fn fastbloom_insert_hash(

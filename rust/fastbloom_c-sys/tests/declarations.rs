@@ -3,6 +3,7 @@
 //! of `include/fastbloom.symbols`.
 
 use std::collections::BTreeMap;
+use std::mem::{align_of_val, size_of_val};
 
 const HEADER: &str = include_str!("../../../include/fastbloom.h");
 const SYMBOLS: &str = include_str!("../../../include/fastbloom.symbols");
@@ -162,6 +163,15 @@ fn the_version_is_that_of_the_header() {
     assert_eq!(Some(env!("CARGO_PKG_VERSION")), wanted);
 }
 
+#[test]
+fn a_hasher_is_eight_words() {
+    let wanted = "typedef struct fastbloom_hasher {\n    uint64_t words[8];\n} fastbloom_hasher;";
+    assert!(HEADER.contains(wanted));
+    let hasher = fastbloom_c_sys::fastbloom_hasher { words: [0; 8] };
+    assert_eq!(size_of_val(&hasher), size_of_val(&hasher.words));
+    assert_eq!(align_of_val(&hasher), align_of_val(&hasher.words));
+}
+
 /// Takes the addresses of these calls, so that the linker looks for each.
 macro_rules! linked {
     ($($name:ident)*) => {
@@ -174,6 +184,7 @@ fn the_library_has_each_symbol() {
     let linked = linked! {
         fastbloom_clear fastbloom_contains fastbloom_contains_hash fastbloom_contains_hashes
         fastbloom_count_ones fastbloom_equal fastbloom_expected_rate fastbloom_hash
+        fastbloom_hasher_finish fastbloom_hasher_init fastbloom_hasher_update
         fastbloom_head_read fastbloom_head_write fastbloom_insert fastbloom_insert_hash
         fastbloom_insert_hashes fastbloom_insert_hashes_tell_new fastbloom_intersect
         fastbloom_num_bits fastbloom_plan fastbloom_seal fastbloom_union

@@ -57,6 +57,7 @@ mod builder;
 mod error;
 mod file;
 mod many;
+mod pieces;
 mod rate;
 #[allow(unsafe_code)]
 mod raw;
@@ -64,4 +65,5 @@ mod raw;
 pub use bloom::{hash, BloomFilter};
 pub use builder::{BuilderWithBits, BuilderWithFalsePositiveRate};
 pub use error::Error;
+pub use pieces::Hasher;
 pub use rate::{Bracket, Rate};

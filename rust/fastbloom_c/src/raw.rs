@@ -17,6 +17,9 @@ pub type Key = [u8; 16];
 /// The first bytes of a file, which its words follow.
 pub type HeadBytes = [u8; 64];
 
+/// A hash of pieces.
+pub use sys::fastbloom_hasher as Hashing;
+
 /// What a head tells of a filter, and the seal of its file.
 #[derive(Default)]
 pub struct Head {
@@ -26,8 +29,8 @@ pub struct Head {
     pub seal: u64,
 }
 
-/// Panics where the processor can't run the library. The four calls below that need no filter ask
-/// this: one of them comes before each filter.
+/// Panics where the processor can't run the library. The calls below that need nothing else ask this
+/// first: one of them comes before each filter and each hash of pieces.
 fn check_processor() {
     let fits = is_x86_feature_detected!("sse4.2") && is_x86_feature_detected!("popcnt");
     assert!(
@@ -83,6 +86,28 @@ pub fn hash(key: &Key, bytes: &[u8]) -> u64 {
     check_processor();
     // SAFETY: the key has sixteen bytes, and the slice its length.
     unsafe { sys::fastbloom_hash(key.as_ptr(), bytes.as_ptr(), bytes.len()) }
+}
+
+/// A hasher that has taken in no bytes.
+pub fn begin_hash(key: &Key) -> Hashing {
+    check_processor();
+    let mut hashing = Hashing { words: [0; 8] };
+    // SAFETY: the key has sixteen bytes, and the struct is a local.
+    unsafe { sys::fastbloom_hasher_init(&mut hashing, key.as_ptr()) };
+    hashing
+}
+
+/// Takes in a piece.
+pub fn update_hash(hashing: &mut Hashing, piece: &[u8]) {
+    // SAFETY: the piece is a slice of this length. The struct is borrowed for writing, so that the
+    // piece lies elsewhere.
+    unsafe { sys::fastbloom_hasher_update(hashing, piece.as_ptr(), piece.len()) }
+}
+
+/// The hash of all pieces so far.
+pub fn finish_hash(hashing: &Hashing) -> u64 {
+    // SAFETY: the call reads the struct.
+    unsafe { sys::fastbloom_hasher_finish(hashing) }
 }
 
 /// Inserts a hash, and answers whether it was contained.

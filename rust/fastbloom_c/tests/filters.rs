@@ -1,7 +1,7 @@
 //! What filters hold and answer. The values are from outside: SipHash-1-3 of Rust itself, a model
 //! in Python, and values worked by hand.
 
-use fastbloom_c::{hash, BloomFilter, Error, Rate};
+use fastbloom_c::{hash, BloomFilter, Error, Hasher, Rate};
 
 const ZERO_KEY: [u8; 16] = [0; 16];
 
@@ -35,6 +35,30 @@ fn the_hash_is_that_of_every_language() {
     // From docs/FILE.md.
     assert_eq!(hash(&key, "crab"), 0x28b5_d1a8_6888_d657);
     assert_eq!(hash(&key, &b"lobster".to_vec()), 0x3320_0a5d_9ff2_5023);
+}
+
+#[test]
+fn pieces_have_the_hash_of_the_whole() {
+    let key = counting_key();
+    let seed = u128::from_be_bytes(key);
+    let seen = BloomFilter::with_num_bits(64)
+        .expect("bits")
+        .seed(&seed)
+        .hashes(1);
+    for begun in [Hasher::new(&key), seen.begin_hash()] {
+        assert_eq!(begun.finish(), 0xabac_0158_050f_c4dc);
+        for cut in 0..=15 {
+            for end in cut..=15 {
+                let mut hasher = begun.clone();
+                hasher.update(&key[..cut]).update(&key[cut..end]);
+                let mut other = hasher.clone();
+                assert_eq!(hasher.update(&key[end..15]).finish(), 0xd320_d86d_2a51_9956);
+                other.update("another end");
+                assert_eq!(hasher.update("").finish(), 0xd320_d86d_2a51_9956);
+            }
+        }
+    }
+    assert_eq!(format!("{:?}", seen.begin_hash()), "Hasher { .. }");
 }
 
 #[test]

@@ -1,7 +1,7 @@
 //! Filters go to other threads, and are read by many at once.
 
 use fastbloom_c::{
-    BloomFilter, Bracket, BuilderWithBits, BuilderWithFalsePositiveRate, Error, Rate,
+    BloomFilter, Bracket, BuilderWithBits, BuilderWithFalsePositiveRate, Error, Hasher, Rate,
 };
 use std::sync::{Barrier, RwLock};
 use std::thread;
@@ -15,6 +15,7 @@ const _: () = {
     is_for_threads::<BloomFilter>();
     is_for_threads::<BuilderWithBits>();
     is_for_threads::<BuilderWithFalsePositiveRate>();
+    is_for_threads::<Hasher>();
     is_for_threads::<Rate>();
     is_for_threads::<Bracket>();
     is_for_threads::<Error>();
