@@ -10,9 +10,9 @@
  * nothing.
  *
  * The caller must keep these rules, which nothing checks:
- *  - words, hashes, found, fresh, hasher, key, head, bytes and the out parameters are not NULL,
- *    even where a length is 0. They are aligned: words, hashes, found, fresh, hasher, seal, low and
- *    high to 8, num_words to the alignment of size_t, num_hashes to 4;
+ *  - pointers aren't NULL, but for one whose length is 0: the last part of this header puts another
+ *    in its place. They are aligned: words, hashes, found, fresh, hasher, seal, low and high to 8,
+ *    num_words to the alignment of size_t, num_hashes to 4;
  *  - each pointer is to memory of the length that is given, at most 2^63 - 1 bytes. This memory
  *    stays in its place while the call runs;
  *  - memory that a call may write (a parameter that isn't const) overlaps with nothing else that
@@ -193,6 +193,138 @@ FASTBLOOM_MUST_USE uint8_t fastbloom_head_read(const uint8_t head[64], size_t *n
 
 #ifdef __cplusplus
 }
+#endif
+
+/* A pointer whose length is 0 may be NULL, as that of an empty vector or text of C++ is. The names
+ * of these calls stand for functions that hand over a pointer to a word of their own in its place.
+ * The library touches no memory behind it. Where FASTBLOOM_NO_WRAPPERS is defined, the names are
+ * the library's own calls, which take no null pointer. */
+#ifndef FASTBLOOM_NO_WRAPPERS
+
+static inline uint64_t *fastbloom_words_(uint64_t *words, size_t len) {
+    static uint64_t none;
+    return len == 0 ? &none : words;
+}
+
+static inline const uint64_t *fastbloom_read_words_(const uint64_t *words, size_t len) {
+    static const uint64_t none = 0;
+    return len == 0 ? &none : words;
+}
+
+static inline const uint8_t *fastbloom_bytes_(const uint8_t *bytes, size_t len) {
+    static const uint8_t none = 0;
+    return len == 0 ? &none : bytes;
+}
+
+static inline bool fastbloom_insert_hash_(uint64_t *words, size_t num_words, uint32_t num_hashes,
+                                          uint64_t hash) {
+    return fastbloom_insert_hash(fastbloom_words_(words, num_words), num_words, num_hashes, hash);
+}
+
+static inline bool fastbloom_insert_hashes_(uint64_t *words, size_t num_words, uint32_t num_hashes,
+                                            const uint64_t *hashes, size_t count) {
+    return fastbloom_insert_hashes(fastbloom_words_(words, num_words), num_words, num_hashes,
+                                   fastbloom_read_words_(hashes, count), count);
+}
+
+static inline bool fastbloom_contains_hash_(const uint64_t *words, size_t num_words,
+                                            uint32_t num_hashes, uint64_t hash) {
+    return fastbloom_contains_hash(fastbloom_read_words_(words, num_words), num_words, num_hashes,
+                                   hash);
+}
+
+FASTBLOOM_MUST_USE static inline bool fastbloom_contains_hashes_(const uint64_t *words,
+                                                                 size_t num_words,
+                                                                 uint32_t num_hashes,
+                                                                 const uint64_t *hashes,
+                                                                 size_t count, uint64_t *found,
+                                                                 size_t num_found) {
+    return fastbloom_contains_hashes(fastbloom_read_words_(words, num_words), num_words, num_hashes,
+                                     fastbloom_read_words_(hashes, count), count,
+                                     fastbloom_words_(found, num_found), num_found);
+}
+
+FASTBLOOM_MUST_USE static inline bool fastbloom_insert_hashes_tell_new_(uint64_t *words,
+                                                                        size_t num_words,
+                                                                        uint32_t num_hashes,
+                                                                        const uint64_t *hashes,
+                                                                        size_t count,
+                                                                        uint64_t *fresh,
+                                                                        size_t num_fresh) {
+    return fastbloom_insert_hashes_tell_new(fastbloom_words_(words, num_words), num_words,
+                                            num_hashes, fastbloom_read_words_(hashes, count), count,
+                                            fastbloom_words_(fresh, num_fresh), num_fresh);
+}
+
+static inline bool fastbloom_insert_(uint64_t *words, size_t num_words, uint32_t num_hashes,
+                                     const uint8_t key[16], const uint8_t *bytes, size_t len) {
+    return fastbloom_insert(fastbloom_words_(words, num_words), num_words, num_hashes, key,
+                            fastbloom_bytes_(bytes, len), len);
+}
+
+static inline bool fastbloom_contains_(const uint64_t *words, size_t num_words, uint32_t num_hashes,
+                                       const uint8_t key[16], const uint8_t *bytes, size_t len) {
+    return fastbloom_contains(fastbloom_read_words_(words, num_words), num_words, num_hashes, key,
+                              fastbloom_bytes_(bytes, len), len);
+}
+
+static inline bool fastbloom_clear_(uint64_t *words, size_t num_words) {
+    return fastbloom_clear(fastbloom_words_(words, num_words), num_words);
+}
+
+FASTBLOOM_MUST_USE static inline bool fastbloom_union_(uint64_t *words, size_t num_words,
+                                                       const uint64_t *other, size_t num_other) {
+    return fastbloom_union(fastbloom_words_(words, num_words), num_words,
+                           fastbloom_read_words_(other, num_other), num_other);
+}
+
+FASTBLOOM_MUST_USE static inline bool fastbloom_intersect_(uint64_t *words, size_t num_words,
+                                                           const uint64_t *other,
+                                                           size_t num_other) {
+    return fastbloom_intersect(fastbloom_words_(words, num_words), num_words,
+                               fastbloom_read_words_(other, num_other), num_other);
+}
+
+static inline bool fastbloom_equal_(const uint64_t *words, size_t num_words, const uint64_t *other,
+                                    size_t num_other) {
+    return fastbloom_equal(fastbloom_read_words_(words, num_words), num_words,
+                           fastbloom_read_words_(other, num_other), num_other);
+}
+
+static inline size_t fastbloom_count_ones_(const uint64_t *words, size_t num_words) {
+    return fastbloom_count_ones(fastbloom_read_words_(words, num_words), num_words);
+}
+
+static inline uint64_t fastbloom_seal_(const uint64_t *words, size_t num_words, uint32_t num_hashes,
+                                       const uint8_t key[16]) {
+    return fastbloom_seal(fastbloom_read_words_(words, num_words), num_words, num_hashes, key);
+}
+
+static inline uint64_t fastbloom_hash_(const uint8_t key[16], const uint8_t *bytes, size_t len) {
+    return fastbloom_hash(key, fastbloom_bytes_(bytes, len), len);
+}
+
+static inline void fastbloom_hasher_update_(fastbloom_hasher *hasher, const uint8_t *bytes,
+                                            size_t len) {
+    fastbloom_hasher_update(hasher, fastbloom_bytes_(bytes, len), len);
+}
+
+#define fastbloom_insert_hash fastbloom_insert_hash_
+#define fastbloom_insert_hashes fastbloom_insert_hashes_
+#define fastbloom_contains_hash fastbloom_contains_hash_
+#define fastbloom_contains_hashes fastbloom_contains_hashes_
+#define fastbloom_insert_hashes_tell_new fastbloom_insert_hashes_tell_new_
+#define fastbloom_insert fastbloom_insert_
+#define fastbloom_contains fastbloom_contains_
+#define fastbloom_clear fastbloom_clear_
+#define fastbloom_union fastbloom_union_
+#define fastbloom_intersect fastbloom_intersect_
+#define fastbloom_equal fastbloom_equal_
+#define fastbloom_count_ones fastbloom_count_ones_
+#define fastbloom_seal fastbloom_seal_
+#define fastbloom_hash fastbloom_hash_
+#define fastbloom_hasher_update fastbloom_hasher_update_
+
 #endif
 
 #endif

@@ -68,7 +68,10 @@ fn parameter_of_c(text: &str) -> String {
 
 /// The calls that the header declares, as Rust declares them, by their names.
 fn calls_of_header() -> BTreeMap<String, String> {
-    let plain = plain_c(HEADER);
+    let (calls, _wrappers) = HEADER
+        .split_once("#ifndef FASTBLOOM_NO_WRAPPERS")
+        .expect("wrappers behind the calls");
+    let plain = plain_c(calls);
     let calls = plain
         .split(';')
         .filter(|text| text.contains("fastbloom_") && text.contains('('));

@@ -1,0 +1,49 @@
+/* Hands NULL with the length 0 to each call that takes a pointer and a length, and wants the
+ * answers for no words, no hashes and no bytes. It is linked with the library, and with
+ * null_calls.c in its place, whose calls refuse a null pointer. */
+#include <stdio.h>
+
+#include "fastbloom.h"
+
+static int wrong;
+
+static void wants(const char *call, uint64_t wanted, uint64_t answer) {
+    if (wanted != answer) {
+        fprintf(stderr, "%s of nothing: %llx\n", call, (unsigned long long)answer);
+        wrong = 1;
+    }
+}
+
+int main(void) {
+    /* Rust's own SipHash-1-3 of no bytes, under the key of zeros. */
+    const uint64_t hash_of_nothing = UINT64_C(15130871412783076140);
+    const uint8_t key[16] = {0};
+    uint64_t word = 0;
+    fastbloom_hasher hasher;
+    fastbloom_hasher_init(&hasher, key);
+    fastbloom_hasher_update(&hasher, NULL, 0);
+    wants("finish", hash_of_nothing, fastbloom_hasher_finish(&hasher));
+    wants("hash", hash_of_nothing, fastbloom_hash(key, NULL, 0));
+    /* no words are no filter */
+    wants("insert_hash", 0, fastbloom_insert_hash(NULL, 0, 1, 5));
+    wants("insert_hashes", 0, fastbloom_insert_hashes(NULL, 0, 1, NULL, 0));
+    wants("contains_hash", 0, fastbloom_contains_hash(NULL, 0, 1, 5));
+    wants("contains_hashes", 0, fastbloom_contains_hashes(NULL, 0, 1, NULL, 0, NULL, 0));
+    wants("tell_new", 0, fastbloom_insert_hashes_tell_new(NULL, 0, 1, NULL, 0, NULL, 0));
+    wants("insert", 0, fastbloom_insert(NULL, 0, 1, key, NULL, 0));
+    wants("contains", 0, fastbloom_contains(NULL, 0, 1, key, NULL, 0));
+    wants("clear", 0, fastbloom_clear(NULL, 0));
+    wants("union", 0, fastbloom_union(NULL, 0, NULL, 0));
+    wants("intersect", 0, fastbloom_intersect(NULL, 0, NULL, 0));
+    wants("equal", 0, fastbloom_equal(NULL, 0, NULL, 0));
+    wants("count_ones", 0, fastbloom_count_ones(NULL, 0));
+    wants("seal", fastbloom_seal(&word, 0, 1, key), fastbloom_seal(NULL, 0, 1, key));
+    /* no hashes and no bytes, of a filter with a word */
+    wants("insert_hashes", 1, fastbloom_insert_hashes(&word, 1, 1, NULL, 0));
+    wants("contains_hashes", 1, fastbloom_contains_hashes(&word, 1, 1, NULL, 0, NULL, 0));
+    wants("tell_new", 1, fastbloom_insert_hashes_tell_new(&word, 1, 1, NULL, 0, NULL, 0));
+    wants("the word", 0, word);
+    wants("insert", 0, fastbloom_insert(&word, 1, 1, key, NULL, 0));
+    wants("contains", 1, fastbloom_contains(&word, 1, 1, key, NULL, 0));
+    return wrong;
+}

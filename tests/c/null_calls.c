@@ -1,0 +1,143 @@
+/* The calls of the library as null.c makes them: each ends the program where a pointer is null, and
+ * answers what null.c wants. It is compiled as C, and linked with null.c as C and as C++. */
+#ifndef FASTBLOOM_NO_WRAPPERS
+#define FASTBLOOM_NO_WRAPPERS
+#endif
+#include <stdio.h>
+#include <stdlib.h>
+
+#include "fastbloom.h"
+
+static const uint64_t hash_of_nothing = UINT64_C(15130871412783076140);
+
+static void some(const char *name, const void *pointer) {
+    if (pointer == NULL) {
+        fprintf(stderr, "%s is null\n", name);
+        exit(2);
+    }
+}
+
+void fastbloom_hasher_init(fastbloom_hasher *hasher, const uint8_t key[16]) {
+    some("hasher", hasher);
+    some("key", key);
+}
+
+void fastbloom_hasher_update(fastbloom_hasher *hasher, const uint8_t *bytes, size_t len) {
+    (void)len;
+    some("hasher", hasher);
+    some("bytes", bytes);
+}
+
+uint64_t fastbloom_hasher_finish(const fastbloom_hasher *hasher) {
+    some("hasher", hasher);
+    return hash_of_nothing;
+}
+
+uint64_t fastbloom_hash(const uint8_t key[16], const uint8_t *bytes, size_t len) {
+    (void)len;
+    some("key", key);
+    some("bytes", bytes);
+    return hash_of_nothing;
+}
+
+bool fastbloom_insert_hash(uint64_t *words, size_t num_words, uint32_t num_hashes, uint64_t hash) {
+    (void)num_words, (void)num_hashes, (void)hash;
+    some("words", words);
+    return false;
+}
+
+bool fastbloom_contains_hash(const uint64_t *words, size_t num_words, uint32_t num_hashes,
+                             uint64_t hash) {
+    (void)num_words, (void)num_hashes, (void)hash;
+    some("words", words);
+    return false;
+}
+
+bool fastbloom_insert_hashes(uint64_t *words, size_t num_words, uint32_t num_hashes,
+                             const uint64_t *hashes, size_t count) {
+    (void)num_hashes, (void)count;
+    some("words", words);
+    some("hashes", hashes);
+    return num_words > 0;
+}
+
+bool fastbloom_contains_hashes(const uint64_t *words, size_t num_words, uint32_t num_hashes,
+                               const uint64_t *hashes, size_t count, uint64_t *found,
+                               size_t num_found) {
+    (void)num_hashes, (void)count, (void)num_found;
+    some("words", words);
+    some("hashes", hashes);
+    some("found", found);
+    return num_words > 0;
+}
+
+bool fastbloom_insert_hashes_tell_new(uint64_t *words, size_t num_words, uint32_t num_hashes,
+                                      const uint64_t *hashes, size_t count, uint64_t *fresh,
+                                      size_t num_fresh) {
+    (void)num_hashes, (void)count, (void)num_fresh;
+    some("words", words);
+    some("hashes", hashes);
+    some("fresh", fresh);
+    return num_words > 0;
+}
+
+bool fastbloom_insert(uint64_t *words, size_t num_words, uint32_t num_hashes,
+                      const uint8_t key[16], const uint8_t *bytes, size_t len) {
+    (void)num_words, (void)num_hashes, (void)len;
+    some("words", words);
+    some("key", key);
+    some("bytes", bytes);
+    return false;
+}
+
+bool fastbloom_contains(const uint64_t *words, size_t num_words, uint32_t num_hashes,
+                        const uint8_t key[16], const uint8_t *bytes, size_t len) {
+    (void)num_hashes, (void)len;
+    some("words", words);
+    some("key", key);
+    some("bytes", bytes);
+    return num_words > 0;
+}
+
+bool fastbloom_clear(uint64_t *words, size_t num_words) {
+    (void)num_words;
+    some("words", words);
+    return false;
+}
+
+bool fastbloom_union(uint64_t *words, size_t num_words, const uint64_t *other, size_t num_other) {
+    (void)num_words, (void)num_other;
+    some("words", words);
+    some("other", other);
+    return false;
+}
+
+bool fastbloom_intersect(uint64_t *words, size_t num_words, const uint64_t *other,
+                         size_t num_other) {
+    (void)num_words, (void)num_other;
+    some("words", words);
+    some("other", other);
+    return false;
+}
+
+bool fastbloom_equal(const uint64_t *words, size_t num_words, const uint64_t *other,
+                     size_t num_other) {
+    (void)num_words, (void)num_other;
+    some("words", words);
+    some("other", other);
+    return false;
+}
+
+size_t fastbloom_count_ones(const uint64_t *words, size_t num_words) {
+    (void)num_words;
+    some("words", words);
+    return 0;
+}
+
+uint64_t fastbloom_seal(const uint64_t *words, size_t num_words, uint32_t num_hashes,
+                        const uint8_t key[16]) {
+    (void)num_words, (void)num_hashes;
+    some("words", words);
+    some("key", key);
+    return 0;
+}
