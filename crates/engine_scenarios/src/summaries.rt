@@ -1,6 +1,6 @@
 //! Filters of keys over odd readers and writers.
 use crate::faulty::{NARROW, ROOMY, Reading, Sink, Source, WHOLE, Writing};
-use fastbloom::Shape;
+use fastbloom::{BloomFilter, Shape};
 use std::alloc::Global;
 use std::cell::Cell;
 use std::test::Fail;
