@@ -1,11 +1,12 @@
 """Tests the module bloom_dask and the program shards.py against the program summaries.
 
-`check.py SUMMARIES` wants the package fastbloom, dask.bag and dask.dataframe on its path. 10^6 keys
-lie in 64 files. Four worker processes build their filter, of which one is killed each time a
+`check.py SUMMARIES` wants the package fastbloom on its path, and dask with bags and dataframes.
+Four worker processes build the filter of 10^6 keys in 64 files. One of them is killed each time a
 quarter of the parts is done, and one part is done twice: the file is that of `summaries build`.
 Where root may make network namespaces, the workers are in another one than the scheduler.
 """
 
+import contextlib
 import os
 import pty
 import signal
@@ -16,17 +17,15 @@ import time
 from pathlib import Path
 
 import dask.bag
-import dask.dataframe
-import pandas
 from distributed import Client
 
 import bloom_dask
 from fastbloom import Filter
-from machines import MARK, cluster, namespaces, none_left, others, started, wait_for
+from machines import MARK, cluster, namespaces, none_left, started, wait_for
 
 HERE = Path(__file__).resolve().parent
 SHARDS = [sys.executable, HERE / "shards.py"]
-KEYS, FILES, WORKERS = 1_000_000, 64, 4
+KEYS, FILES = 1_000_000, 64
 SIZE = ["--items", KEYS, "--rate", "1/1000"]
 
 
@@ -92,7 +91,7 @@ def on_other_machines(checks):
     """Workers that lie behind another network, are killed, and do a part twice."""
     folder, out = checks.folder, checks.folder / "killed.bloom"
     with namespaces() as (near, far, here, there):
-        with cluster(folder, near, far, here, there, WORKERS) as address:
+        with cluster(folder, near, far, here, there) as address:
             status, output, errors = run(*near, sys.executable, HERE / "killing.py", address,
                                          checks.keys, KEYS, out)
             killed, parts, done = map(int, output.split()) if status == 0 else (0, 0, 0)
@@ -106,7 +105,7 @@ def on_other_machines(checks):
                          (status, output[:25]) if status == 0 else (status, errors))
             checks.check_file("the filter of shards.py --scheduler is that of all keys", out)
         # These workers don't find the package, by which they would add keys.
-        with cluster(folder, near, far, here, there, WORKERS, PYTHONPATH="") as address:
+        with cluster(folder, near, far, here, there, PYTHONPATH="") as address:
             checks.fails("workers that lack the package refuse", ["shards: ", "fastbloom"],
                          [*near, *SHARDS, checks.keys, *SIZE, "--scheduler", address,
                           "--out", folder / "refused.bloom"])
@@ -140,26 +139,42 @@ def on_own_workers(checks):
     checks.fails("a filter for which there is no memory", ["shards: MemoryError\n"],
                  [*SHARDS, checks.keys, "--items", 10**12, "--rate", "1/1000"])
     for number in signal.SIGINT, signal.SIGTERM, signal.SIGKILL:
-        with started([*SHARDS, checks.keys, *SIZE], checks.folder / "ended.log") as process:
-            wait_for(lambda: any("spawn_main" in line for line in others()))
-            time.sleep(1)
-            process.send_signal(number)
-            process.wait(60)
-        checks.check(f"{number.name} leaves no worker behind, and no file", ([], False),
-                     (none_left(), out.exists()))
+        is_ended_by(checks, number)
+
+
+def opened(pipe):
+    """The end of a pipe to write to, once a worker reads the other one."""
+    with contextlib.suppress(OSError):
+        return os.open(pipe, os.O_WRONLY | os.O_NONBLOCK)
+    return None
+
+
+def is_ended_by(checks, number):
+    """A signal comes while a worker reads a part that has no end."""
+    folder = checks.folder / number.name
+    folder.mkdir()
+    os.mkfifo(folder / "pipe")
+    with started([*SHARDS, folder, *SIZE], f"{folder}.log") as process:
+        pipe = wait_for(lambda: opened(folder / "pipe"))
+        process.send_signal(number)
+        process.wait(60)
+        left = none_left()
+        os.close(pipe)
+    checks.check(f"{number.name} leaves no worker behind, and no file", (True, [], False),
+                 (process.returncode != 0, left, Path(f"{folder}.bloom").exists()))
 
 
 def by_the_module(checks):
     """Bags, columns, look-ups, and what the module refuses."""
     whole = Filter.from_bytes(checks.whole)
-    keys = [f"key{key}" for key in range(KEYS)]
-    asked_for = keys[:1000] + [f"other{number}" for number in range(100_000)]
+    asked_for = [f"key{number}" for number in range(1000)]
+    asked_for += [f"other{number}" for number in range(20_000)]
     here = "127.0.0.1"
-    with cluster(checks.folder, [], [], here, here, WORKERS) as address, Client(address) as client:
+    with cluster(checks.folder, [], [], here, here) as address, Client(address) as client:
         client.upload_file(bloom_dask.__file__)
-        bag = dask.bag.from_sequence(keys, npartitions=8)
-        frame = dask.dataframe.from_pandas(pandas.DataFrame({"name": keys, "size": 1}),
-                                           npartitions=8)
+        bag = dask.bag.read_text(f"{checks.keys}/*.keys", files_per_partition=8)
+        bag = bag.map(str.rstrip, "\n")
+        frame = bag.map(lambda key: {"name": key, "length": len(key)}).to_dataframe()
         for name, parts in ("a bag", bag), ("a column", frame["name"]):
             built = bloom_dask.build(client, parts, KEYS, "1/1000")
             checks.check(f"the filter of {name} is that of all keys", True, built.result() == whole)

@@ -13,6 +13,7 @@ from distributed import Client
 from distributed.diagnostics.plugin import SchedulerPlugin
 
 import bloom_dask
+from machines import PATIENCE, WORKERS
 
 KILLS = 3
 
@@ -33,12 +34,13 @@ def parts_done(dask_scheduler):
 
 
 def kill_one(client):
-    """Kills a worker that holds a filter."""
-    for address, keys in client.has_what().items():
-        if keys:
-            pid = client.run(os.getpid, workers=[address])[address]
-            os.kill(pid, signal.SIGKILL)
-            return 1
+    """Kills a worker that holds a filter. It answers how many it killed, 0 or 1."""
+    holding = [address for address, keys in client.has_what().items() if keys]
+    # One that was killed before may still be listed.
+    pids = client.run(os.getpid, workers=holding, on_error="ignore") if holding else {}
+    for pid in pids.values():
+        os.kill(pid, signal.SIGKILL)
+        return 1
     return 0
 
 
@@ -46,7 +48,7 @@ def main(address, folder, items, out):
     files = sorted(map(str, Path(folder).iterdir()))
     files.append(files[len(files) // 2])
     with Client(address) as client:
-        workers = len(client.nthreads())
+        client.wait_for_workers(WORKERS, timeout=PATIENCE)
         client.register_scheduler_plugin(Done())
         client.upload_file(bloom_dask.__file__)
         future = bloom_dask.build(client, files, int(items), "1/1000")
@@ -55,7 +57,7 @@ def main(address, folder, items, out):
             if client.run_on_scheduler(parts_done) >= (killed + 1) * len(files) // (KILLS + 1):
                 killed += kill_one(client)
         future.result().save(out)
-        client.wait_for_workers(workers, timeout=60)
+        client.wait_for_workers(WORKERS, timeout=PATIENCE)
         print(killed, len(files), client.run_on_scheduler(parts_done))
 
 

@@ -10,6 +10,7 @@ from pathlib import Path
 
 MARK = "TEST_DASK"  # a variable by which the processes of one run are known
 PATIENCE = 60  # seconds
+WORKERS = 4
 
 
 @contextlib.contextmanager
@@ -56,26 +57,34 @@ def started(words, log, **environment):
             process.kill()
 
 
+def address_in(file):
+    """The address that a scheduler wrote, or nothing where it hasn't written it."""
+    with contextlib.suppress(OSError, ValueError):
+        return json.loads(file.read_text())["address"]
+    return None
+
+
 @contextlib.contextmanager
-def cluster(folder, near, far, here, there, workers, **environment):
+def cluster(folder, near, far, here, there, **environment):
     """The address of a scheduler, whose workers are in the other namespace."""
     told = folder / f"scheduler-{time.monotonic_ns()}.json"
     command = [sys.executable, "-m"]
     with started([*near, *command, "distributed.cli.dask_scheduler", "--host", here, "--port", 0,
                   "--no-dashboard", "--scheduler-file", told], folder / "scheduler.log"):
         with started([*far, *command, "distributed.cli.dask_worker", "--scheduler-file", told,
-                      "--host", there, "--nworkers", workers, "--nthreads", 1, "--no-dashboard",
+                      "--host", there, "--nworkers", WORKERS, "--nthreads", 1, "--no-dashboard",
                       "--local-directory", folder], folder / "workers.log", **environment):
-            wait_for(told.exists)
-            yield json.loads(told.read_text())["address"]
+            yield wait_for(lambda: address_in(told))
 
 
-def wait_for(holds):
+def wait_for(call):
+    """What a call gives, once that is something."""
     end = time.monotonic() + PATIENCE
-    while not holds():
+    while not (given := call()):
         if time.monotonic() > end:
-            raise TimeoutError(f"{holds} doesn't hold")
+            raise TimeoutError(f"nothing came in {PATIENCE} seconds")
         time.sleep(0.05)
+    return given
 
 
 def others():
