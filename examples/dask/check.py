@@ -13,7 +13,6 @@ import signal
 import subprocess
 import sys
 import tempfile
-import time
 from pathlib import Path
 
 import dask.bag
@@ -55,11 +54,11 @@ class Checks:
 
     def fails(self, what, pieces, words):
         """A program ends with status 1 and one line, which has these pieces, and writes no file."""
-        before = sorted(self.folder.iterdir())
+        before = sorted(self.folder.rglob("*.bloom*"))
         status, output, errors = run(*words)
         found = [piece for piece in pieces if piece in errors]
-        self.check(what, (1, "", 1, list(pieces), before),
-                   (status, output, errors.count("\n"), found, sorted(self.folder.iterdir())))
+        self.check(what, (1, "", 1, pieces, before), (status, output, errors.count("\n"), found,
+                                                      sorted(self.folder.rglob("*.bloom*"))))
 
 
 def write_keys(folder):
@@ -137,7 +136,8 @@ def on_own_workers(checks):
     checks.fails("a folder that isn't there", ["No such file or directory"],
                  [*SHARDS, checks.folder / "none", *SIZE])
     checks.fails("a filter for which there is no memory", ["shards: MemoryError\n"],
-                 [*SHARDS, checks.keys, "--items", 10**12, "--rate", "1/1000"])
+                 ["sh", "-c", 'ulimit -v 8000000; exec "$@"', "sh", *SHARDS, checks.keys,
+                  "--items", 10**12, "--rate", "1/1000"])
     for number in signal.SIGINT, signal.SIGTERM, signal.SIGKILL:
         is_ended_by(checks, number)
 
@@ -219,6 +219,8 @@ def refusals(checks, client, frame, built):
 
 
 def main(summaries):
+    signal.signal(signal.SIGTERM, lambda number, _: sys.exit(128 + number))
+    signal.signal(signal.SIGINT, signal.default_int_handler)  # it may be ignored, and so inherited
     tree = sorted(HERE.rglob("*"))
     with tempfile.TemporaryDirectory(prefix="test-dask-") as folder:
         os.environ.update({MARK: str(os.getpid()), "TMPDIR": folder})

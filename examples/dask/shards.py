@@ -55,12 +55,36 @@ def arguments():
 
 
 @contextlib.contextmanager
+def held():
+    """Signals wait for the end of this: a cluster that starts or ends isn't left half-way."""
+    came = []
+    handlers = {number: signal.signal(number, lambda number, _: came.append(number))
+                for number in (signal.SIGINT, signal.SIGTERM)}
+    try:
+        yield
+    finally:
+        for number, handler in handlers.items():
+            signal.signal(number, handler)
+    for number in came:
+        signal.raise_signal(number)
+
+
+@contextlib.contextmanager
 def own_cluster(workers):
     """A scheduler and workers of this machine, which leave nothing behind."""
-    with tempfile.TemporaryDirectory(prefix="shards-") as folder, distributed.LocalCluster(
-            n_workers=workers, threads_per_worker=1, dashboard_address=None,
-            local_directory=folder, silence_logs=logging.CRITICAL) as cluster:
-        yield cluster
+    cluster = None
+    with tempfile.TemporaryDirectory(prefix="shards-") as folder:
+        try:
+            with held():
+                cluster = distributed.LocalCluster(
+                    n_workers=workers, threads_per_worker=1, local_directory=folder,
+                    dashboard_address=":0", scheduler_kwargs={"dashboard": False},
+                    silence_logs=logging.CRITICAL)
+            yield cluster
+        finally:
+            if cluster:
+                with held():
+                    cluster.close()
 
 
 @contextlib.contextmanager
@@ -99,7 +123,7 @@ def run(chosen):
 
 def main():
     chosen = arguments()
-    signal.signal(signal.SIGTERM, lambda *_: sys.exit(128 + signal.SIGTERM))
+    signal.signal(signal.SIGTERM, lambda number, _: sys.exit(128 + number))
     try:
         run(chosen)
     except KeyboardInterrupt:
