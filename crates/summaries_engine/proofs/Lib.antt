@@ -20,6 +20,8 @@ mod StopFacts
 mod StopLemmas
 mod SummaryFacts
 mod TextFacts
+mod TreeFacts
+mod TreeLemmas
 mod UnionFacts
 mod UnionLemmas
 mod UnitingFacts

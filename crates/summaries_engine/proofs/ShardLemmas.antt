@@ -39,7 +39,7 @@ module _ (hash : List ℕ → ℕ) where
       )
 
   -- lists of the same keys have the same hashes
-  hashes-same : (keys others : List (List ℕ)) → HaveSameKeys keys others
+  pub hashes-same : (keys others : List (List ℕ)) → HaveSameKeys keys others
       → HaveSameHashes (map hash keys) (map hash others)
   hashes-same keys others same h = (
     λ given. let one = key-of-hash keys h given in

@@ -80,7 +80,7 @@ summary-a f is = record {
 }
 
 -- the summary of "b"
-summary-b : (f : DefaultFilter) → IsFilter f 281492156579840 0
+pub summary-b : (f : DefaultFilter) → IsFilter f 281492156579840 0
     → IsSummaryOf shape ((98 ∷ []) ∷ []) f
 summary-b f is = record {
   words = ap length is.words;
@@ -91,7 +91,7 @@ summary-b f is = record {
 }
 
 -- a bit of the word is set where the summary of these keys has it
-at : (f : DefaultFilter) (word low : ℕ) (keys : List (List ℕ)) (p : ℕ) → IsFilter f word low
+pub at : (f : DefaultFilter) (word low : ℕ) (keys : List (List ℕ)) (p : ℕ) → IsFilter f word low
     → IsSummaryOf shape keys f
     → content (word ∷ []) p ≡ positions_of_all 64 2 (map (λ key. sip low 0 key) keys) p
 at f word low keys p is did =

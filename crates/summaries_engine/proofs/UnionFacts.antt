@@ -71,7 +71,7 @@ union-keyed f made one is did =
     omega (arith, wrong)
 
 -- the order makes no difference, nor does a key that comes twice
-same-keys : HaveSameKeys ((97 ∷ []) ∷ (98 ∷ []) ∷ (97 ∷ []) ∷ []) ((98 ∷ []) ∷ (97 ∷ []) ∷ [])
+pub same-keys : HaveSameKeys ((97 ∷ []) ∷ (98 ∷ []) ∷ (97 ∷ []) ∷ []) ((98 ∷ []) ∷ (97 ∷ []) ∷ [])
 same-keys key = (
   λ w. elim (of-three w) [
     | inl one ↦ (1, lit< tt, sym one)

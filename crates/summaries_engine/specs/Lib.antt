@@ -7,3 +7,4 @@ pub mod Refusals
 pub mod Sizes
 pub mod Stops
 pub mod Summaries
+pub mod Trees

@@ -6,6 +6,7 @@ mod facts;
 mod form;
 mod inputs;
 mod keys;
+pub mod laws;
 mod loading;
 mod shards;
 mod sizes;
