@@ -178,6 +178,12 @@ def by_the_module(checks):
         for name, parts in ("a bag", bag), ("a column", frame["name"]):
             built = bloom_dask.build(client, parts, KEYS, "1/1000")
             checks.check(f"the filter of {name} is that of all keys", True, built.result() == whole)
+        files = sorted(checks.keys.iterdir())
+        thirds = [bloom_dask.build(client, files[third::3], KEYS, "1/1000") for third in range(3)]
+        before = client.gather(thirds)
+        united = bloom_dask.unite(client, [*thirds[:2], *thirds]).result()
+        checks.check("three filters are united, two of them twice, and stay as they were",
+                     (True, before), (united == whole, client.gather(thirds)))
         asked = dask.bag.from_sequence(asked_for, npartitions=5)
         wanted = subprocess.run(
             [checks.summaries, "ask", checks.keys.parent / "whole.bloom"], stdout=subprocess.PIPE,
@@ -227,9 +233,11 @@ def main(summaries):
         os.chdir(folder)
         checks = Checks(Path(folder), summaries)
         Path(folder, "whole.bloom").write_bytes(checks.whole)
-        on_other_machines(checks)
-        on_own_workers(checks)
-        by_the_module(checks)
+        for part in on_other_machines, on_own_workers, by_the_module:
+            try:
+                part(checks)
+            except Exception as error:
+                checks.check(f"{part.__name__} ends well", None, error)
         checks.check("no process is left", [], none_left())
     checks.check("no file is left in the tree", tree, sorted(HERE.rglob("*")))
     print(f"test-dask: {checks.passed} passed, {checks.failed} failed")
