@@ -1,4 +1,7 @@
 //! Filters of keys over odd readers and writers.
+ghost use Rattle.std.specs.Prelude.{IfOk};
+ghost use Rattle.summaries_engine.specs.Answers.{IsKeyed};
+
 use crate::faulty::{NARROW, ROOMY, Reading, Sink, Source, WHOLE, Writing};
 use fastbloom::{BloomFilter, Shape};
 use std::alloc::Global;
@@ -46,7 +49,9 @@ impl<'a> Inputs for Odd<'a> {
 }
 
 // The filter of a text.
-fn filter_in(alloc: Global, text: &str) -> Result<BloomFilter, Stop> {
+fn filter_in(alloc: Global, text: &str) -> Result<BloomFilter, Stop>
+    ensures { IfOk result IsKeyed }
+{
     let (filter, _form) = load(alloc, "a", 64, &mut text.as_bytes())?;
     Ok(filter)
 }
