@@ -66,13 +66,10 @@ IsDensity bracket b t = record {
 }
 
 module _ (b t : ℕ) (some : 0 < b) (fits : t < 2 ^ 128) where
-  -- what is on is ordered, since what stays off is
-  pub density-ordered : (off_high low high : ℕ) → off_high ≡ div_ceil (2 ^ 63 * (b - 1)) b →
-      low ≡ lower_power_of (2 ^ 63 * (b - 1) / b) t → high ≡ upper_power_of off_high t →
-      2 ^ 63 - high ≤ 2 ^ 63 - low
-  density-ordered off_high low high off_is low_is high_is =
-      let ordered : low ≤ high =
-      rw (high_is, low_is, off_is) (ends-ordered _ _ t fits (kept-ends b some).ordered) in
+  -- the ends of the density are ordered, since what stays off is
+  pub density-ordered : density_low b t ≤ density_high b t
+  density-ordered =
+      let ordered = ends-ordered _ _ t fits (kept-ends b some).ordered in
       omega (arith, ordered)
 
   -- the bracket of its two ends is the density's

@@ -1,12 +1,19 @@
+mod AlikeFacts
+mod AlikeLemmas
 mod BracketFacts
 mod BracketLemmas
 mod BufferFacts
 mod BufferLemmas
 mod ClearLemmas
 mod ContentLemmas
+mod CountFacts
+mod CountLemmas
 mod DeciderFacts
 mod DeciderLemmas
+mod DensityLemmas
 mod EndLemmas
+mod EstimateFacts
+mod EstimateLemmas
 mod FillLemmas
 mod HalvingFacts
 mod HalvingLemmas
@@ -18,6 +25,7 @@ mod HoldsFacts
 mod LaneFacts
 mod LookLemmas
 mod MergeLemmas
+mod NearLemmas
 mod NumberLemmas
 mod OperationFacts
 mod PieceFacts
@@ -32,6 +40,7 @@ mod ReadingFacts
 mod RootLemmas
 mod RoundingLemmas
 mod SameLemmas
+mod SearchLemmas
 mod SetLemmas
 mod ShareLemmas
 mod SipFacts

@@ -1,9 +1,12 @@
+pub mod Alike
 pub mod Brackets
 pub mod Buffers
 pub mod Chain
 pub mod Codes
 pub mod Content
+pub mod Counts
 pub mod Deciders
+pub mod Estimates
 pub mod Hashed
 pub mod HasherWords
 pub mod Keys

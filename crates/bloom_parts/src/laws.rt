@@ -2,6 +2,7 @@
 //! laws.
 ghost use Rattle.std.specs.Prelude.{ℕ, ◌<◌, slice_index};
 ghost use Rattle.bloom_parts.specs.Content.{EqualWordsLaw, BoundLaw};
+ghost use Rattle.bloom_parts.specs.Estimates.{DensityLaw};
 ghost use Rattle.bloom_parts.specs.Laws.{CuttingLaw, JoiningLaw};
 ghost use Rattle.bloom_parts.specs.Places.{PositionsLaw, SubsetLaw, RangeLaw};
 ghost use Rattle.bloom_parts.specs.Roots.{IsRoot};
@@ -50,6 +51,11 @@ pub fn halvings_of_rate()
 /// At most one number is the size for items and a rate, so no two answers are right.
 pub fn size_of_rate()
     ensures { OneSizeLaw }
+{}
+
+/// The share of bits that is expected to be set grows with each time that one is set.
+pub fn density_grows()
+    ensures { DensityLaw }
 {}
 
 /// A quotient rounded half up is the greatest whole number that is at most a half above it.

@@ -1,12 +1,19 @@
-//! Rates, sizes, and brackets of false positive rates, all in whole numbers.
+//! Rates, sizes, brackets of false positive rates, and estimates of items, all in whole numbers.
+mod alike;
 mod bracket;
+mod estimate;
+mod estimated;
 mod expected;
 mod powers;
 mod rate;
 mod roots;
+mod search;
 mod sizing;
 
+pub use alike::{estimated_common, estimated_part};
 pub use bracket::Bracket;
+pub use estimate::Estimate;
+pub use estimated::estimated_items;
 pub use expected::{expected_density, expected_false_pos};
 pub use rate::Rate;
 pub(crate) use roots::ROOTS;

@@ -2,8 +2,10 @@
 //! another language owns.
 //!
 //! `BitVec` and the library for C are made of these. Each word has 64 bits, and word 0 is first.
-ghost use Rattle.std.specs.Prelude.{◌≡◌, ℕ, ◌||◌, ◌&&◌, ◌↔◌, false, IsTrue, length};
+ghost use Rattle.std.specs.Prelude.{◌≡◌, ℕ, ◌*◌, ◌^◌, ◌<◌, ◌≤◌, ◌||◌, ◌&&◌, ◌↔◌, false, IsTrue, length};
+ghost use Rattle.std.specs.Int.Count.{ones};
 ghost use Rattle.bloom_parts.specs.Content.{content};
+ghost use Rattle.bloom_parts.specs.Counts.{count_on};
 
 pub(crate) mod by_hash;
 mod kernels;
@@ -55,4 +57,41 @@ pub fn are_equal(words: &[u64], other: &[u64]) -> bool
 {
     let mut turns = 0;
     same_words(words, other, &mut turns)
+}
+
+// The number of bits that are on in a word.
+#[inline(always)]
+fn ones_in(word: u64) -> usize
+    ensures value { result ≡ ones word }
+    ensures most { result ≤ 64 }
+{
+    word.count_ones() as usize
+}
+
+/// The number of positions that are on.
+pub fn count_ones(words: &[u64]) -> usize
+    requires { length words.now < 2 ^ 58 }
+    ensures count { result ≡ count_on (content words.now) (64 * length words.now) }
+    ensures most { result ≤ 64 * length words.now }
+{
+    let mut count: usize = 0;
+    'words: for word in words {
+        count += word.count_ones() as usize;
+    }
+    count
+}
+
+/// The number of positions that are on in either of two lists of words.
+pub fn count_either(words: &[u64], other: &[u64]) -> usize
+    requires few { length words.now < 2 ^ 58 }
+    requires lengths { length words.now ≡ length other.now }
+    ensures count { result
+        ≡ count_on (λ p. content words.now p || content other.now p) (64 * length words.now) }
+    ensures most { result ≤ 64 * length words.now }
+{
+    let mut count: usize = 0;
+    'words: for at in 0..words.len() {
+        count += ones_in(words[at] | other[at]);
+    }
+    count
 }

@@ -10,5 +10,6 @@ pub mod Growing
 pub mod GrowingInserts
 pub mod GrowingLaws
 pub mod Laws
+pub mod Ones
 pub mod Replies
 pub mod SourceHash

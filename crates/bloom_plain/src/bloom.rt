@@ -7,6 +7,7 @@ ghost use Rattle.bloom_plain.specs.Replies.{CarriesOut};
 
 mod command;
 mod data;
+mod estimates;
 mod items;
 mod rates;
 mod sets;

@@ -12,7 +12,7 @@ pub use bloom::{
 };
 pub use bloom_parts::error::FilterError;
 pub use bloom_parts::hasher::{CloneBuildHasher, DefaultHasher, RandomDefaultHasher};
-pub use bloom_parts::math::Rate;
+pub use bloom_parts::math::{Estimate, Rate};
 pub use bloom_parts::text::Text;
 pub use builder::{BuilderWithBits, BuilderWithFalsePositiveRate};
 pub use growing::GrowingFilter;

@@ -10,6 +10,7 @@ pub use Rattle.bloom_plain.specs.File
 pub use Rattle.bloom_plain.specs.FileCodes
 pub use Rattle.bloom_plain.specs.Filter
 pub use Rattle.bloom_plain.specs.Laws
+pub use Rattle.bloom_plain.specs.Ones
 pub use Rattle.bloom_plain.specs.Replies
 pub use Rattle.bloom_plain.specs.SourceHash
 pub use Rattle.bloom_plain.specs.declared.bloom.command.Command

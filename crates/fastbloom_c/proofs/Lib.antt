@@ -1,5 +1,4 @@
 mod BitLemmas
-mod CountLemmas
 mod FileFacts
 mod ManyFacts
 mod ManyLemmas

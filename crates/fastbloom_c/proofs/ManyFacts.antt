@@ -1,12 +1,12 @@
--- What bit sets tell of hashes, and how many positions are on: cases that hold, and cases that
--- differ from one of these in one thing and don't hold. Hash 0 has place 0 of 64.
+-- What bit sets tell of hashes: cases that hold, and cases that differ from one of these in one
+-- thing and don't hold. Hash 0 has place 0 of 64.
 use Rattle.std.proofs.Common.{◌≡◌, ◌&&◌, ℕ, Bool, true, false, not, [], ◌∷◌, ◌^◌, nat_lt, slice_index, refl, sym, ◌∙◌, ap, arith, lit<}
 use Rattle.std.proofs.lemmas.Bool.{both_ways, le-ltb}
 use Rattle.bloom_parts.specs.Chain.{chain}
 use Rattle.bloom_parts.specs.Content.{content}
 use Rattle.bloom_parts.specs.Places.{are_in, positions}
 use Rattle.bloom_parts.proofs.PublishedLemmas.{content-zeros}
-use Rattle.fastbloom_c.specs.Many.{TellsFound, TellsNew, after_first, count_on}
+use Rattle.fastbloom_c.specs.Many.{TellsFound, TellsNew, after_first}
 use Rattle.fastbloom_c.proofs.BitLemmas.{bits-next, content-where}
 
 -- no bit of a zero is on
@@ -69,18 +69,3 @@ new-twice told = both_ways false refl (sym (told 1))
 new-known : TellsNew 64 1 (content (1 ∷ [])) (0 ∷ []) (1 ∷ []) → ⊥
 unfolding content are_in chain
 new-known told = both_ways false refl (sym (told 0))
-
--- no position of a zero is on
-count-none : count_on (content (0 ∷ [])) 64 ≡ 0
-unfolding content count_on
-count-none = refl
-
--- the last position of a word and the first of the next are two
-count-two : count_on (content (2 ^ 63 ∷ 1 ∷ [])) 128 ≡ 2
-unfolding content count_on
-count-two = refl
-
--- a position at the bound doesn't count
-count-bound : count_on (content (2 ^ 63 ∷ 1 ∷ [])) 64 ≡ 1
-unfolding content count_on
-count-bound = refl

@@ -1,6 +1,6 @@
 -- Many hashes at once, and what a bit set tells of each. Bit i of a bit set is position i of its
 -- words. The bit sets are this project's choice.
-use Rattle.std.specs.Prelude.{◌≡◌, ℕ, ◌+◌, zero, suc, Bool, ◌||◌, ◌&&◌, not, List, length, take, slice_index, nat_lt, if◌then◌else◌}
+use Rattle.std.specs.Prelude.{◌≡◌, ℕ, Bool, ◌||◌, ◌&&◌, not, List, length, take, slice_index, nat_lt}
 use Rattle.std.specs.List.{list_any}
 use Rattle.bloom_parts.specs.Content.{content}
 use Rattle.bloom_parts.specs.Places.{positions, are_in}
@@ -19,8 +19,3 @@ TellsFound n k A hashes bits = (i : ℕ) → content bits i
 abbrev pub TellsNew : ℕ → ℕ → (ℕ → Bool) → List ℕ → List ℕ → Type 0
 TellsNew n k A hashes bits = (i : ℕ) → content bits i ≡ (nat_lt i (length hashes)
     && not (are_in n k (slice_index hashes i) (after_first n k A hashes i)))
-
--- how many positions below n are in a set
-unfoldable pub count_on : (ℕ → Bool) → ℕ → ℕ
-count_on A zero = 0
-count_on A (suc n) = count_on A n + (if A n then 1 else 0)

@@ -1,7 +1,7 @@
 //! Calls on all of a filter, or on two of them.
 ghost use Rattle.std.specs.Prelude.{◌≡◌, ◌↔◌, ℕ, ◌*◌, ◌^◌, ◌<◌, ◌≤◌, ◌||◌, ◌&&◌, false, IsTrue, length};
 ghost use Rattle.bloom_parts.specs.Content.{content};
-ghost use Rattle.fastbloom_c.specs.Many.{count_on};
+ghost use Rattle.bloom_parts.specs.Counts.{count_on};
 
 use bloom_parts::bit_vector::MAX_WORDS;
 use bloom_parts::slices;
@@ -76,9 +76,5 @@ pub extern "C" fn fastbloom_count_ones(words: &[u64]) -> usize
     if words.len() > MAX_WORDS {
         return 0;
     }
-    let mut count: usize = 0;
-    'words: for word in words {
-        count += word.count_ones() as usize;
-    }
-    count
+    slices::count_ones(words)
 }

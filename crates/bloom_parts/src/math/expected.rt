@@ -6,6 +6,28 @@ ghost use Rattle.bloom_parts.specs.Powers.{lower_power_of, upper_power_of};
 use super::bracket::Bracket;
 use super::powers::{Down, UNIT, Up, power};
 
+// The lower end of the expected density after `sets` positions were turned on.
+pub(super) fn low_end(bits: usize, sets: u128) -> u64
+    requires { 0 < bits }
+    ensures value { result ≡ density_low bits sets }
+    ensures fits { result ≤ 2 ^ 63 }
+{
+    let off = (UNIT as u128 * (bits as u128 - 1)).div_ceil(bits as u128);
+    let mut up = Up::new();
+    UNIT - power(off as u64, sets, &mut up)
+}
+
+// The upper end of the expected density after `sets` positions were turned on.
+pub(super) fn high_end(bits: usize, sets: u128) -> u64
+    requires { 0 < bits }
+    ensures value { result ≡ density_high bits sets }
+    ensures fits { result ≤ 2 ^ 63 }
+{
+    let off = UNIT as u128 * (bits as u128 - 1) / bits as u128;
+    let mut down = Down::new();
+    UNIT - power(off as u64, sets, &mut down)
+}
+
 /// The expected share of `bits` bits that is on after `items` items with `hashes` positions each.
 pub fn expected_density(hashes: u32, bits: usize, items: usize) -> Bracket
     requires { 0 < bits }
@@ -17,14 +39,7 @@ pub fn expected_density(hashes: u32, bits: usize, items: usize) -> Bracket
     ensures width_none { hashes * items ≡ 0 → width_of result ≡ 0 }
 {
     let sets = hashes as u128 * items as u128;
-    let bits = bits as u128;
-    let off = UNIT as u128 * (bits - 1);
-    let off_low = (off / bits) as u64;
-    let off_high = off.div_ceil(bits) as u64;
-    let (mut down, mut up) = (Down::new(), Up::new());
-    let kept_low = power(off_low, sets, &mut down);
-    let kept_high = power(off_high, sets, &mut up);
-    Bracket::new(UNIT - kept_high, UNIT - kept_low)
+    Bracket::new(low_end(bits, sets), high_end(bits, sets))
 }
 
 /// The chance that `hashes` positions, each of which is on with the chance `density`, are all on.

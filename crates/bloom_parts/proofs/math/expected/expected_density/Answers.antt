@@ -5,8 +5,8 @@ use Rattle.bloom_parts.proofs.math.expected.expected_density.Goals as goal
 -- the bounds of the density are ordered
 pub new-requires-clause-ordered : goal.new-requires-clause-ordered
 new-requires-clause-ordered c =
-    density-ordered c.args.bits _ c.requires (sets-fit _ _ (omega arith) (omega arith))
-    _ _ _ c.div_ceil-off_high.ensures c.power-kept_low.ensures.value c.power-kept_high.ensures.value
+    rw (c.low_end.ensures.value, c.high_end.ensures.value)
+    (density-ordered c.args.bits _ c.requires (sets-fit _ _ (omega arith) (omega arith)))
 
 -- the bracket of these bounds is the density's
 pub returns : goal.returns

@@ -1,7 +1,7 @@
 use Rattle.std.proofs.Common.{◌≡◌, ◌*◌, ◌≤◌}
 use Rattle.bloom_parts.specs.Content.{content}
-use Rattle.fastbloom_c.specs.Many.{count_on}
-use Rattle.fastbloom_c.proofs.whole.fastbloom_count_ones.Given as goal
+use Rattle.bloom_parts.specs.Counts.{count_on}
+use Rattle.bloom_parts.proofs.slices.count_ones.Given as goal
 
 -- the positions of the words so far were counted
 abbrev pub invariant-words : goal.invariant-words

@@ -1,13 +1,16 @@
 -- The positions of a word are counted by its digits.
-use Rattle.std.proofs.Common.{◌≡◌, ◌<◌, ◌≤◌, ◌+◌, ◌*◌, ◌%◌, ◌^◌, ℕ, Bool, true, false, zero, suc, eqb, if◌then◌else◌, List, get_or, count_ones, ◌∙◌, ap, arith}
+use Rattle.std.proofs.Common.{◌≡◌, ◌<◌, ◌≤◌, ◌+◌, ◌*◌, ◌%◌, ◌^◌, ℕ, Bool, true, false, zero, suc, eqb, if◌then◌else◌, List, length, get_or, count_ones, refl, ◌∙◌, ap, arith}
 use Rattle.std.specs.Int.{bit_at}
+use Rattle.std.specs.Int.Bits.{bit_or}
 use Rattle.std.specs.Int.Count.{ones_cat, ones_step}
+use Rattle.std.specs.Simd.Lanes.{zip2}
 use Rattle.std.proofs.lemmas.Nat.{mod-pow-add, pow_pos, ones_le_self}
 use Rattle.std.proofs.lemmas.Nat.Bits.{bit_at-lt}
+use Rattle.std.proofs.lemmas.Simd.{get_or-zip2}
 use Rattle.std.proofs.Math.Nat.{mod-lt, mod-eq_of_lt}
 use Rattle.bloom_parts.specs.Content.{content}
-use Rattle.bloom_parts.proofs.PublishedLemmas.{content-at}
-use Rattle.fastbloom_c.specs.Many.{count_on}
+use Rattle.bloom_parts.specs.Counts.{count_on}
+use Rattle.bloom_parts.proofs.WordLemmas.{content-at}
 
 -- no more positions are on than there are
 pub count-most : (A : ℕ → Bool) (n : ℕ) → count_on A n ≤ n
@@ -67,3 +70,27 @@ count-word words i fits =
     ap (count_on (content words)) next
     ∙ count-part words i 64 (omega arith)
     ∙ ap (λ n. count_on (content words) (64 * i) + count_ones n) (mod-eq_of_lt fits)
+
+-- sets that agree have as many members
+pub count-same : (A B : ℕ → Bool) → ((p : ℕ) → A p ≡ B p) → (n : ℕ) → count_on A n ≡ count_on B n
+unfolding count_on
+count-same A B same zero = refl
+count-same A B same (suc n) =
+    ap (λ m. m + (if A n then 1 else 0)) (count-same A B same n)
+    ∙ ap (λ b. count_on B n + (if b then 1 else 0)) (same n)
+
+-- the positions of the words of two lists, each with the other's bits
+abbrev pub count_merged : List ℕ → List ℕ → ℕ → ℕ
+count_merged words other i = count_on (content (zip2 bit_or words other)) (64 * i)
+
+-- one more word of both
+pub count_merged-next : (words other : List ℕ) (i : ℕ) → length words ≡ length other →
+    i < length words → bit_or (get_or words i 0) (get_or other i 0) < 2 ^ 64 →
+    count_merged words other (i + 1)
+    ≡ count_merged words other i + count_ones (bit_or (get_or words i 0) (get_or other i 0))
+count_merged-next words other i same within fits =
+    let merged = zip2 bit_or words other in
+    let word : get_or merged i 0 ≡ bit_or (get_or words i 0) (get_or other i 0) =
+    get_or-zip2 bit_or words other i 0 0 0 within (omega (arith, same, within)) in
+    count-word merged i (rw word fits)
+    ∙ ap (λ w. count_merged words other i + count_ones w) word

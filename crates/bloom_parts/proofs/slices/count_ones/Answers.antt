@@ -1,8 +1,8 @@
 use Rattle.std.proofs.Common.{◌+◌, ◌*◌, slice_index, count_ones, refl, sym, ◌∙◌, ap, arith}
 use Rattle.bloom_parts.specs.Content.{content}
-use Rattle.fastbloom_c.specs.Many.{count_on}
-use Rattle.fastbloom_c.proofs.CountLemmas.{count-most, count-word}
-use Rattle.fastbloom_c.proofs.whole.fastbloom_count_ones.Goals as goal
+use Rattle.bloom_parts.specs.Counts.{count_on}
+use Rattle.bloom_parts.proofs.CountLemmas.{count-most, count-word}
+use Rattle.bloom_parts.proofs.slices.count_ones.Goals as goal
 
 pub words-init : goal.words-init
 unfolding count_on

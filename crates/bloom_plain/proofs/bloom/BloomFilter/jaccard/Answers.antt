@@ -1,0 +1,17 @@
+use Rattle.bloom_plain.proofs.OnesLemmas.{same-estimate}
+use Rattle.bloom_plain.proofs.bloom.BloomFilter.jaccard.Goals as goal
+
+pub returns : goal.returns
+returns g c = record {
+  first = c.estimated_items-first.result;
+  second = c.estimated_items-second.result;
+  all = c.estimated_union-both.result;
+  common = c.estimated_common.result;
+  each = record {
+    of_first = c.estimated_items-first.ensures;
+    of_second = same-estimate c.requires c.estimated_items-second.ensures;
+    of_all = c.estimated_union-both.ensures;
+  };
+  is_common = c.estimated_common.ensures;
+  is_part = c.estimated_part.ensures;
+}
