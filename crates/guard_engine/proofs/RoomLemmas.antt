@@ -1,12 +1,12 @@
 -- When a filter has room for more keys: the size for them is one number alone.
-use Rattle.std.proofs.Common.{◌≡◌, ◌<◌, ◌≤◌, ◌*◌, ◌/◌, ◌^◌, ◌↔◌, ℕ, IsTrue, length, nat_lt, inl, inr, arith}
+use Rattle.std.proofs.Common.{◌≡◌, ◌<◌, ◌≤◌, ◌/◌, ◌^◌, ◌↔◌, ℕ, IsTrue, nat_lt, inl, inr, arith}
 use Rattle.std.proofs.lemmas.Bool.{lt-ltb, ltb-true}
 use Rattle.bloom_parts.specs.declared.math.rate.Rate.{Rate}
 use Rattle.bloom_parts.specs.Rates.{num_of, den_of}
 use Rattle.bloom_parts.specs.Sizing.{IsSizeFor, IsTooLarge, OneSizeLaw}
 use Rattle.bloom_plain.specs.Data.{DefaultFilter}
 use Rattle.bloom_plain.specs.Filter.{num_bits_of}
-use Rattle.guard_engine.specs.Room.{HasRoom, IsRoomy, ones_of}
+use Rattle.guard_engine.specs.Room.{HasRoom, ones_of}
 
 module _ (rate : Rate) (room : ℕ) (f : DefaultFilter) (one : OneSizeLaw) (some : ¬ (room ≡ 0)) where
   -- no filter has room for keys whose size is too large for one

@@ -4,7 +4,7 @@ use crate::command_line::{
     ABSENT, BITS, FILE, FILTER, HASHES, ITEMS, JSON, MOST_HASHES, RATE, WORKERS, ZERO, rate_of,
 };
 use crate::form::{Disk, load_named};
-use crate::key_files::{KeyFiles, STANDARD};
+use crate::key_files::{KeyFiles, called_inputs};
 use anyhow::{Context, anyhow};
 use clap::ArgMatches;
 use fastbloom::{BloomFilter, FilterError, Shape};
@@ -92,16 +92,13 @@ fn build_of<R: Files + Input + Print + AllocGlobal + Threads>(
     write(rt, matches, &filter)
 }
 
-// Standard input has the keys where no input is named.
+// Builds the filter of the keys of the inputs that the words name.
 fn run_build<R: Files + Input + Print + AllocGlobal + Threads>(
     rt: &R,
     matches: &ArgMatches,
 ) -> Result<(), Stop> {
-    match matches.get_strs(FILE) {
-        None => build_of(rt, matches, &[STANDARD]),
-        Some([]) => build_of(rt, matches, &[STANDARD]),
-        Some(names) => build_of(rt, matches, names),
-    }
+    let names = called_inputs(rt.alloc(), matches.get_strs(FILE).unwrap_or(&[]))?;
+    build_of(rt, matches, names.as_slice())
 }
 
 // The files with filters, of which none may have more hashes than the words allow.
@@ -157,16 +154,13 @@ fn ask_of<R: Files + Input + Print + AllocGlobal>(
     }
 }
 
-// The same: standard input where no input is named.
+// Asks a filter for the keys of the inputs that the words name.
 fn run_ask<R: Files + Input + Print + AllocGlobal>(
     rt: &R,
     matches: &ArgMatches,
 ) -> Result<(), Stop> {
-    match matches.get_strs(FILE) {
-        None => ask_of(rt, matches, &[STANDARD]),
-        Some([]) => ask_of(rt, matches, &[STANDARD]),
-        Some(names) => ask_of(rt, matches, names),
-    }
+    let names = called_inputs(rt.alloc(), matches.get_strs(FILE).unwrap_or(&[]))?;
+    ask_of(rt, matches, names.as_slice())
 }
 
 fn run_info<R: Files + Print + AllocGlobal>(rt: &R, matches: &ArgMatches) -> Result<(), Stop> {

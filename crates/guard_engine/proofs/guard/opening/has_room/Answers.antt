@@ -1,4 +1,4 @@
-use Rattle.std.proofs.Common.{◌≡◌, ◌<◌, ◌≤◌, ◌*◌, ◌^◌, length, arith}
+use Rattle.std.proofs.Common.{◌≡◌, ◌<◌, ◌≤◌, ◌^◌, arith}
 use Rattle.bloom_plain.specs.Filter.{num_bits_of}
 use Rattle.guard_engine.proofs.RoomLemmas.{no-room-large, no-room-narrow, room-half}
 use Rattle.guard_engine.proofs.guard.opening.has_room.Goals as goal
