@@ -7,7 +7,7 @@
  * as it says here.
  *
  * No words are no filter: each call that answers a bool answers false for them, and changes
- * nothing.
+ * nothing. Those that hand out two bounds set both to 0.
  *
  * The caller must keep these rules, which nothing checks:
  *  - pointers aren't NULL, but for one whose length is 0: the last part of this header puts another
@@ -165,6 +165,31 @@ bool fastbloom_equal(const uint64_t *words, size_t num_words, const uint64_t *ot
 /* The number of positions that are on, or 0 where num_words is more than 2^58 - 1. */
 size_t fastbloom_count_ones(const uint64_t *words, size_t num_words);
 
+/* Two bounds of the number of items: in a filter, in the union of two, which isn't made, and in
+ * common to both. It is the number of items at which as many positions are expected to be on; what
+ * two filters have in common is what both have together, less what their union has. Nothing is
+ * claimed of how far the number of items that were inserted may lie from it. high is SIZE_MAX where
+ * there is no upper bound, as where all positions are on.
+ *
+ * They answer true. Where num_words is more than 2^58 - 1, or the numbers of words differ, they
+ * answer false, and both bounds are 0. The caller sees to it that the numbers of hashes are equal,
+ * and the keys: otherwise the bounds mean nothing. */
+FASTBLOOM_MUST_USE bool fastbloom_estimate(const uint64_t *words, size_t num_words,
+                                           uint32_t num_hashes, size_t *low, size_t *high);
+FASTBLOOM_MUST_USE bool fastbloom_estimate_union(const uint64_t *words, size_t num_words,
+                                                 const uint64_t *other, size_t num_other,
+                                                 uint32_t num_hashes, size_t *low, size_t *high);
+FASTBLOOM_MUST_USE bool fastbloom_estimate_common(const uint64_t *words, size_t num_words,
+                                                  const uint64_t *other, size_t num_other,
+                                                  uint32_t num_hashes, size_t *low, size_t *high);
+
+/* Two bounds of the part of the items of two filters that both have, as fractions of 2^63: that of
+ * the items in common in those of the union, by the bounds of both. It answers as the calls above
+ * do. Where nothing is known of the part, as of two empty filters, the bounds are 0 and 2^63. */
+FASTBLOOM_MUST_USE bool fastbloom_jaccard(const uint64_t *words, size_t num_words,
+                                          const uint64_t *other, size_t num_other,
+                                          uint32_t num_hashes, uint64_t *low, uint64_t *high);
+
 /* A file is a head of 64 bytes and then the words. All numbers in it are little-endian. */
 
 /* The seal of the file of these words, whatever their number: SipHash-1-3 of the first 40 bytes of
@@ -295,6 +320,44 @@ static inline size_t fastbloom_count_ones_(const uint64_t *words, size_t num_wor
     return fastbloom_count_ones(fastbloom_read_words_(words, num_words), num_words);
 }
 
+FASTBLOOM_MUST_USE static inline bool fastbloom_estimate_(const uint64_t *words, size_t num_words,
+                                                          uint32_t num_hashes, size_t *low,
+                                                          size_t *high) {
+    return fastbloom_estimate(fastbloom_read_words_(words, num_words), num_words, num_hashes, low,
+                              high);
+}
+
+FASTBLOOM_MUST_USE static inline bool fastbloom_estimate_union_(const uint64_t *words,
+                                                                size_t num_words,
+                                                                const uint64_t *other,
+                                                                size_t num_other,
+                                                                uint32_t num_hashes, size_t *low,
+                                                                size_t *high) {
+    return fastbloom_estimate_union(fastbloom_read_words_(words, num_words), num_words,
+                                    fastbloom_read_words_(other, num_other), num_other, num_hashes,
+                                    low, high);
+}
+
+FASTBLOOM_MUST_USE static inline bool fastbloom_estimate_common_(const uint64_t *words,
+                                                                 size_t num_words,
+                                                                 const uint64_t *other,
+                                                                 size_t num_other,
+                                                                 uint32_t num_hashes, size_t *low,
+                                                                 size_t *high) {
+    return fastbloom_estimate_common(fastbloom_read_words_(words, num_words), num_words,
+                                     fastbloom_read_words_(other, num_other), num_other, num_hashes,
+                                     low, high);
+}
+
+FASTBLOOM_MUST_USE static inline bool fastbloom_jaccard_(const uint64_t *words, size_t num_words,
+                                                         const uint64_t *other, size_t num_other,
+                                                         uint32_t num_hashes, uint64_t *low,
+                                                         uint64_t *high) {
+    return fastbloom_jaccard(fastbloom_read_words_(words, num_words), num_words,
+                             fastbloom_read_words_(other, num_other), num_other, num_hashes, low,
+                             high);
+}
+
 static inline uint64_t fastbloom_seal_(const uint64_t *words, size_t num_words, uint32_t num_hashes,
                                        const uint8_t key[16]) {
     return fastbloom_seal(fastbloom_read_words_(words, num_words), num_words, num_hashes, key);
@@ -321,6 +384,10 @@ static inline void fastbloom_hasher_update_(fastbloom_hasher *hasher, const uint
 #define fastbloom_intersect fastbloom_intersect_
 #define fastbloom_equal fastbloom_equal_
 #define fastbloom_count_ones fastbloom_count_ones_
+#define fastbloom_estimate fastbloom_estimate_
+#define fastbloom_estimate_union fastbloom_estimate_union_
+#define fastbloom_estimate_common fastbloom_estimate_common_
+#define fastbloom_jaccard fastbloom_jaccard_
 #define fastbloom_seal fastbloom_seal_
 #define fastbloom_hash fastbloom_hash_
 #define fastbloom_hasher_update fastbloom_hasher_update_

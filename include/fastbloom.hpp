@@ -101,6 +101,12 @@ struct rate_bounds {
     std::uint64_t high;
 };
 
+// Two bounds of a number of items.
+struct item_bounds {
+    std::size_t low;
+    std::optional<std::size_t> high; // none where no number is too many
+};
+
 // Whether bit i of a bit set is on, as the calls on many hashes write it.
 inline bool bit_of(const std::uint64_t *bits, std::size_t i) noexcept {
     return (bits[i / 64] >> (i % 64) & 1) != 0;
@@ -365,6 +371,41 @@ public:
         return bounds;
     }
 
+    // Two bounds of the number of items: in the filter, in the union of both, which isn't made, and
+    // in common to both. It is the number at which as many bits are expected to be on. Nothing is
+    // claimed of how far the number of items that were inserted may lie from it. There are none
+    // where the shapes differ or there are no words.
+    std::optional<item_bounds> estimated_items() const noexcept {
+        return items([this](std::size_t &low, std::size_t &high) {
+            return fastbloom_estimate(words_, num_words_, num_hashes_, &low, &high);
+        });
+    }
+    std::optional<item_bounds> estimated_union(const filter &other) const noexcept {
+        if (!same_shape(other)) return std::nullopt;
+        return items([&](std::size_t &low, std::size_t &high) {
+            return fastbloom_estimate_union(words_, num_words_, other.words_, other.num_words_,
+                                            num_hashes_, &low, &high);
+        });
+    }
+    std::optional<item_bounds> estimated_common(const filter &other) const noexcept {
+        if (!same_shape(other)) return std::nullopt;
+        return items([&](std::size_t &low, std::size_t &high) {
+            return fastbloom_estimate_common(words_, num_words_, other.words_, other.num_words_,
+                                             num_hashes_, &low, &high);
+        });
+    }
+
+    // Two bounds of the part of the items of both filters that they have in common, as fractions of
+    // 2^63. There are none where the shapes differ or there are no words.
+    std::optional<rate_bounds> jaccard(const filter &other) const noexcept {
+        rate_bounds bounds{};
+        if (!same_shape(other) ||
+            !fastbloom_jaccard(words_, num_words_, other.words_, other.num_words_, num_hashes_,
+                               &bounds.low, &bounds.high))
+            return std::nullopt;
+        return bounds;
+    }
+
     // The words. In a file they are behind the head, as they are in memory.
     const std::uint64_t *data() const noexcept { return words_; }
 
@@ -379,6 +420,14 @@ public:
     }
 
 private:
+    // The bounds that a call of the library hands out, unless it answers false.
+    template <typename Call> static std::optional<item_bounds> items(Call call) noexcept {
+        std::size_t low = 0, high = 0;
+        if (!call(low, high)) return std::nullopt;
+        if (high == SIZE_MAX) return item_bounds{low, std::nullopt};
+        return item_bounds{low, high};
+    }
+
     std::uint64_t seal() const noexcept {
         return fastbloom_seal(words_, num_words_, num_hashes_, key_.data());
     }

@@ -344,6 +344,92 @@ static void counts(void) {
     CHECK(fastbloom_count_ones(words, (size_t)1 << 58) == 0);
 }
 
+/* Sets the first bits of zero words. */
+static void set_first(uint64_t *words, size_t num_words, size_t ones) {
+    memset(words, 0, 8 * num_words);
+    for (size_t p = 0; p < ones; p++) words[p / 64] |= (uint64_t)1 << p % 64;
+}
+
+/* How many items a filter has. Of 64 bits one is expected to be set after one hash, 1.98 after two,
+ * 2.95 after three, 3.91 after four, 5.77 after six. The rest are numbers of items by the formula
+ * ln(1 - ones / bits) / (hashes * ln(1 - 1 / bits)), rounded down, from Python's decimals. */
+static void estimates(void) {
+    static const struct {
+        uint32_t hashes;
+        size_t ones, low, high;
+    } by_hand[] = {{1, 0, 0, 0}, {1, 1, 1, 1}, {0, 1, 1, 1}, {2, 2, 1, 2},
+                   {3, 3, 1, 2}, {1, 3, 3, 4}, {1, 64, SIZE_MAX, SIZE_MAX}};
+    static const struct {
+        size_t words;
+        uint32_t hashes;
+        size_t ones, items;
+    } rows[] = {{1, 1, 31, 42},         {1, 3, 29, 12},        {2, 2, 5, 2},
+                {3, 5, 160, 68},        {16, 1, 688, 1140},    {16, 7, 997, 531},
+                {225, 10, 1328, 139},   {225, 1, 14022, 52415}, {1000, 4, 19094, 5668},
+                {1000, 30, 21284, 862}, {4096, 7, 167610, 38195}, {4096, 2, 58962, 33396}};
+    uint64_t *words = zero_words(4096);
+    size_t low, high;
+    for (size_t i = 0; i < sizeof by_hand / sizeof *by_hand; i++) {
+        set_first(words, 1, by_hand[i].ones);
+        low = 7, high = 9;
+        CHECK(fastbloom_estimate(words, 1, by_hand[i].hashes, &low, &high));
+        CHECK(low == by_hand[i].low && high == by_hand[i].high);
+        low = 7, high = 9;
+        CHECK(fastbloom_estimate_union(words, 1, words, 1, by_hand[i].hashes, &low, &high));
+        CHECK(low == by_hand[i].low && high == by_hand[i].high);
+    }
+    for (size_t i = 0; i < sizeof rows / sizeof *rows; i++) {
+        set_first(words, rows[i].words, rows[i].ones);
+        CHECK(fastbloom_estimate(words, rows[i].words, rows[i].hashes, &low, &high));
+        CHECK(low <= rows[i].items && rows[i].items < high && high - low <= 2);
+    }
+    low = 7, high = 9;
+    CHECK(!fastbloom_estimate(words, 0, 3, &low, &high) && low == 0 && high == 0);
+    low = 7, high = 9;
+    CHECK(!fastbloom_estimate(words, (size_t)1 << 58, 3, &low, &high) && low == 0 && high == 0);
+    free(words);
+}
+
+/* What two filters of one word and one hash have in common, by hand: two bits tell of two to three
+ * items, three of three to four, and none of nothing. */
+static void in_common(void) {
+    static const uint64_t unit = (uint64_t)1 << 63;
+    static const struct {
+        uint64_t first, second;
+        size_t union_low, union_high, low, high;
+        uint64_t part_low, part_high;
+    } rows[] = {{1, 1, 1, 1, 1, 1, unit, unit},         {1, 2, 2, 3, 0, 0, 0, 0},
+                {1, 0, 1, 1, 0, 0, 0, 0},               {0, 0, 0, 0, 0, 0, 0, unit},
+                {3, 6, 3, 4, 0, 3, 0, unit},            {7, 7, 3, 4, 2, 5, unit / 2, unit},
+                {1, 3, 2, 3, 0, 2, 0, unit},
+                {1, UINT64_MAX, SIZE_MAX, SIZE_MAX, 0, SIZE_MAX, 0, unit}};
+    size_t low, high;
+    uint64_t from, to;
+    for (size_t i = 0; i < sizeof rows / sizeof *rows; i++) {
+        const uint64_t *a = &rows[i].first, *b = &rows[i].second;
+        low = 7, high = 9, from = 11, to = 13;
+        CHECK(fastbloom_estimate_union(a, 1, b, 1, 1, &low, &high));
+        CHECK(low == rows[i].union_low && high == rows[i].union_high);
+        CHECK(fastbloom_estimate_common(a, 1, b, 1, 0, &low, &high));
+        CHECK(low == rows[i].low && high == rows[i].high);
+        CHECK(fastbloom_jaccard(a, 1, b, 1, 1, &from, &to));
+        CHECK(from == rows[i].part_low && to == rows[i].part_high);
+    }
+    uint64_t words[2] = {1, 1};
+    static const size_t sizes[][2] = {
+        {0, 0}, {0, 1}, {1, 0}, {1, 2}, {2, 1}, {(size_t)1 << 58, (size_t)1 << 58}};
+    for (size_t i = 0; i < sizeof sizes / sizeof *sizes; i++) {
+        size_t m = sizes[i][0], n = sizes[i][1];
+        low = 7, high = 9, from = 11, to = 13;
+        CHECK(!fastbloom_estimate_union(words, m, words, n, 1, &low, &high));
+        CHECK(low == 0 && high == 0);
+        low = 7, high = 9;
+        CHECK(!fastbloom_estimate_common(words, m, words, n, 1, &low, &high));
+        CHECK(low == 0 && high == 0);
+        CHECK(!fastbloom_jaccard(words, m, words, n, 1, &from, &to) && from == 0 && to == 0);
+    }
+}
+
 /* The file in lines of hexadecimal digits: one word and three hashes, of `crab` and `lobster`,
  * under the key bytes 0 to 15. */
 static void read_hex(const char *path, uint8_t bytes[72]) {
@@ -425,6 +511,8 @@ int main(int argc, char **argv) {
     many(5);
     many((size_t)1 << 19);
     counts();
+    estimates();
+    in_common();
     file(argv[2], argv[3]);
     printf("checks %u\n", checks);
     return 0;

@@ -136,6 +136,31 @@ static void counts() {
     CHECK(filter{}.count_ones() == 0 && filter{}.expected_rate(1).status() == status::empty_words);
 }
 
+// How many items filters have, by hand: of 64 bits one is expected to be set after one hash, 1.98
+// after two, 2.95 after three.
+static void estimates() {
+    auto one = filter::with_shape(1, 1), other = filter::with_shape(1, 1);
+    CHECK(one && other);
+    CHECK(one->estimated_items()->low == 0 && one->estimated_items()->high == 0u);
+    CHECK(one->jaccard(*other)->low == 0 && one->jaccard(*other)->high == std::uint64_t{1} << 63);
+    one->insert_hash(0);
+    CHECK(one->estimated_items()->low == 1 && one->estimated_items()->high == 1u);
+    CHECK(one->estimated_union(*one)->low == 1 && one->estimated_union(*one)->high == 1u);
+    CHECK(one->estimated_common(*one)->low == 1 && one->estimated_common(*one)->high == 1u);
+    CHECK(one->jaccard(*one)->low == std::uint64_t{1} << 63);
+    other->insert_hash(~std::uint64_t{0});
+    CHECK(one->estimated_union(*other)->low == 2 && one->estimated_union(*other)->high == 3u);
+    CHECK(one->estimated_common(*other)->low == 0 && one->estimated_common(*other)->high == 0u);
+    CHECK(one->jaccard(*other)->low == 0 && one->jaccard(*other)->high == 0);
+    for (std::uint64_t i = 0; i < 64; i++) other->insert_hash(i << 58);
+    CHECK(other->estimated_items() && !other->estimated_items()->high);
+    const auto longer = filter::with_shape(2, 1);
+    CHECK(!one->estimated_union(*longer) && !one->estimated_common(*longer));
+    CHECK(!one->jaccard(*longer) && !filter{}.jaccard(filter{}));
+    CHECK(!filter{}.estimated_items() && !filter{}.estimated_union(filter{}));
+    CHECK(!filter{}.estimated_common(filter{}));
+}
+
 static void sets(const filter &seen) {
     filter odd = empty(), even = empty(), other = empty(counting_key());
     for (int i = 0; i < 1000; i++) (i % 2 == 1 ? odd : even).insert(item(i));
@@ -253,6 +278,7 @@ int main(int argc, char **argv) {
     pieces();
     many();
     counts();
+    estimates();
     sets(seen);
     owners(seen);
     spans();

@@ -57,12 +57,14 @@ def sets(seen):
     for number, name in enumerate(NAMES[:1000]):
         (odd if number % 2 else even).add(name)
     assert odd | even == seen and (odd | even) & odd == odd and odd != even
+    assert odd.estimated_union(even) == seen.estimate() and odd.jaccard(odd)[1] == 1
     both = odd | even
     both |= both
     both &= both
     assert both == seen
     small, keyed = Filter(10, "1/1000"), Filter(1000, "1/1000", key=COUNTING_KEY)
     assert why_refused(lambda: odd | small) and why_refused(lambda: odd & keyed)
+    assert why_refused(odd.estimated_common, small) and why_refused(odd.jaccard, keyed)
     both.clear()
     assert both == Filter(1000, "1/1000") and NAMES[0] not in both
 

@@ -3,8 +3,9 @@
 import array
 import copy
 import pickle
+import random
 import unittest
-from decimal import Decimal
+from decimal import Decimal, localcontext
 from fractions import Fraction
 from unittest import mock
 
@@ -37,6 +38,29 @@ class Bytes(bytes):
 
     def __len__(self):
         return 10**12
+
+
+def of_words(words, hashes):
+    """The filter with these words and this many hashes, read from a file."""
+    file = bytearray(small().to_bytes(sealed=False)[:64])
+    file[8:24] = hashes.to_bytes(8, "little") + len(words).to_bytes(8, "little")
+    return Filter.from_bytes(file + b"".join(word.to_bytes(8, "little") for word in words))
+
+
+def drawn_words(draw, num_words):
+    """Words of which a drawn part of the bits is on, but not all."""
+    bits = [False] * (64 * num_words)
+    for place in draw.sample(range(len(bits)), draw.randrange(len(bits))):
+        bits[place] = True
+    return [sum(bits[64 * at + place] << place for place in range(64)) for at in range(num_words)]
+
+
+def items_of(words, hashes):
+    """The number of items at which as many bits are expected to be on, to fifty digits."""
+    bits, ones = 64 * len(words), sum(bin(word).count("1") for word in words)
+    with localcontext() as context:
+        context.prec = 50
+        return (1 - Decimal(ones) / bits).ln() / (hashes * (1 - Decimal(1) / bits).ln())
 
 
 class Items(unittest.TestCase):
@@ -211,6 +235,24 @@ class Sizes(unittest.TestCase):
         for items in (1.5, "10", None):
             self.assertRaises(TypeError, one.expected_rate, items)
 
+    def test_an_estimate_is_that_of_the_bits_that_are_on(self):
+        # Of 64 bits one is expected to be on after one hash, 1.98 after two, 2.95 after three.
+        for bits, hashes, wanted in ((0, 1, (0, 0)), (1, 1, (1, 1)), (3, 2, (1, 2)),
+                                     (7, 3, (1, 2)), (7, 1, (3, 4))):
+            self.assertEqual(of_words([bits], hashes).estimate(), wanted)
+        full = of_words([2**64 - 1], 1).estimate()
+        self.assertEqual((full.low, full.high), (2**64 - 1, None))
+
+    def test_an_estimate_holds_the_number_of_the_formula(self):
+        draw = random.Random(26)
+        for _ in range(12):
+            num_words, hashes = draw.choice((1, 2, 7, 225, 1000)), draw.randint(1, 30)
+            words = drawn_words(draw, num_words)
+            low, high = of_words(words, hashes).estimate()
+            self.assertLessEqual(low, items_of(words, hashes))
+            self.assertLessEqual(items_of(words, hashes), high)
+            self.assertLessEqual(high - low, 2)
+
     def test_the_text_of_a_filter_hides_its_key(self):
         self.assertEqual(repr(small()), "<Filter: 14400 bits, 10 hashes, the zero key>")
         self.assertEqual(repr(small(key=COUNTING_KEY)), "<Filter: 14400 bits, 10 hashes, a key>")
@@ -242,11 +284,52 @@ class Sets(unittest.TestCase):
         odd &= odd
         self.assertEqual(odd, even)
 
+    def test_what_two_have_in_common_by_hand(self):
+        one, two, three = of_words([1], 1), of_words([2], 1), of_words([7], 1)
+        self.assertEqual(one.estimated_union(one), (1, 1))
+        self.assertEqual(one.estimated_common(one), (1, 1))
+        self.assertEqual(one.jaccard(one), (1, 1))
+        self.assertEqual(one.estimated_union(two), (2, 3))
+        self.assertEqual(one.estimated_common(two), (0, 0))
+        self.assertEqual(one.jaccard(two), (0, 0))
+        # three to four items each, and in the union: two to five in common, of three to four
+        self.assertEqual(three.estimated_common(of_words([7], 1)), (2, 5))
+        self.assertEqual(three.jaccard(of_words([7], 1)), (Fraction(1, 2), 1))
+        self.assertEqual(small().jaccard(small()), (0, 1))
+        full = of_words([2**64 - 1], 1)
+        self.assertIsNone(one.estimated_union(full).high)
+        self.assertEqual(one.estimated_common(full), (0, None))
+
+    def test_what_two_have_in_common_by_the_formula(self):
+        draw = random.Random(27)
+        for _ in range(12):
+            num_words, hashes = draw.choice((2, 7, 225)), draw.randint(1, 12)
+            first, second = drawn_words(draw, num_words), drawn_words(draw, num_words)
+            both = [one | other for one, other in zip(first, second)]
+            if all(word == 2**64 - 1 for word in both):
+                continue
+            seen, other = of_words(first, hashes), of_words(second, hashes)
+            self.assertEqual(seen.estimated_union(other), of_words(both, hashes).estimate())
+            all_items = Fraction(items_of(both, hashes))
+            common = Fraction(items_of(first, hashes)) + Fraction(items_of(second, hashes))
+            common = max(common - all_items, Fraction(0))
+            low, high = seen.estimated_common(other)
+            self.assertLessEqual(low, common)
+            self.assertLessEqual(common, high)
+            self.assertLessEqual(high - low, 6)
+            low, high = seen.jaccard(other)
+            self.assertLessEqual(low, common / all_items)
+            self.assertLessEqual(common / all_items, high)
+
     def test_other_filters_are_refused(self):
         for other, name in ((Filter(10, "1/1000"), "num_words"),
                             (small(key=COUNTING_KEY), "key"), (self.other_hashes(), "num_hashes")):
             before = self.odd.copy()
             for call in ("__or__", "__and__", "__ior__", "__iand__"):
+                with self.assertRaises(ValueError) as told:
+                    getattr(self.odd, call)(other)
+                self.assertEqual(str(told.exception), f"the filters differ in {name}")
+            for call in ("estimated_union", "estimated_common", "jaccard"):
                 with self.assertRaises(ValueError) as told:
                     getattr(self.odd, call)(other)
                 self.assertEqual(str(told.exception), f"the filters differ in {name}")
@@ -264,6 +347,8 @@ class Sets(unittest.TestCase):
                 self.odd | other
             with self.assertRaises(TypeError):
                 self.odd &= other
+            for call in ("estimated_union", "estimated_common", "jaccard"):
+                self.assertRaises(TypeError, getattr(self.odd, call), other)
             self.assertNotEqual(self.odd, other)
 
     def test_clearing(self):

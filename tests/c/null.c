@@ -18,7 +18,8 @@ int main(void) {
     /* Rust's own SipHash-1-3 of no bytes, under the key of zeros. */
     const uint64_t hash_of_nothing = UINT64_C(15130871412783076140);
     const uint8_t key[16] = {0};
-    uint64_t word = 0;
+    uint64_t word = 0, from, to;
+    size_t low, high;
     fastbloom_hasher hasher;
     fastbloom_hasher_init(&hasher, key);
     fastbloom_hasher_update(&hasher, NULL, 0);
@@ -37,6 +38,10 @@ int main(void) {
     wants("intersect", 0, fastbloom_intersect(NULL, 0, NULL, 0));
     wants("equal", 0, fastbloom_equal(NULL, 0, NULL, 0));
     wants("count_ones", 0, fastbloom_count_ones(NULL, 0));
+    wants("estimate", 0, fastbloom_estimate(NULL, 0, 1, &low, &high));
+    wants("estimate_union", 0, fastbloom_estimate_union(NULL, 0, NULL, 0, 1, &low, &high));
+    wants("estimate_common", 0, fastbloom_estimate_common(NULL, 0, NULL, 0, 1, &low, &high));
+    wants("jaccard", 0, fastbloom_jaccard(NULL, 0, NULL, 0, 1, &from, &to));
     wants("seal", fastbloom_seal(&word, 0, 1, key), fastbloom_seal(NULL, 0, 1, key));
     /* no hashes and no bytes, of a filter with a word */
     wants("insert_hashes", 1, fastbloom_insert_hashes(&word, 1, 1, NULL, 0));

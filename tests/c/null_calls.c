@@ -134,6 +134,45 @@ size_t fastbloom_count_ones(const uint64_t *words, size_t num_words) {
     return 0;
 }
 
+bool fastbloom_estimate(const uint64_t *words, size_t num_words, uint32_t num_hashes, size_t *low,
+                        size_t *high) {
+    (void)num_words, (void)num_hashes;
+    some("words", words);
+    some("low", low);
+    some("high", high);
+    return false;
+}
+
+bool fastbloom_estimate_union(const uint64_t *words, size_t num_words, const uint64_t *other,
+                              size_t num_other, uint32_t num_hashes, size_t *low, size_t *high) {
+    (void)num_words, (void)num_other, (void)num_hashes;
+    some("words", words);
+    some("other", other);
+    some("low", low);
+    some("high", high);
+    return false;
+}
+
+bool fastbloom_estimate_common(const uint64_t *words, size_t num_words, const uint64_t *other,
+                               size_t num_other, uint32_t num_hashes, size_t *low, size_t *high) {
+    (void)num_words, (void)num_other, (void)num_hashes;
+    some("words", words);
+    some("other", other);
+    some("low", low);
+    some("high", high);
+    return false;
+}
+
+bool fastbloom_jaccard(const uint64_t *words, size_t num_words, const uint64_t *other,
+                       size_t num_other, uint32_t num_hashes, uint64_t *low, uint64_t *high) {
+    (void)num_words, (void)num_other, (void)num_hashes;
+    some("words", words);
+    some("other", other);
+    some("low", low);
+    some("high", high);
+    return false;
+}
+
 uint64_t fastbloom_seal(const uint64_t *words, size_t num_words, uint32_t num_hashes,
                         const uint8_t key[16]) {
     (void)num_words, (void)num_hashes;

@@ -1,4 +1,6 @@
 mod BitLemmas
+mod EstimateFacts
+mod EstimateLemmas
 mod FileFacts
 mod ManyFacts
 mod ManyLemmas

@@ -1,6 +1,6 @@
 -- What bit sets tell of hashes: cases that hold, and cases that differ from one of these in one
 -- thing and don't hold. Hash 0 has place 0 of 64.
-use Rattle.std.proofs.Common.{◌≡◌, ◌&&◌, ℕ, Bool, true, false, not, [], ◌∷◌, ◌^◌, nat_lt, slice_index, refl, sym, ◌∙◌, ap, arith, lit<}
+use Rattle.std.proofs.Common.{◌≡◌, ◌&&◌, ℕ, Bool, true, false, not, [], ◌∷◌, nat_lt, slice_index, refl, sym, ◌∙◌, ap, arith, lit<}
 use Rattle.std.proofs.lemmas.Bool.{both_ways, le-ltb}
 use Rattle.bloom_parts.specs.Chain.{chain}
 use Rattle.bloom_parts.specs.Content.{content}

@@ -1,3 +1,4 @@
+pub mod Estimates
 pub mod Files
 pub mod Many
 pub mod Plans

@@ -49,6 +49,7 @@ fn sets(seen: &BloomFilter) -> Result<(), Error> {
         half.insert(&format!("item{number}"));
     }
     assert!(odd != even);
+    assert_eq!(odd.estimated_union(&even)?, seen.estimated_items());
     even.union(&odd)?;
     assert!(even == *seen);
     even.intersect(&odd)?;
@@ -58,6 +59,7 @@ fn sets(seen: &BloomFilter) -> Result<(), Error> {
     let mut other = keyed.hashes(empty.num_hashes());
     assert_eq!(other.union(&odd), Err(Error::OtherShape));
     assert_eq!(other.intersect(&odd), Err(Error::OtherShape));
+    assert_eq!(other.jaccard(&odd), Err(Error::OtherShape));
     assert!(other != empty && other.count_ones() == 0);
     even.clear();
     assert!(even == empty && !even.contains("item1"));

@@ -11,7 +11,7 @@ filter at once. The work is done by the shared library fastbloom_c; importing th
 ImportError where that isn't found.
 """
 
-from ._filter import Filter, Refusal
+from ._filter import Estimate, Filter, Refusal
 
 __version__ = "0.17.0"
-__all__ = ["Filter", "Refusal", "__version__"]
+__all__ = ["Estimate", "Filter", "Refusal", "__version__"]

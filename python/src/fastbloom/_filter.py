@@ -12,7 +12,8 @@ import threading
 from decimal import Decimal
 from fractions import Fraction
 from numbers import Real
-from typing import TYPE_CHECKING, Any, Callable, Iterable, List, Optional, Tuple, Type, Union
+from typing import (
+    TYPE_CHECKING, Any, Callable, Iterable, List, NamedTuple, Optional, Tuple, Type, Union)
 
 from . import _library as library
 from ._locks import alone, alone_with, new_lock
@@ -52,6 +53,13 @@ class Refusal(ValueError):
 
     def __str__(self) -> str:
         return _REASONS[self.code]
+
+
+class Estimate(NamedTuple):
+    """Two bounds of a number of items. `high` is None where no number is too many."""
+
+    low: int
+    high: Optional[int]
 
 
 def _check(code: int) -> None:
@@ -101,6 +109,11 @@ def _parts(rate: Rate) -> Tuple[int, int]:
     if not 0 <= fraction.numerator < 2**64 or fraction.denominator >= 2**64:
         raise ValueError("the parts of a rate are from 0 to 2^64 - 1")
     return fraction.numerator, fraction.denominator
+
+
+def _estimate(low: ctypes.c_size_t, high: ctypes.c_size_t) -> Estimate:
+    """The two bounds that a call wrote. The greatest number stands for no upper bound."""
+    return Estimate(low.value, None if high.value == 2**64 - 1 else high.value)
 
 
 def _read_head(head: bytes) -> Tuple[int, int, bytes, int]:
@@ -308,19 +321,71 @@ class Filter:
         _check(library.expected_rate(self._num_words, self._num_hashes, items, low, high))
         return Fraction(low.value, 2**63), Fraction(high.value, 2**63)
 
+    @alone
+    def estimate(self) -> Estimate:
+        """Two bounds of the number of items in it. The upper one is None where all bits are on.
+
+        It is the number of items at which as many bits are expected to be on. Nothing is claimed of
+        how far the number of items that were added may lie from it. The bounds are proved.
+        """
+        low, high = ctypes.c_size_t(), ctypes.c_size_t()
+        library.estimate(self._at, self._num_words, self._num_hashes, low, high)
+        return _estimate(low, high)
+
     # Two filters
 
     @alone_with
-    def _with(self, other: Filter, call: Callable[..., bool]) -> bool:
-        return call(self._at, self._num_words, other._at, other._num_words)
+    def _with(self, other: Filter, call: Callable[..., bool], *more: Any) -> bool:
+        return call(self._at, self._num_words, other._at, other._num_words, *more)
 
-    def _change(self, other: Filter, call: Callable[..., bool]) -> None:
-        """Changes this filter by another one. Where they don't fit, it raises ValueError."""
+    def _check_shape(self, other: Filter) -> None:
+        """Raises ValueError where another filter doesn't fit."""
         for name in ("num_words", "num_hashes", "key"):
             if getattr(self, name) != getattr(other, name):
                 raise ValueError(f"the filters differ in {name}")
+
+    def _change(self, other: Filter, call: Callable[..., bool]) -> None:
+        """Changes this filter by another one. Where they don't fit, it raises ValueError."""
+        self._check_shape(other)
         if other is not self:  # the library asks for words that lie apart
             self._with(other, call)
+
+    def _ask_both(self, other: Filter, call: Callable[..., bool], low: Any, high: Any) -> None:
+        """Has a call write two bounds for this filter and another one."""
+        if not isinstance(other, Filter):
+            raise TypeError(f"the other is a Filter, not {type(other).__name__}")
+        self._check_shape(other)
+        self._with(other, call, self._num_hashes, low, high)
+
+    def estimated_union(self, other: Filter) -> Estimate:
+        """Two bounds of the number of items in the union, which isn't made: as `estimate`.
+
+        A filter of another size, number of hashes or key raises ValueError, and what is no filter
+        TypeError.
+        """
+        low, high = ctypes.c_size_t(), ctypes.c_size_t()
+        self._ask_both(other, library.estimate_union, low, high)
+        return _estimate(low, high)
+
+    def estimated_common(self, other: Filter) -> Estimate:
+        """Two bounds of the number of items that both have in common.
+
+        It is what both have together, less what their union has, each as `estimate` tells it. The
+        upper bound is None where one of the two has none. It raises as `estimated_union`.
+        """
+        low, high = ctypes.c_size_t(), ctypes.c_size_t()
+        self._ask_both(other, library.estimate_common, low, high)
+        return _estimate(low, high)
+
+    def jaccard(self, other: Filter) -> Tuple[Fraction, Fraction]:
+        """Two bounds of the part of all items of both that they have in common, from 0 to 1.
+
+        It is the part of `estimated_common` in `estimated_union`. The bounds are fractions of 2^63:
+        0 and 1 where nothing is known, as of two empty filters. It raises as `estimated_union`.
+        """
+        low, high = ctypes.c_uint64(), ctypes.c_uint64()
+        self._ask_both(other, library.jaccard, low, high)
+        return Fraction(low.value, 2**63), Fraction(high.value, 2**63)
 
     def __ior__(self, other: Filter) -> Self:
         """Takes in what the other contains.

@@ -74,6 +74,14 @@ equal: Callable[..., bool] = _call("equal", _BOOL, _WORDS, _SIZE, _WORDS, _SIZE)
 count_ones: Callable[..., int] = _call("count_ones", _SIZE, _WORDS, _SIZE)
 expected_rate: Callable[..., int] = _call(
     "expected_rate", _CODE, _SIZE, _HASHES, _SIZE, _MANY, _MANY)
+estimate: Callable[..., bool] = _call(
+    "estimate", _BOOL, _WORDS, _SIZE, _HASHES, _TO_SIZE, _TO_SIZE)
+estimate_union: Callable[..., bool] = _call(
+    "estimate_union", _BOOL, _WORDS, _SIZE, _WORDS, _SIZE, _HASHES, _TO_SIZE, _TO_SIZE)
+estimate_common: Callable[..., bool] = _call(
+    "estimate_common", _BOOL, _WORDS, _SIZE, _WORDS, _SIZE, _HASHES, _TO_SIZE, _TO_SIZE)
+jaccard: Callable[..., bool] = _call(
+    "jaccard", _BOOL, _WORDS, _SIZE, _WORDS, _SIZE, _HASHES, _MANY, _MANY)
 head_write: Callable[..., int] = _call("head_write", _CODE, _SIZE, _HASHES, _BYTES, _HASH, _WORDS)
 head_read: Callable[..., int] = _call(
     "head_read", _CODE, _BYTES, _TO_SIZE, _TO_HASHES, _BYTES, _MANY)

@@ -217,6 +217,57 @@ extern "C" {
     /// The number of positions that are on, or 0 where `num_words` is more than 2^58 - 1.
     pub fn fastbloom_count_ones(words: *const u64, num_words: usize) -> usize;
 
+    /// Two bounds of the number of items at which as many positions are expected to be on, and
+    /// true. `high` is `usize::MAX` where there is no upper bound. For no words, and for more than
+    /// 2^58 - 1, it answers false, and both bounds are 0.
+    #[must_use]
+    pub fn fastbloom_estimate(
+        words: *const u64,
+        num_words: usize,
+        num_hashes: u32,
+        low: *mut usize,
+        high: *mut usize,
+    ) -> bool;
+
+    /// As [`fastbloom_estimate`], of the union of two filters. Where the numbers of words differ,
+    /// it answers false too.
+    #[must_use]
+    pub fn fastbloom_estimate_union(
+        words: *const u64,
+        num_words: usize,
+        other: *const u64,
+        num_other: usize,
+        num_hashes: u32,
+        low: *mut usize,
+        high: *mut usize,
+    ) -> bool;
+
+    /// As [`fastbloom_estimate`], of what two filters have in common. Where the numbers of words
+    /// differ, it answers false too.
+    #[must_use]
+    pub fn fastbloom_estimate_common(
+        words: *const u64,
+        num_words: usize,
+        other: *const u64,
+        num_other: usize,
+        num_hashes: u32,
+        low: *mut usize,
+        high: *mut usize,
+    ) -> bool;
+
+    /// Two bounds of the part of the items of two filters that both have, as fractions of 2^63. It
+    /// answers as [`fastbloom_estimate_common`].
+    #[must_use]
+    pub fn fastbloom_jaccard(
+        words: *const u64,
+        num_words: usize,
+        other: *const u64,
+        num_other: usize,
+        num_hashes: u32,
+        low: *mut u64,
+        high: *mut u64,
+    ) -> bool;
+
     /// The seal of the file of these words.
     pub fn fastbloom_seal(
         words: *const u64,

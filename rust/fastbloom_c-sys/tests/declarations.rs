@@ -185,12 +185,14 @@ macro_rules! linked {
 #[test]
 fn the_library_has_each_symbol() {
     let linked = linked! {
-        fastbloom_clear fastbloom_contains fastbloom_contains_hash fastbloom_contains_hashes
-        fastbloom_count_ones fastbloom_equal fastbloom_expected_rate fastbloom_hash
-        fastbloom_hasher_finish fastbloom_hasher_init fastbloom_hasher_update
-        fastbloom_head_read fastbloom_head_write fastbloom_insert fastbloom_insert_hash
-        fastbloom_insert_hashes fastbloom_insert_hashes_tell_new fastbloom_intersect
-        fastbloom_num_bits fastbloom_plan fastbloom_seal fastbloom_union
+        fastbloom_clear fastbloom_contains fastbloom_contains_hash
+        fastbloom_contains_hashes fastbloom_count_ones fastbloom_equal fastbloom_estimate
+        fastbloom_estimate_common fastbloom_estimate_union fastbloom_expected_rate
+        fastbloom_hash fastbloom_hasher_finish fastbloom_hasher_init
+        fastbloom_hasher_update fastbloom_head_read fastbloom_head_write fastbloom_insert
+        fastbloom_insert_hash fastbloom_insert_hashes fastbloom_insert_hashes_tell_new
+        fastbloom_intersect fastbloom_jaccard fastbloom_num_bits fastbloom_plan
+        fastbloom_seal fastbloom_union
     };
     assert_eq!(
         linked.map(|(name, _)| name).as_slice(),

@@ -55,6 +55,7 @@
 mod bloom;
 mod builder;
 mod error;
+mod estimates;
 mod file;
 mod many;
 mod pieces;
@@ -65,5 +66,6 @@ mod raw;
 pub use bloom::{hash, BloomFilter};
 pub use builder::{BuilderWithBits, BuilderWithFalsePositiveRate};
 pub use error::Error;
+pub use estimates::Estimate;
 pub use pieces::Hasher;
 pub use rate::{Bracket, Rate};

@@ -52,7 +52,7 @@ impl PartialEq for Rate {
 
 impl Eq for Rate {}
 
-/// Two bounds of a rate, in units of 2^-63.
+/// Two bounds of a rate, or of a part, in units of 2^-63.
 ///
 /// ```
 /// use fastbloom_c::BloomFilter;

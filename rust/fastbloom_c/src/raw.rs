@@ -246,6 +246,75 @@ pub fn count_ones(words: &[u64]) -> usize {
     unsafe { sys::fastbloom_count_ones(words.as_ptr(), words.len()) }
 }
 
+/// Two bounds of the number of items. The greatest number stands for no upper bound. None: there
+/// are no words.
+pub fn estimate(words: &[u64], num_hashes: u32) -> Option<(usize, usize)> {
+    let (mut low, mut high) = (0, 0);
+    // SAFETY: the words are a slice of this length, which the call reads. The other pointers are to
+    // two locals of the type that it writes.
+    let told = unsafe {
+        sys::fastbloom_estimate(words.as_ptr(), words.len(), num_hashes, &mut low, &mut high)
+    };
+    told.then_some((low, high))
+}
+
+/// Two bounds of the number of items in the union. None: the numbers of words differ.
+pub fn estimate_union(words: &[u64], other: &[u64], num_hashes: u32) -> Option<(usize, usize)> {
+    let (mut low, mut high) = (0, 0);
+    // SAFETY: both are slices of their lengths, which the call reads. The other pointers are to two
+    // locals of the type that it writes.
+    let told = unsafe {
+        sys::fastbloom_estimate_union(
+            words.as_ptr(),
+            words.len(),
+            other.as_ptr(),
+            other.len(),
+            num_hashes,
+            &mut low,
+            &mut high,
+        )
+    };
+    told.then_some((low, high))
+}
+
+/// Two bounds of the number of items in common. None: the numbers of words differ.
+pub fn estimate_common(words: &[u64], other: &[u64], num_hashes: u32) -> Option<(usize, usize)> {
+    let (mut low, mut high) = (0, 0);
+    // SAFETY: both are slices of their lengths, which the call reads. The other pointers are to two
+    // locals of the type that it writes.
+    let told = unsafe {
+        sys::fastbloom_estimate_common(
+            words.as_ptr(),
+            words.len(),
+            other.as_ptr(),
+            other.len(),
+            num_hashes,
+            &mut low,
+            &mut high,
+        )
+    };
+    told.then_some((low, high))
+}
+
+/// Two bounds of the part in common, in units of 2^-63. None: the numbers of words differ.
+pub fn jaccard(words: &[u64], other: &[u64], num_hashes: u32) -> Option<(u64, u64)> {
+    let (mut low, mut high) = (0, 0);
+    // SAFETY: both are slices of their lengths, which the call reads. The other pointers are to two
+    // locals of the type that it writes.
+    let told = unsafe {
+        sys::fastbloom_jaccard(
+            words.as_ptr(),
+            words.len(),
+            other.as_ptr(),
+            other.len(),
+            num_hashes,
+            &mut low,
+            &mut high,
+        )
+    };
+    told.then_some((low, high))
+}
+
 /// The seal of the file of these words.
 pub fn seal(words: &[u64], num_hashes: u32, key: &Key) -> u64 {
     // SAFETY: the key has sixteen bytes, and the words are a slice of this length.

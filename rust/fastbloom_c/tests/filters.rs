@@ -244,6 +244,9 @@ fn filters_of_other_shapes_are_refused_and_unequal() {
         assert_eq!(changed.union(&other), Err(Error::OtherShape));
         assert_eq!(changed.intersect(&other), Err(Error::OtherShape));
         assert_eq!(changed.as_slice(), [5, 0]);
+        assert_eq!(seen.estimated_union(&other), Err(Error::OtherShape));
+        assert_eq!(seen.estimated_common(&other), Err(Error::OtherShape));
+        assert_eq!(seen.jaccard(&other), Err(Error::OtherShape));
         assert!(!seen.same_shape(&other));
         assert_ne!(seen, other);
     }
@@ -281,6 +284,49 @@ fn the_rate_to_expect() {
         filter_of(&[0], 1).expected_false_pos(2).to_f64(),
         127.0 / 4096.0
     );
+}
+
+/// Of 64 bits one is expected to be set after one hash, 1.98 after two, 2.95 after three.
+#[test]
+fn how_many_items_are_in_a_filter() {
+    let bounds = |words: &[u64], hashes| {
+        let estimate = filter_of(words, hashes).estimated_items();
+        (estimate.low(), estimate.high())
+    };
+    assert_eq!(bounds(&[0], 1), (0, Some(0)));
+    assert_eq!(bounds(&[1], 1), (1, Some(1)));
+    assert_eq!(bounds(&[3], 2), (1, Some(2)));
+    assert_eq!(bounds(&[7], 3), (1, Some(2)));
+    assert_eq!(bounds(&[7], 1), (3, Some(4)));
+    assert_eq!(bounds(&[u64::MAX], 1), (usize::MAX, None));
+    // 52,415.466 items by the formula, from Python's decimals: 14,022 of 14,400 bits are set
+    let words: Vec<_> = (0..225)
+        .map(|at| u64::MAX >> (6 * u64::from(at < 63)))
+        .collect();
+    let (low, high) = bounds(&words, 1);
+    let high = high.expect("a bound");
+    assert!(low <= 52_415 && 52_416 <= high && high - low <= 2);
+}
+
+#[test]
+fn what_two_filters_have_in_common() {
+    const UNIT: u64 = 1 << 63;
+    let rows = [
+        (1, 1, (1, Some(1)), (1, Some(1)), (UNIT, UNIT)),
+        (1, 2, (2, Some(3)), (0, Some(0)), (0, 0)),
+        (0, 0, (0, Some(0)), (0, Some(0)), (0, UNIT)),
+        (7, 7, (3, Some(4)), (2, Some(5)), (UNIT / 2, UNIT)),
+        (1, u64::MAX, (usize::MAX, None), (0, None), (0, UNIT)),
+    ];
+    for (first, second, union, common, part) in rows {
+        let (first, second) = (filter_of(&[first], 1), filter_of(&[second], 1));
+        let told = first.estimated_union(&second).expect("one shape");
+        assert_eq!((told.low(), told.high()), union);
+        let told = first.estimated_common(&second).expect("one shape");
+        assert_eq!((told.low(), told.high()), common);
+        let told = first.jaccard(&second).expect("one shape");
+        assert_eq!((told.low(), told.high()), part);
+    }
 }
 
 /// Hashes that are spread, by a linear congruence of Knuth's.
