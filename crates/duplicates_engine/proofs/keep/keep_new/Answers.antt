@@ -1,5 +1,5 @@
 use Rattle.duplicates_engine.proofs.ChoiceLemmas.{choice-flushed, until-flushed-choice, writes-until}
-use Rattle.duplicates_engine.proofs.FlushLemmas.{all-flushed, until-flushed, broken}
+use Rattle.duplicates_engine.proofs.FlushLemmas.{broken}
 use Rattle.duplicates_engine.proofs.keep.keep_new.Goals as goal
 
 pub returns-in-Err-clause-fault : goal.returns-in-Err-clause-fault
