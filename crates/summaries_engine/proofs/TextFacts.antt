@@ -1,14 +1,8 @@
 -- What is told of a filter: values from outside.
-use Rattle.std.proofs.Common.{◌≡◌, [], ◌∷◌, codes, refl}
-use lib.Count.{ones}
+use Rattle.std.proofs.Common.{◌≡◌, codes, refl}
 use Rattle.std.specs.Fmt.{char_count, digits, padded_integral}
 use Rattle.summaries_engine.specs.declared.form.Form.TheVariants.{Sealed, Unsealed, Json}
-use Rattle.summaries_engine.specs.Facts.{bytes_text, form_text, key_text, ones_of, set_text, share_of}
-
--- two bits of one word are set, and one of another
-ones-two : ones_of (5 ∷ 2 ∷ []) ≡ 3
-unfolding ones
-ones-two = refl
+use Rattle.summaries_engine.specs.Facts.{bytes_text, form_text, key_text, set_text, share_of}
 
 -- what the forms are called
 forms : (form_text Sealed ≡ codes "file, sealed") × (form_text Unsealed ≡ codes "file, no seal")

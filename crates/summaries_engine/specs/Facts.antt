@@ -1,17 +1,13 @@
 -- What is told of a filter, in lines of text. The text is this project's own.
-use Rattle.std.specs.Prelude.{ℕ, ◌+◌, ◌-◌, ◌*◌, ◌/◌, ◌%◌, ◌^◌, false, codes, decimal, count_ones, List, [], ◌++◌}
+use Rattle.std.specs.Prelude.{ℕ, ◌+◌, ◌-◌, ◌*◌, ◌/◌, ◌%◌, ◌^◌, false, codes, decimal, List, [], ◌++◌}
 use Rattle.std.specs.Fmt.{digits, format_spec, padded_integral, styled_decimal}
 use Rattle.std.specs.Int.{w64, swap_bytes}
-use Rattle.std.specs.List.{sum_by}
 use Rattle.bloom_parts.specs.Keys.{key_of}
 use Rattle.fastbloom.specs.Data.{DefaultFilter}
 use Rattle.fastbloom.specs.Filter.{num_bits_of}
+use Rattle.fastbloom.specs.Ones.{ones_of}
 use Rattle.summaries_engine.specs.declared.form.Form.{Form}
 use Rattle.summaries_engine.specs.declared.form.Form.TheVariants.{Sealed, Unsealed, Json}
-
--- how many bits of words are set
-abbrev pub ones_of : List ℕ → ℕ
-ones_of words = sum_by count_ones words
 
 -- what a form is called
 abbrev pub form_text : Form → List ℕ
@@ -46,4 +42,4 @@ facts_text f form =
     ++ (codes "\nbits: " ++ (decimal (num_bits_of f)
     ++ (codes "\nhashes: " ++ (decimal f.hashes
     ++ (codes "\n" ++ (key_text (key_of f.hasher).0 (key_of f.hasher).1
-    ++ set_text (ones_of f.words) (share_of (ones_of f.words) (num_bits_of f)))))))))
+    ++ set_text (ones_of f) (share_of (ones_of f) (num_bits_of f)))))))))
