@@ -1,9 +1,9 @@
 //! What is told of a filter.
 ghost use Rattle.std.specs.Prelude.{◌≡◌, ◌≤◌, ◌<◌, IfOk, string_bytes};
-ghost use Rattle.summaries_engine.specs.Facts.{facts_text, form_text, key_text, set_text, share_of};
+ghost use Rattle.summaries_engine.specs.Facts.{TellsFilter, facts_text, form_text, items_text, key_text, set_text, share_of};
 
 use crate::form::Form;
-use fastbloom::BloomFilter;
+use fastbloom::{BloomFilter, Estimate};
 use std::alloc::{AllocError, Global};
 
 // What a form is called.
@@ -43,19 +43,46 @@ fn set_line(alloc: Global, ones: usize, share: u64) -> Result<String, AllocError
     format!(in alloc; "bits set: {ones} ({whole}.{part:02} %)\n")
 }
 
-/// Lines that tell a filter's form, its numbers of bits and of hashes, the sixteen bytes of its
-/// key, and how many bits are set, with their share in percent.
+/// The bounds of a number of items.
 ///
 /// # Errors
 /// Out of memory.
-pub fn facts_of(alloc: Global, filter: &BloomFilter, form: Form) -> Result<String, AllocError>
-    ensures { IfOk result (λ text. string_bytes text ≡ facts_text filter.now form) }
+pub fn items_of(alloc: Global, items: Estimate) -> Result<String, AllocError>
+    ensures { IfOk result (λ text. string_bytes text ≡ items_text items) }
+{
+    let low = items.low();
+    match items.high() {
+        Some(high) => format!(in alloc; "{low} to {high}"),
+        None => format!(in alloc; "{low} or more"),
+    }
+}
+
+// The lines that tell a filter, with the bounds of its items.
+fn lines_of(
+    alloc: Global,
+    filter: &BloomFilter,
+    form: Form,
+    items: Estimate,
+) -> Result<String, AllocError>
+    ensures { IfOk result (λ text. string_bytes text ≡ facts_text filter.now form items) }
 {
     let (bits, hashes) = (filter.num_bits(), filter.num_hashes());
     let (k0, k1) = filter.hasher().key();
     let key = key_line(alloc, k0, k1)?;
     let ones = filter.count_ones();
     let set = set_line(alloc, ones, share(ones, bits))?;
+    let items = items_of(alloc, items)?;
     let name = name_of(form);
-    format!(in alloc; "form: {name}\nbits: {bits}\nhashes: {hashes}\n{key}{set}")
+    format!(in alloc; "form: {name}\nbits: {bits}\nhashes: {hashes}\n{key}{set}items: {items}\n")
+}
+
+/// Lines that tell a filter's form, its numbers of bits and of hashes, the sixteen bytes of its
+/// key, how many bits are set, with their share in percent, and the bounds of its items.
+///
+/// # Errors
+/// Out of memory.
+pub fn facts_of(alloc: Global, filter: &BloomFilter, form: Form) -> Result<String, AllocError>
+    ensures { IfOk result (λ text. TellsFilter filter.now form (string_bytes text)) }
+{
+    lines_of(alloc, filter, form, filter.estimated_items())
 }
