@@ -31,7 +31,8 @@ min-is a b = elim (cases_lt a b) [
 ]
 
 -- the upper bound is above the part that at most so many items are of at least so many
-pub high-holds : (all m n : ℕ) (part : Option ℕ) → all ≤ n → m ≤ n → IfSome part (λ most. m ≤ most) →
+pub high-holds : (all m n : ℕ) (part : Option ℕ) → all ≤ n → m ≤ n →
+    IfSome part (λ most. m ≤ most) →
     2 ^ 63 * m ≤ part_high part all * n
 high-holds all m n None least within most = omega (arith, within)
 high-holds all m n (Some part) least within most = elim (eqb_tells all 0) [
@@ -67,8 +68,10 @@ part-ordered least all (Some part) (Some items) parts wholes = elim (eqb_tells i
             let high : ℕ = div_ceil (2 ^ 63 * part) all in
             let below = div-mul-le_self (2 ^ 63 * least) items in
             let above = (div_ceil_times (2 ^ 63 * part) all (omega (arith, something.1))).0 in
-            let more : low * all ≤ low * items = mul-le low all low items (omega arith) (wholes items refl) in
-            let all_of : low * all ≤ high * all = omega (arith, below, above, more, parts part refl) in
+            let more : low * all ≤ low * items =
+            mul-le low all low items (omega arith) (wholes items refl) in
+            let all_of : low * all ≤ high * all =
+            omega (arith, below, above, more, parts part refl) in
             let ordered : low ≤ high =
             le_of_mul-le-mul_right all_of (omega (arith, something.1)) in
             omega (arith, ordered))

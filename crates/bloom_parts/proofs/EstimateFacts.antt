@@ -1,6 +1,6 @@
 -- Estimates of items at small numbers, by hand: of 64 bits, 1 is expected to be set after one was
--- set, 127 / 64 after two, and 12097 / 4096 after three. Beside each case that holds stands one that
--- differs in one thing and doesn't hold.
+-- set, 127 / 64 after two, and 12097 / 4096 after three. Beside each case that holds stands one
+-- that differs in one thing and doesn't hold.
 use Rattle.std.proofs.Common.{◌≡◌, ℕ, ◌-◌, ◌*◌, ◌^◌, ◌<◌, ◌≤◌, Option, None, Some, IfSome, refl, sym, ap, arith, subst, unwrap_or, lit<, lit≤}
 use Rattle.std.proofs.lemmas.Option.{none-some}
 use Rattle.bloom_parts.specs.Powers.{rounded_power}
@@ -84,13 +84,15 @@ above-three_more is = omega (arith, is)
 estimate-one : IsEstimate 64 1 1 1 (Some 1)
 unfolding rounded_power
 estimate-one =
-    is-estimate 64 1 1 (lit< tt) (lit< tt) (lit< tt) 1 (lit< tt) (lit≤ tt) (Some 1) (lit< tt) (lit≤ tt)
+    is-estimate 64 1 1 (lit< tt) (lit< tt) (lit< tt) 1 (lit< tt) (lit≤ tt) (Some 1)
+    (lit< tt) (lit≤ tt)
 
 -- two hashes and two bits: between one item and two, and with one hash it would be two or more
 estimate-two : IsEstimate 64 2 2 1 (Some 2)
 unfolding rounded_power
 estimate-two =
-    is-estimate 64 2 2 (lit< tt) (lit< tt) (lit< tt) 1 (lit< tt) (lit≤ tt) (Some 2) (lit< tt) (lit≤ tt)
+    is-estimate 64 2 2 (lit< tt) (lit< tt) (lit< tt) 1 (lit< tt) (lit≤ tt) (Some 2)
+    (lit< tt) (lit≤ tt)
 
 estimate-one_hash : IsEstimate 64 1 2 1 (Some 2) → ⊥
 estimate-one_hash is = omega (arith, is.at_least)
@@ -99,7 +101,8 @@ estimate-one_hash is = omega (arith, is.at_least)
 estimate-three : IsEstimate 64 3 3 1 (Some 2)
 unfolding rounded_power
 estimate-three =
-    is-estimate 64 3 3 (lit< tt) (lit< tt) (lit< tt) 1 (lit< tt) (lit≤ tt) (Some 2) (lit< tt) (lit≤ tt)
+    is-estimate 64 3 3 (lit< tt) (lit< tt) (lit< tt) 1 (lit< tt) (lit≤ tt) (Some 2)
+    (lit< tt) (lit≤ tt)
 
 -- an upper bound that is too small, and a lower bound that is too large
 estimate-small : IsEstimate 64 1 1 1 (Some 0) → ⊥

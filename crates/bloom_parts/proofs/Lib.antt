@@ -14,6 +14,7 @@ mod DensityLemmas
 mod EndLemmas
 mod EstimateFacts
 mod EstimateLemmas
+mod EstimatedLemmas
 mod FillLemmas
 mod HalvingFacts
 mod HalvingLemmas

@@ -1,5 +1,5 @@
--- How far the two bounds of a number of items are apart: the expected density rises by some share of
--- a bit an item, and its ends are close.
+-- How far the two bounds of a number of items are apart: the expected density rises by some share
+-- of a bit an item, and its ends are close.
 use Rattle.std.proofs.Common.{◌≡◌, ℕ, zero, suc, ◌+◌, ◌-◌, ◌*◌, ◌^◌, ◌<◌, ◌≤◌, Option, None, Some, IfSome, ◌∙◌, ap, arith, inl, inr}
 use Rattle.std.proofs.Math.Nat.{le_of_mul-le-mul_right, lt_of_mul-lt-mul_right, one-le-pow, pow-le-pow_left, pow-suc, pow-zero}
 use Rattle.std.proofs.lemmas.Bool.{cases_lt}
@@ -89,7 +89,8 @@ module _ (b k ones : ℕ) (bits : 1 < b) (some : 0 < k) where
     slope =
         let n : ℕ = k * (y - x) in
         let next : b - 1 + 1 ≡ b = omega (arith, bits) in
-        let steep : (b - 1 + n) * (b - 1) ^ n ≤ (b - 1) * b ^ n = rw next at (bernoulli (b - 1) n) in
+        let steep : (b - 1 + n) * (b - 1) ^ n ≤ (b - 1) * b ^ n =
+        rw next at (bernoulli (b - 1) n) in
         let all : 1 ≤ b ^ (k * x) = one-le-pow (k * x) b (omega (arith, bits)) in
         let off : 1 ≤ (b - 1) ^ n = one-le-pow n (b - 1) (omega (arith, bits)) in
         let within : (t : ℕ) → (b - 1) ^ t ≤ b ^ t = pow-le-pow_left (omega arith) in

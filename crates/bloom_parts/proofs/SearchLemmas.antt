@@ -26,7 +26,8 @@ module _ {passes : ℕ → Type 0} {found i : ℕ} (is : IsFound passes found i)
     here = next;
     fits = omega (arith, is.fits, halves i some);
     past =
-        let same : found + 2 ^ (i - 1) + 2 ^ (i - 1) ≡ found + 2 ^ i = omega (arith, halves i some) in
+        let same : found + 2 ^ (i - 1) + 2 ^ (i - 1) ≡ found + 2 ^ i =
+        omega (arith, halves i some) in
         rw same is.past;
   }
 

@@ -32,8 +32,8 @@ IsBelow b t ones = b * (b ^ t - (b - 1) ^ t) < ones * b ^ t
 abbrev pub IsAbove : ℕ → ℕ → ℕ → Type 0
 IsAbove b t ones = ones * b ^ t < b * (b ^ t - (b - 1) ^ t)
 
--- the number of items at which ones of b bits are expected to be set, k hashes an item, lies between
--- the bounds: no number below the one fits, and none above the other
+-- the number of items at which ones of b bits are expected to be set, k hashes an item, lies
+-- between the bounds: no number below the one fits, and none above the other
 pub record IsEstimate (b k ones low : ℕ) (high : Option ℕ) : Type 0 where
   pub at_most : IsAtMost b (k * low) ones
   pub at_least : IfSome high (λ most. IsAtLeast b (k * most) ones)
@@ -49,14 +49,14 @@ pub record IsTight (b k ones low : ℕ) (high : Option ℕ) : Type 0 where
       density_low b (k * (most - 1)) * b < 2 ^ 63 * ones)
   pub none : high ≡ None → density_low b (k * (2 ^ 64 - 1)) * b < 2 ^ 63 * ones
 
--- how far the bounds are apart at most, by the share of bits that stays off: some 4 * b * high / off
--- items more than two, where off is that share in parts of 2^63
+-- how far the bounds are apart at most, by the share of bits that stays off: some
+-- 4 * b * high / off items more than two, where off is that share in parts of 2^63
 abbrev pub IsNear : ℕ → ℕ → ℕ → Option ℕ → Type 0
 IsNear b k low high = IfSome high (λ most.
     (most - low - 2) * (2 ^ 63 - density_high b (k * (most - 1))) ≤ 4 * (b - 1) * (most - 1))
 
--- an estimate of the items in a filter of b bits, k hashes an item, of which ones bits are set: 0 to
--- 0 where no bit is set, and with no upper bound where all are, since then no number is too many
+-- an estimate of the items in a filter of b bits, k hashes an item, of which ones bits are set: 0
+-- to 0 where no bit is set, and with no upper bound where all are, since then no number is too many
 pub record EstimatesItems (b k ones : ℕ) (estimate : Estimate) : Type 0 where
   pub fits : IsEstimate b k ones (least_of estimate) (most_of estimate)
   pub tight : IsTight b k ones (least_of estimate) (most_of estimate)

@@ -27,7 +27,8 @@ before-push words word i found within is =
     let longer : i < length (words ++ word ∷ []) =
     omega (arith, within, length-append words (word ∷ [])) in
     slice_get-get_or (words ++ word ∷ []) i 0 longer
-    ∙ ap Some (get_or-append words (word ∷ []) 0 i within ∙ get_or_from_slice_get words i found 0 is)
+    ∙ ap Some
+    (get_or-append words (word ∷ []) 0 i within ∙ get_or_from_slice_get words i found 0 is)
 
 -- the last word
 at-push : (words : List ℕ) (word : ℕ) → slice_get (words ++ word ∷ []) (length words) ≡ Some word

@@ -9,8 +9,8 @@ fn filter_of(alloc: Global, word: u64, num_hashes: u32) -> Result<BloomFilter, F
     Ok(BloomFilter::from_vec(words)?.hashes(num_hashes))
 }
 
-// One word, hashes, and the estimate. After one of 64 bits was set, exactly 1 is expected to be set,
-// after two 127/64, after three 12097/4096, after four some 3.9, and after six some 5.8.
+// One word, hashes, and the estimate. After one of 64 bits was set, exactly 1 is expected to be
+// set, after two 127/64, after three 12097/4096, after four some 3.9, and after six some 5.8.
 const BY_HAND: [(u64, u32, usize, Option<usize>); 7] = [
     (0, 1, 0, Some(0)),
     (1, 1, 1, Some(1)),

@@ -3,8 +3,8 @@ use crate::filters::{filter_of, has_words};
 use fastbloom::FilterError;
 use std::alloc::Global;
 
-// 5 has two bits and 1 has one. After one of 128 bits was set, exactly 1 is expected to be set, after
-// two 255/128, after three some 2.98, and after four some 3.95.
+// 5 has two bits and 1 has one. After one of 128 bits was set, exactly 1 is expected to be set,
+// after two 255/128, after three some 2.98, and after four some 3.95.
 fn are_told(alloc: Global) -> Result<bool, FilterError> {
     let filter = filter_of(alloc, &[5, 1], 1)?;
     let counted = filter.count_ones() == 3;
