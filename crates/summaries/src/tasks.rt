@@ -4,12 +4,8 @@ use crate::command_line::{
     ABSENT, BITS, FILE, FILTER, HASHES, ITEMS, JSON, MOST_HASHES, OTHER, RATE, WORKERS, ZERO,
 };
 use crate::form::{Disk, load_named};
-<<<<<<< HEAD
 use crate::key_files::{KeyFiles, called_inputs};
-=======
-use crate::key_files::{KeyFiles, STANDARD};
 use crate::rates::rate_of;
->>>>>>> h3
 use anyhow::{Context, anyhow};
 use clap::ArgMatches;
 use fastbloom::{BloomFilter, FilterError, Shape};
