@@ -15,7 +15,7 @@ import subprocess
 TOP = os.path.dirname(os.path.dirname(os.path.realpath(__file__)))
 PROGRAMS = ("bloom", "duplicates", "summaries", "guard")
 # The names of values that are files.
-FILES = {"FILE", "FILTER", "STORE"}
+FILES = {"FILE", "FILTER", "OTHER", "STORE"}
 
 
 class Failed(Exception):

@@ -63,7 +63,7 @@ words_back = refl
 -- the status of each fault
 statuses : map status_of (fault.Input IsADirectory ∷ fault.Usage ∷ fault.NotText ∷ fault.Line 7
     ∷ fault.Memory ∷ fault.Output StorageFull ∷ [])
-    ≡ 8 ∷ 2 ∷ 2 ∷ 2 ∷ 5 ∷ 6 ∷ []
+    ≡ 8 ∷ 2 ∷ 2 ∷ 1 ∷ 5 ∷ 6 ∷ []
 statuses = refl
 
 -- a stream's faults

@@ -1,14 +1,15 @@
--- The exit status of each fault, and which of them a stream gives. All four programs end with
--- these numbers, which are this project's own.
+-- The exit status of each fault, and which of them a stream gives. In all four programs a number
+-- means the same: a line that isn't a command is bad input, as a bad file is. The numbers are this
+-- project's own.
 use Rattle.std.specs.Prelude.{ℕ}
 use Rattle.bloom_engine.specs.declared.fault.Fault.{Fault}
 use Rattle.bloom_engine.specs.declared.fault.Fault.TheVariants.{Usage, NotText, Line, Memory, Input, Output}
 
 -- the exit status
 abbrev pub status_of : Fault → ℕ
+status_of (Line number) = 1
 status_of Usage = 2
 status_of NotText = 2
-status_of (Line number) = 2
 status_of Memory = 5
 status_of (Output kind) = 6
 status_of (Input kind) = 8

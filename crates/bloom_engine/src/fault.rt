@@ -44,7 +44,8 @@ impl Fault {
         ensures { result ≡ status_of self.now }
     {
         match self {
-            Fault::Usage | Fault::NotText | Fault::Line(_) => 2,
+            Fault::Line(_) => 1,
+            Fault::Usage | Fault::NotText => 2,
             Fault::Memory => 5,
             Fault::Output(_) => 6,
             Fault::Input(_) => 8,

@@ -1,5 +1,5 @@
 -- The positions of a word are counted by its digits.
-use Rattle.std.proofs.Common.{◌≡◌, ◌<◌, ◌≤◌, ◌+◌, ◌*◌, ◌%◌, ◌^◌, ℕ, Bool, true, false, zero, suc, eqb, if◌then◌else◌, List, length, get_or, count_ones, refl, ◌∙◌, ap, arith}
+use Rattle.std.proofs.Common.{◌≡◌, ◌<◌, ◌≤◌, ◌+◌, ◌*◌, ◌/◌, ◌%◌, ◌^◌, ℕ, Bool, true, false, zero, suc, eqb, if◌then◌else◌, List, [], ◌∷◌, ◌++◌, length, get_or, count_ones, refl, ◌∙◌, ap, arith}
 use Rattle.std.specs.Int.{bit_at}
 use Rattle.std.specs.Int.Bits.{bit_or}
 use Rattle.std.specs.Int.Count.{ones_cat, ones_step}
@@ -7,8 +7,10 @@ use Rattle.std.specs.Simd.Lanes.{zip2}
 use Rattle.std.proofs.lemmas.Nat.{mod-pow-add, pow_pos, ones_le_self}
 use Rattle.std.proofs.lemmas.Nat.Bits.{bit_at-lt}
 use Rattle.std.proofs.lemmas.Simd.{get_or-zip2}
+use Rattle.std.proofs.Math.ListN.{get_or-append}
 use Rattle.std.proofs.Math.Nat.{mod-lt, mod-eq_of_lt}
-use Rattle.bloom_parts.specs.Content.{content}
+use Rattle.std.proofs.Math.Seq.{get_or-append_seam}
+use Rattle.bloom_parts.specs.Content.{bit_is_on, content}
 use Rattle.bloom_parts.specs.Counts.{count_on}
 use Rattle.bloom_parts.proofs.WordLemmas.{content-at}
 
@@ -94,3 +96,32 @@ count_merged-next words other i same within fits =
     get_or-zip2 bit_or words other i 0 0 0 within (omega (arith, same, within)) in
     count-word merged i (rw word fits)
     ∙ ap (λ w. count_merged words other i + count_ones w) word
+
+-- sets that agree below a bound have as many members below it
+count-below : (A B : ℕ → Bool) (n : ℕ) → ((p : ℕ) → p < n → A p ≡ B p) → count_on A n ≡ count_on B n
+unfolding count_on
+count-below A B zero same = refl
+count-below A B (suc n) same =
+    ap (λ m. m + (if A n then 1 else 0))
+    (count-below A B n (λ p below. same p (omega (arith, below))))
+    ∙ ap (λ b. count_on B n + (if b then 1 else 0)) (same n (omega arith))
+
+-- a word more behind others leaves their content as it is
+content-before : (words more : List ℕ) (p : ℕ) → p < 64 * length words →
+    content (words ++ more) p ≡ content words p
+unfolding content
+content-before words more p below =
+    ap (λ word. bit_is_on word p) (get_or-append words more 0 (p / 64) (omega (arith, below)))
+
+-- a word behind others adds its own bits
+pub count-push : (words : List ℕ) (word : ℕ) → word < 2 ^ 64 →
+    count_on (content (words ++ word ∷ [])) (64 * (length words + 1))
+    ≡ count_on (content words) (64 * length words) + count_ones word
+count-push words word fits =
+    let all = words ++ word ∷ [] in
+    let last : get_or all (length words) 0 ≡ word = get_or-append_seam words word [] 0 in
+    count-word all (length words) (rw last fits)
+    ∙ ap (λ n. n + count_ones (get_or all (length words) 0))
+    (count-below (content all) (content words) (64 * length words)
+    (λ p below. content-before words (word ∷ []) p below))
+    ∙ ap (λ w. count_on (content words) (64 * length words) + count_ones w) last

@@ -1,7 +1,7 @@
 -- Filters that grow, at values from outside: cases that hold, and cases that differ from one of
 -- these in one thing and don't hold. A filter of one word for one item has 44 hashes, and for two
 -- items 22, since 64 times the logarithm of 2 is 44.4. Hash 1 has the positions 0 and 20 among 64.
-use Rattle.std.proofs.Common.{◌≡◌, ◌<◌, ◌≤◌, ℕ, suc, ◌+◌, ◌*◌, max, true, false, List, [], ◌∷◌, ◌++◌, length, map, replicate, refl, sym, ◌∙◌, ap, subst, arith, lit<, lit≤}
+use Rattle.std.proofs.Common.{◌≡◌, ◌<◌, ◌≤◌, ℕ, max, true, false, List, [], ◌∷◌, length, map, replicate, refl, sym, ◌∙◌, ap, subst, arith, lit<, lit≤}
 use Rattle.bloom_parts.specs.Chain.{chain}
 use Rattle.bloom_parts.specs.Content.{content}
 use Rattle.bloom_parts.specs.Operations.{Insert}
@@ -10,7 +10,7 @@ use Rattle.bloom_parts.specs.Rates.{num_of}
 use Rattle.bloom_parts.specs.Roots.{IsRoot}
 use Rattle.bloom_parts.specs.Sizing.{IsHalvings, size_for}
 use Rattle.bloom_parts.specs.declared.math.rate.Rate.{Rate}
-use Rattle.bloom_plain.specs.Builders.{words_for, sized_filter, empty_start}
+use Rattle.bloom_plain.specs.Builders.{sized_filter, empty_start}
 use Rattle.bloom_plain.specs.Filter.{Filter}
 use Rattle.bloom_plain.specs.Growing.{Plan, plan_of, Growing, room_at, den_at, rate_start, IsNumber, has, Took, AreFull, IsGrown}
 use Rattle.bloom_plain.specs.GrowingLaws.{sum_of_rates}

@@ -1,16 +1,15 @@
 -- Inserts into filters that grow, at values from outside: cases that hold, and cases that differ
 -- from one of these in one thing and don't hold. The plan has room for one item at first.
-use Rattle.std.proofs.Common.{◌≡◌, ◌<◌, ◌≤◌, ℕ, ◌+◌, true, false, [], ◌∷◌, ◌++◌, length, Some, None, refl, sym, ◌∙◌, ap, subst, arith, lit<, lit≤}
+use Rattle.std.proofs.Common.{◌≡◌, true, false, [], ◌∷◌, length, Some, None, refl, ap, arith, lit<, lit≤}
 use Rattle.bloom_parts.specs.Chain.{chain}
 use Rattle.bloom_parts.specs.Content.{content}
 use Rattle.bloom_parts.specs.Places.{positions, are_in}
 use Rattle.bloom_parts.specs.declared.error.FilterError.TheVariants.{ZeroRate, SizeOverflow, Memory}
-use Rattle.bloom_plain.specs.Growing.{IsNumber}
-use Rattle.bloom_plain.specs.GrowingInserts.{IsBegun, Begins, MakesRoom, Adds, Takes, RefusesNumber, RefusesInsert}
+use Rattle.bloom_plain.specs.GrowingInserts.{Begins, MakesRoom, Adds, Takes, RefusesNumber, RefusesInsert}
 use Rattle.bloom_plain.specs.GrowingLaws.{TakesAll}
 use Rattle.bloom_plain.proofs.FilterFacts.{filter}
 use Rattle.bloom_plain.proofs.InsertFacts.{inserts-first}
-use Rattle.bloom_plain.proofs.GrowingFacts.{rate, four, plan, grown, with_one, with_none, halvings-none, number-one, number-one_room}
+use Rattle.bloom_plain.proofs.GrowingFacts.{rate, four, grown, with_one, with_none, halvings-none, number-one, number-one_room}
 
 -- the next filter begins behind the full one, for twice the items
 begins-next : Begins (grown [] with_one 1) (grown (with_one ∷ []) (filter (0 ∷ []) 22 7) 0)

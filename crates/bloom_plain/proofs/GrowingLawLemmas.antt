@@ -1,5 +1,5 @@
 -- The laws of filters that grow.
-use Rattle.std.proofs.Common.{◌≡◌, ℕ, zero, suc, ◌+◌, ◌*◌, ◌^◌, ◌<◌, ◌≤◌, Bool, true, false, ◌||◌, List, [], ◌∷◌, ◌++◌, refl, sym, ◌∙◌, ap, subst, arith, add-one, inl, inr}
+use Rattle.std.proofs.Common.{◌≡◌, ℕ, zero, suc, ◌+◌, ◌*◌, ◌^◌, ◌<◌, Bool, true, false, [], ◌∷◌, refl, sym, ◌∙◌, ap, subst, arith, add-one, inl, inr}
 use Rattle.std.proofs.Math.Nat.{mul-pos, pow-suc, lt_of_mul-lt-mul_right}
 use Rattle.std.proofs.lemmas.Bool.{or_cases, or_left, or_right, cases_lt}
 use Rattle.bloom_parts.specs.Rates.{num_of, den_of}
@@ -7,7 +7,7 @@ use Rattle.bloom_parts.specs.declared.math.rate.Rate.{Rate}
 use Rattle.bloom_plain.specs.Filter.{contains}
 use Rattle.bloom_plain.specs.Growing.{Growing, any_contains, has, den_at, newest_room}
 use Rattle.bloom_plain.specs.GrowingInserts.{Begins, MakesRoom, Adds, Takes}
-use Rattle.bloom_plain.specs.GrowingLaws.{TakesAll, GrowingKeptLaw, GrowingFoundLaw, sum_of_rates, RatesBelowLaw}
+use Rattle.bloom_plain.specs.GrowingLaws.{GrowingKeptLaw, GrowingFoundLaw, sum_of_rates, RatesBelowLaw}
 use Rattle.bloom_plain.proofs.GrowingLemmas.{has-or}
 use Rattle.bloom_plain.proofs.GrowingKeptLemmas.{some_room_at}
 use Rattle.bloom_plain.proofs.LawLemmas.{insert_law, kept_by_insert_law}

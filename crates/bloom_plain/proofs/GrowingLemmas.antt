@@ -1,5 +1,5 @@
 -- Filters that grow: what they contain, and the rule that they keep.
-use Rattle.std.proofs.Common.{◌≡◌, ℕ, zero, suc, ◌+◌, ◌*◌, ◌≤◌, ◌<◌, Bool, true, false, ◌||◌, List, [], ◌∷◌, ◌++◌, length, map, refl, sym, ◌∙◌, ap, subst, arith, add-one, append-nil, append_assoc, length-append, replicate, max, ◌-◌, ◌^◌, nat_eq, if◌then◌else◌, lit≤}
+use Rattle.std.proofs.Common.{◌≡◌, ℕ, ◌+◌, ◌*◌, ◌≤◌, Bool, true, false, ◌||◌, List, [], ◌∷◌, ◌++◌, length, map, refl, sym, ◌∙◌, ap, subst, arith, add-one, append-nil, append_assoc, length-append, replicate, max, ◌-◌, ◌^◌, nat_eq, if◌then◌else◌, lit≤}
 use Rattle.std.proofs.Math.Bool.{or-false}
 use Rattle.std.proofs.Math.Nat.{pow-suc}
 use Rattle.std.proofs.lemmas.List.{map-append}

@@ -34,6 +34,7 @@ mod LawLemmas
 mod ListFacts
 mod ListLemmas
 mod NumberLemmas
+mod OnesFacts
 mod OnesLemmas
 mod RateFacts
 mod RateLemmas

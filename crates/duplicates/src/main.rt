@@ -3,6 +3,7 @@
 
 mod command_line;
 mod files;
+mod gauge;
 mod run;
 mod telling;
 

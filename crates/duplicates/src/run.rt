@@ -2,6 +2,7 @@
 
 use crate::command_line::Request;
 use crate::files::Files;
+use crate::gauge::Gauge;
 use crate::telling::{DONE, OVERFULL, Teller, tell_fault, tell_no_room};
 use bloom_plain::{BloomFilter, FilterError, GrowingFilter};
 use duplicates_engine::{Fault, Options, Sieve, Tally, Written, keep_new};
@@ -60,7 +61,7 @@ fn sum_up(rt: &HostRuntime, request: &Request, tally: Tally) -> u8 {
 }
 
 // Sifts the inputs, and gives the status.
-fn sift<V: Sieve>(rt: &HostRuntime, request: &Request, sieve: &mut V) -> u8 {
+fn sift<V: Sieve + Gauge>(rt: &HostRuntime, request: &Request, sieve: &mut V) -> u8 {
     let is_named = request.names.is_some();
     let mut files = Files::new(rt, request.names);
     let mut teller = Teller {
@@ -72,6 +73,9 @@ fn sift<V: Sieve>(rt: &HostRuntime, request: &Request, sieve: &mut V) -> u8 {
     match keep(rt, request, sieve, &mut files, &mut teller) {
         Ok(tally) => {
             let status = sum_up(rt, request, tally);
+            if teller.is_on {
+                sieve.tell_full(rt);
+            }
             if status == DONE && teller.is_warned {
                 OVERFULL
             } else {

@@ -1,12 +1,11 @@
 -- What was read of the inputs where a run ends.
-use Rattle.std.proofs.Common.{◌≡◌, ℕ, ◌+◌, ◌-◌, ◌^◌, min, List, [], ◌∷◌, ◌++◌, length, flat_map, length-append, Option, Some, None, refl, sym, ◌∙◌, ap, subst, append_assoc, append-nil, arith}
+use Rattle.std.proofs.Common.{◌≡◌, ℕ, ◌+◌, ◌-◌, ◌^◌, min, List, [], ◌∷◌, ◌++◌, Option, Some, None, refl, sym, ◌∙◌, ap, subst, append_assoc, append-nil, arith}
 use Rattle.std.proofs.lemmas.Grind.{flat_map-append}
 use Rattle.std.specs.Prelude.{IfSome}
-use Rattle.std.specs.Io.KnownBytes.{prepend_known}
 use Rattle.lines.specs.Lines.{lines_by}
 use Rattle.lines.specs.Reading.{Ends, TakesLongBy}
-use Rattle.lines.proofs.TakenLemmas.{TakesLinesBy, TakesLines-nil, TakesLines-more, IsReadWhole-from, IsReadFrom-taken, IsReadToLong-from}
-use Rattle.duplicates_engine.specs.Inputs.{Opens, NoneComes, lines_in, AreAllRead, AreFirstRead, AreReadToLong, StandBeforeLong, TakesNext, OpensNext}
+use Rattle.lines.proofs.TakenLemmas.{IsReadFrom-taken, IsReadToLong-from}
+use Rattle.duplicates_engine.specs.Inputs.{NoneComes, lines_in, AreAllRead, AreFirstRead, AreReadToLong, StandBeforeLong}
 use Rattle.duplicates_engine.proofs.InputLemmas.{Stands, IsReading, whole-of, done-more}
 
 -- all inputs have ended

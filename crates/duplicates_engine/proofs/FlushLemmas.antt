@@ -1,6 +1,6 @@
 -- What a flush behind a run leaves of its promises.
 use Rattle.std.proofs.Common.{ℕ, Bool, List, Option, Result, Ok, Err, refl}
-use Rattle.std.specs.Prelude.{IfOk, IfErr, IfSome}
+use Rattle.std.specs.Prelude.{IfOk, IfErr}
 use Rattle.std.specs.Io.KnownBytes.{Keeps}
 use Rattle.std.proofs.KnownBytes.{Appends-kept}
 use Rattle.lines.proofs.WritingLemmas.{Begins-whole}
@@ -9,7 +9,7 @@ use Rattle.duplicates_engine.specs.declared.fault.Fault.TheVariants.{TooLong, Me
 use Rattle.duplicates_engine.specs.declared.options.Options.{Options}
 use Rattle.duplicates_engine.specs.declared.tally.Tally.{Tally}
 use Rattle.duplicates_engine.specs.Faults.{IsOfWriter, IsReadAt}
-use Rattle.duplicates_engine.specs.Inputs.{AreFirstRead, AreAllRead}
+use Rattle.duplicates_engine.specs.Inputs.{AreFirstRead}
 use Rattle.duplicates_engine.specs.Kept.{text_of, KeepsNew, KeepsUntil}
 use Rattle.duplicates_engine.proofs.EndLemmas.{first-all, first-long}
 use Rattle.duplicates_engine.proofs.WriteLemmas.{from-begins, to-begins, writer-system, reached-at}

@@ -1,5 +1,5 @@
 -- What a run writes and counts: of each definition cases that hold, and near ones that don't.
-use Rattle.std.proofs.Common.{◌≡◌, ◌≤◌, ℕ, ◌-◌, ◌^◌, Bool, true, false, List, [], ◌∷◌, ◌++◌, length, Some, Ok, Err, refl, ap, arith}
+use Rattle.std.proofs.Common.{◌≡◌, ◌≤◌, ℕ, ◌-◌, ◌^◌, Bool, true, false, List, [], ◌∷◌, length, Some, Ok, Err, refl, ap, arith}
 use Rattle.std.specs.Prelude.{codes}
 use Rattle.std.specs.declared.hash.Hasher as hasher
 use Rattle.std.specs.declared.io.ErrorKind.TheVariants as kind

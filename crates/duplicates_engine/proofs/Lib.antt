@@ -1,3 +1,5 @@
+mod ChoiceFacts
+mod ChoiceLemmas
 mod EndLemmas
 mod FaultFacts
 mod FlushLemmas

@@ -1,28 +1,26 @@
 -- One more line of a run.
-use Rattle.std.proofs.Common.{◌≡◌, ℕ, ◌+◌, ◌-◌, ◌^◌, ◌≤◌, min, length, Bool, true, List, [], ◌∷◌, ◌++◌, Option, Result, Ok, Err, refl, sym, ◌∙◌, ap, subst, arith}
-use Rattle.std.proofs.lemmas.Bool.{both_ways}
-use Rattle.std.proofs.lemmas.List.Elements.{All-append, All-from_recursion, All-nil}
+use Rattle.std.proofs.Common.{◌≡◌, ℕ, ◌≤◌, length, Bool, true, List, [], ◌∷◌, ◌++◌, Option, Ok, Err, sym, ◌∙◌, ap, subst, arith}
+use Rattle.std.proofs.lemmas.List.Elements.{All-append, All-from_recursion}
 use Rattle.std.specs.Io.KnownBytes.{Appends, Keeps}
-use Rattle.std.proofs.KnownBytes.{Appends-nil, Appends-trans, Appends-kept}
+use Rattle.std.proofs.KnownBytes.{Appends-trans, Appends-kept}
 use Rattle.lines.specs.Reading.{Waiting, left_of, KnowsEnd, AreShort}
 use Rattle.lines.proofs.WritingLemmas.{Begins-after}
 use Rattle.duplicates_engine.specs.declared.fault.Fault.{Fault}
-use Rattle.duplicates_engine.specs.declared.fault.Fault.TheVariants.{TooLong, Memory}
 use Rattle.duplicates_engine.specs.declared.options.Options.{Options}
 use Rattle.duplicates_engine.specs.declared.tally.Tally.{Tally}
-use Rattle.duplicates_engine.specs.Faults.{IsOfSystem, IsOfWriter, IsWrittenAt}
-use Rattle.duplicates_engine.specs.Inputs.{Opens, NoneComes, IsFresh, TakesNext, OpensNext, EndsAll, FindsLong}
-use Rattle.duplicates_engine.specs.Kept.{text_of, piece, Writes, KeepsNew, KeepsUntil}
+use Rattle.duplicates_engine.specs.Faults.{IsWrittenAt}
+use Rattle.duplicates_engine.specs.Inputs.{TakesNext}
+use Rattle.duplicates_engine.specs.Kept.{text_of, piece, Writes, KeepsUntil}
 use Rattle.duplicates_engine.specs.Sieves.{HasSifted}
 use Rattle.duplicates_engine.specs.Told.{Counts, CountsLine, TellsOf, WarnsOf, HasRoom}
-use Rattle.duplicates_engine.proofs.InputLemmas.{IsReading, opens-left, reading-first, reading-more, reading-next}
-use Rattle.duplicates_engine.proofs.EndLemmas.{none-read, all-read, first-read, first-none, long-read}
-use Rattle.duplicates_engine.proofs.SiftLemmas.{sifted-nil, sifted-more}
+use Rattle.duplicates_engine.proofs.InputLemmas.{IsReading, reading-more}
+use Rattle.duplicates_engine.proofs.EndLemmas.{first-read}
+use Rattle.duplicates_engine.proofs.SiftLemmas.{sifted-more}
 use Rattle.duplicates_engine.proofs.TextLemmas.{text-more}
-use Rattle.duplicates_engine.proofs.ToldLemmas.{told-nil, told-step}
-use Rattle.duplicates_engine.proofs.WarnLemmas.{counts-nil, counts-more, warns-nil, room-nil, warns-more}
-use Rattle.duplicates_engine.proofs.WriteLemmas.{from-begins, to-begins, written-all, writer-system, reached-at}
-use Rattle.duplicates_engine.proofs.HalfwayLemmas.{IsSifting, IsKeeping}
+use Rattle.duplicates_engine.proofs.ToldLemmas.{told-step}
+use Rattle.duplicates_engine.proofs.WarnLemmas.{counts-more, warns-more}
+use Rattle.duplicates_engine.proofs.WriteLemmas.{from-begins, to-begins, writer-system, reached-at}
+use Rattle.duplicates_engine.proofs.HalfwayLemmas.{IsKeeping}
 
 module _ {V : Type 0} (has : V → List ℕ → Type 0) (sifts : V → List ℕ → Bool → V → Type 0)
     (end : ℕ) (options : Options) (come : Option (List (List ℕ))) (old : V) (from : Option (List ℕ))

@@ -1,11 +1,11 @@
 -- Lines that a plain filter sifted, as one list of commands.
-use Rattle.std.proofs.Common.{◌≡◌, ℕ, Bool, List, [], ◌∷◌, map, refl, sym, ap, subst}
+use Rattle.std.proofs.Common.{ℕ, Bool, List, [], ◌∷◌, map, refl, sym, subst}
 use Rattle.std.specs.declared.hash.Hasher as hasher
 use Rattle.bloom_parts.specs.Operations.{Insert}
 use Rattle.bloom_plain.specs.Filter.{Filter}
 use Rattle.bloom_plain.specs.Laws.{JoinedListsLaw}
 use Rattle.bloom_plain.specs.Replies.{CarriesOut}
-use Rattle.duplicates_engine.specs.Plain.{line_hash, has_line, inserts_line, inserts_lines, SiftedLaw}
+use Rattle.duplicates_engine.specs.Plain.{line_hash, inserts_line, inserts_lines, SiftedLaw}
 use Rattle.duplicates_engine.specs.Sieves.{SiftsAll}
 
 module _ {S H : Type 0} (h : hasher.Ghosts H) (build : S → H) (joined : JoinedListsLaw S) where

@@ -1,5 +1,5 @@
 -- What a progress is told: of each relation cases that hold, and near ones that don't.
-use Rattle.std.proofs.Common.{◌≡◌, ℕ, ◌+◌, ◌-◌, ◌^◌, min, Bool, true, false, List, [], ◌∷◌, ◌++◌, length, map, take, get_or, length-append, Some, None, refl, sym, ◌∙◌, ap, subst, arith}
+use Rattle.std.proofs.Common.{◌≡◌, ◌-◌, ◌^◌, min, Bool, true, false, List, [], ◌∷◌, length, map, take, get_or, Some, None, refl, ap, subst, arith}
 use Rattle.duplicates_engine.specs.declared.tally.Tally.{Tally}
 use Rattle.duplicates_engine.specs.Told.{Tells, held_back, millions, tally_after, TellsMillions, TellsOf}
 

@@ -1,9 +1,9 @@
 -- Counts, and what is warned of, from line to line.
-use Rattle.std.proofs.Common.{◌≡◌, ℕ, ◌+◌, ◌-◌, ◌^◌, ◌<◌, ◌≤◌, zero, suc, min, Bool, true, false, cond, List, [], ◌∷◌, ◌++◌, length, take, get_or, length-append, Option, Some, None, refl, sym, ◌∙◌, ap, subst, arith}
+use Rattle.std.proofs.Common.{◌≡◌, ℕ, ◌+◌, ◌-◌, ◌^◌, ◌≤◌, zero, suc, min, Bool, true, false, cond, List, [], ◌∷◌, ◌++◌, length, length-append, Option, Some, None, refl, sym, ◌∙◌, ap, subst, arith}
 use Rattle.std.proofs.Math.Seq.{get_or-append_seam, take-append_seam}
 use Rattle.std.proofs.lemmas.List.{get_or_append_left, take-append-le, take_all}
 use Rattle.duplicates_engine.specs.declared.tally.Tally.{Tally}
-use Rattle.duplicates_engine.specs.Told.{held_back, new_lines, Counts, Tells, WarnsAtOneMore, WarnsAbove, WarnsOf, HasRoom, Warns}
+use Rattle.duplicates_engine.specs.Told.{held_back, new_lines, Counts, Tells, WarnsAtOneMore, WarnsOf, HasRoom, Warns}
 
 -- one more line that was held back
 pub held-true : (replies : List Bool) → held_back (replies ++ true ∷ []) ≡ held_back replies + 1

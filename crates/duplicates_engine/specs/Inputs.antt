@@ -1,6 +1,6 @@
 -- What is read of several inputs, one after the other. Of the inputs that come it is known which
 -- bytes each has, or None where that isn't known. The byte `end` ends a line.
-use Rattle.std.specs.Prelude.{◌≡◌, ℕ, ◌+◌, ◌-◌, ◌^◌, min, Bool, false, List, [], ◌∷◌, ◌++◌, length, flat_map, Option, None, Some, IfSome}
+use Rattle.std.specs.Prelude.{◌≡◌, ℕ, ◌+◌, ◌-◌, ◌^◌, min, false, List, [], ◌∷◌, ◌++◌, length, flat_map, Option, None, Some, IfSome}
 use Rattle.lines.specs.Lines.{lines_by}
 use Rattle.lines.specs.Reading.{Waiting, AreBeforeLongBy, Ends, TakesShortBy, TakesLongBy}
 use Rattle.duplicates_engine.specs.declared.opened.Step.{Step}

@@ -1,6 +1,6 @@
 -- Which lines a run wrote, and which it didn't. What a writer holds is Some of the bytes, or None
 -- where it doesn't tell.
-use Rattle.std.specs.Prelude.{◌≡◌, ℕ, Bool, true, false, not, if◌then◌else◌, List, [], ◌∷◌, ◌++◌, flat_map, Option, Result, MatchResult}
+use Rattle.std.specs.Prelude.{◌≡◌, ℕ, Bool, false, not, if◌then◌else◌, List, [], ◌∷◌, ◌++◌, flat_map, Option, Result, MatchResult}
 use Rattle.std.specs.Io.KnownBytes.{Appends}
 use Rattle.lines.specs.Reading.{AreShort}
 use Rattle.duplicates_engine.specs.declared.fault.Fault.{Fault}

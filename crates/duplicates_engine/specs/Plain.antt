@@ -1,11 +1,11 @@
 -- A plain filter as a sieve of lines.
-use Rattle.std.specs.Prelude.{◌≡◌, ℕ, Bool, true, List, [], ◌∷◌, length, map}
+use Rattle.std.specs.Prelude.{◌≡◌, ℕ, Bool, true, List, [], ◌∷◌, map}
 use Rattle.std.specs.declared.hash.Hasher as hasher
 use Rattle.bloom_parts.specs.Operations.{Insert}
 use Rattle.bloom_plain.specs.Filter.{Filter, contains}
 use Rattle.bloom_plain.specs.Replies.{CarriesOut}
 use Rattle.bloom_plain.specs.SourceHash.{hash_by}
-use Rattle.duplicates_engine.specs.Sieves.{AreNew, HasSifted}
+use Rattle.duplicates_engine.specs.Sieves.{HasSifted}
 
 -- the hash that stands for a line: the answer of a fresh hasher after one write of its bytes
 abbrev pub line_hash : {H : Type 0} → hasher.Ghosts H → H → List ℕ → ℕ

@@ -1,5 +1,6 @@
 //! Writes the lines that are asked for.
 ghost use Rattle.std.specs.Prelude.{IfOk, IfErr};
+ghost use Rattle.duplicates_engine.specs.Choices.{WritesChoice, WritesChoiceUntil};
 ghost use Rattle.duplicates_engine.specs.Kept.{KeepsNew, KeepsUntil};
 
 use crate::counted::{Counted, count_line};
@@ -99,6 +100,14 @@ pub fn keep_new<V: Sieve, I: Inputs, W: Write, P: Progress, const END: u8>(
         (W.contents output.old) (W.contents output.new)
         (P.tells progress.old) (P.tells progress.new)
         (P.warnings progress.old) (P.warnings progress.new)) }
+    // In words of lines alone: where the new lines are asked for, each line that is written differs
+    // from every line before it; where those held back are, each line that is left out does.
+    ensures choice { IfOk result (λ _. WritesChoice END options
+        (I.coming inputs.old) (I.coming inputs.new)
+        (W.contents output.old) (W.contents output.new)) }
+    // The same of the lines before a fault.
+    ensures choice_until { IfErr result (WritesChoiceUntil END options
+        (I.coming inputs.old) (W.contents output.old) (W.contents output.new)) }
 {
     let kept = keep_lines::<V, I, W, P, END>(alloc, sieve, options, inputs, output, progress);
     match flush(output) {

@@ -187,6 +187,7 @@ const UNNAMED: &str = "standard input: bad file descriptor, or input/output erro
 #[test]
 fn faults_have_texts_and_statuses(rt: HostRuntime) -> Result<(), Fail> {
     for (fault, text, status) in [
+        (Fault::Line(7), "line 7: bad command", 1),
         (Fault::NotText, "an argument isn't UTF-8", 2),
         (Fault::Memory, "out of memory", 5),
         (

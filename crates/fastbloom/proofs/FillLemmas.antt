@@ -1,5 +1,5 @@
 -- What fills a filter: no hash, one hash more, and the hashes of another filter.
-use Rattle.std.proofs.Common.{◌≡◌, ℕ, ◌+◌, ◌*◌, ◌||◌, List, [], ◌∷◌, ◌++◌, length, map, replicate, refl, sym, subst, ◌∙◌, ap, arith, append-nil, append_assoc}
+use Rattle.std.proofs.Common.{◌≡◌, ℕ, ◌+◌, ◌*◌, ◌||◌, List, [], ◌∷◌, ◌++◌, length, map, replicate, refl, sym, subst, ◌∙◌, ap, arith, append_assoc}
 use Rattle.std.proofs.Math.Bool.{or_assoc}
 use Rattle.std.proofs.lemmas.List.{map-append, length-replicate}
 use Rattle.std.proofs.lemmas.List.Elements.{All-head, All-push, All-rest, All-same}

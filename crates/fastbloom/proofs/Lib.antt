@@ -9,6 +9,8 @@ mod InsertedLemmas
 mod LiveStoreFacts
 mod LoadedFacts
 mod MadeFacts
+mod OnesFacts
+mod OnesLemmas
 mod ReadingLemmas
 mod SeatedStepFacts
 mod SharedFacts

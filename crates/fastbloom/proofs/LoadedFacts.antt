@@ -7,7 +7,7 @@ use Rattle.fastbloom.specs.Shared.{WereLoaded, BeganAsLoaded}
 use Rattle.fastbloom.proofs.SharedFacts.{filter}
 
 -- the words of a vector of one word
-were-loaded : (name : ℕ) → FoundByLoad (filter name 1 1).words 0 5
+pub were-loaded : (name : ℕ) → FoundByLoad (filter name 1 1).words 0 5
     → WereLoaded (filter name 1 1).words (5 ∷ [])
 were-loaded name made = record {
   count = refl;

@@ -2,6 +2,7 @@
 -- `bloom_plain` on plain filters, `bloom_steps` on word steps, `bloom_seated` on seated filters.
 pub mod Fill
 pub mod LiveStore
+pub mod LoadedOnes
 pub mod Shared
 pub use Rattle.bloom_plain.specs.Builders
 pub use Rattle.bloom_plain.specs.CommandOf

@@ -7,6 +7,7 @@ mod data;
 mod items;
 mod keeping_store;
 mod live_store;
+mod ones;
 mod sets;
 mod together;
 mod words;

@@ -6,7 +6,7 @@ use Rattle.guard_engine.specs.Batches.{LoadsMany, PutsLines, ReadsPart}
 use Rattle.guard_engine.specs.Guarded.{Entries, Stays}
 use Rattle.guard_engine.specs.Guarding.{AllCover, IsGuarding, Watches}
 use Rattle.guard_engine.specs.Loaded.{GainsMany, Loads}
-use Rattle.guard_engine.specs.Stores.{Begins, Commits, IsReady, Sight, TakesBack}
+use Rattle.guard_engine.specs.Stores.{Begins, Commits, Sight, TakesBack}
 use Rattle.guard_engine.proofs.EntryLemmas.{Covers-stays, Stays-after, Stays-back}
 use Rattle.guard_engine.proofs.LoadLemmas.{Loads-more, Loads-stays}
 

@@ -2,7 +2,6 @@
 use Rattle.std.proofs.Common.{◌≡◌, ℕ, List, [], Option, None, Some, codes, length, ap, false, true, refl, arith}
 use Rattle.std.specs.Fmt.{digits}
 use Rattle.guard_engine.specs.declared.commands.Answer.TheVariants as answers
-use Rattle.guard_engine.specs.declared.commands.Trouble.{Trouble}
 use Rattle.guard_engine.specs.declared.commands.Trouble.TheVariants as troubles
 use Rattle.guard_engine.specs.declared.guard.Fault.TheVariants as faults
 use Rattle.guard_engine.specs.declared.guard.Put.TheVariants.{Added, Taken}
@@ -11,7 +10,7 @@ use Rattle.guard_engine.specs.declared.guard.loads.Why.{Why}
 use Rattle.guard_engine.specs.declared.guard.loads.Why.TheVariants as why
 use Rattle.guard_engine.specs.declared.line.BadLine.TheVariants.{NoTab, NotText, TooLong}
 use Rattle.guard_engine.specs.declared.told.Subject.TheVariants as subjects
-use Rattle.guard_engine.specs.Told.{answer_text, bad_text, counts_text, fault_of, stop_text, subject_of, tail_text, told_text, unread_text}
+use Rattle.guard_engine.specs.Told.{answer_text, fault_of, stop_text, subject_of, tail_text, told_text, unread_text}
 
 -- an error of the store says this of itself
 abbrev of_store : ℕ → Option (List ℕ)

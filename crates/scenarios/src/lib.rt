@@ -6,6 +6,8 @@ mod builders;
 #[cfg(test)]
 mod by_hash;
 #[cfg(test)]
+mod estimates;
+#[cfg(test)]
 mod files;
 #[cfg(test)]
 mod growing;

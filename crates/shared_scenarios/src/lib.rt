@@ -9,6 +9,8 @@ mod by_hash;
 #[cfg(test)]
 mod data;
 #[cfg(test)]
+mod estimates;
+#[cfg(test)]
 mod fills;
 #[cfg(test)]
 mod filters;

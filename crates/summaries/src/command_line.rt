@@ -1,8 +1,8 @@
 //! The arguments of the program.
 
+use crate::rates::rate_of;
 use clap::error::ErrorKind;
 use clap::{Arg, ArgAction, ArgGroup, ArgMatches, Command, Error, value_parser};
-use fastbloom::Rate;
 use std::alloc::Global;
 
 // The commands' arguments by their ids.
@@ -21,6 +21,8 @@ pub const JSON: &str = "json";
 pub const MOST_HASHES: &str = "hashes-up-to";
 
 pub const FILTER: &str = "FILTER";
+
+pub const OTHER: &str = "OTHER";
 
 pub const FILE: &str = "FILE";
 
@@ -186,6 +188,18 @@ fn info_command<'a>(alloc: Global) -> Result<Command<'a>, Error> {
     )
 }
 
+fn compare_command<'a>(alloc: Global) -> Result<Command<'a>, Error> {
+    let other = Arg::new(alloc, OTHER)
+        .required(true)
+        .help("A file with another filter of the same shape and key");
+    Ok(
+        Command::new(alloc, "compare")
+            .about("Prints how many keys two filters have, each and in common")
+            .arg(file(alloc))?
+            .arg(other)?,
+    )
+}
+
 // The program's command line.
 fn command<'a>(alloc: Global) -> Result<Command<'a>, Error> {
     Ok(
@@ -197,20 +211,9 @@ fn command<'a>(alloc: Global) -> Result<Command<'a>, Error> {
             .subcommand(build_command(alloc)?)?
             .subcommand(unite_command(alloc)?)?
             .subcommand(ask_command(alloc)?)?
-            .subcommand(info_command(alloc)?)?,
+            .subcommand(info_command(alloc)?)?
+            .subcommand(compare_command(alloc)?)?,
     )
-}
-
-/// The rate that a text such as 1/1000 tells, if it lies between 0 and 1.
-pub fn rate_of(text: &str) -> Option<Rate> {
-    let (num, den) = text.split_once('/')?;
-    let num = num.parse::<u64>().ok()?;
-    let den = den.parse::<u64>().ok()?;
-    if num < den {
-        Rate::new(num, den).ok()
-    } else {
-        None
-    }
 }
 
 // Whether a command's words have a rate that is none.

@@ -3,14 +3,38 @@ ghost use Rattle.std.specs.Prelude.{IfErr};
 ghost use Rattle.summaries_engine.specs.Stops.{IsUnreadable};
 
 use either::{Either, Left, Right};
+use std::alloc::Global;
 use std::fs;
 use std::rt::Files;
 use summaries_engine::{Inputs, Stop, unread};
 
-/// The name of standard input.
-pub const STANDARD: &str = "-";
+// The name of standard input, as it is told.
+const STANDARD: &str = "standard input";
 
-/// The files of a system, with standard input among them.
+// How an input is called. A file that has the name of standard input is called by its folder.
+fn called(name: &str) -> &str {
+    if name == "-" {
+        STANDARD
+    } else if name == STANDARD {
+        "./standard input"
+    } else {
+        name
+    }
+}
+
+/// The names by which the inputs of these words are opened and told: standard input where none is.
+pub fn called_inputs<'a>(alloc: Global, words: &[&'a str]) -> Result<Vec<&'a str>, Stop> {
+    let mut names = Vec::new(alloc);
+    if words.is_empty() {
+        names.push(STANDARD).map_err(|_| Stop::Memory)?;
+    }
+    for word in words {
+        names.push(called(word)).map_err(|_| Stop::Memory)?;
+    }
+    Ok(names)
+}
+
+/// The files of a system, with standard input among them, by the names of `called_inputs`.
 #[derive(Drop)]
 pub struct KeyFiles<'a, R> {
     pub rt: &'a R,

@@ -4,6 +4,7 @@
 mod command_line;
 mod form;
 mod key_files;
+mod rates;
 mod tasks;
 mod telling;
 

@@ -1,10 +1,15 @@
 //! The tasks that the program's words ask for.
 
 use crate::command_line::{
-    ABSENT, BITS, FILE, FILTER, HASHES, ITEMS, JSON, MOST_HASHES, RATE, WORKERS, ZERO, rate_of,
+    ABSENT, BITS, FILE, FILTER, HASHES, ITEMS, JSON, MOST_HASHES, OTHER, RATE, WORKERS, ZERO,
 };
 use crate::form::{Disk, load_named};
+<<<<<<< HEAD
+use crate::key_files::{KeyFiles, called_inputs};
+=======
 use crate::key_files::{KeyFiles, STANDARD};
+use crate::rates::rate_of;
+>>>>>>> h3
 use anyhow::{Context, anyhow};
 use clap::ArgMatches;
 use fastbloom::{BloomFilter, FilterError, Shape};
@@ -12,7 +17,7 @@ use std::io::{BufWriter, Write};
 use std::rt::Files;
 use std::thread::Threads;
 use summaries_engine::{
-    Shelf, Stop, Told, ask, build, facts_of, put, put_file, shape_for, unite_named,
+    Shelf, Stop, Told, ask, build, compare_named, facts_of, put, put_file, shape_for, unite_named,
 };
 
 // The error of words that the command line lets through only by a mistake of the program.
@@ -92,16 +97,13 @@ fn build_of<R: Files + Input + Print + AllocGlobal + Threads>(
     write(rt, matches, &filter)
 }
 
-// Standard input has the keys where no input is named.
+// Builds the filter of the keys of the inputs that the words name.
 fn run_build<R: Files + Input + Print + AllocGlobal + Threads>(
     rt: &R,
     matches: &ArgMatches,
 ) -> Result<(), Stop> {
-    match matches.get_strs(FILE) {
-        None => build_of(rt, matches, &[STANDARD]),
-        Some([]) => build_of(rt, matches, &[STANDARD]),
-        Some(names) => build_of(rt, matches, names),
-    }
+    let names = called_inputs(rt.alloc(), matches.get_strs(FILE).unwrap_or(&[]))?;
+    build_of(rt, matches, names.as_slice())
 }
 
 // The files with filters, of which none may have more hashes than the words allow.
@@ -157,15 +159,20 @@ fn ask_of<R: Files + Input + Print + AllocGlobal>(
     }
 }
 
-// The same: standard input where no input is named.
+// Asks a filter for the keys of the inputs that the words name.
 fn run_ask<R: Files + Input + Print + AllocGlobal>(
     rt: &R,
     matches: &ArgMatches,
 ) -> Result<(), Stop> {
-    match matches.get_strs(FILE) {
-        None => ask_of(rt, matches, &[STANDARD]),
-        Some([]) => ask_of(rt, matches, &[STANDARD]),
-        Some(names) => ask_of(rt, matches, names),
+    let names = called_inputs(rt.alloc(), matches.get_strs(FILE).unwrap_or(&[]))?;
+    ask_of(rt, matches, names.as_slice())
+}
+
+// Prints what is told of filters.
+fn print_facts<R: Print>(rt: &R, facts: &str) -> Result<(), Stop> {
+    match print!(rt; "{facts}").context("the facts can't be written") {
+        Ok(()) => Ok(()),
+        Err(error) => Err(Stop::Output(error)),
     }
 }
 
@@ -174,13 +181,22 @@ fn run_info<R: Files + Print + AllocGlobal>(rt: &R, matches: &ArgMatches) -> Res
         return Err(unsaid(FILTER));
     };
     let (filter, form) = load_named(rt, name, u32::MAX)?;
-    let Ok(facts) = facts_of(rt.alloc(), &filter, form) else {
-        return Err(Stop::Memory);
-    };
-    match print!(rt; "{facts}").context("the facts can't be written") {
-        Ok(()) => Ok(()),
-        Err(error) => Err(Stop::Output(error)),
+    match facts_of(rt.alloc(), &filter, form) {
+        Ok(facts) => print_facts(rt, facts.as_str()),
+        Err(_) => Err(Stop::Memory),
     }
+}
+
+fn run_compare<R: Files + Print + AllocGlobal>(rt: &R, matches: &ArgMatches) -> Result<(), Stop> {
+    let Some(one) = matches.get_str(FILTER) else {
+        return Err(unsaid(FILTER));
+    };
+    let Some(other) = matches.get_str(OTHER) else {
+        return Err(unsaid(OTHER));
+    };
+    let most = u32::MAX;
+    let facts = compare_named(rt.alloc(), &Disk { rt, most }, one, other)?;
+    print_facts(rt, facts.as_str())
 }
 
 /// Does what the words ask for.
@@ -193,6 +209,7 @@ pub fn run<R: Files + Input + Print + AllocGlobal + Threads>(
         Some(("unite", matches)) => run_unite(rt, matches),
         Some(("ask", matches)) => run_ask(rt, matches),
         Some(("info", matches)) => run_info(rt, matches),
+        Some(("compare", matches)) => run_compare(rt, matches),
         _ => Err(unsaid("command")),
     }
 }

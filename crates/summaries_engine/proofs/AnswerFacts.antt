@@ -9,7 +9,7 @@ use Rattle.bloom_parts.specs.Places.{are_in}
 use Rattle.bloom_parts.specs.Sip.{sip, start, whole_words, rest}
 use Rattle.fastbloom.specs.Data.{DefaultFilter}
 use Rattle.fastbloom.specs.Filter.{contains}
-use Rattle.lines.specs.Lines.{lines_by, lines_of}
+use Rattle.lines.specs.Lines.{lines_by}
 use Rattle.lines.specs.Reading.{AreShort}
 use Rattle.summaries_engine.specs.declared.answers.Told.TheVariants.{Found, Absent}
 use Rattle.summaries_engine.specs.Answers.{IsKeyed, HashesAll, told_text, AnswersAll}

@@ -1,6 +1,6 @@
 -- Keys of several inputs: cases that hold, and some that nearly do. The inputs "j" and "k" have the
 -- keys "a" and "b", bytes 97 and 98; the last key of "j" has no end.
-use Rattle.std.proofs.Common.{◌≡◌, ◌≤◌, ℕ, List, [], ◌∷◌, ◌++◌, codes, length, get_or, Option, Some, refl, ap, subst, sym, ◌∙◌, inl, inr, ◌⊎◌, arith}
+use Rattle.std.proofs.Common.{◌≡◌, ◌≤◌, ℕ, List, [], ◌∷◌, ◌++◌, codes, length, get_or, Option, Some, refl, ap, subst, inl, inr, ◌⊎◌, arith}
 use Rattle.std.proofs.lemmas.List.Elements.{All-from_recursion}
 use Rattle.lines.specs.Lines.{lines_by}
 use Rattle.lines.specs.Reading.{AreShort, IsReadWholeBy}

@@ -1,6 +1,6 @@
 -- Inputs that were taken one after the other.
-use Rattle.std.proofs.Common.{◌≡◌, zero, suc, ◌<◌, ℕ, ◌+◌, inl, inr, List, [], ◌∷◌, ◌++◌, map, length, get_or, take, Bor, Option, refl, sym, subst, ◌∙◌, ap, arith, append_assoc, append-nil}
-use Rattle.std.proofs.KnownBytes.{Appends-nil, Appends-trans}
+use Rattle.std.proofs.Common.{◌≡◌, zero, suc, ◌<◌, ℕ, ◌+◌, inl, inr, List, [], ◌∷◌, ◌++◌, map, length, get_or, take, Bor, Option, refl, sym, subst, ◌∙◌, ap, arith, append-nil}
+use Rattle.std.proofs.KnownBytes.{Appends-trans}
 use Rattle.std.proofs.lemmas.Grind.{flat_map-append}
 use Rattle.std.proofs.lemmas.List.{length-map, map-append, take_more}
 use Rattle.std.specs.Io.KnownBytes.{Appends}

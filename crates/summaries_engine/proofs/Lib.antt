@@ -1,5 +1,7 @@
 mod AnswerFacts
 mod AskingLemmas
+mod ComparingFacts
+mod ComparingLemmas
 mod CutLemmas
 mod CuttingLemmas
 mod InputFacts

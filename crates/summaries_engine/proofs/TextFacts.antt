@@ -1,14 +1,17 @@
 -- What is told of a filter: values from outside.
-use Rattle.std.proofs.Common.{◌≡◌, [], ◌∷◌, codes, refl}
-use lib.Count.{ones}
+use Rattle.std.proofs.Common.{◌≡◌, ◌≤◌, ℕ, List, [], ◌∷◌, ◌++◌, Option, Some, None, codes, get_or, refl, sym, ap, subst, lit≤, arith}
+use Rattle.std.specs.Prelude.{IfSome}
+use Rattle.std.proofs.lemmas.Option.{none-some}
 use Rattle.std.specs.Fmt.{char_count, digits, padded_integral}
+use Rattle.bloom_parts.specs.Content.{content}
+use Rattle.bloom_parts.specs.Counts.{count_on}
+use Rattle.bloom_parts.specs.Estimates.{EstimatesItems}
+use Rattle.bloom_parts.specs.Hashed.{SipState}
+use Rattle.bloom_parts.specs.Sip.{start}
+use Rattle.bloom_parts.specs.declared.math.estimate.Estimate.{Estimate}
+use Rattle.fastbloom.specs.Data.{DefaultFilter}
 use Rattle.summaries_engine.specs.declared.form.Form.TheVariants.{Sealed, Unsealed, Json}
-use Rattle.summaries_engine.specs.Facts.{bytes_text, form_text, key_text, ones_of, set_text, share_of}
-
--- two bits of one word are set, and one of another
-ones-two : ones_of (5 ∷ 2 ∷ []) ≡ 3
-unfolding ones
-ones-two = refl
+use Rattle.summaries_engine.specs.Facts.{TellsFilter, bytes_text, facts_text, form_text, items_text, key_text, set_text, share_of}
 
 -- what the forms are called
 forms : (form_text Sealed ≡ codes "file, sealed") × (form_text Unsealed ≡ codes "file, no seal")
@@ -52,3 +55,56 @@ set-part = refl
 set-all : set_text 64 10000 ≡ codes "bits set: 64 (100.00 %)\n"
 unfolding padded_integral digits char_count
 set-all = refl
+
+-- two bounds, and a lower one alone
+abbrev pub from_to : (low high : ℕ) → low ≤ high → Estimate
+from_to low high ordered = record {
+  low = low;
+  high = Some high;
+  ordered = λ x is. subst (λ (most : Option ℕ). IfSome most (λ it. low ≤ it)) is ordered;
+}
+
+abbrev pub from : ℕ → Estimate
+from low = record { low = low; high = None; ordered = λ x is. absurd (none-some x is) }
+
+items-both : items_text (from_to 9 10 (lit≤ tt)) ≡ codes "9 to 10"
+unfolding digits
+items-both = refl
+
+items-least : items_text (from 9) ≡ codes "9 or more"
+unfolding digits
+items-least = refl
+
+-- the hasher of the zero key, which has taken in nothing
+abbrev fresh : SipState
+fresh = record { low = 0; high = 0; words = start 0 0; held = []; count = 0 }
+
+-- a filter of one word and two hashes, under the zero key
+abbrev pub filter : ℕ → DefaultFilter
+filter word = record { words = word ∷ []; hashes = 2; hasher = record { hasher = fresh } }
+
+-- what is told where two bits are set
+abbrev text_of_two : List ℕ
+text_of_two =
+    codes "form: file, sealed\nbits: 64\nhashes: 2\nkey: 00000000000000000000000000000000\n"
+    ++ codes "bits set: 2 (3.13 %)\nitems: 1 to 2\n"
+
+facts-two : facts_text (filter 5) Sealed (from_to 1 2 (lit≤ tt)) ≡ text_of_two
+unfolding padded_integral digits char_count content count_on
+facts-two = refl
+
+-- the text tells the filter, if these are the bounds of its items
+tells-two : EstimatesItems 64 2 2 (from_to 1 2 (lit≤ tt))
+    → TellsFilter (filter 5) Sealed text_of_two
+unfolding content count_on
+tells-two estimates = record {
+  items = from_to 1 2 (lit≤ tt);
+  estimates = estimates;
+  is = sym facts-two;
+}
+
+-- the text of a file tells no filter that came as JSON
+tells-form : TellsFilter (filter 5) Json text_of_two → ⊥
+tells-form told =
+    let letter : ◌≡◌ {A = ℕ} 102 74 = ap (λ t. get_or t 6 0) told.is in
+    absurd (omega (arith, letter))

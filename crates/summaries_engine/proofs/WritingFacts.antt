@@ -5,7 +5,7 @@ use Rattle.std.proofs.Common.{◌≡◌, ◌≤◌, ℕ, List, [], ◌∷◌, �
 use Rattle.std.proofs.lemmas.List.Elements.{All-from_recursion, All-nil}
 use Rattle.std.proofs.KnownBytes.{Appends-nil}
 use Rattle.fastbloom.specs.Data.{DefaultFilter}
-use Rattle.lines.specs.Lines.{lines_by, lines_of}
+use Rattle.lines.specs.Lines.{lines_by}
 use Rattle.lines.specs.Reading.{AreShort}
 use Rattle.lines.specs.Writing.{Begins}
 use Rattle.summaries_engine.specs.Answers.{told_text}

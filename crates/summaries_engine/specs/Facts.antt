@@ -1,17 +1,15 @@
 -- What is told of a filter, in lines of text. The text is this project's own.
-use Rattle.std.specs.Prelude.{ℕ, ◌+◌, ◌-◌, ◌*◌, ◌/◌, ◌%◌, ◌^◌, false, codes, decimal, count_ones, List, [], ◌++◌}
+use Rattle.std.specs.Prelude.{◌≡◌, ℕ, ◌+◌, ◌-◌, ◌*◌, ◌/◌, ◌%◌, ◌^◌, false, codes, decimal, List, [], ◌++◌, Option, None, Some}
 use Rattle.std.specs.Fmt.{digits, format_spec, padded_integral, styled_decimal}
 use Rattle.std.specs.Int.{w64, swap_bytes}
-use Rattle.std.specs.List.{sum_by}
+use Rattle.bloom_parts.specs.Estimates.{EstimatesItems, least_of, most_of}
 use Rattle.bloom_parts.specs.Keys.{key_of}
+use Rattle.bloom_parts.specs.declared.math.estimate.Estimate.{Estimate}
 use Rattle.fastbloom.specs.Data.{DefaultFilter}
 use Rattle.fastbloom.specs.Filter.{num_bits_of}
+use Rattle.fastbloom.specs.Ones.{ones_of}
 use Rattle.summaries_engine.specs.declared.form.Form.{Form}
 use Rattle.summaries_engine.specs.declared.form.Form.TheVariants.{Sealed, Unsealed, Json}
-
--- how many bits of words are set
-abbrev pub ones_of : List ℕ → ℕ
-ones_of words = sum_by count_ones words
 
 -- what a form is called
 abbrev pub form_text : Form → List ℕ
@@ -39,11 +37,27 @@ set_text ones share =
     codes "bits set: " ++ (decimal ones ++ (codes " (" ++ (decimal (share / 100) ++ (codes "."
     ++ (styled_decimal (format_spec 32 0 4 2 (2 ^ 64 - 1)) (share % 100) ++ codes " %)\n")))))
 
--- the lines that tell a filter in a form
-abbrev pub facts_text : DefaultFilter → Form → List ℕ
-facts_text f form =
+-- two bounds of a number, the upper of which may be missing
+abbrev pub bounds_text : ℕ → Option ℕ → List ℕ
+bounds_text low (Some high) = decimal low ++ (codes " to " ++ decimal high)
+bounds_text low None = decimal low ++ codes " or more"
+
+-- the bounds of a number of items
+abbrev pub items_text : Estimate → List ℕ
+items_text items = bounds_text (least_of items) (most_of items)
+
+-- the lines that tell a filter in a form, with an estimate of its items
+abbrev pub facts_text : DefaultFilter → Form → Estimate → List ℕ
+facts_text f form items =
     codes "form: " ++ (form_text form
     ++ (codes "\nbits: " ++ (decimal (num_bits_of f)
     ++ (codes "\nhashes: " ++ (decimal f.hashes
     ++ (codes "\n" ++ (key_text (key_of f.hasher).0 (key_of f.hasher).1
-    ++ set_text (ones_of f.words) (share_of (ones_of f.words) (num_bits_of f)))))))))
+    ++ (set_text (ones_of f) (share_of (ones_of f) (num_bits_of f))
+    ++ (codes "items: " ++ (items_text items ++ codes "\n"))))))))))
+
+-- a text tells a filter in a form, with an estimate of its items
+pub record TellsFilter (f : DefaultFilter) (form : Form) (text : List ℕ) : Type 0 where
+  pub items : Estimate
+  pub estimates : EstimatesItems (num_bits_of f) f.hashes (ones_of f) items
+  pub is : text ≡ facts_text f form items

@@ -1,4 +1,5 @@
 pub mod Answers
+pub mod Comparing
 pub mod Facts
 pub mod Inputs
 pub mod Loaded

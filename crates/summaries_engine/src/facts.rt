@@ -1,31 +1,10 @@
 //! What is told of a filter.
-ghost use Rattle.std.specs.Prelude.{◌≡◌, ◌*◌, ◌^◌, ◌≤◌, ◌<◌, count_ones, length, IfOk, string_bytes};
-ghost use Rattle.summaries_engine.specs.Facts.{facts_text, form_text, key_text, ones_of, set_text, share_of};
+ghost use Rattle.std.specs.Prelude.{◌≡◌, ◌≤◌, ◌<◌, IfOk, string_bytes};
+ghost use Rattle.summaries_engine.specs.Facts.{TellsFilter, facts_text, form_text, items_text, key_text, set_text, share_of};
 
 use crate::form::Form;
-use fastbloom::BloomFilter;
+use fastbloom::{BloomFilter, Estimate};
 use std::alloc::{AllocError, Global};
-
-// How many bits of a word are set.
-fn ones_in(word: u64) -> u64
-    ensures value { result ≡ count_ones word }
-    ensures most { result ≤ 64 }
-{
-    u64::from(word.count_ones())
-}
-
-// How many bits of some words are set.
-fn ones_of(words: &[u64]) -> u64
-    requires { length words.now < 2 ^ 58 }
-    ensures value { result ≡ ones_of words.now }
-    ensures most { result ≤ 64 * length words.now }
-{
-    let mut ones = 0;
-    'words: for word in words {
-        ones += ones_in(*word);
-    }
-    ones
-}
 
 // What a form is called.
 fn name_of(form: Form) -> &'static str
@@ -47,7 +26,7 @@ fn key_line(alloc: Global, k0: u64, k1: u64) -> Result<String, AllocError>
 }
 
 // The share of some bits in all, in hundredths of a percent, rounded half up.
-fn share(ones: u64, bits: usize) -> u64
+fn share(ones: usize, bits: usize) -> u64
     requires some { 0 < bits }
     requires part { ones ≤ bits }
     ensures { result ≡ share_of ones bits }
@@ -57,26 +36,53 @@ fn share(ones: u64, bits: usize) -> u64
 }
 
 // The line of the bits that are set.
-fn set_line(alloc: Global, ones: u64, share: u64) -> Result<String, AllocError>
+fn set_line(alloc: Global, ones: usize, share: u64) -> Result<String, AllocError>
     ensures { IfOk result (λ text. string_bytes text ≡ set_text ones share) }
 {
     let (whole, part) = (share / 100, share % 100);
     format!(in alloc; "bits set: {ones} ({whole}.{part:02} %)\n")
 }
 
-/// Lines that tell a filter's form, its numbers of bits and of hashes, the sixteen bytes of its
-/// key, and how many bits are set, with their share in percent.
+/// The bounds of a number of items.
 ///
 /// # Errors
 /// Out of memory.
-pub fn facts_of(alloc: Global, filter: &BloomFilter, form: Form) -> Result<String, AllocError>
-    ensures { IfOk result (λ text. string_bytes text ≡ facts_text filter.now form) }
+pub fn items_of(alloc: Global, items: Estimate) -> Result<String, AllocError>
+    ensures { IfOk result (λ text. string_bytes text ≡ items_text items) }
+{
+    let low = items.low();
+    match items.high() {
+        Some(high) => format!(in alloc; "{low} to {high}"),
+        None => format!(in alloc; "{low} or more"),
+    }
+}
+
+// The lines that tell a filter, with the bounds of its items.
+fn lines_of(
+    alloc: Global,
+    filter: &BloomFilter,
+    form: Form,
+    items: Estimate,
+) -> Result<String, AllocError>
+    ensures { IfOk result (λ text. string_bytes text ≡ facts_text filter.now form items) }
 {
     let (bits, hashes) = (filter.num_bits(), filter.num_hashes());
     let (k0, k1) = filter.hasher().key();
     let key = key_line(alloc, k0, k1)?;
-    let ones = ones_of(filter.as_slice());
+    let ones = filter.count_ones();
     let set = set_line(alloc, ones, share(ones, bits))?;
+    let items = items_of(alloc, items)?;
     let name = name_of(form);
-    format!(in alloc; "form: {name}\nbits: {bits}\nhashes: {hashes}\n{key}{set}")
+    format!(in alloc; "form: {name}\nbits: {bits}\nhashes: {hashes}\n{key}{set}items: {items}\n")
+}
+
+/// Lines that tell a filter's form, its numbers of bits and of hashes, the sixteen bytes of its
+/// key, how many bits are set, with their share in percent, and the bounds of its items.
+///
+/// # Errors
+/// Out of memory.
+pub fn facts_of(alloc: Global, filter: &BloomFilter, form: Form) -> Result<String, AllocError>
+    ensures { IfOk result (λ text. TellsFilter filter.now form (string_bytes text)) }
+{
+    lines_of(alloc, filter, form, filter.estimated_items())
 }

@@ -2,6 +2,7 @@
 #![tactic(auto)]
 
 mod answers;
+mod comparing;
 mod facts;
 mod form;
 mod inputs;
@@ -15,6 +16,7 @@ mod summary;
 mod unions;
 
 pub use answers::{Told, ask};
+pub use comparing::{compare_named, compared};
 pub use facts::facts_of;
 pub use form::{Form, put, put_file};
 pub use inputs::Inputs;

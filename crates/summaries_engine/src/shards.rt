@@ -52,8 +52,8 @@ impl<'a, 'n, S: Shelf> Iterator for Shards<'a, 'n, S> {
     }
 }
 
-// Why the filter of a name doesn't fit the first.
-fn misfit(name: &str, first: &str, how: Difference) -> Stop
+/// Why the filter of a name doesn't fit the first.
+pub fn misfit(name: &str, first: &str, how: Difference) -> Stop
     ensures { IsBad (Says (misfit_text how name.now first.now)) result }
 {
     Stop::Bad(match how {

@@ -27,6 +27,27 @@ pub enum Refusal<E> {
     Differs(usize, Difference),
 }
 
+/// Whether a filter has the shape and the key of the first.
+///
+/// # Errors
+/// `Shape` where the shapes differ, and else `Key` where the keys do.
+pub fn check_fit(first: &BloomFilter, other: &BloomFilter) -> Result<(), Difference>
+    ensures fits { OnOk result (SameShape first.now other.now) }
+    ensures key { OnOk result (HaveSameKey first.now other.now) }
+    ensures shape { result ≡ Err Difference.Shape → ¬ SameShape first.now other.now }
+    ensures other { result ≡ Err Difference.Key → ¬ HaveSameKey first.now other.now }
+    // The shape comes first.
+    ensures order { result ≡ Err Difference.Key → SameShape first.now other.now }
+{
+    if !first.same_shape(other) {
+        return Err(Difference::Shape);
+    }
+    if first.hasher().key() != other.hasher().key() {
+        return Err(Difference::Key);
+    }
+    Ok(())
+}
+
 /// Sets each bit that is set in a shard's filter, if its shape and key are the same.
 ///
 /// # Errors
@@ -42,12 +63,7 @@ pub fn add(whole: &mut BloomFilter, shard: &BloomFilter) -> Result<(), Differenc
     ensures order { result ≡ Err Difference.Key → SameShape whole.old shard.now }
     ensures kept { OnErr result (whole.new ≡ whole.old) }
 {
-    if !whole.same_shape(shard) {
-        return Err(Difference::Shape);
-    }
-    if whole.hasher().key() != shard.hasher().key() {
-        return Err(Difference::Key);
-    }
+    check_fit(whole, shard)?;
     whole.union(shard);
     Ok(())
 }

@@ -2,6 +2,7 @@
 
 use crate::builders::{by_bits_and_hashes, by_bits_and_items, by_rate_and_items, by_words};
 use crate::clauses::remember;
+use crate::estimates::{are_alike, bounds_of};
 use crate::files::{load, save};
 use crate::filled::filter_of;
 use crate::keys::drawn_key;
@@ -144,5 +145,29 @@ fn shared_filters_find_what_threads_inserted(rt: HostRuntime) -> Result<(), Fail
     assert!(rt; !is_left);
     let filled = filter_of(&rt, rt.alloc(), &[1, 2, 3, 4, 5, 6, 7])?;
     assert_eq!(rt; count_hashes(&filled, 7), 7);
+    Ok(())
+}
+
+// The bounds of two bits of 64 by two hashes, which are more than one item and fewer than two.
+fn bounds(alloc: Global) -> Result<(usize, Option<usize>), FilterError> {
+    let mut filter = BloomFilter::with_num_bits(alloc, 64)?.hashes(2);
+    filter.insert_hash(1);
+    Ok(bounds_of(&filter))
+}
+
+// Whether a filter of a thousand items is alike itself, and whether it is alike an empty one.
+fn likeness(alloc: Global) -> Result<(bool, bool), FilterError> {
+    let mut filter = empty_filter(alloc, 1 << 16, &0)?;
+    let empty = empty_filter(alloc, 1 << 16, &0)?;
+    for item in 0..1000u64 {
+        filter.insert(&item);
+    }
+    Ok((are_alike(&filter, &filter), are_alike(&filter, &empty)))
+}
+
+#[test]
+fn estimates_tell_items_and_likeness(rt: HostRuntime) -> Result<(), Fail> {
+    assert_eq!(rt; bounds(rt.alloc())?, (1, Some(2)));
+    assert_eq!(rt; likeness(rt.alloc())?, (true, false));
     Ok(())
 }

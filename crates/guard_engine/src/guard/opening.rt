@@ -1,7 +1,7 @@
 //! How a guard is opened.
-ghost use Rattle.std.specs.Prelude.{◌≡◌, ◌≢◌, ◌↔◌, ◌<◌, ◌≤◌, ◌*◌, ◌^◌, Err, IfOk, IsTrue, count_ones, length};
+ghost use Rattle.std.specs.Prelude.{◌≡◌, ◌≢◌, ◌↔◌, Err, IfOk, IsTrue};
 ghost use Rattle.guard_engine.specs.Guarded.{Covers, IsMadeOf, LacksFilter};
-ghost use Rattle.guard_engine.specs.Room.{HasRoom, ones_of};
+ghost use Rattle.guard_engine.specs.Room.{HasRoom};
 ghost use Rattle.guard_engine.specs.Stores.{IsReady, TakesBack};
 
 use super::{Guard, Refusal};
@@ -27,27 +27,6 @@ pub enum Origin<F> {
     Full,
 }
 
-// How many bits of a word are set.
-fn ones_in(word: u64) -> u64
-    ensures value { result ≡ count_ones word }
-    ensures most { result ≤ 64 }
-{
-    u64::from(word.count_ones())
-}
-
-// How many bits of some words are set.
-fn ones_of(words: &[u64]) -> u64
-    requires { length words.now < 2 ^ 58 }
-    ensures value { result ≡ ones_of words.now }
-    ensures most { result ≤ 64 * length words.now }
-{
-    let mut ones = 0;
-    'words: for word in words {
-        ones += ones_in(*word);
-    }
-    ones
-}
-
 // Whether a filter has room for this many more keys: as many bits as one made for them, of which
 // fewer than half are set.
 fn has_room(filter: &BloomFilter, rate: Rate, room: usize) -> bool
@@ -64,7 +43,7 @@ fn has_room(filter: &BloomFilter, rate: Rate, room: usize) -> bool
     if bits > wide {
         return false;
     }
-    ones_of(filter.as_slice()) < wide as u64 / 2
+    filter.count_ones() < wide / 2
 }
 
 // A filter of all keys of a store, with room for more.

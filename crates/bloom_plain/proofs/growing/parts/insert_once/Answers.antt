@@ -1,5 +1,3 @@
-use Rattle.std.proofs.Common.{subst, ◌≡◌}
-use Rattle.bloom_parts.specs.Content.{AreWords}
 use Rattle.bloom_plain.proofs.GrowingLemmas.{insert-held}
 use Rattle.bloom_plain.proofs.growing.parts.insert_once.Goals as goal
 

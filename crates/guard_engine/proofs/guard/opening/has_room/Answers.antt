@@ -1,4 +1,4 @@
-use Rattle.std.proofs.Common.{◌≡◌, ◌<◌, ◌≤◌, ◌*◌, ◌^◌, length, arith}
+use Rattle.std.proofs.Common.{◌≡◌, ◌<◌, ◌≤◌, ◌^◌, arith}
 use Rattle.bloom_plain.specs.Filter.{num_bits_of}
 use Rattle.guard_engine.proofs.RoomLemmas.{no-room-large, no-room-narrow, room-half}
 use Rattle.guard_engine.proofs.guard.opening.has_room.Goals as goal
@@ -32,4 +32,4 @@ returns c =
     let wide : c.in-Ok.bits ≤ num_bits_of c.args.filter.now =
     omega (arith, c.if-bits-wide.false, c.num_bits-wide.ensures.value) in
     rw c.num_bits-wide.ensures.value (room-half _ _ _ c.size_of_rate.ensures some _ _
-    c.in-Ok.ensures.value wide (rw c.as_slice.ensures.value at c.ones_of.ensures.value))
+    c.in-Ok.ensures.value wide c.count_ones.ensures.count)

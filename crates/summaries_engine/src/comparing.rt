@@ -1,0 +1,104 @@
+//! What is told of two filters.
+ghost use Rattle.std.specs.Prelude.{◌≡◌, ◌≤◌, IfErr, IfOk, string_bytes};
+ghost use Rattle.fastbloom.specs.Filter.{SameShape};
+ghost use Rattle.summaries_engine.specs.Comparing.{ComparesNamed, StopsComparing, TellsBoth, compared_text, least_share, likeness_text, most_share};
+
+use crate::facts::items_of;
+use crate::shards::{Shelf, misfit};
+use crate::stop::Stop;
+use crate::unions::check_fit;
+use fastbloom::{BloomFilter, Bracket, Estimate, estimated_common, estimated_part};
+use std::alloc::{AllocError, Global};
+
+// What is one in a bracket.
+const WHOLE: u128 = 1 << 63;
+
+// The lower bound of a part in hundredths of a percent, rounded down.
+fn least_of(part: Bracket) -> u64
+    ensures { result ≡ least_share part }
+{
+    (part.low() as u128 * 10_000 / WHOLE) as u64
+}
+
+// The upper bound of a part in hundredths of a percent, rounded up.
+fn most_of(part: Bracket) -> u64
+    ensures { result ≡ most_share part }
+{
+    (part.high() as u128 * 10_000).div_ceil(WHOLE) as u64
+}
+
+// The line of a likeness, of which these are the bounds in hundredths of a percent.
+fn likeness_line(alloc: Global, least: u64, most: u64) -> Result<String, AllocError>
+    ensures { IfOk result (λ text. string_bytes text ≡ likeness_text least most) }
+{
+    let (low, low_part) = (least / 100, least % 100);
+    let (high, high_part) = (most / 100, most % 100);
+    format!(in alloc; "likeness: {low}.{low_part:02} to {high}.{high_part:02} %\n")
+}
+
+// The lines of the estimates of two filters, of their union and of what they have in common, and of
+// the part that this is.
+fn lines_of(
+    alloc: Global,
+    first: Estimate,
+    second: Estimate,
+    all: Estimate,
+    common: Estimate,
+    part: Bracket,
+) -> Result<String, AllocError>
+    ensures { IfOk result
+        (λ text. string_bytes text ≡ compared_text first second all common part) }
+{
+    let likeness = likeness_line(alloc, least_of(part), most_of(part))?;
+    let (first, second) = (items_of(alloc, first)?, items_of(alloc, second)?);
+    let (all, common) = (items_of(alloc, all)?, items_of(alloc, common)?);
+    format!(in alloc;
+        "first: {first}\nsecond: {second}\nunion: {all}\ncommon: {common}\n{likeness}"
+    )
+}
+
+/// Lines that tell how many items two filters have, how many their union has and how many they have
+/// in common, and which part of all items that is, in percent. Each is two bounds.
+///
+/// # Errors
+/// Out of memory.
+pub fn compared(
+    alloc: Global,
+    first: &BloomFilter,
+    second: &BloomFilter,
+) -> Result<String, AllocError>
+    requires { SameShape first.now second.now }
+    ensures { IfOk result (λ text. TellsBoth first.now second.now (string_bytes text)) }
+{
+    let (one, other) = (first.estimated_items(), second.estimated_items());
+    let all = first.estimated_union(second);
+    let common = estimated_common(one, other, all);
+    lines_of(alloc, one, other, all, common, estimated_part(common, all))
+}
+
+/// The lines that tell the filters of two names.
+///
+/// # Errors
+/// Out of memory, and as `unite_named`: at the first name whose filter can't be loaded, or where
+/// the second has another shape or key than the first.
+pub fn compare_named<S: Shelf>(
+    alloc: Global,
+    shelf: &S,
+    one: &str,
+    other: &str,
+) -> Result<String, Stop>
+    ensures tells { IfOk result (λ text.
+        ComparesNamed (S.has shelf.now) one.now other.now (string_bytes text)) }
+    ensures stops { IfErr result
+        (StopsComparing (S.has shelf.now) (S.fails shelf.now) one.now other.now) }
+{
+    let first = shelf.load(one)?;
+    let second = shelf.load(other)?;
+    if let Err(how) = check_fit(&first, &second) {
+        return Err(misfit(other, one, how));
+    }
+    match compared(alloc, &first, &second) {
+        Ok(text) => Ok(text),
+        Err(_) => Err(Stop::Memory),
+    }
+}
