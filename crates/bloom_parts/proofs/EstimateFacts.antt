@@ -81,7 +81,7 @@ above-three_more : IsAbove 64 3 3 → ⊥
 above-three_more is = omega (arith, is)
 
 -- one hash and one bit: one item
-estimate-one : IsEstimate 64 1 1 1 (Some 1)
+pub estimate-one : IsEstimate 64 1 1 1 (Some 1)
 unfolding rounded_power
 estimate-one =
     is-estimate 64 1 1 (lit< tt) (lit< tt) (lit< tt) 1 (lit< tt) (lit≤ tt) (Some 1)
@@ -119,7 +119,7 @@ estimate-above : IsEstimate 64 1 1 0 (Some 0) → ⊥
 estimate-above is = omega (arith, is.above 1 (lit< tt))
 
 -- the bounds can't be nearer
-tight-one : IsTight 64 1 1 1 (Some 1)
+pub tight-one : IsTight 64 1 1 1 (Some 1)
 unfolding rounded_power
 tight-one = record {
   low_last = λ _. lit< tt;

@@ -6,6 +6,7 @@ mod BufferFacts
 mod BufferLemmas
 mod ClearLemmas
 mod ContentLemmas
+mod CommonFacts
 mod CountFacts
 mod CountLemmas
 mod DeciderFacts
