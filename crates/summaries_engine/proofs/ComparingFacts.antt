@@ -4,6 +4,7 @@ use Rattle.std.specs.Fmt.{char_count, digits, padded_integral}
 use Rattle.bloom_parts.specs.Alike.{EstimatesEach, IsCommon, IsPartOf}
 use Rattle.bloom_parts.specs.Content.{content}
 use Rattle.bloom_parts.specs.Counts.{count_on}
+use Rattle.bloom_parts.specs.Keys.{key_of}
 use Rattle.bloom_parts.specs.declared.math.bracket.Bracket.{Bracket}
 use Rattle.bloom_parts.specs.declared.math.estimate.Estimate.{Estimate}
 use Rattle.summaries_engine.specs.declared.stop.Stop.TheVariants.{Memory, Worker}
@@ -73,6 +74,26 @@ tells-second : (rest : List ℕ) → TellsBoth (filter 1) (filter 6) (codes "sec
 tells-second rest told =
     let letter : ◌≡◌ {A = ℕ} 115 102 = ap (λ t. get_or t 0 0) told.is in
     absurd (omega (arith, letter))
+
+-- a filter lies under its word
+compares : (text : List ℕ) → TellsBoth (filter 1) (filter 6) text
+    → ComparesNamed (λ name f. name ≡ f.words) (1 ∷ []) (6 ∷ []) text
+compares text tells_both = record {
+  first = filter 1;
+  second = filter 6;
+  is_first = refl;
+  is_second = refl;
+  shape = record { words = refl; hashes = refl };
+  key = refl;
+  tells = tells_both;
+}
+
+-- filters whose keys differ aren't compared; here one lies under the first word of its key
+compares-keys : (text : List ℕ)
+    → ComparesNamed (λ name f. name ≡ (key_of f.hasher).0 ∷ []) (0 ∷ []) (1 ∷ []) text → ⊥
+compares-keys text is =
+    let wrong : ◌≡◌ {A = List ℕ} (0 ∷ []) (1 ∷ []) =
+    is.is_first ∙ ap (λ pair. pair.0 ∷ []) is.key ∙ sym is.is_second in cc
 
 -- filters with two and with three hashes aren't compared
 compares-shapes : (text : List ℕ) → ComparesNamed counted (2 ∷ []) (3 ∷ []) text → ⊥
