@@ -9,7 +9,8 @@ use Rattle.std.proofs.lemmas.Grind.{div_ceil_times}
 use Rattle.std.proofs.lemmas.Nat.{mul-le}
 use Rattle.bloom_parts.specs.Alike.{part_low, part_high}
 
--- the lower bound is below the part that at least so many items are of at most so many
+-- the lower bound holds: m items are in the part, no fewer than `part`, of n in all, no more than
+-- `all`
 pub low-holds : (part m n : ℕ) (all : Option ℕ) → part ≤ m → IfSome all (λ most. n ≤ most) →
     part_low part all * n ≤ 2 ^ 63 * m
 low-holds part m n None least most = omega arith
@@ -30,7 +31,8 @@ min-is a b = elim (cases_lt a b) [
   | inr more ↦ inr (omega (arith, more))
 ]
 
--- the upper bound is above the part that at most so many items are of at least so many
+-- the upper bound holds: m items are in the part, no more than `part`, of n in all, no fewer than
+-- `all`
 pub high-holds : (all m n : ℕ) (part : Option ℕ) → all ≤ n → m ≤ n →
     IfSome part (λ most. m ≤ most) →
     2 ^ 63 * m ≤ part_high part all * n

@@ -9,7 +9,6 @@ use Rattle.bloom_parts.specs.Content.{content}
 use Rattle.bloom_parts.specs.Counts.{count_on}
 use Rattle.bloom_parts.specs.Made.{SharedWords, FoundByLoad}
 use Rattle.bloom_parts.proofs.PublishedLemmas.{count-push}
-use Rattle.fastbloom.specs.LoadedOnes.{CountsLoaded}
 
 -- the first n words of a vector were loaded, and their bits were counted
 pub record CountedFirst (vector : SharedWords) (n ones : ℕ) : Type 0 where
@@ -72,15 +71,3 @@ counted-next {vector} {n} {ones} found more is loaded fits counts few =
           omega (arith, push, is.counted, counts);
       most = omega (arith, is.most, few);
     }
-
--- all words are loaded and counted
-pub counted-all : {vector : SharedWords} {n ones : ℕ} → CountedFirst vector n ones →
-    n ≡ vector.count → CountsLoaded vector ones
-counted-all {vector} {n} {ones} is all = record {
-  words = is.words;
-  loaded = record {
-    count = is.count ∙ all;
-    each = λ i within. is.each i (omega (arith, within, all));
-  };
-  counted = is.counted ∙ ap (λ m. count_on (content is.words) (64 * m)) all;
-}
