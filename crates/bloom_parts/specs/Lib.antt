@@ -12,6 +12,7 @@ pub mod HasherWords
 pub mod Keys
 pub mod Lanes
 pub mod Laws
+pub mod Looks
 pub mod Made
 pub mod Operations
 pub mod Places
@@ -25,3 +26,4 @@ pub mod Sip
 pub mod Sizing
 pub mod States
 pub mod Stretches
+pub mod Turns

@@ -10,6 +10,8 @@ mod atomic;
 mod by_hash;
 mod gathered;
 mod loads;
+mod looks;
+mod ors;
 mod words;
 
 use crate::error::FilterError;
@@ -17,6 +19,7 @@ use crate::slices;
 pub use atomic::{AtomicBitVec, AtomicWords};
 pub use gathered::gather;
 pub use loads::Loads;
+pub use ors::Ors;
 use std::alloc::Global;
 use std::marker::Model;
 pub use words::Words;

@@ -10,7 +10,8 @@ use Rattle.bloom_parts.specs.Made.{FoundByOr}
 use Rattle.bloom_parts.specs.Places.{place}
 use Rattle.bloom_steps.specs.Scripts.{Any, answer_of_end}
 use Rattle.fastbloom.specs.Shared.{SharedFilter, IsMade, MakesInsert, WasInserted, QueuesInsert}
-use Rattle.fastbloom.proofs.SharedFacts.{insert-turns-on-each, member}
+use Rattle.fastbloom.proofs.SharedFacts.{insert-turns-on-each}
+use Rattle.fastbloom.proofs.ScriptLemmas.{member}
 use Rattle.fastbloom.proofs.SharedLemmas.{last-of}
 
 -- one step of an insert turned on this place, and found it on or off

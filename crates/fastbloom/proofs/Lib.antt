@@ -8,13 +8,16 @@ mod FormLemmas
 mod InsertedLemmas
 mod LiveStoreFacts
 mod LoadedFacts
+mod LookedLemmas
 mod MadeFacts
 mod OnesFacts
 mod OnesLemmas
 mod ReadingLemmas
+mod ScriptLemmas
 mod SeatedStepFacts
 mod SharedFacts
 mod SharedFormFacts
 mod SharedLemmas
 mod TakenLemmas
 mod TogetherLemmas
+mod TurnedLemmas

@@ -1,5 +1,5 @@
 -- What the definitions of calls on shared filters say: cases that hold, and cases that nearly do.
-use Rattle.std.proofs.Common.{◌≡◌, ◌≢◌, ◌∙◌, ℕ, zero, suc, ◌+◌, ◌*◌, ◌/◌, ◌%◌, ◌^◌, ◌<◌, Bool, false, List, [], ◌∷◌, length, Some, None, refl, sym, subst, arith, slice_get}
+use Rattle.std.proofs.Common.{◌≡◌, ◌≢◌, ◌∙◌, ℕ, zero, suc, ◌+◌, ◌*◌, ◌/◌, ◌%◌, ◌^◌, ◌<◌, Bool, false, List, [], ◌∷◌, Some, None, refl, sym, subst, arith}
 use Rattle.std.proofs.lemmas.Option.{none-some, same_Some}
 use Rattle.bloom_parts.specs.Chain.{chain}
 use Rattle.bloom_parts.specs.Places.{place}
@@ -10,6 +10,7 @@ use Rattle.bloom_steps.specs.declared.steps.vocabulary.End.TheVariants.{Answer}
 use Rattle.bloom_steps.specs.Scripts.{Taken, Each}
 use Rattle.bloom_plain.specs.Filter.{Filter}
 use Rattle.fastbloom.specs.Shared.{SharedFilter, HaveSameShape, HasFormOf, IsMade, MakesCall, MakesInsert, WereFoundAlike, WereFoundToDiffer}
+use Rattle.fastbloom.proofs.ScriptLemmas.{member}
 use Rattle.fastbloom.proofs.SharedLemmas.{insert-answers, silent}
 
 -- a filter with this number of words and of hashes, under any name, whose hasher is a number
@@ -94,12 +95,6 @@ clear-is-silent : (name : ℕ) (reply : Bool)
     → MakesCall (filter name 2 1) (filter name 2 1) Clear (Some reply) → ⊥
 clear-is-silent name reply calls =
     none-some reply (sym (calls.answers ∙ silent calls.taken calls.script.last))
-
--- a list has a member at each index below its length
-pub member : (s : List Taken) (i : ℕ) → i < length s → (t : Taken) × (slice_get s i ≡ Some t)
-member [] i within = absurd (omega (arith, within))
-member (t ∷ rest) zero within = (t, refl)
-member (t ∷ rest) (suc i) within = member rest i (omega (arith, within))
 
 -- by an insert each position of its hash was turned on, in the filter's own words
 pub insert-turns-on-each : {S : Type 0} (f : SharedFilter S) (hash : ℕ) (reply : Bool)

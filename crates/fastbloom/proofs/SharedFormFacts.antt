@@ -9,7 +9,8 @@ use Rattle.bloom_steps.specs.declared.steps.vocabulary.Step.TheVariants.{Take}
 use Rattle.bloom_steps.specs.declared.steps.vocabulary.End.TheVariants.{Done}
 use Rattle.bloom_steps.specs.Scripts.{Taken}
 use Rattle.fastbloom.specs.Shared.{SharedFilter, HasFormFor, IsMade, MakesInsert, MakesInserts, TakesWords}
-use Rattle.fastbloom.proofs.SharedFacts.{filter, member, only}
+use Rattle.fastbloom.proofs.SharedFacts.{filter, only}
+use Rattle.fastbloom.proofs.ScriptLemmas.{member}
 use Rattle.fastbloom.proofs.TakenLemmas.{taken-count}
 
 -- a builder of the rate one half, whose hasher is the number 7

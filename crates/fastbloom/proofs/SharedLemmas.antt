@@ -1,8 +1,8 @@
 -- From the steps of a store that lends shared words to the calls on them.
-use Rattle.std.proofs.Common.{◌≡◌, ◌∙◌, ℕ, zero, suc, ◌+◌, ◌≤◌, Bool, List, [], ◌∷◌, length, Option, Some, None, ap, refl, sym, subst, arith, slice_get, unwrap_or}
+use Rattle.std.proofs.Common.{◌≡◌, ◌∙◌, ℕ, zero, suc, ◌+◌, ◌≤◌, Bool, List, [], ◌∷◌, length, Option, Some, None, ap, refl, sym, subst, arith, slice_get}
 use Rattle.std.proofs.lemmas.Option.{none-some, same_Some}
 use Rattle.bloom_parts.specs.Made.{SharedWords}
-use Rattle.bloom_steps.specs.declared.steps.vocabulary.Call.TheVariants.{Insert, Contains}
+use Rattle.bloom_steps.specs.declared.steps.vocabulary.Call.TheVariants.{Insert}
 use Rattle.bloom_steps.specs.declared.steps.vocabulary.End.TheVariants.{Done}
 use Rattle.bloom_steps.specs.declared.steps.vocabulary.Call.{Call}
 use Rattle.bloom_steps.specs.Plans.{plan_of}
@@ -87,28 +87,6 @@ insert-answers w k hash s some script =
     let last = last-of s (omega (arith, some, script.count)) in
     let end = script.last last.index last.step last.stands last.is_last in
     (end.0, last.answers ∙ ap answer_of_end end.1)
-
--- a script of a contains has an answer
-pub contains-answers : (w k hash : ℕ) (s : List Taken) → IsScript w k (Contains hash) s
-    → (reply : Bool) × (answer_of s ≡ Some reply)
-contains-answers w k hash s script =
-    let last = last-of s script.count.0 in
-    let ends = script.last last.index last.step last.stands last.is_last in
-    (_, last.answers ∙ ap answer_of_end (ends last.index last.step last.stands last.is_last))
-
--- a call whose script has an answer replies it, whatever stands in for none
-pub replies : {S : Type 0} (f : SharedFilter S) (call : Call) (reply : Option Bool)
-    (result other : Bool)
-    → (calls : MakesCall f f call reply)
-    → (b : Bool) × (answer_of calls.taken ≡ Some b)
-    → result ≡ unwrap_or reply other → MakesCall f f call (Some result)
-replies f call reply result other calls answers is = record {
-  taken = calls.taken;
-  script = calls.script;
-  made = calls.made;
-  answers =
-      ap Some (is ∙ ap (λ r. unwrap_or r other) (calls.answers ∙ answers.1)) ∙ sym answers.1;
-}
 
 -- a call whose script ends with `Done` replies nothing
 pub replies-none : {S : Type 0} (f other : SharedFilter S) (call : Call) (reply : Option Bool)

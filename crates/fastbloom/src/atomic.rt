@@ -92,16 +92,16 @@ impl<S> AtomicBloomFilter<S> {
     pub fn insert_hash(&self, hash: u64) -> bool
         ensures { MakesInsert self.now hash result }
     {
-        self.make(self, Call::Insert(hash)).unwrap_or(false)
+        self.words.ors().insert_positions(self.num_hashes, hash)
     }
 
     /// Whether all positions of a hash were found on, one after the other.
     ///
-    /// It stops at the first that is off. While other threads turn positions off, those found on
-    /// may never have been on together.
+    /// Its steps stop at the first that is off. While other threads turn positions off, those found
+    /// on may never have been on together.
     pub fn contains_hash(&self, hash: u64) -> bool
         ensures { MakesCall self.now self.now (Contains hash) (Some result) }
     {
-        self.make(self, Call::Contains(hash)).unwrap_or(false)
+        self.words.loads().contains_positions(self.num_hashes, hash)
     }
 }

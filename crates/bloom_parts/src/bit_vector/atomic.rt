@@ -36,6 +36,22 @@ impl Model for AtomicBitVec {
     ghost invariant = { λ v. (1 ≤ vec_len v.words) × (vec_len v.words < 2 ^ 58) };
 }
 
+// Reads a word. A slice that is handed in is known to fit the memory.
+#[inline(always)]
+pub(super) fn load_from(words: &[AtomicU64], word: usize) -> u64
+    requires { word < length words.now }
+{
+    words[word].load(Ordering::SeqCst)
+}
+
+// Turns on the bits of a mask in a word, and answers the word as it was.
+#[inline(always)]
+pub(super) fn or_into(words: &[AtomicU64], word: usize, mask: u64) -> u64
+    requires { word < length words.now }
+{
+    words[word].fetch_or(mask, Ordering::SeqCst)
+}
+
 impl AtomicBitVec {
     /// The words that an iterator gives, in order.
     pub fn from_words<I: Iterator<Item = u64>>(alloc: Global, words: I) -> Result<Self, FilterError>
@@ -73,6 +89,15 @@ impl AtomicBitVec {
         self.len() * 64
     }
 
+    // The words, word 0 first.
+    pub(super) fn as_slice(&self) -> &[AtomicU64]
+        ensures count { length result.now ≡ self.now.count }
+        ensures least { 1 ≤ self.now.count }
+        ensures most { self.now.count < 2 ^ 58 }
+    {
+        self.words.as_slice()
+    }
+
     /// An iterator over the words, word 0 first, which loads each when it is asked for it.
     pub fn iter(&self) -> AtomicWords<'_>
         ensures vector { result.vector ≡ self.now }
@@ -93,7 +118,7 @@ impl AtomicBitVec {
         requires { word < self.now.count }
         ensures { FoundByLoad self.now word result }
     {
-        self.words[word].load(Ordering::SeqCst)
+        load_from(self.as_slice(), word)
     }
 
     /// Turns on the bits of a mask in a word, and answers the word as it was.
@@ -102,7 +127,7 @@ impl AtomicBitVec {
         requires { word < self.now.count }
         ensures { FoundByOr self.now word mask result }
     {
-        self.words[word].fetch_or(mask, Ordering::SeqCst)
+        or_into(self.as_slice(), word, mask)
     }
 
     /// Turns off the bits of a word that a mask lacks, and answers the word as it was.
