@@ -53,7 +53,11 @@ looks-one v i hash false finds =
 pub looks-off : (v : SharedWords) (i a count hash : ℕ) → a ≤ count → Looks v i a hash false
     → Looks v i count hash false
 looks-off v i a count hash fewer look =
-    record { places = look.places; on = look.on; end = (omega (arith, fewer, look.end.0), look.end.1) }
+    record {
+      places = look.places;
+      on = look.on;
+      end = (omega (arith, fewer, look.end.0), look.end.1);
+    }
 
 -- the places that a second look found on, after all of a first
 on-then : (v : SharedWords) (i a b hash : ℕ) (s : Bool) (one : Looks v i a hash true)

@@ -46,9 +46,9 @@ module _ {S : Type 0} (f : SharedFilter S) (hash places : ℕ) (all : Bool)
   ends-look : MakesCall f f (Contains hash) (Some all)
   ends-look =
       let s = listed Loads places all
-          (λ i less. load-step i true Running (on i less) (λ apart. refl)
-          (λ same. absurd (omega (arith, less, same))))
-          (load-step places all (Answer all) last (λ apart. absurd (apart refl)) (λ same. refl)) in
+      (λ i less. load-step i true Running (on i less) (λ apart. refl)
+      (λ same. absurd (omega (arith, less, same))))
+      (load-step places all (Answer all) last (λ apart. absurd (apart refl)) (λ same. refl)) in
       record {
         taken = s.taken;
         script = record {
@@ -63,7 +63,8 @@ module _ {S : Type 0} (f : SharedFilter S) (hash places : ℕ) (all : Bool)
           };
           running = s.running;
           last = λ i t got ends j u there end.
-              s.ends i t got ends ∙ ap Answer ((s.each j u there).end (omega (arith, end, s.count)));
+              s.ends i t got ends
+              ∙ ap Answer ((s.each j u there).end (omega (arith, end, s.count)));
         };
         made = λ i t got.
             subst (λ step. IsMade f.words f.words step t.found) (sym (s.each i t got).step)

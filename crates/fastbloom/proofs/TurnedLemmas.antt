@@ -36,8 +36,8 @@ module _ {S : Type 0} (f : SharedFilter S) (hash : ℕ) (all : Bool) (some : 1 �
   unfolding at
   turns-make =
       let s = listed Ors (f.hashes - 1) all
-          (λ i less. or-step i Running (omega (arith, less)))
-          (or-step (f.hashes - 1) (Answer all) (omega (arith, some))) in
+      (λ i less. or-step i Running (omega (arith, less)))
+      (or-step (f.hashes - 1) (Answer all) (omega (arith, some))) in
       let count : f.hashes ≡ f.hashes - 1 + 1 = omega (arith, some) in
       record {
         taken = s.taken;
