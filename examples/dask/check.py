@@ -20,7 +20,7 @@ from distributed import Client
 
 import bloom_dask
 from fastbloom import Filter
-from machines import MARK, cluster, namespaces, none_left, started, wait_for
+from machines import MARK, PATIENCE, cluster, namespaces, none_left, started, wait_for
 
 HERE = Path(__file__).resolve().parent
 SHARDS = [sys.executable, HERE / "shards.py"]
@@ -74,7 +74,7 @@ def write_keys(folder):
 def run(*words):
     """The status, output and errors of a command."""
     done = subprocess.run(list(map(str, words)), stdin=subprocess.DEVNULL, capture_output=True,
-                          text=True, timeout=180, check=False)
+                          text=True, timeout=600, check=False)
     return done.returncode, done.stdout, done.stderr
 
 
@@ -157,7 +157,7 @@ def is_ended_by(checks, number):
     with started([*SHARDS, folder, *SIZE], f"{folder}.log") as process:
         pipe = wait_for(lambda: opened(folder / "pipe"))
         process.send_signal(number)
-        process.wait(60)
+        process.wait(PATIENCE)
         left = none_left()
         os.close(pipe)
     checks.check(f"{number.name} leaves no worker behind, and no file", (True, [], False),

@@ -9,7 +9,7 @@ import time
 from pathlib import Path
 
 MARK = "TEST_DASK"  # a variable by which the processes of one run are known
-PATIENCE = 60  # seconds
+PATIENCE = 180  # seconds; only a machine with much other work needs more than a few
 WORKERS = 4
 
 

@@ -19,7 +19,8 @@ from . import _library as library
 from ._locks import alone, alone_with, new_lock
 
 if TYPE_CHECKING:
-    from typing_extensions import Buffer, Self
+    from _typeshed import ReadableBuffer as Buffer
+    from typing_extensions import Self
 
     Item = Union[str, Buffer]
     Rate = Union[str, float, Fraction, Decimal]
