@@ -56,7 +56,8 @@ fn turn_on_few(words: &mut [u64], chain: &mut DoubleHasher, count: u32) -> u64
 
 /// Turns on all positions of a hash, and answers whether all were on just before.
 ///
-/// More than three are taken four in a turn, and then the rest. One word gathers what was off.
+/// One alone lies where the hash does, and needs no chain. More than three are taken four in a turn,
+/// and then the rest. One word gathers what was off.
 #[inline(always)]
 pub fn insert_positions(words: &mut [u64], num_hashes: u32, hash: u64) -> bool
     requires { 1 ≤ length words.old }
@@ -65,6 +66,9 @@ pub fn insert_positions(words: &mut [u64], num_hashes: u32, hash: u64) -> bool
         ≡ (content words.old p || positions (64 * length words.old) num_hashes hash p) }
     ensures shape { length words.new ≡ length words.old }
 {
+    if num_hashes == 1 {
+        return turn_on_hash(words, hash) == 0;
+    }
     let mut chain = DoubleHasher::new(hash);
     if num_hashes < 4 {
         return turn_on_few(words, &mut chain, num_hashes) == 0;

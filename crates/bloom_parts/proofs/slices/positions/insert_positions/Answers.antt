@@ -1,6 +1,20 @@
-use Rattle.std.proofs.Common.{refl, arith}
+use Rattle.std.proofs.Common.{◌≡◌, ◌||◌, ◌∙◌, refl, sym, ap, arith}
+use Rattle.bloom_parts.specs.Content.{content}
+use Rattle.bloom_parts.proofs.StretchLemmas.{positions-one, are_in-one}
 use Rattle.bloom_parts.proofs.TurnLemmas.{turned_on-none, turned_on-once, turned_on-add, turned_on-reply, turned_on-content}
 use Rattle.bloom_parts.proofs.slices.positions.insert_positions.Goals as goal
+
+pub returns-then-num_hashes-eq1-clause-reply : goal.returns-then-num_hashes-eq1-clause-reply
+returns-then-num_hashes-eq1-clause-reply c =
+    let one : c.args.num_hashes ≡ 1 = omega arith in
+    rw one (c.turn_on_hash.ensures.reply ∙ sym (are_in-one _ _ _))
+
+pub returns-then-num_hashes-eq1-clause-content : goal.returns-then-num_hashes-eq1-clause-content
+returns-then-num_hashes-eq1-clause-content c p =
+    let one : c.args.num_hashes ≡ 1 = omega arith in
+    rw one
+    (c.turn_on_hash.ensures.content p
+    ∙ ap (λ b. content c.args.words.now p || b) (sym (positions-one _ _ p)))
 
 pub returns-then-num_hashes-lt4-clause-reply : goal.returns-then-num_hashes-lt4-clause-reply
 returns-then-num_hashes-lt4-clause-reply c =
