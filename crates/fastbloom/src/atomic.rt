@@ -89,6 +89,7 @@ impl<S> AtomicBloomFilter<S> {
 
     /// Turns on all positions of a hash, and answers whether its own steps found all of them on
     /// already. So it answers false exactly if it turned on a bit itself.
+    #[inline(always)]
     pub fn insert_hash(&self, hash: u64) -> bool
         ensures { MakesInsert self.now hash result }
     {
@@ -99,6 +100,7 @@ impl<S> AtomicBloomFilter<S> {
     ///
     /// Its steps stop at the first that is off. While other threads turn positions off, those found
     /// on may never have been on together.
+    #[inline(always)]
     pub fn contains_hash(&self, hash: u64) -> bool
         ensures { MakesCall self.now self.now (Contains hash) (Some result) }
     {
