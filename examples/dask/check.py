@@ -164,6 +164,14 @@ def is_ended_by(checks, number):
                  (process.returncode != 0, left, Path(f"{folder}.bloom").exists()))
 
 
+def load_frames():
+    """Loads what tasks on tables need, before two threads of a worker can load it at once.
+
+    One of them may then see a module that is half loaded.
+    """
+    import dask.dataframe
+
+
 def by_the_module(checks):
     """Bags, columns, look-ups, and what the module refuses."""
     whole = Filter.from_bytes(checks.whole)
@@ -172,6 +180,7 @@ def by_the_module(checks):
     here = "127.0.0.1"
     with cluster(checks.folder, [], [], here, here) as address, Client(address) as client:
         client.upload_file(bloom_dask.__file__)
+        client.run(load_frames)
         bag = dask.bag.read_text(f"{checks.keys}/*.keys", files_per_partition=8)
         bag = bag.map(str.rstrip, "\n")
         frame = bag.map(lambda key: {"name": key, "length": len(key)}).to_dataframe()

@@ -37,6 +37,34 @@ fn hash_texts(filter: &BloomFilter, text: &str, size: usize, keys: u64) -> u64
 }
 
 #[inline(never)]
+fn insert_texts(filter: &mut BloomFilter, text: &str, size: usize, keys: u64) -> u64
+    requires { size ≤ MOST_BYTES }
+{
+    let mut answers: u64 = 0;
+    'keys: for key in 0..keys {
+        let from = (key % 32) as usize;
+        if let Some(item) = text.get(from..from + size) {
+            answers = answers.wrapping_add(u64::from(filter.insert(&item)));
+        }
+    }
+    answers
+}
+
+#[inline(never)]
+fn contains_texts(filter: &BloomFilter, text: &str, size: usize, keys: u64) -> u64
+    requires { size ≤ MOST_BYTES }
+{
+    let mut answers: u64 = 0;
+    'keys: for key in 0..keys {
+        let from = (key % 32) as usize;
+        if let Some(item) = text.get(from..from + size) {
+            answers = answers.wrapping_add(u64::from(filter.contains(&item)));
+        }
+    }
+    answers
+}
+
+#[inline(never)]
 fn insert_numbers(filter: &mut BloomFilter, keys: u64) -> u64 {
     let mut answers: u64 = 0;
     'keys: for key in 0..keys {
@@ -83,6 +111,8 @@ enum Call {
     HashNumbers,
     HashTexts,
     HashLongTexts,
+    InsertTexts,
+    ContainsTexts,
     Insert,
     Contains,
     Extend,
@@ -98,6 +128,8 @@ struct Calls {
     call: Call,
     filter: BloomFilter,
     text: String,
+    // The bytes of each short text.
+    size: usize,
     numbers: Vec<u64>,
     keys: u64,
 }
@@ -106,8 +138,14 @@ impl Measured for Calls {
     fn prepare(&mut self, round: u32) -> anyhow::Result<()> {
         match self.call {
             Call::HashNumbers | Call::HashTexts | Call::HashLongTexts => {}
-            Call::Insert | Call::Extend | Call::InsertAll | Call::InsertHash => {
-                self.filter.clear();
+            Call::Insert | Call::InsertTexts | Call::Extend | Call::InsertAll | Call::InsertHash =>
+                {
+                    self.filter.clear();
+                }
+            Call::ContainsTexts => {
+                if round == 0 {
+                    insert_texts(&mut self.filter, &self.text, self.size.min(MOST_BYTES), 32);
+                }
             }
             Call::Contains => {
                 if round == 0 {
@@ -124,11 +162,13 @@ impl Measured for Calls {
     }
 
     fn make(&mut self, round: u32) -> anyhow::Result<Made> {
-        let keys = self.keys;
+        let (keys, size) = (self.keys, self.size.min(MOST_BYTES));
         Ok(Made::Answers(match self.call {
             Call::HashNumbers => hash_numbers(&self.filter, keys),
             Call::HashTexts => hash_texts(&self.filter, &self.text, 64, keys),
             Call::HashLongTexts => hash_texts(&self.filter, &self.text, MOST_BYTES, keys / 10),
+            Call::InsertTexts => insert_texts(&mut self.filter, &self.text, size, keys),
+            Call::ContainsTexts => contains_texts(&self.filter, &self.text, size, keys),
             Call::Insert => insert_numbers(&mut self.filter, keys),
             Call::Contains => contains_numbers(&self.filter, keys),
             Call::Extend => extend_by_numbers(&mut self.filter, keys),
@@ -147,6 +187,7 @@ pub fn measure_all<R: Print + AllocGlobal + Clock>(rt: &R, plan: &Plan) -> anyho
         call: Call::HashNumbers,
         filter: filter_for(rt.alloc(), plan.keys, 7)?,
         text: "0123456789abcdefghijklmnopqrstuv".repeat(rt.alloc(), 33)?,
+        size: 64,
         numbers: numbers_to(rt.alloc(), keys)?,
         keys,
     };
@@ -166,6 +207,16 @@ pub fn measure_all<R: Print + AllocGlobal + Clock>(rt: &R, plan: &Plan) -> anyho
     ] {
         calls.call = call;
         measure(rt, Row::new(plan, name, 7, operations, counted), &mut calls)?;
+    }
+    'sizes: for size in [8u32, 16, 32, 64] {
+        calls.size = size as usize;
+        'texts: for (call, name) in [
+            (Call::InsertTexts, "insert, text of bytes:"),
+            (Call::ContainsTexts, "contains, text of bytes:"),
+        ] {
+            calls.call = call;
+            measure(rt, Row::new(plan, name, size, keys, "true"), &mut calls)?;
+        }
     }
     'counts: for num_hashes in [1, 2, 3, 7, 22] {
         calls.filter = filter_for(rt.alloc(), plan.keys, num_hashes)?;
