@@ -56,8 +56,8 @@ fn turn_on_few(words: &mut [u64], chain: &mut DoubleHasher, count: u32) -> u64
 
 /// Turns on all positions of a hash, and answers whether all were on just before.
 ///
-/// One alone lies where the hash does, and needs no chain. More than three are taken four in a turn,
-/// and then the rest. One word gathers what was off.
+/// One alone lies where the hash does, and needs no chain. More than three are taken four in a
+/// turn, and then the rest. One word gathers what was off.
 #[inline(always)]
 pub fn insert_positions(words: &mut [u64], num_hashes: u32, hash: u64) -> bool
     requires { 1 ≤ length words.old }

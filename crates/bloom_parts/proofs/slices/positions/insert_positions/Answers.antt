@@ -1,6 +1,5 @@
-use Rattle.std.proofs.Common.{◌≡◌, ◌||◌, ◌∙◌, refl, sym, ap, arith}
-use Rattle.bloom_parts.specs.Content.{content}
-use Rattle.bloom_parts.proofs.StretchLemmas.{positions-one, are_in-one}
+use Rattle.std.proofs.Common.{◌≡◌, ◌∙◌, refl, sym, arith}
+use Rattle.bloom_parts.proofs.StretchLemmas.{or-one, are_in-one}
 use Rattle.bloom_parts.proofs.TurnLemmas.{turned_on-none, turned_on-once, turned_on-add, turned_on-reply, turned_on-content}
 use Rattle.bloom_parts.proofs.slices.positions.insert_positions.Goals as goal
 
@@ -12,9 +11,7 @@ returns-then-num_hashes-eq1-clause-reply c =
 pub returns-then-num_hashes-eq1-clause-content : goal.returns-then-num_hashes-eq1-clause-content
 returns-then-num_hashes-eq1-clause-content c p =
     let one : c.args.num_hashes ≡ 1 = omega arith in
-    rw one
-    (c.turn_on_hash.ensures.content p
-    ∙ ap (λ b. content c.args.words.now p || b) (sym (positions-one _ _ p)))
+    rw one (c.turn_on_hash.ensures.content p ∙ or-one _ _ p _)
 
 pub returns-then-num_hashes-lt4-clause-reply : goal.returns-then-num_hashes-lt4-clause-reply
 returns-then-num_hashes-lt4-clause-reply c =
