@@ -7,6 +7,7 @@ Where root may make network namespaces, the workers are in another one than the 
 """
 
 import contextlib
+import logging
 import os
 import pty
 import signal
@@ -234,6 +235,8 @@ def refusals(checks, client, frame, built):
 
 
 def main(summaries):
+    # Nobody asks for the time-outs of connections to workers that were killed.
+    logging.getLogger("asyncio").setLevel(logging.CRITICAL)
     signal.signal(signal.SIGTERM, lambda number, _: sys.exit(128 + number))
     signal.signal(signal.SIGINT, signal.default_int_handler)  # it may be ignored, and so inherited
     tree = sorted(HERE.rglob("*"))

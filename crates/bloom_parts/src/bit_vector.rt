@@ -9,6 +9,7 @@ ghost use Rattle.bloom_parts.specs.Content.{AreWords, content, index_of};
 mod atomic;
 mod by_hash;
 mod gathered;
+mod lent;
 mod loads;
 mod looks;
 mod ors;

@@ -36,18 +36,24 @@ impl Model for AtomicBitVec {
     ghost invariant = { λ v. (1 ≤ vec_len v.words) × (vec_len v.words < 2 ^ 58) };
 }
 
-// Reads a word. A slice that is handed in is known to fit the memory.
+// Reads a word of a vector, which is lent as a slice: one that is handed in fits the memory.
 #[inline(always)]
-pub(super) fn load_from(words: &[AtomicU64], word: usize) -> u64
-    requires { word < length words.now }
+#[tactic(auto, using(crate::specs::Made::made_by_load))]
+pub(super) fn load_from(vector: &AtomicBitVec, words: &[AtomicU64], word: usize) -> u64
+    requires all { length words.now ≡ vector.now.count }
+    requires within { word < vector.now.count }
+    ensures { FoundByLoad vector.now word result }
 {
     words[word].load(Ordering::SeqCst)
 }
 
-// Turns on the bits of a mask in a word, and answers the word as it was.
+// Turns on the bits of a mask in a word of a vector, and answers the word as it was.
 #[inline(always)]
-pub(super) fn or_into(words: &[AtomicU64], word: usize, mask: u64) -> u64
-    requires { word < length words.now }
+#[tactic(auto, using(crate::specs::Made::made_by_or))]
+pub(super) fn or_into(vector: &AtomicBitVec, words: &[AtomicU64], word: usize, mask: u64) -> u64
+    requires all { length words.now ≡ vector.now.count }
+    requires within { word < vector.now.count }
+    ensures { FoundByOr vector.now word mask result }
 {
     words[word].fetch_or(mask, Ordering::SeqCst)
 }
@@ -113,21 +119,19 @@ impl AtomicBitVec {
     }
 
     /// Reads a word.
-    #[tactic(auto, using(crate::specs::Made::made_by_load))]
     pub fn load(&self, word: usize) -> u64
         requires { word < self.now.count }
         ensures { FoundByLoad self.now word result }
     {
-        load_from(self.as_slice(), word)
+        load_from(self, self.as_slice(), word)
     }
 
     /// Turns on the bits of a mask in a word, and answers the word as it was.
-    #[tactic(auto, using(crate::specs::Made::made_by_or))]
     pub fn fetch_or(&self, word: usize, mask: u64) -> u64
         requires { word < self.now.count }
         ensures { FoundByOr self.now word mask result }
     {
-        or_into(self.as_slice(), word, mask)
+        or_into(self, self.as_slice(), word, mask)
     }
 
     /// Turns off the bits of a word that a mask lacks, and answers the word as it was.

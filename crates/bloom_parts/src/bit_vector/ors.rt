@@ -1,11 +1,10 @@
 //! Words that threads share, in which bits may be turned on.
-ghost use Rattle.std.specs.Prelude.{◌≡◌, ◌*◌, ◌<◌};
+ghost use Rattle.std.specs.Prelude.{◌≡◌, ◌*◌};
 ghost use Rattle.bloom_parts.specs.Content.{index_of};
-ghost use Rattle.bloom_parts.specs.Made.{FoundByOr};
 ghost use Rattle.bloom_parts.specs.Turns.{TurnsBit, Turns};
 
-use super::atomic::{AtomicBitVec, or_into};
-use super::loads::Loads;
+use super::atomic::AtomicBitVec;
+use super::lent::Lent;
 use crate::hasher::DoubleHasher;
 use crate::slices::by_hash::word_and_mask_of_hash;
 use std::marker::Model;
@@ -13,7 +12,7 @@ use std::marker::Model;
 /// The words of a vector that threads share, for code that may turn bits on and no more.
 #[derive(Drop)]
 pub struct Ors<'a> {
-    words: Loads<'a>,
+    words: Lent<'a>,
 }
 
 impl<'a> Model for Ors<'a> {
@@ -25,23 +24,13 @@ impl<'a> Model for Ors<'a> {
 }
 
 impl<'a> Ors<'a> {
-    // Turns on the bits of a mask in a word, and answers the word as it was.
-    #[inline]
-    #[tactic(auto, using(crate::specs::Made::made_by_or))]
-    fn fetch_or(&self, word: usize, mask: u64) -> u64
-        requires { word < self.now.count }
-        ensures { FoundByOr self.now word mask result }
-    {
-        or_into(self.words.as_slice(), word, mask)
-    }
-
     // Turns on the bit where a hash lies, and tells whether it was found on.
     #[inline]
     fn turn_on_hash(&self, hash: u64) -> bool
         ensures { TurnsBit self.now (index_of (64 * self.now.count) hash) result }
     {
         let (word, mask) = word_and_mask_of_hash(self.words.len(), hash);
-        self.fetch_or(word, mask) & mask > 0
+        self.words.fetch_or(word, mask) & mask > 0
     }
 
     /// Turns on the first `num_hashes` positions of a hash, one after the other, and tells whether
@@ -66,7 +55,7 @@ impl AtomicBitVec {
         ensures { result ≡ self.now }
     {
         Ors {
-            words: self.loads(),
+            words: Lent::of(self),
         }
     }
 }
