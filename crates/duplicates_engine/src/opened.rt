@@ -99,6 +99,21 @@ fn open_after<I: Inputs, W: Write>(
     open_next(inputs)
 }
 
+// Begins with the lines of the next input. It stands apart and isn't inlined: a reader holds a block
+// of bytes, and each call of a function that makes one clears as many on the stack.
+#[inline(never)]
+fn begin_next<const END: u8>(
+    alloc: Global,
+    longest: usize,
+    opened: &mut Opened<END>,
+) -> Result<(), Fault>
+    ensures fresh { OnOk result (IsFresh longest opened.new.lines opened.new.number) }
+    ensures fault { IfErr result IsOfOpen }
+{
+    *opened = Opened::new(alloc, longest)?;
+    Ok(())
+}
+
 /// Reads the next line, or opens the next input behind one that has ended. Before a read or an open
 /// that may wait, what was written is flushed.
 pub fn next_step<I: Inputs, W: Write, const END: u8>(
@@ -133,7 +148,7 @@ pub fn next_step<I: Inputs, W: Write, const END: u8>(
     }
     match open_after(inputs, output)? {
         Some(next) => {
-            *opened = Opened::new(alloc, longest)?;
+            begin_next(alloc, longest, opened)?;
             *input = next;
             Ok(Step::Opened)
         }
