@@ -118,7 +118,8 @@ def count_printed(command):
                                stderr=subprocess.DEVNULL)
         with run.stdout:
             count = sum(block.count(b"\n") for block in iter(lambda: run.stdout.read(2**20), b""))
-        run.wait()
+        if run.wait():
+            raise Failed(f"{command.words[0]} ended with status {run.returncode}")
     return count
 
 
@@ -160,12 +161,13 @@ def programs_of_lines(lines):
                 "sort -u": ["sort", "-u", "-S", "2G"],
                 "a set in Python": [sys.executable, "-c", SET_OF_LINES],
                 "sqlite3, in memory": ["sqlite3", ":memory:", *SQLITE]}
+    if not shutil.which("sqlite3"):
+        tell("no sqlite3: Python's module stands for it")
+        programs["sqlite3, in memory"] = [sys.executable, "-c", SQLITE_IN_PYTHON]
     for name, words in list(programs.items()):
         if not shutil.which(words[0]):
             tell(f"no {words[0]}: it is left out")
             del programs[name]
-    if "sqlite3, in memory" not in programs:
-        programs["sqlite3 of Python, in memory"] = [sys.executable, "-c", SQLITE_IN_PYTHON]
     return programs
 
 
@@ -174,11 +176,16 @@ def compare_duplicates(programs, lines, runs):
     with tempfile.TemporaryDirectory() as room:
         path = f"{room}/lines"
         write_lines(path, numbers_twice(lines // 2))
-        commands = {name: Command(words, path) for name, words in programs.items()}
-        printed = {name: count_printed(command) for name, command in commands.items()}
+        commands, printed = {}, {}
+        for name, words in programs.items():
+            try:
+                printed[name] = count_printed(Command(words, path))
+                commands[name] = Command(words, path)
+            except Failed as reason:
+                tell(f"{reason}: it is left out")
         best = best_costs(commands, runs)
     return [{"program": name, "lines": lines // 2 * 2, **cells(best[name]), "printed": printed[name]}
-            for name in programs]
+            for name in commands]
 
 
 def compare_summaries(keys, runs):
