@@ -89,7 +89,7 @@ def entries_of(lines):
 def built(program, *words):
     """The file of a program. bin/NAME builds it where it isn't built, or a source has changed.
 
-    It is called with these words, or for its help.
+    That is called with these words, or for its help.
     Where FASTBLOOM_AS_BUILT is set it is taken as it lies there, as the full check has it built.
     """
     file = f"{TOP}/crates/{program}/out/{program}"

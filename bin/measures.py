@@ -1,12 +1,12 @@
 """What the programs, the library for C and the bench cost, beside what people use in their place.
 
-bin/bench-against prints tables of it, and bin/pictures draws it. A row is a dictionary. What is left
-out for want of a tool is told in a line.
+bin/bench-against prints tables of it, and bin/pictures draws it. A row is a dictionary. What is
+left out for want of a tool is told in a line.
 """
 
 import collections
-import datetime
 import csv
+import datetime
 import os
 import platform
 import re
@@ -21,6 +21,7 @@ from help_text import TOP, Failed, built
 PICTURES = f"{TOP}/docs/pictures"
 MASK = 2**64 - 1
 TIMER = "/usr/bin/time"
+ENVIRONMENT = {**os.environ, "LC_ALL": "C"}
 ROW = re.compile(r"^(\S.*?) +(\d+) +(\d+) +(\d+)(?:  .*)?$")
 SECTION = re.compile(r"^on (\d+) words:$")
 
@@ -80,7 +81,7 @@ Cost = collections.namedtuple("Cost", "seconds wall megabytes")
 Command = collections.namedtuple("Command", "words given taken", defaults=[os.devnull])
 
 
-def cost(command):
+def measure(command):
     """Seconds of a processor, seconds by the clock, and megabytes at the peak of a run."""
     with tempfile.NamedTemporaryFile("r", encoding="ascii") as told, \
             open(command.given, "rb") as given, open(command.taken, "wb") as taken:
@@ -88,7 +89,7 @@ def cost(command):
         words = [TIMER, "-o", told.name, "-f", "%M"] if os.access(TIMER, os.X_OK) else []
         start = time.perf_counter()
         run = subprocess.Popen([*words, *command.words], stdin=given, stdout=taken,
-                               stderr=subprocess.DEVNULL, env={**os.environ, "LC_ALL": "C"})
+                               stderr=subprocess.DEVNULL, env=ENVIRONMENT)
         _, status, used = os.wait4(run.pid, 0)
         wall = time.perf_counter() - start
         run.returncode = os.waitstatus_to_exitcode(status)
@@ -98,14 +99,14 @@ def cost(command):
     return Cost(used.ru_utime + used.ru_stime, wall, kilobytes / 1024)
 
 
-def best_costs(commands, runs):
+def measure_in_turn(commands, runs):
     """The least time and the most memory of some runs of each command, by its name."""
     if not os.access(TIMER, os.X_OK):
         tell(f"no {TIMER}: megabytes are no fewer than those of this script")
     taken = {name: [] for name in commands}
     for number in range(runs):
         for name, command in commands.items():
-            taken[name].append(cost(command))
+            taken[name].append(measure(command))
         tell(f"run {number + 1} of {runs}, {os.getloadavg()[0]:.1f} processes at work")
     return {name: Cost(min(it.seconds for it in costs), min(it.wall for it in costs),
                        max(it.megabytes for it in costs)) for name, costs in taken.items()}
@@ -115,7 +116,7 @@ def count_printed(command):
     """How many lines a command prints."""
     with open(command.given, "rb") as given:
         run = subprocess.Popen(command.words, stdin=given, stdout=subprocess.PIPE,
-                               stderr=subprocess.DEVNULL)
+                               stderr=subprocess.DEVNULL, env=ENVIRONMENT)
         with run.stdout:
             count = sum(block.count(b"\n") for block in iter(lambda: run.stdout.read(2**20), b""))
         if run.wait():
@@ -123,7 +124,7 @@ def count_printed(command):
     return count
 
 
-def cells(of):
+def format_cost(of):
     """A cost as the cells of a row."""
     return {"seconds": f"{of.seconds:.3f}", "wall": f"{of.wall:.3f}",
             "megabytes": f"{of.megabytes:.1f}"}
@@ -145,7 +146,7 @@ def write_lines(path, numbers):
         it.writelines(f"{spread(at):016x} {spread(~at & MASK):016x}\n" for at in numbers)
 
 
-def numbers_twice(half):
+def count_twice(half):
     """The numbers below one, each twice: the second time in an order of its own."""
     yield from range(half)
     yield from ((at * 7_368_787) % half for at in range(half))
@@ -153,7 +154,7 @@ def numbers_twice(half):
 
 # The programs
 
-def programs_of_lines(lines):
+def find_programs(lines):
     """The words of each program that is there and writes each line once, by its name."""
     seen = "!seen[$0]++"
     programs = {"duplicates": [built("duplicates"), "--items", str(lines // 2)],
@@ -175,7 +176,7 @@ def compare_duplicates(programs, lines, runs):
     """What it costs to write so many lines without their duplicates. Each comes twice."""
     with tempfile.TemporaryDirectory() as room:
         path = f"{room}/lines"
-        write_lines(path, numbers_twice(lines // 2))
+        write_lines(path, count_twice(lines // 2))
         commands, printed = {}, {}
         for name, words in programs.items():
             try:
@@ -183,9 +184,9 @@ def compare_duplicates(programs, lines, runs):
                 commands[name] = Command(words, path)
             except Failed as reason:
                 tell(f"{reason}: it is left out")
-        best = best_costs(commands, runs)
-    return [{"program": name, "lines": lines // 2 * 2, **cells(best[name]), "printed": printed[name]}
-            for name in commands]
+        best = measure_in_turn(commands, runs)
+    return [{"program": name, "lines": lines // 2 * 2, **format_cost(best[name]),
+             "printed": printed[name]} for name in commands]
 
 
 def compare_summaries(keys, runs):
@@ -200,20 +201,20 @@ def compare_summaries(keys, runs):
                     ("summaries", "ask"): Command([program, "ask", kept], others),
                     ("a set in Python", "build"): Command(python, own),
                     ("a set in Python", "build and ask"): Command([*python, others], own)}
-        best = best_costs(commands, runs)
+        best = measure_in_turn(commands, runs)
         build, ask = best["summaries", "build"], best["summaries", "ask"]
         best["summaries", "build and ask"] = Cost(build.seconds + ask.seconds, build.wall + ask.wall,
                                                   max(build.megabytes, ask.megabytes))
         found = {name: count_printed(commands[name]) for name in commands if "ask" in name[1]}
         found["summaries", "build and ask"] = found["summaries", "ask"]
     order = sorted(best, key=lambda name: (name[0] != "summaries", name[1] != "build", name[1]))
-    return [{"program": name[0], "call": name[1], "keys": keys, **cells(best[name]),
+    return [{"program": name[0], "call": name[1], "keys": keys, **format_cost(best[name]),
              "found": found.get(name, "")} for name in order]
 
 
 # The library for C, and the bench
 
-def library_of_c():
+def build_library():
     """The folder of the library, which bin/build-c brings up to date."""
     folder = f"{TOP}/out/c"
     if not os.environ.get("FASTBLOOM_AS_BUILT"):
@@ -236,7 +237,7 @@ def compile_peers(room):
                            stdout=subprocess.DEVNULL, stderr=subprocess.DEVNULL)
     if asked.returncode:
         raise Failed("no <bloom.h>: libbloom is left out")
-    folder = library_of_c()
+    folder = build_library()
     run = subprocess.run([*compiler, "-std=c99", "-O2", "-Wall", "-Wextra", "-Wpedantic", "-Werror",
                           f"-I{folder}/include", f"{TOP}/examples/c/peers.c", f"-L{folder}",
                           "-lfastbloom_c", f"-Wl,-rpath,{folder}", "-lbloom", "-o", f"{room}/peers"],
@@ -261,7 +262,7 @@ def compare_library(sizes, rounds):
     return rows
 
 
-def bench_rows(text):
+def read_rows(text):
     """The rows of the bench: their times and answers by call and number."""
     rows, words = {}, None
     for line in text.splitlines():
@@ -288,7 +289,7 @@ def time_threads(keys, rounds):
                              stdout=subprocess.PIPE)
         if run.returncode:
             raise Failed(f"bin/bench ended with status {run.returncode}")
-        for (call, number), (time_of_one, _) in bench_rows(run.stdout).items():
+        for (call, number), (time_of_one, _) in read_rows(run.stdout).items():
             if call in names:
                 rows.append({"call": names[call], "threads": 1 if names is SEATED else number,
                              "picoseconds": time_of_one})
@@ -304,16 +305,16 @@ def compare_peers(lines, sizes, runs):
     python = f"Python {platform.python_version()}"
     subjects = (
         ("peers-duplicates", f"lines of 33 bytes, half of them repeated: best of {runs} runs, {python}",
-         lambda: compare_duplicates(programs_of_lines(lines), lines, runs)),
+         lambda: compare_duplicates(find_programs(lines), lines, runs)),
         ("peers-summaries", f"keys of 33 bytes, and as many others: best of {runs} runs, {python}",
          lambda: compare_summaries(lines, runs)),
         ("peers-c", f"calls on keys of 16 bytes at the rate 1/1000: best of {runs} rounds",
          lambda: compare_library(sizes, runs)),
         ("peers-threads", f"bin/bench {lines} {runs}: one operation, best of {runs} rounds",
          lambda: time_threads(lines, runs)))
-    for name, what, measure in subjects:
+    for name, what, make_rows in subjects:
         tell(name)
         try:
-            yield name, what, measure()
+            yield name, what, make_rows()
         except Failed as reason:
             tell(f"{reason}; there is no table {name}")

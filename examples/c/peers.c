@@ -47,7 +47,7 @@ struct library {
 
 static const uint8_t hash_key[16];
 
-static uint64_t fastbloom_inserts(void *of, const struct key *keys, size_t count) {
+static uint64_t insert_by_fastbloom(void *of, const struct key *keys, size_t count) {
     const struct filter *filter = of;
     uint64_t answers = 0;
     for (size_t i = 0; i < count; i++)
@@ -56,7 +56,7 @@ static uint64_t fastbloom_inserts(void *of, const struct key *keys, size_t count
     return answers;
 }
 
-static uint64_t fastbloom_look_ups(void *of, const struct key *keys, size_t count) {
+static uint64_t look_up_by_fastbloom(void *of, const struct key *keys, size_t count) {
     const struct filter *filter = of;
     uint64_t answers = 0;
     for (size_t i = 0; i < count; i++)
@@ -65,26 +65,26 @@ static uint64_t fastbloom_look_ups(void *of, const struct key *keys, size_t coun
     return answers;
 }
 
-static void fastbloom_empties(void *of) {
+static void clear_by_fastbloom(void *of) {
     const struct filter *filter = of;
     fastbloom_clear(filter->words, filter->num_words);
 }
 
-static uint64_t libbloom_inserts(void *of, const struct key *keys, size_t count) {
+static uint64_t insert_by_libbloom(void *of, const struct key *keys, size_t count) {
     uint64_t answers = 0;
     for (size_t i = 0; i < count; i++)
         answers += bloom_add(of, keys[i].bytes, (int)sizeof keys[i].bytes) == 1;
     return answers;
 }
 
-static uint64_t libbloom_look_ups(void *of, const struct key *keys, size_t count) {
+static uint64_t look_up_by_libbloom(void *of, const struct key *keys, size_t count) {
     uint64_t answers = 0;
     for (size_t i = 0; i < count; i++)
         answers += bloom_check(of, keys[i].bytes, (int)sizeof keys[i].bytes) == 1;
     return answers;
 }
 
-static void libbloom_empties(void *of) {
+static void clear_by_libbloom(void *of) {
     bloom_reset(of);
 }
 
@@ -163,9 +163,9 @@ int main(int argc, char **argv) {
     if (filter.words == NULL || bloom_init(&bloom, (int)keys, 0.001) != 0) return 1;
     struct library libraries[2] = {
         {"fastbloom", &filter, fastbloom_num_bits(filter.num_words), filter.num_hashes,
-         fastbloom_empties, fastbloom_inserts, fastbloom_look_ups, {{0, 0}}},
-        {"libbloom", &bloom, (uint64_t)bloom.bits, (uint32_t)bloom.hashes, libbloom_empties,
-         libbloom_inserts, libbloom_look_ups, {{0, 0}}},
+         clear_by_fastbloom, insert_by_fastbloom, look_up_by_fastbloom, {{0, 0}}},
+        {"libbloom", &bloom, (uint64_t)bloom.bits, (uint32_t)bloom.hashes, clear_by_libbloom,
+         insert_by_libbloom, look_up_by_libbloom, {{0, 0}}},
     };
     bool found = compare(libraries, keys, rounds);
     free(filter.words);
