@@ -86,14 +86,15 @@ def entries_of(lines):
     return [Entry(*entry) for entry in found]
 
 
-def built(program):
+def built(program, *words):
     """The file of a program. bin/NAME builds it where it isn't built, or a source has changed.
 
+    That is called with these words, or for its help.
     Where FASTBLOOM_AS_BUILT is set it is taken as it lies there, as the full check has it built.
     """
     file = f"{TOP}/crates/{program}/out/{program}"
     if not os.environ.get("FASTBLOOM_AS_BUILT"):
-        run = subprocess.run([f"{TOP}/bin/{program}", "--help"], check=False,
+        run = subprocess.run([f"{TOP}/bin/{program}", *(words or ["--help"])], check=False,
                              stdin=subprocess.DEVNULL, stdout=subprocess.DEVNULL)
         if run.returncode != 0:
             raise Failed(f"{program} can't be built")
