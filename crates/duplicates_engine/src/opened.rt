@@ -99,8 +99,8 @@ fn open_after<I: Inputs, W: Write>(
     open_next(inputs)
 }
 
-// Begins with the lines of the next input. It stands apart and isn't inlined: a reader holds a block
-// of bytes, and each call of a function that makes one clears as many on the stack.
+// Begins with the lines of the next input. It stands apart and isn't inlined: a reader holds a
+// block of bytes, and each call of a function that makes one clears as many on the stack.
 #[inline(never)]
 fn begin_next<const END: u8>(
     alloc: Global,
