@@ -99,19 +99,34 @@ fn open_after<I: Inputs, W: Write>(
     open_next(inputs)
 }
 
-// Begins with the lines of the next input. It stands apart and isn't inlined: a reader holds a
-// block of bytes, and each call of a function that makes one clears as many on the stack.
+// Opens the next input behind one that has ended, and begins with its lines. It stands apart and
+// isn't inlined: an input holds a block of bytes, and each call of a function that makes one clears
+// as many on the stack.
 #[inline(never)]
-fn begin_next<const END: u8>(
+fn begin_next<I: Inputs, W: Write, const END: u8>(
     alloc: Global,
     longest: usize,
     opened: &mut Opened<END>,
-) -> Result<(), Fault>
-    ensures fresh { OnOk result (IsFresh longest opened.new.lines opened.new.number) }
-    ensures fault { IfErr result IsOfOpen }
+    input: &mut I::Input,
+    inputs: &mut I,
+    output: &mut W,
+) -> Result<Option<()>, Fault>
+    ensures begins { IfOk result (λ found. MatchOption found
+        (NoneComes (I.coming inputs.old) (I.coming inputs.new)
+        × (opened.new ≡ opened.old) × (input.new ≡ input.old))
+        (λ _. Opens (I.coming inputs.old) (I.coming inputs.new) (I.Input.remaining input.new)
+        × IsFresh longest opened.new.lines opened.new.number)) }
+    ensures kept { Keeps (W.contents output.old) (W.contents output.new) }
+    ensures fault { IfErr result IsOfSystem }
 {
-    *opened = Opened::new(alloc, longest)?;
-    Ok(())
+    match open_after(inputs, output)? {
+        Some(next) => {
+            *opened = Opened::new(alloc, longest)?;
+            *input = next;
+            Ok(Some(()))
+        }
+        None => Ok(None),
+    }
 }
 
 /// Reads the next line, or opens the next input behind one that has ended. Before a read or an open
@@ -146,12 +161,8 @@ pub fn next_step<I: Inputs, W: Write, const END: u8>(
         Ok(Next::TooLong) => return Ok(Step::TooLong),
         Err(error) => return Err(Fault::of_reader(error)),
     }
-    match open_after(inputs, output)? {
-        Some(next) => {
-            begin_next(alloc, longest, opened)?;
-            *input = next;
-            Ok(Step::Opened)
-        }
+    match begin_next(alloc, longest, opened, input, inputs, output)? {
+        Some(()) => Ok(Step::Opened),
         None => Ok(Step::End),
     }
 }
