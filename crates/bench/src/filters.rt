@@ -1,8 +1,8 @@
 //! The filters that are measured.
-ghost use Rattle.std.specs.Prelude.{◌≡◌, ◌*◌, IfErr, IfOk, max, replicate};
+ghost use Rattle.std.specs.Prelude.{◌≡◌, ◌*◌, All, IfErr, IfOk, max, replicate};
 ghost use Rattle.fastbloom.specs.Builders.{words_for};
 
-use fastbloom::{AtomicBloomFilter, BloomFilter, FilterError};
+use fastbloom::{AtomicBloomFilter, BloomFilter, FilterError, Pass, SeatedBloomFilter};
 use std::alloc::Global;
 
 /// An empty filter with ten bits for each key, and one bit at least.
@@ -29,4 +29,18 @@ pub fn shared_filter_for(
 {
     let builder = AtomicBloomFilter::with_num_bits(alloc, (keys as usize * 10).max(1))?;
     builder.hashes(alloc, num_hashes)
+}
+
+/// An empty filter for threads to share under a rule, with ten bits for each key, one bit at least,
+/// and seven hashes, and its passes.
+pub fn seated_filter_for(
+    alloc: Global,
+    keys: u32,
+    passes: u32,
+) -> Result<(SeatedBloomFilter, Vec<Pass>), FilterError>
+    ensures { IfOk result (λ made. All (λ pass. pass.filter ≡ made.0.table) made.1.items) }
+{
+    let bits = (keys as usize * 10).max(1);
+    let words = vec![in alloc; 0u64; bits.div_ceil(64)]?;
+    SeatedBloomFilter::new(alloc, words, 7, passes as usize)
 }

@@ -1,36 +1,44 @@
 //! The calls of a filter that threads share under a rule, made by one thread.
-ghost use Rattle.std.specs.Prelude.{◌≡◌, IfOk};
+ghost use Rattle.std.specs.Prelude.{◌≡◌, ◌≤◌, All, vec_len};
+ghost use Rattle.std.specs.Arc.{arc_value};
 
+use crate::filters::seated_filter_for;
 use crate::keys::{first_foreign_key, hash_of};
 use crate::plan::Plan;
-use crate::table::Row;
-use fastbloom::{FilterError, Pass, SeatedBloomFilter};
+use crate::table::{Made, Measured, Row, measure};
+use fastbloom::{Pass, SeatedBloomFilter};
 use std::alloc::Global;
+use std::marker::Model;
 use std::rt::Clock;
-use std::time::Instant;
+use std::sync::Arc;
 
-// An empty filter of ten bits a key and seven hashes, and its pass, which each call is given.
-fn seated_filter_for(alloc: Global, keys: u32) -> Result<(SeatedBloomFilter, Pass), FilterError>
-    ensures { IfOk result (λ made. made.1.filter ≡ made.0.table) }
-{
-    let bits = (keys as usize * 10).max(1);
-    let words = vec![in alloc; 0u64; bits.div_ceil(64)]?;
-    let (filter, mut passes) = SeatedBloomFilter::new(alloc, words, 7, 1)?;
-    let Some(pass) = passes.pop() else {
-        unreachable!()
-    };
-    Ok((filter, pass))
+/// A pass, and its filter, which others may share.
+#[derive(Drop)]
+pub struct Seat {
+    filter: Arc<SeatedBloomFilter, Global>,
+    pass: Pass,
 }
 
-// Inserts the keys, and counts the answers that were true.
+impl Model for Seat {
+    ghost use Rattle.std.specs.Prelude.{◌≡◌};
+    ghost use Rattle.std.specs.Arc.{arc_value};
+
+    ghost Value = { Unit {0} };
+
+    ghost view = { λ _. tt };
+
+    ghost invariant = { λ seat. seat.pass.filter ≡ (arc_value seat.filter).table };
+}
+
+// Inserts this many keys from the first on, and counts the answers that were true.
 #[inline(never)]
-fn insert_keys(filter: &SeatedBloomFilter, pass: &mut Pass, keys: u64) -> u64
+fn insert_keys(filter: &SeatedBloomFilter, pass: &mut Pass, first: u64, keys: u64) -> u64
     requires { pass.old.filter ≡ filter.now.table }
     ensures { pass.new.filter ≡ pass.old.filter }
 {
     let mut answers: u64 = 0;
     'keys: for key in 0..keys {
-        let answer = filter.insert_hash_as(pass, hash_of(key));
+        let answer = filter.insert_hash_as(pass, hash_of(first.wrapping_add(key)));
         answers = answers.wrapping_add(u64::from(answer));
     }
     answers
@@ -50,28 +58,110 @@ fn contains_keys(filter: &SeatedBloomFilter, pass: &mut Pass, first: u64, keys: 
     answers
 }
 
-/// Prints the rows of inserts, and of look-ups of keys that are there and that aren't. Each round
-/// has a filter of its own, since bits never go off.
-pub fn measure_all<R: Print + AllocGlobal + Clock>(rt: &R, plan: &Plan) -> anyhow::Result<()> {
-    let count = plan.count();
-    let mut inserts = Row::new(plan, "seated insert_hash_as", 7, count, "true");
-    let mut hits = Row::new(plan, "seated hit", 7, count, "true");
-    let mut misses = Row::new(plan, "seated miss", 7, count, "true");
-    let rounds = inserts.rounds().max(hits.rounds()).max(misses.rounds());
-    'rounds: for round in 0..rounds {
-        let (filter, mut pass) = seated_filter_for(rt.alloc(), plan.keys)?;
-        let start = Instant::now(rt)?;
-        let answers = insert_keys(&filter, &mut pass, count);
-        inserts.add(answers, start.elapsed(rt)?);
-        let start = Instant::now(rt)?;
-        let answers = contains_keys(&filter, &mut pass, 0, count);
-        hits.add(answers, start.elapsed(rt)?);
-        let start = Instant::now(rt)?;
-        let first = first_foreign_key(count, round);
-        let answers = contains_keys(&filter, &mut pass, first, count);
-        misses.add(answers, start.elapsed(rt)?);
+impl Seat {
+    /// Inserts this many keys from the first on, and counts the answers that were true.
+    pub fn insert_keys(&mut self, first: u64, keys: u64) -> u64 {
+        insert_keys(&self.filter, &mut self.pass, first, keys)
     }
-    inserts.print(rt)?;
-    hits.print(rt)?;
-    Ok(misses.print(rt)?)
+
+    /// Looks up this many keys from the first on, and counts the answers that were true.
+    pub fn contains_keys(&mut self, first: u64, keys: u64) -> u64 {
+        contains_keys(&self.filter, &mut self.pass, first, keys)
+    }
+}
+
+// A seat with the last of a filter's passes.
+fn seat_of(filter: &Arc<SeatedBloomFilter, Global>, passes: &mut Vec<Pass>) -> anyhow::Result<Seat>
+    requires some { 1 ≤ vec_len passes.old }
+    requires of_filter { All (λ pass. pass.filter ≡ (arc_value filter.now).table) passes.old.items }
+    ensures { All (λ pass. pass.filter ≡ (arc_value filter.now).table) passes.new.items }
+{
+    let Some(pass) = passes.pop() else {
+        unreachable!()
+    };
+    let filter = Arc::try_clone(filter)?;
+    Ok(Seat { filter, pass })
+}
+
+/// All the seats of an empty filter with ten bits for each key and seven hashes.
+pub fn seats_for(alloc: Global, keys: u32, count: u32) -> anyhow::Result<Vec<Seat>> {
+    let (filter, mut passes) = seated_filter_for(alloc, keys, count)?;
+    let shared = Arc::new(alloc, filter)?;
+    let mut seats = Vec::new(alloc);
+    'seats: for _seat in 0..count {
+        if passes.is_empty() {
+            break;
+        }
+        seats.push(seat_of(&shared, &mut passes)?)?;
+    }
+    Ok(seats)
+}
+
+#[derive(Clone, Copy)]
+enum Call {
+    Insert,
+    Hit,
+    Miss,
+}
+
+// A call, and the seat that it is made with, if there is one.
+#[derive(Drop)]
+struct Calls {
+    alloc: Global,
+    call: Call,
+    seats: Vec<Seat>,
+    keys: u32,
+}
+
+impl Measured for Calls {
+    // Bits never go off, so each round of inserts has a filter of its own.
+    fn prepare(&mut self, round: u32) -> anyhow::Result<()> {
+        match self.call {
+            Call::Insert => self.seats = seats_for(self.alloc, self.keys, 1)?,
+            Call::Hit | Call::Miss => {
+                if round == 0 {
+                    self.seats = seats_for(self.alloc, self.keys, 1)?;
+                    if let Some(seat) = self.seats.first_mut() {
+                        seat.insert_keys(0, u64::from(self.keys));
+                    }
+                }
+            }
+        }
+        Ok(())
+    }
+
+    fn make(&mut self, round: u32) -> anyhow::Result<Made> {
+        let keys = u64::from(self.keys);
+        let Some(seat) = self.seats.first_mut() else {
+            return Ok(Made::Answers(0));
+        };
+        Ok(Made::Answers(match self.call {
+            Call::Insert => seat.insert_keys(0, keys),
+            Call::Hit => seat.contains_keys(0, keys),
+            Call::Miss => seat.contains_keys(first_foreign_key(keys, round), keys),
+        }))
+    }
+}
+
+/// The rows of inserts, and of look-ups of keys that are there and that aren't.
+pub fn measure_all<R: Print + AllocGlobal + Clock>(rt: &R, plan: &Plan) -> anyhow::Result<()> {
+    let mut calls = Calls {
+        alloc: rt.alloc(),
+        call: Call::Insert,
+        seats: Vec::new(rt.alloc()),
+        keys: plan.keys,
+    };
+    'calls: for (call, name) in [
+        (Call::Insert, "seated insert_hash_as"),
+        (Call::Hit, "seated hit"),
+        (Call::Miss, "seated miss"),
+    ] {
+        calls.call = call;
+        measure(
+            rt,
+            Row::new(plan, name, 7, plan.count(), "true"),
+            &mut calls,
+        )?;
+    }
+    Ok(())
 }

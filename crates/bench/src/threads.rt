@@ -1,8 +1,9 @@
-//! The calls of a filter that threads share, made by several at once.
+//! The calls of filters that threads share, made by several threads at once.
 ghost use Rattle.std.specs.Prelude.{⊤};
 
 use crate::filters::shared_filter_for;
 use crate::plan::Plan;
+use crate::seated::{Seat, seats_for};
 use crate::shared::{contains_keys, insert_keys};
 use crate::table::{Made, Measured, Row, measure};
 use anyhow::bail;
@@ -10,22 +11,8 @@ use fastbloom::AtomicBloomFilter;
 use std::alloc::Global;
 use std::rt::Clock;
 use std::sync::Arc;
-use std::thread;
 use std::thread::{Promise, PromisedHandle, Threads};
-
-const INSERT: &'static str = "insert by threads:";
-
-const HIT: &'static str = "hit by threads:";
-
-type Shared = Arc<AtomicBloomFilter, Global>;
-
-// What a thread promises of its count of answers: nothing.
-#[derive(Drop)]
-struct Anything;
-
-impl Promise<u64> for Anything {
-    ghost kept_by = { λ _ _. ⊤ };
-}
+use std::{mem, thread};
 
 // What every thread does with its part of the keys.
 #[derive(Clone, Copy)]
@@ -34,18 +21,67 @@ enum Job {
     Find,
 }
 
+// What a thread works with: a filter that it shares with the others.
+trait Worker {
+    // As many of an empty filter as there are threads.
+    fn all(alloc: Global, keys: u32, threads: u32) -> anyhow::Result<Vec<Self>>;
+
+    // Inserts or looks up this many keys from the first on, and counts the answers that were true.
+    fn work(&mut self, job: Job, first: u64, keys: u64) -> u64;
+}
+
+impl Worker for Arc<AtomicBloomFilter, Global> {
+    fn all(alloc: Global, keys: u32, threads: u32) -> anyhow::Result<Vec<Self>> {
+        let filter = Arc::new(alloc, shared_filter_for(alloc, keys, 7)?)?;
+        let mut all = Vec::new(alloc);
+        'threads: for _thread in 0..threads {
+            all.push(Arc::try_clone(&filter)?)?;
+        }
+        Ok(all)
+    }
+
+    fn work(&mut self, job: Job, first: u64, keys: u64) -> u64 {
+        match job {
+            Job::Insert => insert_keys(self, first, keys),
+            Job::Find => contains_keys(self, first, keys),
+        }
+    }
+}
+
+impl Worker for Seat {
+    fn all(alloc: Global, keys: u32, threads: u32) -> anyhow::Result<Vec<Self>> {
+        seats_for(alloc, keys, threads)
+    }
+
+    fn work(&mut self, job: Job, first: u64, keys: u64) -> u64 {
+        match job {
+            Job::Insert => self.insert_keys(first, keys),
+            Job::Find => self.contains_keys(first, keys),
+        }
+    }
+}
+
+// What a thread promises of its count of answers and of its worker: nothing.
+#[derive(Drop)]
+struct Anything;
+
+impl<W> Promise<(u64, W)> for Anything {
+    ghost kept_by = { λ _ _. ⊤ };
+}
+
+type Child<W> = PromisedHandle<(u64, W), Anything>;
+
 // Starts a thread with this many keys from the first on.
-fn start<R: Threads>(
+fn start<R: Threads, W: Worker + Send + Drop + 'static>(
     rt: &R,
-    filter: &Shared,
+    mut worker: W,
     job: Job,
     first: u64,
     keys: u64,
-) -> anyhow::Result<PromisedHandle<u64, Anything>> {
-    let shared = Arc::try_clone(filter)?;
-    let work = move || match job {
-        Job::Insert => insert_keys(&shared, first, keys),
-        Job::Find => contains_keys(&shared, first, keys),
+) -> anyhow::Result<Child<W>> {
+    let work = move || {
+        let answers = worker.work(job, first, keys);
+        (answers, worker)
     };
     match thread::spawn_with(rt, Anything, work) {
         Ok(child) => Ok(child),
@@ -53,84 +89,110 @@ fn start<R: Threads>(
     }
 }
 
-// One round: each thread takes its part of the keys, and the answers that were true are counted.
-fn round_of<R: AllocGlobal + Threads>(
-    rt: &R,
-    filter: &Shared,
+// As many workers of a filter as there are threads. It is empty, or full where keys are to be found.
+fn workers_for<W: Worker + Drop>(
+    alloc: Global,
     job: Job,
-    threads: u64,
+    keys: u32,
+    threads: u32,
+) -> anyhow::Result<Vec<W>> {
+    let mut workers = W::all(alloc, keys, threads)?;
+    if let (Job::Find, Some(worker)) = (job, workers.first_mut()) {
+        worker.work(Job::Insert, 0, u64::from(keys));
+    }
+    Ok(workers)
+}
+
+// One round: each thread takes its part of the keys, and the answers that were true are counted.
+fn round_of<R: AllocGlobal + Threads, W: Worker + Send + Drop + 'static>(
+    rt: &R,
+    workers: &mut Vec<W>,
+    job: Job,
     keys: u64,
 ) -> anyhow::Result<u64> {
-    let part = keys.checked_div(threads).unwrap_or(0);
+    let part = keys.checked_div(workers.len() as u64).unwrap_or(0);
     let mut children = Vec::new(rt.alloc());
-    'threads: for thread in 0..threads {
-        let first = part.wrapping_mul(thread);
-        children.push(start(rt, filter, job, first, part)?)?;
+    let mut first: u64 = 0;
+    'threads: for worker in mem::replace(workers, Vec::new(rt.alloc())) {
+        children.push(start(rt, worker, job, first, part)?)?;
+        first = first.wrapping_add(part);
     }
     let mut answers: u64 = 0;
     'joins: for child in children {
-        answers = answers.wrapping_add(child.join(rt));
+        let (found, worker) = child.join(rt);
+        answers = answers.wrapping_add(found);
+        workers.push(worker)?;
     }
     Ok(answers)
+}
+
+// How the threads share a filter.
+#[derive(Clone, Copy)]
+enum Kind {
+    Shared,
+    Seated,
 }
 
 // What the threads do, and how many, on one filter with seven hashes.
 #[derive(Drop)]
 struct Calls<'a, R> {
     rt: &'a R,
+    kind: Kind,
     job: Job,
-    filter: Shared,
-    threads: u64,
-    keys: u64,
+    sharers: Vec<Arc<AtomicBloomFilter, Global>>,
+    seats: Vec<Seat>,
+    threads: u32,
+    keys: u32,
 }
 
 impl<'a, R: AllocGlobal + Threads> Measured for Calls<'a, R> {
+    // Each round of inserts has a filter of its own.
     fn prepare(&mut self, round: u32) -> anyhow::Result<()> {
-        match self.job {
-            Job::Insert => self.filter.clear(),
-            Job::Find => {
-                if round == 0 {
-                    insert_keys(&self.filter, 0, self.keys);
-                }
-            }
+        let (alloc, job, keys, threads) = (self.rt.alloc(), self.job, self.keys, self.threads);
+        match (self.kind, job) {
+            (_, Job::Find) if round > 0 => {}
+            (Kind::Shared, _) => self.sharers = workers_for(alloc, job, keys, threads)?,
+            (Kind::Seated, _) => self.seats = workers_for(alloc, job, keys, threads)?,
         }
         Ok(())
     }
 
     fn make(&mut self, _round: u32) -> anyhow::Result<Made> {
-        let answers = round_of(self.rt, &self.filter, self.job, self.threads, self.keys)?;
-        Ok(Made::Answers(answers))
+        let (rt, job, keys) = (self.rt, self.job, u64::from(self.keys));
+        Ok(Made::Answers(match self.kind {
+            Kind::Shared => round_of(rt, &mut self.sharers, job, keys)?,
+            Kind::Seated => round_of(rt, &mut self.seats, job, keys)?,
+        }))
     }
 }
 
-/// The rows of inserts and of hits by one, two and four threads.
+/// The rows of inserts and of hits by one, two and four threads, of shared and of seated filters.
 pub fn measure_all<R: Print + AllocGlobal + Clock + Threads>(
     rt: &R,
     plan: &Plan,
 ) -> anyhow::Result<()> {
-    let filter = shared_filter_for(rt.alloc(), plan.keys, 7)?;
     let mut calls = Calls {
         rt,
+        kind: Kind::Shared,
         job: Job::Insert,
-        filter: Arc::new(rt.alloc(), filter)?,
+        sharers: Vec::new(rt.alloc()),
+        seats: Vec::new(rt.alloc()),
         threads: 1,
-        keys: plan.count(),
+        keys: plan.keys,
     };
-    'calls: for (threads, job, name) in [
-        (1, Job::Insert, INSERT),
-        (1, Job::Find, HIT),
-        (2, Job::Insert, INSERT),
-        (2, Job::Find, HIT),
-        (4, Job::Insert, INSERT),
-        (4, Job::Find, HIT),
+    'rows: for (kind, job, name) in [
+        (Kind::Shared, Job::Insert, "insert by threads:"),
+        (Kind::Shared, Job::Find, "hit by threads:"),
+        (Kind::Seated, Job::Insert, "seated insert by threads:"),
+        (Kind::Seated, Job::Find, "seated hit by threads:"),
     ] {
-        calls.threads = u64::from(threads);
+        calls.kind = kind;
         calls.job = job;
-        measure(
-            rt,
-            Row::new(plan, name, threads, plan.count(), "true"),
-            &mut calls,
-        )?;
+        'threads: for threads in [1, 2, 4] {
+            calls.threads = threads;
+            let row = Row::new(plan, name, threads, plan.count(), "true");
+            measure(rt, row, &mut calls)?;
+        }
     }
     Ok(())
 }

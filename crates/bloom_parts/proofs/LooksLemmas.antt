@@ -1,7 +1,6 @@
 -- Looks at the places of a hash by loads, one stretch after the other.
-use Rattle.std.proofs.Common.{◌≡◌, ℕ, ◌+◌, ◌-◌, ◌*◌, ◌/◌, ◌%◌, ◌^◌, ◌≤◌, ◌<◌, min, Bool, true, false, ◌&&◌, eqb, ltb, bit_and, refl, sym, subst, ◌∙◌, ap, arith, inl, inr}
+use Rattle.std.proofs.Common.{◌≡◌, ℕ, ◌+◌, ◌-◌, ◌*◌, ◌/◌, ◌%◌, ◌^◌, ◌≤◌, ◌<◌, Bool, true, false, ◌&&◌, eqb, ltb, bit_and, refl, sym, subst, ◌∙◌, ap, arith, inl, inr}
 use mir.Val.{bool_byte}
-use Rattle.std.specs.Prelude.{IsTrue}
 use Rattle.std.proofs.lemmas.Bool.{cases_lt}
 use Rattle.bloom_parts.specs.Content.{index_of}
 use Rattle.bloom_parts.specs.Made.{SharedWords, FoundByLoad}
@@ -9,7 +8,6 @@ use Rattle.bloom_parts.specs.Looks.{FindsBit, FindsPlace, Looks, LooksNext}
 use Rattle.bloom_parts.specs.declared.hasher.chain.DoubleHasher.{DoubleHasher}
 use Rattle.bloom_parts.specs.Stretches.{Advances}
 use Rattle.bloom_parts.proofs.ContentLemmas.{test-bit}
-use Rattle.bloom_parts.proofs.TurnLemmas.{advances-then}
 use Rattle.bloom_parts.proofs.LookLemmas.{one-more}
 
 -- a load of the word where a hash lies, and the test of its bit
@@ -27,7 +25,7 @@ finds-bit v count hash word mask found all is_word is_mask load =
     })
 
 -- no place is left to look at
-pub looks-none : (v : SharedWords) (i hash : ℕ) → Looks v i 0 hash true
+looks-none : (v : SharedWords) (i hash : ℕ) → Looks v i 0 hash true
 looks-none v i hash =
     record { places = 0; on = λ j within. absurd (omega (arith, within)); end = refl }
 
@@ -71,7 +69,7 @@ on-then v i a b hash s one two j within = elim (cases_lt j a) [
 ]
 
 -- two stretches are looked at, one after the other
-pub looks-then : (v : SharedWords) (i a b hash : ℕ) (r s : Bool) → Looks v i a hash r
+looks-then : (v : SharedWords) (i a b hash : ℕ) (r s : Bool) → Looks v i a hash r
     → Looks v (i + a) b hash s → Looks v i (a + b) hash (r && s)
 looks-then v i a b hash false s one two = looks-off v i a (a + b) hash (omega arith) one
 looks-then v i a b hash true true one two =
@@ -135,24 +133,3 @@ looks_next-count on places digit x y v r is most moved before next =
 -- no next place is left to look at
 pub looks_next-none : (chain : DoubleHasher) (v : SharedWords) → LooksNext 0 chain v true
 looks_next-none chain v hash i at = looks-none v i hash
-
--- the first places are on, and of the others the last ones are looked at last
-module _ (a k last most : ℕ) (x y : DoubleHasher) (v : SharedWords) (fewer : a + 1 ≤ k)
-    (is : last ≡ min (k - a) most) (moved : Advances a x y) (first : LooksNext a x v true) where
-  -- where one of the places between is off, not all places are on
-  pub looks_next-rest : LooksNext (k - a - last) y v false → LooksNext k x v false
-  looks_next-rest off =
-      looks_next-off (a + (k - a - last)) k x v (omega (arith, fewer, is))
-      (looks_next-then a (k - a - last) (a + (k - a - last)) x y v true false refl moved first off)
-
-  -- where all of them are on, the last ones decide
-  pub looks_next-last : (z : DoubleHasher) (t : Bool)
-      → record {
-        found : LooksNext (k - a - last) y v true;
-        moved : IsTrue true → Advances (k - a - last) y z;
-      } → LooksNext last z v t → LooksNext k x v t
-  looks_next-last z t then rest =
-      looks_next-then (a + (k - a - last)) last k x z v true t (omega (arith, fewer, is))
-      (advances-then a (k - a - last) x y z moved (then.moved refl))
-      (looks_next-then a (k - a - last) (a + (k - a - last)) x y v true true refl moved first
-      then.found) rest

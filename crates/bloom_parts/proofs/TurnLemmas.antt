@@ -51,7 +51,7 @@ turns_on-both i a b h old mid new v w one two =
     (turns_on-append i a b h old mid new (eqb v 0) (eqb w 0) one two)
 
 -- no place is turned on
-pub turns_on-none : (i h : ℕ) (words : List ℕ) → TurnsOn i 0 h words words true
+turns_on-none : (i h : ℕ) (words : List ℕ) → TurnsOn i 0 h words words true
 turns_on-none i h words = record {
   answers = sym (are_in_from-zero (64 * length words) i h (content words));
   bits = λ p.
@@ -70,13 +70,6 @@ advances-then a b x y z one two hash i at =
 -- a chain stays where it is
 pub advances-none : (x : DoubleHasher) → Advances 0 x x
 advances-none x hash i at = let same : i ≡ i + 0 = omega arith in subst (λ m. IsAt hash m x) same at
-
--- the next places of a chain are turned on, and then those after them
-pub turns_on_next-then : (a b : ℕ) (x y : DoubleHasher) (old mid new : List ℕ) (v w : ℕ)
-    → Advances a x y → TurnsOnNext a x old mid v → TurnsOnNext b y mid new w
-    → TurnsOnNext (a + b) x old new (bit_or v w)
-turns_on_next-then a b x y old mid new v w moved one two hash i at =
-    turns_on-both i a b hash old mid new v w (one hash i at) (two hash (i + a) (moved hash i at))
 
 -- at the start of a chain no place has been turned on
 pub turned_on-none : (hash : ℕ) (words : List ℕ) (chain : DoubleHasher) → IsAt hash 0 chain

@@ -111,7 +111,9 @@ impl<S> BloomFilter<S> {
         // The insert as a list of this one command.
         ensures same { CarriesOut self.old (operation.Insert hash ∷ []) self.new (result ∷ []) }
     {
-        self.bits.insert_positions(self.num_hashes, hash)
+        // It is 1 at least, which the compiler sees in this form alone.
+        let num_hashes = self.num_hashes.max(1);
+        self.bits.insert_positions(num_hashes, hash)
     }
 
     /// Whether all positions of a hash are on: false means that it was never inserted.

@@ -1,5 +1,4 @@
 //! Look-ups of a hash in words that threads share.
-ghost use Rattle.std.specs.Prelude.{IsTrue};
 ghost use Rattle.bloom_parts.specs.Looks.{Looks, LooksNext};
 ghost use Rattle.bloom_parts.specs.Stretches.{Advances};
 
@@ -32,8 +31,7 @@ fn all_are_on(words: &Loads<'_>, chain: &mut DoubleHasher, count: u32) -> bool
 // Whether the next `count` places of a hash are found on. It stops at the first that is off.
 #[inline(always)]
 fn each_is_on(words: &Loads<'_>, chain: &mut DoubleHasher, count: u32) -> bool
-    ensures found { LooksNext count chain.old words.now result }
-    ensures moved { IsTrue result → Advances count chain.old chain.new }
+    ensures { LooksNext count chain.old words.now result }
 {
     'places: for _place in 0..count {
         if !next_is_on(words, chain) {
@@ -46,8 +44,9 @@ fn each_is_on(words: &Loads<'_>, chain: &mut DoubleHasher, count: u32) -> bool
 impl<'a> Loads<'a> {
     /// Whether the first `num_hashes` positions of a hash are all found on, one after the other.
     ///
-    /// It takes the first three, or fewer, and the last four without a branch between, as the
-    /// look-up in words of one owner does.
+    /// Up to three are taken together, without a branch between. Of more, the first three are,
+    /// which tell apart most hashes that were never inserted, and then it stops at the first that
+    /// is off.
     #[inline(always)]
     pub fn contains_positions(&self, num_hashes: u32, hash: u64) -> bool
         ensures { Looks self.now 0 num_hashes hash result }
@@ -59,11 +58,6 @@ impl<'a> Loads<'a> {
         if !all_are_on(self, &mut chain, 3) {
             return false;
         }
-        let rest = num_hashes - 3;
-        let last = rest.min(4);
-        if !each_is_on(self, &mut chain, rest - last) {
-            return false;
-        }
-        all_are_on(self, &mut chain, last)
+        each_is_on(self, &mut chain, num_hashes - 3)
     }
 }

@@ -17,47 +17,9 @@ fn turn_on_next(words: &mut [u64], chain: &mut DoubleHasher) -> u64
     turn_on_hash(words, chain.next())
 }
 
-// Turns on the next four places of a hash. The answer is 0 exactly if all were on just before.
-fn turn_on_four(words: &mut [u64], chain: &mut DoubleHasher) -> u64
-    requires { 1 ≤ length words.old }
-    ensures turns_on { TurnsOnNext 4 chain.old words.old words.new result }
-    ensures moved { Advances 4 chain.old chain.new }
-{
-    let first = turn_on_next(words, chain);
-    let second = turn_on_next(words, chain);
-    let third = turn_on_next(words, chain);
-    let fourth = turn_on_next(words, chain);
-    first | second | third | fourth
-}
-
-// Turns on the next places of a hash, at most three. The answer is 0 exactly if all were on just
-// before. Tests alone do it: for three places a loop costs as much as the places.
-#[inline(always)]
-fn turn_on_few(words: &mut [u64], chain: &mut DoubleHasher, count: u32) -> u64
-    requires words { 1 ≤ length words.old }
-    requires few { count < 4 }
-    ensures turns_on { TurnsOnNext count chain.old words.old words.new result }
-    ensures moved { Advances count chain.old chain.new }
-{
-    if count == 0 {
-        return 0;
-    }
-    let first = turn_on_next(words, chain);
-    if count == 1 {
-        return first;
-    }
-    let second = turn_on_next(words, chain);
-    if count == 2 {
-        return first | second;
-    }
-    let third = turn_on_next(words, chain);
-    first | second | third
-}
-
 /// Turns on all positions of a hash, and answers whether all were on just before.
 ///
-/// One alone lies where the hash does, and needs no chain. More than three are taken four in a
-/// turn, and then the rest. One word gathers what was off.
+/// The first is turned on before any loop. One word gathers what was off.
 #[inline(always)]
 pub fn insert_positions(words: &mut [u64], num_hashes: u32, hash: u64) -> bool
     requires { 1 ≤ length words.old }
@@ -66,18 +28,12 @@ pub fn insert_positions(words: &mut [u64], num_hashes: u32, hash: u64) -> bool
         ≡ (content words.old p || positions (64 * length words.old) num_hashes hash p) }
     ensures shape { length words.new ≡ length words.old }
 {
-    if num_hashes == 1 {
-        return turn_on_hash(words, hash) == 0;
-    }
     let mut chain = DoubleHasher::new(hash);
-    if num_hashes < 4 {
-        return turn_on_few(words, &mut chain, num_hashes) == 0;
+    if num_hashes == 0 {
+        return true;
     }
-    let mut was_off: u64 = 0;
-    'turns: for _turn in 0..num_hashes / 4 {
-        was_off |= turn_on_four(words, &mut chain);
-    }
-    'rest: for _place in 0..num_hashes % 4 {
+    let mut was_off = turn_on_next(words, &mut chain);
+    'places: for _place in 1..num_hashes {
         was_off |= turn_on_next(words, &mut chain);
     }
     was_off == 0

@@ -9,14 +9,16 @@ use super::RandomDefaultHasher;
 use std::hash::Hasher;
 
 impl RandomDefaultHasher {
-    // Takes in bytes as `write` does. It isn't inlined, since it would slow down the common path of
-    // its callers.
+    // The hasher after it has taken in bytes, as by `write`. It isn't inlined, and takes and gives the
+    // hasher by value, so that on the common path of its callers a hasher stays in registers.
     #[inline(never)]
-    fn write_apart(&mut self, bytes: &[u8])
-        ensures state { self.new ≡ hashed.write self.old bytes.now }
-        ensures taken { Takes self.old self.new bytes.now }
+    fn written_apart(self, bytes: &[u8]) -> Self
+        ensures state { result ≡ hashed.write self bytes.now }
+        ensures taken { Takes self result bytes.now }
     {
-        self.write(bytes);
+        let mut written = self;
+        written.write(bytes);
+        written
     }
 }
 
@@ -93,7 +95,7 @@ impl Hasher for RandomDefaultHasher {
         if self.length % 8 == 0 {
             self.push_words(&[u64::to_le_bytes(i)]);
         } else {
-            self.write_apart(&u64::to_le_bytes(i));
+            *self = self.written_apart(&u64::to_le_bytes(i));
         }
     }
 

@@ -13,8 +13,8 @@ places-preserved c = record {
       c.if-not-next_is_on.false c.next_is_on.ensures.found;
 }
 
-pub returns-then-not-next_is_on-clause-found : goal.returns-then-not-next_is_on-clause-found
-returns-then-not-next_is_on-clause-found c =
+pub returns-then-not-next_is_on : goal.returns-then-not-next_is_on
+returns-then-not-next_is_on c =
     let before = c.places.invariant in
     looks_next-stops c.places._place _ _ _ _ _ (omega (arith, c.places-test.true)) before.chain
     before.on c.if-not-next_is_on.true c.next_is_on.ensures.found

@@ -1,4 +1,4 @@
-use Rattle.std.proofs.Common.{refl, sym, subst}
+use Rattle.std.proofs.Common.{◌≡◌, refl, sym, subst, arith}
 use Rattle.bloom_plain.specs.Filter.{Filter, Inserts}
 use Rattle.bloom_plain.proofs.ReplyLemmas.{carries_out-insert}
 use Rattle.bloom_plain.proofs.bloom.BloomFilter.insert_hash.Goals as goal
@@ -9,9 +9,11 @@ returns-clause-inserts g c =
     let inside = c.self.inside in
     let new : Filter g.row.S.Denot =
     record { words = did.new.self; hashes = inside.num_hashes; hasher = inside.hasher } in
+    let same : c.max-num_hashes.result ≡ inside.num_hashes =
+    omega (arith, c.max-num_hashes.ensures, c.self.invariant.some_hashes) in
     subst (λ old. Inserts old c.args.hash new did.result) c.self.view_is (record {
-      answers = did.ensures.reply;
-      bits = did.ensures.content;
+      answers = rw (sym same) did.ensures.reply;
+      bits = λ p. rw (sym same) (did.ensures.content p);
       shape = record { words = sym did.ensures.shape; hashes = refl };
       hasher = refl;
     })

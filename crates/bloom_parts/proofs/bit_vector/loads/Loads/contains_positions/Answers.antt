@@ -1,5 +1,5 @@
 use Rattle.std.proofs.Common.{arith}
-use Rattle.bloom_parts.proofs.LooksLemmas.{looks_next-off, looks_next-rest, looks_next-last}
+use Rattle.bloom_parts.proofs.LooksLemmas.{looks_next-then, looks_next-off}
 use Rattle.bloom_parts.proofs.bit_vector.loads.Loads.contains_positions.Goals as goal
 
 pub returns-then-num_hashes-lt4 : goal.returns-then-num_hashes-lt4
@@ -10,14 +10,8 @@ returns-then-not-all_are_on c =
     looks_next-off 3 _ _ _ (omega (arith, c.if-num_hashes-lt4.false))
     c.if-not-all_are_on.ensures.found _ _ c.new-chain.ensures
 
-pub returns-then-not-each_is_on : goal.returns-then-not-each_is_on
-returns-then-not-each_is_on c =
-    looks_next-rest 3 _ _ _ _ _ _ c.if-num_hashes-lt4.false c.min-last.ensures
-    c.if-not-all_are_on.ensures.moved c.if-not-all_are_on.ensures.found
-    c.if-not-each_is_on.ensures.found _ _ c.new-chain.ensures
-
 pub returns : goal.returns
 returns c =
-    looks_next-last 3 _ _ _ _ _ _ c.if-num_hashes-lt4.false c.min-last.ensures
-    c.if-not-all_are_on.ensures.moved c.if-not-all_are_on.ensures.found _ _
-    c.if-not-each_is_on.ensures c.all_are_on-3.ensures.found _ _ c.new-chain.ensures
+    looks_next-then 3 _ _ _ _ _ _ _ (omega (arith, c.if-num_hashes-lt4.false))
+    c.if-not-all_are_on.ensures.moved c.if-not-all_are_on.ensures.found c.each_is_on.ensures
+    _ _ c.new-chain.ensures
