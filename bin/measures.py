@@ -55,8 +55,8 @@ for line, in base.execute("select line from seen"):
 """
 
 # The rows of the bench that tell of threads.
-BY_THREADS = {"insert by threads:": "insert", "hit by threads:": "hit", "fill by workers:": "fill"}
-SEATED = {"seated insert_hash_as": "seated insert", "seated hit": "seated hit"}
+BY_THREADS = {"insert by threads:": "insert", "hit by threads:": "hit", "fill by workers:": "fill",
+              "seated insert by threads:": "seated insert", "seated hit by threads:": "seated hit"}
 
 
 def tell(text):
@@ -279,20 +279,14 @@ def read_rows(text):
 
 
 def time_threads(keys, rounds):
-    """What an operation costs where threads share a filter, or each has one, which are united.
-
-    The bench calls seated filters by one thread only.
-    """
-    rows, bench = [], built("bench", "0", "0")
-    for word, names in (("by ", BY_THREADS), ("seated", SEATED)):
-        run = subprocess.run([bench, str(keys), str(rounds), word], text=True, check=False,
-                             stdout=subprocess.PIPE)
-        if run.returncode:
-            raise Failed(f"bin/bench ended with status {run.returncode}")
-        for (call, number), (time_of_one, _) in read_rows(run.stdout).items():
-            if call in names:
-                rows.append({"call": names[call], "threads": 1 if names is SEATED else number,
-                             "picoseconds": time_of_one})
+    """What an operation costs where threads share a filter, or each has one, which are united."""
+    bench = built("bench", "0", "0")
+    run = subprocess.run([bench, str(keys), str(rounds), "by "], text=True, check=False,
+                         stdout=subprocess.PIPE)
+    if run.returncode:
+        raise Failed(f"bin/bench ended with status {run.returncode}")
+    rows = [{"call": BY_THREADS[call], "threads": number, "picoseconds": time_of_one}
+            for (call, number), (time_of_one, _) in read_rows(run.stdout).items() if call in BY_THREADS]
     if not rows:
         raise Failed("bin/bench printed no rows of threads")
     return rows

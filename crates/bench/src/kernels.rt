@@ -61,12 +61,15 @@ fn filter_of(alloc: Global, words: usize) -> anyhow::Result<BloomFilter> {
 }
 
 fn pair_of(alloc: Global, words: usize) -> anyhow::Result<Pair> {
-    Ok(Pair {
+    let mut pair = Pair {
         filter: filter_of(alloc, words)?,
         other: filter_of(alloc, words)?,
-        words: vec![in alloc; 0u64; words]?,
-        others: vec![in alloc; 0u64; words]?,
-    })
+        words: Vec::new(alloc),
+        others: Vec::new(alloc),
+    };
+    pair.words = vec![in alloc; 0u64; words]?;
+    pair.others = vec![in alloc; 0u64; words]?;
+    Ok(pair)
 }
 
 // What goes over all words: a call of the filter, or a plain loop.

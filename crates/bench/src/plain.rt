@@ -1,15 +1,11 @@
 //! The calls of a plain filter that take items or hashes.
-ghost use Rattle.std.specs.Prelude.{◌≤◌};
-
 use crate::filters::filter_for;
 use crate::keys::{contains_keys, first_foreign_key, hash_of, numbers_to};
 use crate::plan::Plan;
 use crate::table::{Made, Measured, Row, measure};
 use fastbloom::BloomFilter;
+use std::alloc::Global;
 use std::rt::Clock;
-
-// The bytes of the longest item.
-const MOST_BYTES: usize = 1000;
 
 // The answers of `source_hash` are counted by their lowest bit.
 #[inline(never)]
@@ -21,44 +17,35 @@ fn hash_numbers(filter: &BloomFilter, keys: u64) -> u64 {
     answers
 }
 
-// Each item is text of `size` bytes at one of 32 places.
+// The items are 32 texts by turns.
 #[inline(never)]
-fn hash_texts(filter: &BloomFilter, text: &str, size: usize, keys: u64) -> u64
-    requires { size ≤ MOST_BYTES }
-{
+fn hash_texts(filter: &BloomFilter, texts: &[String], keys: u64) -> u64 {
     let mut answers: u64 = 0;
     'keys: for key in 0..keys {
-        let from = (key % 32) as usize;
-        if let Some(item) = text.get(from..from + size) {
-            answers = answers.wrapping_add(filter.source_hash(&item) % 2);
+        if let Some(item) = texts.get(key as usize % 32) {
+            answers = answers.wrapping_add(filter.source_hash(item) % 2);
         }
     }
     answers
 }
 
 #[inline(never)]
-fn insert_texts(filter: &mut BloomFilter, text: &str, size: usize, keys: u64) -> u64
-    requires { size ≤ MOST_BYTES }
-{
+fn insert_texts(filter: &mut BloomFilter, texts: &[String], keys: u64) -> u64 {
     let mut answers: u64 = 0;
     'keys: for key in 0..keys {
-        let from = (key % 32) as usize;
-        if let Some(item) = text.get(from..from + size) {
-            answers = answers.wrapping_add(u64::from(filter.insert(&item)));
+        if let Some(item) = texts.get(key as usize % 32) {
+            answers = answers.wrapping_add(u64::from(filter.insert(item)));
         }
     }
     answers
 }
 
 #[inline(never)]
-fn contains_texts(filter: &BloomFilter, text: &str, size: usize, keys: u64) -> u64
-    requires { size ≤ MOST_BYTES }
-{
+fn contains_texts(filter: &BloomFilter, texts: &[String], keys: u64) -> u64 {
     let mut answers: u64 = 0;
     'keys: for key in 0..keys {
-        let from = (key % 32) as usize;
-        if let Some(item) = text.get(from..from + size) {
-            answers = answers.wrapping_add(u64::from(filter.contains(&item)));
+        if let Some(item) = texts.get(key as usize % 32) {
+            answers = answers.wrapping_add(u64::from(filter.contains(item)));
         }
     }
     answers
@@ -110,7 +97,6 @@ fn insert_keys(filter: &mut BloomFilter, keys: u64) -> u64 {
 enum Call {
     HashNumbers,
     HashTexts,
-    HashLongTexts,
     InsertTexts,
     ContainsTexts,
     Insert,
@@ -127,9 +113,7 @@ enum Call {
 struct Calls {
     call: Call,
     filter: BloomFilter,
-    text: String,
-    // The bytes of each short text.
-    size: usize,
+    texts: Vec<String>,
     numbers: Vec<u64>,
     keys: u64,
 }
@@ -137,14 +121,14 @@ struct Calls {
 impl Measured for Calls {
     fn prepare(&mut self, round: u32) -> anyhow::Result<()> {
         match self.call {
-            Call::HashNumbers | Call::HashTexts | Call::HashLongTexts => {}
+            Call::HashNumbers | Call::HashTexts => {}
             Call::Insert | Call::InsertTexts | Call::Extend | Call::InsertAll | Call::InsertHash =>
                 {
                     self.filter.clear();
                 }
             Call::ContainsTexts => {
                 if round == 0 {
-                    insert_texts(&mut self.filter, &self.text, self.size.min(MOST_BYTES), 32);
+                    insert_texts(&mut self.filter, self.texts.as_slice(), 32);
                 }
             }
             Call::Contains => {
@@ -162,13 +146,12 @@ impl Measured for Calls {
     }
 
     fn make(&mut self, round: u32) -> anyhow::Result<Made> {
-        let (keys, size) = (self.keys, self.size.min(MOST_BYTES));
+        let (keys, texts) = (self.keys, self.texts.as_slice());
         Ok(Made::Answers(match self.call {
             Call::HashNumbers => hash_numbers(&self.filter, keys),
-            Call::HashTexts => hash_texts(&self.filter, &self.text, 64, keys),
-            Call::HashLongTexts => hash_texts(&self.filter, &self.text, MOST_BYTES, keys / 10),
-            Call::InsertTexts => insert_texts(&mut self.filter, &self.text, size, keys),
-            Call::ContainsTexts => contains_texts(&self.filter, &self.text, size, keys),
+            Call::HashTexts => hash_texts(&self.filter, texts, keys),
+            Call::InsertTexts => insert_texts(&mut self.filter, texts, keys),
+            Call::ContainsTexts => contains_texts(&self.filter, texts, keys),
             Call::Insert => insert_numbers(&mut self.filter, keys),
             Call::Contains => contains_numbers(&self.filter, keys),
             Call::Extend => extend_by_numbers(&mut self.filter, keys),
@@ -180,44 +163,60 @@ impl Measured for Calls {
     }
 }
 
-/// The rows of a plain filter: of items with seven hashes, and of hashes with one to 22.
-pub fn measure_all<R: Print + AllocGlobal + Clock>(rt: &R, plan: &Plan) -> anyhow::Result<()> {
-    let keys = plan.count();
-    let mut calls = Calls {
-        call: Call::HashNumbers,
-        filter: filter_for(rt.alloc(), plan.keys, 7)?,
-        text: "0123456789abcdefghijklmnopqrstuv".repeat(rt.alloc(), 33)?,
-        size: 64,
-        numbers: numbers_to(rt.alloc(), keys)?,
-        keys,
-    };
-    'items: for (call, name, operations, counted) in [
-        (Call::HashNumbers, "source_hash, u64", keys, "odd hashes"),
-        (Call::HashTexts, "source_hash, 64 B", keys, "odd hashes"),
-        (
-            Call::HashLongTexts,
-            "source_hash, 1,000 B",
-            keys / 10,
-            "odd hashes",
-        ),
-        (Call::Insert, "insert, u64", keys, "true"),
-        (Call::Contains, "contains, u64", keys, "true"),
-        (Call::Extend, "extend, u64", keys, "found after it"),
-        (Call::InsertAll, "insert_all, u64", keys, "found after it"),
-    ] {
-        calls.call = call;
-        measure(rt, Row::new(plan, name, 7, operations, counted), &mut calls)?;
-    }
-    'sizes: for size in [8u32, 16, 32, 64] {
-        calls.size = size as usize;
-        'texts: for (call, name) in [
-            (Call::InsertTexts, "insert, text of bytes:"),
-            (Call::ContainsTexts, "contains, text of bytes:"),
-        ] {
-            calls.call = call;
-            measure(rt, Row::new(plan, name, size, keys, "true"), &mut calls)?;
+// 32 texts of this many bytes, at most 1,000.
+fn texts_of(alloc: Global, size: u32) -> anyhow::Result<Vec<String>> {
+    let text = "0123456789abcdefghijklmnopqrstuv".repeat(alloc, 33)?;
+    let size = size.min(1000) as usize;
+    let mut texts = Vec::new(alloc);
+    'texts: for from in 0..32 {
+        if let Some(item) = text.get(from..from + size) {
+            texts.push(item.to_string(alloc)?)?;
         }
     }
+    Ok(texts)
+}
+
+// The rows of numbers.
+fn measure_numbers<R: Print + Clock>(rt: &R, plan: &Plan, calls: &mut Calls) -> anyhow::Result<()> {
+    'calls: for (call, name, counted) in [
+        (Call::HashNumbers, "source_hash, u64", "odd hashes"),
+        (Call::Insert, "insert, u64", "true"),
+        (Call::Contains, "contains, u64", "true"),
+        (Call::Extend, "extend, u64", "found after it"),
+        (Call::InsertAll, "insert_all, u64", "found after it"),
+    ] {
+        calls.call = call;
+        measure(rt, Row::new(plan, name, 7, calls.keys, counted), calls)?;
+    }
+    Ok(())
+}
+
+// The rows of texts.
+fn measure_texts<R: Print + AllocGlobal + Clock>(
+    rt: &R,
+    plan: &Plan,
+    calls: &mut Calls,
+) -> anyhow::Result<()> {
+    'sizes: for size in [8, 16, 32, 64, 1000] {
+        calls.texts = texts_of(rt.alloc(), size)?;
+        'texts: for (call, name, counted) in [
+            (Call::HashTexts, "source_hash, text of bytes:", "odd hashes"),
+            (Call::InsertTexts, "insert, text of bytes:", "true"),
+            (Call::ContainsTexts, "contains, text of bytes:", "true"),
+        ] {
+            calls.call = call;
+            measure(rt, Row::new(plan, name, size, calls.keys, counted), calls)?;
+        }
+    }
+    Ok(())
+}
+
+// The rows of hashes, with filters of one to 22 hashes.
+fn measure_hashes<R: Print + AllocGlobal + Clock>(
+    rt: &R,
+    plan: &Plan,
+    calls: &mut Calls,
+) -> anyhow::Result<()> {
     'counts: for num_hashes in [1, 2, 3, 7, 22] {
         calls.filter = filter_for(rt.alloc(), plan.keys, num_hashes)?;
         'hashes: for (call, name) in [
@@ -228,10 +227,25 @@ pub fn measure_all<R: Print + AllocGlobal + Clock>(rt: &R, plan: &Plan) -> anyho
             calls.call = call;
             measure(
                 rt,
-                Row::new(plan, name, num_hashes, keys, "true"),
-                &mut calls,
+                Row::new(plan, name, num_hashes, calls.keys, "true"),
+                calls,
             )?;
         }
     }
     Ok(())
+}
+
+/// The rows of a plain filter: of items with seven hashes, and of hashes with one to 22.
+pub fn measure_all<R: Print + AllocGlobal + Clock>(rt: &R, plan: &Plan) -> anyhow::Result<()> {
+    let keys = plan.count();
+    let mut calls = Calls {
+        call: Call::HashNumbers,
+        filter: filter_for(rt.alloc(), plan.keys, 7)?,
+        texts: Vec::new(rt.alloc()),
+        numbers: numbers_to(rt.alloc(), keys)?,
+        keys,
+    };
+    measure_numbers(rt, plan, &mut calls)?;
+    measure_texts(rt, plan, &mut calls)?;
+    measure_hashes(rt, plan, &mut calls)
 }
