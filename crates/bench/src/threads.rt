@@ -89,7 +89,8 @@ fn start<R: Threads, W: Worker + Send + Drop + 'static>(
     }
 }
 
-// As many workers of a filter as there are threads. It is empty, or full where keys are to be found.
+// As many workers of a filter as there are threads. It has all keys where they are to be found,
+// and else none.
 fn workers_for<W: Worker + Drop>(
     alloc: Global,
     job: Job,

@@ -9,8 +9,8 @@ use super::RandomDefaultHasher;
 use std::hash::Hasher;
 
 impl RandomDefaultHasher {
-    // The hasher after it has taken in bytes, as by `write`. It isn't inlined, and takes and gives the
-    // hasher by value, so that on the common path of its callers a hasher stays in registers.
+    // The hasher after it has taken in bytes, as by `write`. It isn't inlined, and takes and gives
+    // the hasher by value, so that a hasher stays in registers on the common path of its callers.
     #[inline(never)]
     fn written_apart(self, bytes: &[u8]) -> Self
         ensures state { result ≡ hashed.write self bytes.now }
