@@ -90,6 +90,21 @@ fn close_writer<'a>(rt: &'a HostRuntime, names: &'a Names, guard: Writer<'a>, st
     close_table(rt, names, table, status)
 }
 
+// Drops a store that was only read.
+fn drop_table(table: FileTable) {
+    drop(table);
+}
+
+// Drops a guard that only looked things up, and its store where that was opened.
+fn drop_reader<'a>(guard: Reader<'a>) {
+    let (store, kept) = guard.into_parts();
+    drop(kept);
+    match store.into_parts() {
+        (_, Some(table)) => drop_table(table),
+        (_, None) => {}
+    }
+}
+
 // A task that takes no lines.
 const NO_INPUT: Input<'static> = Input {
     place: "",
@@ -100,7 +115,9 @@ fn get<'a>(rt: &'a HostRuntime, names: &'a Names, rate: Rate, key: &str) -> u8 {
     match open_reader(rt, names, rate) {
         Ok(mut guard) => {
             let task: Task<&[u8]> = Task::Get(key);
-            tasks::serve(rt, names, &mut guard, task, NO_INPUT)
+            let status = tasks::serve(rt, names, &mut guard, task, NO_INPUT);
+            drop_reader(guard);
+            status
         }
         Err(status) => status,
     }
@@ -112,7 +129,11 @@ fn stats<'a>(rt: &'a HostRuntime, names: &'a Names, rate: Rate) -> u8 {
         is_put: false,
     };
     match open_reader(rt, names, rate) {
-        Ok(mut guard) => tasks::count(rt, names, &mut guard, &mut rt.reader(), input),
+        Ok(mut guard) => {
+            let status = tasks::count(rt, names, &mut guard, &mut rt.reader(), input);
+            drop_reader(guard);
+            status
+        }
         Err(status) => status,
     }
 }
@@ -178,10 +199,12 @@ fn list(rt: &HostRuntime, names: &Names) -> u8 {
         Ok(table) => table,
         Err(fault) => return tell_store(rt, names, &fault),
     };
-    match table.entries() {
+    let status = match table.entries() {
         Ok(entries) => tasks::print_entries(rt, names, &entries),
         Err(fault) => tell_store(rt, names, &fault),
-    }
+    };
+    drop_table(table);
+    status
 }
 
 /// Does what is asked for, and answers the status.
