@@ -1,7 +1,6 @@
 -- Stretches of the places of a hash that are looked at one after the other.
-use Rattle.std.proofs.Common.{◌≡◌, ◌≢◌, ℕ, ◌+◌, ◌-◌, ◌*◌, ◌≤◌, min, Bool, true, false, ◌&&◌, eqb, List, length, refl, sym, subst, ◌∙◌, ap, arith, inl, inr}
+use Rattle.std.proofs.Common.{◌≡◌, ◌≢◌, ℕ, ◌+◌, ◌-◌, ◌*◌, ◌≤◌, Bool, true, false, ◌&&◌, eqb, List, length, refl, sym, subst, ◌∙◌, ap, arith, inl, inr}
 use mir.Val.{bool_byte}
-use Rattle.std.specs.Prelude.{IsTrue}
 use Rattle.std.proofs.Math.Bool.{and-false}
 use Rattle.std.proofs.lemmas.Bool.{cases_eq, ne_eqb, eq-eqb}
 use Rattle.bloom_parts.specs.Chain.{IsAt}
@@ -9,7 +8,6 @@ use Rattle.bloom_parts.specs.Content.{content}
 use Rattle.bloom_parts.specs.Places.{are_in}
 use Rattle.bloom_parts.specs.declared.hasher.chain.DoubleHasher.{DoubleHasher}
 use Rattle.bloom_parts.specs.Stretches.{are_on, Advances, TellsNext}
-use Rattle.bloom_parts.proofs.TurnLemmas.{advances-then}
 use Rattle.bloom_parts.proofs.StretchLemmas.{are_in_from-zero, are_in_from-start, are_in_from-append}
 
 -- two stretches are looked at one after the other
@@ -68,40 +66,9 @@ module _ {hash : ℕ} {chain : DoubleHasher} (k : ℕ) (words : List ℕ) (at : 
   tells-all r tells = tells hash 0 at ∙ are_in_from-start (64 * length words) k hash (content words)
 
   -- where one of the first places is off, not all places of the hash are on
-  pub tells-off : (a : ℕ) → a + 1 ≤ k → TellsNext a chain words false
+  pub tells-off : (a : ℕ) → a ≤ k → TellsNext a chain words false
       → false ≡ are_in (64 * length words) k hash (content words)
-  tells-off a fewer off =
-      tells-all false (tells_next-off a k chain words (omega (arith, fewer)) off)
-
-  -- the first places are on, and of the others the last ones are looked at last
-  module _ (a : ℕ) (next : DoubleHasher)
-      (first : record { found : TellsNext a chain words true; moved : Advances a chain next })
-      (fewer : a + 1 ≤ k) (last most : ℕ) (is : last ≡ min (k - a) most) where
-    -- those and the ones between are on as the ones between are
-    both : (r : Bool) → TellsNext (k - a - last) next words r
-        → TellsNext (a + (k - a - last)) chain words r
-    both r then =
-        tells_next-then a (k - a - last) (a + (k - a - last)) chain next words true r refl
-        first.moved first.found then
-
-    -- where one of the ones between is off, not all places of the hash are on
-    pub tells-next_off : TellsNext (k - a - last) next words false
-        → false ≡ are_in (64 * length words) k hash (content words)
-    tells-next_off off =
-        tells-all false (tells_next-off (a + (k - a - last)) k chain words
-        (omega (arith, fewer, is)) (both false off))
-
-    -- where all of them are on, the last ones decide
-    pub tells-last : (end : DoubleHasher) (t : Bool)
-        → record {
-          found : TellsNext (k - a - last) next words true;
-          moved : IsTrue true → Advances (k - a - last) next end;
-        } → TellsNext last end words t → t ≡ are_in (64 * length words) k hash (content words)
-    tells-last end t then rest =
-        tells-all t (tells_next-then (a + (k - a - last)) last k chain end words true t
-        (omega (arith, fewer, is))
-        (advances-then a (k - a - last) chain next end first.moved (then.moved refl))
-        (both true then.found) rest)
+  tells-off a fewer off = tells-all false (tells_next-off a k chain words fewer off)
 
 -- a digit is 1 at most
 pub digit-most : (b : Bool) → bool_byte b ≤ 1
@@ -132,27 +99,3 @@ tells_next-count on places digit x y words r is most moved before next =
     tells_next-as (places + 1) x words (eqb on places && r) (eqb (on + digit) (places + 1))
     (sym (ap (λ n. eqb (on + n) (places + 1)) is ∙ one-more on places r most))
     (tells_next-then places 1 (places + 1) x y words (eqb on places) r refl moved before next)
-
--- three digits add up to 3 exactly if each is 1
-three-of-three : (a b c : Bool)
-    → eqb (bool_byte a + bool_byte b + bool_byte c) 3 ≡ ((a && b) && c)
-three-of-three true true true = refl
-three-of-three true true false = refl
-three-of-three true false true = refl
-three-of-three true false false = refl
-three-of-three false true true = refl
-three-of-three false true false = refl
-three-of-three false false true = refl
-three-of-three false false false = refl
-
--- three places are looked at one after the other, and their digits are added up
-pub tells_next-three : (x y z : DoubleHasher) (words : List ℕ) (r s t : Bool) (d e f : ℕ)
-    → d ≡ bool_byte r → e ≡ bool_byte s → f ≡ bool_byte t → Advances 1 x y → Advances 1 y z
-    → TellsNext 1 x words r → TellsNext 1 y words s → TellsNext 1 z words t
-    → TellsNext 3 x words (eqb (d + e + f) 3)
-tells_next-three x y z words r s t d e f is_d is_e is_f to_y to_z one two three =
-    let digits : (r && s && t) ≡ eqb (d + e + f) 3 =
-    sym (three-of-three r s t) ∙ rw (is_d, is_e, is_f) refl in
-    tells_next-as 3 x words (r && s && t) (eqb (d + e + f) 3) digits
-    (tells_next-then 2 1 3 x z words (r && s) t refl (advances-then 1 1 x y z to_y to_z)
-    (tells_next-then 1 1 2 x y words r s refl to_y one two) three)

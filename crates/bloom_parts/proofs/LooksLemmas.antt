@@ -120,6 +120,11 @@ looks_next-stops places count x y v r fewer moved before is next =
     (looks_next-then places 1 (places + 1) x y v true false refl moved before
     (subst (LooksNext 1 y v) is next))
 
+-- an answer that is known
+pub looks_next-as : (count : ℕ) (chain : DoubleHasher) (v : SharedWords) (r s : Bool) → r ≡ s
+    → LooksNext count chain v r → LooksNext count chain v s
+looks_next-as count chain v r s same = subst (LooksNext count chain v) same
+
 -- the next place is looked at, and its digit is counted
 pub looks_next-count : (on places digit : ℕ) (x y : DoubleHasher) (v : SharedWords) (r : Bool)
     → digit ≡ bool_byte r → on ≤ places → Advances places x y

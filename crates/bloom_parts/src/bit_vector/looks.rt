@@ -33,12 +33,11 @@ fn all_are_on(words: &Loads<'_>, chain: &mut DoubleHasher, count: u32) -> bool
 fn each_is_on(words: &Loads<'_>, chain: &mut DoubleHasher, count: u32) -> bool
     ensures { LooksNext count chain.old words.now result }
 {
-    'places: for _place in 0..count {
-        if !next_is_on(words, chain) {
-            return false;
-        }
+    let mut left = count;
+    'places: while left > 0 && next_is_on(words, chain) {
+        left -= 1;
     }
-    true
+    left == 0
 }
 
 impl<'a> Loads<'a> {

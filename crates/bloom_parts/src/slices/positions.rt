@@ -1,6 +1,6 @@
 //! The loops over the positions of a hash. They branch as seldom as they can, since no processor
 //! foresees whether one position is on.
-ghost use Rattle.std.specs.Prelude.{◌≡◌, ℕ, ◌*◌, ◌<◌, ◌≤◌, ◌||◌, length, IsTrue};
+ghost use Rattle.std.specs.Prelude.{◌≡◌, ℕ, ◌*◌, ◌<◌, ◌≤◌, ◌||◌, length};
 ghost use Rattle.bloom_parts.specs.Content.{content};
 ghost use Rattle.bloom_parts.specs.Places.{positions, are_in};
 ghost use Rattle.bloom_parts.specs.Stretches.{Advances, TurnsOnNext, TellsNext};
@@ -48,22 +48,12 @@ fn next_is_on(words: &[u64], chain: &mut DoubleHasher) -> bool
     check_hash(words, chain.next())
 }
 
-// Whether the next three places of a hash are on. It counts, which needs no branch.
-fn three_are_on(words: &[u64], chain: &mut DoubleHasher) -> bool
-    requires { 1 ≤ length words.now }
-    ensures found { TellsNext 3 chain.old words.now result }
-    ensures moved { Advances 3 chain.old chain.new }
-{
-    let first = next_is_on(words, chain);
-    let second = next_is_on(words, chain);
-    let third = next_is_on(words, chain);
-    u32::from(first) + u32::from(second) + u32::from(third) == 3
-}
-
 // Whether the next `count` places of a hash are on. It counts, which needs no branch.
+#[inline(always)]
 fn all_are_on(words: &[u64], chain: &mut DoubleHasher, count: u32) -> bool
     requires { 1 ≤ length words.now }
-    ensures { TellsNext count chain.old words.now result }
+    ensures found { TellsNext count chain.old words.now result }
+    ensures moved { Advances count chain.old chain.new }
 {
     let mut on: u32 = 0;
     'places: for _place in 0..count {
@@ -72,25 +62,24 @@ fn all_are_on(words: &[u64], chain: &mut DoubleHasher, count: u32) -> bool
     on == count
 }
 
-// Whether the next `count` places of a hash are on. It stops at the first that is off.
+// Whether the next `count` places of a hash are on. It stops at the first that is off. It counts
+// those before, so that no answer is made in the loop.
+#[inline(always)]
 fn each_is_on(words: &[u64], chain: &mut DoubleHasher, count: u32) -> bool
     requires { 1 ≤ length words.now }
-    ensures found { TellsNext count chain.old words.now result }
-    ensures moved { IsTrue result → Advances count chain.old chain.new }
+    ensures { TellsNext count chain.old words.now result }
 {
-    'places: for _place in 0..count {
-        if !next_is_on(words, chain) {
-            return false;
-        }
+    let mut found: u32 = 0;
+    'places: while found < count && next_is_on(words, chain) {
+        found += 1;
     }
-    true
+    found == count
 }
 
 /// Whether all positions of a hash are on.
 ///
 /// Up to three are taken together. Of more, the first three are, which tell apart most hashes that
-/// were never inserted. It then stops at the first that is off, and takes the last four together,
-/// or all that are left.
+/// were never inserted. It then stops at the first that is off.
 #[inline(always)]
 pub fn contains_positions(words: &[u64], num_hashes: u32, hash: u64) -> bool
     requires { 1 ≤ length words.now }
@@ -100,15 +89,10 @@ pub fn contains_positions(words: &[u64], num_hashes: u32, hash: u64) -> bool
     if num_hashes < 4 {
         return all_are_on(words, &mut chain, num_hashes);
     }
-    if !three_are_on(words, &mut chain) {
+    if !all_are_on(words, &mut chain, 3) {
         return false;
     }
-    let rest = num_hashes - 3;
-    let last = rest.min(4);
-    if !each_is_on(words, &mut chain, rest - last) {
-        return false;
-    }
-    all_are_on(words, &mut chain, last)
+    each_is_on(words, &mut chain, num_hashes - 3)
 }
 
 /// Whether all positions of a hash are on.
