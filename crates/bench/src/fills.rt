@@ -4,10 +4,10 @@
 use crate::filters::filter_for;
 use crate::keys::hash_of;
 use crate::plan::Plan;
-use crate::table::{Made, Measured, Row, measure};
+use crate::table::{Made, Measured, Named, measure_rows};
 use anyhow::bail;
 use fastbloom::{BloomFilter, Gate, Shape, fill};
-use std::alloc::Global;
+use std::alloc::{AllocError, Global};
 use std::mem;
 use std::rt::Clock;
 use std::sync::Arc;
@@ -22,7 +22,7 @@ impl Gate for Open {
 }
 
 // The hashes of the keys between two.
-fn hashes_of(alloc: Global, first: u64, end: u64) -> anyhow::Result<Vec<u64>> {
+fn hashes_of(alloc: Global, first: u64, end: u64) -> Result<Vec<u64>, AllocError> {
     let mut hashes = Vec::new(alloc);
     'keys: for key in first..end {
         hashes.push(hash_of(key))?;
@@ -31,7 +31,7 @@ fn hashes_of(alloc: Global, first: u64, end: u64) -> anyhow::Result<Vec<u64>> {
 }
 
 // The hashes of the keys, cut into this many parts.
-fn parts_of(alloc: Global, keys: u64, parts: u64) -> anyhow::Result<Vec<Vec<u64>>> {
+fn parts_of(alloc: Global, keys: u64, parts: u64) -> Result<Vec<Vec<u64>>, AllocError> {
     let size = keys.checked_div(parts).unwrap_or(0);
     let mut cut = Vec::new(alloc);
     'parts: for part in 0..parts {
@@ -54,12 +54,14 @@ enum Call {
     Fill,
 }
 
+const ALONE: [Named<Call>; 1] = [(Call::Alone, "inserts by one thread", "found after it")];
+
+const FILL: [Named<Call>; 1] = [(Call::Fill, "fill by workers:", "found after it")];
+
 // Who fills a filter, and its hashes: in whole, or in a part for each worker.
 #[derive(Drop)]
 struct Calls<'a, R> {
     rt: &'a R,
-    call: Call,
-    workers: u32,
     keys: u32,
     shape: Shape,
     gate: Arc<Open, Global>,
@@ -68,23 +70,25 @@ struct Calls<'a, R> {
 }
 
 impl<'a, R: AllocGlobal + Threads> Measured for Calls<'a, R> {
-    fn prepare(&mut self, round: u32) -> anyhow::Result<()> {
+    type Call = Call;
+
+    fn prepare(&mut self, call: Call, workers: u32, round: u32) -> anyhow::Result<()> {
         let (alloc, keys) = (self.rt.alloc(), u64::from(self.keys));
-        match self.call {
+        match call {
             Call::Alone => {
                 if round == 0 {
                     self.hashes = hashes_of(alloc, 0, keys)?;
                 }
             }
-            Call::Fill => self.parts = parts_of(alloc, keys, u64::from(self.workers))?,
+            Call::Fill => self.parts = parts_of(alloc, keys, u64::from(workers))?,
         }
         Ok(())
     }
 
     // One thread makes the filter and inserts every hash, as the workers do.
-    fn make(&mut self, _round: u32) -> anyhow::Result<Made> {
+    fn make(&mut self, call: Call, _workers: u32, _round: u32) -> anyhow::Result<Made> {
         let alloc = self.rt.alloc();
-        let filter = match self.call {
+        let filter = match call {
             Call::Alone => {
                 let mut filter = filter_for(alloc, self.keys, 7)?;
                 insert_all(&mut filter, &self.hashes);
@@ -100,6 +104,15 @@ impl<'a, R: AllocGlobal + Threads> Measured for Calls<'a, R> {
     }
 }
 
+fn measure_calls<'a, R: Print + AllocGlobal + Clock + Threads>(
+    rt: &R,
+    plan: &Plan,
+    calls: &mut Calls<'a, R>,
+) -> anyhow::Result<()> {
+    measure_rows(rt, plan, calls, plan.count(), &[1], &ALONE)?;
+    measure_rows(rt, plan, calls, plan.count(), &[1, 2, 4], &FILL)
+}
+
 /// The rows of one thread, and of one, two and four workers.
 pub fn measure_all<R: Print + AllocGlobal + Clock + Threads>(
     rt: &R,
@@ -110,24 +123,11 @@ pub fn measure_all<R: Print + AllocGlobal + Clock + Threads>(
     };
     let mut calls = Calls {
         rt,
-        call: Call::Alone,
-        workers: 1,
         keys: plan.keys,
         shape,
         gate: Arc::new(rt.alloc(), Open)?,
         hashes: Vec::new(rt.alloc()),
         parts: Vec::new(rt.alloc()),
     };
-    'calls: for (call, name, workers) in [
-        (Call::Alone, "inserts by one thread", 1),
-        (Call::Fill, "fill by workers:", 1),
-        (Call::Fill, "fill by workers:", 2),
-        (Call::Fill, "fill by workers:", 4),
-    ] {
-        calls.call = call;
-        calls.workers = workers;
-        let row = Row::new(plan, name, workers, plan.count(), "found after it");
-        measure(rt, row, &mut calls)?;
-    }
-    Ok(())
+    measure_calls(rt, plan, &mut calls)
 }

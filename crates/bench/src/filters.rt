@@ -3,7 +3,21 @@ ghost use Rattle.std.specs.Prelude.{◌≡◌, ◌*◌, All, IfErr, IfOk, max, r
 ghost use Rattle.fastbloom.specs.Builders.{words_for};
 
 use fastbloom::{AtomicBloomFilter, BloomFilter, FilterError, Pass, SeatedBloomFilter};
-use std::alloc::Global;
+use std::alloc::{AllocError, Global};
+
+/// How many words a filter with ten bits for each key has, and one at least.
+pub fn count_words(keys: u32) -> usize
+    ensures { result ≡ words_for (max 1 (keys * 10)) }
+{
+    (keys as usize * 10).max(1).div_ceil(64)
+}
+
+/// This many words, all 0.
+pub fn zeros(alloc: Global, count: usize) -> Result<Vec<u64>, AllocError>
+    ensures { IfOk result (λ words. words.items ≡ replicate count 0) }
+{
+    vec![in alloc; 0u64; count]
+}
 
 /// An empty filter with ten bits for each key, and one bit at least.
 pub fn filter_for(alloc: Global, keys: u32, num_hashes: u32) -> Result<BloomFilter, FilterError>
@@ -40,7 +54,6 @@ pub fn seated_filter_for(
 ) -> Result<(SeatedBloomFilter, Vec<Pass>), FilterError>
     ensures { IfOk result (λ made. All (λ pass. pass.filter ≡ made.0.table) made.1.items) }
 {
-    let bits = (keys as usize * 10).max(1);
-    let words = vec![in alloc; 0u64; bits.div_ceil(64)]?;
+    let words = zeros(alloc, count_words(keys))?;
     SeatedBloomFilter::new(alloc, words, 7, passes as usize)
 }

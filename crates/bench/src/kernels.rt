@@ -4,9 +4,10 @@
 //! The loops go over slices, where the compiler takes several words at once.
 ghost use Rattle.std.specs.Prelude.{◌≡◌, length};
 
+use crate::filters::zeros;
 use crate::plan::Plan;
-use crate::table::{Made, Measured, Row, measure};
-use fastbloom::BloomFilter;
+use crate::table::{Made, Measured, Named, measure_rows};
+use fastbloom::{BloomFilter, FilterError};
 use std::alloc::Global;
 use std::rt::Clock;
 
@@ -55,21 +56,20 @@ struct Pair {
 }
 
 // A filter of this many words.
-fn filter_of(alloc: Global, words: usize) -> anyhow::Result<BloomFilter> {
-    let words = vec![in alloc; 0u64; words]?;
-    Ok(BloomFilter::from_vec(words)?.hashes(1))
+fn filter_of(alloc: Global, words: usize) -> Result<BloomFilter, FilterError> {
+    Ok(BloomFilter::from_vec(zeros(alloc, words)?)?.hashes(1))
 }
 
-fn pair_of(alloc: Global, words: usize) -> anyhow::Result<Pair> {
-    let mut pair = Pair {
-        filter: filter_of(alloc, words)?,
-        other: filter_of(alloc, words)?,
-        words: Vec::new(alloc),
-        others: Vec::new(alloc),
-    };
-    pair.words = vec![in alloc; 0u64; words]?;
-    pair.others = vec![in alloc; 0u64; words]?;
-    Ok(pair)
+fn pair_of(alloc: Global, words: usize) -> Result<Pair, FilterError> {
+    let filter = filter_of(alloc, words)?;
+    let other = filter_of(alloc, words)?;
+    let (words, others) = (zeros(alloc, words)?, zeros(alloc, words)?);
+    Ok(Pair {
+        filter,
+        other,
+        words,
+        others,
+    })
 }
 
 // What goes over all words: a call of the filter, or a plain loop.
@@ -84,6 +84,17 @@ enum Kernel {
     Clear,
     PlainClear,
 }
+
+const ROWS: [Named<Kernel>; 8] = [
+    (Kernel::Union, "union, words:", "equal"),
+    (Kernel::PlainUnion, "  plain union, words:", "equal"),
+    (Kernel::Intersect, "intersect, words:", "equal"),
+    (Kernel::PlainIntersect, "  plain intersect, words:", "equal"),
+    (Kernel::Equality, "==, words:", "equal"),
+    (Kernel::PlainEquality, "  plain ==, words:", "equal"),
+    (Kernel::Clear, "clear, words:", "equal"),
+    (Kernel::PlainClear, "  plain clear, words:", "equal"),
+];
 
 // Unites the filters this many times.
 fn unite(pair: &mut Pair, times: u64) {
@@ -172,22 +183,23 @@ fn make(pair: &mut Pair, kernel: Kernel, times: u64) -> u64 {
     0
 }
 
-// A kernel, the filters that it is run on, and how often a round runs it.
+// What the kernels are run on, and how often a round runs one.
 #[derive(Drop)]
 struct Kernels {
-    kernel: Kernel,
     pair: Pair,
     times: u64,
 }
 
 impl Measured for Kernels {
-    fn prepare(&mut self, _round: u32) -> anyhow::Result<()> {
+    type Call = Kernel;
+
+    fn prepare(&mut self, _kernel: Kernel, _words: u32, _round: u32) -> anyhow::Result<()> {
         Ok(())
     }
 
-    fn make(&mut self, _round: u32) -> anyhow::Result<Made> {
+    fn make(&mut self, kernel: Kernel, _words: u32, _round: u32) -> anyhow::Result<Made> {
         let times = self.times;
-        Ok(Made::Answers(make(&mut self.pair, self.kernel, times)))
+        Ok(Made::Answers(make(&mut self.pair, kernel, times)))
     }
 }
 
@@ -203,36 +215,15 @@ fn measure_size<R: Print + AllocGlobal + Clock>(
         (1 << 20) / u64::from(words.max(1))
     };
     let operations = times.wrapping_mul(u64::from(words));
-    let mut kernels = Kernels {
-        kernel: Kernel::Union,
-        pair: pair_of(rt.alloc(), words as usize)?,
-        times,
-    };
-    'kernels: for (kernel, call) in [
-        (Kernel::Union, "union, words:"),
-        (Kernel::PlainUnion, "  plain union, words:"),
-        (Kernel::Intersect, "intersect, words:"),
-        (Kernel::PlainIntersect, "  plain intersect, words:"),
-        (Kernel::Equality, "==, words:"),
-        (Kernel::PlainEquality, "  plain ==, words:"),
-        (Kernel::Clear, "clear, words:"),
-        (Kernel::PlainClear, "  plain clear, words:"),
-    ] {
-        kernels.kernel = kernel;
-        measure(
-            rt,
-            Row::new(plan, call, words, operations, "equal"),
-            &mut kernels,
-        )?;
-    }
-    Ok(())
+    let pair = pair_of(rt.alloc(), words as usize)?;
+    let mut kernels = Kernels { pair, times };
+    measure_rows(rt, plan, &mut kernels, operations, &[words], &ROWS)
 }
 
 /// The rows of all kernels over 15, 1,023 and 2^20 words, a word each. Where there are no keys
 /// nothing is measured.
 pub fn measure_all<R: Print + AllocGlobal + Clock>(rt: &R, plan: &Plan) -> anyhow::Result<()> {
-    'sizes: for words in [15, 1023, 1 << 20] {
-        measure_size(rt, plan, words)?;
-    }
-    Ok(())
+    measure_size(rt, plan, 15)?;
+    measure_size(rt, plan, 1023)?;
+    measure_size(rt, plan, 1 << 20)
 }

@@ -20,22 +20,31 @@ mod table;
 mod threads;
 mod whole_filter;
 
-use filters::filter_for;
+use filters::count_words;
 use plan::Plan;
-use std::alloc::Global;
+use std::rt::Clock;
+use std::thread::Threads;
+
+// All rows, by kinds of filters.
+fn measure_all<R: Print + AllocGlobal + Clock + Threads>(
+    rt: &R,
+    plan: &Plan,
+) -> anyhow::Result<()> {
+    table::head(rt, plan, count_words(plan.keys) * 64)?;
+    plain::measure_all(rt, plan)?;
+    whole_filter::measure_all(rt, plan)?;
+    whole_filter::measure_replay(rt, plan)?;
+    data::measure_all(rt, plan)?;
+    kernels::measure_all(rt, plan)?;
+    steps::measure_all(rt, plan)?;
+    shared::measure_all(rt, plan)?;
+    shared_whole_filter::measure_all(rt, plan)?;
+    seated::measure_all(rt, plan)?;
+    threads::measure_all(rt, plan)?;
+    fills::measure_all(rt, plan)
+}
 
 fn main(rt: HostRuntime) -> anyhow::Result<()> {
     let plan = plan::given(&rt)?;
-    let bits = filter_for(rt.alloc(), plan.keys, 7)?.num_bits();
-    table::head(&rt, &plan, bits)?;
-    plain::measure_all(&rt, &plan)?;
-    whole_filter::measure_all(&rt, &plan)?;
-    data::measure_all(&rt, &plan)?;
-    kernels::measure_all(&rt, &plan)?;
-    steps::measure_all(&rt, &plan)?;
-    shared::measure_all(&rt, &plan)?;
-    shared_whole_filter::measure_all(&rt, &plan)?;
-    seated::measure_all(&rt, &plan)?;
-    threads::measure_all(&rt, &plan)?;
-    fills::measure_all(&rt, &plan)
+    measure_all(&rt, &plan)
 }

@@ -1,6 +1,6 @@
 //! What is measured.
 
-use anyhow::{Context, bail};
+use anyhow::bail;
 use std::alloc::Global;
 use std::env;
 use std::rt::Env;
@@ -33,12 +33,21 @@ impl Plan {
     pub fn count(&self) -> u64 {
         u64::from(self.keys)
     }
+
+    /// The number of words of so many bits, as a count of operations. It is 0 where there are no
+    /// keys, so that nothing is measured.
+    pub fn words(&self, bits: usize) -> u64 {
+        if self.keys == 0 { 0 } else { bits as u64 / 64 }
+    }
 }
 
 // The number that the next argument is, or `missing` where there is none.
 fn number(argument: Option<String>, missing: u32) -> anyhow::Result<u32> {
     match argument {
-        Some(text) => text.parse::<u32>().context(USAGE),
+        Some(text) => match text.parse::<u32>() {
+            Ok(number) => Ok(number),
+            Err(_) => bail!(USAGE),
+        },
         None => Ok(missing),
     }
 }
@@ -53,7 +62,7 @@ pub fn given<R: Env + AllocGlobal>(rt: &R) -> anyhow::Result<Plan> {
     let rounds = number(words.next(), ROUNDS)?;
     let word = words.next();
     if words.next().is_some() {
-        bail!("usage: bench [KEYS [ROUNDS [WORD]]]");
+        bail!(USAGE);
     }
     Ok(Plan { keys, rounds, word })
 }

@@ -5,9 +5,9 @@ ghost use Rattle.std.specs.Arc.{arc_value};
 use crate::filters::seated_filter_for;
 use crate::keys::{first_foreign_key, hash_of};
 use crate::plan::Plan;
-use crate::table::{Made, Measured, Row, measure};
-use fastbloom::{Pass, SeatedBloomFilter};
-use std::alloc::Global;
+use crate::table::{Made, Measured, Named, measure_rows};
+use fastbloom::{FilterError, Pass, SeatedBloomFilter};
+use std::alloc::{AllocError, Global};
 use std::marker::Model;
 use std::rt::Clock;
 use std::sync::Arc;
@@ -71,7 +71,10 @@ impl Seat {
 }
 
 // A seat with the last of a filter's passes.
-fn seat_of(filter: &Arc<SeatedBloomFilter, Global>, passes: &mut Vec<Pass>) -> anyhow::Result<Seat>
+fn seat_of(
+    filter: &Arc<SeatedBloomFilter, Global>,
+    passes: &mut Vec<Pass>,
+) -> Result<Seat, AllocError>
     requires some { 1 ≤ vec_len passes.old }
     requires of_filter { All (λ pass. pass.filter ≡ (arc_value filter.now).table) passes.old.items }
     ensures { All (λ pass. pass.filter ≡ (arc_value filter.now).table) passes.new.items }
@@ -84,7 +87,7 @@ fn seat_of(filter: &Arc<SeatedBloomFilter, Global>, passes: &mut Vec<Pass>) -> a
 }
 
 /// All the seats of an empty filter with ten bits for each key and seven hashes.
-pub fn seats_for(alloc: Global, keys: u32, count: u32) -> anyhow::Result<Vec<Seat>> {
+pub fn seats_for(alloc: Global, keys: u32, count: u32) -> Result<Vec<Seat>, FilterError> {
     let (filter, mut passes) = seated_filter_for(alloc, keys, count)?;
     let shared = Arc::new(alloc, filter)?;
     let mut seats = Vec::new(alloc);
@@ -104,19 +107,26 @@ enum Call {
     Miss,
 }
 
-// A call, and the seat that it is made with, if there is one.
+const ROWS: [Named<Call>; 3] = [
+    (Call::Insert, "seated insert_hash_as", "true"),
+    (Call::Hit, "seated hit", "true"),
+    (Call::Miss, "seated miss", "true"),
+];
+
+// The seat that the calls are made with, if there is one.
 #[derive(Drop)]
 struct Calls {
     alloc: Global,
-    call: Call,
     seats: Vec<Seat>,
     keys: u32,
 }
 
 impl Measured for Calls {
+    type Call = Call;
+
     // Bits never go off, so each round of inserts has a filter of its own.
-    fn prepare(&mut self, round: u32) -> anyhow::Result<()> {
-        match self.call {
+    fn prepare(&mut self, call: Call, _number: u32, round: u32) -> anyhow::Result<()> {
+        match call {
             Call::Insert => self.seats = seats_for(self.alloc, self.keys, 1)?,
             Call::Hit | Call::Miss => {
                 if round == 0 {
@@ -130,12 +140,12 @@ impl Measured for Calls {
         Ok(())
     }
 
-    fn make(&mut self, round: u32) -> anyhow::Result<Made> {
+    fn make(&mut self, call: Call, _number: u32, round: u32) -> anyhow::Result<Made> {
         let keys = u64::from(self.keys);
         let Some(seat) = self.seats.first_mut() else {
             return Ok(Made::Answers(0));
         };
-        Ok(Made::Answers(match self.call {
+        Ok(Made::Answers(match call {
             Call::Insert => seat.insert_keys(0, keys),
             Call::Hit => seat.contains_keys(0, keys),
             Call::Miss => seat.contains_keys(first_foreign_key(keys, round), keys),
@@ -147,21 +157,8 @@ impl Measured for Calls {
 pub fn measure_all<R: Print + AllocGlobal + Clock>(rt: &R, plan: &Plan) -> anyhow::Result<()> {
     let mut calls = Calls {
         alloc: rt.alloc(),
-        call: Call::Insert,
         seats: Vec::new(rt.alloc()),
         keys: plan.keys,
     };
-    'calls: for (call, name) in [
-        (Call::Insert, "seated insert_hash_as"),
-        (Call::Hit, "seated hit"),
-        (Call::Miss, "seated miss"),
-    ] {
-        calls.call = call;
-        measure(
-            rt,
-            Row::new(plan, name, 7, plan.count(), "true"),
-            &mut calls,
-        )?;
-    }
-    Ok(())
+    measure_rows(rt, plan, &mut calls, plan.count(), &[7], &ROWS)
 }

@@ -1,11 +1,11 @@
 //! The calls of a filter that threads share, made by one thread, beside bare atomic operations.
 ghost use Rattle.std.specs.Prelude.{◌≤◌, ◌<◌, ◌^◌, vec_len};
 
-use crate::filters::shared_filter_for;
+use crate::filters::{count_words, shared_filter_for};
 use crate::keys::{first_foreign_key, hash_of, numbers_to};
 use crate::plan::Plan;
-use crate::table::{Made, Measured, Row, measure};
-use fastbloom::AtomicBloomFilter;
+use crate::table::{Made, Measured, Named, measure_rows};
+use fastbloom::{AtomicBloomFilter, FilterError};
 use std::alloc::{AllocError, Global};
 use std::rt::Clock;
 use std::sync::atomic::{AtomicU64, Ordering};
@@ -69,9 +69,8 @@ fn bare_operations(words: &Vec<AtomicU64>, keys: u64) -> u64
 
 // As many atomic words as bits for the keys take.
 fn bare_words(alloc: Global, keys: u32) -> Result<Vec<AtomicU64>, AllocError> {
-    let bits = (keys as usize * 10).max(1);
     let mut words = Vec::new(alloc);
-    'words: for _word in 0..bits.div_ceil(64) {
+    'words: for _word in 0..count_words(keys) {
         words.push(AtomicU64::new(0))?;
     }
     Ok(words)
@@ -87,11 +86,19 @@ enum Call {
     InsertAll,
 }
 
-// A call, the filter that it is made on, bare words and items.
+const ROWS: [Named<Call>; 6] = [
+    (Call::Bare, "fetch_or, seven", "true"),
+    (Call::InsertHash, "shared insert_hash", "true"),
+    (Call::Hit, "shared hit", "true"),
+    (Call::Miss, "shared miss", "true"),
+    (Call::Extend, "shared extend, u64", "found after it"),
+    (Call::InsertAll, "shared insert_all, u64", "found after it"),
+];
+
+// The filter that the calls are made on, bare words and items.
 #[derive(Drop)]
 struct Calls {
     alloc: Global,
-    call: Call,
     filter: AtomicBloomFilter,
     words: Vec<AtomicU64>,
     numbers: Vec<u64>,
@@ -99,8 +106,10 @@ struct Calls {
 }
 
 impl Measured for Calls {
-    fn prepare(&mut self, round: u32) -> anyhow::Result<()> {
-        match self.call {
+    type Call = Call;
+
+    fn prepare(&mut self, call: Call, _number: u32, round: u32) -> anyhow::Result<()> {
+        match call {
             Call::Bare => self.words = bare_words(self.alloc, self.keys)?,
             Call::InsertHash | Call::Extend | Call::InsertAll => self.filter.clear(),
             Call::Hit | Call::Miss => {
@@ -112,10 +121,10 @@ impl Measured for Calls {
         Ok(())
     }
 
-    fn make(&mut self, round: u32) -> anyhow::Result<Made> {
+    fn make(&mut self, call: Call, _number: u32, round: u32) -> anyhow::Result<Made> {
         let keys = u64::from(self.keys);
         let filter = &self.filter;
-        Ok(Made::Answers(match self.call {
+        Ok(Made::Answers(match call {
             Call::Bare if self.words.is_empty() || self.words.len() >= 1 << 58 => 0,
             Call::Bare => bare_operations(&self.words, keys),
             Call::InsertHash => insert_keys(filter, 0, keys),
@@ -127,27 +136,22 @@ impl Measured for Calls {
     }
 }
 
+// An empty filter, all numbers, and no bare words.
+fn calls_for(alloc: Global, keys: u32) -> Result<Calls, FilterError> {
+    let numbers = numbers_to(alloc, u64::from(keys))?;
+    let filter = shared_filter_for(alloc, keys, 7)?;
+    let words = Vec::new(alloc);
+    Ok(Calls {
+        alloc,
+        filter,
+        words,
+        numbers,
+        keys,
+    })
+}
+
 /// The rows of a shared filter with seven hashes, by one thread.
 pub fn measure_all<R: Print + AllocGlobal + Clock>(rt: &R, plan: &Plan) -> anyhow::Result<()> {
-    let (alloc, keys) = (rt.alloc(), plan.count());
-    let mut calls = Calls {
-        alloc,
-        call: Call::Bare,
-        filter: shared_filter_for(alloc, plan.keys, 7)?,
-        words: Vec::new(alloc),
-        numbers: numbers_to(alloc, keys)?,
-        keys: plan.keys,
-    };
-    'calls: for (call, name, counted) in [
-        (Call::Bare, "fetch_or, seven", "true"),
-        (Call::InsertHash, "shared insert_hash", "true"),
-        (Call::Hit, "shared hit", "true"),
-        (Call::Miss, "shared miss", "true"),
-        (Call::Extend, "shared extend, u64", "found after it"),
-        (Call::InsertAll, "shared insert_all, u64", "found after it"),
-    ] {
-        calls.call = call;
-        measure(rt, Row::new(plan, name, 7, keys, counted), &mut calls)?;
-    }
-    Ok(())
+    let mut calls = calls_for(rt.alloc(), plan.keys)?;
+    measure_rows(rt, plan, &mut calls, plan.count(), &[7], &ROWS)
 }

@@ -2,8 +2,8 @@
 
 use crate::filters::shared_filter_for;
 use crate::plan::Plan;
-use crate::table::{Made, Measured, Row, measure};
-use fastbloom::AtomicBloomFilter;
+use crate::table::{Made, Measured, Named, measure_rows};
+use fastbloom::{AtomicBloomFilter, FilterError};
 use std::alloc::Global;
 use std::rt::Clock;
 
@@ -21,11 +21,21 @@ enum Call {
     TakeWords,
 }
 
-// A call, and the filters that it is made on.
+const ROWS: [Named<Call>; 8] = [
+    (Call::Union, "shared union, a word", CHANGED),
+    (Call::Intersect, "shared intersect, a word", CHANGED),
+    (Call::SameWords, "shared same_words, a word", CHANGED),
+    (Call::Clear, "shared clear, a word", CHANGED),
+    (Call::Clone, "shared try_clone, a word", "found after it"),
+    (Call::Iter, "shared iter, a word", "odd words"),
+    (Call::ToData, "shared to_data, a word", "words"),
+    (Call::TakeWords, "shared take_words, a word", "words"),
+];
+
+// The filters that the calls are made on.
 #[derive(Drop)]
 struct Calls {
     alloc: Global,
-    call: Call,
     filter: AtomicBloomFilter,
     other: AtomicBloomFilter,
 }
@@ -48,14 +58,16 @@ fn answer_of(filter: &AtomicBloomFilter, other: &AtomicBloomFilter, call: Call) 
 }
 
 impl Measured for Calls {
-    fn prepare(&mut self, _round: u32) -> anyhow::Result<()> {
+    type Call = Call;
+
+    fn prepare(&mut self, _call: Call, _number: u32, _round: u32) -> anyhow::Result<()> {
         Ok(())
     }
 
-    fn make(&mut self, _round: u32) -> anyhow::Result<Made> {
-        Ok(match self.call {
+    fn make(&mut self, call: Call, _number: u32, _round: u32) -> anyhow::Result<Made> {
+        Ok(match call {
             Call::Union | Call::Intersect | Call::SameWords | Call::Clear => {
-                let answer = answer_of(&self.filter, &self.other, self.call);
+                let answer = answer_of(&self.filter, &self.other, call);
                 Made::Answers(u64::from(answer))
             }
             Call::Clone => Made::SharedCopy(self.other.try_clone(self.alloc)?),
@@ -69,31 +81,21 @@ impl Measured for Calls {
     }
 }
 
-/// The rows of whole shared filters, by one thread.
-pub fn measure_all<R: Print + AllocGlobal + Clock>(rt: &R, plan: &Plan) -> anyhow::Result<()> {
-    let alloc = rt.alloc();
-    let filter = shared_filter_for(alloc, plan.keys, 7)?;
-    let other = shared_filter_for(alloc, plan.keys, 7)?;
+// Two filters, one of which has the hash 0.
+fn calls_for(alloc: Global, keys: u32) -> Result<Calls, FilterError> {
+    let filter = shared_filter_for(alloc, keys, 7)?;
+    let other = shared_filter_for(alloc, keys, 7)?;
     other.insert_hash(0);
-    let bits = other.num_bits();
-    let mut calls = Calls {
+    Ok(Calls {
         alloc,
-        call: Call::Union,
         filter,
         other,
-    };
-    'calls: for (call, name, counted) in [
-        (Call::Union, "shared union, a word", CHANGED),
-        (Call::Intersect, "shared intersect, a word", CHANGED),
-        (Call::SameWords, "shared same_words, a word", CHANGED),
-        (Call::Clear, "shared clear, a word", CHANGED),
-        (Call::Clone, "shared try_clone, a word", "found after it"),
-        (Call::Iter, "shared iter, a word", "odd words"),
-        (Call::ToData, "shared to_data, a word", "words"),
-        (Call::TakeWords, "shared take_words, a word", "words"),
-    ] {
-        calls.call = call;
-        measure(rt, Row::by_words(plan, name, bits, counted), &mut calls)?;
-    }
-    Ok(())
+    })
+}
+
+/// The rows of whole shared filters, by one thread.
+pub fn measure_all<R: Print + AllocGlobal + Clock>(rt: &R, plan: &Plan) -> anyhow::Result<()> {
+    let mut calls = calls_for(rt.alloc(), plan.keys)?;
+    let words = plan.words(calls.filter.num_bits());
+    measure_rows(rt, plan, &mut calls, words, &[7], &ROWS)
 }

@@ -1,20 +1,19 @@
 //! Calls by word steps, on words in memory.
 
-use crate::filters::filter_for;
+use crate::filters::{count_words, filter_for, zeros};
 use crate::keys::hash_of;
 use crate::plan::Plan;
-use crate::table::{Made, Measured, Row, measure};
-use fastbloom::{BloomFilter, Call, Event, MemoryStore, drive, run};
+use crate::table::{Made, Measured, Named, measure_rows};
+use fastbloom::{BloomFilter, Call, Event, FilterError, MemoryStore, drive, run};
 use std::alloc::{AllocError, Global};
 use std::rt::Clock;
 
 const RUN: &'static str = "run, an event";
 
 // The words of an empty filter, and as many of the other.
-fn store_for(alloc: Global, keys: u32) -> anyhow::Result<MemoryStore> {
-    let filter = filter_for(alloc, keys, 7)?;
-    let words = filter.as_slice().to_vec(alloc)?;
-    let other = filter.as_slice().to_vec(alloc)?;
+fn store_for(alloc: Global, keys: u32) -> Result<MemoryStore, AllocError> {
+    let words = zeros(alloc, count_words(keys))?;
+    let other = zeros(alloc, count_words(keys))?;
     Ok(MemoryStore::new(words, other))
 }
 
@@ -49,11 +48,15 @@ enum Step {
     Run,
 }
 
-// A call, and the words or the schedule that it is made on.
+const ROWS: [Named<Step>; 2] = [
+    (Step::Drive, "drive, an insert", "true"),
+    (Step::Run, RUN, "records"),
+];
+
+// The words or the schedule that the calls are made on.
 #[derive(Drop)]
 struct Calls {
     alloc: Global,
-    call: Step,
     keys: u32,
     store: MemoryStore,
     filter: BloomFilter,
@@ -61,16 +64,18 @@ struct Calls {
 }
 
 impl Measured for Calls {
-    fn prepare(&mut self, _round: u32) -> anyhow::Result<()> {
-        match self.call {
+    type Call = Step;
+
+    fn prepare(&mut self, call: Step, _number: u32, _round: u32) -> anyhow::Result<()> {
+        match call {
             Step::Drive => self.store = store_for(self.alloc, self.keys)?,
             Step::Run => {}
         }
         Ok(())
     }
 
-    fn make(&mut self, _round: u32) -> anyhow::Result<Made> {
-        Ok(match self.call {
+    fn make(&mut self, call: Step, _number: u32, _round: u32) -> anyhow::Result<Made> {
+        Ok(match call {
             Step::Drive => Made::Answers(drive_inserts(&mut self.store, u64::from(self.keys))),
             Step::Run => {
                 let trace = run(self.alloc, self.filter.as_slice(), 7, 1, &self.schedule)?;
@@ -80,27 +85,23 @@ impl Measured for Calls {
     }
 }
 
+// An empty filter, its words, and as many events as are wanted.
+fn calls_for(alloc: Global, keys: u32, events: u32) -> Result<Calls, FilterError> {
+    let schedule = inserts_on(alloc, events)?;
+    let store = store_for(alloc, keys)?;
+    let filter = filter_for(alloc, keys, 7)?;
+    Ok(Calls {
+        alloc,
+        keys,
+        store,
+        filter,
+        schedule,
+    })
+}
+
 /// The rows of `drive` over memory and of `run`.
 pub fn measure_all<R: Print + AllocGlobal + Clock>(rt: &R, plan: &Plan) -> anyhow::Result<()> {
-    let (alloc, keys) = (rt.alloc(), plan.keys);
-    let mut calls = Calls {
-        alloc,
-        call: Step::Drive,
-        keys,
-        store: store_for(alloc, keys)?,
-        filter: filter_for(alloc, keys, 7)?,
-        schedule: inserts_on(alloc, if plan.wants(RUN) { keys } else { 0 })?,
-    };
-    'calls: for (call, name, counted) in [
-        (Step::Drive, "drive, an insert", "true"),
-        (Step::Run, RUN, "records"),
-    ] {
-        calls.call = call;
-        measure(
-            rt,
-            Row::new(plan, name, 7, plan.count(), counted),
-            &mut calls,
-        )?;
-    }
-    Ok(())
+    let events = if plan.wants(RUN) { plan.keys } else { 0 };
+    let mut calls = calls_for(rt.alloc(), plan.keys, events)?;
+    measure_rows(rt, plan, &mut calls, plan.count(), &[7], &ROWS)
 }

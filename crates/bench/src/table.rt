@@ -20,7 +20,17 @@ pub enum Made {
     Data(FilterData),
     Text(String),
     Words(Vec<u64>),
+    Replies(Vec<bool>),
     Trace(Trace),
+}
+
+// How many are true.
+fn count_true(replies: &[bool]) -> u64 {
+    let mut answers: u64 = 0;
+    'replies: for reply in replies {
+        answers = answers.wrapping_add(u64::from(*reply));
+    }
+    answers
 }
 
 impl Made {
@@ -33,23 +43,27 @@ impl Made {
             Made::Data(data) => data.bits.bits.len() as u64,
             Made::Text(text) => text.len() as u64,
             Made::Words(words) => words.len() as u64,
+            Made::Replies(replies) => count_true(replies),
             Made::Trace(trace) => trace.records().len() as u64,
         }
     }
 }
 
-/// A call that a row measures, with what it is made on.
+/// Calls that rows measure, with what they are made on.
 pub trait Measured {
-    /// Does what a round needs before its clock starts.
-    fn prepare(&mut self, round: u32) -> anyhow::Result<()>;
+    /// Which call.
+    type Call: Copy;
+
+    /// Does what a round needs before its clock starts. The number is that of the row.
+    fn prepare(&mut self, call: Self::Call, number: u32, round: u32) -> anyhow::Result<()>;
 
     /// Makes the call as often as the row says. This is what is timed.
-    fn make(&mut self, round: u32) -> anyhow::Result<Made>;
+    fn make(&mut self, call: Self::Call, number: u32, round: u32) -> anyhow::Result<Made>;
 }
 
-/// A row of the table: one call, how often a round makes it, and the best round so far.
+// A row of the table: one call, how often a round makes it, and the best round so far.
 #[derive(Clone, Copy)]
-pub struct Row {
+struct Row {
     call: &'static str,
     number: u32,
     operations: u64,
@@ -62,9 +76,8 @@ pub struct Row {
 }
 
 impl Row {
-    /// The row of a call that no round has made yet, with its number of hashes, or of what its name
-    /// tells before a colon, and with what its answers count.
-    pub fn new(
+    // The row of a call that no round has made yet. It has no rounds where it isn't wanted.
+    fn new(
         plan: &Plan,
         call: &'static str,
         number: u32,
@@ -84,20 +97,8 @@ impl Row {
         }
     }
 
-    /// The row of a call over the words of a filter with seven hashes and this many bits, a word.
-    /// Where there are no keys nothing is measured.
-    pub fn by_words(plan: &Plan, call: &'static str, bits: usize, counted: &'static str) -> Self {
-        let words = if plan.keys == 0 { 0 } else { bits as u64 / 64 };
-        Row::new(plan, call, 7, words, counted)
-    }
-
-    /// The number of rounds, 0 where the row isn't measured.
-    pub fn rounds(&self) -> u32 {
-        self.rounds
-    }
-
-    /// Takes in a round: what its answers came to, and how long it took.
-    pub fn add(&mut self, answers: u64, time: Duration) {
+    // Takes in a round: what its answers came to, and how long it took.
+    fn add(&mut self, answers: u64, time: Duration) {
         self.answers = answers;
         let time = time.as_nanos();
         self.best = Some(self.best.unwrap_or(time).min(time));
@@ -119,8 +120,8 @@ impl Row {
         }
     }
 
-    /// Prints the row where it is measured. The time is left out where nothing was.
-    pub fn print<R: Print>(&self, rt: &R) -> io::Result<()> {
+    // Prints the row where it is wanted. The time is left out where nothing was measured.
+    fn print<R: Print>(&self, rt: &R) -> io::Result<()> {
         if self.is_wanted {
             self.print_wanted(rt)
         } else {
@@ -129,20 +130,57 @@ impl Row {
     }
 }
 
-/// Measures a row, and prints it where it is wanted.
-pub fn measure<R: Print + Clock, M: Measured>(
+// Makes a round of a row, and takes in how long its calls took.
+fn make_round<R: Clock, M: Measured>(
+    rt: &R,
+    row: &mut Row,
+    measured: &mut M,
+    call: M::Call,
+    round: u32,
+) -> anyhow::Result<()> {
+    measured.prepare(call, row.number, round)?;
+    let start = Instant::now(rt)?;
+    let made = measured.make(call, row.number, round)?;
+    let time = start.elapsed(rt);
+    let answers = made.count();
+    drop(made);
+    row.add(answers, time?);
+    Ok(())
+}
+
+// Measures a row, and prints it where it is wanted.
+fn measure<R: Print + Clock, M: Measured>(
     rt: &R,
     mut row: Row,
     measured: &mut M,
+    call: M::Call,
 ) -> anyhow::Result<()> {
-    'rounds: for round in 0..row.rounds() {
-        measured.prepare(round)?;
-        let start = Instant::now(rt)?;
-        let made = measured.make(round)?;
-        let time = start.elapsed(rt)?;
-        row.add(made.count(), time);
+    'rounds: for round in 0..row.rounds {
+        make_round(rt, &mut row, measured, call, round)?;
     }
     Ok(row.print(rt)?)
+}
+
+/// A call, the name of its row, and what its answers count.
+pub type Named<C> = (C, &'static str, &'static str);
+
+/// Measures the rows of these calls, with each number: the number of hashes, or of what their names
+/// tell before a colon. A round makes so many operations.
+pub fn measure_rows<R: Print + Clock, M: Measured>(
+    rt: &R,
+    plan: &Plan,
+    measured: &mut M,
+    operations: u64,
+    numbers: &[u32],
+    rows: &[Named<M::Call>],
+) -> anyhow::Result<()> {
+    'numbers: for number in numbers {
+        'rows: for (call, name, counted) in rows {
+            let row = Row::new(plan, *name, *number, operations, *counted);
+            measure(rt, row, measured, *call)?;
+        }
+    }
+    Ok(())
 }
 
 /// Prints what is measured, and the head of the table.

@@ -5,10 +5,10 @@ use crate::filters::shared_filter_for;
 use crate::plan::Plan;
 use crate::seated::{Seat, seats_for};
 use crate::shared::{contains_keys, insert_keys};
-use crate::table::{Made, Measured, Row, measure};
+use crate::table::{Made, Measured, Named, measure_rows};
 use anyhow::bail;
-use fastbloom::AtomicBloomFilter;
-use std::alloc::Global;
+use fastbloom::{AtomicBloomFilter, FilterError};
+use std::alloc::{AllocError, Global};
 use std::rt::Clock;
 use std::sync::Arc;
 use std::thread::{Promise, PromisedHandle, Threads};
@@ -23,15 +23,15 @@ enum Job {
 
 // What a thread works with: a filter that it shares with the others.
 trait Worker {
-    // As many of an empty filter as there are threads.
-    fn all(alloc: Global, keys: u32, threads: u32) -> anyhow::Result<Vec<Self>>;
+    // A worker for each thread, all of one empty filter.
+    fn all(alloc: Global, keys: u32, threads: u32) -> Result<Vec<Self>, FilterError>;
 
     // Inserts or looks up this many keys from the first on, and counts the answers that were true.
     fn work(&mut self, job: Job, first: u64, keys: u64) -> u64;
 }
 
 impl Worker for Arc<AtomicBloomFilter, Global> {
-    fn all(alloc: Global, keys: u32, threads: u32) -> anyhow::Result<Vec<Self>> {
+    fn all(alloc: Global, keys: u32, threads: u32) -> Result<Vec<Self>, FilterError> {
         let filter = Arc::new(alloc, shared_filter_for(alloc, keys, 7)?)?;
         let mut all = Vec::new(alloc);
         'threads: for _thread in 0..threads {
@@ -49,7 +49,7 @@ impl Worker for Arc<AtomicBloomFilter, Global> {
 }
 
 impl Worker for Seat {
-    fn all(alloc: Global, keys: u32, threads: u32) -> anyhow::Result<Vec<Self>> {
+    fn all(alloc: Global, keys: u32, threads: u32) -> Result<Vec<Self>, FilterError> {
         seats_for(alloc, keys, threads)
     }
 
@@ -96,7 +96,7 @@ fn workers_for<W: Worker + Drop>(
     job: Job,
     keys: u32,
     threads: u32,
-) -> anyhow::Result<Vec<W>> {
+) -> Result<Vec<W>, FilterError> {
     let mut workers = W::all(alloc, keys, threads)?;
     if let (Job::Find, Some(worker)) = (job, workers.first_mut()) {
         worker.work(Job::Insert, 0, u64::from(keys));
@@ -104,20 +104,29 @@ fn workers_for<W: Worker + Drop>(
     Ok(workers)
 }
 
-// One round: each thread takes its part of the keys, and the answers that were true are counted.
-fn round_of<R: AllocGlobal + Threads, W: Worker + Send + Drop + 'static>(
+// Starts a thread for each worker, with its part of the keys.
+fn start_all<R: AllocGlobal + Threads, W: Worker + Send + Drop + 'static>(
     rt: &R,
-    workers: &mut Vec<W>,
+    workers: Vec<W>,
     job: Job,
     keys: u64,
-) -> anyhow::Result<u64> {
+) -> anyhow::Result<Vec<Child<W>>> {
     let part = keys.checked_div(workers.len() as u64).unwrap_or(0);
     let mut children = Vec::new(rt.alloc());
     let mut first: u64 = 0;
-    'threads: for worker in mem::replace(workers, Vec::new(rt.alloc())) {
+    'threads: for worker in workers {
         children.push(start(rt, worker, job, first, part)?)?;
         first = first.wrapping_add(part);
     }
+    Ok(children)
+}
+
+// Waits for all threads, takes their workers back, and counts the answers that were true.
+fn join_all<R: Threads, W: Drop>(
+    rt: &R,
+    children: Vec<Child<W>>,
+    workers: &mut Vec<W>,
+) -> Result<u64, AllocError> {
     let mut answers: u64 = 0;
     'joins: for child in children {
         let (found, worker) = child.join(rt);
@@ -127,6 +136,17 @@ fn round_of<R: AllocGlobal + Threads, W: Worker + Send + Drop + 'static>(
     Ok(answers)
 }
 
+// One round: each thread takes its part of the keys, and the answers that were true are counted.
+fn round_of<R: AllocGlobal + Threads, W: Worker + Send + Drop + 'static>(
+    rt: &R,
+    workers: &mut Vec<W>,
+    job: Job,
+    keys: u64,
+) -> anyhow::Result<u64> {
+    let children = start_all(rt, mem::replace(workers, Vec::new(rt.alloc())), job, keys)?;
+    Ok(join_all(rt, children, workers)?)
+}
+
 // How the threads share a filter.
 #[derive(Clone, Copy)]
 enum Kind {
@@ -134,23 +154,33 @@ enum Kind {
     Seated,
 }
 
-// What the threads do, and how many, on one filter with seven hashes.
+const ROWS: [Named<(Kind, Job)>; 4] = [
+    ((Kind::Shared, Job::Insert), "insert by threads:", "true"),
+    ((Kind::Shared, Job::Find), "hit by threads:", "true"),
+    (
+        (Kind::Seated, Job::Insert),
+        "seated insert by threads:",
+        "true",
+    ),
+    ((Kind::Seated, Job::Find), "seated hit by threads:", "true"),
+];
+
+// The workers on one filter with seven hashes.
 #[derive(Drop)]
 struct Calls<'a, R> {
     rt: &'a R,
-    kind: Kind,
-    job: Job,
     sharers: Vec<Arc<AtomicBloomFilter, Global>>,
     seats: Vec<Seat>,
-    threads: u32,
     keys: u32,
 }
 
 impl<'a, R: AllocGlobal + Threads> Measured for Calls<'a, R> {
+    type Call = (Kind, Job);
+
     // Each round of inserts has a filter of its own.
-    fn prepare(&mut self, round: u32) -> anyhow::Result<()> {
-        let (alloc, job, keys, threads) = (self.rt.alloc(), self.job, self.keys, self.threads);
-        match (self.kind, job) {
+    fn prepare(&mut self, call: (Kind, Job), threads: u32, round: u32) -> anyhow::Result<()> {
+        let (alloc, keys, job) = (self.rt.alloc(), self.keys, call.1);
+        match call {
             (_, Job::Find) if round > 0 => {}
             (Kind::Shared, _) => self.sharers = workers_for(alloc, job, keys, threads)?,
             (Kind::Seated, _) => self.seats = workers_for(alloc, job, keys, threads)?,
@@ -158,9 +188,9 @@ impl<'a, R: AllocGlobal + Threads> Measured for Calls<'a, R> {
         Ok(())
     }
 
-    fn make(&mut self, _round: u32) -> anyhow::Result<Made> {
-        let (rt, job, keys) = (self.rt, self.job, u64::from(self.keys));
-        Ok(Made::Answers(match self.kind {
+    fn make(&mut self, call: (Kind, Job), _threads: u32, _round: u32) -> anyhow::Result<Made> {
+        let (rt, job, keys) = (self.rt, call.1, u64::from(self.keys));
+        Ok(Made::Answers(match call.0 {
             Kind::Shared => round_of(rt, &mut self.sharers, job, keys)?,
             Kind::Seated => round_of(rt, &mut self.seats, job, keys)?,
         }))
@@ -174,26 +204,12 @@ pub fn measure_all<R: Print + AllocGlobal + Clock + Threads>(
 ) -> anyhow::Result<()> {
     let mut calls = Calls {
         rt,
-        kind: Kind::Shared,
-        job: Job::Insert,
         sharers: Vec::new(rt.alloc()),
         seats: Vec::new(rt.alloc()),
-        threads: 1,
         keys: plan.keys,
     };
-    'rows: for (kind, job, name) in [
-        (Kind::Shared, Job::Insert, "insert by threads:"),
-        (Kind::Shared, Job::Find, "hit by threads:"),
-        (Kind::Seated, Job::Insert, "seated insert by threads:"),
-        (Kind::Seated, Job::Find, "seated hit by threads:"),
-    ] {
-        calls.kind = kind;
-        calls.job = job;
-        'threads: for threads in [1, 2, 4] {
-            calls.threads = threads;
-            let row = Row::new(plan, name, threads, plan.count(), "true");
-            measure(rt, row, &mut calls)?;
-        }
+    'rows: for row in &ROWS {
+        measure_rows(rt, plan, &mut calls, plan.count(), &[1, 2, 4], &[*row])?;
     }
     Ok(())
 }

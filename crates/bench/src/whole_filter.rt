@@ -5,11 +5,11 @@ ghost use Rattle.bench.specs.Lists.{FitsEach};
 use crate::filters::filter_for;
 use crate::keys::hash_of;
 use crate::plan::Plan;
-use crate::table::{Made, Measured, Row, measure};
-use fastbloom::{BloomFilter, Command, DefaultHasher};
+use crate::table::{Made, Measured, Named, measure_rows};
+use fastbloom::{BloomFilter, Command, DefaultHasher, FilterError};
 use std::alloc::{AllocError, Global};
+use std::marker::Model;
 use std::rt::Clock;
-use std::time::Instant;
 
 const REPLAY: &'static str = "replay, a command";
 
@@ -48,11 +48,19 @@ enum Call {
     Iter,
 }
 
-// A call, and the filters that it is made on.
+const ROWS: [Named<Call>; 6] = [
+    (Call::Union, "union, a word", CHANGED),
+    (Call::Intersect, "intersect, a word", CHANGED),
+    (Call::Equality, "==, a word", CHANGED),
+    (Call::Clear, "clear, a word", CHANGED),
+    (Call::Clone, "try_clone, a word", "found after it"),
+    (Call::Iter, "iter, a word", "odd words"),
+];
+
+// The filters that the calls are made on.
 #[derive(Drop)]
 struct Calls {
     alloc: Global,
-    call: Call,
     filter: BloomFilter,
     other: BloomFilter,
 }
@@ -73,14 +81,16 @@ fn answer_of(filter: &mut BloomFilter, other: &BloomFilter, call: Call) -> bool 
 }
 
 impl Measured for Calls {
-    fn prepare(&mut self, _round: u32) -> anyhow::Result<()> {
+    type Call = Call;
+
+    fn prepare(&mut self, _call: Call, _number: u32, _round: u32) -> anyhow::Result<()> {
         Ok(())
     }
 
-    fn make(&mut self, _round: u32) -> anyhow::Result<Made> {
-        Ok(match self.call {
+    fn make(&mut self, call: Call, _number: u32, _round: u32) -> anyhow::Result<Made> {
+        Ok(match call {
             Call::Union | Call::Intersect | Call::Equality | Call::Clear => {
-                let answer = answer_of(&mut self.filter, &self.other, self.call);
+                let answer = answer_of(&mut self.filter, &self.other, call);
                 Made::Answers(u64::from(answer))
             }
             Call::Clone => Made::Copy(self.other.try_clone(self.alloc)?),
@@ -92,47 +102,72 @@ impl Measured for Calls {
     }
 }
 
-// The row of `replay`.
-fn measure_lists<R: Print + AllocGlobal + Clock>(rt: &R, plan: &Plan) -> anyhow::Result<()> {
-    let mut filter = filter_for(rt.alloc(), plan.keys, 7)?;
-    let commands = commands_on(rt.alloc(), plan.keys)?;
-    let mut replay = Row::new(plan, REPLAY, 7, plan.count(), "true");
-    'rounds: for _round in 0..replay.rounds() {
-        filter.clear();
-        let start = Instant::now(rt)?;
-        let replies = filter.replay(rt.alloc(), &commands)?;
-        let time = start.elapsed(rt)?;
-        replay.add(replies.iter().filter(|reply| **reply).count() as u64, time);
-    }
-    Ok(replay.print(rt)?)
+// A filter, and commands that fit it.
+#[derive(Drop)]
+struct Replay {
+    alloc: Global,
+    filter: BloomFilter,
+    commands: Vec<Command<'static, DefaultHasher>>,
 }
 
-/// The rows of the calls on whole filters, and of `replay`.
-pub fn measure_all<R: Print + AllocGlobal + Clock>(rt: &R, plan: &Plan) -> anyhow::Result<()> {
-    let alloc = rt.alloc();
-    let filter = filter_for(alloc, plan.keys, 7)?;
-    let mut other = filter_for(alloc, plan.keys, 7)?;
+impl Model for Replay {
+    ghost use Rattle.std.specs.Prelude.{All};
+    ghost use Rattle.bench.specs.Lists.{FitsEach};
+
+    ghost Value = { Unit {0} };
+
+    ghost view = { λ _. tt };
+
+    ghost invariant = { λ replay. All FitsEach replay.commands.items };
+}
+
+impl Measured for Replay {
+    type Call = ();
+
+    fn prepare(&mut self, _call: (), _number: u32, _round: u32) -> anyhow::Result<()> {
+        self.filter.clear();
+        Ok(())
+    }
+
+    fn make(&mut self, _call: (), _number: u32, _round: u32) -> anyhow::Result<Made> {
+        Ok(Made::Replies(self.filter.replay(self.alloc, &self.commands)?))
+    }
+}
+
+// Two filters, one of which has the hash 0.
+fn calls_for(alloc: Global, keys: u32) -> Result<Calls, FilterError> {
+    let filter = filter_for(alloc, keys, 7)?;
+    let mut other = filter_for(alloc, keys, 7)?;
     other.insert_hash(0);
-    let bits = other.num_bits();
-    let mut calls = Calls {
+    Ok(Calls {
         alloc,
-        call: Call::Union,
         filter,
         other,
-    };
-    'calls: for (call, name, counted) in [
-        (Call::Union, "union, a word", CHANGED),
-        (Call::Intersect, "intersect, a word", CHANGED),
-        (Call::Equality, "==, a word", CHANGED),
-        (Call::Clear, "clear, a word", CHANGED),
-        (Call::Clone, "try_clone, a word", "found after it"),
-        (Call::Iter, "iter, a word", "odd words"),
-    ] {
-        calls.call = call;
-        measure(rt, Row::by_words(plan, name, bits, counted), &mut calls)?;
-    }
-    if plan.wants(REPLAY) {
-        measure_lists(rt, plan)?;
-    }
-    Ok(())
+    })
+}
+
+/// The rows of the calls on whole filters.
+pub fn measure_all<R: Print + AllocGlobal + Clock>(rt: &R, plan: &Plan) -> anyhow::Result<()> {
+    let mut calls = calls_for(rt.alloc(), plan.keys)?;
+    let words = plan.words(calls.filter.num_bits());
+    measure_rows(rt, plan, &mut calls, words, &[7], &ROWS)
+}
+
+// An empty filter, and commands on so many keys.
+fn replay_for(alloc: Global, keys: u32) -> Result<Replay, FilterError> {
+    let commands = commands_on(alloc, keys)?;
+    let filter = filter_for(alloc, keys, 7)?;
+    Ok(Replay {
+        alloc,
+        filter,
+        commands,
+    })
+}
+
+/// The row of `replay`.
+pub fn measure_replay<R: Print + AllocGlobal + Clock>(rt: &R, plan: &Plan) -> anyhow::Result<()> {
+    let keys = if plan.wants(REPLAY) { plan.keys } else { 0 };
+    let mut replay = replay_for(rt.alloc(), keys)?;
+    let rows = [((), REPLAY, "true")];
+    measure_rows(rt, plan, &mut replay, plan.count(), &[7], &rows)
 }
