@@ -2,9 +2,11 @@
 #![tactic(auto)]
 
 mod command_line;
+mod connections;
 mod filter_file;
 mod guards;
 mod input_file;
+mod medium;
 mod names;
 mod sessions;
 mod store_file;
@@ -12,13 +14,14 @@ mod tasks;
 mod telling;
 
 use command_line::arguments;
+use connections::OnDisk;
 use std::process::ExitCode;
 use telling::{DONE, MISUSED, NO_MEMORY, UNWRITTEN};
 
 // What the words ask for is done; the status.
 fn run(rt: &HostRuntime, words: &[String]) -> u8 {
     match arguments(rt.alloc(), words) {
-        Ok(options) => sessions::run(rt, options),
+        Ok(options) => sessions::run::<OnDisk>(rt, options),
         Err(error) => {
             let is_printed = error.print(rt).is_ok();
             if error.use_stderr() {

@@ -2,10 +2,11 @@
 ghost use Rattle.std.specs.Prelude.{◌≡◌, ◌≢◌};
 
 use crate::command_line::{Load, Options, Request};
+use crate::connections::Connector;
 use crate::guards::{Reader, Writer};
 use crate::input_file::open_input;
+use crate::medium::{Files, Medium, StoreFile};
 use crate::names::Names;
-use crate::store_file::FileTable;
 use crate::telling::{DONE, Input, NO, NO_MEMORY, UNREAD, tell, tell_refusal, tell_store};
 use crate::{guards, tasks};
 use bloom_plain::Rate;
@@ -29,12 +30,16 @@ fn status_of_read(kind: ErrorKind) -> u8
 }
 
 // Opens the filter of a store that is there. Where it is made anew, that is told.
-fn open_reader<'a>(rt: &'a HostRuntime, names: &'a Names, rate: Rate) -> Result<Reader<'a>, u8> {
+fn open_reader<'a, M: Medium>(
+    rt: &'a HostRuntime,
+    names: &'a Names,
+    rate: Rate,
+) -> Result<Reader<'a, StoreFile<'a, M>>, u8> {
     if !names.has_store(rt) {
         tell(rt, names.store.as_str(), "there is no such store");
         return Err(UNREAD);
     }
-    match guards::over_file(rt, names, rate) {
+    match guards::over_file(rt, names, StoreFile::new(rt, names), rate) {
         Ok((mut guard, origin)) => {
             tasks::save_made(rt, names, &mut guard, origin);
             Ok(guard)
@@ -45,14 +50,14 @@ fn open_reader<'a>(rt: &'a HostRuntime, names: &'a Names, rate: Rate) -> Result<
 
 // Opens a store and its filter, both of which are made where there is no store. A filter that is
 // made anew has room for this many more keys.
-fn open_writer<'a>(
+fn open_writer<'a, M: Medium>(
     rt: &'a HostRuntime,
     names: &'a Names,
     rate: Rate,
     room: usize,
-) -> Result<Writer<'a>, u8> {
+) -> Result<Writer<'a, M::Table>, u8> {
     let is_new = !names.has_store(rt);
-    let table = match FileTable::over(rt, names) {
+    let table = match M::over(rt, names) {
         Ok(table) => table,
         Err(fault) => return Err(tell_store(rt, names, &fault)),
     };
@@ -70,8 +75,8 @@ fn open_writer<'a>(
 }
 
 // Closes a store after this status of its task.
-fn close_table(rt: &HostRuntime, names: &Names, table: FileTable, status: u8) -> u8 {
-    match table.close() {
+fn close_table<M: Medium>(rt: &HostRuntime, names: &Names, table: M::Table, status: u8) -> u8 {
+    match M::close(table) {
         Ok(()) => status,
         Err(fault) => {
             let failed = tell_store(rt, names, &fault);
@@ -84,25 +89,15 @@ fn close_table(rt: &HostRuntime, names: &Names, table: FileTable, status: u8) ->
     }
 }
 
-fn close_writer<'a>(rt: &'a HostRuntime, names: &'a Names, guard: Writer<'a>, status: u8) -> u8 {
+fn close_writer<'a, M: Medium>(
+    rt: &'a HostRuntime,
+    names: &'a Names,
+    guard: Writer<'a, M::Table>,
+    status: u8,
+) -> u8 {
     let (table, kept) = guard.into_parts();
     drop(kept);
-    close_table(rt, names, table, status)
-}
-
-// Drops a store that was only read.
-fn drop_table(table: FileTable) {
-    drop(table);
-}
-
-// Drops a guard that only looked things up, and its store where that was opened.
-fn drop_reader<'a>(guard: Reader<'a>) {
-    let (store, kept) = guard.into_parts();
-    drop(kept);
-    match store.into_parts() {
-        (_, Some(table)) => drop_table(table),
-        (_, None) => {}
-    }
+    close_table::<M>(rt, names, table, status)
 }
 
 // A task that takes no lines.
@@ -111,35 +106,35 @@ const NO_INPUT: Input<'static> = Input {
     is_put: false,
 };
 
-fn get<'a>(rt: &'a HostRuntime, names: &'a Names, rate: Rate, key: &str) -> u8 {
-    match open_reader(rt, names, rate) {
+fn get<'a, M: Medium>(rt: &'a HostRuntime, names: &'a Names, rate: Rate, key: &str) -> u8 {
+    match open_reader::<M>(rt, names, rate) {
         Ok(mut guard) => {
             let task: Task<&[u8]> = Task::Get(key);
             let status = tasks::serve(rt, names, &mut guard, task, NO_INPUT);
-            drop_reader(guard);
+            drop(guard);
             status
         }
         Err(status) => status,
     }
 }
 
-fn stats<'a>(rt: &'a HostRuntime, names: &'a Names, rate: Rate) -> u8 {
+fn stats<'a, M: Medium>(rt: &'a HostRuntime, names: &'a Names, rate: Rate) -> u8 {
     let input = Input {
         place: "standard input",
         is_put: false,
     };
-    match open_reader(rt, names, rate) {
+    match open_reader::<M>(rt, names, rate) {
         Ok(mut guard) => {
             let status = tasks::count(rt, names, &mut guard, &mut rt.reader(), input);
-            drop_reader(guard);
+            drop(guard);
             status
         }
         Err(status) => status,
     }
 }
 
-fn delete<'a>(rt: &'a HostRuntime, names: &'a Names, rate: Rate, key: &str) -> u8 {
-    let mut guard = match open_reader(rt, names, rate) {
+fn delete<'a, M: Medium>(rt: &'a HostRuntime, names: &'a Names, rate: Rate, key: &str) -> u8 {
+    let mut guard = match open_reader::<M>(rt, names, rate) {
         Ok(guard) => guard,
         Err(status) => return status,
     };
@@ -148,23 +143,29 @@ fn delete<'a>(rt: &'a HostRuntime, names: &'a Names, rate: Rate, key: &str) -> u
     let (store, kept) = guard.into_parts();
     drop(kept);
     match store.into_parts() {
-        (_, Some(table)) => close_table(rt, names, table, status),
+        (_, Some(table)) => close_table::<M>(rt, names, table, status),
         (_, None) => status,
     }
 }
 
-fn put<'a>(rt: &'a HostRuntime, names: &'a Names, rate: Rate, key: &str, value: &str) -> u8 {
-    match open_writer(rt, names, rate, PUT_ROOM) {
+fn put<'a, M: Medium>(
+    rt: &'a HostRuntime,
+    names: &'a Names,
+    rate: Rate,
+    key: &str,
+    value: &str,
+) -> u8 {
+    match open_writer::<M>(rt, names, rate, PUT_ROOM) {
         Ok(mut guard) => {
             let task: Task<&[u8]> = Task::Put(key, value);
             let status = tasks::serve(rt, names, &mut guard, task, NO_INPUT);
-            close_writer(rt, names, guard, status)
+            close_writer::<M>(rt, names, guard, status)
         }
         Err(status) => status,
     }
 }
 
-fn load<'a>(rt: &'a HostRuntime, names: &'a Names, rate: Rate, load: Load) -> u8 {
+fn load<'a, M: Medium>(rt: &'a HostRuntime, names: &'a Names, rate: Rate, load: Load) -> u8 {
     let (file, lines) = match open_input(rt, load.file, load.items) {
         Ok(input) => input,
         Err(error) => {
@@ -180,35 +181,35 @@ fn load<'a>(rt: &'a HostRuntime, names: &'a Names, rate: Rate, load: Load) -> u8
         place: load.file,
         is_put: true,
     };
-    match open_writer(rt, names, rate, lines as usize) {
+    match open_writer::<M>(rt, names, rate, lines as usize) {
         Ok(mut guard) => {
             let task = Task::Load(file, load.batch);
             let status = tasks::serve(rt, names, &mut guard, task, input);
-            close_writer(rt, names, guard, status)
+            close_writer::<M>(rt, names, guard, status)
         }
         Err(status) => status,
     }
 }
 
-fn list(rt: &HostRuntime, names: &Names) -> u8 {
+fn list<M: Medium>(rt: &HostRuntime, names: &Names) -> u8 {
     if !names.has_store(rt) {
         tell(rt, names.store.as_str(), "there is no such store");
         return UNREAD;
     }
-    let mut table = match FileTable::found(rt, names) {
+    let mut table = match M::found(rt, names) {
         Ok(table) => table,
         Err(fault) => return tell_store(rt, names, &fault),
     };
-    let status = match table.entries() {
+    let status = match M::entries(&mut table) {
         Ok(entries) => tasks::print_entries(rt, names, &entries),
         Err(fault) => tell_store(rt, names, &fault),
     };
-    drop_table(table);
+    drop(table);
     status
 }
 
-/// Does what is asked for, and answers the status.
-pub fn run(rt: &HostRuntime, options: Options) -> u8 {
+// Does what is asked for, wherever the store lies.
+fn run_in<M: Medium>(rt: &HostRuntime, options: Options) -> u8 {
     let names = match Names::of(rt, options.store) {
         Ok(names) => names,
         Err(error) => {
@@ -221,11 +222,16 @@ pub fn run(rt: &HostRuntime, options: Options) -> u8 {
         }
     };
     match options.request {
-        Request::Put(key, value) => put(rt, &names, options.rate, key, value),
-        Request::Get(key) => get(rt, &names, options.rate, key),
-        Request::Delete(key) => delete(rt, &names, options.rate, key),
-        Request::Load(what) => load(rt, &names, options.rate, what),
-        Request::List => list(rt, &names),
-        Request::Stats => stats(rt, &names, options.rate),
+        Request::Put(key, value) => put::<M>(rt, &names, options.rate, key, value),
+        Request::Get(key) => get::<M>(rt, &names, options.rate, key),
+        Request::Delete(key) => delete::<M>(rt, &names, options.rate, key),
+        Request::Load(what) => load::<M>(rt, &names, options.rate, what),
+        Request::List => list::<M>(rt, &names),
+        Request::Stats => stats::<M>(rt, &names, options.rate),
     }
+}
+
+/// Does what is asked for with a store in a file, and answers the status.
+pub fn run<C: Connector>(rt: &HostRuntime, options: Options) -> u8 {
+    run_in::<Files<C>>(rt, options)
 }
