@@ -19,7 +19,8 @@ fn turn_on_next(words: &mut [u64], chain: &mut DoubleHasher) -> u64
 
 /// Turns on all positions of a hash, and answers whether all were on just before.
 ///
-/// The first is turned on before any loop. One word gathers what was off.
+/// One alone needs no chain. Of more the first two are turned on before any loop. One word gathers
+/// what was off.
 #[inline(always)]
 pub fn insert_positions(words: &mut [u64], num_hashes: u32, hash: u64) -> bool
     requires { 1 ≤ length words.old }
@@ -32,8 +33,13 @@ pub fn insert_positions(words: &mut [u64], num_hashes: u32, hash: u64) -> bool
     if num_hashes == 0 {
         return true;
     }
-    let mut was_off = turn_on_next(words, &mut chain);
-    'places: for _place in 1..num_hashes {
+    if num_hashes == 1 {
+        return turn_on_next(words, &mut chain) == 0;
+    }
+    let first = turn_on_next(words, &mut chain);
+    let second = turn_on_next(words, &mut chain);
+    let mut was_off = first | second;
+    'places: for _place in 2..num_hashes {
         was_off |= turn_on_next(words, &mut chain);
     }
     was_off == 0

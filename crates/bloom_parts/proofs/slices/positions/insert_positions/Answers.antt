@@ -10,12 +10,22 @@ pub returns-then-num_hashes-eq0-clause-content : goal.returns-then-num_hashes-eq
 returns-then-num_hashes-eq0-clause-content c =
     turned_on-content (omega arith) (turned_on-none _ _ _ c.new-chain.ensures)
 
+pub returns-then-num_hashes-eq1-clause-reply : goal.returns-then-num_hashes-eq1-clause-reply
+returns-then-num_hashes-eq1-clause-reply c =
+    turned_on-reply (omega arith) (turned_on-once c.new-chain.ensures c.turn_on_next.ensures)
+
+pub returns-then-num_hashes-eq1-clause-content : goal.returns-then-num_hashes-eq1-clause-content
+returns-then-num_hashes-eq1-clause-content c =
+    turned_on-content (omega arith) (turned_on-once c.new-chain.ensures c.turn_on_next.ensures)
+
 pub places-init : goal.places-init
-places-init c = turned_on-once c.new-chain.ensures c.turn_on_next-was_off.ensures
+places-init c =
+    turned_on-add 1 _ refl (turned_on-once c.new-chain.ensures c.turn_on_next-first.ensures)
+    c.turn_on_next-second.ensures
 
 pub places-preserved : goal.places-preserved
 places-preserved c =
-    turned_on-add 1 _ refl c.places.invariant c.turn_on_next-was_off-in-places.ensures
+    turned_on-add 1 _ refl c.places.invariant c.turn_on_next-was_off.ensures
 
 pub returns-clause-reply : goal.returns-clause-reply
 returns-clause-reply c =
