@@ -3,13 +3,11 @@
 
 use crate::filters::filter_for;
 use crate::keys::hash_of;
-use crate::plan::Plan;
-use crate::table::{Made, Measured, Named, measure_rows};
-use anyhow::bail;
-use fastbloom::{BloomFilter, Gate, Shape, fill};
+use crate::plan::{Plan, Unit};
+use crate::table::{Made, Measured, Rows, measure_rows};
+use fastbloom::{BloomFilter, FilterError, Gate, Shape, fill};
 use std::alloc::{AllocError, Global};
 use std::mem;
-use std::rt::Clock;
 use std::sync::Arc;
 use std::thread::Threads;
 
@@ -48,86 +46,88 @@ fn insert_all(filter: &mut BloomFilter, hashes: &Vec<u64>) {
     }
 }
 
+// A filter into which one thread inserts every hash, as the workers do.
+fn fill_alone(alloc: Global, keys: u32, parts: &Vec<Vec<u64>>) -> Result<BloomFilter, FilterError> {
+    let mut filter = filter_for(alloc, keys, 7)?;
+    'parts: for part in parts {
+        insert_all(&mut filter, part);
+    }
+    Ok(filter)
+}
+
 #[derive(Clone, Copy)]
 enum Call {
     Alone,
     Fill,
 }
 
-const ALONE: [Named<Call>; 1] = [(Call::Alone, "inserts by one thread", "found after it")];
+const TABLE: [Rows<Call>; 2] = [
+    (
+        Call::Alone,
+        "inserts by one thread",
+        &[1],
+        Unit::Key,
+        "found after it",
+    ),
+    (
+        Call::Fill,
+        "fill by workers:",
+        &[1, 2, 4],
+        Unit::Key,
+        "found after it",
+    ),
+];
 
-const FILL: [Named<Call>; 1] = [(Call::Fill, "fill by workers:", "found after it")];
-
-// Who fills a filter, and its hashes: in whole, or in a part for each worker.
+// Who fills a filter, and the hashes of its keys, in a part for each worker.
 #[derive(Drop)]
 struct Calls<'a, R> {
     rt: &'a R,
     keys: u32,
     shape: Shape,
     gate: Arc<Open, Global>,
-    hashes: Vec<u64>,
     parts: Vec<Vec<u64>>,
 }
 
 impl<'a, R: AllocGlobal + Threads> Measured for Calls<'a, R> {
     type Call = Call;
 
-    fn prepare(&mut self, call: Call, workers: u32, round: u32) -> anyhow::Result<()> {
-        let (alloc, keys) = (self.rt.alloc(), u64::from(self.keys));
-        match call {
-            Call::Alone => {
-                if round == 0 {
-                    self.hashes = hashes_of(alloc, 0, keys)?;
-                }
-            }
-            Call::Fill => self.parts = parts_of(alloc, keys, u64::from(workers))?,
-        }
+    fn prepare(&mut self, _call: Call, workers: u32, _round: u32) -> anyhow::Result<()> {
+        self.parts = parts_of(self.rt.alloc(), u64::from(self.keys), u64::from(workers))?;
         Ok(())
     }
 
-    // One thread makes the filter and inserts every hash, as the workers do.
     fn make(&mut self, call: Call, _workers: u32, _round: u32) -> anyhow::Result<Made> {
         let alloc = self.rt.alloc();
         let filter = match call {
-            Call::Alone => {
-                let mut filter = filter_for(alloc, self.keys, 7)?;
-                insert_all(&mut filter, &self.hashes);
-                filter
-            }
+            Call::Alone => fill_alone(alloc, self.keys, &self.parts),
             Call::Fill => {
                 let parts = mem::replace(&mut self.parts, Vec::new(alloc));
                 let gate = Arc::try_clone(&self.gate)?;
-                fill(self.rt, alloc, gate, self.shape, parts)?
+                fill(self.rt, alloc, gate, self.shape, parts)
             }
         };
-        Ok(Made::Filled(filter, u64::from(self.keys)))
+        Ok(Made::Filled(filter?, u64::from(self.keys)))
     }
 }
 
-fn measure_calls<'a, R: Print + AllocGlobal + Clock + Threads>(
-    rt: &R,
-    plan: &Plan,
-    calls: &mut Calls<'a, R>,
-) -> anyhow::Result<()> {
-    measure_rows(rt, plan, calls, plan.count(), &[1], &ALONE)?;
-    measure_rows(rt, plan, calls, plan.count(), &[1, 2, 4], &FILL)
+// No hashes yet, and the shape of a filter with ten bits for each key and seven hashes.
+fn calls_for<'a, R: AllocGlobal>(rt: &'a R, keys: u32) -> Result<Calls<'a, R>, FilterError> {
+    let shape = Shape::new((keys as usize * 10).max(1), 7)?;
+    let gate = Arc::new(rt.alloc(), Open)?;
+    Ok(Calls {
+        rt,
+        keys,
+        shape,
+        gate,
+        parts: Vec::new(rt.alloc()),
+    })
 }
 
 /// The rows of one thread, and of one, two and four workers.
-pub fn measure_all<R: Print + AllocGlobal + Clock + Threads>(
-    rt: &R,
+pub fn measure_all<R: AllocGlobal + Threads>(
+    rt: &HostRuntime,
+    threads: &R,
     plan: &Plan,
 ) -> anyhow::Result<()> {
-    let Ok(shape) = Shape::new((plan.keys as usize * 10).max(1), 7) else {
-        bail!("no such shape");
-    };
-    let mut calls = Calls {
-        rt,
-        keys: plan.keys,
-        shape,
-        gate: Arc::new(rt.alloc(), Open)?,
-        hashes: Vec::new(rt.alloc()),
-        parts: Vec::new(rt.alloc()),
-    };
-    measure_calls(rt, plan, &mut calls)
+    measure_rows(rt, plan, calls_for(threads, plan.keys), &TABLE)
 }

@@ -5,46 +5,71 @@
 //! best round tells what one operation costs.
 #![tactic(auto)]
 
-mod data;
 mod fills;
 mod filters;
 mod kernels;
 mod keys;
 mod plain;
 mod plan;
+mod replay;
 mod seated;
 mod shared;
-mod shared_whole_filter;
 mod steps;
 mod table;
 mod threads;
-mod whole_filter;
 
 use filters::count_words;
 use plan::Plan;
-use std::rt::Clock;
 use std::thread::Threads;
 
-// All rows, by kinds of filters.
-fn measure_all<R: Print + AllocGlobal + Clock + Threads>(
-    rt: &R,
+// What is measured one after the other.
+#[derive(Clone, Copy)]
+enum Part {
+    Plain,
+    Replay,
+    Kernels,
+    Steps,
+    Shared,
+    Seated,
+    Threads,
+    Fills,
+}
+
+const PARTS: [Part; 8] = [
+    Part::Plain,
+    Part::Replay,
+    Part::Kernels,
+    Part::Steps,
+    Part::Shared,
+    Part::Seated,
+    Part::Threads,
+    Part::Fills,
+];
+
+// The second handle is the first again, seen as one that has threads, which only `main` can do.
+fn measure_part<R: AllocGlobal + Threads>(
+    rt: &HostRuntime,
+    threads: &R,
     plan: &Plan,
+    part: Part,
 ) -> anyhow::Result<()> {
-    table::head(rt, plan, count_words(plan.keys) * 64)?;
-    plain::measure_all(rt, plan)?;
-    whole_filter::measure_all(rt, plan)?;
-    whole_filter::measure_replay(rt, plan)?;
-    data::measure_all(rt, plan)?;
-    kernels::measure_all(rt, plan)?;
-    steps::measure_all(rt, plan)?;
-    shared::measure_all(rt, plan)?;
-    shared_whole_filter::measure_all(rt, plan)?;
-    seated::measure_all(rt, plan)?;
-    threads::measure_all(rt, plan)?;
-    fills::measure_all(rt, plan)
+    match part {
+        Part::Plain => plain::measure_all(rt, plan),
+        Part::Replay => replay::measure_all(rt, plan),
+        Part::Kernels => kernels::measure_all(rt, plan),
+        Part::Steps => steps::measure_all(rt, plan),
+        Part::Shared => shared::measure_all(rt, plan),
+        Part::Seated => seated::measure_all(rt, plan),
+        Part::Threads => threads::measure_all(rt, threads, plan),
+        Part::Fills => fills::measure_all(rt, threads, plan),
+    }
 }
 
 fn main(rt: HostRuntime) -> anyhow::Result<()> {
     let plan = plan::given(&rt)?;
-    measure_all(&rt, &plan)
+    table::head(&rt, &plan, count_words(plan.keys) * 64)?;
+    'parts: for part in &PARTS {
+        measure_part(&rt, &rt, &plan, *part)?;
+    }
+    Ok(())
 }

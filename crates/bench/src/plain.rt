@@ -1,11 +1,10 @@
-//! The calls of a plain filter that take items or hashes.
+//! The calls of a plain filter: a key, or a word of the filter.
 use crate::filters::filter_for;
 use crate::keys::{contains_keys, first_foreign_key, hash_of, numbers_to};
-use crate::plan::Plan;
-use crate::table::{Made, Measured, Named, measure_rows};
-use fastbloom::{BloomFilter, FilterError};
+use crate::plan::{Plan, Unit};
+use crate::table::{Made, Measured, Rows, measure_rows};
+use fastbloom::{BloomFilter, FilterData, FilterError};
 use std::alloc::{AllocError, Global};
-use std::rt::Clock;
 
 // The answers of `source_hash` are counted by their lowest bit.
 #[inline(never)]
@@ -107,29 +106,84 @@ enum Call {
     InsertHash,
     Hit,
     Miss,
+    Union,
+    Intersect,
+    Equality,
+    Clear,
+    Clone,
+    Iter,
+    ToData,
+    FromData,
+    Write,
+    Read,
 }
 
-// The rows of numbers.
-const NUMBERS: [Named<Call>; 5] = [
-    (Call::HashNumbers, "source_hash, u64", "odd hashes"),
-    (Call::Insert, "insert, u64", "true"),
-    (Call::Contains, "contains, u64", "true"),
-    (Call::Extend, "extend, u64", "found after it"),
-    (Call::InsertAll, "insert_all, u64", "found after it"),
-];
+const TEXTS: &'static [u32] = &[8, 16, 32, 64, 1000];
 
-// The rows of texts. Their number is that of bytes.
-const TEXTS: [Named<Call>; 3] = [
-    (Call::HashTexts, "source_hash, text of bytes:", "odd hashes"),
-    (Call::InsertTexts, "insert, text of bytes:", "true"),
-    (Call::ContainsTexts, "contains, text of bytes:", "true"),
-];
+const HASHES: &'static [u32] = &[1, 2, 3, 7, 22];
 
-// The rows of hashes. Their number is that of the filter's hashes.
-const HASHES: [Named<Call>; 3] = [
-    (Call::InsertHash, "insert_hash", "true"),
-    (Call::Hit, "contains_hash, hit", "true"),
-    (Call::Miss, "contains_hash, miss", "true"),
+const FOUND: &'static str = "found after it";
+
+const CHANGED: &'static str = "equal, or found after it";
+
+const TABLE: [Rows<Call>; 21] = [
+    (
+        Call::HashNumbers,
+        "source_hash, u64",
+        &[7],
+        Unit::Key,
+        "odd hashes",
+    ),
+    (Call::Insert, "insert, u64", &[7], Unit::Key, "true"),
+    (Call::Contains, "contains, u64", &[7], Unit::Key, "true"),
+    (Call::Extend, "extend, u64", &[7], Unit::Key, FOUND),
+    (Call::InsertAll, "insert_all, u64", &[7], Unit::Key, FOUND),
+    (
+        Call::HashTexts,
+        "source_hash, text of bytes:",
+        TEXTS,
+        Unit::Key,
+        "odd hashes",
+    ),
+    (
+        Call::InsertTexts,
+        "insert, text of bytes:",
+        TEXTS,
+        Unit::Key,
+        "true",
+    ),
+    (
+        Call::ContainsTexts,
+        "contains, text of bytes:",
+        TEXTS,
+        Unit::Key,
+        "true",
+    ),
+    (Call::InsertHash, "insert_hash", HASHES, Unit::Key, "true"),
+    (Call::Hit, "contains_hash, hit", HASHES, Unit::Key, "true"),
+    (Call::Miss, "contains_hash, miss", HASHES, Unit::Key, "true"),
+    (Call::Union, "union, a word", &[7], Unit::Word, CHANGED),
+    (
+        Call::Intersect,
+        "intersect, a word",
+        &[7],
+        Unit::Word,
+        CHANGED,
+    ),
+    (Call::Equality, "==, a word", &[7], Unit::Word, CHANGED),
+    (Call::Clear, "clear, a word", &[7], Unit::Word, CHANGED),
+    (Call::Clone, "try_clone, a word", &[7], Unit::Word, FOUND),
+    (Call::Iter, "iter, a word", &[7], Unit::Word, "odd words"),
+    (Call::ToData, "to_data, a word", &[7], Unit::Word, "words"),
+    (Call::FromData, "from_data, a word", &[7], Unit::Word, FOUND),
+    (
+        Call::Write,
+        "JSON written, a word",
+        &[7],
+        Unit::Word,
+        "bytes",
+    ),
+    (Call::Read, "JSON read, a word", &[7], Unit::Word, "words"),
 ];
 
 // 32 texts of this many bytes, at most 1,000.
@@ -145,36 +199,77 @@ fn texts_of(alloc: Global, size: u32) -> Result<Vec<String>, AllocError> {
     Ok(texts)
 }
 
-// The filter that the calls are made on, and the items.
+// Whether the filters are equal, or, of a call that changes the filter, what a look-up finds right
+// after it.
+fn answer_of(filter: &mut BloomFilter, other: &BloomFilter, call: Call) -> bool {
+    if !filter.same_shape(other) {
+        return false;
+    }
+    match call {
+        Call::Union => filter.union(other),
+        Call::Intersect => filter.intersect(other),
+        Call::Clear => filter.clear(),
+        _ => return *filter == *other,
+    }
+    filter.contains_hash(0)
+}
+
+// What the calls are made on: a filter and another, which has the hash 0, items of both kinds, and
+// the filter as data and as text.
 #[derive(Drop)]
 struct Calls {
     alloc: Global,
+    keys: u32,
     filter: BloomFilter,
+    other: BloomFilter,
     texts: Vec<String>,
     numbers: Vec<u64>,
-    keys: u32,
+    data: Option<FilterData>,
+    text: String,
 }
 
 impl Calls {
     // Does what a row needs before its first round.
     fn begin(&mut self, call: Call, number: u32) -> Result<(), FilterError> {
         match call {
-            Call::HashNumbers | Call::Insert | Call::Contains | Call::Extend | Call::InsertAll => {}
             Call::HashTexts | Call::InsertTexts | Call::ContainsTexts => {
                 self.texts = texts_of(self.alloc, number)?;
             }
-            Call::InsertHash | Call::Hit | Call::Miss => {
-                self.filter = filter_for(self.alloc, self.keys, number)?;
+            Call::Union | Call::Intersect | Call::Equality | Call::Clear => {
+                self.filter = self.other.try_clone(self.alloc)?;
             }
+            _ => self.filter = filter_for(self.alloc, self.keys, number)?,
         }
         let keys = u64::from(self.keys);
         match call {
             Call::Contains => insert_numbers(&mut self.filter, keys),
             Call::ContainsTexts => insert_texts(&mut self.filter, self.texts.as_slice(), 32),
-            Call::Hit | Call::Miss => insert_keys(&mut self.filter, keys),
+            Call::Hit | Call::Miss | Call::ToData | Call::FromData | Call::Write | Call::Read => {
+                insert_keys(&mut self.filter, keys)
+            }
             _ => 0,
         };
         Ok(())
+    }
+
+    // What the answers of a call that gives nothing else come to.
+    fn count_answers(&mut self, call: Call, round: u32) -> u64 {
+        let (keys, texts) = (u64::from(self.keys), self.texts.as_slice());
+        match call {
+            Call::HashNumbers => hash_numbers(&self.filter, keys),
+            Call::HashTexts => hash_texts(&self.filter, texts, keys),
+            Call::InsertTexts => insert_texts(&mut self.filter, texts, keys),
+            Call::ContainsTexts => contains_texts(&self.filter, texts, keys),
+            Call::Insert => insert_numbers(&mut self.filter, keys),
+            Call::Contains => contains_numbers(&self.filter, keys),
+            Call::Extend => extend_by_numbers(&mut self.filter, keys),
+            Call::InsertAll => insert_all_numbers(&mut self.filter, &self.numbers),
+            Call::InsertHash => insert_keys(&mut self.filter, keys),
+            Call::Hit => contains_keys(&self.filter, 0, keys),
+            Call::Miss => contains_keys(&self.filter, first_foreign_key(keys, round), keys),
+            Call::Iter => self.other.iter().filter(|word| *word % 2 == 1).count() as u64,
+            _ => u64::from(answer_of(&mut self.filter, &self.other, call)),
+        }
     }
 }
 
@@ -190,52 +285,54 @@ impl Measured for Calls {
                 {
                     self.filter.clear();
                 }
+            Call::FromData | Call::Write => self.data = Some(self.filter.to_data(self.alloc)?),
+            Call::Read => {
+                let data = self.filter.to_data(self.alloc)?;
+                self.text = serde_json::to_string(self.alloc, &data)?;
+            }
             _ => {}
         }
         Ok(())
     }
 
     fn make(&mut self, call: Call, _number: u32, round: u32) -> anyhow::Result<Made> {
-        let (keys, texts) = (u64::from(self.keys), self.texts.as_slice());
-        Ok(Made::Answers(match call {
-            Call::HashNumbers => hash_numbers(&self.filter, keys),
-            Call::HashTexts => hash_texts(&self.filter, texts, keys),
-            Call::InsertTexts => insert_texts(&mut self.filter, texts, keys),
-            Call::ContainsTexts => contains_texts(&self.filter, texts, keys),
-            Call::Insert => insert_numbers(&mut self.filter, keys),
-            Call::Contains => contains_numbers(&self.filter, keys),
-            Call::Extend => extend_by_numbers(&mut self.filter, keys),
-            Call::InsertAll => insert_all_numbers(&mut self.filter, &self.numbers),
-            Call::InsertHash => insert_keys(&mut self.filter, keys),
-            Call::Hit => contains_keys(&self.filter, 0, keys),
-            Call::Miss => contains_keys(&self.filter, first_foreign_key(keys, round), keys),
-        }))
+        Ok(match call {
+            Call::Clone => Made::Copy(self.other.try_clone(self.alloc)?),
+            Call::ToData => Made::Data(self.filter.to_data(self.alloc)?),
+            Call::FromData => match self.data.take() {
+                Some(data) => Made::Filled(BloomFilter::from_data(data)?, 1),
+                None => Made::Answers(0),
+            },
+            Call::Write => match &self.data {
+                Some(data) => Made::Text(serde_json::to_string(self.alloc, data)?),
+                None => Made::Answers(0),
+            },
+            Call::Read => Made::Data(serde_json::from_str(self.alloc, self.text.as_str())?),
+            _ => Made::Answers(self.count_answers(call, round)),
+        })
     }
 }
 
-// An empty filter with seven hashes, all numbers, and no texts.
+// All numbers, and two filters with seven hashes, one of which has the hash 0.
 fn calls_for(alloc: Global, keys: u32) -> Result<Calls, FilterError> {
     let numbers = numbers_to(alloc, u64::from(keys))?;
     let filter = filter_for(alloc, keys, 7)?;
-    let texts = Vec::new(alloc);
+    let mut other = filter_for(alloc, keys, 7)?;
+    other.insert_hash(0);
     Ok(Calls {
         alloc,
-        filter,
-        texts,
-        numbers,
         keys,
+        filter,
+        other,
+        texts: Vec::new(alloc),
+        numbers,
+        data: None,
+        text: String::new(alloc),
     })
 }
 
-fn measure_calls<R: Print + Clock>(rt: &R, plan: &Plan, calls: &mut Calls) -> anyhow::Result<()> {
-    let keys = plan.count();
-    measure_rows(rt, plan, calls, keys, &[7], &NUMBERS)?;
-    measure_rows(rt, plan, calls, keys, &[8, 16, 32, 64, 1000], &TEXTS)?;
-    measure_rows(rt, plan, calls, keys, &[1, 2, 3, 7, 22], &HASHES)
-}
-
-/// The rows of a plain filter: of items with seven hashes, and of hashes with one to 22.
-pub fn measure_all<R: Print + AllocGlobal + Clock>(rt: &R, plan: &Plan) -> anyhow::Result<()> {
-    let mut calls = calls_for(rt.alloc(), plan.keys)?;
-    measure_calls(rt, plan, &mut calls)
+/// The rows of a plain filter: of items with seven hashes, of hashes with one to 22, of whole
+/// filters, and of filters as data and as JSON text.
+pub fn measure_all(rt: &HostRuntime, plan: &Plan) -> anyhow::Result<()> {
+    measure_rows(rt, plan, calls_for(rt.alloc(), plan.keys), &TABLE)
 }

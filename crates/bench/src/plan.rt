@@ -1,9 +1,9 @@
 //! What is measured.
 
+use crate::filters::count_words;
 use anyhow::bail;
 use std::alloc::Global;
 use std::env;
-use std::rt::Env;
 
 // What is measured where no number is given.
 const KEYS: u32 = 1_000_000;
@@ -11,6 +11,16 @@ const KEYS: u32 = 1_000_000;
 const ROUNDS: u32 = 10;
 
 const USAGE: &'static str = "usage: bench [KEYS [ROUNDS [WORD]]]";
+
+/// What one operation of a row is for.
+#[derive(Clone, Copy)]
+pub enum Unit {
+    Key,
+    /// A word of a filter for the keys.
+    Word,
+    /// A word that a kernel goes over.
+    KernelWord,
+}
 
 /// Which rows are measured, by a word in their names, for how many keys, and in how many rounds.
 #[derive(Drop)]
@@ -29,26 +39,23 @@ impl Plan {
         }
     }
 
-    /// The number of keys, as a count of operations.
-    pub fn count(&self) -> u64 {
-        u64::from(self.keys)
-    }
-
-    /// The number of words of so many bits, as a count of operations. It is 0 where there are no
+    /// How many operations a round makes, each for one of these. There are none where there are no
     /// keys, so that nothing is measured.
-    pub fn words(&self, bits: usize) -> u64 {
-        if self.keys == 0 { 0 } else { bits as u64 / 64 }
+    pub fn operations(&self, unit: Unit) -> u64 {
+        match unit {
+            _ if self.keys == 0 => 0,
+            Unit::Key => u64::from(self.keys),
+            Unit::Word => count_words(self.keys) as u64,
+            Unit::KernelWord => 1 << 20,
+        }
     }
 }
 
-// The number that the next argument is, or `missing` where there is none.
-fn number(argument: Option<String>, missing: u32) -> anyhow::Result<u32> {
+// The number that an argument is, or `missing` where there is none.
+fn number(argument: Option<String>, missing: u32) -> Option<u32> {
     match argument {
-        Some(text) => match text.parse::<u32>() {
-            Ok(number) => Ok(number),
-            Err(_) => bail!(USAGE),
-        },
-        None => Ok(missing),
+        Some(text) => text.parse::<u32>().ok(),
+        None => Some(missing),
     }
 }
 
@@ -56,13 +63,13 @@ fn number(argument: Option<String>, missing: u32) -> anyhow::Result<u32> {
 ///
 /// # Errors
 /// Where they aren't two numbers and a word, or fewer.
-pub fn given<R: Env + AllocGlobal>(rt: &R) -> anyhow::Result<Plan> {
+pub fn given(rt: &HostRuntime) -> anyhow::Result<Plan> {
     let mut words = env::args(rt)?.skip(1);
-    let keys = number(words.next(), KEYS)?;
-    let rounds = number(words.next(), ROUNDS)?;
-    let word = words.next();
-    if words.next().is_some() {
-        bail!(USAGE);
+    let keys = number(words.next(), KEYS);
+    let rounds = number(words.next(), ROUNDS);
+    let (word, more) = (words.next(), words.next());
+    match (keys, rounds, more) {
+        (Some(keys), Some(rounds), None) => Ok(Plan { keys, rounds, word }),
+        _ => bail!(USAGE),
     }
-    Ok(Plan { keys, rounds, word })
 }

@@ -3,11 +3,10 @@ ghost use Rattle.std.specs.Prelude.{◌≤◌, ◌<◌, ◌^◌, vec_len};
 
 use crate::filters::{count_words, shared_filter_for};
 use crate::keys::{first_foreign_key, hash_of, numbers_to};
-use crate::plan::Plan;
-use crate::table::{Made, Measured, Named, measure_rows};
+use crate::plan::{Plan, Unit};
+use crate::table::{Made, Measured, Rows, measure_rows};
 use fastbloom::{AtomicBloomFilter, FilterError};
 use std::alloc::{AllocError, Global};
-use std::rt::Clock;
 use std::sync::atomic::{AtomicU64, Ordering};
 
 /// Inserts this many keys from the first on, and counts the answers that were true.
@@ -84,47 +83,128 @@ enum Call {
     Miss,
     Extend,
     InsertAll,
+    Union,
+    Intersect,
+    SameWords,
+    Clear,
+    Clone,
+    Iter,
+    ToData,
+    TakeWords,
 }
 
-const ROWS: [Named<Call>; 6] = [
-    (Call::Bare, "fetch_or, seven", "true"),
-    (Call::InsertHash, "shared insert_hash", "true"),
-    (Call::Hit, "shared hit", "true"),
-    (Call::Miss, "shared miss", "true"),
-    (Call::Extend, "shared extend, u64", "found after it"),
-    (Call::InsertAll, "shared insert_all, u64", "found after it"),
+const FOUND: &'static str = "found after it";
+
+const CHANGED: &'static str = "same, or found after it";
+
+const TABLE: [Rows<Call>; 14] = [
+    (Call::Bare, "fetch_or, seven", &[7], Unit::Key, "true"),
+    (
+        Call::InsertHash,
+        "shared insert_hash",
+        &[7],
+        Unit::Key,
+        "true",
+    ),
+    (Call::Hit, "shared hit", &[7], Unit::Key, "true"),
+    (Call::Miss, "shared miss", &[7], Unit::Key, "true"),
+    (Call::Extend, "shared extend, u64", &[7], Unit::Key, FOUND),
+    (
+        Call::InsertAll,
+        "shared insert_all, u64",
+        &[7],
+        Unit::Key,
+        FOUND,
+    ),
+    (
+        Call::Union,
+        "shared union, a word",
+        &[7],
+        Unit::Word,
+        CHANGED,
+    ),
+    (
+        Call::Intersect,
+        "shared intersect, a word",
+        &[7],
+        Unit::Word,
+        CHANGED,
+    ),
+    (
+        Call::SameWords,
+        "shared same_words, a word",
+        &[7],
+        Unit::Word,
+        CHANGED,
+    ),
+    (
+        Call::Clear,
+        "shared clear, a word",
+        &[7],
+        Unit::Word,
+        CHANGED,
+    ),
+    (
+        Call::Clone,
+        "shared try_clone, a word",
+        &[7],
+        Unit::Word,
+        FOUND,
+    ),
+    (
+        Call::Iter,
+        "shared iter, a word",
+        &[7],
+        Unit::Word,
+        "odd words",
+    ),
+    (
+        Call::ToData,
+        "shared to_data, a word",
+        &[7],
+        Unit::Word,
+        "words",
+    ),
+    (
+        Call::TakeWords,
+        "shared take_words, a word",
+        &[7],
+        Unit::Word,
+        "words",
+    ),
 ];
 
-// The filter that the calls are made on, bare words and items.
+// Whether the words are the same, or, of a call that changes the filter, what a look-up finds right
+// after it.
+fn answer_of(filter: &AtomicBloomFilter, other: &AtomicBloomFilter, call: Call) -> bool {
+    if !filter.same_shape(other) {
+        return false;
+    }
+    match call {
+        Call::Union => filter.union(other),
+        Call::Intersect => filter.intersect(other),
+        Call::Clear => filter.clear(),
+        _ => return filter.same_words(other),
+    }
+    filter.contains_hash(0)
+}
+
+// What the calls are made on: a filter and another, which has the hash 0, bare words and items.
 #[derive(Drop)]
 struct Calls {
     alloc: Global,
+    keys: u32,
     filter: AtomicBloomFilter,
+    other: AtomicBloomFilter,
     words: Vec<AtomicU64>,
     numbers: Vec<u64>,
-    keys: u32,
 }
 
-impl Measured for Calls {
-    type Call = Call;
-
-    fn prepare(&mut self, call: Call, _number: u32, round: u32) -> anyhow::Result<()> {
+impl Calls {
+    // What the answers of a call that gives nothing else come to.
+    fn count_answers(&self, call: Call, round: u32) -> u64 {
+        let (keys, filter) = (u64::from(self.keys), &self.filter);
         match call {
-            Call::Bare => self.words = bare_words(self.alloc, self.keys)?,
-            Call::InsertHash | Call::Extend | Call::InsertAll => self.filter.clear(),
-            Call::Hit | Call::Miss => {
-                if round == 0 {
-                    insert_keys(&self.filter, 0, u64::from(self.keys));
-                }
-            }
-        }
-        Ok(())
-    }
-
-    fn make(&mut self, call: Call, _number: u32, round: u32) -> anyhow::Result<Made> {
-        let keys = u64::from(self.keys);
-        let filter = &self.filter;
-        Ok(Made::Answers(match call {
             Call::Bare if self.words.is_empty() || self.words.len() >= 1 << 58 => 0,
             Call::Bare => bare_operations(&self.words, keys),
             Call::InsertHash => insert_keys(filter, 0, keys),
@@ -132,26 +212,58 @@ impl Measured for Calls {
             Call::Miss => contains_keys(filter, first_foreign_key(keys, round), keys),
             Call::Extend => extend_by_numbers(filter, keys),
             Call::InsertAll => insert_all_numbers(filter, &self.numbers),
-        }))
+            Call::Iter => self.other.iter().filter(|word| *word % 2 == 1).count() as u64,
+            _ => u64::from(answer_of(filter, &self.other, call)),
+        }
     }
 }
 
-// An empty filter, all numbers, and no bare words.
+impl Measured for Calls {
+    type Call = Call;
+
+    fn prepare(&mut self, call: Call, _number: u32, round: u32) -> anyhow::Result<()> {
+        match (call, round) {
+            (Call::Bare, _) => self.words = bare_words(self.alloc, self.keys)?,
+            (Call::InsertHash | Call::Extend | Call::InsertAll, _) => self.filter.clear(),
+            (Call::Hit | Call::Miss, 0) => {
+                insert_keys(&self.filter, 0, u64::from(self.keys));
+            }
+            (Call::Union | Call::Intersect | Call::SameWords | Call::Clear, 0) => {
+                self.filter = self.other.try_clone(self.alloc)?;
+            }
+            _ => {}
+        }
+        Ok(())
+    }
+
+    fn make(&mut self, call: Call, _number: u32, round: u32) -> anyhow::Result<Made> {
+        Ok(match call {
+            Call::Clone => Made::SharedCopy(self.other.try_clone(self.alloc)?),
+            Call::ToData => Made::Data(self.other.to_data(self.alloc)?),
+            Call::TakeWords => Made::Words(self.other.take_words(self.alloc)?),
+            _ => Made::Answers(self.count_answers(call, round)),
+        })
+    }
+}
+
+// All numbers, no bare words, and two filters, one of which has the hash 0.
 fn calls_for(alloc: Global, keys: u32) -> Result<Calls, FilterError> {
     let numbers = numbers_to(alloc, u64::from(keys))?;
     let filter = shared_filter_for(alloc, keys, 7)?;
-    let words = Vec::new(alloc);
+    let other = shared_filter_for(alloc, keys, 7)?;
+    other.insert_hash(0);
     Ok(Calls {
         alloc,
-        filter,
-        words,
-        numbers,
         keys,
+        filter,
+        other,
+        words: Vec::new(alloc),
+        numbers,
     })
 }
 
-/// The rows of a shared filter with seven hashes, by one thread.
-pub fn measure_all<R: Print + AllocGlobal + Clock>(rt: &R, plan: &Plan) -> anyhow::Result<()> {
-    let mut calls = calls_for(rt.alloc(), plan.keys)?;
-    measure_rows(rt, plan, &mut calls, plan.count(), &[7], &ROWS)
+/// The rows of a shared filter with seven hashes, by one thread: of hashes and items, and of whole
+/// filters.
+pub fn measure_all(rt: &HostRuntime, plan: &Plan) -> anyhow::Result<()> {
+    measure_rows(rt, plan, calls_for(rt.alloc(), plan.keys), &TABLE)
 }

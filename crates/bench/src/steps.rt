@@ -2,11 +2,10 @@
 
 use crate::filters::{count_words, filter_for, zeros};
 use crate::keys::hash_of;
-use crate::plan::Plan;
-use crate::table::{Made, Measured, Named, measure_rows};
+use crate::plan::{Plan, Unit};
+use crate::table::{Made, Measured, Rows, measure_rows};
 use fastbloom::{BloomFilter, Call, Event, FilterError, MemoryStore, drive, run};
 use std::alloc::{AllocError, Global};
-use std::rt::Clock;
 
 const RUN: &'static str = "run, an event";
 
@@ -48,9 +47,9 @@ enum Step {
     Run,
 }
 
-const ROWS: [Named<Step>; 2] = [
-    (Step::Drive, "drive, an insert", "true"),
-    (Step::Run, RUN, "records"),
+const TABLE: [Rows<Step>; 2] = [
+    (Step::Drive, "drive, an insert", &[7], Unit::Key, "true"),
+    (Step::Run, RUN, &[7], Unit::Key, "records"),
 ];
 
 // The words or the schedule that the calls are made on.
@@ -100,8 +99,8 @@ fn calls_for(alloc: Global, keys: u32, events: u32) -> Result<Calls, FilterError
 }
 
 /// The rows of `drive` over memory and of `run`.
-pub fn measure_all<R: Print + AllocGlobal + Clock>(rt: &R, plan: &Plan) -> anyhow::Result<()> {
+pub fn measure_all(rt: &HostRuntime, plan: &Plan) -> anyhow::Result<()> {
     let events = if plan.wants(RUN) { plan.keys } else { 0 };
-    let mut calls = calls_for(rt.alloc(), plan.keys, events)?;
-    measure_rows(rt, plan, &mut calls, plan.count(), &[7], &ROWS)
+    let calls = calls_for(rt.alloc(), plan.keys, events);
+    measure_rows(rt, plan, calls, &TABLE)
 }

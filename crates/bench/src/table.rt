@@ -1,10 +1,9 @@
 //! The table of what was measured.
 
 use crate::keys::contains_keys;
-use crate::plan::Plan;
-use fastbloom::{AtomicBloomFilter, BloomFilter, FilterData, Trace};
+use crate::plan::{Plan, Unit};
+use fastbloom::{AtomicBloomFilter, BloomFilter, FilterData, FilterError, Trace};
 use std::io;
-use std::rt::Clock;
 use std::time::{Duration, Instant};
 
 /// What a round made. It is counted, and dropped, once the clock has stopped.
@@ -34,16 +33,17 @@ fn count_true(replies: &[bool]) -> u64 {
 }
 
 impl Made {
-    fn count(&self) -> u64 {
+    // Counts it, and drops it.
+    fn count(self) -> u64 {
         match self {
-            Made::Answers(answers) => *answers,
+            Made::Answers(answers) => answers,
             Made::Copy(filter) => u64::from(filter.contains_hash(0)),
             Made::SharedCopy(filter) => u64::from(filter.contains_hash(0)),
-            Made::Filled(filter, keys) => contains_keys(filter, 0, *keys),
+            Made::Filled(filter, keys) => contains_keys(&filter, 0, keys),
             Made::Data(data) => data.bits.bits.len() as u64,
             Made::Text(text) => text.len() as u64,
             Made::Words(words) => words.len() as u64,
-            Made::Replies(replies) => count_true(replies),
+            Made::Replies(replies) => count_true(&replies),
             Made::Trace(trace) => trace.records().len() as u64,
         }
     }
@@ -68,35 +68,12 @@ struct Row {
     number: u32,
     operations: u64,
     counted: &'static str,
-    is_wanted: bool,
-    rounds: u32,
     answers: u64,
     // In nanoseconds.
     best: Option<u128>,
 }
 
 impl Row {
-    // The row of a call that no round has made yet. It has no rounds where it isn't wanted.
-    fn new(
-        plan: &Plan,
-        call: &'static str,
-        number: u32,
-        operations: u64,
-        counted: &'static str,
-    ) -> Self {
-        let is_wanted = plan.wants(call);
-        Row {
-            call,
-            number,
-            operations,
-            counted,
-            is_wanted,
-            rounds: if is_wanted { plan.rounds } else { 0 },
-            answers: 0,
-            best: None,
-        }
-    }
-
     // Takes in a round: what its answers came to, and how long it took.
     fn add(&mut self, answers: u64, time: Duration) {
         self.answers = answers;
@@ -111,28 +88,19 @@ impl Row {
             .checked_div(u128::from(self.operations))
     }
 
-    // Prints the row, with the time where there is one.
-    fn print_wanted<R: Print>(&self, rt: &R) -> io::Result<()> {
+    // Prints the row, with the time where something was measured.
+    fn print(&self, rt: &HostRuntime) -> io::Result<()> {
         let (call, number, answers, counted) = (self.call, self.number, self.answers, self.counted);
         match self.picoseconds() {
             Some(time) => println!(rt; "{call:<28}{number:>8}{answers:>12}{time:>12}  {counted}"),
             None => println!(rt; "{call:<28}{number:>8}{answers:>12}           -  {counted}"),
         }
     }
-
-    // Prints the row where it is wanted. The time is left out where nothing was measured.
-    fn print<R: Print>(&self, rt: &R) -> io::Result<()> {
-        if self.is_wanted {
-            self.print_wanted(rt)
-        } else {
-            Ok(())
-        }
-    }
 }
 
 // Makes a round of a row, and takes in how long its calls took.
-fn make_round<R: Clock, M: Measured>(
-    rt: &R,
+fn make_round<M: Measured>(
+    rt: &HostRuntime,
     row: &mut Row,
     measured: &mut M,
     call: M::Call,
@@ -142,51 +110,70 @@ fn make_round<R: Clock, M: Measured>(
     let start = Instant::now(rt)?;
     let made = measured.make(call, row.number, round)?;
     let time = start.elapsed(rt);
-    let answers = made.count();
-    drop(made);
-    row.add(answers, time?);
+    row.add(made.count(), time?);
     Ok(())
 }
 
-// Measures a row, and prints it where it is wanted.
-fn measure<R: Print + Clock, M: Measured>(
-    rt: &R,
+// Measures a row in so many rounds, and prints it.
+fn measure<M: Measured>(
+    rt: &HostRuntime,
+    rounds: u32,
     mut row: Row,
     measured: &mut M,
     call: M::Call,
 ) -> anyhow::Result<()> {
-    'rounds: for round in 0..row.rounds {
+    'rounds: for round in 0..rounds {
         make_round(rt, &mut row, measured, call, round)?;
     }
     Ok(row.print(rt)?)
 }
 
-/// A call, the name of its row, and what its answers count.
-pub type Named<C> = (C, &'static str, &'static str);
+/// The rows of a call: the call, their name, their numbers, what an operation is for, and what its
+/// answers count. A number is that of hashes, or of what the name tells before a colon.
+pub type Rows<C> = (C, &'static str, &'static [u32], Unit, &'static str);
 
-/// Measures the rows of these calls, with each number: the number of hashes, or of what their names
-/// tell before a colon. A round makes so many operations.
-pub fn measure_rows<R: Print + Clock, M: Measured>(
-    rt: &R,
+// Measures the rows of these calls that are wanted.
+fn measure_wanted<M: Measured>(
+    rt: &HostRuntime,
     plan: &Plan,
     measured: &mut M,
-    operations: u64,
-    numbers: &[u32],
-    rows: &[Named<M::Call>],
+    table: &[Rows<M::Call>],
 ) -> anyhow::Result<()> {
-    'numbers: for number in numbers {
-        'rows: for (call, name, counted) in rows {
-            let row = Row::new(plan, *name, *number, operations, *counted);
-            measure(rt, row, measured, *call)?;
+    'table: for (call, name, numbers, unit, counted) in table {
+        let numbers: &[u32] = if plan.wants(name) { numbers } else { &[] };
+        'numbers: for number in numbers {
+            let row = Row {
+                call: name,
+                number: *number,
+                operations: plan.operations(*unit),
+                counted,
+                answers: 0,
+                best: None,
+            };
+            measure(rt, plan.rounds, row, measured, *call)?;
         }
     }
     Ok(())
 }
 
+/// Measures the rows of these calls that are wanted, where there is memory for what they are made
+/// on.
+pub fn measure_rows<M: Measured + Drop>(
+    rt: &HostRuntime,
+    plan: &Plan,
+    measured: Result<M, FilterError>,
+    table: &[Rows<M::Call>],
+) -> anyhow::Result<()> {
+    let mut measured = measured?;
+    measure_wanted(rt, plan, &mut measured, table)
+}
+
 /// Prints what is measured, and the head of the table.
-pub fn head<R: Print>(rt: &R, plan: &Plan, bits: usize) -> io::Result<()> {
+pub fn head(rt: &HostRuntime, plan: &Plan, bits: usize) -> io::Result<()> {
     let (keys, rounds, bytes) = (plan.keys, plan.rounds, bits / 8);
-    println!(rt; "{keys} keys, best of {rounds} rounds, filters of {bits} bits ({bytes} bytes)")?;
-    println!(rt; "The number is that of hashes, or of what the name tells before a colon.")?;
-    println!(rt; "call                          number     answers          ps  answers count")
+    println!(rt;
+        "{keys} keys, best of {rounds} rounds, filters of {bits} bits ({bytes} bytes)\n\
+        The number is that of hashes, or of what the name tells before a colon.\n\
+        call                          number     answers          ps  answers count"
+    )
 }

@@ -2,17 +2,16 @@
 ghost use Rattle.std.specs.Prelude.{⊤};
 
 use crate::filters::shared_filter_for;
-use crate::plan::Plan;
+use crate::plan::{Plan, Unit};
 use crate::seated::{Seat, seats_for};
 use crate::shared::{contains_keys, insert_keys};
-use crate::table::{Made, Measured, Named, measure_rows};
+use crate::table::{Made, Measured, Rows, measure_rows};
 use anyhow::bail;
 use fastbloom::{AtomicBloomFilter, FilterError};
-use std::alloc::{AllocError, Global};
-use std::rt::Clock;
+use std::alloc::Global;
 use std::sync::Arc;
+use std::thread;
 use std::thread::{Promise, PromisedHandle, Threads};
-use std::{mem, thread};
 
 // What every thread does with its part of the keys.
 #[derive(Clone, Copy)]
@@ -33,11 +32,7 @@ trait Worker {
 impl Worker for Arc<AtomicBloomFilter, Global> {
     fn all(alloc: Global, keys: u32, threads: u32) -> Result<Vec<Self>, FilterError> {
         let filter = Arc::new(alloc, shared_filter_for(alloc, keys, 7)?)?;
-        let mut all = Vec::new(alloc);
-        'threads: for _thread in 0..threads {
-            all.push(Arc::try_clone(&filter)?)?;
-        }
-        Ok(all)
+        Ok(vec![in alloc; filter; threads as usize]?)
     }
 
     fn work(&mut self, job: Job, first: u64, keys: u64) -> u64 {
@@ -104,47 +99,23 @@ fn workers_for<W: Worker + Drop>(
     Ok(workers)
 }
 
-// Starts a thread for each worker, with its part of the keys.
-fn start_all<R: AllocGlobal + Threads, W: Worker + Send + Drop + 'static>(
-    rt: &R,
-    workers: Vec<W>,
-    job: Job,
-    keys: u64,
-) -> anyhow::Result<Vec<Child<W>>> {
-    let part = keys.checked_div(workers.len() as u64).unwrap_or(0);
-    let mut children = Vec::new(rt.alloc());
-    let mut first: u64 = 0;
-    'threads: for worker in workers {
-        children.push(start(rt, worker, job, first, part)?)?;
-        first = first.wrapping_add(part);
-    }
-    Ok(children)
-}
-
-// Waits for all threads, takes their workers back, and counts the answers that were true.
-fn join_all<R: Threads, W: Drop>(
-    rt: &R,
-    children: Vec<Child<W>>,
-    workers: &mut Vec<W>,
-) -> Result<u64, AllocError> {
-    let mut answers: u64 = 0;
-    'joins: for child in children {
-        let (found, worker) = child.join(rt);
-        answers = answers.wrapping_add(found);
-        workers.push(worker)?;
-    }
-    Ok(answers)
-}
-
-// One round: each thread takes its part of the keys, and the answers that were true are counted.
-fn round_of<R: AllocGlobal + Threads, W: Worker + Send + Drop + 'static>(
+// One round: each worker takes this many keys of its own, in a thread. The answers that were true
+// are counted once all threads are at work.
+fn round_of<R: Threads, W: Worker + Send + Drop + 'static>(
     rt: &R,
     workers: &mut Vec<W>,
     job: Job,
     keys: u64,
 ) -> anyhow::Result<u64> {
-    let children = start_all(rt, mem::replace(workers, Vec::new(rt.alloc())), job, keys)?;
-    Ok(join_all(rt, children, workers)?)
+    let Some(worker) = workers.pop() else {
+        return Ok(0);
+    };
+    let first = keys.wrapping_mul(workers.len() as u64);
+    let child = start(rt, worker, job, first, keys)?;
+    let others = round_of(rt, workers, job, keys)?;
+    let (answers, worker) = child.join(rt);
+    workers.push(worker)?;
+    Ok(others.wrapping_add(answers))
 }
 
 // How the threads share a filter.
@@ -154,15 +125,38 @@ enum Kind {
     Seated,
 }
 
-const ROWS: [Named<(Kind, Job)>; 4] = [
-    ((Kind::Shared, Job::Insert), "insert by threads:", "true"),
-    ((Kind::Shared, Job::Find), "hit by threads:", "true"),
+// Numbers of threads.
+const THREADS: &'static [u32] = &[1, 2, 4];
+
+const TABLE: [Rows<(Kind, Job)>; 4] = [
+    (
+        (Kind::Shared, Job::Insert),
+        "insert by threads:",
+        THREADS,
+        Unit::Key,
+        "true",
+    ),
+    (
+        (Kind::Shared, Job::Find),
+        "hit by threads:",
+        THREADS,
+        Unit::Key,
+        "true",
+    ),
     (
         (Kind::Seated, Job::Insert),
         "seated insert by threads:",
+        THREADS,
+        Unit::Key,
         "true",
     ),
-    ((Kind::Seated, Job::Find), "seated hit by threads:", "true"),
+    (
+        (Kind::Seated, Job::Find),
+        "seated hit by threads:",
+        THREADS,
+        Unit::Key,
+        "true",
+    ),
 ];
 
 // The workers on one filter with seven hashes.
@@ -188,28 +182,27 @@ impl<'a, R: AllocGlobal + Threads> Measured for Calls<'a, R> {
         Ok(())
     }
 
-    fn make(&mut self, call: (Kind, Job), _threads: u32, _round: u32) -> anyhow::Result<Made> {
-        let (rt, job, keys) = (self.rt, call.1, u64::from(self.keys));
-        Ok(Made::Answers(match call.0 {
-            Kind::Shared => round_of(rt, &mut self.sharers, job, keys)?,
-            Kind::Seated => round_of(rt, &mut self.seats, job, keys)?,
-        }))
+    fn make(&mut self, call: (Kind, Job), threads: u32, _round: u32) -> anyhow::Result<Made> {
+        let (rt, job, keys) = (self.rt, call.1, u64::from(self.keys / threads.max(1)));
+        let answers = match call.0 {
+            Kind::Shared => round_of(rt, &mut self.sharers, job, keys),
+            Kind::Seated => round_of(rt, &mut self.seats, job, keys),
+        };
+        Ok(Made::Answers(answers?))
     }
 }
 
 /// The rows of inserts and of hits by one, two and four threads, of shared and of seated filters.
-pub fn measure_all<R: Print + AllocGlobal + Clock + Threads>(
-    rt: &R,
+pub fn measure_all<R: AllocGlobal + Threads>(
+    rt: &HostRuntime,
+    threads: &R,
     plan: &Plan,
 ) -> anyhow::Result<()> {
-    let mut calls = Calls {
-        rt,
+    let calls = Calls {
+        rt: threads,
         sharers: Vec::new(rt.alloc()),
         seats: Vec::new(rt.alloc()),
         keys: plan.keys,
     };
-    'rows: for row in &ROWS {
-        measure_rows(rt, plan, &mut calls, plan.count(), &[1, 2, 4], &[*row])?;
-    }
-    Ok(())
+    measure_rows(rt, plan, Ok(calls), &TABLE)
 }

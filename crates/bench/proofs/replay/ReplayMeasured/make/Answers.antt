@@ -1,6 +1,6 @@
 use Rattle.std.proofs.Common.{All, sym, subst}
 use Rattle.fastbloom.specs.CommandOf.{Fits}
-use Rattle.bench.proofs.whole_filter.ReplayMeasured.make.Goals as goal
+use Rattle.bench.proofs.replay.ReplayMeasured.make.Goals as goal
 
 pub replay-requires : goal.replay-requires
 replay-requires c =

@@ -1,5 +1,5 @@
 use Rattle.std.proofs.Common.{◌≡◌}
-use Rattle.bench.proofs.seated.contains_keys.Given as goal
+use Rattle.bench.proofs.seated.Seat.insert_keys.Given as goal
 
 -- the pass still belongs to its filter
 abbrev pub invariant-keys : goal.invariant-keys
