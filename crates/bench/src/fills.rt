@@ -3,8 +3,8 @@
 
 use crate::filters::filter_for;
 use crate::keys::hash_of;
-use crate::plan::{Plan, Unit};
-use crate::table::{Made, Measured, Rows, measure_rows};
+use crate::plan::Unit;
+use crate::table::{Made, Measured, Rows};
 use fastbloom::{BloomFilter, FilterError, Gate, Shape, fill};
 use std::alloc::{AllocError, Global};
 use std::mem;
@@ -19,22 +19,17 @@ impl Gate for Open {
     fn pass(&self, _worker: usize) {}
 }
 
-// The hashes of the keys between two.
-fn hashes_of(alloc: Global, first: u64, end: u64) -> Result<Vec<u64>, AllocError> {
-    let mut hashes = Vec::new(alloc);
-    'keys: for key in first..end {
-        hashes.push(hash_of(key))?;
-    }
-    Ok(hashes)
-}
-
 // The hashes of the keys, cut into this many parts.
 fn parts_of(alloc: Global, keys: u64, parts: u64) -> Result<Vec<Vec<u64>>, AllocError> {
     let size = keys.checked_div(parts).unwrap_or(0);
     let mut cut = Vec::new(alloc);
     'parts: for part in 0..parts {
         let first = size.wrapping_mul(part);
-        cut.push(hashes_of(alloc, first, first.wrapping_add(size))?)?;
+        let mut hashes = Vec::new(alloc);
+        'keys: for key in 0..size {
+            hashes.push(hash_of(first.wrapping_add(key)))?;
+        }
+        cut.push(hashes)?;
     }
     Ok(cut)
 }
@@ -46,22 +41,15 @@ fn insert_all(filter: &mut BloomFilter, hashes: &Vec<u64>) {
     }
 }
 
-// A filter into which one thread inserts every hash, as the workers do.
-fn fill_alone(alloc: Global, keys: u32, parts: &Vec<Vec<u64>>) -> Result<BloomFilter, FilterError> {
-    let mut filter = filter_for(alloc, keys, 7)?;
-    'parts: for part in parts {
-        insert_all(&mut filter, part);
-    }
-    Ok(filter)
-}
-
+/// Who fills a filter: one thread, or workers.
 #[derive(Clone, Copy)]
-enum Call {
+pub enum Call {
     Alone,
     Fill,
 }
 
-const TABLE: [Rows<Call>; 2] = [
+/// The rows of one thread, and of one, two and four workers.
+pub const TABLE: [Rows<Call>; 2] = [
     (
         Call::Alone,
         "inserts by one thread",
@@ -78,13 +66,11 @@ const TABLE: [Rows<Call>; 2] = [
     ),
 ];
 
-// Who fills a filter, and the hashes of its keys, in a part for each worker.
+/// The hashes of the keys, in a part for each worker.
 #[derive(Drop)]
-struct Calls<'a, R> {
+pub struct Calls<'a, R> {
     rt: &'a R,
     keys: u32,
-    shape: Shape,
-    gate: Arc<Open, Global>,
     parts: Vec<Vec<u64>>,
 }
 
@@ -92,42 +78,36 @@ impl<'a, R: AllocGlobal + Threads> Measured for Calls<'a, R> {
     type Call = Call;
 
     fn prepare(&mut self, _call: Call, workers: u32, _round: u32) -> anyhow::Result<()> {
-        self.parts = parts_of(self.rt.alloc(), u64::from(self.keys), u64::from(workers))?;
+        self.parts = parts_of(self.rt.alloc(), self.keys as u64, workers as u64)?;
         Ok(())
     }
 
     fn make(&mut self, call: Call, _workers: u32, _round: u32) -> anyhow::Result<Made> {
         let alloc = self.rt.alloc();
         let filter = match call {
-            Call::Alone => fill_alone(alloc, self.keys, &self.parts),
+            Call::Alone => {
+                let mut filter = filter_for(alloc, self.keys, 7)?;
+                if let Some(hashes) = self.parts.first() {
+                    insert_all(&mut filter, hashes);
+                }
+                filter
+            }
             Call::Fill => {
+                let shape = Shape::new((self.keys as usize * 10).max(1), 7)?;
+                let gate = Arc::new(alloc, Open)?;
                 let parts = mem::replace(&mut self.parts, Vec::new(alloc));
-                let gate = Arc::try_clone(&self.gate)?;
-                fill(self.rt, alloc, gate, self.shape, parts)
+                fill(self.rt, alloc, gate, shape, parts)?
             }
         };
-        Ok(Made::Filled(filter?, u64::from(self.keys)))
+        Ok(Made::Filled(filter, self.keys as u64))
     }
 }
 
-// No hashes yet, and the shape of a filter with ten bits for each key and seven hashes.
-fn calls_for<'a, R: AllocGlobal>(rt: &'a R, keys: u32) -> Result<Calls<'a, R>, FilterError> {
-    let shape = Shape::new((keys as usize * 10).max(1), 7)?;
-    let gate = Arc::new(rt.alloc(), Open)?;
-    Ok(Calls {
+/// No hashes yet.
+pub fn calls_for<'a, R: AllocGlobal>(rt: &'a R, keys: u32) -> Calls<'a, R> {
+    Calls {
         rt,
         keys,
-        shape,
-        gate,
         parts: Vec::new(rt.alloc()),
-    })
-}
-
-/// The rows of one thread, and of one, two and four workers.
-pub fn measure_all<R: AllocGlobal + Threads>(
-    rt: &HostRuntime,
-    threads: &R,
-    plan: &Plan,
-) -> anyhow::Result<()> {
-    measure_rows(rt, plan, calls_for(threads, plan.keys), &TABLE)
+    }
 }

@@ -5,8 +5,8 @@
 ghost use Rattle.std.specs.Prelude.{◌≡◌, length};
 
 use crate::filters::zeros;
-use crate::plan::{Plan, Unit};
-use crate::table::{Made, Measured, Rows, measure_rows};
+use crate::plan::Unit;
+use crate::table::{Made, Measured, Rows};
 use fastbloom::{BloomFilter, FilterError};
 use std::alloc::Global;
 
@@ -50,9 +50,9 @@ fn filter_of(alloc: Global, words: usize) -> Result<BloomFilter, FilterError> {
     Ok(BloomFilter::from_vec(zeros(alloc, words)?)?.hashes(1))
 }
 
-// What goes over all words: a call of the filter, or a plain loop.
+/// What goes over all words: a call of the filter, or a plain loop.
 #[derive(Clone, Copy)]
-enum Kernel {
+pub enum Kernel {
     Union,
     PlainUnion,
     Intersect,
@@ -66,7 +66,8 @@ enum Kernel {
 // Numbers of words.
 const SIZES: &'static [u32] = &[15, 1023, 1 << 20];
 
-const TABLE: [Rows<Kernel>; 8] = [
+/// The rows of all kernels over 15, 1,023 and 2^20 words, a word each.
+pub const TABLE: [Rows<Kernel>; 8] = [
     (
         Kernel::Union,
         "union, words:",
@@ -125,10 +126,10 @@ const TABLE: [Rows<Kernel>; 8] = [
     ),
 ];
 
-// Two filters of one number of words, and two vectors of as many. Where there are no keys nothing
-// is measured.
+/// Two filters of one number of words, and two vectors of as many. Where there are no keys nothing
+/// is measured.
 #[derive(Drop)]
-struct Kernels {
+pub struct Kernels {
     alloc: Global,
     keys: u32,
     filter: BloomFilter,
@@ -137,91 +138,43 @@ struct Kernels {
     others: Vec<u64>,
 }
 
-// Unites the filters this many times.
-fn unite(kernels: &mut Kernels, times: u64) {
-    for _ in 0..times {
-        if !kernels.filter.same_shape(&kernels.other) {
-            break;
+impl Kernels {
+    // Runs a kernel once. Whether it found the words equal, of one that compares.
+    #[inline(always)]
+    fn run(&mut self, kernel: Kernel, time: u64) -> bool {
+        let (words, others) = (&mut self.words, &self.others);
+        match kernel {
+            Kernel::Union if self.filter.same_shape(&self.other) => self.filter.union(&self.other),
+            Kernel::Intersect if self.filter.same_shape(&self.other) => {
+                self.filter.intersect(&self.other);
+            }
+            Kernel::PlainUnion if words.len() == others.len() => {
+                plain_union(words.as_mut_slice(), others.as_slice());
+            }
+            Kernel::PlainIntersect if words.len() == others.len() => {
+                plain_intersect(words.as_mut_slice(), others.as_slice());
+            }
+            Kernel::Clear => self.filter.clear(),
+            // The last word gets a value first, so that the words are cleared anew.
+            Kernel::PlainClear => {
+                if let Some(word) = words.last_mut() {
+                    *word = time;
+                }
+                plain_clear(words);
+            }
+            Kernel::Equality => return self.filter == self.other,
+            // Both get the same new last word first, so that they are compared anew.
+            Kernel::PlainEquality => {
+                if let (Some(word), Some(other)) = (words.last_mut(), self.others.last_mut()) {
+                    *word = time;
+                    *other = time;
+                }
+                return plain_equality(&self.words, &self.others);
+            }
+            _ => {}
         }
-        kernels.filter.union(&kernels.other);
+        false
     }
-}
-
-fn unite_plainly(kernels: &mut Kernels, times: u64) {
-    for _ in 0..times {
-        if kernels.words.len() != kernels.others.len() {
-            break;
-        }
-        plain_union(kernels.words.as_mut_slice(), kernels.others.as_slice());
-    }
-}
-
-fn intersect(kernels: &mut Kernels, times: u64) {
-    for _ in 0..times {
-        if !kernels.filter.same_shape(&kernels.other) {
-            break;
-        }
-        kernels.filter.intersect(&kernels.other);
-    }
-}
-
-fn intersect_plainly(kernels: &mut Kernels, times: u64) {
-    for _ in 0..times {
-        if kernels.words.len() != kernels.others.len() {
-            break;
-        }
-        plain_intersect(kernels.words.as_mut_slice(), kernels.others.as_slice());
-    }
-}
-
-// How often the filters were equal.
-fn compare(kernels: &Kernels, times: u64) -> u64 {
-    let mut equal = 0u64;
-    for _ in 0..times {
-        equal = equal.wrapping_add(u64::from(kernels.filter == kernels.other));
-    }
-    equal
-}
-
-// Both get the same new word before each comparison, so that it is made anew.
-fn compare_plainly(kernels: &mut Kernels, times: u64) -> u64 {
-    let mut equal = 0u64;
-    for i in 0..times {
-        if let (Some(word), Some(other)) = (kernels.words.last_mut(), kernels.others.last_mut()) {
-            *word = i;
-            *other = i;
-        }
-        equal = equal.wrapping_add(u64::from(plain_equality(&kernels.words, &kernels.others)));
-    }
-    equal
-}
-
-fn clear(kernels: &mut Kernels, times: u64) {
-    for _ in 0..times {
-        kernels.filter.clear();
-    }
-}
-
-fn clear_plainly(kernels: &mut Kernels, times: u64) {
-    for _ in 0..times {
-        plain_clear(&mut kernels.words);
-    }
-}
-
-// Runs a kernel this many times, and counts what it answers.
-#[inline(never)]
-fn make(kernels: &mut Kernels, kernel: Kernel, times: u64) -> u64 {
-    match kernel {
-        Kernel::Union => unite(kernels, times),
-        Kernel::PlainUnion => unite_plainly(kernels, times),
-        Kernel::Intersect => intersect(kernels, times),
-        Kernel::PlainIntersect => intersect_plainly(kernels, times),
-        Kernel::Equality => return compare(kernels, times),
-        Kernel::PlainEquality => return compare_plainly(kernels, times),
-        Kernel::Clear => clear(kernels, times),
-        Kernel::PlainClear => clear_plainly(kernels, times),
-    }
-    0
 }
 
 impl Measured for Kernels {
@@ -238,19 +191,23 @@ impl Measured for Kernels {
         Ok(())
     }
 
-    // A round goes over 2^20 words.
+    // A round goes over 2^20 words. The answers tell how often the words were found equal.
     fn make(&mut self, kernel: Kernel, words: u32, _round: u32) -> anyhow::Result<Made> {
         let times = if self.keys == 0 {
             0
         } else {
-            (1 << 20) / u64::from(words.max(1))
+            (1 << 20) / words.max(1) as u64
         };
-        Ok(Made::Answers(make(self, kernel, times)))
+        let mut equal: u64 = 0;
+        'times: for time in 0..times {
+            equal = equal.wrapping_add(self.run(kernel, time) as u64);
+        }
+        Ok(Made::Answers(equal))
     }
 }
 
-// No words but one of each filter.
-fn kernels_for(alloc: Global, keys: u32) -> Result<Kernels, FilterError> {
+/// No words but one of each filter.
+pub fn calls_for(alloc: Global, keys: u32) -> Result<Kernels, FilterError> {
     let filter = filter_of(alloc, 1)?;
     let other = filter_of(alloc, 1)?;
     Ok(Kernels {
@@ -261,9 +218,4 @@ fn kernels_for(alloc: Global, keys: u32) -> Result<Kernels, FilterError> {
         words: Vec::new(alloc),
         others: Vec::new(alloc),
     })
-}
-
-/// The rows of all kernels over 15, 1,023 and 2^20 words, a word each.
-pub fn measure_all(rt: &HostRuntime, plan: &Plan) -> anyhow::Result<()> {
-    measure_rows(rt, plan, kernels_for(rt.alloc(), plan.keys), &TABLE)
 }

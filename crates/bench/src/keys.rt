@@ -15,7 +15,7 @@ pub fn hash_of(key: u64) -> u64 {
 /// The first of the keys that a round looks up, of which none is ever inserted. Each round takes
 /// other keys, which no processor can know from the round before.
 pub fn first_foreign_key(keys: u64, round: u32) -> u64 {
-    keys.wrapping_mul(u64::from(round)).wrapping_add(1 << 40)
+    keys.wrapping_mul(round as u64).wrapping_add(1 << 40)
 }
 
 /// Looks up this many keys from the first on, and counts the answers that were true.
@@ -24,7 +24,7 @@ pub fn contains_keys(filter: &BloomFilter, first: u64, keys: u64) -> u64 {
     let mut answers: u64 = 0;
     'keys: for key in 0..keys {
         let answer = filter.contains_hash(hash_of(first.wrapping_add(key)));
-        answers = answers.wrapping_add(u64::from(answer));
+        answers = answers.wrapping_add(answer as u64);
     }
     answers
 }

@@ -11,7 +11,6 @@ mod kernels;
 mod keys;
 mod plain;
 mod plan;
-mod replay;
 mod seated;
 mod shared;
 mod steps;
@@ -21,27 +20,24 @@ mod threads;
 use filters::count_words;
 use plan::Plan;
 use std::thread::Threads;
+use table::measure_rows;
 
 // What is measured one after the other.
 #[derive(Clone, Copy)]
 enum Part {
     Plain,
-    Replay,
     Kernels,
     Steps,
     Shared,
-    Seated,
     Threads,
     Fills,
 }
 
-const PARTS: [Part; 8] = [
+const PARTS: [Part; 6] = [
     Part::Plain,
-    Part::Replay,
     Part::Kernels,
     Part::Steps,
     Part::Shared,
-    Part::Seated,
     Part::Threads,
     Part::Fills,
 ];
@@ -53,15 +49,21 @@ fn measure_part<R: AllocGlobal + Threads>(
     plan: &Plan,
     part: Part,
 ) -> anyhow::Result<()> {
+    let (alloc, keys) = (rt.alloc(), plan.keys);
     match part {
-        Part::Plain => plain::measure_all(rt, plan),
-        Part::Replay => replay::measure_all(rt, plan),
-        Part::Kernels => kernels::measure_all(rt, plan),
-        Part::Steps => steps::measure_all(rt, plan),
-        Part::Shared => shared::measure_all(rt, plan),
-        Part::Seated => seated::measure_all(rt, plan),
-        Part::Threads => threads::measure_all(rt, threads, plan),
-        Part::Fills => fills::measure_all(rt, threads, plan),
+        Part::Plain => measure_rows(rt, plan, plain::calls_for(alloc, keys), &plain::TABLE),
+        Part::Kernels => measure_rows(rt, plan, kernels::calls_for(alloc, keys), &kernels::TABLE),
+        Part::Steps => measure_rows(rt, plan, steps::calls_for(alloc, keys), &steps::TABLE),
+        Part::Shared => measure_rows(rt, plan, shared::calls_for(alloc, keys), &shared::TABLE),
+        Part::Threads => {
+            measure_rows(
+                rt,
+                plan,
+                Ok(threads::calls_for(threads, keys)),
+                &threads::TABLE,
+            )
+        }
+        Part::Fills => measure_rows(rt, plan, Ok(fills::calls_for(threads, keys)), &fills::TABLE),
     }
 }
 

@@ -1,8 +1,8 @@
 //! The calls of a plain filter: a key, or a word of the filter.
 use crate::filters::filter_for;
 use crate::keys::{contains_keys, first_foreign_key, hash_of, numbers_to};
-use crate::plan::{Plan, Unit};
-use crate::table::{Made, Measured, Rows, measure_rows};
+use crate::plan::Unit;
+use crate::table::{Made, Measured, Rows};
 use fastbloom::{BloomFilter, FilterData, FilterError};
 use std::alloc::{AllocError, Global};
 
@@ -33,7 +33,7 @@ fn insert_texts(filter: &mut BloomFilter, texts: &[String], keys: u64) -> u64 {
     let mut answers: u64 = 0;
     'keys: for key in 0..keys {
         if let Some(item) = texts.get(key as usize % 32) {
-            answers = answers.wrapping_add(u64::from(filter.insert(item)));
+            answers = answers.wrapping_add(filter.insert(item) as u64);
         }
     }
     answers
@@ -44,7 +44,7 @@ fn contains_texts(filter: &BloomFilter, texts: &[String], keys: u64) -> u64 {
     let mut answers: u64 = 0;
     'keys: for key in 0..keys {
         if let Some(item) = texts.get(key as usize % 32) {
-            answers = answers.wrapping_add(u64::from(filter.contains(item)));
+            answers = answers.wrapping_add(filter.contains(item) as u64);
         }
     }
     answers
@@ -55,7 +55,7 @@ fn insert_numbers(filter: &mut BloomFilter, keys: u64) -> u64 {
     let mut answers: u64 = 0;
     'keys: for key in 0..keys {
         let answer = filter.insert(&key);
-        answers = answers.wrapping_add(u64::from(answer));
+        answers = answers.wrapping_add(answer as u64);
     }
     answers
 }
@@ -65,21 +65,18 @@ fn contains_numbers(filter: &BloomFilter, keys: u64) -> u64 {
     let mut answers: u64 = 0;
     'keys: for key in 0..keys {
         let answer = filter.contains(&key);
-        answers = answers.wrapping_add(u64::from(answer));
+        answers = answers.wrapping_add(answer as u64);
     }
     answers
 }
 
 #[inline(never)]
-fn extend_by_numbers(filter: &mut BloomFilter, keys: u64) -> u64 {
-    filter.extend(0..keys);
-    u64::from(filter.contains(&0u64))
-}
-
-#[inline(never)]
-fn insert_all_numbers(filter: &mut BloomFilter, numbers: &[u64]) -> u64 {
-    filter.insert_all(numbers);
-    u64::from(filter.contains(&0u64))
+fn count_odd(filter: &BloomFilter) -> u64 {
+    let mut odd: u64 = 0;
+    'words: for word in filter.iter() {
+        odd = odd.wrapping_add(word % 2);
+    }
+    odd
 }
 
 /// Inserts this many keys, and counts the answers that were true.
@@ -88,13 +85,14 @@ pub fn insert_keys(filter: &mut BloomFilter, keys: u64) -> u64 {
     let mut answers: u64 = 0;
     'keys: for key in 0..keys {
         let answer = filter.insert_hash(hash_of(key));
-        answers = answers.wrapping_add(u64::from(answer));
+        answers = answers.wrapping_add(answer as u64);
     }
     answers
 }
 
+/// The calls of a plain filter.
 #[derive(Clone, Copy)]
-enum Call {
+pub enum Call {
     HashNumbers,
     HashTexts,
     InsertTexts,
@@ -126,7 +124,9 @@ const FOUND: &'static str = "found after it";
 
 const CHANGED: &'static str = "equal, or found after it";
 
-const TABLE: [Rows<Call>; 21] = [
+/// The rows of a plain filter: of items with seven hashes, of hashes with one to 22, of whole
+/// filters, and of filters as data and as JSON text.
+pub const TABLE: [Rows<Call>; 21] = [
     (
         Call::HashNumbers,
         "source_hash, u64",
@@ -214,10 +214,10 @@ fn answer_of(filter: &mut BloomFilter, other: &BloomFilter, call: Call) -> bool 
     filter.contains_hash(0)
 }
 
-// What the calls are made on: a filter and another, which has the hash 0, items of both kinds, and
-// the filter as data and as text.
+/// What the calls are made on: a filter and another, which has the hash 0, items of both kinds, and
+/// the filter as data and as text.
 #[derive(Drop)]
-struct Calls {
+pub struct Calls {
     alloc: Global,
     keys: u32,
     filter: BloomFilter,
@@ -229,32 +229,9 @@ struct Calls {
 }
 
 impl Calls {
-    // Does what a row needs before its first round.
-    fn begin(&mut self, call: Call, number: u32) -> Result<(), FilterError> {
-        match call {
-            Call::HashTexts | Call::InsertTexts | Call::ContainsTexts => {
-                self.texts = texts_of(self.alloc, number)?;
-            }
-            Call::Union | Call::Intersect | Call::Equality | Call::Clear => {
-                self.filter = self.other.try_clone(self.alloc)?;
-            }
-            _ => self.filter = filter_for(self.alloc, self.keys, number)?,
-        }
-        let keys = u64::from(self.keys);
-        match call {
-            Call::Contains => insert_numbers(&mut self.filter, keys),
-            Call::ContainsTexts => insert_texts(&mut self.filter, self.texts.as_slice(), 32),
-            Call::Hit | Call::Miss | Call::ToData | Call::FromData | Call::Write | Call::Read => {
-                insert_keys(&mut self.filter, keys)
-            }
-            _ => 0,
-        };
-        Ok(())
-    }
-
     // What the answers of a call that gives nothing else come to.
     fn count_answers(&mut self, call: Call, round: u32) -> u64 {
-        let (keys, texts) = (u64::from(self.keys), self.texts.as_slice());
+        let (keys, texts) = (self.keys as u64, self.texts.as_slice());
         match call {
             Call::HashNumbers => hash_numbers(&self.filter, keys),
             Call::HashTexts => hash_texts(&self.filter, texts, keys),
@@ -262,13 +239,19 @@ impl Calls {
             Call::ContainsTexts => contains_texts(&self.filter, texts, keys),
             Call::Insert => insert_numbers(&mut self.filter, keys),
             Call::Contains => contains_numbers(&self.filter, keys),
-            Call::Extend => extend_by_numbers(&mut self.filter, keys),
-            Call::InsertAll => insert_all_numbers(&mut self.filter, &self.numbers),
+            Call::Extend => {
+                self.filter.extend(0..keys);
+                self.filter.contains(&0u64) as u64
+            }
+            Call::InsertAll => {
+                self.filter.insert_all(&self.numbers);
+                self.filter.contains(&0u64) as u64
+            }
             Call::InsertHash => insert_keys(&mut self.filter, keys),
             Call::Hit => contains_keys(&self.filter, 0, keys),
             Call::Miss => contains_keys(&self.filter, first_foreign_key(keys, round), keys),
-            Call::Iter => self.other.iter().filter(|word| *word % 2 == 1).count() as u64,
-            _ => u64::from(answer_of(&mut self.filter, &self.other, call)),
+            Call::Iter => count_odd(&self.other),
+            _ => answer_of(&mut self.filter, &self.other, call) as u64,
         }
     }
 }
@@ -277,19 +260,34 @@ impl Measured for Calls {
     type Call = Call;
 
     fn prepare(&mut self, call: Call, number: u32, round: u32) -> anyhow::Result<()> {
+        let (alloc, keys) = (self.alloc, self.keys as u64);
         if round == 0 {
-            self.begin(call, number)?;
+            match call {
+                Call::HashTexts | Call::InsertTexts | Call::ContainsTexts => {
+                    self.texts = texts_of(alloc, number)?;
+                }
+                Call::Union | Call::Intersect | Call::Equality | Call::Clear => {
+                    self.filter = self.other.try_clone(alloc)?;
+                }
+                _ => self.filter = filter_for(alloc, self.keys, number)?,
+            }
+            match call {
+                Call::Contains => insert_numbers(&mut self.filter, keys),
+                Call::ContainsTexts => insert_texts(&mut self.filter, self.texts.as_slice(), 32),
+                Call::Hit | Call::Miss => insert_keys(&mut self.filter, keys),
+                Call::ToData | Call::FromData | Call::Write | Call::Read => {
+                    insert_keys(&mut self.filter, keys)
+                }
+                _ => 0,
+            };
         }
         match call {
             Call::Insert | Call::InsertTexts | Call::Extend | Call::InsertAll | Call::InsertHash =>
                 {
                     self.filter.clear();
                 }
-            Call::FromData | Call::Write => self.data = Some(self.filter.to_data(self.alloc)?),
-            Call::Read => {
-                let data = self.filter.to_data(self.alloc)?;
-                self.text = serde_json::to_string(self.alloc, &data)?;
-            }
+            Call::FromData | Call::Write => self.data = Some(self.filter.to_data(alloc)?),
+            Call::Read => self.text = serde_json::to_string(alloc, &self.filter.to_data(alloc)?)?,
             _ => {}
         }
         Ok(())
@@ -313,9 +311,9 @@ impl Measured for Calls {
     }
 }
 
-// All numbers, and two filters with seven hashes, one of which has the hash 0.
-fn calls_for(alloc: Global, keys: u32) -> Result<Calls, FilterError> {
-    let numbers = numbers_to(alloc, u64::from(keys))?;
+/// All numbers, and two filters with seven hashes, one of which has the hash 0.
+pub fn calls_for(alloc: Global, keys: u32) -> Result<Calls, FilterError> {
+    let numbers = numbers_to(alloc, keys as u64)?;
     let filter = filter_for(alloc, keys, 7)?;
     let mut other = filter_for(alloc, keys, 7)?;
     other.insert_hash(0);
@@ -329,10 +327,4 @@ fn calls_for(alloc: Global, keys: u32) -> Result<Calls, FilterError> {
         data: None,
         text: String::new(alloc),
     })
-}
-
-/// The rows of a plain filter: of items with seven hashes, of hashes with one to 22, of whole
-/// filters, and of filters as data and as JSON text.
-pub fn measure_all(rt: &HostRuntime, plan: &Plan) -> anyhow::Result<()> {
-    measure_rows(rt, plan, calls_for(rt.alloc(), plan.keys), &TABLE)
 }

@@ -44,7 +44,7 @@ impl Plan {
     pub fn operations(&self, unit: Unit) -> u64 {
         match unit {
             _ if self.keys == 0 => 0,
-            Unit::Key => u64::from(self.keys),
+            Unit::Key => self.keys as u64,
             Unit::Word => count_words(self.keys) as u64,
             Unit::KernelWord => 1 << 20,
         }
@@ -64,7 +64,8 @@ fn number(argument: Option<String>, missing: u32) -> Option<u32> {
 /// # Errors
 /// Where they aren't two numbers and a word, or fewer.
 pub fn given(rt: &HostRuntime) -> anyhow::Result<Plan> {
-    let mut words = env::args(rt)?.skip(1);
+    let mut words = env::args(rt)?;
+    let _program = words.next();
     let keys = number(words.next(), KEYS);
     let rounds = number(words.next(), ROUNDS);
     let (word, more) = (words.next(), words.next());

@@ -3,8 +3,8 @@ ghost use Rattle.std.specs.Prelude.{◌≤◌, ◌<◌, ◌^◌, vec_len};
 
 use crate::filters::{count_words, shared_filter_for};
 use crate::keys::{first_foreign_key, hash_of, numbers_to};
-use crate::plan::{Plan, Unit};
-use crate::table::{Made, Measured, Rows, measure_rows};
+use crate::plan::Unit;
+use crate::table::{Made, Measured, Rows};
 use fastbloom::{AtomicBloomFilter, FilterError};
 use std::alloc::{AllocError, Global};
 use std::sync::atomic::{AtomicU64, Ordering};
@@ -15,7 +15,7 @@ pub fn insert_keys(filter: &AtomicBloomFilter, first: u64, keys: u64) -> u64 {
     let mut answers: u64 = 0;
     'keys: for key in 0..keys {
         let answer = filter.insert_hash(hash_of(first.wrapping_add(key)));
-        answers = answers.wrapping_add(u64::from(answer));
+        answers = answers.wrapping_add(answer as u64);
     }
     answers
 }
@@ -26,21 +26,18 @@ pub fn contains_keys(filter: &AtomicBloomFilter, first: u64, keys: u64) -> u64 {
     let mut answers: u64 = 0;
     'keys: for key in 0..keys {
         let answer = filter.contains_hash(hash_of(first.wrapping_add(key)));
-        answers = answers.wrapping_add(u64::from(answer));
+        answers = answers.wrapping_add(answer as u64);
     }
     answers
 }
 
 #[inline(never)]
-fn extend_by_numbers(filter: &AtomicBloomFilter, keys: u64) -> u64 {
-    filter.extend(0..keys);
-    u64::from(filter.contains(&0u64))
-}
-
-#[inline(never)]
-fn insert_all_numbers(filter: &AtomicBloomFilter, numbers: &[u64]) -> u64 {
-    filter.insert_all(numbers);
-    u64::from(filter.contains(&0u64))
+fn count_odd(filter: &AtomicBloomFilter) -> u64 {
+    let mut odd: u64 = 0;
+    'words: for word in filter.iter() {
+        odd = odd.wrapping_add(word % 2);
+    }
+    odd
 }
 
 // Seven bare operations for each key, on words that are found as a filter's are.
@@ -56,12 +53,12 @@ fn bare_operations(words: &Vec<AtomicU64>, keys: u64) -> u64
         let step = hash.wrapping_mul(0x517c_c1b7_2722_0a95);
         let mut all_on = true;
         'places: for _place in 0..7 {
-            let place = ((u128::from(hash) * num_bits) >> 64) as usize;
+            let place = ((hash as u128 * num_bits) >> 64) as usize;
             let mask = 1 << (place % 64);
             all_on &= words[place / 64].fetch_or(mask, Ordering::SeqCst) & mask > 0;
             hash = hash.rotate_left(5).wrapping_add(step);
         }
-        answers = answers.wrapping_add(u64::from(all_on));
+        answers = answers.wrapping_add(all_on as u64);
     }
     answers
 }
@@ -75,8 +72,9 @@ fn bare_words(alloc: Global, keys: u32) -> Result<Vec<AtomicU64>, AllocError> {
     Ok(words)
 }
 
+/// The calls of a shared filter.
 #[derive(Clone, Copy)]
-enum Call {
+pub enum Call {
     Bare,
     InsertHash,
     Hit,
@@ -97,7 +95,9 @@ const FOUND: &'static str = "found after it";
 
 const CHANGED: &'static str = "same, or found after it";
 
-const TABLE: [Rows<Call>; 14] = [
+/// The rows of a shared filter with seven hashes, by one thread: of hashes and items, and of whole
+/// filters.
+pub const TABLE: [Rows<Call>; 14] = [
     (Call::Bare, "fetch_or, seven", &[7], Unit::Key, "true"),
     (
         Call::InsertHash,
@@ -189,9 +189,9 @@ fn answer_of(filter: &AtomicBloomFilter, other: &AtomicBloomFilter, call: Call) 
     filter.contains_hash(0)
 }
 
-// What the calls are made on: a filter and another, which has the hash 0, bare words and items.
+/// What the calls are made on: a filter and another, which has the hash 0, bare words and items.
 #[derive(Drop)]
-struct Calls {
+pub struct Calls {
     alloc: Global,
     keys: u32,
     filter: AtomicBloomFilter,
@@ -203,17 +203,23 @@ struct Calls {
 impl Calls {
     // What the answers of a call that gives nothing else come to.
     fn count_answers(&self, call: Call, round: u32) -> u64 {
-        let (keys, filter) = (u64::from(self.keys), &self.filter);
+        let (keys, filter) = (self.keys as u64, &self.filter);
         match call {
             Call::Bare if self.words.is_empty() || self.words.len() >= 1 << 58 => 0,
             Call::Bare => bare_operations(&self.words, keys),
             Call::InsertHash => insert_keys(filter, 0, keys),
             Call::Hit => contains_keys(filter, 0, keys),
             Call::Miss => contains_keys(filter, first_foreign_key(keys, round), keys),
-            Call::Extend => extend_by_numbers(filter, keys),
-            Call::InsertAll => insert_all_numbers(filter, &self.numbers),
-            Call::Iter => self.other.iter().filter(|word| *word % 2 == 1).count() as u64,
-            _ => u64::from(answer_of(filter, &self.other, call)),
+            Call::Extend => {
+                filter.extend(0..keys);
+                filter.contains(&0u64) as u64
+            }
+            Call::InsertAll => {
+                filter.insert_all(&self.numbers);
+                filter.contains(&0u64) as u64
+            }
+            Call::Iter => count_odd(&self.other),
+            _ => answer_of(filter, &self.other, call) as u64,
         }
     }
 }
@@ -226,7 +232,7 @@ impl Measured for Calls {
             (Call::Bare, _) => self.words = bare_words(self.alloc, self.keys)?,
             (Call::InsertHash | Call::Extend | Call::InsertAll, _) => self.filter.clear(),
             (Call::Hit | Call::Miss, 0) => {
-                insert_keys(&self.filter, 0, u64::from(self.keys));
+                insert_keys(&self.filter, 0, self.keys as u64);
             }
             (Call::Union | Call::Intersect | Call::SameWords | Call::Clear, 0) => {
                 self.filter = self.other.try_clone(self.alloc)?;
@@ -246,9 +252,9 @@ impl Measured for Calls {
     }
 }
 
-// All numbers, no bare words, and two filters, one of which has the hash 0.
-fn calls_for(alloc: Global, keys: u32) -> Result<Calls, FilterError> {
-    let numbers = numbers_to(alloc, u64::from(keys))?;
+/// All numbers, no bare words, and two filters, one of which has the hash 0.
+pub fn calls_for(alloc: Global, keys: u32) -> Result<Calls, FilterError> {
+    let numbers = numbers_to(alloc, keys as u64)?;
     let filter = shared_filter_for(alloc, keys, 7)?;
     let other = shared_filter_for(alloc, keys, 7)?;
     other.insert_hash(0);
@@ -260,10 +266,4 @@ fn calls_for(alloc: Global, keys: u32) -> Result<Calls, FilterError> {
         words: Vec::new(alloc),
         numbers,
     })
-}
-
-/// The rows of a shared filter with seven hashes, by one thread: of hashes and items, and of whole
-/// filters.
-pub fn measure_all(rt: &HostRuntime, plan: &Plan) -> anyhow::Result<()> {
-    measure_rows(rt, plan, calls_for(rt.alloc(), plan.keys), &TABLE)
 }

@@ -27,7 +27,7 @@ pub enum Made {
 fn count_true(replies: &[bool]) -> u64 {
     let mut answers: u64 = 0;
     'replies: for reply in replies {
-        answers = answers.wrapping_add(u64::from(*reply));
+        answers = answers.wrapping_add((*reply) as u64);
     }
     answers
 }
@@ -37,8 +37,8 @@ impl Made {
     fn count(self) -> u64 {
         match self {
             Made::Answers(answers) => answers,
-            Made::Copy(filter) => u64::from(filter.contains_hash(0)),
-            Made::SharedCopy(filter) => u64::from(filter.contains_hash(0)),
+            Made::Copy(filter) => filter.contains_hash(0) as u64,
+            Made::SharedCopy(filter) => filter.contains_hash(0) as u64,
             Made::Filled(filter, keys) => contains_keys(&filter, 0, keys),
             Made::Data(data) => data.bits.bits.len() as u64,
             Made::Text(text) => text.len() as u64,
@@ -85,7 +85,7 @@ impl Row {
     fn picoseconds(&self) -> Option<u128> {
         let best = self.best?;
         best.saturating_mul(1000)
-            .checked_div(u128::from(self.operations))
+            .checked_div(self.operations as u128)
     }
 
     // Prints the row, with the time where something was measured.
@@ -98,22 +98,6 @@ impl Row {
     }
 }
 
-// Makes a round of a row, and takes in how long its calls took.
-fn make_round<M: Measured>(
-    rt: &HostRuntime,
-    row: &mut Row,
-    measured: &mut M,
-    call: M::Call,
-    round: u32,
-) -> anyhow::Result<()> {
-    measured.prepare(call, row.number, round)?;
-    let start = Instant::now(rt)?;
-    let made = measured.make(call, row.number, round)?;
-    let time = start.elapsed(rt);
-    row.add(made.count(), time?);
-    Ok(())
-}
-
 // Measures a row in so many rounds, and prints it.
 fn measure<M: Measured>(
     rt: &HostRuntime,
@@ -123,7 +107,11 @@ fn measure<M: Measured>(
     call: M::Call,
 ) -> anyhow::Result<()> {
     'rounds: for round in 0..rounds {
-        make_round(rt, &mut row, measured, call, round)?;
+        measured.prepare(call, row.number, round)?;
+        let start = Instant::now(rt)?;
+        let made = measured.make(call, row.number, round)?;
+        let time = start.elapsed(rt);
+        row.add(made.count(), time?);
     }
     Ok(row.print(rt)?)
 }

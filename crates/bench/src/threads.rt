@@ -1,11 +1,13 @@
-//! The calls of filters that threads share, made by several threads at once.
+//! The calls of filters that threads share, made by several threads at once, and of seated ones by
+//! the thread that measures.
 ghost use Rattle.std.specs.Prelude.{⊤};
 
 use crate::filters::shared_filter_for;
-use crate::plan::{Plan, Unit};
+use crate::keys::first_foreign_key;
+use crate::plan::Unit;
 use crate::seated::{Seat, seats_for};
 use crate::shared::{contains_keys, insert_keys};
-use crate::table::{Made, Measured, Rows, measure_rows};
+use crate::table::{Made, Measured, Rows};
 use anyhow::bail;
 use fastbloom::{AtomicBloomFilter, FilterError};
 use std::alloc::Global;
@@ -13,11 +15,14 @@ use std::sync::Arc;
 use std::thread;
 use std::thread::{Promise, PromisedHandle, Threads};
 
-// What every thread does with its part of the keys.
+/// What a thread does with its part of the keys.
 #[derive(Clone, Copy)]
-enum Job {
+pub enum Job {
     Insert,
-    Find,
+    /// Looks up keys that are there.
+    Hit,
+    /// Looks up keys that aren't.
+    Miss,
 }
 
 // What a thread works with: a filter that it shares with the others.
@@ -38,7 +43,7 @@ impl Worker for Arc<AtomicBloomFilter, Global> {
     fn work(&mut self, job: Job, first: u64, keys: u64) -> u64 {
         match job {
             Job::Insert => insert_keys(self, first, keys),
-            Job::Find => contains_keys(self, first, keys),
+            Job::Hit | Job::Miss => contains_keys(self, first, keys),
         }
     }
 }
@@ -51,7 +56,7 @@ impl Worker for Seat {
     fn work(&mut self, job: Job, first: u64, keys: u64) -> u64 {
         match job {
             Job::Insert => self.insert_keys(first, keys),
-            Job::Find => self.contains_keys(first, keys),
+            Job::Hit | Job::Miss => self.contains_keys(first, keys),
         }
     }
 }
@@ -84,8 +89,8 @@ fn start<R: Threads, W: Worker + Send + Drop + 'static>(
     }
 }
 
-// As many workers of a filter as there are threads. It has all keys where they are to be found,
-// and else none.
+// As many workers of a filter as there are threads. It has all keys where keys are looked up, and
+// else none.
 fn workers_for<W: Worker + Drop>(
     alloc: Global,
     job: Job,
@@ -93,8 +98,8 @@ fn workers_for<W: Worker + Drop>(
     threads: u32,
 ) -> Result<Vec<W>, FilterError> {
     let mut workers = W::all(alloc, keys, threads)?;
-    if let (Job::Find, Some(worker)) = (job, workers.first_mut()) {
-        worker.work(Job::Insert, 0, u64::from(keys));
+    if let (Job::Hit | Job::Miss, Some(worker)) = (job, workers.first_mut()) {
+        worker.work(Job::Insert, 0, keys as u64);
     }
     Ok(workers)
 }
@@ -118,40 +123,64 @@ fn round_of<R: Threads, W: Worker + Send + Drop + 'static>(
     Ok(others.wrapping_add(answers))
 }
 
-// How the threads share a filter.
+/// Who takes part: threads that share a filter, threads with a seat each, or the thread that
+/// measures, with a seat.
 #[derive(Clone, Copy)]
-enum Kind {
-    Shared,
-    Seated,
+pub enum Party {
+    Sharers,
+    Seats,
+    Seat,
 }
 
 // Numbers of threads.
 const THREADS: &'static [u32] = &[1, 2, 4];
 
-const TABLE: [Rows<(Kind, Job)>; 4] = [
+/// The rows of seated filters by one thread, and of shared and seated ones by one, two and four.
+pub const TABLE: [Rows<(Party, Job)>; 7] = [
     (
-        (Kind::Shared, Job::Insert),
+        (Party::Seat, Job::Insert),
+        "seated insert_hash_as",
+        &[7],
+        Unit::Key,
+        "true",
+    ),
+    (
+        (Party::Seat, Job::Hit),
+        "seated hit",
+        &[7],
+        Unit::Key,
+        "true",
+    ),
+    (
+        (Party::Seat, Job::Miss),
+        "seated miss",
+        &[7],
+        Unit::Key,
+        "true",
+    ),
+    (
+        (Party::Sharers, Job::Insert),
         "insert by threads:",
         THREADS,
         Unit::Key,
         "true",
     ),
     (
-        (Kind::Shared, Job::Find),
+        (Party::Sharers, Job::Hit),
         "hit by threads:",
         THREADS,
         Unit::Key,
         "true",
     ),
     (
-        (Kind::Seated, Job::Insert),
+        (Party::Seats, Job::Insert),
         "seated insert by threads:",
         THREADS,
         Unit::Key,
         "true",
     ),
     (
-        (Kind::Seated, Job::Find),
+        (Party::Seats, Job::Hit),
         "seated hit by threads:",
         THREADS,
         Unit::Key,
@@ -159,9 +188,9 @@ const TABLE: [Rows<(Kind, Job)>; 4] = [
     ),
 ];
 
-// The workers on one filter with seven hashes.
+/// The workers on one filter with seven hashes.
 #[derive(Drop)]
-struct Calls<'a, R> {
+pub struct Calls<'a, R> {
     rt: &'a R,
     sharers: Vec<Arc<AtomicBloomFilter, Global>>,
     seats: Vec<Seat>,
@@ -169,40 +198,45 @@ struct Calls<'a, R> {
 }
 
 impl<'a, R: AllocGlobal + Threads> Measured for Calls<'a, R> {
-    type Call = (Kind, Job);
+    type Call = (Party, Job);
 
     // Each round of inserts has a filter of its own.
-    fn prepare(&mut self, call: (Kind, Job), threads: u32, round: u32) -> anyhow::Result<()> {
+    fn prepare(&mut self, call: (Party, Job), threads: u32, round: u32) -> anyhow::Result<()> {
         let (alloc, keys, job) = (self.rt.alloc(), self.keys, call.1);
         match call {
-            (_, Job::Find) if round > 0 => {}
-            (Kind::Shared, _) => self.sharers = workers_for(alloc, job, keys, threads)?,
-            (Kind::Seated, _) => self.seats = workers_for(alloc, job, keys, threads)?,
+            (_, Job::Hit | Job::Miss) if round > 0 => {}
+            (Party::Sharers, _) => self.sharers = workers_for(alloc, job, keys, threads)?,
+            (Party::Seats, _) => self.seats = workers_for(alloc, job, keys, threads)?,
+            (Party::Seat, _) => self.seats = workers_for(alloc, job, keys, 1)?,
         }
         Ok(())
     }
 
-    fn make(&mut self, call: (Kind, Job), threads: u32, _round: u32) -> anyhow::Result<Made> {
-        let (rt, job, keys) = (self.rt, call.1, u64::from(self.keys / threads.max(1)));
-        let answers = match call.0 {
-            Kind::Shared => round_of(rt, &mut self.sharers, job, keys),
-            Kind::Seated => round_of(rt, &mut self.seats, job, keys),
+    fn make(&mut self, call: (Party, Job), threads: u32, round: u32) -> anyhow::Result<Made> {
+        let (keys, job) = (self.keys as u64, call.1);
+        let part = keys / threads.max(1) as u64;
+        let answers = match (call.0, self.seats.first_mut()) {
+            (Party::Sharers, _) => round_of(self.rt, &mut self.sharers, job, part)?,
+            (Party::Seats, _) => round_of(self.rt, &mut self.seats, job, part)?,
+            (Party::Seat, Some(seat)) => {
+                let first = match job {
+                    Job::Miss => first_foreign_key(keys, round),
+                    _ => 0,
+                };
+                seat.work(job, first, keys)
+            }
+            (Party::Seat, None) => 0,
         };
-        Ok(Made::Answers(answers?))
+        Ok(Made::Answers(answers))
     }
 }
 
-/// The rows of inserts and of hits by one, two and four threads, of shared and of seated filters.
-pub fn measure_all<R: AllocGlobal + Threads>(
-    rt: &HostRuntime,
-    threads: &R,
-    plan: &Plan,
-) -> anyhow::Result<()> {
-    let calls = Calls {
-        rt: threads,
+/// No workers yet.
+pub fn calls_for<'a, R: AllocGlobal>(rt: &'a R, keys: u32) -> Calls<'a, R> {
+    Calls {
+        rt,
         sharers: Vec::new(rt.alloc()),
         seats: Vec::new(rt.alloc()),
-        keys: plan.keys,
-    };
-    measure_rows(rt, plan, Ok(calls), &TABLE)
+        keys,
+    }
 }

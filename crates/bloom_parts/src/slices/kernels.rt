@@ -1,7 +1,7 @@
 //! The loops over all words of a vector: eight words at a time, and then what is left.
 //!
 //! Each counts its turns, a group of eight or one word of the rest. The compiler drops a count that
-//! isn't read.
+//! isn't read. A merge of two vectors goes over 64 words at a time first.
 ghost use Rattle.std.specs.Prelude.{◌≡◌, ◌+◌, ◌<◌, ◌≤◌, ◌↔◌, IsTrue, length, replicate};
 ghost use Rattle.std.specs.Int.Bits.{bit_and, bit_or};
 ghost use Rattle.std.specs.Simd.Lanes.{zip2, chunk};
@@ -12,8 +12,9 @@ mod rest;
 use rest::{and_rest, clear_rest, or_rest};
 use std::simd::prelude::*;
 
-// Each word becomes the `|` of itself and the other's word.
-pub(super) fn or_words(words: &mut [u64], other: &[u64], turns: &mut u64)
+// Each word becomes the `|` of itself and the other's word, eight at a time.
+#[inline(always)]
+fn or_groups(words: &mut [u64], other: &[u64], turns: &mut u64)
     requires lengths { length words.old ≡ length other.now }
     requires start { turns.old ≡ 0 }
     ensures words { words.new ≡ zip2 bit_or words.old other.now }
@@ -29,8 +30,41 @@ pub(super) fn or_words(words: &mut [u64], other: &[u64], turns: &mut u64)
     or_rest(&mut words[8 * groups..], &other[8 * groups..], turns);
 }
 
-// Each word becomes the `&` of itself and the other's word.
-pub(super) fn and_words(words: &mut [u64], other: &[u64], turns: &mut u64)
+// The same of 64 words; its answer is its turns. Of a call of its own the compiler makes no loop,
+// so each address is one register and a number. Where it was the sum of two registers, a word took
+// 1.36 times as long.
+#[inline(never)]
+fn or_block(words: &mut [u64], other: &[u64]) -> u64
+    requires words { length words.old ≡ 64 }
+    requires other { length other.now ≡ 64 }
+    ensures words { words.new ≡ zip2 bit_or words.old other.now }
+    ensures turns { result ≡ 8 }
+{
+    let mut turns = 0;
+    or_groups(words, other, &mut turns);
+    turns
+}
+
+// Each word becomes the `|` of itself and the other's word, 64 at a time, and then eight.
+pub(super) fn or_words(words: &mut [u64], other: &[u64], turns: &mut u64)
+    requires lengths { length words.old ≡ length other.now }
+    requires start { turns.old ≡ 0 }
+    ensures words { words.new ≡ zip2 bit_or words.old other.now }
+    ensures turns { turns.new ≡ turns_of (length words.old) }
+{
+    let parts = words.len() / 64;
+    'parts: for part in 0..parts {
+        let at = 64 * part;
+        *turns += or_block(&mut words[at..at + 64], &other[at..at + 64]);
+    }
+    let mut left = 0;
+    or_groups(&mut words[64 * parts..], &other[64 * parts..], &mut left);
+    *turns += left;
+}
+
+// Each word becomes the `&` of itself and the other's word, eight at a time.
+#[inline(always)]
+fn and_groups(words: &mut [u64], other: &[u64], turns: &mut u64)
     requires lengths { length words.old ≡ length other.now }
     requires start { turns.old ≡ 0 }
     ensures words { words.new ≡ zip2 bit_and words.old other.now }
@@ -44,6 +78,36 @@ pub(super) fn and_words(words: &mut [u64], other: &[u64], turns: &mut u64)
         *turns += 1;
     }
     and_rest(&mut words[8 * groups..], &other[8 * groups..], turns);
+}
+
+// The same of 64 words; its answer is its turns.
+#[inline(never)]
+fn and_block(words: &mut [u64], other: &[u64]) -> u64
+    requires words { length words.old ≡ 64 }
+    requires other { length other.now ≡ 64 }
+    ensures words { words.new ≡ zip2 bit_and words.old other.now }
+    ensures turns { result ≡ 8 }
+{
+    let mut turns = 0;
+    and_groups(words, other, &mut turns);
+    turns
+}
+
+// Each word becomes the `&` of itself and the other's word, 64 at a time, and then eight.
+pub(super) fn and_words(words: &mut [u64], other: &[u64], turns: &mut u64)
+    requires lengths { length words.old ≡ length other.now }
+    requires start { turns.old ≡ 0 }
+    ensures words { words.new ≡ zip2 bit_and words.old other.now }
+    ensures turns { turns.new ≡ turns_of (length words.old) }
+{
+    let parts = words.len() / 64;
+    'parts: for part in 0..parts {
+        let at = 64 * part;
+        *turns += and_block(&mut words[at..at + 64], &other[at..at + 64]);
+    }
+    let mut left = 0;
+    and_groups(&mut words[64 * parts..], &other[64 * parts..], &mut left);
+    *turns += left;
 }
 
 // At most one group and the rest become 0, with no loop that the compiler could turn into a call.

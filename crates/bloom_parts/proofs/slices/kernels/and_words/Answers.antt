@@ -1,15 +1,17 @@
 use Rattle.std.proofs.Common.{◌/◌, length, arith}
 use Rattle.std.specs.Int.Bits.{bit_and}
-use Rattle.bloom_parts.proofs.MergeLemmas.{merged-turn, merged-end}
+use Rattle.bloom_parts.proofs.MergeLemmas.{merged-block, merged-end}
 use Rattle.bloom_parts.proofs.slices.kernels.and_words.Goals as goal
 
-pub groups-preserved : goal.groups-preserved
-groups-preserved c = record {
-  words = merged-turn bit_and _ _ c.requires.lengths c.groups.group _ c.groups.invariant.words;
+pub parts-preserved : goal.parts-preserved
+parts-preserved c = record {
+  words =
+      merged-block bit_and c.parts.part _ _ _ _ _ _ c.requires.lengths (omega arith) (omega arith)
+      c.parts.invariant.words c.and_block.ensures.words;
   turns = omega arith;
 }
 
 pub returns-clause-words : goal.returns-clause-words
 returns-clause-words c =
-    merged-end bit_and _ _ c.requires.lengths _ (length c.args.words.now / 8) _ _ _ _ (omega arith)
-    c.groups.invariant.words c.and_rest.ensures.words (omega arith) (omega arith)
+    merged-end bit_and _ _ c.requires.lengths 64 _ (length c.args.words.now / 64) _ _ _ _
+    (omega arith) c.parts.invariant.words c.and_groups.ensures.words (omega arith) (omega arith)

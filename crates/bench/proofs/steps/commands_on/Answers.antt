@@ -1,7 +1,7 @@
 use Rattle.std.proofs.Common.{All, sym, subst}
 use Rattle.std.proofs.lemmas.List.Elements.{All-push}
 use Rattle.bench.specs.Lists.{FitsEach}
-use Rattle.bench.proofs.replay.commands_on.Goals as goal
+use Rattle.bench.proofs.steps.commands_on.Goals as goal
 
 pub keys-preserved : goal.keys-preserved
 keys-preserved c = record {
