@@ -11,5 +11,5 @@ groups-preserved c = record {
 
 pub returns-clause-words : goal.returns-clause-words
 returns-clause-words c =
-    merged-end bit_or _ _ c.requires.lengths 8 _ (length c.args.words.now / 8) _ _ _ _ (omega arith)
-    c.groups.invariant.words c.or_rest.ensures.words (omega arith) (omega arith)
+    merged-end bit_or _ _ c.requires.lengths 8 _ (length c.args.words.now / 8) _ _ _ _
+    (omega arith) c.groups.invariant.words c.or_rest.ensures.words (omega arith) (omega arith)
