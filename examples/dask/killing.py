@@ -4,6 +4,7 @@ A worker that holds a filter is killed each time a quarter of the parts is done,
 done twice. It prints how many were killed, of how many parts, and how often a part was done.
 """
 
+import logging
 import os
 import signal
 import sys
@@ -45,6 +46,8 @@ def kill_one(client):
 
 
 def main(address, folder, items, out):
+    # Nobody asks for the time-outs of connections to workers that were killed.
+    logging.getLogger("asyncio").setLevel(logging.CRITICAL)
     files = sorted(map(str, Path(folder).iterdir()))
     files.append(files[len(files) // 2])
     with Client(address) as client:
