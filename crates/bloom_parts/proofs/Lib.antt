@@ -26,14 +26,10 @@ mod HasherWordLemmas
 mod HoldsFacts
 mod LaneFacts
 mod LookLemmas
-mod LooksFacts
-mod LooksLemmas
 mod MergeLemmas
 mod NearLemmas
 mod NumberLemmas
 mod OperationFacts
-mod OrsFacts
-mod OrsLemmas
 mod PieceFacts
 mod PlaceLemmas
 mod PositionFacts

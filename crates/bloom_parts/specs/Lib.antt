@@ -12,7 +12,6 @@ pub mod HasherWords
 pub mod Keys
 pub mod Lanes
 pub mod Laws
-pub mod Looks
 pub mod Made
 pub mod Operations
 pub mod Places
@@ -26,4 +25,3 @@ pub mod Sip
 pub mod Sizing
 pub mod States
 pub mod Stretches
-pub mod Turns

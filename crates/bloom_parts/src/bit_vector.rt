@@ -11,16 +11,15 @@ mod by_hash;
 mod gathered;
 mod lent;
 mod loads;
-mod looks;
-mod ors;
 mod words;
 
 use crate::error::FilterError;
 use crate::slices;
+pub use crate::slices::by_hash::word_and_mask_of_hash;
 pub use atomic::{AtomicBitVec, AtomicWords};
 pub use gathered::gather;
+pub use lent::LentWords;
 pub use loads::Loads;
-pub use ors::Ors;
 use std::alloc::Global;
 use std::marker::Model;
 pub use words::Words;

@@ -1,6 +1,7 @@
 pub mod Asking
 pub mod Completing
 pub mod Deciding
+pub mod Driven
 pub mod Driving
 pub mod Finding
 pub mod Going

@@ -122,11 +122,16 @@ Linked {S} moved before [] after = after ≡ before
 Linked {S} moved before (t ∷ ts) after =
     (mid : S) × moved before t.step t.found mid × Linked moved mid ts after
 
--- a whole script of the call leads from one store to the other, and its answer was given
-pub record Drives
-    {S : Type 0} (moved : S → Step → ℕ → S → Type 0) (w k : ℕ) (call : Call) (before after : S)
+-- steps that carry out a plan lead from one store to the other, and its answer was given
+pub record DrivesPlan
+    {S : Type 0} (moved : S → Step → ℕ → S → Type 0) (w k : ℕ) (plan : Plan) (before after : S)
     (reply : Option Bool) : Type 0 where
   pub taken : List Taken
-  pub script : IsScript w k call taken
+  pub script : Fulfils w k plan taken
   pub linked : Linked moved before taken after
   pub answers : reply ≡ answer_of taken
+
+-- a whole script of the call leads from one store to the other, and its answer was given
+abbrev pub Drives : {S : Type 0} → (S → Step → ℕ → S → Type 0) → ℕ → ℕ → Call → S → S
+    → Option Bool → Type 0
+Drives moved w k call before after reply = DrivesPlan moved w k (plan_of call) before after reply

@@ -58,6 +58,39 @@ pub(super) fn or_into(vector: &AtomicBitVec, words: &[AtomicU64], word: usize, m
     words[word].fetch_or(mask, Ordering::SeqCst)
 }
 
+// Clears the bits of a word of a vector that a mask lacks, and returns the word as it was.
+#[inline(always)]
+#[tactic(auto, using(crate::specs::Made::made_by_and))]
+pub(super) fn and_into(vector: &AtomicBitVec, words: &[AtomicU64], word: usize, mask: u64) -> u64
+    requires all { length words.now ≡ vector.now.count }
+    requires within { word < vector.now.count }
+    ensures { FoundByAnd vector.now word mask result }
+{
+    words[word].fetch_and(mask, Ordering::SeqCst)
+}
+
+// Clears a word of a vector.
+#[inline(always)]
+#[tactic(auto, using(crate::specs::Made::made_by_zero))]
+pub(super) fn zero_in(vector: &AtomicBitVec, words: &[AtomicU64], word: usize)
+    requires all { length words.now ≡ vector.now.count }
+    requires within { word < vector.now.count }
+    ensures { MadeZero vector.now word }
+{
+    words[word].store(0, Ordering::SeqCst);
+}
+
+// Clears a word of a vector, and returns the word as it was.
+#[inline(always)]
+#[tactic(auto, using(crate::specs::Made::made_by_swap))]
+pub(super) fn swap_in(vector: &AtomicBitVec, words: &[AtomicU64], word: usize) -> u64
+    requires all { length words.now ≡ vector.now.count }
+    requires within { word < vector.now.count }
+    ensures { FoundBySwap vector.now word result }
+{
+    words[word].swap(0, Ordering::SeqCst)
+}
+
 impl AtomicBitVec {
     /// The words that an iterator gives, in order.
     pub fn from_words<I: Iterator<Item = u64>>(alloc: Global, words: I) -> Result<Self, FilterError>
@@ -135,30 +168,27 @@ impl AtomicBitVec {
     }
 
     /// Turns off the bits of a word that a mask lacks, and answers the word as it was.
-    #[tactic(auto, using(crate::specs::Made::made_by_and))]
     pub fn fetch_and(&self, word: usize, mask: u64) -> u64
         requires { word < self.now.count }
         ensures { FoundByAnd self.now word mask result }
     {
-        self.words[word].fetch_and(mask, Ordering::SeqCst)
+        and_into(self, self.as_slice(), word, mask)
     }
 
     /// Turns off every bit of a word.
-    #[tactic(auto, using(crate::specs::Made::made_by_zero))]
     pub fn store_zero(&self, word: usize)
         requires { word < self.now.count }
         ensures { MadeZero self.now word }
     {
-        self.words[word].store(0, Ordering::SeqCst);
+        zero_in(self, self.as_slice(), word);
     }
 
     /// Turns off every bit of a word, and answers the word as it was.
-    #[tactic(auto, using(crate::specs::Made::made_by_swap))]
     pub fn swap_zero(&self, word: usize) -> u64
         requires { word < self.now.count }
         ensures { FoundBySwap self.now word result }
     {
-        self.words[word].swap(0, Ordering::SeqCst)
+        swap_in(self, self.as_slice(), word)
     }
 }
 

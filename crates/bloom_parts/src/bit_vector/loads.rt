@@ -1,18 +1,15 @@
 //! Words that threads share, to be loaded and never changed.
 ghost use Rattle.std.specs.Prelude.{◌≡◌, ◌*◌, ◌<◌, ◌≤◌};
-ghost use Rattle.bloom_parts.specs.Content.{index_of};
-ghost use Rattle.bloom_parts.specs.Looks.{FindsBit};
 ghost use Rattle.bloom_parts.specs.Made.{FoundByLoad};
 
 use super::atomic::AtomicBitVec;
-use super::lent::Lent;
-use crate::slices::by_hash::word_and_mask_of_hash;
+use super::lent::LentWords;
 use std::marker::Model;
 
 /// The words of a vector that threads share, for code that may load them and no more.
 #[derive(Drop)]
 pub struct Loads<'a> {
-    words: Lent<'a>,
+    words: LentWords<'a>,
 }
 
 impl<'a> Model for Loads<'a> {
@@ -41,16 +38,6 @@ impl<'a> Loads<'a> {
     {
         self.words.load(word)
     }
-
-    /// Reads the word where a hash lies, and tells whether its bit was found on.
-    #[inline]
-    pub fn check_hash(&self, hash: u64) -> bool
-        ensures { FindsBit self.now (index_of (64 * self.now.count) hash) result }
-    {
-        let (word, mask) = word_and_mask_of_hash(self.words.len(), hash);
-        let found = self.words.load(word);
-        found & mask > 0
-    }
 }
 
 impl AtomicBitVec {
@@ -59,8 +46,6 @@ impl AtomicBitVec {
     pub fn loads(&self) -> Loads<'_>
         ensures { result ≡ self.now }
     {
-        Loads {
-            words: Lent::of(self),
-        }
+        Loads { words: self.lent() }
     }
 }

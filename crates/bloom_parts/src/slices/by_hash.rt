@@ -2,9 +2,10 @@
 ghost use Rattle.std.specs.Prelude.{◌≡◌, ℕ, ◌*◌, ◌/◌, ◌%◌, ◌^◌, ◌<◌, ◌≤◌, ◌||◌, ◌==◌, if◌then◌else◌, length};
 ghost use Rattle.bloom_parts.specs.Content.{content, index_of};
 
-// The word where a hash lies among this many words, and the number that has its bit alone. The
-// product's high half is the word, and the six bits below it are the bit.
-pub(crate) fn word_and_mask_of_hash(words: usize, hash: u64) -> (usize, u64)
+/// The word where a hash lies among this many words, and the number that has its bit alone.
+///
+/// The product's high half is the word, and the six bits below it are the bit.
+pub fn word_and_mask_of_hash(words: usize, hash: u64) -> (usize, u64)
     ensures word { result.0 ≡ index_of (64 * words) hash / 64 }
     ensures mask { result.1 ≡ 2 ^ (index_of (64 * words) hash % 64) }
     ensures range { 0 < words → result.0 < words }

@@ -1,13 +1,15 @@
--- Steps over a store, one after the other, and a machine that asks for them.
-use Rattle.std.proofs.Common.{[], ◌++◌, ◌<◌, ◌∷◌, ◌≡◌, ◌∙◌, List, Some, inl, inr, refl, subst, sym, ℕ}
-use Rattle.std.proofs.lemmas.Option.{none-some, same_Some}
-use Rattle.bloom_steps.specs.declared.steps.vocabulary.Call.{Call}
+-- Steps of a plan over a store, one after the other, up to its last.
+use Rattle.std.proofs.Common.{[], ◌++◌, ◌+◌, ◌<◌, ◌∙◌, ◌∷◌, ◌≡◌, Bool, List, Option, arith, inl, inr, length, refl, subst, sym, ℕ}
+use Rattle.std.proofs.lemmas.Bool.{cases_lt}
+use Rattle.std.proofs.lemmas.Option.{none-some}
+use Rattle.bloom_steps.specs.declared.steps.vocabulary.End.{End}
+use Rattle.bloom_steps.specs.declared.steps.vocabulary.End.TheVariants.{Running}
 use Rattle.bloom_steps.specs.declared.steps.vocabulary.Step.{Step}
-use Rattle.bloom_steps.specs.declared.steps.machine.Machine.{Machine}
-use Rattle.bloom_steps.specs.Standing.{StandsAt, asks}
-use Rattle.bloom_steps.specs.Scripts.{Linked, Taken}
-use Rattle.bloom_steps.specs.Steps.{word_index}
-use Rattle.bloom_steps.specs.Machines.{AsksAfter, AsksRight, StandsFurther}
+use Rattle.bloom_steps.specs.Plans.{EachPair, EachWord, LooksAt, Plan, TurnsOn, most_steps}
+use Rattle.bloom_steps.specs.Scripts.{AreStepsOf, DrivesPlan, Fulfils, Linked, Taken, answer_of, answer_of_end}
+use Rattle.bloom_steps.specs.Standing.{GoesOn, KeepsOn}
+use Rattle.bloom_steps.proofs.StepLemmas.Growing.{EndsNext, FitsNext, KeepsOnAt, goes_on-more, length-more, script-more}
+use Rattle.bloom_steps.proofs.StepLemmas.Replying.{answer_of-more}
 
 -- one step more at the end
 pub linked-more :
@@ -17,42 +19,118 @@ linked-more moved a b c [] t link move = (c, subst (λ x. moved x t.step t.found
 linked-more moved a b c (u ∷ us) t link move =
     (link.0, link.1, linked-more moved link.0 b c us t link.2 move)
 
--- a step that is asked for is the next, and on one of the words
-pub asked-within : (w k : ℕ) (call : Call) (s : List Taken) (step : Step)
-    → AsksAfter w k call s (Some step) → word_index step < w
-asked-within w k call s step asked = elim asked.either [
-  | inl begun ↦
-      let next = asked.begun begun in
-      subst (λ x. word_index x < w) (sym (same_Some step next.step next.asks_it)) next.within
-  | inr whole ↦ absurd (none-some step (sym (asked.over whole)))
-]
+-- no steps are right of every plan
+none-right : (w : ℕ) (plan : Plan) → AreStepsOf w plan []
+none-right w (TurnsOn h) = λ i t got. absurd (none-some t got)
+none-right w (LooksAt h) = λ i t got. absurd (none-some t got)
+none-right w (EachWord op) = λ i t got. absurd (none-some t got)
+none-right w (EachPair op on) = record {
+  loads = λ i t got. absurd (none-some t got);
+  writes = λ i t u got. absurd (none-some t got);
+}
 
--- stores with a number of words, and the steps between them
-module _ {S : Type 0} (count : S → ℕ) (moved : S → Step → ℕ → S → Type 0) (k : ℕ) (call : Call)
+-- no steps give no reason to stop
+none-keeps : (w : ℕ) (plan : Plan) → KeepsOn w plan []
+none-keeps w (TurnsOn h) = tt
+none-keeps w (LooksAt h) = λ i t got. absurd (none-some t got)
+none-keeps w (EachWord op) = tt
+none-keeps w (EachPair op on) = tt
+
+-- a step that was made, with how the call stood after it
+abbrev pub made : Step → ℕ → End → Taken
+made step found end = record { step = step; found = found; ended = end }
+
+-- stores with a number of words, the steps between them, and a plan
+module _ {S : Type 0} (count : S → ℕ) (moved : S → Step → ℕ → S → Type 0) (k : ℕ) (plan : Plan)
   where
-    -- some steps were made, one after the other, and the machine stands where they leave it
-    pub record HasMade (before now : S) (m : Machine) : Type 0 where
+    -- so many steps of a plan were made, of which something is kept: the plan goes on, or these
+    -- were all and this is its reply
+    pub record HasGone (P : List Taken → Type 0) (before now : S) (i : ℕ) (reply : Option Bool)
+        : Type 0 where
       pub taken : List Taken
       pub words : count now ≡ count before
-      pub stands : StandsAt m (count before) k call taken
+      pub turns : length taken ≡ i
       pub linked : Linked moved before taken now
+      pub keeps : P taken
+      pub goes_on : i < most_steps (count before) k plan → GoesOn (count before) k plan taken
+      pub whole : i ≡ most_steps (count before) k plan → Fulfils (count before) k plan taken
+      pub said : i ≡ most_steps (count before) k plan → answer_of taken ≡ reply
 
-    -- the step asked for is on one of the words
-    pub made-within : (before now : S) (m : Machine) → HasMade before now m → (step : Step)
-        → AsksRight m (Some step) → word_index step < count now
-    made-within before now m made step asks_right =
-        subst (λ n. word_index step < n) (sym made.words)
-        (asked-within (count before) k call made.taken step
-        (asks_right _ _ _ made.taken made.stands))
-
-    -- the step asked for was made too, and the machine was told what it found
-    pub made-more : (before now after : S) (m n : Machine) → HasMade before now m
-        → (step : Step) (found : ℕ) → asks m ≡ Some step → StandsFurther m found n
-        → record { moved : moved now step found after; words : count after ≡ count now }
-        → HasMade before after n
-    made-more before now after m n made step found asked further did = record {
-      taken = _;
-      words = did.words ∙ made.words;
-      stands = further _ _ _ made.taken step asked made.stands;
-      linked = linked-more moved before now after made.taken _ made.linked did.moved;
+    -- no step yet
+    pub gone-none : (P : List Taken → Type 0) (store : S) (reply : Option Bool)
+        → 0 < most_steps (count store) k plan → P [] → HasGone P store store 0 reply
+    gone-none P store reply some empty = record {
+      taken = [];
+      words = refl;
+      turns = refl;
+      linked = refl;
+      keeps = empty;
+      goes_on = λ room. record {
+        room = room;
+        steps = none-right (count store) plan;
+        keeps_on = none-keeps (count store) plan;
+        running = λ i t got. absurd (none-some t got);
+      };
+      whole = λ all. absurd (omega (arith, some, all));
+      said = λ all. absurd (omega (arith, some, all));
     }
+
+    -- one step more, which leaves the plan going on or is its last
+    pub gone-next : (P : List Taken → Type 0) (before now after : S) (s : List Taken) (i : ℕ)
+        (reply : Option Bool) → count now ≡ count before → Linked moved before s now
+        → GoesOn (count before) k plan s → length s + 1 ≡ i
+        → (step : Step) (found : ℕ) → FitsNext (count before) plan s step
+        → record { moved : moved now step found after; words : count after ≡ count now }
+        → ((end : End) → P (s ++ made step found end ∷ []))
+        → KeepsOnAt (count before) plan s (made step found Running)
+        → (i ≡ most_steps (count before) k plan
+        → (end : End) × EndsNext (count before) k plan s (made step found end)
+        × (answer_of_end end ≡ reply))
+        → HasGone P before after i reply
+    gone-next P before now after s i reply words linked on turns step found fits did keeps stays
+        ends =
+        elim (cases_lt i (most_steps (count before) k plan)) [
+          | inl more ↦
+              let t = made step found Running in
+              record {
+                taken = s ++ t ∷ [];
+                words = did.words ∙ words;
+                turns = length-more s t ∙ turns;
+                linked = linked-more moved before now after s t linked did.moved;
+                keeps = keeps Running;
+                goes_on = λ _.
+                    goes_on-more (count before) k plan s t on fits refl
+                    (omega (arith, turns, more)) stays;
+                whole = λ all. absurd (omega (arith, more, all));
+                said = λ all. absurd (omega (arith, more, all));
+              }
+          | inr late ↦
+              let room = on.room in
+              let end = ends (omega (arith, late, room, turns)) in
+              let t = made step found end.0 in
+              record {
+                taken = s ++ t ∷ [];
+                words = did.words ∙ words;
+                turns = length-more s t ∙ turns;
+                linked = linked-more moved before now after s t linked did.moved;
+                keeps = keeps end.0;
+                goes_on = λ more. absurd (omega (arith, late, more));
+                whole = λ _. script-more (count before) k plan s t on fits end.1;
+                said = λ _. answer_of-more s t ∙ end.2;
+              }
+        ]
+
+    -- all steps of a plan carry it out
+    pub gone-all : (P : List Taken → Type 0) (before now : S) (i : ℕ) (reply : Option Bool)
+        → HasGone P before now i reply → i ≡ most_steps (count before) k plan
+        → DrivesPlan moved (count before) k plan before now reply
+    gone-all P before now i reply gone all = record {
+      taken = gone.taken;
+      script = gone.whole all;
+      linked = gone.linked;
+      answers = sym (gone.said all);
+    }
+
+-- nothing is kept of the words that steps found
+abbrev pub KeepsNothing : List Taken → Type 0
+KeepsNothing s = Unit {0}

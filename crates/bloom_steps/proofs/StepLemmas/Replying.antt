@@ -33,7 +33,7 @@ not_yet : (a b : ℕ) → nat_eq a b ≡ false → a ≢ b
 not_yet a b off e = let on : nat_eq a b ≡ true = eq-eqb a b e in cc
 
 -- steps answer what the last does
-answer_of-more : (s : List Taken) (t : Taken) → answer_of (s ++ t ∷ []) ≡ answer_of_end t.ended
+pub answer_of-more : (s : List Taken) (t : Taken) → answer_of (s ++ t ∷ []) ≡ answer_of_end t.ended
 answer_of-more s t =
     let longer = length-more s t in
     answer_of-last (s ++ t ∷ []) (length s) t (member-seam s [] t) (sym longer)

@@ -1,0 +1,36 @@
+use Rattle.std.proofs.Common.{arith, None}
+use Rattle.bloom_steps.proofs.StepLemmas.Driven.{word-next}
+use Rattle.bloom_steps.proofs.StepLemmas.Driving.{gone-all, gone-none, KeepsNothing}
+use Rattle.bloom_steps.proofs.steps.driver.clear_each.Goals as goal
+
+pub step-requires : goal.step-requires
+step-requires g c =
+    let gone = c.words.invariant 0 in
+    record {
+      within = omega (
+        arith,
+        c.clearing.ensures.within,
+        gone.words,
+        c.words-test.true,
+        c.num_words-word-end.ensures.value,
+      );
+    }
+
+pub words-init : goal.words-init
+words-init g c = λ k.
+    gone-none _ _ k _ KeepsNothing _ None
+    (omega (arith, c.num_words-word-end.ensures.value, c.num_words-word-end.ensures.least)) tt
+
+pub words-preserved : goal.words-preserved
+words-preserved g c = λ k.
+    word-next _ _ k _ _ _ _ c.words.word (c.words.invariant k)
+    (omega (arith, c.words-test.true, c.num_words-word-end.ensures.value)) _ c.step.result
+    c.clearing.ensures.value c.step.ensures
+
+pub returns-clause-script : goal.returns-clause-script
+returns-clause-script g c = λ k.
+    gone-all _ _ k _ _ _ _ c.words.word None (c.words.invariant k)
+    (omega (arith, c.words-test.false, c.num_words-word-end.ensures.value))
+
+pub returns-clause-words : goal.returns-clause-words
+returns-clause-words g c = (c.words.invariant 0).words

@@ -1,0 +1,21 @@
+use Rattle.bloom_steps.proofs.StepLemmas.Driven.{set-next, set-none}
+use Rattle.bloom_steps.proofs.steps.driver.set_each.Goals as goal
+
+pub places-init : goal.places-init
+places-init g c = record {
+  set = set-none _ _ _ _ _ _ c.requires.hashes c.new-chain.ensures;
+  words = c.num_words-num_words.ensures.value;
+}
+
+pub places-preserved : goal.places-preserved
+places-preserved g c =
+    let before = c.places.invariant in
+    let next = c.next.ensures in
+    let at = c.word_and_mask_of_hash-word.ensures in
+    record {
+      set =
+          set-next _ _ _ _ _ _ _ c.places._place _ _ _ _ _ _ _ _ before.set c.places-test.true
+          before.words (next.value _ _ before.set.stands) at.word at.mask c.step-found.ensures
+          (next.moved _ _ before.set.stands);
+      words = before.words;
+    }
