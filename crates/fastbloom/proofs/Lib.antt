@@ -8,7 +8,6 @@ mod FormLemmas
 mod InsertedLemmas
 mod LiveStoreFacts
 mod LoadedFacts
-mod LookedLemmas
 mod MadeFacts
 mod OnesFacts
 mod OnesLemmas
@@ -20,4 +19,3 @@ mod SharedFormFacts
 mod SharedLemmas
 mod TakenLemmas
 mod TogetherLemmas
-mod TurnedLemmas

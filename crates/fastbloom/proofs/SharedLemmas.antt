@@ -2,7 +2,7 @@
 use Rattle.std.proofs.Common.{◌≡◌, ◌∙◌, ℕ, zero, suc, ◌+◌, ◌≤◌, Bool, List, [], ◌∷◌, length, Option, Some, None, ap, refl, sym, subst, arith, slice_get}
 use Rattle.std.proofs.lemmas.Option.{none-some, same_Some}
 use Rattle.bloom_parts.specs.Made.{SharedWords}
-use Rattle.bloom_steps.specs.declared.steps.vocabulary.Call.TheVariants.{Insert}
+use Rattle.bloom_steps.specs.declared.steps.vocabulary.Call.TheVariants.{Contains, Insert}
 use Rattle.bloom_steps.specs.declared.steps.vocabulary.End.TheVariants.{Done}
 use Rattle.bloom_steps.specs.declared.steps.vocabulary.Call.{Call}
 use Rattle.bloom_steps.specs.Plans.{plan_of}
@@ -87,6 +87,20 @@ insert-answers w k hash s some script =
     let last = last-of s (omega (arith, some, script.count)) in
     let end = script.last last.index last.step last.stands last.is_last in
     (end.0, last.answers ∙ ap answer_of_end end.1)
+
+-- a script of a look-up has an answer
+pub contains-answers : (w k hash : ℕ) (s : List Taken) → IsScript w k (Contains hash) s
+    → (reply : Bool) × (answer_of s ≡ Some reply)
+contains-answers w k hash s script =
+    let last = last-of s script.count.0 in
+    let end = script.last last.index last.step last.stands last.is_last in
+    (_, last.answers ∙ ap answer_of_end (end last.index last.step last.stands last.is_last))
+
+-- a call whose script has an answer replies something
+pub replies-some : {S : Type 0} (f other : SharedFilter S) (call : Call)
+    → (calls : MakesCall f other call None)
+    → (reply : Bool) × (answer_of calls.taken ≡ Some reply) → ⊥
+replies-some f other call calls answer = none-some answer.0 (calls.answers ∙ answer.1)
 
 -- a call whose script ends with `Done` replies nothing
 pub replies-none : {S : Type 0} (f other : SharedFilter S) (call : Call) (reply : Option Bool)

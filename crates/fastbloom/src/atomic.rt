@@ -55,6 +55,7 @@ impl<S> AtomicBloomFilter<S> {
     }
 
     // Makes all steps of a call, in order, and gives the call's answer.
+    #[inline(always)]
     fn make(&self, other: &Self, call: Call) -> Option<bool>
         requires { other.now.words.count ≡ self.now.words.count }
         ensures made { MakesCall self.now other.now call result }
@@ -93,7 +94,10 @@ impl<S> AtomicBloomFilter<S> {
     pub fn insert_hash(&self, hash: u64) -> bool
         ensures { MakesInsert self.now hash result }
     {
-        self.words.ors().insert_positions(self.num_hashes, hash)
+        match self.make(self, Call::Insert(hash)) {
+            Some(all_on) => all_on,
+            None => unreachable!(),
+        }
     }
 
     /// Whether all positions of a hash were found on, one after the other.
@@ -104,6 +108,9 @@ impl<S> AtomicBloomFilter<S> {
     pub fn contains_hash(&self, hash: u64) -> bool
         ensures { MakesCall self.now self.now (Contains hash) (Some result) }
     {
-        self.words.loads().contains_positions(self.num_hashes, hash)
+        match self.make(self, Call::Contains(hash)) {
+            Some(all_on) => all_on,
+            None => unreachable!(),
+        }
     }
 }

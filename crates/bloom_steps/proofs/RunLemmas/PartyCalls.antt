@@ -17,7 +17,7 @@ use Rattle.bloom_steps.specs.Worlds.{AreWhole, HasCalled, PartyAt, slot_runs}
 use Rattle.bloom_steps.proofs.RunLemmas.RunningCalls.{newest-append, newest-call, still_runs-machine}
 use Rattle.bloom_steps.proofs.RunLemmas.PartyRecords.{did-more, records_of-more, records_of-same}
 use Rattle.bloom_steps.proofs.StepLemmas.Completing.{finish}
-use Rattle.bloom_steps.proofs.StepLemmas.Driving.{asked-within}
+use Rattle.bloom_steps.proofs.StepLemmas.Asking.{asked-within}
 
 -- a party among w words and k hashes
 module _ (w k p : ℕ) where

@@ -96,3 +96,13 @@ module _ (m : Machine) (w k : ℕ) where
             };
             over = λ whole. absurd (not_both w k call s some_words some_hashes whole begun);
           }
+
+-- a step that is asked for is the next, and on one of the words
+pub asked-within : (w k : ℕ) (call : Call) (s : List Taken) (step : Step)
+    → AsksAfter w k call s (Some step) → word_index step < w
+asked-within w k call s step asked = elim asked.either [
+  | inl begun ↦
+      let next = asked.begun begun in
+      subst (λ x. word_index x < w) (sym (same_Some step next.step next.asks_it)) next.within
+  | inr whole ↦ absurd (none-some step (sym (asked.over whole)))
+]

@@ -55,7 +55,7 @@ impl<'a> WordStore for KeepingStore<'a> {
         self.live.num_words()
     }
 
-    #[inline]
+    #[inline(always)]
     fn step(&mut self, step: Step) -> u64 {
         let found = self.live.step(step);
         if let Step::Take(word) = step {

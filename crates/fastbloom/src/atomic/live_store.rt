@@ -1,15 +1,15 @@
 //! The words of filters that threads share, as a store of steps.
 ghost use Rattle.fastbloom.specs.LiveStore.{MakesStep};
 
-use bloom_parts::bit_vector::AtomicBitVec;
+use bloom_parts::bit_vector::{AtomicBitVec, LentWords};
 use bloom_steps::{Step, WordStore};
 use std::marker::Model;
 
 // Lends the words of one filter, and those of the other, which may be the same.
 #[derive(Drop)]
 pub(super) struct LiveStore<'a> {
-    words: &'a AtomicBitVec,
-    other: &'a AtomicBitVec,
+    words: LentWords<'a>,
+    other: LentWords<'a>,
 }
 
 impl<'a> Model for LiveStore<'a> {
@@ -18,21 +18,25 @@ impl<'a> Model for LiveStore<'a> {
 
     ghost Value = { Lent };
 
-    ghost view = { λ s. record { words = s.words.now; other = s.other.now } };
+    ghost view = { λ s. record { words = s.words; other = s.other } };
 
-    ghost invariant = { λ s. s.other.now.count ≡ s.words.now.count };
+    ghost invariant = { λ s. s.other.count ≡ s.words.count };
 }
 
 impl<'a> LiveStore<'a> {
     ghost use Rattle.std.specs.Prelude.{◌≡◌};
 
     // The store that lends these two vectors, of equal length.
+    #[inline(always)]
     pub(super) fn new(words: &'a AtomicBitVec, other: &'a AtomicBitVec) -> Self
         requires { other.now.count ≡ words.now.count }
         ensures words { result.words ≡ words.now }
         ensures other { result.other ≡ other.now }
     {
-        LiveStore { words, other }
+        LiveStore {
+            words: words.lent(),
+            other: other.lent(),
+        }
     }
 }
 
@@ -47,7 +51,7 @@ impl<'a> WordStore for LiveStore<'a> {
     }
 
     // Each step is one atomic operation.
-    #[inline]
+    #[inline(always)]
     fn step(&mut self, step: Step) -> u64 {
         match step {
             Step::Load(word) => self.words.load(word),
