@@ -1,5 +1,5 @@
-use Rattle.std.proofs.Common.{◌+◌, ◌*◌, ◌/◌, length, arith}
-use Rattle.bloom_parts.proofs.ClearLemmas.{cleared-group, cleared-end}
+use Rattle.std.proofs.Common.{◌+◌, ◌*◌, ◌∙◌, refl, arith}
+use Rattle.bloom_parts.proofs.ClearLemmas.{cleared-all, cleared-group, cleared-next}
 use Rattle.bloom_parts.proofs.slices.kernels.clear_words.Goals as goal
 
 pub groups-preserved : goal.groups-preserved
@@ -11,7 +11,14 @@ groups-preserved c = record {
   turns = omega arith;
 }
 
+pub rest-preserved : goal.rest-preserved
+rest-preserved c = record {
+  words =
+      rw c.rest.invariant.words
+      (cleared-next c.rest.place (c.rest.place + 1) c.args.words.now refl);
+  turns = omega arith;
+}
+
 pub returns-clause-words : goal.returns-clause-words
 returns-clause-words c =
-    cleared-end _ (length c.args.words.now / 8) _ c.args.words.now _ _ (omega arith)
-    c.groups.invariant.words c.clear_rest.ensures.words (omega arith)
+    c.rest.invariant.words ∙ cleared-all c.rest.place c.args.words.now (omega arith)

@@ -1,11 +1,11 @@
-use Rattle.std.proofs.Common.{◌≡◌, ◌*◌}
+use Rattle.std.proofs.Common.{◌≡◌, ◌+◌, ◌*◌}
 use Rattle.std.specs.Int.Bits.{bit_or}
 use Rattle.bloom_parts.proofs.MergeLemmas.{merged}
-use Rattle.bloom_parts.proofs.slices.kernels.or_groups.Given as goal
+use Rattle.bloom_parts.proofs.slices.kernels.or_block.Given as goal
 
 -- the groups so far are merged, the other words as they were
 abbrev pub invariant-groups : goal.invariant-groups
 invariant-groups l = record {
   words : l.words ≡ merged bit_or (8 * l.group) l.fn.words l.other;
-  turns : l.turns ≡ l.group;
+  turns : l.turns ≡ l.fn.turns + l.group;
 }
