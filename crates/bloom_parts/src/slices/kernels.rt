@@ -1,8 +1,8 @@
 //! The loops over all words of a vector: eight words at a time, and then one by one what is left.
 //!
-//! Each counts its turns, a group of eight or one word of the rest. A merge of two vectors goes over
-//! blocks of eight groups first. Nothing reads the count, so the compiler keeps no more of it than
-//! one addition a block.
+//! Each counts its turns, a group of eight or one word of the rest. Nothing reads the count: the
+//! compiler keeps one addition a block. A merge of two vectors goes over blocks of eight groups
+//! first.
 ghost use Rattle.std.specs.Prelude.{◌≡◌, ◌+◌, ◌<◌, ◌≤◌, ◌^◌, ◌↔◌, IsTrue, length, replicate};
 ghost use Rattle.std.specs.Int.Bits.{bit_and, bit_or};
 ghost use Rattle.std.specs.Simd.Lanes.{zip2, chunk, put_chunk};
