@@ -3,46 +3,15 @@ use crate::standing::{is_plain, plain, word_of};
 use fastbloom::{BloomFilter, FilterError, Gate, Shape, fill};
 use std::alloc::{AllocError, Global};
 use std::sync::Arc;
-use std::sync::atomic::{AtomicU64, Ordering};
 use std::test::Fail;
-use std::thread::{Threads, yield_now};
+use std::thread::Threads;
 
-// Counts the workers that came, and those that went on. Each waits between.
+// Lets every worker through at once.
 #[derive(Drop)]
-struct Slow {
-    came: AtomicU64,
-    went: AtomicU64,
-}
+struct Open;
 
-impl Slow {
-    fn counts(&self) -> (u64, u64) {
-        (
-            self.came.load(Ordering::SeqCst),
-            self.went.load(Ordering::SeqCst),
-        )
-    }
-}
-
-// Lets other threads run, many times.
-fn wait(turns: u32) {
-    'turns: for _turn in 0..turns {
-        yield_now();
-    }
-}
-
-impl Gate for Slow {
-    fn pass(&self, _worker: usize) {
-        self.came.fetch_add(1, Ordering::SeqCst);
-        wait(10_000);
-        self.went.fetch_add(1, Ordering::SeqCst);
-    }
-}
-
-// Whether every worker that came went on, and none comes later.
-fn all_ended(gate: &Slow) -> bool {
-    let (came, went) = gate.counts();
-    wait(100_000);
-    came == went && gate.counts() == (came, went)
+impl Gate for Open {
+    fn pass(&self, _worker: usize) {}
 }
 
 fn three_parts(alloc: Global) -> Result<Vec<Vec<u64>>, AllocError> {
@@ -60,23 +29,21 @@ fn is_filled(filter: &BloomFilter) -> bool {
 fn filled<R: Threads>(
     rt: &R,
     alloc: Global,
-    gate: Arc<Slow, Global>,
+    gate: Arc<Open, Global>,
     parts: Vec<Vec<u64>>,
 ) -> Result<bool, FilterError> {
     let filter = fill(rt, alloc, gate, Shape::new(64, 3)?, parts)?;
     Ok(is_filled(&filter))
 }
 
+// A worker has the gate until it ends. So all have ended, and none comes later, where no one else
+// has it.
 #[test]
 fn a_filled_filter_is_whole_or_refused_once_all_workers_ended(rt: HostRuntime) -> Result<(), Fail> {
     let alloc = rt.alloc();
-    let slow = Slow {
-        came: AtomicU64::new(0),
-        went: AtomicU64::new(0),
-    };
     let (Ok(filter), Ok(gate), Ok(parts)) = (
         plain(alloc),
-        Arc::new(alloc, slow),
+        Arc::new(alloc, Open),
         three_parts(alloc),
     ) else {
         return Ok(println!(rt; "fill: no room for the test")?);
@@ -85,7 +52,10 @@ fn a_filled_filter_is_whole_or_refused_once_all_workers_ended(rt: HostRuntime) -
         return Ok(println!(rt; "fill: no room for the test")?);
     };
     let ended = filled(&rt, alloc, gate, parts);
-    assert!(rt; all_ended(&seen));
+    assert!(rt;
+        Arc::strong_count(&seen) == 1,
+        "a worker still has the gate"
+    );
     println!(rt; "fill: {}", word_of(&ended))?;
     assert!(rt; is_plain(&filter, &[5, 6]));
     Ok(())

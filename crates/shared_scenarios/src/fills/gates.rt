@@ -37,7 +37,9 @@ impl Watching {
         (passes, numbers, self.met.load(Ordering::SeqCst))
     }
 
-    // Looks for both of the first two numbers, and counts once they are seen.
+    // Looks for both of the first two numbers, and counts once they are seen. Each turn lets other
+    // threads run, since the other worker may have no processor yet. Without that, 1 run in 600
+    // failed: all its turns were over before the other worker came.
     fn look(&self) {
         'turns: for _ in 0..10_000_000 {
             if self.numbers.load(Ordering::SeqCst) & 3 == 3 {

@@ -24,7 +24,8 @@ pub(super) enum Task {
     Turns(u64),
 }
 
-// Waits until as many threads as were said stand at the line, for at most 10,000,000 turns.
+// Waits until as many threads as were said stand at the line, for at most 10,000,000 turns. Each
+// turn lets other threads run, since one that is awaited may have no processor yet.
 fn wait_for_others(scene: &Scene) {
     scene.line.fetch_add(1, Ordering::SeqCst);
     'turns: for _ in 0..10_000_000 {
