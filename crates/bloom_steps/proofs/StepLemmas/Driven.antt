@@ -58,7 +58,8 @@ module _ {S : Type 0} (count : S → ℕ) (moved : S → Step → ℕ → S → 
   }
 
   -- one place more
-  pub set-next : (before now after : S) (i n h word mask found : ℕ) (all : Bool) (c d : DoubleHasher)
+  pub set-next : (before now after : S) (i n h word mask found : ℕ) (all : Bool)
+      (c d : DoubleHasher)
       → HasSet before now i all c → i < k → n ≡ count before → h ≡ chain hash i
       → word ≡ index_of (64 * n) h / 64 → mask ≡ 2 ^ (index_of (64 * n) h % 64)
       → record { moved : moved now (Or word mask) found after; words : count after ≡ count now }
@@ -82,7 +83,8 @@ module _ {S : Type 0} (count : S → ℕ) (moved : S → Step → ℕ → S → 
         stands = stands;
         gone =
             gone-next count moved k (TurnsOn hash) _ before now after g.taken (i + 1) _ g.words
-            g.linked (g.goes_on early) (ap (λ j. j + 1) turns) (Or word mask) found fits did tells tt
+            g.linked (g.goes_on early) (ap (λ j. j + 1) turns) (Or word mask) found fits did tells
+            tt
             (λ last. (
               Answer (all && ltb 0 (bit_and found mask)),
               (ap (λ j. j + 1) turns ∙ last, (_, refl, tells _)),
@@ -137,7 +139,8 @@ module _ {S : Type 0} (count : S → ℕ) (moved : S → Step → ℕ → S → 
         let t = made (Load word) found (Answer false) in
         record {
           taken = gone.taken ++ t ∷ [];
-          script = script-more (count before) k (LooksAt hash) gone.taken t (gone.goes_on early) fits
+          script =
+              script-more (count before) k (LooksAt hash) gone.taken t (gone.goes_on early) fits
               (inl clear, ap Answer (sym clear));
           linked = linked-more moved before now after gone.taken t gone.linked did.moved;
           answers = sym (answer_of-more gone.taken t);

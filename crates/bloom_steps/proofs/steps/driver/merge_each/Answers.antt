@@ -6,24 +6,16 @@ use Rattle.bloom_steps.proofs.steps.driver.merge_each.Goals as goal
 pub step-other-requires : goal.step-other-requires
 step-other-requires g c =
     let gone = c.words.invariant 0 in
-    record {
-      within =
-          omega (arith, gone.words, c.words-test.true, c.num_words-word-end.ensures.value);
-    }
+    let end = c.num_words-word-end.ensures.value in
+    record { within = omega (arith, gone.words, c.words-test.true, end) }
 
 pub step-requires : goal.step-requires
 step-requires g c =
-    let gone = c.words.invariant 0 in
-    record {
-      within = omega (
-        arith,
-        c.merging.ensures.within,
-        gone.words,
-        c.step-other.ensures.words,
-        c.words-test.true,
-        c.num_words-word-end.ensures.value,
-      );
-    }
+    let before = (c.words.invariant 0).words in
+    let end = c.num_words-word-end.ensures.value in
+    let read = c.step-other.ensures.words in
+    let here = c.merging.ensures.within in
+    record { within = omega (arith, here, before, read, c.words-test.true, end) }
 
 pub words-init : goal.words-init
 words-init g c = λ k.
