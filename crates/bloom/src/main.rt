@@ -1,17 +1,19 @@
 //! A Bloom filter that answers commands, one a line.
 #![tactic(auto)]
 
-ghost use Rattle.std.specs.Prelude.{◌≡◌, ◌^◌, ◌≤◌, IfOk, IsOkUnless, max, replicate};
+ghost use Rattle.std.specs.Prelude.{◌≡◌, ◌≢◌, ◌^◌, ◌≤◌, ◌⊎◌, IfOk, IfErr, IsOkUnless, max, replicate};
 ghost use Rattle.bloom_parts.specs.Keys.{HasKey};
 
 mod texts;
 
-use bloom_engine::{Fault, Request, arguments, given_words, serve};
+use bloom_engine::{Fault, arguments, serve};
 use bloom_plain::BloomFilter;
 use std::alloc::Global;
-use std::io::BufWriter;
+use std::env;
+use std::io::{BufWriter, ErrorKind};
 use std::process::ExitCode;
-use texts::{HELP, VERSION};
+use std::rt::Env;
+use texts::text_of_option;
 
 // The filter of this many zero words, under the zero key.
 fn filter_of(alloc: Global, words: usize, hashes: u32) -> Result<BloomFilter, Fault>
@@ -43,21 +45,47 @@ fn serve_input<R: Input + Print + AllocGlobal>(
     serve(rt.alloc(), &mut filter, &mut input, &mut output)
 }
 
-fn run<R: Input + Print + AllocGlobal + std::rt::Env>(rt: &R) -> Result<(), Fault> {
-    let words = given_words(rt)?;
-    let printed = match arguments(words.as_slice())? {
-        Request::Serve(words, hashes) => return serve_input(rt, words, hashes),
-        Request::Help => print!(rt; "{HELP}"),
-        Request::Version => println!(rt; "bloom {VERSION}"),
-    };
-    printed.map_err(|error| Fault::Output(error.kind()))
+// The words after the program's name.
+fn given_words<R: Env + AllocGlobal>(rt: &R) -> Result<Vec<String>, Fault>
+    ensures fault { IfErr result (λ fault. (fault ≡ Fault.Usage) ⊎ (fault ≡ Fault.Memory)) }
+{
+    let mut words = Vec::new(rt.alloc());
+    'words: for word in env::args(rt)
+        .map_err(|error| fault_of_args(error.kind()))?
+        .skip(1)
+    {
+        words.push(word).map_err(|_| Fault::Memory)?;
+    }
+    Ok(words)
+}
+
+// Why the words couldn't be read: memory is out, or one of them isn't text.
+fn fault_of_args(kind: ErrorKind) -> Fault
+    ensures memory { kind ≡ ErrorKind.OutOfMemory → result ≡ Fault.Memory }
+    ensures usage { kind ≢ ErrorKind.OutOfMemory → result ≡ Fault.Usage }
+{
+    match kind {
+        ErrorKind::OutOfMemory => Fault::Memory,
+        _ => Fault::Usage,
+    }
+}
+
+fn run<R: Input + Print + AllocGlobal + Env>(rt: &R) -> Result<(), Fault> {
+    let given = given_words(rt)?;
+    match text_of_option(given.as_slice()) {
+        Some(text) => print!(rt; "{text}").map_err(|_| Fault::Output),
+        None => {
+            let (words, hashes) = arguments(given.as_slice())?;
+            serve_input(rt, words, hashes)
+        }
+    }
 }
 
 fn main(rt: HostRuntime) -> ExitCode {
     match run(&rt) {
         Ok(()) => ExitCode::SUCCESS,
         Err(fault) => {
-            let _ = eprintln!(rt; "bloom: {fault}");
+            let _ = eprintln!(rt; "{fault}");
             ExitCode::from(fault.status())
         }
     }

@@ -1,10 +1,7 @@
 //! What the program tells of itself.
 
-/// The version of all programs and libraries of this repository.
-pub const VERSION: &str = "0.17.0";
-
-/// How the program is used.
-pub const HELP: &str = "A Bloom filter that answers commands, one a line
+// How the program is used.
+const HELP: &str = "A Bloom filter that answers commands, one a line
 
 Usage: bloom <WORDS> <HASHES>
 
@@ -24,3 +21,23 @@ Options:
   -h, --help     Print help
   -V, --version  Print version
 ";
+
+// The version of all programs and libraries of this repository.
+const VERSION: &str = "bloom 0.17.0\n";
+
+/// What an option prints, where it is the only word.
+pub fn text_of_option(words: &[String]) -> Option<&'static str> {
+    match words {
+        [word] => {
+            let word = word.as_str();
+            if word == "-h" || word == "--help" {
+                Some(HELP)
+            } else if word == "-V" || word == "--version" {
+                Some(VERSION)
+            } else {
+                None
+            }
+        }
+        _ => None,
+    }
+}

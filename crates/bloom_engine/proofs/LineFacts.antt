@@ -5,8 +5,7 @@ use Rattle.bloom_parts.specs.Content.{content}
 use Rattle.bloom_parts.specs.Operations as command
 use Rattle.bloom_engine.specs.declared.engine.line.Line.TheVariants.{Insert, Contains, Clear, Words}
 use Rattle.bloom_engine.specs.declared.fault.Fault.TheVariants as fault
-use Rattle.std.specs.declared.io.ErrorKind.TheVariants.{IsADirectory, StorageFull}
-use Rattle.bloom_engine.specs.Faults.{status_of, IsOfStream, IsOutput}
+use Rattle.bloom_engine.specs.Faults.{status_of, IsOfStream}
 use Rattle.bloom_engine.specs.Lines.{number_of, line_of, longest_line, operations}
 use Rattle.bloom_engine.specs.Texts.{hex_text, words_text, reply_text, word_with_bits, words_with_content, text_of}
 
@@ -61,13 +60,12 @@ unfolding content words_with_content word_with_bits
 words_back = refl
 
 -- the status of each fault
-statuses : map status_of (fault.Input IsADirectory ∷ fault.Usage ∷ fault.NotText ∷ fault.Line 7
-    ∷ fault.Memory ∷ fault.Output StorageFull ∷ [])
-    ≡ 8 ∷ 2 ∷ 2 ∷ 1 ∷ 5 ∷ 6 ∷ []
+statuses : map status_of (fault.Usage ∷ fault.Line 7 ∷ fault.Memory ∷ fault.Input ∷ fault.Output ∷ [])
+    ≡ 2 ∷ 2 ∷ 3 ∷ 4 ∷ 4 ∷ []
 statuses = refl
 
 -- a stream's faults
-of_stream : IsOfStream (fault.Input IsADirectory) × IsOfStream (fault.Output StorageFull)
+of_stream : IsOfStream fault.Input × IsOfStream fault.Output
 of_stream = (tt, tt)
 
 -- a stream doesn't run out of memory
@@ -78,19 +76,8 @@ memory-not is = is
 usage-not : IsOfStream fault.Usage → ⊥
 usage-not is = is
 
-text-not : IsOfStream fault.NotText → ⊥
-text-not is = is
-
 line-not : IsOfStream (fault.Line 7) → ⊥
 line-not is = is
-
--- a writer's fault
-of_writer : IsOutput (fault.Output StorageFull)
-of_writer = tt
-
--- a reader's fault is none
-of_writer-not : IsOutput (fault.Input IsADirectory) → ⊥
-of_writer-not is = is
 
 -- three of four lines are commands to the filter
 commands : operations (Insert 1 ∷ Words ∷ Contains 2 ∷ Clear ∷ [])

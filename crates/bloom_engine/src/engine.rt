@@ -1,7 +1,6 @@
 //! Serves lines: reads them, carries them out, and writes their text.
-ghost use Rattle.std.specs.Prelude.{◌≡◌, ◌≢◌, ℕ, false, [], ◌∷◌, OnOk, IfErr, Err};
+ghost use Rattle.std.specs.Prelude.{◌≡◌, ◌≢◌, ℕ, false, [], ◌∷◌, OnOk, IsOkUnless, Err};
 ghost use Rattle.std.specs.Io.KnownBytes.{Keeps};
-ghost use Rattle.bloom_engine.specs.Faults.{IsOutput};
 ghost use Rattle.bloom_engine.specs.Lines.{longest_line};
 ghost use Rattle.bloom_engine.specs.Served.{Carried, ServedAll, ServedUpTo};
 
@@ -16,14 +15,14 @@ use commands::{Next, next_command};
 use line::{LONGEST, Line};
 use lines::LineReader;
 use std::alloc::Global;
-use std::io::{ErrorKind, Read, Write};
+use std::io::{Read, Write};
 use text::{put_reply, put_words};
 
 // Carries out a line, and writes its text.
 fn serve_line<W: Write>(filter: &mut BloomFilter, line: Line, output: &mut W) -> Result<(), Fault>
     ensures carried { OnOk result (Carried filter.old filter.new
         (W.contents output.old) (W.contents output.new) (line ∷ [])) }
-    ensures fault { IfErr result IsOutput }
+    ensures fault { IsOkUnless result Fault.Output }
 {
     match line {
         Line::Insert(hash) => put_reply(output, filter.insert_hash(hash)),
@@ -68,7 +67,7 @@ fn serve_lines<R: Read, W: Write>(
             number = number.saturating_add(1);
         }
     }
-    Err(Fault::Input(ErrorKind::TimedOut))
+    Err(Fault::Input)
 }
 
 /// Serves each line that is read up to the end of the input.
@@ -100,6 +99,6 @@ pub fn serve<R: Read, W: Write>(
 {
     let mut lines = LineReader::new(alloc, LONGEST).map_err(|_| Fault::Memory)?;
     let served = serve_lines(&mut lines, filter, input, output);
-    output.flush().map_err(|error| Fault::Output(error.kind()))?;
+    output.flush().map_err(|_| Fault::Output)?;
     served
 }

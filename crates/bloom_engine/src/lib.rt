@@ -6,6 +6,6 @@ mod engine;
 mod fault;
 mod number;
 
-pub use command_line::{Request, arguments, given_words};
+pub use command_line::arguments;
 pub use engine::serve;
 pub use fault::Fault;

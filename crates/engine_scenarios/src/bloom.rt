@@ -1,21 +1,32 @@
 //! `serve` over odd readers and writers.
+mod runs;
+
 use crate::faulty::{NARROW, ROOMY, Reading, Sink, Source, WHOLE, Writing};
 use bloom_engine::{Fault, serve};
 use bloom_plain::BloomFilter;
 use std::alloc::{AllocError, Global};
 use std::cell::Cell;
-use std::io::ErrorKind;
 use std::process::Abort;
 use std::test::Fail;
 
-/// A filter of one word of zeros, with two hashes: hash 1 has the positions 0 and 20.
-pub(crate) fn filter_of(rt: &impl Abort, alloc: Global) -> Result<BloomFilter, AllocError> {
-    let words = vec![in alloc; 0u64; 1]?;
+// A filter of this many words of zeros, with this many hashes.
+fn shaped(
+    rt: &impl Abort,
+    alloc: Global,
+    words: usize,
+    hashes: u32,
+) -> Result<BloomFilter, AllocError> {
+    let words = vec![in alloc; 0u64; words]?;
     Ok(
         BloomFilter::from_vec(words)
             .expect(rt, "there is a word")
-            .hashes(2),
+            .hashes(hashes),
     )
+}
+
+/// A filter of one word of zeros, with two hashes: hash 1 has the positions 0 and 20.
+pub(crate) fn filter_of(rt: &impl Abort, alloc: Global) -> Result<BloomFilter, AllocError> {
+    shaped(rt, alloc, 1, 2)
 }
 
 // What a run leaves.
@@ -63,7 +74,7 @@ const ONE: u64 = 0x100001;
 
 const TWO: u64 = 0x8000080000100001;
 
-const NO_INPUT: Result<(), Fault> = Err(Fault::Input(ErrorKind::BrokenPipe));
+const NO_INPUT: Result<(), Fault> = Err(Fault::Input);
 
 // An input and whether its reader fails at its end; what is written, how the run ends, and the
 // filter's word. The bytes before a fault are answered up to the last whole line. The end of the
@@ -161,49 +172,18 @@ fn a_write_or_a_flush_may_fail(rt: HostRuntime) -> Result<(), Fail> {
             ..ROOMY
         };
         let left = run(&rt, rt.alloc(), input.as_bytes(), WHOLE, writing, b"")?;
-        let kind = if flush_fails {
-            ErrorKind::BrokenPipe
-        } else {
-            ErrorKind::StorageFull
-        };
-        assert_eq!(rt; left.ended, Err(Fault::Output(kind)), "on {input:?}");
+        assert_eq!(rt; left.ended, Err(Fault::Output), "on {input:?}");
     }
     for room in 0..29 {
         let writing = Writing { room, ..NARROW };
         let output = ANSWERS.as_bytes().get(..room).unwrap_or(&[]);
         let left = run(&rt, rt.alloc(), SESSION.as_bytes(), WHOLE, writing, output)?;
         let wanted = if room < 28 {
-            Err(Fault::Output(ErrorKind::StorageFull))
+            Err(Fault::Output)
         } else {
             Ok(())
         };
         assert_eq!(rt; left.ended, wanted, "with room for {room} bytes");
-    }
-    Ok(())
-}
-
-const UNNAMED: &str = "standard input: bad file descriptor, or input/output error";
-
-#[test]
-fn faults_have_texts_and_statuses(rt: HostRuntime) -> Result<(), Fail> {
-    for (fault, text, status) in [
-        (Fault::Line(7), "line 7: bad command", 1),
-        (Fault::NotText, "an argument isn't UTF-8", 2),
-        (Fault::Memory, "out of memory", 5),
-        (
-            Fault::Input(ErrorKind::IsADirectory),
-            "standard input: is a directory",
-            8,
-        ),
-        (Fault::Input(ErrorKind::Uncategorized), UNNAMED, 8),
-        (
-            Fault::Output(ErrorKind::StorageFull),
-            "standard output: no storage space",
-            6,
-        ),
-    ] {
-        assert_eq!(rt; fault.to_string(rt.alloc())?.as_str(), text);
-        assert_eq!(rt; fault.status(), status);
     }
     Ok(())
 }

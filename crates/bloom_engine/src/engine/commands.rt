@@ -1,7 +1,7 @@
 //! What the next line asks for.
-ghost use Rattle.std.specs.Prelude.{◌≡◌, true, IfErr, IfOk};
+ghost use Rattle.std.specs.Prelude.{◌≡◌, true, IfErr, IfOk, IsOkUnless};
 ghost use Rattle.std.specs.Io.KnownBytes.{Keeps};
-ghost use Rattle.bloom_engine.specs.Faults.{IsOfStream, IsOutput};
+ghost use Rattle.bloom_engine.specs.Faults.{IsOfStream};
 ghost use Rattle.bloom_engine.specs.Lines.{longest_line};
 ghost use Rattle.bloom_engine.specs.Reading.{Asks, NextCommand};
 ghost use Rattle.lines.specs.Reading.{KnowsEnd, has_next, left_of};
@@ -35,12 +35,12 @@ fn parsed_line(line: &[u8]) -> Next
 // Flushes what was answered, where the next line may have to wait for a read.
 fn flush_before_a_read<W: Write>(lines: &LineReader, output: &mut W) -> Result<(), Fault>
     ensures kept { Keeps (W.contents output.old) (W.contents output.new) }
-    ensures fault { IfErr result IsOutput }
+    ensures fault { IsOkUnless result Fault.Output }
 {
     if lines.has_next() {
         Ok(())
     } else {
-        output.flush().map_err(|error| Fault::Output(error.kind()))
+        output.flush().map_err(|_| Fault::Output)
     }
 }
 
@@ -67,6 +67,6 @@ pub fn next_command<R: Read, W: Write>(
         Ok(lines::Next::End) => Ok(Next::End),
         Ok(lines::Next::Line) => Ok(parsed_line(lines.line())),
         Ok(lines::Next::TooLong) => Ok(Next::Bad),
-        Err(error) => Err(Fault::Input(error.kind())),
+        Err(_) => Err(Fault::Input),
     }
 }

@@ -1,8 +1,7 @@
 //! The text that lines write.
-ghost use Rattle.std.specs.Prelude.{◌≡◌, ◌++◌, ◌∷◌, [], ◌<◌, length, OnOk, IfErr};
+ghost use Rattle.std.specs.Prelude.{◌≡◌, ◌++◌, ◌∷◌, [], ◌<◌, length, OnOk, IsOkUnless};
 ghost use Rattle.std.specs.Io.KnownBytes.{Appends};
 ghost use Rattle.bloom_parts.specs.Content.{content};
-ghost use Rattle.bloom_engine.specs.Faults.{IsOutput};
 ghost use Rattle.bloom_engine.specs.Texts.{hex_digit_of, hex_text, words_text, reply_text, words_with_content};
 
 use crate::fault::Fault;
@@ -10,18 +9,16 @@ use std::io::Write;
 
 fn put<W: Write>(output: &mut W, text: &[u8]) -> Result<(), Fault>
     ensures text { OnOk result (Appends (W.contents output.old) (W.contents output.new) text.now) }
-    ensures fault { IfErr result IsOutput }
+    ensures fault { IsOkUnless result Fault.Output }
 {
-    output
-        .write_all(text)
-        .map_err(|error| Fault::Output(error.kind()))
+    output.write_all(text).map_err(|_| Fault::Output)
 }
 
 /// Writes a reply on a line.
 pub fn put_reply<W: Write>(output: &mut W, reply: bool) -> Result<(), Fault>
     ensures text { OnOk result
         (Appends (W.contents output.old) (W.contents output.new) (reply_text reply)) }
-    ensures fault { IfErr result IsOutput }
+    ensures fault { IsOkUnless result Fault.Output }
 {
     if reply {
         put(output, b"true\n")
@@ -36,7 +33,7 @@ pub fn put_words<W: Write>(output: &mut W, words: &[u64]) -> Result<(), Fault>
     ensures text { OnOk result
         (Appends (W.contents output.old) (W.contents output.new) (words_text words.now)) }
     ensures same { words_with_content (content words.now) (length words.now) ≡ words.now }
-    ensures fault { IfErr result IsOutput }
+    ensures fault { IsOkUnless result Fault.Output }
 {
     'words: for word in words {
         put(output, &hex_line(*word))?;
