@@ -59,7 +59,7 @@ fn given_words<R: Env + AllocGlobal>(rt: &R) -> Result<Vec<String>, Fault>
     Ok(words)
 }
 
-// Why the words couldn't be read: memory is out, or one of them isn't text.
+// Why the words couldn't be read: out of memory, or one of them isn't text.
 fn fault_of_args(kind: ErrorKind) -> Fault
     ensures memory { kind ≡ ErrorKind.OutOfMemory → result ≡ Fault.Memory }
     ensures usage { kind ≢ ErrorKind.OutOfMemory → result ≡ Fault.Usage }

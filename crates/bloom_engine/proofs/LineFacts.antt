@@ -60,7 +60,8 @@ unfolding content words_with_content word_with_bits
 words_back = refl
 
 -- the status of each fault
-statuses : map status_of (fault.Usage ∷ fault.Line 7 ∷ fault.Memory ∷ fault.Input ∷ fault.Output ∷ [])
+statuses : map status_of (fault.Usage ∷ fault.Line 7 ∷ fault.Memory ∷ fault.Input
+    ∷ fault.Output ∷ [])
     ≡ 2 ∷ 2 ∷ 3 ∷ 4 ∷ 4 ∷ []
 statuses = refl
 

@@ -11,7 +11,7 @@ pub enum Fault {
     Usage,
     /// The line with this number isn't a command. Lines count from 1; the count stays at 2^64 - 1.
     Line(u64),
-    /// Memory is out.
+    /// Out of memory.
     Memory,
     /// A read failed.
     Input,
