@@ -1,15 +1,14 @@
 -- Inserts into filters that grow, at values from outside: cases that hold, and cases that differ
 -- from one of these in one thing and don't hold. The plan has room for one item at first.
-use Rattle.std.proofs.Common.{◌≡◌, true, false, [], ◌∷◌, length, Some, None, refl, ap, arith, lit<, lit≤}
+use Rattle.std.proofs.Common.{◌≡◌, true, false, [], ◌∷◌, length, refl, ap, arith, lit<, lit≤}
 use Rattle.bloom_parts.specs.Chain.{chain}
 use Rattle.bloom_parts.specs.Content.{content}
 use Rattle.bloom_parts.specs.Places.{positions, are_in}
-use Rattle.bloom_parts.specs.declared.error.FilterError.TheVariants.{ZeroRate, SizeOverflow, Memory}
-use Rattle.bloom_plain.specs.GrowingInserts.{Begins, MakesRoom, Adds, Takes, RefusesNumber, RefusesInsert}
+use Rattle.bloom_plain.specs.GrowingInserts.{Begins, MakesRoom, Adds, Takes}
 use Rattle.bloom_plain.specs.GrowingLaws.{TakesAll}
 use Rattle.bloom_plain.proofs.FilterFacts.{filter}
 use Rattle.bloom_plain.proofs.InsertFacts.{inserts-first}
-use Rattle.bloom_plain.proofs.GrowingFacts.{rate, four, grown, with_one, with_none, halvings-none, number-one, number-one_room}
+use Rattle.bloom_plain.proofs.GrowingFacts.{grown, with_one, with_none, number-one, number-one_room}
 
 -- the next filter begins behind the full one, for twice the items
 begins-next : Begins (grown [] with_one 1) (grown (with_one ∷ []) (filter (0 ∷ []) 22 7) 0)
@@ -101,47 +100,3 @@ takes_all-none = refl
 
 takes_all-none_counted : TakesAll (grown [] with_one 0) [] (grown [] with_one 1) → ⊥
 takes_all-none_counted all = let wrong : 1 ≡ 0 = ap (λ g. g.taken) all in omega (arith, wrong)
-
--- the rate 1 / 2^63 can't be halved: the lower part would be 2^64
-rate-least : RefusesNumber (rate 1 9223372036854775808 (lit< tt) (lit< tt)) 1 0 (Some ZeroRate)
-rate-least = record {
-  rate_refused = λ _. refl;
-  room_refused = λ small _. absurd (omega (arith, small));
-  size_refused = λ small _. absurd (omega (arith, small));
-}
-
--- and is refused as such
-rate-least_memory : RefusesNumber (rate 1 9223372036854775808 (lit< tt) (lit< tt)) 1 0 (Some Memory)
-    → ⊥
-rate-least_memory refused =
-    let wrong : Some Memory ≡ Some ZeroRate = refused.rate_refused (lit≤ tt) in cc
-
--- the second filter of a room of 2^63 would be for 2^64 items
-room-greatest : RefusesNumber four 9223372036854775808 1 (Some SizeOverflow)
-room-greatest = record {
-  rate_refused = λ large. absurd (omega (arith, large));
-  room_refused = λ _ _. refl;
-  size_refused = λ _ few. absurd (omega (arith, few));
-}
-
--- and is refused as such
-room-greatest_memory : RefusesNumber four 9223372036854775808 1 (Some Memory) → ⊥
-room-greatest_memory refused =
-    let wrong : Some Memory ≡ Some SizeOverflow = refused.room_refused (lit< tt) (lit≤ tt) in cc
-
--- a filter of one word may be made, or memory is out
-size-made : RefusesNumber four 1 1 None
-size-made = record {
-  rate_refused = λ large. absurd (omega (arith, large));
-  room_refused = λ _ many. absurd (omega (arith, many));
-  size_refused = λ _ _. (64, (0, halvings-none, refl), tt);
-}
-
--- an insert of a hash that is contained isn't refused
-insert-held : RefusesInsert (grown [] with_one 1) 1 (Some Memory) → ⊥
-unfolding content chain are_in
-insert-held refused = let wrong : Some Memory ≡ None = refused.held refl in cc
-
--- nor is one where there is room
-insert-spare : RefusesInsert (grown [] with_none 0) 1 (Some Memory) → ⊥
-insert-spare refused = let wrong : Some Memory ≡ None = refused.spare (lit< tt) in cc

@@ -2,7 +2,6 @@
 use Rattle.std.proofs.Common.{◌≡◌, ℕ, zero, suc, ◌+◌, ◌*◌, ◌^◌, ◌<◌, ◌≤◌, false, List, [], ◌∷◌, ◌++◌, length, Option, Some, sym, ◌∙◌, ap, subst, arith, lit≤, length-append}
 use Rattle.std.proofs.Math.Nat.{one-le-pow}
 use Rattle.bloom_parts.specs.declared.error.FilterError.{FilterError}
-use Rattle.bloom_parts.specs.declared.error.FilterError.TheVariants.{ZeroRate, SizeOverflow}
 use Rattle.bloom_parts.specs.declared.hasher.CloneBuildHasher.{CloneBuildHasher}
 use Rattle.bloom_parts.specs.declared.hasher.sip.RandomDefaultHasher.{RandomDefaultHasher}
 use Rattle.bloom_parts.specs.declared.math.rate.Rate.{Rate}
@@ -10,7 +9,9 @@ use Rattle.bloom_parts.specs.Rates.{num_of, den_of}
 use Rattle.bloom_plain.specs.Builders.{size_refusal, RefusesAs, IsMadeFor, IsSizeOf}
 use Rattle.bloom_plain.specs.Filter.{Filter, Inserts}
 use Rattle.bloom_plain.specs.Growing.{Plan, Growing, room_at, den_at, newest_room, rate_start, IsNumber, any_contains, Took, IsKeyed, IsKept}
-use Rattle.bloom_plain.specs.GrowingInserts.{RefusesNumber}
+use Rattle.bloom_plain.specs.GrowingInserts.{of_builders, RefusesNumber}
+use Rattle.bloom_plain.specs.declared.growing.error.GrowingError.{GrowingError}
+use Rattle.bloom_plain.specs.declared.growing.error.GrowingError.TheVariants.{RateOverflow, TooManyItems}
 use Rattle.bloom_plain.proofs.GrowingLemmas.{room_at-next, den_at-next, took-none, took-next, are_full-next}
 use Rattle.bloom_plain.proofs.GrowingRefusalLemmas.{refuses-rate, refuses-room, refuses-size}
 
@@ -56,7 +57,7 @@ kept-begun plan none made half some key is number num den =
 
 -- the next filter is refused with this error
 abbrev pub RefusesNext : Growing (CloneBuildHasher RandomDefaultHasher)
-    → Option FilterError → Type 0
+    → Option GrowingError → Type 0
 RefusesNext g = RefusesNumber g.plan.rate g.plan.room (length g.older + 1)
 
 module _ (g : Growing (CloneBuildHasher RandomDefaultHasher)) (rate : Rate) (room : ℕ)
@@ -70,7 +71,7 @@ module _ (g : Growing (CloneBuildHasher RandomDefaultHasher)) (rate : Rate) (roo
   next-room = ap (λ n. n * 2) kept.newest_is ∙ sym (room_at-next g.plan.room (length g.older))
 
   -- the next filter is refused where the rate can't be halved
-  pub refuses-next_rate : (error : FilterError) → 2 ^ 64 ≤ den_of rate * 2 → error ≡ ZeroRate
+  pub refuses-next_rate : (error : GrowingError) → 2 ^ 64 ≤ den_of rate * 2 → error ≡ RateOverflow
       → RefusesNext g (Some error)
   refuses-next_rate error =
       refuses-rate g.plan.rate g.plan.room (length g.older + 1) _ error next-den
@@ -79,25 +80,25 @@ module _ (g : Growing (CloneBuildHasher RandomDefaultHasher)) (rate : Rate) (roo
     where
       -- and then where the room is too large
       pub refuses-next_room : den_of half < 2 ^ 64 → 2 ^ 64 ≤ room * 2
-          → RefusesNext g (Some SizeOverflow)
+          → RefusesNext g (Some TooManyItems)
       refuses-next_room fits =
           refuses-room g.plan.rate g.plan.room (length g.older + 1) _ _ (den ∙ next-den) fits
           next-room
 
       module _ (many : ℕ) (is_room : many ≡ room * 2) where
         -- and then as the builders refuse a size
-        pub refuses-next_size : (error : Option FilterError) → den_of half < 2 ^ 64 → many < 2 ^ 64
-            → (bits : ℕ) × IsSizeOf (rate_start half g.plan.hasher) many bits
-            × RefusesAs (size_refusal bits) error → RefusesNext g error
-        refuses-next_size error fits few sized =
+        pub refuses-next_size : (refusal : Option FilterError) → den_of half < 2 ^ 64
+            → many < 2 ^ 64 → (bits : ℕ) × IsSizeOf (rate_start half g.plan.hasher) many bits
+            × RefusesAs (size_refusal bits) refusal → RefusesNext g (of_builders refusal)
+        refuses-next_size refusal fits few sized =
             let some : 1 ≤ many = omega (
               arith,
               is_room,
               kept.newest_is,
               some_room_at g.plan.room (length g.older) kept.grown.some_room,
             ) in
-            refuses-size g.plan.rate g.plan.room (length g.older + 1) half g.plan.hasher many error
-            (num ∙ kept.num) (den ∙ next-den) fits (is_room ∙ next-room) few some sized
+            refuses-size g.plan.rate g.plan.room (length g.older + 1) half g.plan.hasher many
+            refusal (num ∙ kept.num) (den ∙ next-den) fits (is_room ∙ next-room) few some sized
 
         -- a filter that was made for this rate and this room has the next number
         pub next-number : (made new : Filter (CloneBuildHasher RandomDefaultHasher)) → new ≡ made

@@ -23,6 +23,7 @@ mod GrowingInsertFacts
 mod GrowingKeptLemmas
 mod GrowingLawLemmas
 mod GrowingLemmas
+mod GrowingRefusalFacts
 mod GrowingRefusalLemmas
 mod GrowingTakesLemmas
 mod HashFacts

@@ -2,13 +2,15 @@
 -- hash goes, are as in "Scalable Bloom Filters" (P. S. Almeida and others, 2007). What is refused
 -- is this project's choice.
 use Rattle.std.specs.Prelude.{◌≡◌, ℕ, ◌+◌, ◌^◌, ◌<◌, ◌≤◌, Bool, true, false, [], ◌∷◌, ◌++◌, length, Option, Some, None}
+use Rattle.std.specs.Option.{option_map}
 use Rattle.bloom_parts.specs.declared.error.FilterError.{FilterError}
-use Rattle.bloom_parts.specs.declared.error.FilterError.TheVariants.{ZeroRate, SizeOverflow}
 use Rattle.bloom_parts.specs.declared.math.rate.Rate.{Rate}
 use Rattle.bloom_parts.specs.Rates.{num_of}
 use Rattle.bloom_parts.specs.Sizing.{IsSizeFor}
 use Rattle.bloom_plain.specs.Builders.{size_refusal, RefusesAs}
 use Rattle.bloom_plain.specs.Filter.{Inserts}
+use Rattle.bloom_plain.specs.declared.growing.error.GrowingError.{GrowingError}
+use Rattle.bloom_plain.specs.declared.growing.error.GrowingError.TheVariants.{RateOverflow, TooManyItems, Filter}
 use Rattle.bloom_plain.specs.Growing.{Plan, Growing, IsNumber, room_at, den_at, newest_room, has}
 
 -- a filter that grows is new: this was asked for, and its one filter is empty
@@ -47,18 +49,23 @@ pub record Takes {S : Type 0} (old : Growing S) (hash : ℕ) (new : Growing S) (
   pub adds : has old hash ≡ false
       → (roomy : Growing S) × MakesRoom old roomy × Adds roomy hash new
 
--- filter number i is refused as listed here. Where nothing is listed, it is made, or there is no
--- memory for it
-pub record RefusesNumber (rate : Rate) (room i : ℕ) (error : Option FilterError) : Type 0 where
-  pub rate_refused : 2 ^ 64 ≤ den_at rate i → error ≡ Some ZeroRate
-  pub room_refused : den_at rate i < 2 ^ 64 → 2 ^ 64 ≤ room_at room i → error ≡ Some SizeOverflow
+-- what a filter that grows tells of what the builders tell of its next filter
+abbrev pub of_builders : Option FilterError → Option GrowingError
+of_builders refusal = option_map Filter refusal
+
+-- filter number i is refused as listed here: for its rate, for its room, or as the builders refuse
+-- its size. Where nothing is listed, it is made, or there is no memory for it
+pub record RefusesNumber (rate : Rate) (room i : ℕ) (error : Option GrowingError) : Type 0 where
+  pub rate_refused : 2 ^ 64 ≤ den_at rate i → error ≡ Some RateOverflow
+  pub room_refused : den_at rate i < 2 ^ 64 → 2 ^ 64 ≤ room_at room i → error ≡ Some TooManyItems
   pub size_refused : den_at rate i < 2 ^ 64 → room_at room i < 2 ^ 64
       → (bits : ℕ) × IsSizeFor (room_at room i) (num_of rate) (den_at rate i) bits
-      × RefusesAs (size_refusal bits) error
+      × (refusal : Option FilterError) × RefusesAs (size_refusal bits) refusal
+      × (error ≡ of_builders refusal)
 
 -- an insert is refused only where the next filter is: no filter contains the hash, and the newest
 -- is full
-pub record RefusesInsert {S : Type 0} (g : Growing S) (hash : ℕ) (error : Option FilterError)
+pub record RefusesInsert {S : Type 0} (g : Growing S) (hash : ℕ) (error : Option GrowingError)
     : Type 0 where
   pub held : has g hash ≡ true → error ≡ None
   pub spare : g.taken < newest_room g → error ≡ None

@@ -8,15 +8,16 @@ ghost use Rattle.bloom_plain.specs.Filter.{contains};
 ghost use Rattle.bloom_plain.specs.Growing.{plan_of, IsKeyed, IsGrown, any_contains, has, newest_room};
 ghost use Rattle.bloom_plain.specs.GrowingInserts.{IsBegun, Begins, Adds, Takes, RefusesNumber, RefusesInsert};
 
+mod error;
 mod items;
 mod looks;
 mod parts;
 
 use crate::bloom::BloomFilter;
 use crate::builder::hasher_of_seed;
-use bloom_parts::error::FilterError;
 use bloom_parts::hasher::DefaultHasher;
 use bloom_parts::math::Rate;
+pub use error::GrowingError;
 use parts::{any_contains, half, insert_once, make};
 use std::alloc::Global;
 use std::marker::Model;
@@ -68,7 +69,7 @@ impl GrowingFilter {
     ///
     /// # Errors
     /// Those of `insert_hash`.
-    pub fn new(alloc: Global, rate: Rate, items: usize) -> Result<Self, FilterError>
+    pub fn new(alloc: Global, rate: Rate, items: usize) -> Result<Self, GrowingError>
         ensures begun { IfOk result (λ g. IsBegun (plan_of rate (max 1 items) g.plan.hasher) g) }
         ensures key { IfOk result (λ g. HasKey g.plan.hasher 0 0) }
         ensures refused { RefusesNumber rate (max 1 items) 0 (result_err result) }
@@ -80,7 +81,12 @@ impl GrowingFilter {
     ///
     /// # Errors
     /// Those of `insert_hash`.
-    pub fn seeded(alloc: Global, rate: Rate, items: usize, seed: &u128) -> Result<Self, FilterError>
+    pub fn seeded(
+        alloc: Global,
+        rate: Rate,
+        items: usize,
+        seed: &u128,
+    ) -> Result<Self, GrowingError>
         ensures begun { IfOk result (λ g. IsBegun (plan_of rate (max 1 items) g.plan.hasher) g) }
         ensures key { let bytes = to_be_bytes w128 seed.now in
             IfOk result (λ g. HasKey g.plan.hasher (key_low bytes) (key_high bytes)) }
@@ -95,7 +101,7 @@ impl GrowingFilter {
         rate: Rate,
         items: usize,
         hasher: DefaultHasher,
-    ) -> Result<Self, FilterError>
+    ) -> Result<Self, GrowingError>
         requires { IsKeyed hasher }
         ensures begun { IfOk result (λ g. IsBegun (plan_of rate (max 1 items) hasher) g) }
         ensures refused { RefusesNumber rate (max 1 items) 0 (result_err result) }
@@ -116,7 +122,7 @@ impl GrowingFilter {
     }
 
     // Begins the next filter, and calls the newest one older.
-    fn begin(&mut self, alloc: Global) -> Result<(), FilterError>
+    fn begin(&mut self, alloc: Global) -> Result<(), GrowingError>
         requires full { newest_room self.old ≤ self.old.taken }
         ensures begins { IfOk result (λ _. Begins self.old self.new) }
         ensures new { IfOk result (λ _. (hash : ℕ) → contains self.new.newest hash ≡ false) }
@@ -127,7 +133,7 @@ impl GrowingFilter {
     {
         let rate = half(self.newest_rate)?;
         let Some(room) = self.room.checked_mul(2) else {
-            return Err(FilterError::SizeOverflow);
+            return Err(GrowingError::TooManyItems);
         };
         let made = make(alloc, rate, room, &self.hasher)?;
         self.older.reserve(1)?;
@@ -159,12 +165,11 @@ impl GrowingFilter {
     /// Inserts a hash unless one of the filters contains it, and answers whether one does.
     ///
     /// # Errors
-    /// Only where the next filter has to begin, and then nothing changes: `ZeroRate` where its rate
-    /// has a lower part of 2^64 or more, `SizeOverflow` where it would be for 2^64 items or more,
-    /// or have 2^64 bits or more, `TooManyWords` for more than 2^58 - 1 words, and `Memory` where
-    /// there is no room for it.
+    /// Only where the next filter has to begin, and then nothing changes: `RateOverflow` where its
+    /// rate would have a lower part of 2^64 or more, `TooManyItems` where it would be for 2^64 items
+    /// or more, and else `Filter` with the builders' `SizeOverflow`, `TooManyWords` or `Memory`.
     #[inline]
-    pub fn insert_hash(&mut self, alloc: Global, hash: u64) -> Result<bool, FilterError>
+    pub fn insert_hash(&mut self, alloc: Global, hash: u64) -> Result<bool, GrowingError>
         ensures takes { IfOk result (λ reply. Takes self.old hash self.new reply) }
         ensures unchanged { OnErr result (self.new ≡ self.old) }
         ensures refused { RefusesInsert self.old hash (result_err result) }
@@ -179,7 +184,7 @@ impl GrowingFilter {
     }
 
     // Inserts a hash that no older filter contains, where the newest is full.
-    fn insert_past(&mut self, alloc: Global, hash: u64) -> Result<bool, FilterError>
+    fn insert_past(&mut self, alloc: Global, hash: u64) -> Result<bool, GrowingError>
         requires new { any_contains self.old.older hash ≡ false }
         requires full { newest_room self.old ≤ self.old.taken }
         ensures takes { IfOk result (λ reply. Takes self.old hash self.new reply) }

@@ -15,4 +15,4 @@ pub use bloom_parts::hasher::{CloneBuildHasher, DefaultHasher, RandomDefaultHash
 pub use bloom_parts::math::{Estimate, Rate};
 pub use bloom_parts::text::Text;
 pub use builder::{BuilderWithBits, BuilderWithFalsePositiveRate};
-pub use growing::GrowingFilter;
+pub use growing::{GrowingError, GrowingFilter};

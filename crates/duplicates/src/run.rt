@@ -4,7 +4,7 @@ use crate::command_line::Request;
 use crate::files::Files;
 use crate::gauge::Gauge;
 use crate::telling::{DONE, OVERFULL, Teller, tell_fault, tell_no_room};
-use bloom_plain::{BloomFilter, FilterError, GrowingFilter};
+use bloom_plain::{BloomFilter, FilterError, GrowingError, GrowingFilter};
 use duplicates_engine::{Fault, Options, Sieve, Tally, Written, keep_new};
 use std::io::{BufWriter, IsTerminal};
 
@@ -95,7 +95,7 @@ pub fn run(rt: &HostRuntime, request: &Request) -> Result<u8, &'static str> {
     let refusal = if request.fixed {
         match BloomFilter::with_false_pos(request.rate).expected_items(rt.alloc(), items) {
             Ok(mut filter) => return Ok(sift(rt, request, &mut filter)),
-            Err(refusal) => refusal,
+            Err(refusal) => GrowingError::Filter(refusal),
         }
     } else {
         match GrowingFilter::new(rt.alloc(), request.rate, items) {
@@ -104,7 +104,7 @@ pub fn run(rt: &HostRuntime, request: &Request) -> Result<u8, &'static str> {
         }
     };
     match refusal {
-        FilterError::Memory => Ok(tell_no_room(rt, "out of memory")),
+        GrowingError::Filter(FilterError::Memory) => Ok(tell_no_room(rt, "out of memory")),
         _ => Err("there is no filter for this many lines at this rate"),
     }
 }

@@ -2,7 +2,7 @@
 ghost use Rattle.std.specs.Prelude.{◌≡◌, ◌≢◌};
 ghost use Rattle.duplicates_engine.specs.Faults.{IsOfOpen, IsOfReader, IsOfSystem};
 
-use bloom_plain::FilterError;
+use bloom_plain::{FilterError, GrowingError};
 use std::io;
 use std::io::ErrorKind;
 use thiserror::Error;
@@ -44,13 +44,13 @@ impl Fault {
     }
 
     /// The fault of a sieve.
-    pub fn of_sieve(error: FilterError) -> Fault
-        ensures memory { error ≡ FilterError.Memory → result ≡ Fault.Memory }
-        ensures full { error ≢ FilterError.Memory → result ≡ Fault.Full }
+    pub fn of_sieve(error: GrowingError) -> Fault
+        ensures memory { error ≡ GrowingError.Filter FilterError.Memory → result ≡ Fault.Memory }
+        ensures full { error ≢ GrowingError.Filter FilterError.Memory → result ≡ Fault.Full }
         ensures kind { IsOfSystem result }
     {
         match error {
-            FilterError::Memory => Fault::Memory,
+            GrowingError::Filter(FilterError::Memory) => Fault::Memory,
             _ => Fault::Full,
         }
     }

@@ -4,7 +4,7 @@ ghost use Rattle.duplicates_engine.specs.Grown.{grown_has, grown_takes};
 
 use crate::sieve::Sieve;
 use bloom_plain::laws::growing_inserted_stays_found;
-use bloom_plain::{DefaultHasher, FilterError, GrowingFilter, RandomDefaultHasher, Text};
+use bloom_plain::{DefaultHasher, GrowingError, GrowingFilter, RandomDefaultHasher, Text};
 use std::alloc::Global;
 use std::hash::{BuildHasher, Hasher};
 
@@ -16,7 +16,7 @@ impl Sieve for GrowingFilter {
     ghost sifts = { grown_takes ⟦<RandomDefaultHasher as Hasher>⟧
         ⟦<DefaultHasher as BuildHasher>⟧.build_hasher };
 
-    fn sift(&mut self, alloc: Global, line: &[u8]) -> Result<bool, FilterError> {
+    fn sift(&mut self, alloc: Global, line: &[u8]) -> Result<bool, GrowingError> {
         growing_inserted_stays_found::<DefaultHasher>();
         self.insert(alloc, &Text(line))
     }

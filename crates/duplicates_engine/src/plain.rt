@@ -4,7 +4,7 @@ ghost use Rattle.duplicates_engine.specs.Plain.{has_line, inserts_line};
 
 use crate::sieve::Sieve;
 use bloom_plain::laws::{contained_stays, insert_answers_contains};
-use bloom_plain::{BloomFilter, FilterError, Text};
+use bloom_plain::{BloomFilter, GrowingError, Text};
 use std::alloc::Global;
 use std::hash::BuildHasher;
 
@@ -14,7 +14,7 @@ impl<S: BuildHasher> Sieve for BloomFilter<S> {
 
     ghost sifts = { inserts_line S.Hasher.Hasher S.build_hasher };
 
-    fn sift(&mut self, _alloc: Global, line: &[u8]) -> Result<bool, FilterError> {
+    fn sift(&mut self, _alloc: Global, line: &[u8]) -> Result<bool, GrowingError> {
         insert_answers_contains::<S>();
         contained_stays::<S>();
         Ok(self.insert(&Text(line)))

@@ -1,7 +1,7 @@
 //! What answers of each line whether it may have come before.
 ghost use Rattle.std.specs.Prelude.{◌≡◌, true, IfOk, OnOk, OnErr};
 
-use bloom_plain::FilterError;
+use bloom_plain::GrowingError;
 use std::alloc::Global;
 
 /// Answers of each line whether it may have come before. False means that it is certainly new.
@@ -17,8 +17,8 @@ pub trait Sieve {
     /// Takes a line, and answers whether it may have come before.
     ///
     /// # Errors
-    /// `Memory`, or another where the sieve can take no more.
-    fn sift(&mut self, alloc: Global, line: &[u8]) -> Result<bool, FilterError>
+    /// `Filter` with `Memory`, or another where the sieve can take no more.
+    fn sift(&mut self, alloc: Global, line: &[u8]) -> Result<bool, GrowingError>
         ensures sifted { IfOk result (λ reply. sifts self.old line.now reply self.new) }
         ensures seen { IfOk result (λ reply. has self.old line.now → reply ≡ true) }
         ensures taken { OnOk result (has self.new line.now) }

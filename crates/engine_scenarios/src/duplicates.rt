@@ -3,7 +3,7 @@ mod inputs;
 mod runs;
 
 use crate::faulty::{NARROW, ROOMY, Reading, WHOLE, Writing};
-use bloom_plain::FilterError;
+use bloom_plain::{FilterError, GrowingError};
 use duplicates_engine::{Fault, Options, Tally, Written};
 use runs::{Failing, Left, Run, growing, plain};
 use std::io::ErrorKind;
@@ -197,9 +197,10 @@ fn a_sieve_may_refuse_a_line(rt: HostRuntime) -> Result<(), Fail> {
         ..NEW
     };
     for (error, fault) in [
-        (FilterError::Memory, Fault::Memory),
-        (FilterError::ZeroRate, Fault::Full),
-        (FilterError::SizeOverflow, Fault::Full),
+        (GrowingError::Filter(FilterError::Memory), Fault::Memory),
+        (GrowingError::RateOverflow, Fault::Full),
+        (GrowingError::TooManyItems, Fault::Full),
+        (GrowingError::Filter(FilterError::SizeOverflow), Fault::Full),
     ] {
         let mut sieve = Failing { left: 3, error };
         let run = Run::of(&[INPUT], options, WHOLE, ROOMY);

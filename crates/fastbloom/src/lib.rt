@@ -17,7 +17,9 @@ pub use bloom_parts::math::{
 pub use bloom_parts::text::Text;
 pub use bloom_plain::builder::{BuilderWithBits, BuilderWithFalsePositiveRate};
 pub use bloom_plain::file::FileError;
-pub use bloom_plain::{BitsData, BloomFilter, Command, FilterData, GrowingFilter, file};
+pub use bloom_plain::{
+    BitsData, BloomFilter, Command, FilterData, GrowingError, GrowingFilter, file,
+};
 pub use bloom_seated::{Pass, SeatedBloomFilter, SeatedRule};
 pub use bloom_steps::{
     Call, End, Event, Machine, MemoryStore, Record, Step, Trace, WordStore, drive, run,

@@ -1,7 +1,7 @@
 //! Filters that grow: their sizes at values worked out by hand from the definitions, and refusals.
 
-use fastbloom::{BloomFilter, FilterError, GrowingFilter, Rate};
-use std::alloc::Global;
+use fastbloom::{BloomFilter, FilterError, GrowingError, GrowingFilter, Rate};
+use std::alloc::{AllocError, Global};
 
 // Number i of numbers that are spread over the hashes.
 fn hash_of(i: u64) -> u64 {
@@ -14,7 +14,7 @@ fn hash_of(i: u64) -> u64 {
 const SHAPES: [(usize, u32); 4] = [(64, 6), (128, 6), (320, 7), (704, 8)];
 
 // How many of the hashes 0 to `count` - 1 are new to a filter, which takes them.
-fn count_new(alloc: Global, filter: &mut GrowingFilter, count: u64) -> Result<usize, FilterError> {
+fn count_new(alloc: Global, filter: &mut GrowingFilter, count: u64) -> Result<usize, GrowingError> {
     let mut new = 0usize;
     for i in 0..count {
         if !filter.insert_hash(alloc, hash_of(i))? {
@@ -52,7 +52,7 @@ fn are_shaped(filter: &GrowingFilter) -> bool {
 }
 
 // The first four filters, and the new hashes that the newest of them has, as this many hashes come.
-fn grown(alloc: Global, count: u64) -> Result<(usize, usize, usize, bool), FilterError> {
+fn grown(alloc: Global, count: u64) -> Result<(usize, usize, usize, bool), GrowingError> {
     let mut filter = GrowingFilter::new(alloc, Rate::new(1, 10)?, 8)?;
     let new = count_new(alloc, &mut filter, count)?;
     let again = count_new(alloc, &mut filter, count)?;
@@ -91,30 +91,40 @@ fn each_filter_begins_when_the_one_before_is_full(rt: HostRuntime) {
 
 // The parts of a rate, items, and why they are refused. The first filter is for half the rate: at
 // 1/1 the sizes are 2^64 - 8 bits, and for one item more 2^64.
-const REFUSED: [(u64, u64, usize, FilterError); 3] = [
-    (1, 9223372036854775808, 1, FilterError::ZeroRate),
-    (1, 1, 12786308645202655226, FilterError::TooManyWords),
-    (1, 1, 12786308645202655227, FilterError::SizeOverflow),
+const REFUSED: [(u64, u64, usize, GrowingError); 3] = [
+    (1, 9223372036854775808, 1, GrowingError::RateOverflow),
+    (
+        1,
+        1,
+        12786308645202655226,
+        GrowingError::Filter(FilterError::TooManyWords),
+    ),
+    (
+        1,
+        1,
+        12786308645202655227,
+        GrowingError::Filter(FilterError::SizeOverflow),
+    ),
 ];
 
 // Why a filter is refused, if it is.
-fn refusal(alloc: Global, num: u64, den: u64, items: usize) -> Option<FilterError> {
+fn refusal(alloc: Global, num: u64, den: u64, items: usize) -> Option<GrowingError> {
     match Rate::new(num, den) {
         Ok(rate) => GrowingFilter::new(alloc, rate, items).err(),
-        Err(error) => Some(error),
+        Err(error) => Some(GrowingError::Filter(error)),
     }
 }
 
 // Whether a second filter is refused, since the rate of the first can't be halved, and nothing
 // changes.
-fn stays(alloc: Global) -> Result<bool, FilterError> {
+fn stays(alloc: Global) -> Result<bool, GrowingError> {
     let mut filter = GrowingFilter::new(alloc, Rate::new(1, 9223372036854775807)?, 0)?;
     let first = filter.insert_hash(alloc, 1)?;
     let second = filter.insert_hash(alloc, 2).err();
     let held = filter.insert_hash(alloc, 1)?;
     let kept = filter.contains_hash(1) & !filter.contains_hash(2);
     let counted = (filter.taken() == 1) & (filter.room() == 1) & (filter.older().len() == 0);
-    Ok(!first & (second == Some(FilterError::ZeroRate)) & held & kept & counted)
+    Ok(!first & (second == Some(GrowingError::RateOverflow)) & held & kept & counted)
 }
 
 #[test]
@@ -128,8 +138,30 @@ fn a_filter_that_cannot_be_made_is_refused(rt: HostRuntime) {
     assert!(rt; matches!(stays(rt.alloc()), Ok(true)));
 }
 
+// A refusal of the builders keeps its text.
+const TEXTS: [(GrowingError, &str); 3] = [
+    (
+        GrowingError::RateOverflow,
+        "lower part of the rate too large",
+    ),
+    (GrowingError::TooManyItems, "too many items"),
+    (
+        GrowingError::Filter(FilterError::SizeOverflow),
+        "size too large",
+    ),
+];
+
+#[test]
+fn each_refusal_has_its_text(rt: HostRuntime) -> Result<(), AllocError> {
+    for (error, text) in TEXTS {
+        let found = error.to_string(rt.alloc())?;
+        assert!(rt; found.as_str() == text, "{text}");
+    }
+    Ok(())
+}
+
 // Whether a filter under a seed takes an item as the builders' filter under that seed does.
-fn takes_items(alloc: Global) -> Result<bool, FilterError> {
+fn takes_items(alloc: Global) -> Result<bool, GrowingError> {
     let mut filter = GrowingFilter::seeded(alloc, Rate::new(1, 10)?, 8, &42)?;
     let first = BloomFilter::with_false_pos(Rate::new(1, 20)?).seed(&42);
     let mut other = first.expected_items(alloc, 8)?;

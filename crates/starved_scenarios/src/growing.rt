@@ -1,29 +1,38 @@
 //! A filter that grows.
 use crate::standing::word_of;
-use fastbloom::{FilterError, GrowingFilter, Rate};
+use fastbloom::{FilterError, GrowingError, GrowingFilter, Rate};
 use std::alloc::Global;
 use std::test::Fail;
 
-fn begun(alloc: Global) -> Result<bool, FilterError> {
+// The builders' refusal, or one that no lack of memory brings.
+fn refusal_of(error: GrowingError) -> FilterError {
+    match error {
+        GrowingError::Filter(refusal) => refusal,
+        GrowingError::RateOverflow | GrowingError::TooManyItems => FilterError::SizeOverflow,
+    }
+}
+
+fn begun(alloc: Global) -> Result<bool, GrowingError> {
     let filter = GrowingFilter::new(alloc, Rate::new(4, 1)?, 1)?;
     Ok((filter.newest().num_bits(), filter.room()) == (64, 1))
 }
 
 // A filter that is full, with hash 1.
-fn full(alloc: Global) -> Result<GrowingFilter, FilterError> {
+fn full(alloc: Global) -> Result<GrowingFilter, GrowingError> {
     let mut filter = GrowingFilter::new(alloc, Rate::new(4, 1)?, 1)?;
     filter.insert_hash(alloc, 1)?;
     Ok(filter)
 }
 
-fn grown(alloc: Global, filter: &mut GrowingFilter) -> Result<bool, FilterError> {
+fn grown(alloc: Global, filter: &mut GrowingFilter) -> Result<bool, GrowingError> {
     let held = filter.insert_hash(alloc, 2)?;
     Ok(!held && (filter.older().len(), filter.room()) == (1, 2))
 }
 
 #[test]
 fn a_first_filter_is_whole_or_refused(rt: HostRuntime) -> Result<(), Fail> {
-    println!(rt; "GrowingFilter::new: {}", word_of(&begun(rt.alloc())))?;
+    let end = begun(rt.alloc()).map_err(refusal_of);
+    println!(rt; "GrowingFilter::new: {}", word_of(&end))?;
     Ok(())
 }
 
@@ -32,7 +41,7 @@ fn a_next_filter_is_whole_or_refused(rt: HostRuntime) -> Result<(), Fail> {
     let Ok(mut filter) = full(rt.alloc()) else {
         return Ok(println!(rt; "insert_hash that grows: no room for the test")?);
     };
-    let end = grown(rt.alloc(), &mut filter);
+    let end = grown(rt.alloc(), &mut filter).map_err(refusal_of);
     println!(rt; "insert_hash that grows: {}", word_of(&end))?;
     let taken = (
         filter.older().len(),

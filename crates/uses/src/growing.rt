@@ -1,6 +1,6 @@
 //! A filter for a number of items that isn't known.
 
-use fastbloom::{FilterError, GrowingFilter, Rate};
+use fastbloom::{GrowingError, GrowingFilter, Rate};
 use std::alloc::Global;
 
 /// How many of the names were there before, from filters that together make one mistake in a
@@ -9,7 +9,7 @@ pub fn count_repeated(
     alloc: Global,
     key: &u128,
     names: &[&str],
-) -> Result<(u64, usize), FilterError> {
+) -> Result<(u64, usize), GrowingError> {
     let rate = Rate::new(1, 1000)?;
     let mut seen = GrowingFilter::seeded(alloc, rate, 2, key)?;
     let mut repeated = 0u64;

@@ -6,8 +6,7 @@ ghost use Rattle.bloom_plain.specs.Growing.{has};
 ghost use Rattle.bloom_plain.specs.GrowingInserts.{Takes, RefusesInsert};
 ghost use Rattle.bloom_plain.specs.SourceHash.{source_hash_of, IsFunctionOfBytes};
 
-use super::GrowingFilter;
-use bloom_parts::error::FilterError;
+use super::{GrowingError, GrowingFilter};
 use bloom_parts::hasher::{DefaultHasher, RandomDefaultHasher};
 use std::alloc::Global;
 use std::hash::{BuildHasher, Hash, Hasher};
@@ -32,7 +31,7 @@ impl GrowingFilter {
     /// # Errors
     /// Those of `insert_hash`.
     #[inline]
-    pub fn insert<T: Hash>(&mut self, alloc: Global, val: &T) -> Result<bool, FilterError>
+    pub fn insert<T: Hash>(&mut self, alloc: Global, val: &T) -> Result<bool, GrowingError>
         ensures takes { let hash = source_hash_of ⟦<DefaultHasher as BuildHasher>⟧
             ⟦<RandomDefaultHasher as Hasher>⟧ T.hash_input self.old.plan.hasher in
             IfOk result (λ reply. Takes self.old (hash val.now) self.new reply) }

@@ -1,13 +1,14 @@
 //! What a filter that grows is made of.
 ghost use Rattle.std.specs.Prelude.{◌≡◌, ℕ, ◌*◌, ◌^◌, ◌<◌, ◌≤◌, true, IfOk, OnErr, IfErr};
 ghost use Rattle.std.specs.Result.{result_err};
-ghost use Rattle.bloom_parts.specs.declared.error.FilterError.TheVariants.{ZeroRate};
 ghost use Rattle.bloom_parts.specs.Rates.{num_of, den_of};
 ghost use Rattle.bloom_plain.specs.Builders.{size_refusal, RefusesAs, IsSizeOf, IsMadeFor};
 ghost use Rattle.bloom_plain.specs.Filter.{Inserts};
 ghost use Rattle.bloom_plain.specs.Growing as growing;
 ghost use Rattle.bloom_plain.specs.Growing.{IsKeyed, rate_start};
+ghost use Rattle.bloom_plain.specs.declared.growing.error.GrowingError.TheVariants.{RateOverflow};
 
+use super::GrowingError;
 use crate::bloom::BloomFilter;
 use bloom_parts::error::FilterError;
 use bloom_parts::hasher::DefaultHasher;
@@ -16,16 +17,16 @@ use bloom_parts::math::Rate;
 use std::alloc::Global;
 
 // Half of a rate, with the same upper part.
-pub(super) fn half(rate: Rate) -> Result<Rate, FilterError>
+pub(super) fn half(rate: Rate) -> Result<Rate, GrowingError>
     ensures num { IfOk result (λ half. num_of half ≡ num_of rate) }
     ensures den { IfOk result (λ half. den_of half ≡ den_of rate * 2) }
     ensures fits { IfOk result (λ half. den_of half < 2 ^ 64) }
     ensures refused { OnErr result (2 ^ 64 ≤ den_of rate * 2) }
-    ensures error { IfErr result (λ e. e ≡ ZeroRate) }
+    ensures error { IfErr result (λ e. e ≡ RateOverflow) }
 {
     match rate.den().checked_mul(2) {
-        Some(den) => Rate::new(rate.num(), den),
-        None => Err(FilterError::ZeroRate),
+        Some(den) => Ok(Rate::new(rate.num(), den)?),
+        None => Err(GrowingError::RateOverflow),
     }
 }
 

@@ -1,7 +1,7 @@
 //! One run of `keep_new`, and what it leaves.
 use super::inputs::{Seen, Sources};
 use crate::faulty::{Reading, Sink, Writing};
-use bloom_plain::{BloomFilter, FilterError, GrowingFilter, Rate};
+use bloom_plain::{BloomFilter, GrowingError, GrowingFilter, Rate};
 use duplicates_engine::{Fault, Options, Progress, Sieve, Tally, keep_new};
 use std::alloc::Global;
 use std::cell::Cell;
@@ -36,7 +36,7 @@ impl Progress for Kept {
 #[derive(Drop)]
 pub(crate) struct Failing {
     pub(crate) left: u64,
-    pub(crate) error: FilterError,
+    pub(crate) error: GrowingError,
 }
 
 impl Sieve for Failing {
@@ -44,7 +44,7 @@ impl Sieve for Failing {
 
     ghost sifts = { λ _ _ _ _. Unit {0} };
 
-    fn sift(&mut self, _alloc: Global, _line: &[u8]) -> Result<bool, FilterError> {
+    fn sift(&mut self, _alloc: Global, _line: &[u8]) -> Result<bool, GrowingError> {
         if self.left == 0 {
             return Err(self.error);
         }

@@ -1,7 +1,7 @@
 -- Why `begin` refuses the next filter before it is made.
 use Rattle.std.proofs.Common.{Some, subst, arith}
 use Rattle.std.proofs.lemmas.Result.{err_from_is_err_and}
-use Rattle.bloom_parts.specs.declared.error.FilterError.TheVariants.{SizeOverflow}
+use Rattle.bloom_plain.specs.declared.growing.error.GrowingError.TheVariants.{TooManyItems}
 use Rattle.bloom_plain.proofs.GrowingKeptLemmas.{RefusesNext, refuses-next_rate, refuses-next_room}
 use Rattle.bloom_plain.proofs.growing.GrowingFilter.begin.Goals as goal
 
@@ -20,6 +20,6 @@ error-rate c =
 pub error-room : goal.returns-in_default-clause-refused
 error-room c =
     let half = c.in_ok-rate.ensures in
-    subst (λ g. RefusesNext g (Some SizeOverflow)) c.self.view_is
+    subst (λ g. RefusesNext g (Some TooManyItems)) c.self.view_is
     (refuses-next_room _ c.self.inside.newest_rate c.self.inside.room c.self.invariant
     c.in_ok-rate.rate half.num half.den half.fits (omega (arith, c.in_default.ensures)))

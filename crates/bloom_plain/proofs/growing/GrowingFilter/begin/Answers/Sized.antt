@@ -3,6 +3,7 @@ use Rattle.std.proofs.Common.{Some, None, subst, arith}
 use Rattle.std.proofs.lemmas.Result.{err_from_is_err_and}
 use Rattle.bloom_parts.specs.declared.error.FilterError.TheVariants.{Memory}
 use Rattle.bloom_plain.specs.Builders.{size_refusal}
+use Rattle.bloom_plain.specs.declared.growing.error.GrowingError.TheVariants.{Filter}
 use Rattle.bloom_plain.proofs.GrowingKeptLemmas.{RefusesNext, refuses-next_size}
 use Rattle.bloom_plain.proofs.GrowingRefusalLemmas.{refuses-memory}
 use Rattle.bloom_plain.proofs.growing.GrowingFilter.begin.Goals as goal
@@ -14,7 +15,7 @@ error-size c =
     let refused = err_from_is_err_and refusal.result refusal.ensures.1 in
     let half = c.in_ok-rate.ensures in
     rw (refused.1, refused.2)
-    (subst (λ g. RefusesNext g (Some c.in_err-made.field-0.0)) c.self.view_is
+    (subst (λ g. RefusesNext g (Some (Filter c.in_err-made.field-0.0))) c.self.view_is
     (refuses-next_size _ c.self.inside.newest_rate c.self.inside.room c.self.invariant
     c.in_ok-rate.rate half.num half.den c.in-Some.room c.in-Some.ensures.1 _ half.fits
     (omega (arith, c.in-Some.ensures)) c.in_err-made.ensures.refused))
@@ -27,7 +28,7 @@ error-memory c =
     let half = c.in_ok-rate.ensures in
     let size = c.in_ok-made.ensures.refused in
     rw (refused.1, refused.2)
-    (subst (λ g. RefusesNext g (Some Memory)) c.self.view_is
+    (subst (λ g. RefusesNext g (Some (Filter Memory))) c.self.view_is
     (refuses-next_size _ c.self.inside.newest_rate c.self.inside.room c.self.invariant
     c.in_ok-rate.rate half.num half.den c.in-Some.room c.in-Some.ensures.1 (Some Memory) half.fits
     (omega (arith, c.in-Some.ensures))
