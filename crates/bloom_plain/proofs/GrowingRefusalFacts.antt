@@ -1,6 +1,6 @@
 -- Why filters that grow are refused, at values from outside: cases that hold, and cases that differ
 -- from one of these in one thing and don't hold.
-use Rattle.std.proofs.Common.{◌≡◌, ◌^◌, true, [], Option, Some, None, refl, ◌∙◌, ap, subst, arith, lit<, lit≤}
+use Rattle.std.proofs.Common.{◌≡◌, ◌^◌, true, false, [], Option, Some, None, refl, ◌∙◌, ap, subst, arith, lit<, lit≤}
 use Rattle.bloom_parts.specs.Chain.{chain}
 use Rattle.bloom_parts.specs.Content.{content}
 use Rattle.bloom_parts.specs.Places.{are_in}
@@ -74,12 +74,20 @@ size-memory = record {
   size_refused = λ _ _. (64, (0, halvings-none, refl), Some Memory, refl, refl);
 }
 
--- a refusal of the builders is no other error
+-- the builders tell neither of the other errors
+not-rate : (refusal : Option FilterError) → Some RateOverflow ≡ of_builders refusal → ⊥
+not-rate None wrong = cc
+not-rate (Some e) wrong = cc
+
 not-room : (refusal : Option FilterError) → Some TooManyItems ≡ of_builders refusal → ⊥
 not-room None wrong = cc
 not-room (Some e) wrong = cc
 
--- so memory isn't told as the room
+-- so memory is told neither as the rate nor as the room
+size-made_rate : RefusesNumber four 1 1 (Some RateOverflow) → ⊥
+size-made_rate refused =
+    let size = refused.size_refused (lit< tt) (lit< tt) in not-rate size.2 size.4
+
 size-made_room : RefusesNumber four 1 1 (Some TooManyItems) → ⊥
 size-made_room refused =
     let size = refused.size_refused (lit< tt) (lit< tt) in not-room size.2 size.4
@@ -116,3 +124,16 @@ insert-held refused = let wrong : Some (Filter Memory) ≡ None = refused.held r
 -- nor is one where there is room
 insert-spare : RefusesInsert (grown [] with_none 0) 1 (Some (Filter Memory)) → ⊥
 insert-spare refused = let wrong : Some (Filter Memory) ≡ None = refused.spare (lit< tt) in cc
+
+-- an insert of a new hash where the newest filter is full is refused as the next filter is
+insert-full : RefusesInsert (grown [] with_one 1) 2 (Some (Filter Memory))
+unfolding content chain are_in
+insert-full = record {
+  held = λ held. let wrong : false ≡ true = held in cc;
+  spare = λ spare. absurd (omega (arith, spare));
+  full = λ _ _. size-memory;
+}
+
+insert-full_rate : RefusesInsert (grown [] with_one 1) 2 (Some RateOverflow) → ⊥
+unfolding content chain are_in
+insert-full_rate refused = size-made_rate (refused.full refl (lit≤ tt))

@@ -166,8 +166,9 @@ impl GrowingFilter {
     ///
     /// # Errors
     /// Only where the next filter has to begin, and then nothing changes: `RateOverflow` where its
-    /// rate would have a lower part of 2^64 or more, `TooManyItems` where it would be for 2^64 items
-    /// or more, and else `Filter` with the builders' `SizeOverflow`, `TooManyWords` or `Memory`.
+    /// rate would have a lower part of 2^64 or more, `TooManyItems` where it would be for 2^64
+    /// items or more, and else `Filter` with what the builders refuse: `SizeOverflow` for 2^64 bits
+    /// or more, `TooManyWords` for more than 2^58 - 1 words, and `Memory`.
     #[inline]
     pub fn insert_hash(&mut self, alloc: Global, hash: u64) -> Result<bool, GrowingError>
         ensures takes { IfOk result (λ reply. Takes self.old hash self.new reply) }
