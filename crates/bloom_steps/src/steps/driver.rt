@@ -21,10 +21,12 @@ fn set_each<W: WordStore>(store: &mut W, num_hashes: u32, hash: u64) -> bool
     let num_words = store.num_words();
     let mut chain = DoubleHasher::new(hash);
     let mut all_on = true;
-    'places: for _place in 0..num_hashes {
+    let mut left = num_hashes;
+    'places: while left > 0 {
         let (word, mask) = word_and_mask_of_hash(num_words, chain.next());
         let found = store.step(Step::Or(word, mask));
         all_on &= found & mask > 0;
+        left -= 1;
     }
     all_on
 }
@@ -40,14 +42,18 @@ fn look_at_each<W: WordStore>(store: &mut W, num_hashes: u32, hash: u64) -> bool
 {
     let num_words = store.num_words();
     let mut chain = DoubleHasher::new(hash);
-    'places: for _place in 0..num_hashes {
+    let mut left = num_hashes;
+    'places: loop {
         let (word, mask) = word_and_mask_of_hash(num_words, chain.next());
         let found = store.step(Step::Load(word));
         if found & mask == 0 {
             return false;
         }
+        left -= 1;
+        if left == 0 {
+            return true;
+        }
     }
-    true
 }
 
 // The step that clears a word, and takes it out or not.

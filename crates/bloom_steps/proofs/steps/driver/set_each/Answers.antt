@@ -1,8 +1,12 @@
+use Rattle.std.proofs.Common.{◌+◌, Some, arith}
 use Rattle.bloom_steps.proofs.StepLemmas.Driven.{set-next, set-none}
+use Rattle.bloom_steps.proofs.StepLemmas.Driving.{gone-all}
 use Rattle.bloom_steps.proofs.steps.driver.set_each.Goals as goal
 
 pub places-init : goal.places-init
 places-init g c = record {
+  places = 0;
+  split = omega arith;
   set = set-none _ _ _ _ _ _ c.requires.hashes c.new-chain.ensures;
   words = c.num_words-num_words.ensures.value;
 }
@@ -13,9 +17,12 @@ places-preserved g c =
     let next = c.next.ensures in
     let at = c.word_and_mask_of_hash-word.ensures in
     record {
+      places = before.places + 1;
+      split = omega (arith, before.split, c.places-test.true);
       set =
-          set-next _ _ _ _ _ _ _ c.places._place _ _ _ _ _ _ _ _ before.set c.places-test.true
-          before.words (next.value _ _ before.set.stands) at.word at.mask c.step-found.ensures
+          set-next _ _ _ _ _ _ _ before.places _ _ _ _ _ _ _ _ before.set
+          (omega (arith, before.split, c.places-test.true)) before.words
+          (next.value _ _ before.set.stands) at.word at.mask c.step-found.ensures
           (next.moved _ _ before.set.stands);
       words = before.words;
     }
