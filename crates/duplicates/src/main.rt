@@ -10,17 +10,17 @@ mod telling;
 use clap::{ArgMatches, Error};
 use command_line::{matched, misuse, request_of};
 use std::process::ExitCode;
-use telling::{DONE, MISUSED, UNWRITTEN, tell_no_room};
+use telling::{BAD, DONE, FAILED, tell_no_room};
 
 // Prints what clap has to say, and gives the status.
 fn print(rt: &HostRuntime, error: &Error) -> u8 {
     let is_printed = error.print(rt).is_ok();
     if error.use_stderr() {
-        MISUSED
+        BAD
     } else if is_printed {
         DONE
     } else {
-        UNWRITTEN
+        FAILED
     }
 }
 
@@ -62,7 +62,7 @@ fn main(rt: HostRuntime) -> ExitCode {
         Err(error) => {
             if error.kind() == std::io::ErrorKind::InvalidData {
                 let _ = eprintln!(rt; "duplicates: an argument isn't UTF-8");
-                ExitCode::from(MISUSED)
+                ExitCode::from(BAD)
             } else {
                 ExitCode::from(tell_no_room(&rt, "out of memory"))
             }

@@ -10,23 +10,17 @@ use std::io::ErrorKind;
 /// All lines were done.
 pub const DONE: u8 = 0;
 
-/// A line of an input is too long.
-pub const BAD: u8 = 1;
-
-/// The words after the program's name are wrong.
-pub const MISUSED: u8 = 2;
-
-/// More different lines came than a filter that doesn't grow was made for.
-pub const OVERFULL: u8 = 4;
+/// The words after the program's name are wrong, or a line of an input is too long.
+pub const BAD: u8 = 2;
 
 /// Out of memory, or of room for one more filter.
-pub const NO_ROOM: u8 = 5;
+pub const NO_ROOM: u8 = 3;
 
-/// A write failed.
-pub const UNWRITTEN: u8 = 6;
+/// A read or a write failed, or an input can't be opened.
+pub const FAILED: u8 = 4;
 
-/// An input can't be opened or read.
-pub const UNREAD: u8 = 8;
+/// More different lines came than a filter that doesn't grow was made for.
+pub const OVERFULL: u8 = 5;
 
 /// Tells how far a run is where standard error is a terminal, and warns where more different lines
 /// came than the filter was made for.
@@ -97,18 +91,18 @@ pub fn tell_fault(rt: &HostRuntime, name: &str, is_named: bool, fault: Fault) ->
         }
         Fault::Open(kind) => {
             let _ = eprintln!(rt; "duplicates: {place} can't be opened{}", Because(kind));
-            UNREAD
+            FAILED
         }
         Fault::Input(kind) => {
             let _ = eprintln!(rt; "duplicates: {place} can't be read{}", Because(kind));
-            UNREAD
+            FAILED
         }
         Fault::Output(kind) => {
             let _ = eprintln!(rt;
                 "duplicates: standard output can't be written{}",
                 Because(kind)
             );
-            UNWRITTEN
+            FAILED
         }
         Fault::Memory => tell_no_room(rt, "out of memory"),
         Fault::Full => tell_no_room(rt, "the filter can't grow any more at this rate"),

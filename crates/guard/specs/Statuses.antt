@@ -1,12 +1,12 @@
--- With which status a task ends that isn't carried out: 5 where memory is out, 6 where a write
--- failed, 7 where another process has the store open, 8 where a file or an input can't be opened
--- or read, and else 1: what was read isn't what it should be.
+-- With which status a task ends that isn't carried out: 3 where there is no memory, or no thread,
+-- 4 where a read or a write failed, or a file can't be opened, 6 where another process has the
+-- store open, and else 2: what was read isn't what it should be.
 use Rattle.std.specs.Prelude.{ℕ}
 use Rattle.bloom_parts.specs.declared.error.FilterError.{FilterError}
 use Rattle.bloom_parts.specs.declared.error.FilterError.TheVariants.{ZeroBits, EmptyWords, TooManyWords, ZeroRate, SizeOverflow, Memory, HashCount, Worker}
 use Rattle.guard.specs.declared.filter_file.FilterFault.{FilterFault}
 use Rattle.guard.specs.declared.store_file.StoreFault.{StoreFault}
-use Rattle.guard.specs.declared.store_file.StoreFault.TheVariants.{Sql, Unread, NoMemory, DiskFull, Locked, Unfit}
+use Rattle.guard.specs.declared.store_file.StoreFault.TheVariants.{Sql, Failed, NoMemory, Locked, Unfit}
 use Rattle.guard_engine.specs.declared.commands.Trouble.{Trouble}
 use Rattle.guard_engine.specs.declared.commands.Trouble.TheVariants as troubles
 use Rattle.guard_engine.specs.declared.guard.Fault.TheVariants as faults
@@ -17,38 +17,37 @@ use Rattle.guard_engine.specs.declared.guard.loads.Why.TheVariants as why
 
 -- where the store failed
 abbrev pub status_for : StoreFault → ℕ
-status_for (Sql error) = 1
-status_for (Unread error) = 8
-status_for NoMemory = 5
-status_for DiskFull = 6
-status_for Locked = 7
-status_for (Unfit reason) = 1
+status_for (Sql error) = 2
+status_for (Failed error) = 4
+status_for NoMemory = 3
+status_for Locked = 6
+status_for (Unfit reason) = 2
 
 -- where lines weren't taken to their end
 abbrev pub status_of_why : Why StoreFault FilterFault → ℕ
-status_of_why (why.Line bad) = 1
-status_of_why (why.Input kind) = 8
-status_of_why why.Memory = 5
+status_of_why (why.Line bad) = 2
+status_of_why (why.Input kind) = 4
+status_of_why why.Memory = 3
 status_of_why (why.Store fault) = status_for fault
-status_of_why (why.Kept fault) = 6
+status_of_why (why.Kept fault) = 4
 
 -- where a task wasn't carried out to its end
 abbrev pub status_after : Trouble StoreFault FilterFault → ℕ
 status_after (troubles.Put (faults.Store fault)) = status_for fault
-status_after (troubles.Put (faults.Kept fault)) = 6
+status_after (troubles.Put (faults.Kept fault)) = 4
 status_after (troubles.Key fault) = status_for fault
 status_after (troubles.Lines stop) = status_of_why stop.why
 
 -- where there is no filter of the store's keys
 abbrev pub status_of_lack : FilterError → ℕ
-status_of_lack ZeroBits = 1
-status_of_lack EmptyWords = 1
-status_of_lack TooManyWords = 1
-status_of_lack ZeroRate = 1
-status_of_lack SizeOverflow = 1
-status_of_lack Memory = 5
-status_of_lack HashCount = 1
-status_of_lack Worker = 1
+status_of_lack ZeroBits = 2
+status_of_lack EmptyWords = 2
+status_of_lack TooManyWords = 2
+status_of_lack ZeroRate = 2
+status_of_lack SizeOverflow = 2
+status_of_lack Memory = 3
+status_of_lack HashCount = 2
+status_of_lack Worker = 3
 
 -- where there is no guard
 abbrev pub status_without : Refusal StoreFault → ℕ

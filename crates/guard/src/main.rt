@@ -16,7 +16,7 @@ mod telling;
 use command_line::arguments;
 use connections::OnDisk;
 use std::process::ExitCode;
-use telling::{DONE, MISUSED, NO_MEMORY, UNWRITTEN};
+use telling::{BAD, DONE, FAILED, NO_MEMORY};
 
 // What the words ask for is done; the status.
 fn run(rt: &HostRuntime, words: &[String]) -> u8 {
@@ -25,11 +25,11 @@ fn run(rt: &HostRuntime, words: &[String]) -> u8 {
         Err(error) => {
             let is_printed = error.print(rt).is_ok();
             if error.use_stderr() {
-                MISUSED
+                BAD
             } else if is_printed {
                 DONE
             } else {
-                UNWRITTEN
+                FAILED
             }
         }
     }
@@ -46,7 +46,7 @@ fn main(rt: HostRuntime) -> ExitCode {
         Err(error) => {
             if error.kind() == std::io::ErrorKind::InvalidData {
                 let _ = eprintln!(rt; "guard: an argument isn't UTF-8");
-                ExitCode::from(MISUSED)
+                ExitCode::from(BAD)
             } else {
                 let _ = eprintln!(rt; "guard: out of memory");
                 ExitCode::from(NO_MEMORY)

@@ -7,7 +7,7 @@ use crate::guards::{Reader, Writer};
 use crate::input_file::open_input;
 use crate::medium::{Files, Medium, StoreFile};
 use crate::names::Names;
-use crate::telling::{DONE, Input, NO, NO_MEMORY, UNREAD, tell, tell_refusal, tell_store};
+use crate::telling::{DONE, FAILED, Input, NO, NO_MEMORY, tell, tell_refusal, tell_store};
 use crate::{guards, tasks};
 use bloom_plain::Rate;
 use guard_engine::Task;
@@ -20,12 +20,12 @@ const PUT_ROOM: usize = 1000;
 // The status where a file can't be opened or read.
 fn status_of_read(kind: ErrorKind) -> u8
     ensures memory { kind ≡ ErrorKind.OutOfMemory → result ≡ NO_MEMORY }
-    ensures other { kind ≢ ErrorKind.OutOfMemory → result ≡ UNREAD }
+    ensures other { kind ≢ ErrorKind.OutOfMemory → result ≡ FAILED }
 {
     if kind == ErrorKind::OutOfMemory {
         NO_MEMORY
     } else {
-        UNREAD
+        FAILED
     }
 }
 
@@ -37,7 +37,7 @@ fn open_reader<'a, M: Medium>(
 ) -> Result<Reader<'a, StoreFile<'a, M>>, u8> {
     if !names.has_store(rt) {
         tell(rt, names.store.as_str(), "there is no such store");
-        return Err(UNREAD);
+        return Err(FAILED);
     }
     match guards::over_file(rt, names, StoreFile::new(rt, names), rate) {
         Ok((mut guard, origin)) => {
@@ -194,7 +194,7 @@ fn load<'a, M: Medium>(rt: &'a HostRuntime, names: &'a Names, rate: Rate, load: 
 fn list<M: Medium>(rt: &HostRuntime, names: &Names) -> u8 {
     if !names.has_store(rt) {
         tell(rt, names.store.as_str(), "there is no such store");
-        return UNREAD;
+        return FAILED;
     }
     let mut table = match M::found(rt, names) {
         Ok(table) => table,

@@ -14,15 +14,12 @@ pub enum StoreFault {
     /// A call of SQLite failed for a reason that stands nowhere else here.
     #[error("{0}")]
     Sql(Error),
-    /// The file can't be opened, or a read or a write of it failed.
+    /// The file can't be opened, a read or a write of it failed, or the disk has no space.
     #[error("{0}")]
-    Unread(Error),
+    Failed(Error),
     /// Out of memory.
     #[error("out of memory")]
     NoMemory,
-    /// The disk has no space.
-    #[error("database or disk is full")]
-    DiskFull,
     /// Another process has it open.
     #[error("it is locked: another process has it open")]
     Locked,
@@ -43,12 +40,12 @@ pub fn fault_of(error: Error) -> StoreFault
         ↔ (error ≡ Error.SqliteFailure ErrorCode.DatabaseBusy) }
     ensures no_memory { (result ≡ StoreFault.NoMemory)
         ↔ (error ≡ Error.SqliteFailure ErrorCode.OutOfMemory) }
-    ensures full { (result ≡ StoreFault.DiskFull)
-        ↔ (error ≡ Error.SqliteFailure ErrorCode.DiskFull) }
+    ensures full { error ≡ Error.SqliteFailure ErrorCode.DiskFull
+        → result ≡ StoreFault.Failed error }
     ensures closed { error ≡ Error.SqliteFailure ErrorCode.CannotOpen
-        → result ≡ StoreFault.Unread error }
+        → result ≡ StoreFault.Failed error }
     ensures failed { error ≡ Error.SqliteFailure ErrorCode.SystemIoFailure
-        → result ≡ StoreFault.Unread error }
+        → result ≡ StoreFault.Failed error }
     ensures other { error ≢ Error.SqliteFailure ErrorCode.DatabaseBusy
         → error ≢ Error.SqliteFailure ErrorCode.OutOfMemory
         → error ≢ Error.SqliteFailure ErrorCode.DiskFull
@@ -59,9 +56,9 @@ pub fn fault_of(error: Error) -> StoreFault
     match error {
         Error::SqliteFailure(ErrorCode::DatabaseBusy) => StoreFault::Locked,
         Error::SqliteFailure(ErrorCode::OutOfMemory) => StoreFault::NoMemory,
-        Error::SqliteFailure(ErrorCode::DiskFull) => StoreFault::DiskFull,
-        Error::SqliteFailure(ErrorCode::CannotOpen) => StoreFault::Unread(error),
-        Error::SqliteFailure(ErrorCode::SystemIoFailure) => StoreFault::Unread(error),
+        Error::SqliteFailure(ErrorCode::DiskFull) => StoreFault::Failed(error),
+        Error::SqliteFailure(ErrorCode::CannotOpen) => StoreFault::Failed(error),
+        Error::SqliteFailure(ErrorCode::SystemIoFailure) => StoreFault::Failed(error),
         error => StoreFault::Sql(error),
     }
 }

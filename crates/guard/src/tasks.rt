@@ -3,9 +3,7 @@
 use crate::filter_file::FilterFault;
 use crate::names::Names;
 use crate::store_file::StoreFault;
-use crate::telling::{
-    BAD, DONE, Input, NO, UNWRITTEN, tell, tell_filter, tell_origin, tell_trouble,
-};
+use crate::telling::{BAD, DONE, FAILED, Input, NO, tell, tell_filter, tell_origin, tell_trouble};
 use guard_engine::{Answer, Guard, Kept, Origin, Store, Task, Trouble, carry_out};
 use lines::Reason;
 use std::io;
@@ -14,7 +12,7 @@ use std::io::{BufWriter, Read, Write};
 /// Tells that the answer can't be printed.
 fn tell_output(rt: &HostRuntime, error: io::Error) -> u8 {
     tell(rt, "standard output", Reason(error.kind()));
-    UNWRITTEN
+    FAILED
 }
 
 /// Tells where the filter was made anew, and tries to save it.

@@ -13,26 +13,20 @@ use std::fmt::Display;
 /// The task was carried out.
 pub const DONE: u8 = 0;
 
-/// A file or an input isn't what it should be.
-pub const BAD: u8 = 1;
-
-/// The words after the program's name are wrong.
-pub const MISUSED: u8 = 2;
-
 /// The key has no value, or, where one is to be put, it has.
-pub const NO: u8 = 3;
+pub const NO: u8 = 1;
 
-/// Out of memory.
-pub const NO_MEMORY: u8 = 5;
+/// The words after the program's name are wrong, or a file or an input isn't what it should be.
+pub const BAD: u8 = 2;
 
-/// A write failed.
-pub const UNWRITTEN: u8 = 6;
+/// Out of memory, or a thread can't be started.
+pub const NO_MEMORY: u8 = 3;
+
+/// A read or a write failed, or a file can't be opened.
+pub const FAILED: u8 = 4;
 
 /// Another process has the store open.
-pub const LOCKED: u8 = 7;
-
-/// A file or an input can't be opened or read.
-pub const UNREAD: u8 = 8;
+pub const LOCKED: u8 = 6;
 
 /// Where the lines of a task come from, as it is told, and whether they are put.
 #[derive(Clone, Copy)]
@@ -52,9 +46,8 @@ fn status_of(fault: &StoreFault) -> u8
 {
     match fault {
         StoreFault::Sql(_) => BAD,
-        StoreFault::Unread(_) => UNREAD,
+        StoreFault::Failed(_) => FAILED,
         StoreFault::NoMemory => NO_MEMORY,
-        StoreFault::DiskFull => UNWRITTEN,
         StoreFault::Locked => LOCKED,
         StoreFault::Unfit(_) => BAD,
     }
@@ -66,10 +59,10 @@ fn status_of_why(why: &Why<StoreFault, FilterFault>) -> u8
 {
     match why {
         Why::Line(_) => BAD,
-        Why::Input(_) => UNREAD,
+        Why::Input(_) => FAILED,
         Why::Memory => NO_MEMORY,
         Why::Store(fault) => status_of(fault),
-        Why::Kept(_) => UNWRITTEN,
+        Why::Kept(_) => FAILED,
     }
 }
 
@@ -79,7 +72,7 @@ fn status_of_trouble(trouble: &Trouble<StoreFault, FilterFault>) -> u8
 {
     match trouble {
         Trouble::Put(Fault::Store(fault)) => status_of(fault),
-        Trouble::Put(Fault::Kept(_)) => UNWRITTEN,
+        Trouble::Put(Fault::Kept(_)) => FAILED,
         Trouble::Key(fault) => status_of(fault),
         Trouble::Lines(stop) => status_of_why(&stop.why),
     }
@@ -97,7 +90,7 @@ fn status_of_lack(error: &FilterError) -> u8
         FilterError::SizeOverflow => BAD,
         FilterError::Memory => NO_MEMORY,
         FilterError::HashCount => BAD,
-        FilterError::Worker => BAD,
+        FilterError::Worker => NO_MEMORY,
     }
 }
 
@@ -111,10 +104,10 @@ pub fn tell_store(rt: &HostRuntime, names: &Names, fault: &StoreFault) -> u8
 
 /// Tells that the filter can't be saved.
 pub fn tell_filter(rt: &HostRuntime, names: &Names, fault: &FilterFault) -> u8
-    ensures { result ≡ UNWRITTEN }
+    ensures { result ≡ FAILED }
 {
     tell(rt, names.filter.as_str(), fault);
-    UNWRITTEN
+    FAILED
 }
 
 /// Tells why there is no guard.

@@ -13,7 +13,7 @@ use std::process::ExitCode;
 use std::rt::Files;
 use std::thread::Threads;
 use summaries_engine::Stop;
-use telling::{DONE, MISUSED, UNWRITTEN, tell, tell_stop};
+use telling::{BAD, DONE, FAILED, tell, tell_stop};
 
 // What the words ask for is done; the status.
 fn run<R: Files + Input + Print + Eprint + AllocGlobal + Threads>(rt: &R, words: &[String]) -> u8 {
@@ -25,11 +25,11 @@ fn run<R: Files + Input + Print + Eprint + AllocGlobal + Threads>(rt: &R, words:
         Err(error) => {
             let is_printed = error.print(rt).is_ok();
             if error.use_stderr() {
-                MISUSED
+                BAD
             } else if is_printed {
                 DONE
             } else {
-                UNWRITTEN
+                FAILED
             }
         }
     }
@@ -46,7 +46,7 @@ fn main(rt: HostRuntime) -> ExitCode {
         Err(error) => {
             if error.kind() == std::io::ErrorKind::InvalidData {
                 tell(&rt, "an argument isn't UTF-8");
-                ExitCode::from(MISUSED)
+                ExitCode::from(BAD)
             } else {
                 ExitCode::from(tell_stop(&rt, Stop::Memory))
             }

@@ -7,20 +7,14 @@ use summaries_engine::Stop;
 /// The task was carried out.
 pub const DONE: u8 = 0;
 
-/// A file or standard input isn't what it should be.
-pub const BAD: u8 = 1;
-
-/// The words after the program's name are wrong.
-pub const MISUSED: u8 = 2;
+/// The words after the program's name are wrong, or an input isn't what it should be.
+pub const BAD: u8 = 2;
 
 /// Out of memory, or a thread can't be started.
-pub const NO_ROOM: u8 = 5;
+pub const NO_ROOM: u8 = 3;
 
-/// A write failed.
-pub const UNWRITTEN: u8 = 6;
-
-/// A file or standard input can't be opened or read.
-pub const UNREAD: u8 = 8;
+/// A read or a write failed, or a file can't be opened.
+pub const FAILED: u8 = 4;
 
 /// Tells what failed, on one line.
 pub fn tell<R: Eprint, D: Display + Drop>(rt: &R, what: D) {
@@ -32,9 +26,9 @@ pub fn tell_stop<R: Eprint>(rt: &R, stop: Stop) -> u8 {
     let status = match &stop {
         Stop::Memory => NO_ROOM,
         Stop::Worker => NO_ROOM,
-        Stop::Input(_) => UNREAD,
+        Stop::Input(_) => FAILED,
         Stop::Bad(_) => BAD,
-        Stop::Output(_) => UNWRITTEN,
+        Stop::Output(_) => FAILED,
     };
     tell(rt, stop);
     status
