@@ -42,18 +42,14 @@ fn look_at_each<W: WordStore>(store: &mut W, num_hashes: u32, hash: u64) -> bool
 {
     let num_words = store.num_words();
     let mut chain = DoubleHasher::new(hash);
-    let mut left = num_hashes;
-    'places: loop {
+    'places: for _place in 0..num_hashes {
         let (word, mask) = word_and_mask_of_hash(num_words, chain.next());
         let found = store.step(Step::Load(word));
         if found & mask == 0 {
             return false;
         }
-        left -= 1;
-        if left == 0 {
-            return true;
-        }
     }
+    true
 }
 
 // The step that clears a word, and takes it out or not.

@@ -1,25 +1,13 @@
-use Rattle.std.proofs.Common.{◌+◌, Some, arith, true}
 use Rattle.bloom_steps.proofs.StepLemmas.Driven.{look-next, look-off}
-use Rattle.bloom_steps.proofs.StepLemmas.Driving.{gone-all}
 use Rattle.bloom_steps.proofs.steps.driver.look_at_each.Goals as goal
 
 pub returns-then-found-mask-eq0-clause-script : goal.returns-then-found-mask-eq0-clause-script
 returns-then-found-mask-eq0-clause-script g c =
     let before = c.places.invariant in
     let at = c.word_and_mask_of_hash-word.ensures in
-    look-off _ _ _ _ _ _ _ _ _ _ _ _ _ before.gone (omega (arith, before.split, before.more))
-    before.words (c.next.ensures.value _ _ before.stands) at.word at.mask c.step-found.ensures
+    look-off _ _ _ _ _ _ _ _ _ _ _ _ _ before.gone c.places-test.true before.words
+    (c.next.ensures.value _ _ before.stands) at.word at.mask c.step-found.ensures
     c.if-found-mask-eq0.true
-
-pub returns-then-left-eq0-clause-script : goal.returns-then-left-eq0-clause-script
-returns-then-left-eq0-clause-script g c =
-    let before = c.places.invariant in
-    let at = c.word_and_mask_of_hash-word.ensures in
-    gone-all _ _ _ _ _ _ _ (before.places + 1) (Some true)
-    (look-next _ _ _ _ _ _ _ _ _ _ _ _ _ before.gone (omega (arith, before.split, before.more))
-    before.words (c.next.ensures.value _ _ before.stands) at.word at.mask c.step-found.ensures
-    c.if-found-mask-eq0.false)
-    (omega (arith, before.split, before.more, c.if-left-eq0.true))
 
 pub places-preserved : goal.places-preserved
 places-preserved g c =
@@ -27,13 +15,10 @@ places-preserved g c =
     let next = c.next.ensures in
     let at = c.word_and_mask_of_hash-word.ensures in
     record {
-      places = before.places + 1;
-      split = omega (arith, before.split, before.more);
-      more = omega (arith, before.more, c.if-left-eq0.false);
       stands = next.moved _ _ before.stands;
       gone =
-          look-next _ _ _ _ _ _ _ _ _ _ _ _ _ before.gone
-          (omega (arith, before.split, before.more)) before.words (next.value _ _ before.stands)
-          at.word at.mask c.step-found.ensures c.if-found-mask-eq0.false;
+          look-next _ _ _ _ _ _ _ _ _ _ _ _ _ before.gone c.places-test.true before.words
+          (next.value _ _ before.stands) at.word at.mask c.step-found.ensures
+          c.if-found-mask-eq0.false;
       words = before.words;
     }
