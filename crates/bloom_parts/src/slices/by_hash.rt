@@ -2,17 +2,27 @@
 ghost use Rattle.std.specs.Prelude.{◌≡◌, ℕ, ◌*◌, ◌/◌, ◌%◌, ◌^◌, ◌<◌, ◌≤◌, ◌||◌, ◌==◌, if◌then◌else◌, length};
 ghost use Rattle.bloom_parts.specs.Content.{content, index_of};
 
-/// The word where a hash lies among this many words, and the number that has its bit alone.
+/// The word where a hash lies among this many words, and its bit there, from 0 to 63.
 ///
 /// The product's high half is the word, and the six bits below it are the bit.
-pub fn word_and_mask_of_hash(words: usize, hash: u64) -> (usize, u64)
+pub fn word_and_bit_of_hash(words: usize, hash: u64) -> (usize, u64)
     ensures word { result.0 ≡ index_of (64 * words) hash / 64 }
-    ensures mask { result.1 ≡ 2 ^ (index_of (64 * words) hash % 64) }
+    ensures bit { result.1 ≡ index_of (64 * words) hash % 64 }
     ensures range { 0 < words → result.0 < words }
 {
     let product = hash as u128 * words as u128;
     let word = (product >> 64) as usize;
     let bit = (product >> 58) % 64;
+    (word, bit as u64)
+}
+
+// The same word, and the number that has the bit alone.
+fn word_and_mask_of_hash(words: usize, hash: u64) -> (usize, u64)
+    ensures word { result.0 ≡ index_of (64 * words) hash / 64 }
+    ensures mask { result.1 ≡ 2 ^ (index_of (64 * words) hash % 64) }
+    ensures range { 0 < words → result.0 < words }
+{
+    let (word, bit) = word_and_bit_of_hash(words, hash);
     (word, 1 << bit)
 }
 

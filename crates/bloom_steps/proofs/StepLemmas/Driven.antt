@@ -1,17 +1,17 @@
 -- Steps of each plan over a store: at the places of a hash, at each word, and in pairs.
-use Rattle.std.proofs.Common.{[], ◌*◌, ◌/◌, ◌%◌, ◌^◌, ◌++◌, ◌+◌, ◌<◌, ◌≤◌, ◌∙◌, ◌∷◌, ◌≡◌, ◌≢◌, ◌↔◌, ◌&&◌, Bool, List, None, Option, Some, ap, arith, false, true, inl, inr, length, ltb, bit_and, refl, subst, sym, ℕ, slice_get}
-use Rattle.std.proofs.lemmas.Bool.{both_ways, lt-ltb}
+use Rattle.std.proofs.Common.{[], ◌*◌, ◌/◌, ◌%◌, ◌^◌, ◌++◌, ◌+◌, ◌<◌, ◌≤◌, ◌∙◌, ◌∷◌, ◌≡◌, ◌↔◌, ◌&&◌, ◌==◌, Bool, List, None, Some, ap, arith, false, true, inl, inr, length, refl, subst, sym, ℕ, slice_get}
+use Rattle.std.proofs.lemmas.Bool.{both_ways}
+use Rattle.std.specs.Int.{bit_at}
 use Rattle.std.proofs.lemmas.Option.{none-some, same_Some}
 use Rattle.bloom_parts.specs.declared.hasher.chain.DoubleHasher.{DoubleHasher}
 use Rattle.bloom_parts.specs.Chain.{IsAt, chain}
 use Rattle.bloom_parts.specs.Content.{bit_is_on, index_of}
 use Rattle.bloom_parts.specs.Places.{place}
-use Rattle.bloom_parts.proofs.PublishedLemmas.{test-bit}
 use Rattle.bloom_steps.specs.declared.steps.vocabulary.End.{End}
 use Rattle.bloom_steps.specs.declared.steps.vocabulary.End.TheVariants.{Running, Done, Answer}
 use Rattle.bloom_steps.specs.declared.steps.vocabulary.Step.{Step}
 use Rattle.bloom_steps.specs.declared.steps.vocabulary.Step.TheVariants.{Or, Load, Other}
-use Rattle.bloom_steps.specs.Plans.{EachPair, EachWord, LooksAt, Plan, TurnsOn}
+use Rattle.bloom_steps.specs.Plans.{EachPair, EachWord, LooksAt, TurnsOn}
 use Rattle.bloom_steps.specs.Scripts.{Any, DrivesPlan, Taken}
 use Rattle.bloom_steps.specs.Steps.{or_at, load_at}
 use Rattle.bloom_steps.proofs.StepLemmas.Driving.{HasGone, KeepsNothing, gone-next, gone-none, linked-more, made}
@@ -20,18 +20,18 @@ use Rattle.bloom_steps.proofs.StepLemmas.Growing.{IsNextOfPairs, goes_on-more, l
 use Rattle.bloom_steps.proofs.StepLemmas.Members.{member-seam}
 use Rattle.bloom_steps.proofs.StepLemmas.Replying.{answer_of-more}
 
--- the word and the mask of a position are those of its place
-place-at : (w n hash i h word mask : ℕ) → n ≡ w → h ≡ chain hash i
-    → word ≡ index_of (64 * n) h / 64 → mask ≡ 2 ^ (index_of (64 * n) h % 64)
-    → (word ≡ place (64 * w) hash i / 64) × (mask ≡ 2 ^ (place (64 * w) hash i % 64))
-place-at w n hash i h word mask all here is_word is_mask =
+-- the word and the bit of a position are those of its place
+place-at : (w n hash i h word bit : ℕ) → n ≡ w → h ≡ chain hash i
+    → word ≡ index_of (64 * n) h / 64 → bit ≡ index_of (64 * n) h % 64
+    → (word ≡ place (64 * w) hash i / 64) × (bit ≡ place (64 * w) hash i % 64)
+place-at w n hash i h word bit all here is_word is_bit =
     let same : index_of (64 * n) h ≡ place (64 * w) hash i =
     ap (λ m. index_of (64 * m) h) all ∙ ap (index_of (64 * w)) here in
-    (is_word ∙ ap (λ p. p / 64) same, is_mask ∙ ap (λ p. 2 ^ (p % 64)) same)
+    (is_word ∙ ap (λ p. p / 64) same, is_bit ∙ ap (λ p. p % 64) same)
 
 -- the test of a position's bit in the word found
-bit-at : (p mask found : ℕ) → mask ≡ 2 ^ (p % 64) → ltb 0 (bit_and found mask) ≡ bit_is_on found p
-bit-at p mask found is = ap (λ m. ltb 0 (bit_and found m)) is ∙ test-bit found (p % 64)
+bit-at : (p bit found : ℕ) → bit ≡ p % 64 → (bit_at found bit == 1) ≡ bit_is_on found p
+bit-at p bit found is = ap (λ b. bit_at found b == 1) is
 
 -- whether a step at each place of a hash so far found its bit on
 abbrev pub TellsOn : ℕ → ℕ → Bool → List Taken → Type 0
@@ -58,26 +58,27 @@ module _ {S : Type 0} (count : S → ℕ) (moved : S → Step → ℕ → S → 
   }
 
   -- one place more
-  pub set-next : (before now after : S) (i n h word mask found : ℕ) (all : Bool)
+  pub set-next : (before now after : S) (i n h word bit mask found : ℕ) (all on : Bool)
       (c d : DoubleHasher)
       → HasSet before now i all c → i < k → n ≡ count before → h ≡ chain hash i
-      → word ≡ index_of (64 * n) h / 64 → mask ≡ 2 ^ (index_of (64 * n) h % 64)
-      → record { moved : moved now (Or word mask) found after; words : count after ≡ count now }
-      → IsAt hash (i + 1) d → HasSet before after (i + 1) (all && ltb 0 (bit_and found mask)) d
-  set-next before now after i n h word mask found all c d set early words here is_word is_mask did
-      stands =
+      → word ≡ index_of (64 * n) h / 64 → bit ≡ index_of (64 * n) h % 64
+      → mask ≡ 2 ^ bit → record { moved : moved now (Or word mask) found after; words : count after ≡ count now }
+      → on ≡ (bit_at found bit == 1) → IsAt hash (i + 1) d
+      → HasSet before after (i + 1) (all && on) d
+  set-next before now after i n h word bit mask found all on c d set early words here is_word
+      is_bit is_mask did is_on stands =
       let g = set.gone in
       let w = count before in
-      let at = place-at w n hash i h word mask words here is_word is_mask in
+      let at = place-at w n hash i h word bit words here is_word is_bit in
       let p = place (64 * w) hash i in
       let turns : length g.taken ≡ i = g.turns in
       let fits : Or word mask ≡ or_at (place (64 * w) hash (length g.taken)) =
-      ap (λ x. Or x mask) (at.0) ∙ ap (Or (p / 64)) (at.1)
+      ap (λ x. Or x mask) (at.0) ∙ ap (Or (p / 64)) (is_mask ∙ ap (λ b. 2 ^ b) (at.1))
       ∙ ap (λ j. or_at (place (64 * w) hash j)) (sym turns) in
       let tells = λ (e : End). all_on-more g.taken (made (Or word mask) found e)
-      (λ j t. bit_is_on t.found (place (64 * w) hash j)) all (all && ltb 0 (bit_and found mask))
+      (λ j t. bit_is_on t.found (place (64 * w) hash j)) all (all && on)
       g.keeps
-      (ap (λ b. all && b) (bit-at p mask found (at.1)
+      (ap (λ b. all && b) (is_on ∙ bit-at p bit found (at.1)
       ∙ ap (λ j. bit_is_on found (place (64 * w) hash j)) (sym turns))) in
       record {
         stands = stands;
@@ -86,7 +87,7 @@ module _ {S : Type 0} (count : S → ℕ) (moved : S → Step → ℕ → S → 
             g.linked (g.goes_on early) (ap (λ j. j + 1) turns) (Or word mask) found fits did tells
             tt
             (λ last. (
-              Answer (all && ltb 0 (bit_and found mask)),
+              Answer (all && on),
               (ap (λ j. j + 1) turns ∙ last, (_, refl, tells _)),
               refl,
             ));
@@ -94,48 +95,47 @@ module _ {S : Type 0} (count : S → ℕ) (moved : S → Step → ℕ → S → 
 
 -- stores with a number of words, and the steps between them, in a look-up
 module _ {S : Type 0} (count : S → ℕ) (moved : S → Step → ℕ → S → Type 0) (k hash : ℕ)
-    (before now after : S) (i n h word mask found : ℕ)
+    (before now after : S) (i n h word bit found : ℕ) (on : Bool)
     (gone : HasGone count moved k (LooksAt hash) KeepsNothing before now i (Some true))
     (early : i < k) (words : n ≡ count before) (here : h ≡ chain hash i)
-    (is_word : word ≡ index_of (64 * n) h / 64) (is_mask : mask ≡ 2 ^ (index_of (64 * n) h % 64))
+    (is_word : word ≡ index_of (64 * n) h / 64) (is_bit : bit ≡ index_of (64 * n) h % 64)
     (did : record { moved : moved now (Load word) found after; words : count after ≡ count now })
+    (is_on : on ≡ (bit_at found bit == 1))
   where
     -- whether the word found has the bit of the place
-    bit : ℕ → Bool
-    bit j = bit_is_on found (place (64 * count before) hash j)
+    found_on : ℕ → Bool
+    found_on j = bit_is_on found (place (64 * count before) hash j)
 
     fits : Load word ≡ load_at (place (64 * count before) hash (length gone.taken))
     fits =
-        let at = place-at (count before) n hash i h word mask words here is_word is_mask in
+        let at = place-at (count before) n hash i h word bit words here is_word is_bit in
         ap Load (at.0) ∙ ap (λ j. load_at (place (64 * count before) hash j)) (sym gone.turns)
 
-    tells : ltb 0 (bit_and found mask) ≡ bit (length gone.taken)
-    unfolding bit
+    tells : on ≡ found_on (length gone.taken)
+    unfolding found_on
     tells =
-        let at = place-at (count before) n hash i h word mask words here is_word is_mask in
-        bit-at (place (64 * count before) hash i) mask found (at.1)
+        let at = place-at (count before) n hash i h word bit words here is_word is_bit in
+        is_on ∙ bit-at (place (64 * count before) hash i) bit found (at.1)
         ∙ ap (λ j. bit_is_on found (place (64 * count before) hash j)) (sym gone.turns)
 
     -- a place that was found set
-    pub look-next : bit_and found mask ≢ 0
+    pub look-next : on ≡ true
         → HasGone count moved k (LooksAt hash) KeepsNothing before after (i + 1) (Some true)
-    unfolding bit
-    look-next on =
-        let set : bit (length gone.taken) ≡ true =
-        sym tells ∙ lt-ltb 0 (bit_and found mask) (omega (arith, on)) in
+    unfolding found_on
+    look-next test =
+        let set : found_on (length gone.taken) ≡ true = sym tells ∙ test in
         let turns = ap (λ j. j + 1) gone.turns in
         gone-next count moved k (LooksAt hash) KeepsNothing before now after gone.taken (i + 1)
         (Some true) gone.words gone.linked (gone.goes_on early) turns (Load word) found fits did
         (λ end. tt) set
-        (λ last. (Answer (bit (length gone.taken)), (inr (turns ∙ last), refl), ap Some set))
+        (λ last. (Answer (found_on (length gone.taken)), (inr (turns ∙ last), refl), ap Some set))
 
     -- a place that was found clear ends the look-up
-    pub look-off : bit_and found mask ≡ 0
+    pub look-off : on ≡ false
         → DrivesPlan moved (count before) k (LooksAt hash) before after (Some false)
-    unfolding bit
-    look-off off =
-        let clear : bit (length gone.taken) ≡ false =
-        sym tells ∙ ap (ltb 0) off in
+    unfolding found_on
+    look-off test =
+        let clear : found_on (length gone.taken) ≡ false = sym tells ∙ test in
         let t = made (Load word) found (Answer false) in
         record {
           taken = gone.taken ++ t ∷ [];

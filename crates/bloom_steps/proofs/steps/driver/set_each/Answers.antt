@@ -1,6 +1,5 @@
-use Rattle.std.proofs.Common.{◌+◌, Some, arith}
+use Rattle.std.proofs.Common.{◌+◌, arith}
 use Rattle.bloom_steps.proofs.StepLemmas.Driven.{set-next, set-none}
-use Rattle.bloom_steps.proofs.StepLemmas.Driving.{gone-all}
 use Rattle.bloom_steps.proofs.steps.driver.set_each.Goals as goal
 
 pub places-init : goal.places-init
@@ -15,14 +14,14 @@ pub places-preserved : goal.places-preserved
 places-preserved g c =
     let before = c.places.invariant in
     let next = c.next.ensures in
-    let at = c.word_and_mask_of_hash-word.ensures in
+    let at = c.word_and_bit_of_hash-word.ensures in
     record {
       places = before.places + 1;
       split = omega (arith, before.split, c.places-test.true);
       set =
-          set-next _ _ _ _ _ _ _ before.places _ _ _ _ _ _ _ _ before.set
+          set-next _ _ _ _ _ _ _ before.places _ _ _ _ _ _ _ _ _ _ before.set
           (omega (arith, before.split, c.places-test.true)) before.words
-          (next.value _ _ before.set.stands) at.word at.mask c.step-found.ensures
-          (next.moved _ _ before.set.stands);
+          (next.value _ _ before.set.stands) at.word at.bit c.mask_of.ensures
+          c.step-found.ensures c.is_set-all_on.ensures (next.moved _ _ before.set.stands);
       words = before.words;
     }
