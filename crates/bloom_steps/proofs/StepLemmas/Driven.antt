@@ -58,16 +58,15 @@ module _ {S : Type 0} (count : S → ℕ) (moved : S → Step → ℕ → S → 
   }
 
   -- one place more
-  pub set-next : (before now after : S) (i n h word bit mask found : ℕ) (all both : Bool)
+  pub set-next : (before now after : S) (i n h word bit mask found : ℕ) (all on : Bool)
       (c d : DoubleHasher)
       → HasSet before now i all c → i < k → n ≡ count before → h ≡ chain hash i
       → word ≡ index_of (64 * n) h / 64 → bit ≡ index_of (64 * n) h % 64
-      → mask ≡ 2 ^ bit
-      → record { moved : moved now (Or word mask) found after; words : count after ≡ count now }
-      → both ≡ (all && (bit_at found bit == 1)) → IsAt hash (i + 1) d
-      → HasSet before after (i + 1) both d
-  set-next before now after i n h word bit mask found all both c d set early words here is_word
-      is_bit is_mask did is_both stands =
+      → mask ≡ 2 ^ bit → record { moved : moved now (Or word mask) found after; words : count after ≡ count now }
+      → on ≡ (bit_at found bit == 1) → IsAt hash (i + 1) d
+      → HasSet before after (i + 1) (all && on) d
+  set-next before now after i n h word bit mask found all on c d set early words here is_word
+      is_bit is_mask did is_on stands =
       let g = set.gone in
       let w = count before in
       let at = place-at w n hash i h word bit words here is_word is_bit in
@@ -77,9 +76,9 @@ module _ {S : Type 0} (count : S → ℕ) (moved : S → Step → ℕ → S → 
       ap (λ x. Or x mask) (at.0) ∙ ap (Or (p / 64)) (is_mask ∙ ap (λ b. 2 ^ b) (at.1))
       ∙ ap (λ j. or_at (place (64 * w) hash j)) (sym turns) in
       let tells = λ (e : End). all_on-more g.taken (made (Or word mask) found e)
-      (λ j t. bit_is_on t.found (place (64 * w) hash j)) all both
+      (λ j t. bit_is_on t.found (place (64 * w) hash j)) all (all && on)
       g.keeps
-      (is_both ∙ ap (λ b. all && b) (bit-at p bit found (at.1)
+      (ap (λ b. all && b) (is_on ∙ bit-at p bit found (at.1)
       ∙ ap (λ j. bit_is_on found (place (64 * w) hash j)) (sym turns))) in
       record {
         stands = stands;
@@ -88,7 +87,7 @@ module _ {S : Type 0} (count : S → ℕ) (moved : S → Step → ℕ → S → 
             g.linked (g.goes_on early) (ap (λ j. j + 1) turns) (Or word mask) found fits did tells
             tt
             (λ last. (
-              Answer both,
+              Answer (all && on),
               (ap (λ j. j + 1) turns ∙ last, (_, refl, tells _)),
               refl,
             ));

@@ -1,7 +1,6 @@
 //! A whole call over a store: a loop for each plan, which makes the plan's steps and no others.
-ghost use Rattle.std.specs.Prelude.{◌≡◌, ◌≤◌, ◌<◌, ◌^◌, ◌==◌, ◌&&◌, ℕ, Some, None, if◌then◌else◌};
+ghost use Rattle.std.specs.Prelude.{◌≡◌, ◌≤◌, ◌<◌, ◌^◌, ◌==◌, ℕ, Some, None, if◌then◌else◌};
 ghost use Rattle.std.specs.Int.{bit_at};
-ghost use Rattle.bloom_parts.specs.Content.{bit_is_on};
 ghost use Rattle.bloom_steps.specs.declared.steps.vocabulary.Step.TheVariants as step;
 ghost use Rattle.bloom_steps.specs.Plans.{TurnsOn, LooksAt, EachWord, EachPair};
 ghost use Rattle.bloom_steps.specs.Scripts.{Drives, DrivesPlan};
@@ -30,16 +29,6 @@ fn is_set(word: u64, bit: u64) -> bool
     (word >> bit) % 2 == 1
 }
 
-// A word whose lowest bit is set exactly if that of the first word and this bit of the second are.
-// A loop that made a Boolean of each bit would take longer.
-#[inline(always)]
-fn lowest_and(word: u64, found: u64, bit: u64) -> u64
-    requires { bit < 64 }
-    ensures { bit_is_on result 0 ≡ (bit_is_on word 0 && (bit_at found bit == 1)) }
-{
-    word & (found >> bit)
-}
-
 // Sets the bit at each position of a hash, and tells whether each step found its bit set.
 #[inline(always)]
 fn set_each<W: WordStore>(store: &mut W, num_hashes: u32, hash: u64) -> bool
@@ -50,15 +39,15 @@ fn set_each<W: WordStore>(store: &mut W, num_hashes: u32, hash: u64) -> bool
 {
     let num_words = store.num_words();
     let mut chain = DoubleHasher::new(hash);
-    let mut all_on = 1;
+    let mut all_on = true;
     let mut left = num_hashes;
     'places: while left > 0 {
         let (word, bit) = word_and_bit_of_hash(num_words, chain.next());
         let found = store.step(Step::Or(word, mask_of(bit)));
-        all_on = lowest_and(all_on, found, bit);
+        all_on &= is_set(found, bit);
         left -= 1;
     }
-    is_set(all_on, 0)
+    all_on
 }
 
 // Looks at each position of a hash up to the first whose bit is found clear, and tells whether

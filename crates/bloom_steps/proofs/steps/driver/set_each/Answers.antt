@@ -22,6 +22,6 @@ places-preserved g c =
           set-next _ _ _ _ _ _ _ before.places _ _ _ _ _ _ _ _ _ _ before.set
           (omega (arith, before.split, c.places-test.true)) before.words
           (next.value _ _ before.set.stands) at.word at.bit c.mask_of.ensures
-          c.step-found.ensures c.lowest_and-all_on.ensures (next.moved _ _ before.set.stands);
+          c.step-found.ensures c.is_set-all_on.ensures (next.moved _ _ before.set.stands);
       words = before.words;
     }

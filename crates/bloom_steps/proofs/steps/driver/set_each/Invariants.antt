@@ -1,5 +1,4 @@
 use Rattle.std.proofs.Common.{◌≡◌, ◌+◌, ℕ}
-use Rattle.bloom_parts.specs.Content.{bit_is_on}
 use Rattle.bloom_steps.proofs.StepLemmas.Driven.{HasSet}
 use Rattle.bloom_steps.proofs.steps.driver.set_each.Given as goal
 
@@ -9,7 +8,7 @@ invariant-places g l = record {
   places : ℕ;
   split : places + l.left ≡ l.fn.num_hashes;
   set : HasSet g.W.WordStore.count g.W.WordStore.moved l.fn.num_hashes l.fn.hash
-      l.fn.store l.store places (bit_is_on l.all_on 0) l.chain;
+      l.fn.store l.store places l.all_on l.chain;
   words : l.num_words ≡ g.W.WordStore.count l.fn.store;
 }
 
