@@ -62,7 +62,8 @@ module _ {S : Type 0} (count : S → ℕ) (moved : S → Step → ℕ → S → 
       (c d : DoubleHasher)
       → HasSet before now i all c → i < k → n ≡ count before → h ≡ chain hash i
       → word ≡ index_of (64 * n) h / 64 → bit ≡ index_of (64 * n) h % 64
-      → mask ≡ 2 ^ bit → record { moved : moved now (Or word mask) found after; words : count after ≡ count now }
+      → mask ≡ 2 ^ bit
+      → record { moved : moved now (Or word mask) found after; words : count after ≡ count now }
       → on ≡ (bit_at found bit == 1) → IsAt hash (i + 1) d
       → HasSet before after (i + 1) (all && on) d
   set-next before now after i n h word bit mask found all on c d set early words here is_word
