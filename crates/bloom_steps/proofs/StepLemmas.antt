@@ -9,5 +9,6 @@ pub mod Growing
 pub mod Members
 pub mod Plans
 pub mod Replying
+pub mod Setting
 pub mod Whole
 pub mod Writing
