@@ -9,6 +9,5 @@ pub mod Growing
 pub mod Members
 pub mod Plans
 pub mod Replying
-pub mod Setting
 pub mod Whole
 pub mod Writing

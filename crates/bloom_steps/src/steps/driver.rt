@@ -29,8 +29,7 @@ fn is_set(word: u64, bit: u64) -> bool
     (word >> bit) % 2 == 1
 }
 
-// Sets the bit at each position of a hash, and tells whether each step found its bit set. It counts
-// those that were found clear, which takes an instruction less than a Boolean.
+// Sets the bit at each position of a hash, and tells whether each step found its bit set.
 #[inline(always)]
 fn set_each<W: WordStore>(store: &mut W, num_hashes: u32, hash: u64) -> bool
     requires hashes { 1 ≤ num_hashes }
@@ -40,15 +39,15 @@ fn set_each<W: WordStore>(store: &mut W, num_hashes: u32, hash: u64) -> bool
 {
     let num_words = store.num_words();
     let mut chain = DoubleHasher::new(hash);
-    let mut clear: u32 = 0;
+    let mut all_on = true;
     let mut left = num_hashes;
     'places: while left > 0 {
         let (word, bit) = word_and_bit_of_hash(num_words, chain.next());
         let found = store.step(Step::Or(word, mask_of(bit)));
-        clear += u32::from(!is_set(found, bit));
+        all_on &= is_set(found, bit);
         left -= 1;
     }
-    clear == 0
+    all_on
 }
 
 // Looks at each position of a hash up to the first whose bit is found clear, and tells whether

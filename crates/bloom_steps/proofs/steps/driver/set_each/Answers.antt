@@ -1,5 +1,5 @@
 use Rattle.std.proofs.Common.{◌+◌, arith}
-use Rattle.bloom_steps.proofs.StepLemmas.Setting.{count-clear, digit-most, set-next, set-none}
+use Rattle.bloom_steps.proofs.StepLemmas.Driven.{set-next, set-none}
 use Rattle.bloom_steps.proofs.steps.driver.set_each.Goals as goal
 
 pub places-init : goal.places-init
@@ -7,7 +7,6 @@ places-init g c = record {
   places = 0;
   split = omega arith;
   set = set-none _ _ _ _ _ _ c.requires.hashes c.new-chain.ensures;
-  few = omega arith;
   words = c.num_words-num_words.ensures.value;
 }
 
@@ -20,11 +19,9 @@ places-preserved g c =
       places = before.places + 1;
       split = omega (arith, before.split, c.places-test.true);
       set =
-          set-next _ _ _ _ _ _ _ before.places _ _ _ _ _ _ _ _ _ _ _ before.set
+          set-next _ _ _ _ _ _ _ before.places _ _ _ _ _ _ _ _ _ _ before.set
           (omega (arith, before.split, c.places-test.true)) before.words
           (next.value _ _ before.set.stands) at.word at.bit c.mask_of.ensures
-          c.step-found.ensures c.is_set.ensures (count-clear _ _ _ c.from-clear.ensures)
-          (next.moved _ _ before.set.stands);
-      few = omega (arith, before.few, digit-most _ _ c.from-clear.ensures);
+          c.step-found.ensures c.is_set-all_on.ensures (next.moved _ _ before.set.stands);
       words = before.words;
     }
