@@ -1,0 +1,74 @@
+"""Wrong bodies that no contract can refuse, and a test has to."""
+import concurrent.futures
+import os
+import re
+import sys
+import tempfile
+
+from wrong_bodies.bodies import bodies_in
+from wrong_bodies.trees import crates_of, run
+
+TESTS = re.compile(r'# tests: (\w+)(?: ([\w:]+))?(, starved)?$', re.MULTILINE)
+# More requests for memory than a test makes.
+MOST_REQUESTS = 60
+
+
+class Tests:
+    """The tests of a crate with a word in their names, run with no proof, over what is below."""
+
+    def __init__(self, source, room, name, word):
+        self.source, self.room, self.name, self.word = source, room, name, word
+        crates = crates_of(source)
+        self.crates = [*map(crates.get, crates[name].libraries), crates[name]]
+
+    def fault(self, body, is_starved):
+        """The first test that fails with a body, with why; nothing where all pass."""
+        with tempfile.TemporaryDirectory(dir=self.room) as tree:
+            with open(f'{tree}/crates.txt', 'w', encoding='utf-8') as it:
+                it.writelines(f'{crate.row}\n' for crate in self.crates)
+            for crate in self.crates:
+                crate.copy_texts(self.source, tree)
+            for file, text in body.texts.items():
+                with open(f'{tree}/crates/{body.crate}/{file}', 'w', encoding='utf-8') as it:
+                    it.write(text)
+            requests = range(1, MOST_REQUESTS + 1)
+            faults = (self.fault_in(tree, ['--fail-alloc', str(n)]) for n in requests)
+            return next(filter(None, faults), '') if is_starved else self.fault_in(tree, [])
+
+    def fault_in(self, tree, flags):
+        words = ['rt', 'try', '--test', *flags, *(['--', self.word] if self.word else [])]
+        _, said, _ = run(words, f'{tree}/crates/{self.name}')
+        if not re.search(r'^test result: .* [1-9]\d* (?:passed|failed)', said, re.MULTILINE):
+            raise Unrun(' / '.join(said.rstrip('\n').split('\n')[-3:]))
+        failed = re.search(r'^test (\S+) \.\.\. FAILED\n\s*(.*)', said, re.MULTILINE)
+        return ' '.join([*flags, f'{failed[1]}: {failed[2]}']) if failed else ''
+
+
+class Unrun(Exception):
+    """Tests that couldn't be run."""
+
+
+def try_by_tests(top, names, lanes, out=sys.stdout):
+    """Tries the bodies that tests have to refuse, and gives the counts of those refused and not."""
+    bodies = bodies_in(top, names, ['tested-bodies'])
+    with tempfile.TemporaryDirectory(prefix='tested-bodies-') as room:
+        def tell(body):
+            why, is_refused = body.fault and f'BAD EDIT: {body.fault}', False
+            try:
+                edit = f'{top}/crates/{body.crate}/tested-bodies/{body.name}.edit'
+                with open(edit, encoding='utf-8') as it:
+                    tests = TESTS.search(it.read())
+                if not why and not tests:
+                    why = "BAD EDIT: no line '# tests: CRATE'"
+                elif not why:
+                    why = Tests(top, room, tests[1], tests[2]).fault(body, bool(tests[3]))
+                    is_refused, why = bool(why), why or f'the tests of {tests[1]} pass with it'
+            except Unrun as error:
+                why = f'BAD EDIT: its tests cannot be run: {error}'
+            said = 'refused' if is_refused else 'NOT REFUSED'
+            print(f'{said} {body}: {why}', file=out, flush=True)
+            return is_refused
+
+        with concurrent.futures.ThreadPoolExecutor(lanes) as pool:
+            refused = sum(pool.map(tell, bodies))
+    return refused, len(bodies) - refused
