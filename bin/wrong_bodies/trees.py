@@ -110,9 +110,9 @@ class Trees:
             return Report(said), seconds
 
     def prove(self, crate, is_below, is_tried):
-        """Proves a crate into the base, at once where what was kept fits. Gives a fault and seconds.
+        """Proves a crate into the base, at once where what was kept fits. Gives fault and seconds.
 
-        A library that was proved before is proved again only for the work that a trial goes on from.
+        A library that was proved before is proved again only for the work that trials go on from.
         """
         if crate.name in self.proved and not is_tried:
             return '', 0
