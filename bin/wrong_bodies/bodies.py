@@ -30,6 +30,10 @@ class Function:
     def holds(self, file, line):
         return self.file == file and self.first <= line <= self.last
 
+    def is_named(self, name):
+        """Whether the report calls the function so, or something in it."""
+        return self.has_proof(f'proofs/{name.replace("::", "/")}/')
+
     def has_proof(self, path):
         """Whether a file of proofs/ is in the function's own folder there."""
         names = self.file[len('src/'):-len('.rt')].split('/')
@@ -83,7 +87,8 @@ def owner_of(line):
     before, rest = None, OWNER.match(line)[1]
     while before != rest:
         before, rest = rest, re.sub(r'<[^<>]*>', '', rest)
-    trait, _, type_name = re.sub(r'[{:](?!:).*|\bwhere\b.*', '', rest).rpartition(' for ')
+    head = re.sub(r'\{.*|(?<!:):(?!:).*|\bwhere\b.*', '', rest)
+    trait, _, type_name = head.rpartition(' for ')
     return ''.join(re.sub(r'.*::|\W', '', it) for it in (type_name, trait))
 
 

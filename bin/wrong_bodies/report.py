@@ -17,16 +17,16 @@ class Report:
 
     def __init__(self, text):
         self.lines = text.split('\n')
-        self.ended = next((it for it in reversed(self.lines) if it.startswith('logic=')), '')
+        ends = ('logic=', 'only=')
+        self.ended = next((it for it in reversed(self.lines) if it.startswith(ends)), '')
         self.goals = [(it[1], int(it[2]) - 1, it[3]) for it in map(GOAL.match, self.lines) if it]
         errors = [it for it in map(ERROR.match, self.lines) if it]
         self.errors = [(it[1], int(it[2]) - 1, it[4]) for it in errors]
         self.codes = [(it[1], int(it[2]) - 1, it[3]) for it in errors]
         # (a function's folder has a + before its name where a module or a type has the name too)
         self.lacks = [(it[2].replace('/+', '/'), it[1]) for it in map(LACK.match, self.lines) if it]
-        # (as the folders of the functions' proofs)
-        proved = [it for it in map(PROVED.match, self.lines) if it]
-        self.proved = [f'proofs/{it[1].replace("::", "/")}/' for it in proved]
+        # (the functions below the crate, by their paths)
+        self.proved = [it[1] for it in map(PROVED.match, self.lines) if it]
 
     def was_made(self):
         return bool(self.ended)
@@ -55,7 +55,7 @@ class Report:
             yield file, 0, said
 
     def reason_of(self, body):
-        left = [it for it in body.functions if not any(map(it.has_proof, self.proved))]
+        left = [it for it in body.functions if not any(map(it.is_named, self.proved))]
         is_own = lambda file, line: any(it.holds(file, line) or it.has_proof(file) for it in left)
         return next((why for file, line, why in self.reasons() if is_own(file, line)), '')
 

@@ -71,6 +71,8 @@ class Trees:
         self.base = f'{room}/proved'
         # Libraries that need no further proof.
         self.proved = proved_since(source, self.crates, since) if since else set()
+        # The functions of each crate that was proved, by their paths.
+        self.functions = {}
 
     def rows(self, tree, names):
         os.makedirs(tree, exist_ok=True)
@@ -100,14 +102,29 @@ class Trees:
             crate.copy(self.base, tree, 'out/incremental', shutil.copy2)
             yield tree
 
-    def check(self, crate, texts):
-        """Checks a copy of a crate with these texts. Gives the report, and the seconds."""
+    def check(self, crate, texts, functions):
+        """Checks these functions of a copy of a crate with these texts, or else all.
+
+        Gives the report, and the seconds.
+        """
+        only = [word for name in functions for word in ('--only', f'{crate.name}::{name}')]
         with self.tree_of(crate) as tree:
             for file, text in texts.items():
                 with open(f'{crate.folder(tree)}/{file}', 'w', encoding='utf-8') as it:
                     it.write(text)
-            _, said, seconds = run(['rt', 'check', '--jobs', '1'], crate.folder(tree))
+            _, said, seconds = run(['rt', 'check', '--jobs', '1', *only], crate.folder(tree))
             return Report(said), seconds
+
+    def names_of(self, crate, functions):
+        """What a report calls these functions, with more of the same name where it isn't clear.
+
+        Nothing where there is no name for one of them.
+        """
+        names = self.functions[crate.name]
+        ends = lambda name, function: f'::{name}'.endswith(f'::{function.name}')
+        found = [[*filter(it.is_named, names)] or [name for name in names if ends(name, it)]
+                 for it in functions]
+        return sorted({name for names in found for name in names}) if all(found) else []
 
     def prove(self, crate, is_below, is_tried):
         """Proves a crate into the base, at once where what was kept fits. Gives fault and seconds.
@@ -128,6 +145,7 @@ class Trees:
                     return '\n'.join(said.rstrip('\n').split('\n')[-12:]), seconds
                 if is_tried and not os.path.isdir(folder + '/out/incremental') and verb == 'lib':
                     verbs.append('check')
+            self.functions[crate.name] = Report(said).proved
             # (a library that was proved before is read meanwhile)
             for part in ('incremental', *['rlib'] * (crate.name not in self.proved)):
                 kept = f'{crate.folder(self.base)}/out/{part}'

@@ -91,7 +91,10 @@ class Trial:
     def attempt(self, crate, group):
         """Checks a group of bodies, tells of those decided, and gives tasks for the others."""
         began = time.monotonic()
-        report, seconds = self.trees.check(crate, joined(group, crate.folder(self.trees.base)))
+        # (the functions that call them wouldn't tell more, but cost a proof each)
+        changed = [it for body in group for it in body.functions] if len(group) > 1 else []
+        report, seconds = self.trees.check(crate, joined(group, crate.folder(self.trees.base)),
+                                           self.trees.names_of(crate, changed))
         with self.lock:
             self.tallies[crate.name].checks += 1
             self.tallies[crate.name].add(began, seconds)
