@@ -69,8 +69,9 @@ class Trees:
     def __init__(self, source, room, since=None):
         self.source, self.room, self.crates = source, room, crates_of(source)
         self.base = f'{room}/proved'
-        # Libraries that need no further proof.
-        self.proved = proved_since(source, self.crates, since) if since else set()
+        # Libraries that need no further proof: those of `rt ci`, and those that `rt` has built.
+        self.of_gate = proved_since(source, self.crates, since) if since else set()
+        self.proved = self.of_gate | built_in(source, self.crates)
         # The functions of each crate that was proved, by their paths.
         self.functions = {}
 
@@ -86,9 +87,9 @@ class Trees:
             crate.copy_texts(self.source, self.base)
             crate.copy(self.source, self.base, 'out/rlib', copy_or_link)
             # (what a run kept fits only the libraries that it was made over)
-            if not self.proved.intersection(crate.libraries):
+            if not self.of_gate.intersection(crate.libraries):
                 crate.copy(self.source, self.base, 'out/incremental', shutil.copy2)
-        stamp(self.base, [name for name in names if name in self.proved])
+        stamp(self.base, [name for name in names if name in self.of_gate])
 
     @contextlib.contextmanager
     def tree_of(self, crate):
@@ -136,8 +137,7 @@ class Trees:
         with self.tree_of(crate) as tree:
             folder, seconds = crate.folder(tree), 0
             crate.copy(self.base, tree, 'out/rlib', copy_or_link)
-            is_library = is_below or os.path.isfile(folder + '/out/rlib/stamp')
-            verbs = ['lib'] if is_library and crate.name not in self.proved else ['check']
+            verbs = ['lib'] if is_below and crate.name not in self.proved else ['check']
             for verb in verbs:
                 status, said, took = run(['rt', verb, '--jobs', '1'], folder)
                 seconds += took
@@ -172,6 +172,14 @@ def proved_since(top, crates, since):
                 and all(os.stat(it).st_ctime_ns < began for it in texts)):
             proved.add(crate.name)
     return proved
+
+
+def built_in(top, crates):
+    """The libraries that `rt` takes as built, by the stamps that it wrote."""
+    known = {}
+    stamped = [it for it in crates.values() if os.path.isfile(f'{it.folder(top)}/out/rlib/stamp')]
+    found = [(it.name, toolchain().Crate(it.folder(top), top, known)) for it in stamped]
+    return {name for name, crate in found if crate.is_built()}
 
 
 def files_and_folders(folder):
