@@ -72,7 +72,7 @@ class Records:
         has = os.path.isfile(self.file(name))
         return has and bytes_of(self.file(name)) == self.text(name).encode()
 
-    def tell(self, names, ending, out=sys.stdout):
+    def tell(self, names, out=sys.stdout):
         """Tells which records fit. Gives how many bodies they have, and the other crates' names."""
         others, refused = [], 0
         for name in filter(self.edits, names):
@@ -80,7 +80,7 @@ class Records:
             refused, others = refused + count * fits, others + [name] * (not fits)
             has = os.path.isfile(self.file(name))
             why = "its record doesn't fit" if has else 'it has no record'
-            said = 'refused, by its record' if fits else f'{ending}, since {why}'
+            said = 'refused, by its record' if fits else f'to try, since {why}'
             print(f'{name}: {count} {said}', file=out, flush=True)
         return refused, others
 
