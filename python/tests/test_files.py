@@ -1,9 +1,14 @@
 """Files that are written, read and refused. The form is that of docs/FILE.md."""
 
 import os
+import signal
+import stat
+import subprocess
+import sys
 import tempfile
 import unittest
 from pathlib import Path
+from unittest import mock
 
 import storm
 from fastbloom import Filter, Refusal
@@ -47,6 +52,7 @@ class Files(unittest.TestCase):
         self.path.write_bytes(file)
         yield lambda **options: Filter.from_bytes(file, **options)
         yield lambda **options: Filter.load(self.path, **options)
+        yield lambda **options: Filter.load(self.path, mapped=True, **options)
 
     def test_a_worked_file_is_read_and_written(self):
         for read in self.readers(WORKED):
@@ -92,13 +98,115 @@ class Files(unittest.TestCase):
                 self.assertEqual(read(max_hashes=most).num_hashes, 2**32 - 1)
 
     def test_what_is_added_to_a_loaded_filter_stays_its_own(self):
+        for mapped in (False, True):
+            self.path.write_bytes(WORKED)
+            seen = Filter.load(self.path, mapped=mapped)
+            seen.add("whale")
+            self.assertEqual(self.path.read_bytes(), WORKED)
+            self.assertNotEqual(seen, Filter.load(self.path))
+            self.path.unlink()
+            self.assertIn("whale", seen)
+
+    def test_a_loaded_file_may_be_written_and_cut(self):
+        """A process that touches a mapping of a file that was cut ends by a signal."""
         self.path.write_bytes(WORKED)
-        seen = Filter.load(self.path)
-        seen.add("whale")
-        self.assertEqual(self.path.read_bytes(), WORKED)
-        self.assertNotEqual(seen, Filter.load(self.path))
-        self.path.unlink()
-        self.assertIn("whale", seen)
+        code = ("import sys; from fastbloom import Filter\n"
+                "seen = Filter.load(sys.argv[1])\n"
+                "with open(sys.argv[1], 'r+b') as file: file.write(bytes(72))\n"
+                "print(seen.contains_many(['crab', 'lobster']))\n"
+                "with open(sys.argv[1], 'wb'): pass\n"
+                "print('crab' in seen, seen.count_ones(), seen.to_bytes().hex())\n")
+        run = subprocess.run([sys.executable, "-c", code, str(self.path)], timeout=60, check=False,
+                             stdout=subprocess.PIPE)
+        wanted = f"[True, True]\nTrue 6 {WORKED.hex()}\n"
+        self.assertEqual((run.returncode, run.stdout.decode()), (0, wanted))
+
+    def test_a_mapped_file_is_a_mapping_of_it(self):
+        self.path.write_bytes(WORKED)
+        for mapped in (False, True):
+            seen = Filter.load(self.path, mapped=mapped)
+            maps = Path("/proc/self/maps").read_text()
+            self.assertEqual(os.path.realpath(self.path) in maps, mapped)
+            self.assertIn("crab", seen)
+            del seen
+
+    def test_a_loaded_filter_keeps_no_descriptor(self):
+        self.path.write_bytes(WORKED)
+        before = len(os.listdir("/proc/self/fd"))
+        loaded = [Filter.load(self.path) for _ in range(10)]
+        if sys.version_info >= (3, 13):
+            loaded += [Filter.load(self.path, mapped=True) for _ in range(10)]
+        self.assertEqual(len(os.listdir("/proc/self/fd")), before)
+        self.assertTrue(all("crab" in seen for seen in loaded))
+
+    def test_a_path_may_be_bytes(self):
+        path = os.fsencode(self.path)
+        seen = Filter.from_bytes(WORKED)
+        seen.save(path)
+        self.assertEqual(os.listdir(self.folder.name), [self.path.name])
+        self.assertEqual(Filter.load(path), seen)
+        here = os.getcwd()
+        self.addCleanup(os.chdir, here)
+        os.chdir(self.folder.name)
+        seen.save(b"other.bloom")
+        self.assertEqual(sorted(os.listdir()), ["other.bloom", self.path.name])
+
+    def test_a_file_keeps_its_rights(self):
+        seen = Filter.from_bytes(WORKED)
+        self.addCleanup(os.umask, os.umask(0o027))
+        seen.save(self.path)
+        self.assertEqual(stat.S_IMODE(self.path.stat().st_mode), 0o640)
+        for mode in (0o600, 0o444, 0o666):
+            self.path.chmod(mode)
+            seen.save(self.path)
+            self.assertEqual(stat.S_IMODE(self.path.stat().st_mode), mode)
+        if os.geteuid() == 0:
+            os.chown(self.path, 12345, 23456)
+            seen.save(self.path)
+            found = self.path.stat()
+            self.assertEqual((found.st_uid, found.st_gid, stat.S_IMODE(found.st_mode)),
+                             (12345, 23456, 0o666))
+
+    def test_nobody_else_reads_a_secret_file_while_it_is_written(self):
+        self.path.write_bytes(WORKED)
+        self.path.chmod(0o600)
+        modes, fsync = [], os.fsync
+
+        def told(descriptor):
+            modes.append(stat.S_IMODE(os.fstat(descriptor).st_mode))
+            fsync(descriptor)
+
+        opened, plain_open = [], os.open
+
+        def told_open(path, flags, mode=0o777, **options):
+            opened.append(mode)
+            return plain_open(path, flags, mode, **options)
+
+        with mock.patch.object(os, "fsync", told), mock.patch.object(os, "open", told_open):
+            Filter.from_bytes(WORKED).save(self.path)
+        self.assertEqual((opened, modes), ([0o600], [0o600]))
+
+    def test_a_signal_may_save_the_file_that_is_being_saved(self):
+        first, second = Filter.from_bytes(WORKED), Filter.from_bytes(WORKED)
+        second.add("whale")
+        fsync = os.fsync
+
+        def interrupted(descriptor):
+            if not told:
+                signal.raise_signal(signal.SIGALRM)
+            fsync(descriptor)
+
+        told = []
+
+        def save(*_):
+            told.append(True)
+            second.save(self.path)
+
+        self.addCleanup(signal.signal, signal.SIGALRM, signal.signal(signal.SIGALRM, save))
+        with mock.patch.object(os, "fsync", interrupted):
+            first.save(self.path)
+        self.assertEqual((told, Filter.load(self.path)), ([True], first))
+        self.assertEqual(os.listdir(self.folder.name), [self.path.name])
 
     def test_bytes_like_objects_are_read(self):
         for data in (bytearray(WORKED), memoryview(WORKED)):

@@ -2,16 +2,25 @@
 
 import array
 import copy
+import ctypes
+import inspect
+import mmap
 import pickle
 import random
+import typing
 import unittest
 from decimal import Decimal, localcontext
 from fractions import Fraction
 from unittest import mock
 
 import fastbloom
-from fastbloom import Filter, Refusal
+from fastbloom import Estimate, Filter, Refusal
 from fastbloom import _library as library
+
+try:
+    import numpy
+except ImportError:
+    numpy = None
 
 COUNTING_KEY = bytes(range(16))
 # SipHash-1-3 under the key bytes 0 to 15, by the crate siphasher 0.3.10, of the first bytes of this
@@ -31,6 +40,23 @@ class Named(Filter):
     def __init__(self, name):
         super().__init__(1000, "1/1000")
         self.name = [name]
+
+
+class Slotted(Filter):
+    """A subclass with attributes in slots, of which one is private and one isn't set."""
+
+    __slots__ = ("name", "__kept", "unset")
+
+    def __init__(self, name):
+        super().__init__(1000, "1/1000")
+        self.name, self.__kept = [name], name
+
+    def kept(self):
+        return self.__kept
+
+
+class Both(Slotted):
+    """A subclass of it that has all attributes."""
 
 
 class Bytes(bytes):
@@ -90,6 +116,43 @@ class Items(unittest.TestCase):
         with self.assertRaises(UnicodeEncodeError):
             seen.add("\ud800")
         self.assertEqual(seen, small())
+
+    def test_a_value_that_has_a_buffer_is_no_item(self):
+        """Numbers, pointers, and buffers that aren't handed out any more."""
+        released, closed = memoryview(b"crab"), mmap.mmap(-1, 4)
+        released.release()
+        closed.close()
+        seen = small()
+        for item in (ctypes.c_int(5), ctypes.c_char_p(b"crab"), ctypes.py_object("crab"),
+                     (ctypes.c_void_p * 2)(), (ctypes.c_wchar_p * 2)(), released, closed):
+            for call in (seen.add, seen.hash, lambda item: item in seen,
+                         lambda item: seen.update([item]), lambda item: seen.contains_many([item])):
+                with self.assertRaises(TypeError):
+                    call(item)
+        with self.assertRaises(TypeError) as told:
+            seen.add(released)
+        self.assertEqual(str(told.exception), "an item is a str or a bytes-like object, not "
+                         "memoryview: operation forbidden on released memoryview object")
+        self.assertEqual(seen, small())
+
+    @unittest.skipUnless(numpy, "there is no numpy")
+    def test_values_of_numpy(self):
+        seen = small()
+        for item in (numpy.int64(5), numpy.float32(1), numpy.bool_(True), numpy.array(5),
+                     numpy.datetime64("2026"), numpy.array(["crab"], dtype=object),
+                     numpy.array([(1, "crab")], dtype=[("count", int), ("name", object)]),
+                     numpy.array(["2026"], dtype="M8[D]")):
+            for call in (seen.add, lambda item: seen.update([item])):
+                with self.assertRaises(TypeError):
+                    call(item)
+        self.assertEqual(seen, small())
+        # The name of a field isn't a kind of its values.
+        record = numpy.array([(1, 2.0)], dtype=[("OPX", "i4"), ("Z", "f8")])
+        for item in (numpy.str_("crab"), numpy.bytes_(b"eel"), numpy.array([1, 2], dtype="i4"),
+                     numpy.array([1j]), record):
+            self.assertFalse(seen.add(item))
+        raw = b"\x01\0\0\0\x02\0\0\0"
+        self.assertEqual(seen.contains_many([b"crab", "eel", raw, record.tobytes()]), [True] * 4)
 
     def test_hashes_are_those_of_the_bytes_under_the_key(self):
         keyed = Filter(1, 1, COUNTING_KEY)
@@ -169,10 +232,28 @@ class Many(unittest.TestCase):
 
     def test_one_item_is_not_many(self):
         seen = small()
-        for item in ("crab", b"crab", bytearray(b"crab"), memoryview(b"crab"), 5):
+        for item in ("crab", b"crab", bytearray(b"crab"), memoryview(b"crab"), 5,
+                     array.array("B", b"crab"), array.array("u", "crab"), mmap.mmap(-1, 4),
+                     ctypes.create_string_buffer(b"crab"), ctypes.c_char_p(b"crab")):
             self.assertRaises(TypeError, seen.update, item)
             self.assertRaises(TypeError, seen.contains_many, item)
         self.assertEqual(seen, small())
+
+    @unittest.skipUnless(numpy, "there is no numpy")
+    def test_arrays_of_numpy(self):
+        seen = small()
+        for numbers in ([1, 2], b"crab", [1.5], []):
+            kind = "u1" if isinstance(numbers, bytes) else None
+            item = numpy.array(list(numbers), dtype=kind)
+            self.assertRaises(TypeError, seen.update, item)
+            self.assertRaises(TypeError, seen.contains_many, item)
+        self.assertEqual(seen, small())
+        seen.update(numpy.array(["crab", "Krabbe ü"]))
+        seen.update(numpy.array([b"eel", b"lobster"]))
+        seen.update(numpy.array(["whale", b"prawn"], dtype=object))
+        seen.update(numpy.array([[1, 2], [3, 4]], dtype="u1"))
+        rows = ["crab", "Krabbe ü", "eel", "lobster", "whale", "prawn", b"\1\2", b"\3\4"]
+        self.assertEqual(seen.contains_many(numpy.array(rows, dtype=object)), [True] * 8)
 
 
 class Sizes(unittest.TestCase):
@@ -199,6 +280,37 @@ class Sizes(unittest.TestCase):
             self.assertRaises(ValueError, Filter, items, rate)
         for items, rate in ((1.5, "1/2"), ("10", "1/2"), (10, None), (10, b"1/2"), (10, (1, 2))):
             self.assertRaises(TypeError, Filter, items, rate)
+
+    def test_a_rate_of_many_digits_is_refused_at_once(self):
+        rates = ["1e-99999999", "1E+99999999 ", "0.1e-9999_9999", "1e-00000099999999",
+                 Decimal("1e-99999999"), "0." + "0" * 10**6 + "1", "1/" + "9" * 10**6]
+        for rate in rates:
+            self.assertRaises(ValueError, Filter, 10, rate)
+        wanted = Filter(1000, Fraction(*(0.001).as_integer_ratio()))
+        self.assertEqual(Filter(1000, Decimal(0.001)), wanted)
+        self.assertEqual(Filter(1000, "1e-0000000003"), small())
+
+    def test_a_filter_is_made_once(self):
+        """Its words lie where they are while a call has their address."""
+        seen = small()
+        seen.add("crab")
+
+        class Index:
+            def __index__(self):
+                seen.__init__(10, "1/2")
+                return 5
+
+        before = seen.copy()
+        for call in (seen.add_hash, seen.contains_hash, seen.expected_rate):
+            self.assertRaises(TypeError, call, Index())
+        self.assertEqual(seen, before)
+
+    def test_each_refusal_has_a_text(self):
+        texts = [str(Refusal(code)) for code in range(17)]
+        self.assertEqual(len(set(texts)), 16)
+        self.assertEqual((texts[0], texts[16]), ("an unknown refusal",) * 2)
+        self.assertEqual((texts[1], texts[6]), ("zero bits", "no memory"))
+        self.assertEqual((texts[8], texts[15]), ("no worker", "input failed"))
 
     def test_keys(self):
         self.assertEqual(small(key=bytearray(COUNTING_KEY)).key, COUNTING_KEY)
@@ -259,6 +371,19 @@ class Sizes(unittest.TestCase):
 
     def test_the_version(self):
         self.assertRegex(fastbloom.__version__, r"\d+\.\d+\.\d+")
+
+
+class Types(unittest.TestCase):
+    def test_the_types_of_each_call_are_found(self):
+        calls = [call for cls in (Filter, Refusal, Estimate)
+                 for _, call in inspect.getmembers(cls, inspect.isroutine)
+                 if (getattr(call, "__module__", None) or "").startswith("fastbloom")]
+        self.assertIn(Filter.add, calls)
+        for call in calls:
+            typing.get_type_hints(call)
+        self.assertIs(typing.get_type_hints(Filter.add)["return"], bool)
+        self.assertIn(str, typing.get_args(typing.get_type_hints(Filter.add)["item"]))
+        self.assertIn("_num_words", typing.get_type_hints(Filter))
 
 
 class Sets(unittest.TestCase):
@@ -380,6 +505,20 @@ class Copies(unittest.TestCase):
         self.assertIs(copy.copy(seen).name, seen.name)
         self.assertIsNot(copy.deepcopy(seen).name, seen.name)
         self.assertIs(type(seen | small()), Named)
+
+    def test_copies_keep_what_a_subclass_has_in_slots(self):
+        for cls in (Slotted, Both):
+            seen = cls("fish")
+            if cls is Both:
+                seen.more = "shell"
+            for other in self.copies(seen):
+                self.assertIs(type(other), cls)
+                self.assertEqual((other.name, other.kept()), (["fish"], "fish"))
+                self.assertFalse(hasattr(other, "unset"))
+                self.assertEqual(getattr(other, "more", "shell"), "shell")
+                self.assertEqual(hasattr(other, "more"), cls is Both)
+            self.assertIs(copy.copy(seen).name, seen.name)
+            self.assertIsNot(copy.deepcopy(seen).name, seen.name)
 
     def test_one_filter_twice_stays_one(self):
         one, other = copy.deepcopy([small()] * 2)

@@ -5,6 +5,7 @@ the first lines and refuses the last.
 """
 
 from fractions import Fraction
+from pathlib import Path
 from typing import List, Optional, Tuple
 
 from fastbloom import Filter, Refusal
@@ -21,6 +22,8 @@ def kept(path: str) -> Tuple[Filter, Own, Optional[int], List[bool]]:
     except Refusal as refusal:
         raise SystemExit(refusal.code) from refusal
     mine.update(["a text", b"bytes", bytearray(b"more"), memoryview(b"and more")])
+    mine.save(path.encode())
+    mine |= Filter.load(Path(path), mapped=True)
     mine |= theirs
     low, high = mine.jaccard(theirs)
     was_in: bool = mine.add("a text")

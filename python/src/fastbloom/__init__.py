@@ -4,7 +4,7 @@
     seen.add("crab")           # False: it is new
     "crab" in seen             # True
     seen.save("seen.bloom")
-    Filter.load("seen.bloom")  # maps the file: processes that read it share its pages
+    Filter.load("seen.bloom")  # or `mapped=True`, by which processes share its pages
 
 Items are texts, which count as their UTF-8 bytes, and bytes-like objects. Threads may use one
 filter at once. The work is done by the shared library fastbloom_c; importing the package raises

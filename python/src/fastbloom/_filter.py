@@ -4,43 +4,47 @@ from __future__ import annotations
 
 import copy
 import ctypes
-import mmap
 import operator
 import os
 import struct
-import threading
+import typing
 from decimal import Decimal
 from fractions import Fraction
 from numbers import Real
 from typing import (
-    TYPE_CHECKING, Any, Callable, Iterable, List, NamedTuple, Optional, Tuple, Type, Union)
+    TYPE_CHECKING, Any, Callable, Dict, Iterable, List, NamedTuple, Optional, Tuple, Type, TypeVar)
 
 from . import _library as library
+from ._files import Path, map_file, read_whole, write_file
+from ._items import Buffer, Item, Rate, bytes_of, check_many, plain_bytes
 from ._locks import alone, alone_with, new_lock
 
 if TYPE_CHECKING:
-    from _typeshed import ReadableBuffer as Buffer
     from typing_extensions import Self
-
-    Item = Union[str, Buffer]
-    Rate = Union[str, float, Fraction, Decimal]
+else:  # for typing.get_type_hints, also before Python 3.11
+    Self = getattr(typing, "Self", TypeVar("Self"))
 
 _ZERO_RATE, _CUT, _TOO_LONG, _SEAL = 4, 11, 12, 14
 _REASONS = {
+    1: "zero bits",
     2: "no words",
     3: "too many words",
     _ZERO_RATE: "rate with a zero part",
     5: "size too large",
+    6: "no memory",
     7: "hash count out of range",
+    8: "no worker",
     9: "not a filter",
     10: "a version of the file that isn't known",
     _CUT: "the file is cut",
     _TOO_LONG: "the file goes on after its last word",
     13: "a reserved byte isn't zero",
     _SEAL: "the seal is wrong: the file was changed",
+    15: "input failed",
 }
 _HEAD = 64  # bytes; the words of a file come next
 _AT_ONCE = 4096  # hashes that are inserted or looked up by one call
+_LONGEST_RATE, _LONGEST_EXPONENT = 2000, 4  # digits of a rate, and of its exponent
 # The bits of a byte, from the lowest one.
 _BITS = [[byte >> place & 1 == 1 for place in range(8)] for byte in range(256)]
 
@@ -53,7 +57,7 @@ class Refusal(ValueError):
         self.code = code
 
     def __str__(self) -> str:
-        return _REASONS[self.code]
+        return _REASONS.get(self.code, "an unknown refusal")
 
 
 class Estimate(NamedTuple):
@@ -66,23 +70,6 @@ class Estimate(NamedTuple):
 def _check(code: int) -> None:
     if code:
         raise Refusal(code)
-
-
-def _bytes_of(item: Item) -> bytes:
-    """The bytes of an item."""
-    if isinstance(item, str):
-        return str.encode(item)
-    return _plain_bytes(item, "an item is a str or a bytes-like object")
-
-
-def _plain_bytes(value: Buffer, wanted: str) -> bytes:
-    """The bytes of an object, whose class may not tell another length. It raises what is wanted."""
-    if type(value) is bytes:
-        return value
-    try:
-        return memoryview(value).tobytes()
-    except TypeError:
-        raise TypeError(f"{wanted}, not {type(value).__name__}") from None
 
 
 def _hash_value(value: int) -> int:
@@ -103,8 +90,13 @@ def _parts(rate: Rate) -> Tuple[int, int]:
     """The two parts of a rate. That of a float is read from its shortest text."""
     if not isinstance(rate, (str, Real, Decimal)):
         raise TypeError(f"a rate is a text or a number, not {type(rate).__name__}")
+    text = str(rate)
+    # A fraction with so many digits would take long to make, and has no parts in their range.
+    exponent = text.upper().partition("E")[2].strip().lstrip("+-0_")
+    if len(text) > _LONGEST_RATE or len(exponent) > _LONGEST_EXPONENT:
+        raise ValueError("a rate is no text of so many digits")
     try:
-        fraction = Fraction(str(rate))
+        fraction = Fraction(text)
     except ZeroDivisionError:
         raise Refusal(_ZERO_RATE) from None
     if not 0 <= fraction.numerator < 2**64 or fraction.denominator >= 2**64:
@@ -147,6 +139,27 @@ def _restored(cls: Type[Filter], data: bytes) -> Filter:
     return cls.from_bytes(data, max_hashes=None)
 
 
+def _attributes_of(made: Filter) -> Tuple[Dict[str, Any], Dict[str, Any]]:
+    """What a subclass adds: its attributes, and those of them that have slots."""
+    slots = {}
+    for cls in type(made).__mro__:
+        names = () if cls is Filter else vars(cls).get("__slots__", ())
+        for name in (names,) if isinstance(names, str) else names:
+            if name.startswith("__") and not name.endswith("__"):
+                name = f"_{cls.__name__.lstrip('_')}{name}"  # how Python keeps a private name
+            if name not in ("__dict__", "__weakref__") and hasattr(made, name):
+                slots[name] = getattr(made, name)
+    return getattr(made, "__dict__", {}), slots
+
+
+def _add_attributes(made: Filter, added: Tuple[Dict[str, Any], Dict[str, Any]]) -> None:
+    attributes, slots = added
+    if attributes:
+        made.__dict__.update(attributes)
+    for name, value in slots.items():
+        setattr(made, name, value)
+
+
 class Filter:
     """A set of texts or bytes that never misses a member, and may take something else for one.
 
@@ -176,7 +189,7 @@ class Filter:
         num, den = _parts(rate)
         words, hashes = ctypes.c_size_t(), ctypes.c_uint32()
         _check(library.plan(num, den, items, words, hashes))
-        key = _plain_bytes(key, "a key is a bytes-like object")
+        key = plain_bytes(key, "a key is a bytes-like object")
         self._set(bytearray(8 * words.value), 0, words.value, hashes.value, key)
 
     def _set(self, memory: Buffer, offset: int, num_words: int, num_hashes: int,
@@ -184,6 +197,8 @@ class Filter:
         """Takes the words that lie in the memory, which has no other user."""
         if len(key) != 16:
             raise ValueError("a key is sixteen bytes")
+        if hasattr(self, "_view"):  # a call under way may use the words that it has
+            raise TypeError("a filter is made once")
         # The view keeps the memory where it is.
         self._view = memoryview(memory)[offset:offset + 8 * num_words]
         self._at = ctypes.addressof(ctypes.c_char.from_buffer(self._view))
@@ -216,20 +231,20 @@ class Filter:
     @alone
     def add(self, item: Item) -> bool:
         """Adds an item, and answers whether it was contained, maybe by mistake."""
-        data = _bytes_of(item)
+        data = bytes_of(item)
         return library.insert(
             self._at, self._num_words, self._num_hashes, self._key, data, len(data))
 
     @alone
     def __contains__(self, item: Item) -> bool:
         """Whether an item is contained, maybe by mistake. False: it was never added."""
-        data = _bytes_of(item)
+        data = bytes_of(item)
         return library.contains(
             self._at, self._num_words, self._num_hashes, self._key, data, len(data))
 
     def hash(self, item: Item) -> int:
         """The hash of an item: SipHash-1-3 of its bytes under the key."""
-        data = _bytes_of(item)
+        data = bytes_of(item)
         return library.hash_of(self._key, data, len(data))
 
     @alone
@@ -252,13 +267,12 @@ class Filter:
         Where the iterable raises, or an item is refused, those before it were added. A single `str`
         or bytes-like object raises TypeError: it is an item.
         """
-        if isinstance(items, (str, bytes, bytearray, memoryview)):
-            raise TypeError("this is one item, which `add` takes")
+        check_many(items, "add")
         hash_of, key = library.hash_of, self._key
         hashes, count = (ctypes.c_uint64 * _AT_ONCE)(), 0
         try:
             for item in items:
-                data = _bytes_of(item)
+                data = bytes_of(item)
                 hashes[count] = hash_of(key, data, len(data))
                 count += 1
                 if count == _AT_ONCE:
@@ -276,13 +290,12 @@ class Filter:
 
         An item that is refused, and a single `str` or bytes-like object, raise as in `update`.
         """
-        if isinstance(items, (str, bytes, bytearray, memoryview)):
-            raise TypeError("this is one item, which `in` takes")
+        check_many(items, "in")
         hash_of, key = library.hash_of, self._key
         hashes, count = (ctypes.c_uint64 * _AT_ONCE)(), 0
         answers: List[bool] = []
         for item in items:
-            data = _bytes_of(item)
+            data = bytes_of(item)
             hashes[count] = hash_of(key, data, len(data))
             count += 1
             if count == _AT_ONCE:
@@ -446,8 +459,7 @@ class Filter:
     def copy(self) -> Self:
         """A filter with words of its own, which are equal to these."""
         other = self._copy()
-        if hasattr(self, "__dict__"):  # a subclass may have attributes
-            other.__dict__.update(self.__dict__)
+        _add_attributes(other, _attributes_of(self))
         return other
 
     __copy__ = copy
@@ -455,13 +467,14 @@ class Filter:
     def __deepcopy__(self, memo: Any) -> Self:
         other = self._copy()
         memo[id(self)] = other
-        if hasattr(self, "__dict__"):
-            other.__dict__.update(copy.deepcopy(self.__dict__, memo))
+        _add_attributes(other, copy.deepcopy(_attributes_of(self), memo))
         return other
 
     def __reduce__(self) -> Tuple[Any, ...]:
-        """Pickles the bytes of the file, which have the key."""
-        return _restored, (type(self), self.to_bytes()), getattr(self, "__dict__", None)
+        """Pickles the bytes of the file, which have the key, and what a subclass adds."""
+        attributes, slots = _attributes_of(self)
+        state = (attributes or None, slots) if slots else attributes or None
+        return _restored, (type(self), self.to_bytes()), state
 
     def words(self) -> List[int]:
         """The words, as a list of numbers."""
@@ -491,24 +504,13 @@ class Filter:
         """The bytes of the file that `save` writes."""
         return bytes(self._file(sealed))
 
-    def save(self, path: Union[str, os.PathLike[str]], sealed: bool = True) -> None:
+    def save(self, path: Path, sealed: bool = True) -> None:
         """Writes a file, whole or not at all. It raises OSError where that fails.
 
-        A reader of a sealed file finds out whether a byte was changed. A file that is to be changed
-        while others map it is not sealed.
+        A file that it replaces hands its rights on. A reader of a sealed file finds out whether a
+        byte was changed. A file that is to be changed while others map it is not sealed.
         """
-        path = os.fspath(path)
-        part = f"{path}.{os.getpid()}-{threading.get_ident()}.part"
-        try:
-            with open(part, "wb") as file:
-                file.write(self._file(sealed))
-                file.flush()
-                os.fsync(file.fileno())
-            os.replace(part, path)
-        except BaseException:
-            if os.path.exists(part):
-                os.remove(part)
-            raise
+        write_file(path, self._file(sealed))
 
     @classmethod
     def from_bytes(cls, data: Buffer, *, max_hashes: Optional[int] = 64) -> Self:
@@ -519,23 +521,27 @@ class Filter:
         as many steps; None stands for no limit. A filter of one's own has more than 64 only where
         it is made for a few items at a rate below 10^-13.
         """
-        memory = bytearray(_plain_bytes(data, "a file is a bytes-like object"))
+        memory = bytearray(plain_bytes(data, "a file is a bytes-like object"))
         told = _check_file(bytes(memory[:_HEAD]), len(memory), max_hashes)
         return cls._read(memory, *told)
 
     @classmethod
-    def load(cls, path: Union[str, os.PathLike[str]], *,
-             max_hashes: Optional[int] = 64) -> Self:
-        """The filter of a file, which is mapped: what this process adds stays its own.
+    def load(cls, path: Path, *, max_hashes: Optional[int] = 64, mapped: bool = False) -> Self:
+        """The filter of a file, which is read into memory.
 
-        It raises OSError where the file can't be read, and as `from_bytes` where it is refused. A
-        sealed file is read whole, to check the seal. The file isn't to be cut or written while it
-        is mapped; `save` puts a new one in its place.
+        It raises OSError where the file can't be read, and as `from_bytes` where it is refused.
+
+        A file that is `mapped` is read as its words are needed, and processes share its pages; but
+        one with a seal is read whole, to check it. What this process adds stays its own. The file
+        isn't to be cut or written while it is mapped, as by `cp`: the filter would lose members, or
+        the process end by a signal. `save` puts a new file in its place.
         """
         with open(path, "rb") as file:
             head, size = file.read(_HEAD), os.fstat(file.fileno()).st_size
             told = _check_file(head, size, max_hashes)
-            memory = mmap.mmap(file.fileno(), size, access=mmap.ACCESS_COPY)
+            memory = map_file(file, size) if mapped else read_whole(file, head, size)
+        if memory is None:
+            raise Refusal(_CUT)
         return cls._read(memory, *told)
 
     @classmethod
