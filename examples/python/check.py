@@ -78,11 +78,13 @@ def mapped(seen, path):
     assert Filter.load(path) != seen
     seen.save(path)
     assert path.read_bytes()[:40] == unsealed[:40] and path.read_bytes()[64:] == unsealed[64:]
-    loaded = Filter.load(path)
-    assert loaded == seen and not loaded.add("new") and loaded != seen and Filter.load(path) == seen
+    for is_mapped in (False, True):
+        loaded = Filter.load(path, mapped=is_mapped)
+        assert loaded == seen and not loaded.add("new") and loaded != seen
+        assert Filter.load(path) == seen
     child = os.fork()
     if child == 0:
-        again = Filter.load(path)
+        again = Filter.load(path, mapped=True)
         os._exit(0 if all(name in again for name in NAMES[:1000]) else 1)
     assert os.waitpid(child, 0)[1] == 0
 
@@ -144,7 +146,7 @@ def main():
     worked(folder)
     refused((folder / "python.bloom").read_bytes(), folder / "refused")
     for path in sys.argv[2:]:
-        assert Filter.load(path) == seen, path
+        assert Filter.load(path) == seen == Filter.load(path, mapped=True), path
 
 
 main()
