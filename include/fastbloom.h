@@ -226,149 +226,158 @@ FASTBLOOM_MUST_USE uint8_t fastbloom_head_read(const uint8_t head[64], size_t *n
  * the library's own calls, which take no null pointer. */
 #ifndef FASTBLOOM_NO_WRAPPERS
 
-static inline uint64_t *fastbloom_words_(uint64_t *words, size_t len) {
+/* In C++ a function is one and the same wherever inline functions of classes call it. */
+#ifdef __cplusplus
+#define FASTBLOOM_INLINE inline
+#else
+#define FASTBLOOM_INLINE static inline
+#endif
+
+FASTBLOOM_INLINE uint64_t *fastbloom_words_(uint64_t *words, size_t len) {
     static uint64_t none;
     return len == 0 ? &none : words;
 }
 
-static inline const uint64_t *fastbloom_read_words_(const uint64_t *words, size_t len) {
+FASTBLOOM_INLINE const uint64_t *fastbloom_read_words_(const uint64_t *words, size_t len) {
     static const uint64_t none = 0;
     return len == 0 ? &none : words;
 }
 
-static inline const uint8_t *fastbloom_bytes_(const uint8_t *bytes, size_t len) {
+FASTBLOOM_INLINE const uint8_t *fastbloom_bytes_(const uint8_t *bytes, size_t len) {
     static const uint8_t none = 0;
     return len == 0 ? &none : bytes;
 }
 
-static inline bool fastbloom_insert_hash_(uint64_t *words, size_t num_words, uint32_t num_hashes,
-                                          uint64_t hash) {
+FASTBLOOM_INLINE bool fastbloom_insert_hash_(uint64_t *words, size_t num_words, uint32_t num_hashes,
+                                             uint64_t hash) {
     return fastbloom_insert_hash(fastbloom_words_(words, num_words), num_words, num_hashes, hash);
 }
 
-static inline bool fastbloom_insert_hashes_(uint64_t *words, size_t num_words, uint32_t num_hashes,
-                                            const uint64_t *hashes, size_t count) {
+FASTBLOOM_INLINE bool fastbloom_insert_hashes_(uint64_t *words, size_t num_words,
+                                               uint32_t num_hashes, const uint64_t *hashes,
+                                               size_t count) {
     return fastbloom_insert_hashes(fastbloom_words_(words, num_words), num_words, num_hashes,
                                    fastbloom_read_words_(hashes, count), count);
 }
 
-static inline bool fastbloom_contains_hash_(const uint64_t *words, size_t num_words,
-                                            uint32_t num_hashes, uint64_t hash) {
+FASTBLOOM_INLINE bool fastbloom_contains_hash_(const uint64_t *words, size_t num_words,
+                                               uint32_t num_hashes, uint64_t hash) {
     return fastbloom_contains_hash(fastbloom_read_words_(words, num_words), num_words, num_hashes,
                                    hash);
 }
 
-FASTBLOOM_MUST_USE static inline bool fastbloom_contains_hashes_(const uint64_t *words,
-                                                                 size_t num_words,
-                                                                 uint32_t num_hashes,
-                                                                 const uint64_t *hashes,
-                                                                 size_t count, uint64_t *found,
-                                                                 size_t num_found) {
+FASTBLOOM_MUST_USE FASTBLOOM_INLINE bool fastbloom_contains_hashes_(const uint64_t *words,
+                                                                    size_t num_words,
+                                                                    uint32_t num_hashes,
+                                                                    const uint64_t *hashes,
+                                                                    size_t count, uint64_t *found,
+                                                                    size_t num_found) {
     return fastbloom_contains_hashes(fastbloom_read_words_(words, num_words), num_words, num_hashes,
                                      fastbloom_read_words_(hashes, count), count,
                                      fastbloom_words_(found, num_found), num_found);
 }
 
-FASTBLOOM_MUST_USE static inline bool fastbloom_insert_hashes_tell_new_(uint64_t *words,
-                                                                        size_t num_words,
-                                                                        uint32_t num_hashes,
-                                                                        const uint64_t *hashes,
-                                                                        size_t count,
-                                                                        uint64_t *fresh,
-                                                                        size_t num_fresh) {
+FASTBLOOM_MUST_USE FASTBLOOM_INLINE bool fastbloom_insert_hashes_tell_new_(uint64_t *words,
+                                                                           size_t num_words,
+                                                                           uint32_t num_hashes,
+                                                                           const uint64_t *hashes,
+                                                                           size_t count,
+                                                                           uint64_t *fresh,
+                                                                           size_t num_fresh) {
     return fastbloom_insert_hashes_tell_new(fastbloom_words_(words, num_words), num_words,
                                             num_hashes, fastbloom_read_words_(hashes, count), count,
                                             fastbloom_words_(fresh, num_fresh), num_fresh);
 }
 
-static inline bool fastbloom_insert_(uint64_t *words, size_t num_words, uint32_t num_hashes,
-                                     const uint8_t key[16], const uint8_t *bytes, size_t len) {
+FASTBLOOM_INLINE bool fastbloom_insert_(uint64_t *words, size_t num_words, uint32_t num_hashes,
+                                        const uint8_t key[16], const uint8_t *bytes, size_t len) {
     return fastbloom_insert(fastbloom_words_(words, num_words), num_words, num_hashes, key,
                             fastbloom_bytes_(bytes, len), len);
 }
 
-static inline bool fastbloom_contains_(const uint64_t *words, size_t num_words, uint32_t num_hashes,
-                                       const uint8_t key[16], const uint8_t *bytes, size_t len) {
+FASTBLOOM_INLINE bool fastbloom_contains_(const uint64_t *words, size_t num_words,
+                                          uint32_t num_hashes, const uint8_t key[16],
+                                          const uint8_t *bytes, size_t len) {
     return fastbloom_contains(fastbloom_read_words_(words, num_words), num_words, num_hashes, key,
                               fastbloom_bytes_(bytes, len), len);
 }
 
-static inline bool fastbloom_clear_(uint64_t *words, size_t num_words) {
+FASTBLOOM_INLINE bool fastbloom_clear_(uint64_t *words, size_t num_words) {
     return fastbloom_clear(fastbloom_words_(words, num_words), num_words);
 }
 
-FASTBLOOM_MUST_USE static inline bool fastbloom_union_(uint64_t *words, size_t num_words,
-                                                       const uint64_t *other, size_t num_other) {
+FASTBLOOM_MUST_USE FASTBLOOM_INLINE bool fastbloom_union_(uint64_t *words, size_t num_words,
+                                                          const uint64_t *other, size_t num_other) {
     return fastbloom_union(fastbloom_words_(words, num_words), num_words,
                            fastbloom_read_words_(other, num_other), num_other);
 }
 
-FASTBLOOM_MUST_USE static inline bool fastbloom_intersect_(uint64_t *words, size_t num_words,
-                                                           const uint64_t *other,
-                                                           size_t num_other) {
+FASTBLOOM_MUST_USE FASTBLOOM_INLINE bool fastbloom_intersect_(uint64_t *words, size_t num_words,
+                                                              const uint64_t *other,
+                                                              size_t num_other) {
     return fastbloom_intersect(fastbloom_words_(words, num_words), num_words,
                                fastbloom_read_words_(other, num_other), num_other);
 }
 
-static inline bool fastbloom_equal_(const uint64_t *words, size_t num_words, const uint64_t *other,
-                                    size_t num_other) {
+FASTBLOOM_INLINE bool fastbloom_equal_(const uint64_t *words, size_t num_words,
+                                       const uint64_t *other, size_t num_other) {
     return fastbloom_equal(fastbloom_read_words_(words, num_words), num_words,
                            fastbloom_read_words_(other, num_other), num_other);
 }
 
-static inline size_t fastbloom_count_ones_(const uint64_t *words, size_t num_words) {
+FASTBLOOM_INLINE size_t fastbloom_count_ones_(const uint64_t *words, size_t num_words) {
     return fastbloom_count_ones(fastbloom_read_words_(words, num_words), num_words);
 }
 
-FASTBLOOM_MUST_USE static inline bool fastbloom_estimate_(const uint64_t *words, size_t num_words,
-                                                          uint32_t num_hashes, size_t *low,
-                                                          size_t *high) {
+FASTBLOOM_MUST_USE FASTBLOOM_INLINE bool fastbloom_estimate_(const uint64_t *words,
+                                                             size_t num_words, uint32_t num_hashes,
+                                                             size_t *low, size_t *high) {
     return fastbloom_estimate(fastbloom_read_words_(words, num_words), num_words, num_hashes, low,
                               high);
 }
 
-FASTBLOOM_MUST_USE static inline bool fastbloom_estimate_union_(const uint64_t *words,
-                                                                size_t num_words,
-                                                                const uint64_t *other,
-                                                                size_t num_other,
-                                                                uint32_t num_hashes, size_t *low,
-                                                                size_t *high) {
+FASTBLOOM_MUST_USE FASTBLOOM_INLINE bool fastbloom_estimate_union_(const uint64_t *words,
+                                                                   size_t num_words,
+                                                                   const uint64_t *other,
+                                                                   size_t num_other,
+                                                                   uint32_t num_hashes, size_t *low,
+                                                                   size_t *high) {
     return fastbloom_estimate_union(fastbloom_read_words_(words, num_words), num_words,
                                     fastbloom_read_words_(other, num_other), num_other, num_hashes,
                                     low, high);
 }
 
-FASTBLOOM_MUST_USE static inline bool fastbloom_estimate_common_(const uint64_t *words,
-                                                                 size_t num_words,
-                                                                 const uint64_t *other,
-                                                                 size_t num_other,
-                                                                 uint32_t num_hashes, size_t *low,
-                                                                 size_t *high) {
+FASTBLOOM_MUST_USE FASTBLOOM_INLINE bool fastbloom_estimate_common_(const uint64_t *words,
+                                                                    size_t num_words,
+                                                                    const uint64_t *other,
+                                                                    size_t num_other,
+                                                                    uint32_t num_hashes,
+                                                                    size_t *low, size_t *high) {
     return fastbloom_estimate_common(fastbloom_read_words_(words, num_words), num_words,
                                      fastbloom_read_words_(other, num_other), num_other, num_hashes,
                                      low, high);
 }
 
-FASTBLOOM_MUST_USE static inline bool fastbloom_jaccard_(const uint64_t *words, size_t num_words,
-                                                         const uint64_t *other, size_t num_other,
-                                                         uint32_t num_hashes, uint64_t *low,
-                                                         uint64_t *high) {
+FASTBLOOM_MUST_USE FASTBLOOM_INLINE bool fastbloom_jaccard_(const uint64_t *words, size_t num_words,
+                                                            const uint64_t *other, size_t num_other,
+                                                            uint32_t num_hashes, uint64_t *low,
+                                                            uint64_t *high) {
     return fastbloom_jaccard(fastbloom_read_words_(words, num_words), num_words,
                              fastbloom_read_words_(other, num_other), num_other, num_hashes, low,
                              high);
 }
 
-static inline uint64_t fastbloom_seal_(const uint64_t *words, size_t num_words, uint32_t num_hashes,
-                                       const uint8_t key[16]) {
+FASTBLOOM_INLINE uint64_t fastbloom_seal_(const uint64_t *words, size_t num_words,
+                                          uint32_t num_hashes, const uint8_t key[16]) {
     return fastbloom_seal(fastbloom_read_words_(words, num_words), num_words, num_hashes, key);
 }
 
-static inline uint64_t fastbloom_hash_(const uint8_t key[16], const uint8_t *bytes, size_t len) {
+FASTBLOOM_INLINE uint64_t fastbloom_hash_(const uint8_t key[16], const uint8_t *bytes, size_t len) {
     return fastbloom_hash(key, fastbloom_bytes_(bytes, len), len);
 }
 
-static inline void fastbloom_hasher_update_(fastbloom_hasher *hasher, const uint8_t *bytes,
-                                            size_t len) {
+FASTBLOOM_INLINE void fastbloom_hasher_update_(fastbloom_hasher *hasher, const uint8_t *bytes,
+                                               size_t len) {
     fastbloom_hasher_update(hasher, fastbloom_bytes_(bytes, len), len);
 }
 

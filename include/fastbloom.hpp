@@ -143,8 +143,9 @@ public:
         fastbloom_hasher_init(&state_, key.data());
     }
 
-    // Takes in a piece.
+    // Takes in a piece. A null pointer is no text.
     hasher &update(std::string_view piece) noexcept { return update(piece.data(), piece.size()); }
+    hasher &update(std::nullptr_t) = delete;
     hasher &update(const void *bytes, std::size_t size) noexcept {
         fastbloom_hasher_update(&state_, detail::not_null(bytes), size);
         return *this;
@@ -236,8 +237,10 @@ public:
         return made;
     }
 
-    // Inserts an item, and answers whether it was contained, maybe by mistake.
+    // Inserts an item, and answers whether it was contained, maybe by mistake. A null pointer is no
+    // text, and nor is 0, which stands for one: a number goes in by its bytes or its hash.
     bool insert(std::string_view item) noexcept { return insert(item.data(), item.size()); }
+    bool insert(std::nullptr_t) = delete;
     bool insert(const void *bytes, std::size_t size) noexcept {
         return fastbloom_insert(words_, num_words_, num_hashes_, key_.data(),
                                 detail::not_null(bytes), size);
@@ -247,6 +250,7 @@ public:
     bool contains(std::string_view item) const noexcept {
         return contains(item.data(), item.size());
     }
+    bool contains(std::nullptr_t) const = delete;
     bool contains(const void *bytes, std::size_t size) const noexcept {
         return fastbloom_contains(words_, num_words_, num_hashes_, key_.data(),
                                   detail::not_null(bytes), size);
@@ -256,6 +260,7 @@ public:
     std::uint64_t hash(std::string_view item) const noexcept {
         return hash(item.data(), item.size());
     }
+    std::uint64_t hash(std::nullptr_t) const = delete;
     std::uint64_t hash(const void *bytes, std::size_t size) const noexcept {
         return fastbloom_hash(key_.data(), detail::not_null(bytes), size);
     }

@@ -1,11 +1,12 @@
 /* Files of filters: one is mapped and checked, and one is written.
  *
- * Include it behind `#define _DEFAULT_SOURCE`, for mmap and fsync. */
+ * Include it behind `#define _DEFAULT_SOURCE`, for mmap, fchmod and fsync. */
 #ifndef FILTER_FILE_H
 #define FILTER_FILE_H
 
 #include "fastbloom.h"
 
+#include <errno.h>
 #include <fcntl.h>
 #include <stdio.h>
 #include <string.h>
@@ -42,12 +43,14 @@ static inline uint8_t map_filter(const char *path, struct filter *filter) {
     int file = open(path, O_RDONLY);
     struct stat about;
     if (file < 0) return FASTBLOOM_INPUT;
-    if (fstat(file, &about) != 0) return close(file), FASTBLOOM_INPUT;
+    /* A folder can be opened too. */
+    if (fstat(file, &about) != 0 || !S_ISREG(about.st_mode)) return close(file), FASTBLOOM_INPUT;
     size_t size = (size_t)about.st_size;
     if (size == 0) return close(file), FASTBLOOM_NOT_A_FILTER;
     uint8_t *bytes = mmap(NULL, size, PROT_READ, MAP_SHARED, file, 0);
+    int why = errno;
     close(file);
-    if (bytes == MAP_FAILED) return FASTBLOOM_MEMORY;
+    if (bytes == MAP_FAILED) return why == ENOMEM ? FASTBLOOM_MEMORY : FASTBLOOM_INPUT;
     uint64_t seal;
     uint8_t code = read_head(bytes, size, filter, &seal);
     filter->words = (const uint64_t *)(bytes + 64);
@@ -60,6 +63,25 @@ static inline uint8_t map_filter(const char *path, struct filter *filter) {
 /* end of example */
 
 /* example writing */
+/* Opens a new file beside the one at the path, for whose name there is room. While it is written, no
+ * other user reads it where the old file isn't theirs to read. */
+static inline FILE *open_part(const char *path, char *part, size_t room) {
+    struct stat old;
+    bool is_there = stat(path, &old) == 0;
+    int file = -1;
+    for (unsigned tries = 0; file < 0 && tries < 100; tries++) {
+        int length = snprintf(part, room, "%s.%ld-%u.part", path, (long)getpid(), tries);
+        if (length < 0 || (size_t)length >= room) return NULL;
+        file = open(part, O_WRONLY | O_CREAT | O_EXCL | O_CLOEXEC, is_there ? 0600 : 0666);
+        if (file < 0 && errno != EEXIST) return NULL;
+    }
+    if (file < 0) return NULL;
+    FILE *stream = NULL;
+    if (!is_there || fchmod(file, old.st_mode & 0777) == 0) stream = fdopen(file, "wb");
+    if (stream == NULL) close(file), unlink(part);
+    return stream;
+}
+
 /* Writes a sealed file, whole or not at all, and answers whether it did. */
 static inline bool write_filter(const char *path, const struct filter *filter) {
     uint8_t head[64];
@@ -68,14 +90,14 @@ static inline bool write_filter(const char *path, const struct filter *filter) {
     if (fastbloom_head_write(filter->num_words, filter->num_hashes, filter->key, seal, head) != 0)
         return false;
     char part[4096];
-    if ((size_t)snprintf(part, sizeof part, "%s.part", path) >= sizeof part) return false;
-    FILE *file = fopen(part, "wb");
+    FILE *file = open_part(path, part, sizeof part);
     if (file == NULL) return false;
     bool whole = fwrite(head, sizeof head, 1, file) == 1 &&
                  fwrite(filter->words, 8, filter->num_words, file) == filter->num_words &&
                  fflush(file) == 0 && fsync(fileno(file)) == 0;
-    whole = fclose(file) == 0 && whole;
-    return whole && rename(part, path) == 0;
+    whole = fclose(file) == 0 && whole && rename(part, path) == 0;
+    if (!whole) unlink(part);
+    return whole;
 }
 /* end of example */
 

@@ -3,16 +3,22 @@
 
 #include <cstdio>
 #include <string>
+#include <unistd.h>
 
-// Writes a filter's file, and answers whether it did.
-static bool save(const fastbloom::filter &filter, const char *path) {
+// Writes a filter's file, whole or not at all, and answers whether it did. Until it is whole it is
+// a new file beside the old one.
+static bool save(const fastbloom::filter &filter, const std::string &path) {
     const auto head = filter.head();
-    std::FILE *file = std::fopen(path, "wb");
+    const std::string part = path + "." + std::to_string(getpid()) + ".part";
+    std::FILE *file = std::fopen(part.c_str(), "wbx");
     if (file == nullptr) return false;
     const std::size_t count = filter.num_words();
-    const bool whole = head && std::fwrite(head->data(), head->size(), 1, file) == 1 &&
-                       std::fwrite(filter.data(), 8, count, file) == count;
-    return std::fclose(file) == 0 && whole;
+    bool whole = head && std::fwrite(head->data(), head->size(), 1, file) == 1 &&
+                 std::fwrite(filter.data(), 8, count, file) == count &&
+                 std::fflush(file) == 0 && fsync(fileno(file)) == 0;
+    whole = std::fclose(file) == 0 && whole && std::rename(part.c_str(), path.c_str()) == 0;
+    if (!whole) std::remove(part.c_str());
+    return whole;
 }
 
 // The bytes of a file, or none.

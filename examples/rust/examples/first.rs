@@ -2,7 +2,22 @@
 
 use fastbloom_c::{BloomFilter, Rate};
 use std::error::Error;
-use std::fs;
+use std::{fs, io, process};
+
+/// Writes a filter's file, whole or not at all. Until it is whole it is a new file beside the old
+/// one.
+fn save(seen: &BloomFilter, path: &str) -> io::Result<()> {
+    let part = format!("{path}.{}.part", process::id());
+    let mut file = fs::File::create_new(&part)?;
+    let written = seen
+        .write_file(&mut file)
+        .and_then(|()| file.sync_all())
+        .and_then(|()| fs::rename(&part, path));
+    if written.is_err() {
+        fs::remove_file(&part)?;
+    }
+    written
+}
 
 fn main() -> Result<(), Box<dyn Error>> {
     let path = std::env::args().nth(1).ok_or("usage: first FILE")?;
@@ -13,7 +28,7 @@ fn main() -> Result<(), Box<dyn Error>> {
         let before = seen.insert(name);
         println!("{name}: {}", if before { "seen before" } else { "new" });
     }
-    fs::write(&path, seen.to_bytes())?;
+    save(&seen, &path)?;
     let read = BloomFilter::from_bytes(&fs::read(&path)?)?;
     let kept = read.contains("crab") && read == seen;
     println!("{}", if kept { "read back" } else { "lost" });

@@ -1,9 +1,12 @@
 //! Why a call is refused.
 
-use std::fmt;
-use std::io;
+use std::hash::{Hash, Hasher};
+use std::sync::Arc;
+use std::{fmt, io, mem};
 
 /// Why a call is refused. What it would have changed is as before.
+///
+/// Two reads that failed are equal where their kinds of error are.
 ///
 /// ```
 /// use fastbloom_c::{BloomFilter, Error};
@@ -13,7 +16,7 @@ use std::io;
 /// assert_eq!(refused.code(), Some(2));
 /// assert_eq!(refused.to_string(), "no words");
 /// ```
-#[derive(Clone, Copy, Debug, PartialEq, Eq, Hash)]
+#[derive(Clone, Debug)]
 #[non_exhaustive]
 pub enum Error {
     /// Zero bits were asked for.
@@ -42,8 +45,8 @@ pub enum Error {
     Reserved,
     /// The seal of a file is wrong: the file was changed.
     Seal,
-    /// A read failed.
-    Input(io::ErrorKind),
+    /// A read failed, by this error.
+    Input(Arc<io::Error>),
     /// A file has more hashes than the caller allows.
     TooManyHashes,
     /// Two filters differ in their numbers of words or hashes, or in their keys.
@@ -112,11 +115,59 @@ impl fmt::Display for Error {
             Error::TooLong => "the file goes on after its last word",
             Error::Reserved => "a reserved byte isn't zero",
             Error::Seal => "the seal is wrong: the file was changed",
-            Error::Input(kind) => return write!(f, "input failed: {kind}"),
+            Error::Input(error) => return write!(f, "input failed: {error}"),
             Error::TooManyHashes => "more hashes than are allowed",
             Error::OtherShape => "the filters differ in words, hashes or keys",
         })
     }
 }
 
-impl std::error::Error for Error {}
+impl std::error::Error for Error {
+    fn source(&self) -> Option<&(dyn std::error::Error + 'static)> {
+        match self {
+            Error::Input(error) => Some(&**error),
+            _ => None,
+        }
+    }
+}
+
+/// A read that failed.
+///
+/// ```
+/// use std::error::Error as _;
+/// use std::io;
+///
+/// let error = fastbloom_c::Error::from(io::Error::other("the line was cut"));
+/// assert_eq!(error.to_string(), "input failed: the line was cut");
+/// assert!(error.source().is_some_and(|source| source.is::<io::Error>()));
+/// ```
+impl From<io::Error> for Error {
+    fn from(error: io::Error) -> Error {
+        Error::Input(Arc::new(error))
+    }
+}
+
+impl Error {
+    /// The kind of the error of a read that failed.
+    fn kind(&self) -> Option<io::ErrorKind> {
+        match self {
+            Error::Input(error) => Some(error.kind()),
+            _ => None,
+        }
+    }
+}
+
+impl PartialEq for Error {
+    fn eq(&self, other: &Error) -> bool {
+        mem::discriminant(self) == mem::discriminant(other) && self.kind() == other.kind()
+    }
+}
+
+impl Eq for Error {}
+
+impl Hash for Error {
+    fn hash<H: Hasher>(&self, state: &mut H) {
+        mem::discriminant(self).hash(state);
+        self.kind().hash(state);
+    }
+}

@@ -19,7 +19,7 @@ fn fill(input: &mut impl Read, buffer: &mut [u8]) -> Result<usize, Error> {
             Ok(0) => break,
             Ok(count) => there += count,
             Err(error) if error.kind() == ErrorKind::Interrupted => {}
-            Err(error) => return Err(Error::Input(error.kind())),
+            Err(error) => return Err(error.into()),
         }
     }
     Ok(there)

@@ -12,6 +12,35 @@ fn push_bits(told: &mut Vec<bool>, bits: &Bits, count: usize) {
     told.extend((0..count).map(|place| bits[place / 64] >> (place % 64) & 1 == 1));
 }
 
+/// Hashes that aren't inserted yet. They are when it is dropped, as by a panic.
+struct Pending<'a> {
+    filter: &'a mut BloomFilter,
+    hashes: [u64; AT_ONCE],
+    count: usize,
+}
+
+impl Pending<'_> {
+    fn push(&mut self, item: &[u8]) {
+        self.hashes[self.count] = self.filter.source_hash(item);
+        self.count += 1;
+        if self.count == AT_ONCE {
+            self.insert();
+        }
+    }
+
+    fn insert(&mut self) {
+        let hashes = &self.hashes[..self.count];
+        self.filter.insert_hashes(hashes);
+        self.count = 0;
+    }
+}
+
+impl Drop for Pending<'_> {
+    fn drop(&mut self) {
+        self.insert();
+    }
+}
+
 impl BloomFilter {
     /// Inserts each hash.
     ///
@@ -70,7 +99,8 @@ impl BloomFilter {
         told
     }
 
-    /// Inserts each item of an iterator, many by one call of the library.
+    /// Inserts each item of an iterator, many by one call of the library. Where the iterator panics,
+    /// the items before are inserted.
     ///
     /// ```
     /// # use fastbloom_c::BloomFilter;
@@ -80,17 +110,14 @@ impl BloomFilter {
     /// # Ok::<(), fastbloom_c::Error>(())
     /// ```
     pub fn insert_all<T: AsRef<[u8]>>(&mut self, items: impl IntoIterator<Item = T>) {
-        let mut hashes = [0; AT_ONCE];
-        let mut count = 0;
+        let mut pending = Pending {
+            filter: self,
+            hashes: [0; AT_ONCE],
+            count: 0,
+        };
         for item in items {
-            hashes[count] = self.source_hash(&item);
-            count += 1;
-            if count == AT_ONCE {
-                self.insert_hashes(&hashes);
-                count = 0;
-            }
+            pending.push(item.as_ref());
         }
-        self.insert_hashes(&hashes[..count]);
     }
 }
 

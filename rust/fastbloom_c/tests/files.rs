@@ -1,6 +1,7 @@
 //! Files that are written, read and refused. The form is that of docs/FILE.md.
 
 use fastbloom_c::{BloomFilter, Error};
+use std::error::Error as _;
 use std::io::{self, ErrorKind, Read};
 
 /// The file of a model, which docs/FILE.md explains: one word, three hashes, and the key bytes 0 to
@@ -161,7 +162,7 @@ fn files_are_refused_each_for_its_reason() {
     let mut count = 0;
     for (error, files) in refused() {
         for file in files {
-            assert_eq!(read(&file), Err(error), "{file:x?}");
+            assert_eq!(read(&file), Err(error.clone()), "{file:x?}");
             count += 1;
         }
     }
@@ -213,12 +214,45 @@ fn a_read_that_fails_is_told_wherever_it_is() {
     let file = worked();
     for there in [0, 5, 63, 64, 71, 72] {
         let answer = BloomFilter::read_file(&mut Broken(&file[..there]));
-        assert_eq!(
-            answer,
-            Err(Error::Input(ErrorKind::ConnectionReset)),
-            "{there}"
-        );
+        let wanted = Error::from(io::Error::from(ErrorKind::ConnectionReset));
+        assert_eq!(answer, Err(wanted), "{there}");
     }
+}
+
+/// A read that fails by an error with a cause.
+struct Unplugged;
+
+#[derive(Debug)]
+struct Cause;
+
+impl std::fmt::Display for Cause {
+    fn fmt(&self, f: &mut std::fmt::Formatter<'_>) -> std::fmt::Result {
+        f.write_str("the plug was pulled")
+    }
+}
+
+impl std::error::Error for Cause {}
+
+impl Read for Unplugged {
+    fn read(&mut self, _: &mut [u8]) -> io::Result<usize> {
+        Err(io::Error::new(ErrorKind::TimedOut, Cause))
+    }
+}
+
+#[test]
+fn the_cause_of_a_read_that_failed_is_kept() {
+    let error = BloomFilter::read_file(&mut Unplugged).expect_err("no file");
+    assert_eq!(error.to_string(), "input failed: the plug was pulled");
+    assert_eq!(error.code(), Some(15));
+    let source = error.source().expect("a source");
+    let told: &io::Error = source.downcast_ref().expect("that of the read");
+    assert_eq!(told.kind(), ErrorKind::TimedOut);
+    assert!(told.get_ref().expect("a cause").is::<Cause>());
+    assert!(error.clone().source().is_some() && Error::Seal.source().is_none());
+    // Two are equal where their kinds are.
+    assert_eq!(error, Error::from(io::Error::from(ErrorKind::TimedOut)));
+    assert_ne!(error, Error::from(io::Error::from(ErrorKind::BrokenPipe)));
+    assert_ne!(error, Error::Seal);
 }
 
 #[test]

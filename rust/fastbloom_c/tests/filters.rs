@@ -399,14 +399,33 @@ fn many_items_at_once_are_as_one_after_the_other() {
     );
 }
 
-/// Where the items stop with a panic, the filter is whole, and the caller goes on.
+/// An item of which the bytes may not be there.
+struct Item(Option<String>);
+
+impl AsRef<[u8]> for Item {
+    fn as_ref(&self) -> &[u8] {
+        self.0.as_ref().expect("the bytes").as_bytes()
+    }
+}
+
+/// Where the items stop with a panic, those before it are inserted, and the caller goes on.
 #[test]
-fn items_that_panic_leave_a_filter() {
-    let mut seen = thousand();
-    let items = names(0..2000).inspect(|name| assert_ne!(name, "item1500"));
-    let all = std::panic::AssertUnwindSafe(|| seen.insert_all(items));
-    assert!(std::panic::catch_unwind(all).is_err());
-    assert!(seen.contains("item0") && seen.num_bits() == thousand().num_bits());
+fn items_that_panic_leave_those_before_them() {
+    for last in [0, 1, 1023, 1024, 1500] {
+        let mut wanted = thousand();
+        names(0..last).for_each(|name| {
+            wanted.insert(&name);
+        });
+        let stops = format!("item{last}");
+        let (mut all, mut extended) = (thousand(), thousand());
+        let items = names(0..2000).inspect(|name| assert_ne!(*name, stops));
+        let inserts = std::panic::AssertUnwindSafe(|| all.insert_all(items));
+        assert!(std::panic::catch_unwind(inserts).is_err());
+        let items = names(0..2000).map(|name| Item((name != stops).then_some(name)));
+        let extends = std::panic::AssertUnwindSafe(|| extended.extend(items));
+        assert!(std::panic::catch_unwind(extends).is_err());
+        assert_eq!((&all, &extended), (&wanted, &wanted));
+    }
 }
 
 #[test]

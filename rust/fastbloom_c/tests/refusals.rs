@@ -1,7 +1,8 @@
 //! Each refusal once, with its number and its text.
 
 use fastbloom_c::{BloomFilter, Error, Rate};
-use std::io::ErrorKind;
+use std::collections::HashSet;
+use std::io::{self, ErrorKind};
 
 fn rate(num: u64, den: u64) -> Rate {
     Rate::new(num, den).expect("a rate")
@@ -47,50 +48,63 @@ fn a_size_that_has_no_room_is_refused() {
     assert_eq!(refused, Err(Error::Memory));
 }
 
-const ALL: [(Error, Option<u8>, &str); 16] = [
-    (Error::ZeroBits, Some(1), "zero bits"),
-    (Error::EmptyWords, Some(2), "no words"),
-    (Error::TooManyWords, Some(3), "too many words"),
-    (Error::ZeroRate, Some(4), "rate with a zero part"),
-    (Error::SizeOverflow, Some(5), "size too large"),
-    (Error::Memory, Some(6), "no memory"),
-    (Error::HashCount, Some(7), "hash count out of range"),
-    (Error::NotAFilter, Some(9), "not a filter"),
-    (
-        Error::Version,
-        Some(10),
-        "a version of the file that isn't known",
-    ),
-    (Error::Cut, Some(11), "the file is cut"),
-    (
-        Error::TooLong,
-        Some(12),
-        "the file goes on after its last word",
-    ),
-    (Error::Reserved, Some(13), "a reserved byte isn't zero"),
-    (
-        Error::Seal,
-        Some(14),
-        "the seal is wrong: the file was changed",
-    ),
-    (
-        Error::Input(ErrorKind::TimedOut),
-        Some(15),
-        "input failed: timed out",
-    ),
-    (Error::TooManyHashes, None, "more hashes than are allowed"),
-    (
-        Error::OtherShape,
-        None,
-        "the filters differ in words, hashes or keys",
-    ),
-];
+fn all() -> [(Error, Option<u8>, &'static str); 16] {
+    [
+        (Error::ZeroBits, Some(1), "zero bits"),
+        (Error::EmptyWords, Some(2), "no words"),
+        (Error::TooManyWords, Some(3), "too many words"),
+        (Error::ZeroRate, Some(4), "rate with a zero part"),
+        (Error::SizeOverflow, Some(5), "size too large"),
+        (Error::Memory, Some(6), "no memory"),
+        (Error::HashCount, Some(7), "hash count out of range"),
+        (Error::NotAFilter, Some(9), "not a filter"),
+        (
+            Error::Version,
+            Some(10),
+            "a version of the file that isn't known",
+        ),
+        (Error::Cut, Some(11), "the file is cut"),
+        (
+            Error::TooLong,
+            Some(12),
+            "the file goes on after its last word",
+        ),
+        (Error::Reserved, Some(13), "a reserved byte isn't zero"),
+        (
+            Error::Seal,
+            Some(14),
+            "the seal is wrong: the file was changed",
+        ),
+        (
+            Error::from(io::Error::from(ErrorKind::TimedOut)),
+            Some(15),
+            "input failed: timed out",
+        ),
+        (Error::TooManyHashes, None, "more hashes than are allowed"),
+        (
+            Error::OtherShape,
+            None,
+            "the filters differ in words, hashes or keys",
+        ),
+    ]
+}
 
 #[test]
 fn each_has_its_number_and_its_text() {
-    for (error, code, text) in ALL {
+    for (error, code, text) in all() {
         assert_eq!((error.code(), error.to_string().as_str()), (code, text));
     }
+}
+
+/// Each is equal to itself alone, and has the hash of its equals.
+#[test]
+fn each_is_another_one() {
+    let errors = || all().into_iter().map(|(error, _, _)| error);
+    for (place, error) in errors().enumerate() {
+        let equal = errors().enumerate().filter(|(_, other)| *other == error);
+        assert_eq!(equal.map(|(at, _)| at).collect::<Vec<_>>(), [place]);
+    }
+    assert_eq!(errors().chain(errors()).collect::<HashSet<_>>().len(), 16);
 }
 
 #[test]
