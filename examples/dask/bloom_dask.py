@@ -26,6 +26,7 @@ from distributed import Future
 from fastbloom import Filter
 
 NO_KEY = bytes(16)
+RETRIES = 3  # how often a task that failed is done again
 
 
 class PartError(Exception):
@@ -38,38 +39,44 @@ def _size(filter):
     return filter.num_bits // 8
 
 
-def build(client, parts, items, rate, key=NO_KEY):
+def build(client, parts, items, rate, key=NO_KEY, retries=RETRIES):
     """A future of the filter of all keys of all parts. It waits for a first worker.
 
     `parts` is a list of files, a dask.bag, or a column of a dask.dataframe. `items`, `rate` and
     `key` are those of `Filter`, and are refused at once as there. The future raises PartError for a
-    part that can't be read.
+    part that can't be read, also after as many retries.
     """
     Filter(items, rate, key)
     parts = _named(parts)
+    if not parts:
+        raise ValueError("there is no part")
     client.wait_for_workers(1)
-    rows = min(len(parts), sum(client.nthreads().values()))
-    return client.compute(_tree([_row(parts[row::rows], items, rate, key) for row in range(rows)]))
+    # All workers may have gone since. The rows wait for the next one then.
+    rows = min(len(parts), sum(client.nthreads().values()) or 1)
+    made = _tree([_row(parts[row::rows], items, rate, key) for row in range(rows)])
+    return client.compute(made, retries=retries)
 
 
-def unite(client, filters):
+def unite(client, filters, retries=RETRIES):
     """A future of the union of filters, or of futures of filters.
 
     It raises ValueError where two of them differ in their size, number of hashes or key.
     """
-    return client.compute(delayed(_tree([_sent(client, filter) for filter in filters])))
+    united = _tree([_sent(client, filter) for filter in filters])
+    return client.compute(delayed(united), retries=retries)
 
 
-def ask(client, filter, parts):
+def ask(client, filter, parts, retries=RETRIES):
     """Futures of each part's keys that the filter, or a future of one, may contain, in order.
 
-    The filter is sent to each worker once. `parts` is as for `build`.
+    The filter is sent to each worker once. `parts` and `retries` are as for `build`.
     """
     if isinstance(filter, Future):
         client.replicate(filter)
     else:
         filter = client.scatter(filter, broadcast=True, hash=False)
-    return client.compute([_found_in(filter, part, name) for name, part in _named(parts)])
+    found = [_found_in(filter, part, name) for name, part in _named(parts)]
+    return client.compute(found, retries=retries)
 
 
 def _sent(client, filter):
@@ -82,7 +89,7 @@ def _named(parts):
     if isinstance(parts, (str, bytes, os.PathLike)):
         raise TypeError("this is one part, and a list is wanted")
     if not hasattr(parts, "to_delayed"):
-        return [(os.fspath(part), os.fspath(part)) for part in parts]
+        return [(os.fsdecode(part), os.fsdecode(part)) for part in parts]
     if getattr(parts, "ndim", 1) != 1:
         raise TypeError("this is a table, and one column of it is wanted")
     made = parts.to_delayed()
@@ -100,7 +107,7 @@ def _row(parts, items, rate, key):
 def _tree(filters):
     """The union of filters: neighbours are united, until one is left."""
     if not filters:
-        raise ValueError("there is no part")
+        raise ValueError("there is no filter")
     while len(filters) > 1:
         pairs = zip(filters[::2], filters[1::2])
         filters = [_union(*pair) for pair in pairs] + filters[len(filters) // 2 * 2:]

@@ -6,7 +6,6 @@ quarter of the parts is done, and one part is done twice: the file is that of `s
 Where root may make network namespaces, the workers are in another one than the scheduler.
 """
 
-import contextlib
 import logging
 import os
 import pty
@@ -15,17 +14,19 @@ import subprocess
 import sys
 import tempfile
 from pathlib import Path
+from unittest import mock
 
 import dask.bag
+from dask import delayed
 from distributed import Client
 
 import bloom_dask
 from fastbloom import Filter
-from machines import MARK, PATIENCE, cluster, namespaces, none_left, started, wait_for
+from machines import MARK, PATIENCE, cluster, is_open, namespaces, none_left, started, wait_for
 
 HERE = Path(__file__).resolve().parent
 SHARDS = [sys.executable, HERE / "shards.py"]
-KEYS, FILES = 1_000_000, 64
+KEYS, FILES, LINES = 1_000_000, 64, 50_000_000
 SIZE = ["--items", KEYS, "--rate", "1/1000"]
 
 
@@ -36,8 +37,9 @@ class Checks:
         self.passed = self.failed = 0
         self.folder, self.keys = folder, folder / "keys"
         write_keys(self.keys)
+        self.files = sorted(self.keys.glob("*.keys"))
         self.whole = subprocess.run(
-            list(map(str, [summaries, "build", *SIZE, *sorted(self.keys.iterdir())])),
+            list(map(str, [summaries, "build", *SIZE, *self.files])),
             stdout=subprocess.PIPE, check=True).stdout
         self.summaries = summaries
 
@@ -63,8 +65,12 @@ class Checks:
 
 
 def write_keys(folder):
-    """Files of several sizes, of which one is empty. Some keys come in two of them."""
+    """Files of several sizes, of which one is empty. Some keys come in two of them.
+
+    A hidden file, as an editor or a lost run may leave it, is no part.
+    """
     folder.mkdir()
+    (folder / ".01.keys.swp").write_text("".join(f"other{key}\n" for key in range(1000)))
     cuts = [KEYS * number * number // (FILES - 1)**2 for number in range(FILES)]
     (folder / "00.keys").write_text("")
     for number, (first, last) in enumerate(zip(cuts, cuts[1:]), 1):
@@ -136,31 +142,35 @@ def on_own_workers(checks):
                  [*SHARDS, checks.folder / "bad", *SIZE])
     checks.fails("a folder that isn't there", ["No such file or directory"],
                  [*SHARDS, checks.folder / "none", *SIZE])
+    (checks.folder / "bad" / "b.keys").unlink()
+    inside = checks.folder / "bad" / "out.bloom"
+    checks.fails("a filter's file among the parts", [f"shards: {inside} lies in "],
+                 [*SHARDS, checks.folder / "bad", *SIZE, "--out", inside])
+    os.mkfifo(checks.folder / "bad" / "pipe")
+    checks.fails("a pipe", [f"shards: {checks.folder}/bad/pipe is no file\n"],
+                 [*SHARDS, checks.folder / "bad", *SIZE])
+    checks.fails("a folder with hidden files alone", ["/hidden has no file\n"],
+                 ["sh", "-c", 'mkdir hidden; touch hidden/.keys; exec "$@"', "sh",
+                  *SHARDS, "hidden", *SIZE])
     checks.fails("a filter for which there is no memory", ["shards: MemoryError\n"],
                  ["sh", "-c", 'ulimit -v 8000000; exec "$@"', "sh", *SHARDS, checks.keys,
                   "--items", 10**12, "--rate", "1/1000"])
+    long = checks.folder / "long"
+    long.write_bytes(b"\n" * LINES)
     for number in signal.SIGINT, signal.SIGTERM, signal.SIGKILL:
-        is_ended_by(checks, number)
+        is_ended_by(checks, number, long)
 
 
-def opened(pipe):
-    """The end of a pipe to write to, once a worker reads the other one."""
-    with contextlib.suppress(OSError):
-        return os.open(pipe, os.O_WRONLY | os.O_NONBLOCK)
-    return None
-
-
-def is_ended_by(checks, number):
-    """A signal comes while a worker reads a part that has no end."""
+def is_ended_by(checks, number, long):
+    """A signal comes while a worker reads a part that takes a minute or so."""
     folder = checks.folder / number.name
     folder.mkdir()
-    os.mkfifo(folder / "pipe")
+    (folder / "a.keys").symlink_to(long)
     with started([*SHARDS, folder, *SIZE], f"{folder}.log") as process:
-        pipe = wait_for(lambda: opened(folder / "pipe"))
+        wait_for(lambda: is_open(long))
         process.send_signal(number)
         process.wait(PATIENCE)
         left = none_left()
-        os.close(pipe)
     checks.check(f"{number.name} leaves no worker behind, and no file", (True, [], False),
                  (process.returncode != 0, left, Path(f"{folder}.bloom").exists()))
 
@@ -188,7 +198,7 @@ def by_the_module(checks):
         for name, parts in ("a bag", bag), ("a column", frame["name"]):
             built = bloom_dask.build(client, parts, KEYS, "1/1000")
             checks.check(f"the filter of {name} is that of all keys", True, built.result() == whole)
-        files = sorted(checks.keys.iterdir())
+        files = checks.files
         thirds = [bloom_dask.build(client, files[third::3], KEYS, "1/1000") for third in range(3)]
         before = client.gather(thirds)
         united = bloom_dask.unite(client, [*thirds[:2], *thirds]).result()
@@ -202,7 +212,35 @@ def by_the_module(checks):
             found = client.gather(bloom_dask.ask(client, given, asked))
             checks.check(f"{name} answers as summaries ask", wanted.stdout.split(),
                          [key for part in found for key in part])
+        failures(checks, client, files[1])
         refusals(checks, client, frame, built)
+
+
+@delayed(pure=False)
+def fails_at_first(mark):
+    """The keys of a part whose first reading fails, and leaves a mark."""
+    if os.path.exists(mark):
+        return ["key0"]
+    Path(mark).touch()
+    raise OSError("the disk is away")
+
+
+def failures(checks, client, file):
+    """What fails at first, and succeeds when it is done again."""
+    one = Filter(KEYS, "1/1000")
+    one.add("key0")
+    for retries, wanted in (None, True), (1, True), (0, "OSError: the disk is away"):
+        bag = dask.bag.from_delayed([fails_at_first(str(checks.folder / f"mark{retries}"))])
+        options = {} if retries is None else {"retries": retries}
+        build = bloom_dask.build(client, bag, KEYS, "1/1000", **options)
+        checks.check(f"a part that fails at first, retries {retries}", wanted,
+                     why(lambda: build.result() == one))
+    part = bloom_dask.build(client, [file], KEYS, "1/1000").result()
+    with mock.patch.object(client, "nthreads", return_value={}):
+        built = bloom_dask.build(client, [file], KEYS, "1/1000")
+    checks.check("workers that were lost while none was busy", True, built.result() == part)
+    built = bloom_dask.build(client, [os.fsencode(file)], KEYS, "1/1000")
+    checks.check("a path that is bytes", True, why(lambda: built.result() == part))
 
 
 def refusals(checks, client, frame, built):
@@ -226,6 +264,7 @@ def refusals(checks, client, frame, built):
          lambda: bloom_dask.build(client, "keys", size, rate)),
         ("no part", "ValueError: there is no part",
          lambda: bloom_dask.build(client, [], size, rate)),
+        ("no filter", "ValueError: there is no filter", lambda: bloom_dask.unite(client, [])),
         ("a rate of zero", "Refusal: rate with a zero part",
          lambda: bloom_dask.build(client, ["keys"], size, 0)),
         ("a part that can't be read, at look-ups", "PartError: /none: No such file or directory",

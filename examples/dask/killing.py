@@ -48,7 +48,7 @@ def kill_one(client):
 def main(address, folder, items, out):
     # Nobody asks for the time-outs of connections to workers that were killed.
     logging.getLogger("asyncio").setLevel(logging.CRITICAL)
-    files = sorted(map(str, Path(folder).iterdir()))
+    files = sorted(map(str, Path(folder).glob("*.keys")))
     files.append(files[len(files) // 2])
     with Client(address) as client:
         client.wait_for_workers(WORKERS, timeout=PATIENCE)

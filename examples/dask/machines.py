@@ -98,6 +98,15 @@ def others():
     return found
 
 
+def is_open(file):
+    """Whether a process of this run has a file open."""
+    for entry in Path("/proc").iterdir():
+        with contextlib.suppress(OSError):
+            if entry.name.isdigit() and any(it.samefile(file) for it in (entry / "fd").iterdir()):
+                return True
+    return False
+
+
 def none_left():
     """The processes that are left after a while."""
     with contextlib.suppress(TimeoutError):

@@ -34,6 +34,12 @@ def rate(text):
     return text
 
 
+def count(text):
+    if not re.fullmatch("[0-9]{1,4}", text):
+        raise argparse.ArgumentTypeError("a count is from 0 to 9999")
+    return int(text)
+
+
 def number(text):
     if not re.fullmatch("[0-9]+", text) or not 0 < int(text) <= 10**12:
         raise argparse.ArgumentTypeError("a number is from 1 to 10^12")
@@ -42,7 +48,8 @@ def number(text):
 
 def arguments():
     parser = argparse.ArgumentParser(prog="shards", description=__doc__.split("\n\n")[0])
-    parser.add_argument("folder", metavar="FOLDER", help="each file in it is a part of the keys")
+    parser.add_argument("folder", metavar="FOLDER",
+                        help="each file in it is a part of the keys, unless a dot begins its name")
     parser.add_argument("--items", type=number, required=True, metavar="N",
                         help="how many keys the filter is for")
     parser.add_argument("--rate", type=rate, required=True, metavar="A/B",
@@ -50,7 +57,10 @@ def arguments():
     parser.add_argument("--scheduler", metavar="ADDRESS", help="of a cluster that runs")
     parser.add_argument("--workers", type=number, default=os.cpu_count(), metavar="N",
                         help="how many are started where there is no address (%(default)s)")
-    parser.add_argument("--out", metavar="FILE", help="the filter's file (FOLDER.bloom)")
+    parser.add_argument("--retries", type=count, default=bloom_dask.RETRIES, metavar="N",
+                        help="how often a part that failed is done again (%(default)s)")
+    parser.add_argument("--out", metavar="FILE",
+                        help="the filter's file, not in FOLDER (FOLDER.bloom)")
     return parser.parse_args()
 
 
@@ -100,18 +110,40 @@ def client_of(chosen):
             yield client
 
 
+def files_of(folder):
+    """The files of a folder by their names, but for those with a dot before it.
+
+    What is neither a file nor a folder is refused, such as a pipe: its keys come once, if at all.
+    """
+    found = []
+    for entry in os.scandir(folder):
+        if not entry.name.startswith(".") and not entry.is_dir():
+            if os.path.exists(entry.path) and not entry.is_file():
+                raise ValueError(f"{entry.path} is no file")
+            found.append(entry.path)  # a link that leads nowhere is told as a part that isn't there
+    if not found:
+        raise ValueError(f"{folder} has no file")
+    return sorted(found)
+
+
+def check_out(out, folder):
+    """Refuses a file that can't be written, or that a later run would take for a part."""
+    place = os.path.realpath(os.path.dirname(os.path.abspath(out)))
+    if place == os.path.realpath(folder):
+        raise ValueError(f"{out} lies in {folder}, where each file is a part")
+    if not os.access(place, os.W_OK):
+        raise PermissionError(f"{out} can't be written")
+
+
 def run(chosen):
     """Builds the filter and writes it."""
     folder = os.path.abspath(chosen.folder)
     out = chosen.out or folder + ".bloom"
-    files = sorted(entry.path for entry in os.scandir(folder) if not entry.is_dir())
-    if not files:
-        raise ValueError(f"{folder} has no file")
-    if not os.access(os.path.dirname(os.path.abspath(out)), os.W_OK):
-        raise PermissionError(f"{out} can't be written")
+    files = files_of(folder)
+    check_out(out, folder)
     with client_of(chosen) as client:
         began = time.monotonic()
-        future = bloom_dask.build(client, files, chosen.items, chosen.rate)
+        future = bloom_dask.build(client, files, chosen.items, chosen.rate, retries=chosen.retries)
         if sys.stdout.isatty():
             distributed.progress(future)
         built = future.result()
