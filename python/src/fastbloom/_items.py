@@ -9,7 +9,9 @@ from fractions import Fraction
 from typing import TYPE_CHECKING, Any, Union
 
 if TYPE_CHECKING:
-    from _typeshed import ReadableBuffer as Buffer
+    from _typeshed import ReadableBuffer
+
+    Buffer = ReadableBuffer
 else:  # Before Python 3.12 there is no name for what has a buffer.
     Buffer = getattr(abc, "Buffer", Union[bytes, bytearray, memoryview])
 
