@@ -91,10 +91,10 @@ def _parts(rate: Rate) -> Tuple[int, int]:
     if not isinstance(rate, (str, Real, Decimal)):
         raise TypeError(f"a rate is a text or a number, not {type(rate).__name__}")
     text = str(rate)
-    # A fraction with so many digits would take long to make, and has no parts in their range.
+    # A fraction of more digits may take long to make.
     exponent = text.upper().partition("E")[2].strip().lstrip("+-0_")
     if len(text) > _LONGEST_RATE or len(exponent) > _LONGEST_EXPONENT:
-        raise ValueError("a rate is no text of so many digits")
+        raise ValueError("a rate has too many digits")
     try:
         fraction = Fraction(text)
     except ZeroDivisionError:
