@@ -68,7 +68,7 @@ enum fastbloom_status {
     FASTBLOOM_MEMORY = 6,           /* out of memory */
     FASTBLOOM_HASH_COUNT = 7,       /* 0 hashes, or 2^32 and more */
     FASTBLOOM_WORKER = 8,           /* a thread couldn't be started */
-    FASTBLOOM_NOT_A_FILTER = 9,     /* the file doesn't begin with `fbloom` and a zero byte */
+    FASTBLOOM_NOT_A_FILTER = 9,     /* no `fbloom` and zero byte first, or under 8 bytes */
     FASTBLOOM_UNKNOWN_VERSION = 10, /* the version of the file isn't `1` */
     FASTBLOOM_CUT = 11,             /* the file ends before its last word */
     FASTBLOOM_TOO_LONG = 12,        /* bytes follow the last word */

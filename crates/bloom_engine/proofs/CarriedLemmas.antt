@@ -14,7 +14,7 @@ use Rattle.bloom_engine.specs.declared.engine.line.Line.{Line}
 use Rattle.bloom_engine.specs.declared.engine.line.Line.TheVariants.{Insert, Contains, Clear, Words}
 use Rattle.bloom_engine.specs.Lines.{operation_of_line, operations}
 use Rattle.bloom_engine.specs.Texts.{reply_text, words_text, words_with_content, words_after, text_after, text_of}
-use Rattle.bloom_engine.specs.Served.{Carried}
+use Rattle.bloom_engine.specs.Served.{Applied, Carried}
 
 module _ (w k : ℕ) (A : ℕ → Bool) where
   -- the first line's text, and then a text of which two parts are known
@@ -77,6 +77,22 @@ Carried-nil f o = record {
   text = Appends-nil o;
 }
 
+-- one more line changed the filter, with these replies
+changes-more : {S : Type 0} → JoinedListsLaw S → (f g h : Filter S) (lines : List Line)
+    (line : Line) (given more : List Bool) → CarriesOut f (operations lines) g given
+    → CarriesOut g (operations (line ∷ [])) h more
+    → CarriesOut f (operations (lines ++ line ∷ [])) h (given ++ more)
+changes-more joins f g h lines line given more so_far one =
+    subst (λ l. CarriesOut f l h (given ++ more))
+    (sym (filter_map-append operation_of_line lines (line ∷ [])))
+    (joins f g h _ _ given more so_far one)
+
+-- the same, whatever the replies
+pub Applied-more : {S : Type 0} → JoinedListsLaw S → (f g h : Filter S) (lines : List Line)
+    (line : Line) → Applied f g lines → Applied g h (line ∷ []) → Applied f h (lines ++ line ∷ [])
+Applied-more joins f g h lines line so_far one =
+    (so_far.0 ++ one.0, changes-more joins f g h lines line so_far.0 one.0 so_far.1 one.1)
+
 -- one more line was carried out
 module _ {S : Type 0} (joins : JoinedListsLaw S) (f g h : Filter S) (o p q : Option (List ℕ))
     (lines : List Line) (line : Line)
@@ -106,8 +122,6 @@ module _ {S : Type 0} (joins : JoinedListsLaw S) (f g h : Filter S) (o p q : Opt
   Carried-more = record {
     given = so_far.given ++ one.given;
     filter =
-        subst (λ l. CarriesOut f l h (so_far.given ++ one.given))
-        (sym (filter_map-append operation_of_line lines (line ∷ [])))
-        (joins f g h _ _ so_far.given one.given so_far.filter one.filter);
+        changes-more joins f g h lines line so_far.given one.given so_far.filter one.filter;
     text = subst (Appends o q) text-more (Appends-trans o p q _ _ so_far.text one.text);
   }

@@ -2,6 +2,8 @@ mod ArgumentFacts
 mod BadLineLemmas
 mod CarriedFacts
 mod CarriedLemmas
+mod FailedFacts
+mod FailedLemmas
 mod HexLemmas
 mod LineFacts
 mod NumberLemmas

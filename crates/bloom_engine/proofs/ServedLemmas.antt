@@ -40,7 +40,7 @@ Appends-kept (Some x) (Some y) None bytes p q = absurd q
 Appends-kept (Some x) (Some y) (Some z) bytes p q = q ∙ p
 
 -- a flush changes nothing of what lines did
-Carried-kept : {S : Type 0} (f g : Filter S) (o p q : Option (List ℕ)) (lines : List Line)
+pub Carried-kept : {S : Type 0} (f g : Filter S) (o p q : Option (List ℕ)) (lines : List Line)
     → Carried f g o p lines → Keeps p q → Carried f g o q lines
 Carried-kept f g o p q lines so_far kept = record {
   given = so_far.given;

@@ -7,8 +7,13 @@ use Rattle.bloom_plain.specs.Filter.{Filter}
 use Rattle.bloom_plain.specs.Replies.{CarriesOut}
 use Rattle.bloom_engine.specs.declared.engine.line.Line.{Line}
 use Rattle.lines.specs.Lines.{lines_of}
+use Rattle.lines.specs.Reading.{IsReadFrom}
 use Rattle.bloom_engine.specs.Lines.{line_of, longest_line, operations}
 use Rattle.bloom_engine.specs.Texts.{text_of}
+
+-- these lines' commands were carried out on the filter, with some replies
+abbrev pub Applied : {S : Type 0} → Filter S → Filter S → List Line → Type 0
+Applied old new lines = (given : List Bool) × CarriesOut old (operations lines) new given
 
 -- these lines' commands were carried out with some replies, and the lines' text was written
 pub record Carried {S : Type 0} (old new : Filter S) (from to : Option (List ℕ))
@@ -60,3 +65,23 @@ pub record ServedUpTo {S : Type 0} (n : ℕ) (read left : Option (List ℕ)) (ol
   pub carried : Carried old new from to lines
   pub number : n ≡ min (length lines + 1) (2 ^ 64 - 1)
   pub upto : IfSome read (λ bytes. IsReadUpTo bytes read left lines)
+
+-- these are the first lines that the reader had, for one that may not tell its bytes, and each is
+-- good
+pub record AreFirstGood (read : Option (List ℕ)) (lines : List Line) : Type 0 where
+  pub texts : List (List ℕ)
+  pub first : IsReadFrom read texts
+  pub good : map line_of texts ≡ map Some lines
+
+-- the first lines were carried out, before a read failed
+pub record ServedBefore {S : Type 0} (read : Option (List ℕ)) (old new : Filter S)
+    (from to : Option (List ℕ)) : Type 0 where
+  pub lines : List Line
+  pub carried : Carried old new from to lines
+  pub first : AreFirstGood read lines
+
+-- some first lines were carried out on the filter, whatever was written of their text
+pub record ServedSome {S : Type 0} (read : Option (List ℕ)) (old new : Filter S) : Type 0 where
+  pub lines : List Line
+  pub applied : Applied old new lines
+  pub first : AreFirstGood read lines

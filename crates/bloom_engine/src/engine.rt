@@ -2,7 +2,7 @@
 ghost use Rattle.std.specs.Prelude.{◌≡◌, ◌≢◌, ℕ, false, [], ◌∷◌, OnOk, IsOkUnless, Err};
 ghost use Rattle.std.specs.Io.KnownBytes.{Keeps};
 ghost use Rattle.bloom_engine.specs.Lines.{longest_line};
-ghost use Rattle.bloom_engine.specs.Served.{Carried, ServedAll, ServedUpTo};
+ghost use Rattle.bloom_engine.specs.Served.{Applied, Carried, ServedAll, ServedBefore, ServedSome, ServedUpTo};
 
 mod commands;
 mod line;
@@ -22,6 +22,8 @@ use text::{put_reply, put_words};
 fn serve_line<W: Write>(filter: &mut BloomFilter, line: Line, output: &mut W) -> Result<(), Fault>
     ensures carried { OnOk result (Carried filter.old filter.new
         (W.contents output.old) (W.contents output.new) (line ∷ [])) }
+    // The filter is changed by the line, also where its text can't be written.
+    ensures applied { Applied filter.old filter.new (line ∷ []) }
     ensures fault { IsOkUnless result Fault.Output }
 {
     match line {
@@ -51,6 +53,9 @@ fn serve_lines<R: Read, W: Write>(
     ensures bad { (n : ℕ) → result ≡ Err (Fault.Line n)
         → ServedUpTo n (R.remaining input.old) (R.remaining input.new)
         filter.old filter.new (W.contents output.old) (W.contents output.new) }
+    ensures input { result ≡ Err Fault.Input → ServedBefore (R.remaining input.old)
+        filter.old filter.new (W.contents output.old) (W.contents output.new) }
+    ensures any { ServedSome (R.remaining input.old) filter.old filter.new }
     ensures room { result ≢ Err Fault.Memory }
     ensures usage { result ≢ Err Fault.Usage }
 {
@@ -91,6 +96,12 @@ pub fn serve<R: Read, W: Write>(
     ensures bad { (n : ℕ) → result ≡ Err (Fault.Line n)
         → ServedUpTo n (R.remaining input.old) (R.remaining input.new)
         filter.old filter.new (W.contents output.old) (W.contents output.new) }
+    // Where a read failed, the first lines were carried out, each is good, and their text was
+    // written.
+    ensures input { result ≡ Err Fault.Input → ServedBefore (R.remaining input.old)
+        filter.old filter.new (W.contents output.old) (W.contents output.new) }
+    // Whatever the end, also where a write failed, such lines changed the filter and nothing else.
+    ensures any { ServedSome (R.remaining input.old) filter.old filter.new }
     // Memory is asked for before the first line.
     ensures memory { result ≡ Err Fault.Memory → filter.new ≡ filter.old }
     ensures kept { result ≡ Err Fault.Memory

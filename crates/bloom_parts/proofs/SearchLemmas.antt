@@ -1,5 +1,5 @@
 -- The search of a number that passes a test, by its binary digits from the highest on.
-use Rattle.std.proofs.Common.{◌≡◌, ℕ, suc, ◌+◌, ◌-◌, ◌^◌, ◌<◌, ◌≤◌, ◌∙◌, ap, arith}
+use Rattle.std.proofs.Common.{◌≡◌, ◌↔◌, ℕ, suc, ◌+◌, ◌-◌, ◌^◌, ◌<◌, ◌≤◌, ◌∙◌, ap, arith}
 use Rattle.std.proofs.Math.Nat.{two-pow-succ}
 use Rattle.std.proofs.lemmas.Nat.{pow_pos}
 
@@ -37,4 +37,40 @@ module _ {passes : ℕ → Type 0} {found i : ℕ} (is : IsFound passes found i)
     here = is.here;
     fits = omega (arith, is.fits, halves i some);
     past = λ _ next. fails next;
+  }
+
+-- half-way through a search: the test is the one that it began with, and was made once for each
+-- digit so far
+pub record IsSearching (passes now : ℕ → Type 0) (count found i : ℕ) : Type 0 where
+  pub is_found : IsFound passes found i
+  pub same : (n : ℕ) → passes n ↔ now n
+  pub tests : count + i ≡ 64
+
+-- one more test was made, which is still the same
+module _ {passes now next : ℕ → Type 0} {count more found i : ℕ}
+    (so_far : IsSearching passes now count found i) (some : 0 < i)
+    (same : (n : ℕ) → now n ↔ next n) (tests : more ≡ count + 1) where
+  -- it is the test that the search began with
+  still : (n : ℕ) → passes n ↔ next n
+  still n =
+      let one = so_far.same n in
+      let two = same n in
+      (λ p. two.0 (one.0 p), λ p. one.1 (two.1 p))
+
+  -- the next digit is 1
+  pub searching-one : now (found + 2 ^ (i - 1))
+      → IsSearching passes next more (found + 2 ^ (i - 1)) (i - 1)
+  searching-one passed = record {
+    is_found = found-one so_far.is_found some ((so_far.same (found + 2 ^ (i - 1))).1 passed);
+    same = still;
+    tests = omega (arith, so_far.tests, tests, some);
+  }
+
+  -- the next digit is 0
+  pub searching-zero : (now (found + 2 ^ (i - 1)) → ⊥) → IsSearching passes next more found (i - 1)
+  searching-zero failed = record {
+    is_found = found-zero so_far.is_found some
+        (λ p. failed ((so_far.same (found + 2 ^ (i - 1))).0 p));
+    same = still;
+    tests = omega (arith, so_far.tests, tests, some);
   }

@@ -1,7 +1,8 @@
 -- Facts of the steps of threads on a vector that they share: that a step was made on a word, what
--- it found there, and the words that the vector began with. Nothing outside this file unfolds them,
--- so a proof has such a fact only where the step itself handed it out. Only the proofs of those
--- steps cite the lemmas that make the facts, as the full check sees. This project's own.
+-- it found there, in which turn it was made, and the words that the vector began with. Nothing
+-- outside this file unfolds them, so a proof has such a fact only where the step itself handed it
+-- out. Only the proofs of those steps cite the lemmas that make the facts, as the full check sees.
+-- This project's own.
 use Rattle.std.specs.Prelude.{◌≡◌, ℕ, ◌<◌, ◌^◌, List, length}
 
 -- a vector that threads share: a name that tells it from others, and how many words it has
@@ -37,6 +38,12 @@ MadeZero vector i = i < vector.count
 pub FoundBySwap : (vector : SharedWords) (i found : ℕ) → Type 0
 FoundBySwap vector i found = IsOnWord vector i found
 
+-- the step of this fact led from one turn to the other. Turns are names that no clause fixes, so no
+-- proof shows that two of them are one, and where steps lead from turn to turn each is a step of
+-- its own, made after the one before it
+pub InTurn : (fact : Type 0) (before after : ℕ) → Type 0
+InTurn fact before after = fact
+
 -- the fact of a beginning
 pub made_by_start : (vector : SharedWords) (words : List ℕ) → vector.count ≡ length words
     → BeganWith vector words
@@ -71,3 +78,13 @@ pub made_by_swap : (vector : SharedWords) (i found : ℕ) → IsOnWord vector i 
     → FoundBySwap vector i found
 unfolding FoundBySwap
 made_by_swap vector i found on = on
+
+-- the fact of a step in its turn
+pub made_by_turn : {fact : Type 0} (before after : ℕ) → fact → InTurn fact before after
+unfolding InTurn
+made_by_turn before after made = made
+
+-- a step in its turn was made
+pub made-in_turn : {fact : Type 0} (before after : ℕ) → InTurn fact before after → fact
+unfolding InTurn
+made-in_turn before after made = made

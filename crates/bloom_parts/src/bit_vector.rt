@@ -18,7 +18,7 @@ use crate::slices;
 pub use crate::slices::by_hash::word_and_bit_of_hash;
 pub use atomic::{AtomicBitVec, AtomicWords};
 pub use gathered::gather;
-pub use lent::LentWords;
+pub use lent::{LentWords, Turn};
 pub use loads::Loads;
 use std::alloc::Global;
 use std::marker::Model;

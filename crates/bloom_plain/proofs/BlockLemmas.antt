@@ -9,7 +9,7 @@ use Rattle.bloom_parts.specs.Sip.{whole_words}
 use Rattle.bloom_plain.specs.declared.file.error.FileError.{FileError}
 use Rattle.bloom_plain.specs.declared.file.error.FileError.TheVariants.{NotAFilter, Version, HashCount, EmptyWords, TooManyWords, Cut, TooLong, Reserved, Seal, Memory, Input}
 use Rattle.bloom_plain.specs.File.{bytes_of}
-use Rattle.bloom_plain.specs.FileReads.{ReadsWords, StopsWords}
+use Rattle.bloom_plain.specs.FileReads.{AsksAsGiven, FailsWithin, Gives, ReadsWords, StopsWords}
 use Rattle.bloom_plain.proofs.NumberLemmas.{bytes_of-append, length-bytes_of, length-whole_words}
 
 -- the first words of a list are a block, and the others follow
@@ -147,3 +147,34 @@ stops-later old mid bytes part all TooManyWords taken within stops = absurd stop
 stops-later old mid bytes part all TooLong taken within stops = absurd stops
 stops-later old mid bytes part all Reserved taken within stops = absurd stops
 stops-later old mid bytes part all Seal taken within stops = absurd stops
+
+-- behind bytes that were taken, a read failed within the rest, and so within all
+pub fails-later : (old mid new : Option (List ℕ)) (bytes : List ℕ) (part all : ℕ)
+    (error : FileError) → Consumes old mid bytes → length bytes + part ≤ all
+    → FailsWithin part mid new error → FailsWithin all old new error
+fails-later old mid new bytes part all error taken within fails = λ kind is.
+    let fewer = fails kind is in
+    record {
+      given = bytes ++ fewer.given;
+      taken = Consumes-trans old mid new bytes fewer.given taken fewer.taken;
+      few = omega (arith, length-append bytes fewer.given, fewer.few, within);
+    }
+
+-- room for twice the words that were read, and a block
+pub room-of-read : (old mid : Option (List ℕ)) (words : List ℕ) (f g : SipState) (capacity : ℕ)
+    → ReadsWords old mid [] words f g → capacity ≤ 2 * length words + 512
+    → AsksAsGiven old mid capacity
+room-of-read old mid words f g capacity reads fits = record {
+  given = bytes_of reads.words;
+  taken = reads.taken;
+  room = omega (arith, fits, length-read old mid words f g reads);
+}
+
+-- the same room, where the reader gave more
+pub room-later : (old mid new : Option (List ℕ)) (capacity same : ℕ) → same ≡ capacity
+    → AsksAsGiven old mid capacity → Gives mid new → AsksAsGiven old new same
+room-later old mid new capacity same is asks gives = record {
+  given = asks.given ++ gives.0;
+  taken = Consumes-trans old mid new asks.given gives.0 asks.taken gives.1;
+  room = omega (arith, is, asks.room, length-append asks.given gives.0);
+}

@@ -9,12 +9,14 @@ mod DataLemmas
 mod EqualityFacts
 mod FileErrorFacts
 mod FileFacts
+mod FileInputFacts
 mod FileLawLemmas
 mod FileLemmas
 mod FileNumberFacts
 mod FileOfFacts
 mod FileReadFacts
 mod FileRefusalFacts
+mod FileRoomFacts
 mod FileStopFacts
 mod FilterFacts
 mod FoundLemmas

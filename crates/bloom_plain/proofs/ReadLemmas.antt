@@ -10,11 +10,11 @@ use Rattle.bloom_plain.specs.declared.file.error.FileError.{FileError}
 use Rattle.bloom_plain.specs.declared.file.error.FileError.TheVariants.{NotAFilter, Version, HashCount, EmptyWords, TooManyWords, Cut, TooLong, Reserved, Seal, Memory, Input}
 use Rattle.bloom_plain.specs.Data.{DefaultFilter}
 use Rattle.bloom_plain.specs.File.{FitsWords, bytes_of, head_numbers, head_of}
-use Rattle.bloom_plain.specs.FileReads.{IsReadAs, ReadsFile, ReadsWords, StopsEnd, StopsWords}
+use Rattle.bloom_plain.specs.FileReads.{FailsEarly, FailsWithin, IsReadAs, ReadsFile, ReadsWords, StopsEnd, StopsWords}
 use Rattle.bloom_plain.specs.FileRefusals.{file_refusal, head_in, head_refusal, number_at, reserved_refusal, wrong_seal}
 use Rattle.bloom_plain.proofs.FileLemmas.{good-seal, is-file}
 use Rattle.bloom_plain.proofs.NumberLemmas.{length-bytes_of}
-use Rattle.bloom_plain.proofs.RefusalLemmas.{file_refusal-head, file_refusal-size, head_refusal-head, size_refusal-cut, size_refusal-long}
+use Rattle.bloom_plain.proofs.RefusalLemmas.{file_refusal-head, file_refusal-size, head_refusal-head, number_at-head, size_refusal-cut, size_refusal-long}
 
 -- a head was read that isn't refused
 module _ (old mid : Option (List ℕ)) (start : List ℕ) (size : length start ≡ 64)
@@ -44,6 +44,29 @@ module _ (old mid : Option (List ℕ)) (start : List ℕ) (size : length start �
       told (Some bytes) (Some body) taken TooLong stops = absurd stops
       told (Some bytes) (Some body) taken Reserved stops = absurd stops
       told (Some bytes) (Some body) taken Seal stops = absurd stops
+
+  -- a read that fails among the words decides no refusal yet
+  pub words-early : (new : Option (List ℕ)) (count : ℕ) → count ≡ number_at start 2
+      → (error : FileError) → FailsWithin (8 * count) mid new error → FailsEarly old new error
+  words-early new count is error fails = λ kind same.
+      let fewer = fails kind same in
+      let more = fewer.given in
+      record {
+        given = start ++ more;
+        taken = Consumes-trans old mid new start more first fewer.taken;
+        undecided =
+            inr (
+              head_refusal-head start more size ∙ good,
+              omega (
+                arith,
+                size,
+                is,
+                fewer.few,
+                length-append start more,
+                number_at-head start more size 2 (omega arith),
+              ),
+            );
+      }
 
 -- a head was read that isn't refused, and then all words that it tells of
 module _ (old mid end : Option (List ℕ)) (start : List ℕ) (size : length start ≡ 64)
@@ -83,6 +106,32 @@ module _ (old mid end : Option (List ℕ)) (start : List ℕ) (size : length sta
       told (Some bytes) (Some more) taken Reserved stops = absurd stops
       told (Some bytes) (Some more) taken Seal stops = absurd stops
       told (Some bytes) (Some more) taken Memory stops = absurd stops
+
+  -- a read that fails behind the words decides no refusal yet
+  pub end-early : (new : Option (List ℕ)) (error : FileError) → FailsWithin 1 end new error
+      → FailsEarly old new error
+  end-early new error fails = λ kind same.
+      let fewer = fails kind same in
+      let more = bytes_of words ++ fewer.given in
+      record {
+        given = start ++ more;
+        taken =
+            subst (Consumes old new) (append_assoc start (bytes_of words) fewer.given)
+            (Consumes-trans old end new (start ++ bytes_of words) fewer.given both fewer.taken);
+        undecided =
+            inr (
+              head_refusal-head start more size ∙ good,
+              omega (
+                arith,
+                size,
+                right,
+                fewer.few,
+                length-append start more,
+                length-append (bytes_of words) fewer.given,
+                number_at-head start more size 2 (omega arith),
+              ),
+            );
+      }
 
   -- the reader is at its end
   module _ (last : Option (List ℕ)) (nothing : Consumes end last []) (at_end : IsAtEnd last) where

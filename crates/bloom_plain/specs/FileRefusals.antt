@@ -22,7 +22,7 @@ abbrev pub is_hash_count : ℕ → Bool
 is_hash_count n = nat_lt 0 n && nat_lt n (2 ^ 32)
 
 -- why the first numbers of a file are refused, if they are; of several reasons the first counts.
--- The last byte of the mark is the version
+-- The last byte of the mark is the version; fewer than eight bytes have no mark, whatever they are
 abbrev pub head_refusal : List ℕ → Option FileError
 head_refusal bytes =
     if not (nat_eq (number_at bytes 0 % 2 ^ 56) (mark % 2 ^ 56)) then Some NotAFilter

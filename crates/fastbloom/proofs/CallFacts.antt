@@ -6,13 +6,13 @@ use Rattle.std.proofs.lemmas.Option.{same_Some, slice_get_within}
 use Rattle.std.proofs.lemmas.List.{length-append}
 use Rattle.std.proofs.lemmas.List.Elements.{All-from_recursion}
 use Rattle.bloom_parts.specs.Content.{bit_is_on}
-use Rattle.bloom_parts.specs.Made.{FoundByOr}
+use Rattle.bloom_parts.specs.Made.{FoundByOr, made-in_turn}
 use Rattle.bloom_parts.specs.Places.{place}
 use Rattle.bloom_steps.specs.Scripts.{Any, answer_of_end}
 use Rattle.fastbloom.specs.Shared.{SharedFilter, IsMade, MakesInsert, WasInserted, QueuesInsert}
 use Rattle.fastbloom.proofs.SharedFacts.{insert-turns-on-each}
 use Rattle.fastbloom.proofs.ScriptLemmas.{member}
-use Rattle.fastbloom.proofs.SharedLemmas.{last-of}
+use Rattle.fastbloom.proofs.SharedLemmas.{last-of, made-at}
 
 -- one step of an insert turned on this place, and found it on or off
 abbrev TurnsOn : {S : Type 0} → SharedFilter S → ℕ → Bool → Type 0
@@ -36,13 +36,16 @@ module _ {S : Type 0} (f : SharedFilter S) (hash : ℕ) where
       → (i : ℕ) × (i < f.hashes) × TurnsOn f (place (64 * f.words.count) hash i) false
   insert-false some calls =
       let off = (reply-false false some calls).0 refl in
-      let within = slice_get_within calls.taken off.0 off.1 off.2 in (
+      let within = slice_get_within calls.taken off.0 off.1 off.2 in
+      let made = made-at f.words f.words calls.first calls.last calls.taken calls.made off.0 off.1
+      off.2 in (
         off.0,
         omega (arith, within, calls.script.count),
         (
           off.1.found,
-          subst (λ step. IsMade f.words f.words step off.1.found)
-              (calls.script.steps off.0 off.1 off.2) (calls.made off.0 off.1 off.2),
+          made-in_turn made.0 made.1
+              (subst (λ step. IsMade f.words f.words made.0 step off.1.found made.1)
+              (calls.script.steps off.0 off.1 off.2) made.2),
           off.3,
         ),
       )
@@ -52,10 +55,13 @@ module _ {S : Type 0} (f : SharedFilter S) (hash : ℕ) where
       → TurnsOn f (place (64 * f.words.count) hash i) true
   insert-true calls i within =
       let p = place (64 * f.words.count) hash i in
-      let at = member calls.taken i (omega (arith, within, calls.script.count)) in (
+      let at = member calls.taken i (omega (arith, within, calls.script.count)) in
+      let made = made-at f.words f.words calls.first calls.last calls.taken calls.made i at.0 at.1
+      in (
         at.0.found,
-        subst (λ step. IsMade f.words f.words step at.0.found)
-            (calls.script.steps i at.0 at.1) (calls.made i at.0 at.1),
+        made-in_turn made.0 made.1
+            (subst (λ step. IsMade f.words f.words made.0 step at.0.found made.1)
+            (calls.script.steps i at.0 at.1) made.2),
         otherwise (bit_is_on at.0.found p) (λ off.
             let wrong : true ≡ false =
             (reply-false true (omega (arith, within)) calls).1 (i, at.0, at.1, off) in

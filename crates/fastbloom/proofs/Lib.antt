@@ -19,3 +19,4 @@ mod SharedFormFacts
 mod SharedLemmas
 mod TakenLemmas
 mod TogetherLemmas
+mod TurnFacts

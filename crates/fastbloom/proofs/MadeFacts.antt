@@ -1,30 +1,36 @@
 -- Which fact a step of each kind has: the facts are opaque, so each is told apart by its name.
 use Rattle.std.proofs.Common.{◌≡◌, ◌↔◌, ℕ}
-use Rattle.bloom_parts.specs.Made.{SharedWords, FoundByLoad, FoundByOr, FoundByAnd, MadeZero, FoundBySwap}
+use Rattle.bloom_parts.specs.Made.{SharedWords, FoundByLoad, FoundByOr, FoundByAnd, MadeZero, FoundBySwap, InTurn}
 use Rattle.bloom_steps.specs.declared.steps.vocabulary.Step.TheVariants.{Load, Or, And, Zero, Other, Take}
 use Rattle.fastbloom.specs.Shared.{IsMade}
 
-module _ (words other : SharedWords) (i mask found : ℕ) where
+module _ (words other : SharedWords) (before i mask found after : ℕ) where
   -- a load reads the filter's own word
-  made-load : IsMade words other (Load i) found ↔ FoundByLoad words i found
+  made-load : IsMade words other before (Load i) found after
+      ↔ InTurn (FoundByLoad words i found) before after
   made-load = (λ made. made, λ made. made)
 
   -- an `|` has its mask
-  made-or : IsMade words other (Or i mask) found ↔ FoundByOr words i mask found
+  made-or : IsMade words other before (Or i mask) found after
+      ↔ InTurn (FoundByOr words i mask found) before after
   made-or = (λ made. made, λ made. made)
 
   -- an `&` has its mask
-  made-and : IsMade words other (And i mask) found ↔ FoundByAnd words i mask found
+  made-and : IsMade words other before (And i mask) found after
+      ↔ InTurn (FoundByAnd words i mask found) before after
   made-and = (λ made. made, λ made. made)
 
   -- a store of zero finds nothing
-  made-zero : IsMade words other (Zero i) found ↔ (MadeZero words i × (found ≡ 0))
+  made-zero : IsMade words other before (Zero i) found after
+      ↔ (InTurn (MadeZero words i) before after × (found ≡ 0))
   made-zero = (λ made. made, λ made. made)
 
   -- a load of the other's word reads the other's vector
-  made-other : IsMade words other (Other i) found ↔ FoundByLoad other i found
+  made-other : IsMade words other before (Other i) found after
+      ↔ InTurn (FoundByLoad other i found) before after
   made-other = (λ made. made, λ made. made)
 
   -- a take is a swap with zero
-  made-take : IsMade words other (Take i) found ↔ FoundBySwap words i found
+  made-take : IsMade words other before (Take i) found after
+      ↔ InTurn (FoundBySwap words i found) before after
   made-take = (λ made. made, λ made. made)

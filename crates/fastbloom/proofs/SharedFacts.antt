@@ -3,7 +3,7 @@ use Rattle.std.proofs.Common.{◌≡◌, ◌≢◌, ◌∙◌, ℕ, zero, suc, �
 use Rattle.std.proofs.lemmas.Option.{none-some, same_Some}
 use Rattle.bloom_parts.specs.Chain.{chain}
 use Rattle.bloom_parts.specs.Places.{place}
-use Rattle.bloom_parts.specs.Made.{BeganWith, FoundByLoad, FoundByOr, MadeZero}
+use Rattle.bloom_parts.specs.Made.{BeganWith, FoundByLoad, FoundByOr, MadeZero, InTurn, made-in_turn}
 use Rattle.bloom_steps.specs.declared.steps.vocabulary.Step.TheVariants.{Or}
 use Rattle.bloom_steps.specs.declared.steps.vocabulary.Call.TheVariants.{Insert, Clear, Union}
 use Rattle.bloom_steps.specs.declared.steps.vocabulary.End.TheVariants.{Answer}
@@ -11,7 +11,7 @@ use Rattle.bloom_steps.specs.Scripts.{Taken, Each}
 use Rattle.bloom_plain.specs.Filter.{Filter}
 use Rattle.fastbloom.specs.Shared.{SharedFilter, HaveSameShape, HasFormOf, IsMade, MakesCall, MakesInsert, WereFoundAlike, WereFoundToDiffer}
 use Rattle.fastbloom.proofs.ScriptLemmas.{member}
-use Rattle.fastbloom.proofs.SharedLemmas.{insert-answers, silent}
+use Rattle.fastbloom.proofs.SharedLemmas.{insert-answers, made-at, silent}
 
 -- a filter with this number of words and of hashes, under any name, whose hasher is a number
 abbrev pub filter : ℕ → ℕ → ℕ → SharedFilter ℕ
@@ -67,10 +67,10 @@ abbrev one_or : ℕ → Bool → List Taken
 one_or found reply = record { step = Or 0 1; found = found; ended = Answer reply } ∷ []
 
 -- an insert whose one step found its bit off replies false
-insert-of-new : (name : ℕ) → FoundByOr (filter name 1 1).words 0 1 0
+insert-of-new : (name turn next : ℕ) → InTurn (FoundByOr (filter name 1 1).words 0 1 0) turn next
     → MakesInsert (filter name 1 1) 0 false
 unfolding chain
-insert-of-new name made = record {
+insert-of-new name turn next made = record {
   taken = one_or 0 false;
   script = record {
     count = refl;
@@ -79,7 +79,9 @@ insert-of-new name made = record {
     running = only _ _ (λ early. absurd (omega (arith, early)));
     last = only _ _ (λ last. (false, refl, (λ e. (0, _, refl, refl), λ any. refl)));
   };
-  made = only _ _ made;
+  first = turn;
+  last = next;
+  made = (next, made, refl);
   answers = refl;
 }
 
@@ -102,10 +104,13 @@ pub insert-turns-on-each : {S : Type 0} (f : SharedFilter S) (hash : ℕ) (reply
     → let p = place (64 * f.words.count) hash i in
     (found : ℕ) × FoundByOr f.words (p / 64) (2 ^ (p % 64)) found
 insert-turns-on-each f hash reply calls i within =
-    let at = member calls.taken i (omega (arith, within, calls.script.count)) in (
+    let at = member calls.taken i (omega (arith, within, calls.script.count)) in
+    let made = made-at f.words f.words calls.first calls.last calls.taken calls.made i at.0 at.1
+    in (
       at.0.found,
-      subst (λ step. IsMade f.words f.words step at.0.found)
-          (calls.script.steps i at.0 at.1) (calls.made i at.0 at.1),
+      made-in_turn made.0 made.1
+          (subst (λ step. IsMade f.words f.words made.0 step at.0.found made.1)
+          (calls.script.steps i at.0 at.1) made.2),
     )
 
 -- by a clear each word was made 0
@@ -113,8 +118,10 @@ clear-zeroes-each : {S : Type 0} (f : SharedFilter S) → MakesCall f f Clear No
     → (i : ℕ) → i < f.words.count → MadeZero f.words i
 clear-zeroes-each f calls i within =
     let at = member calls.taken i (omega (arith, within, calls.script.count)) in
-    (subst (λ step. IsMade f.words f.words step at.0.found)
-    (calls.script.steps i at.0 at.1) (calls.made i at.0 at.1)).0
+    let made = made-at f.words f.words calls.first calls.last calls.taken calls.made i at.0 at.1 in
+    made-in_turn made.0 made.1
+    (subst (λ step. IsMade f.words f.words made.0 step at.0.found made.1)
+    (calls.script.steps i at.0 at.1) made.2).0
 
 -- by a union each word of the other was loaded, and what was found was turned on here
 union-loads-the-other : {S : Type 0} (f other : SharedFilter S) → MakesCall f other Union None
@@ -125,13 +132,16 @@ union-loads-the-other f other calls i within =
     let load = member calls.taken (2 * i) (omega (arith, within, count)) in
     let write = member calls.taken (2 * i + 1) (omega (arith, within, count)) in
     let loads = calls.script.steps.loads i load.0 load.1 in
-    let writes = calls.script.steps.writes i load.0 write.0 load.1 write.1 in (
+    let writes = calls.script.steps.writes i load.0 write.0 load.1 write.1 in
+    let made = made-at f.words other.words calls.first calls.last calls.taken calls.made in
+    let one = made (2 * i) load.0 load.1 in
+    let two = made (2 * i + 1) write.0 write.1 in (
       load.0.found,
       write.0.found,
-      subst (λ step. IsMade f.words other.words step load.0.found) loads
-          (calls.made (2 * i) load.0 load.1),
-      subst (λ step. IsMade f.words other.words step write.0.found) writes
-          (calls.made (2 * i + 1) write.0 write.1),
+      made-in_turn one.0 one.1
+          (subst (λ step. IsMade f.words other.words one.0 step load.0.found one.1) loads one.2),
+      made-in_turn two.0 two.1
+          (subst (λ step. IsMade f.words other.words two.0 step write.0.found two.1) writes two.2),
     )
 
 -- two filters of one word are found alike where a load of either found the same word

@@ -2,7 +2,7 @@
 -- How many sixty-fourths of a halving one half has is a premise here; `bloom_parts` shows it.
 use Rattle.std.proofs.Common.{◌≡◌, ◌∙◌, ℕ, zero, suc, ◌+◌, ◌<◌, Bool, List, [], ◌∷◌, Some, length, option_map, replicate, refl, ap, slice_get, sym, subst, arith, lit<}
 use Rattle.std.proofs.lemmas.Option.{slice_get-map}
-use Rattle.bloom_parts.specs.Made.{BeganWith, FoundBySwap}
+use Rattle.bloom_parts.specs.Made.{BeganWith, FoundBySwap, InTurn, made-in_turn}
 use Rattle.bloom_parts.specs.Sizing.{IsHalvings, size_for}
 use Rattle.bloom_plain.specs.Builders.{RateStart, words_for, empty_start, sized_filter, IsSizeOf}
 use Rattle.bloom_steps.specs.declared.steps.vocabulary.Step.TheVariants.{Take}
@@ -11,6 +11,7 @@ use Rattle.bloom_steps.specs.Scripts.{Taken}
 use Rattle.fastbloom.specs.Shared.{SharedFilter, HasFormFor, IsMade, MakesInsert, MakesInserts, TakesWords}
 use Rattle.fastbloom.proofs.SharedFacts.{filter, only}
 use Rattle.fastbloom.proofs.ScriptLemmas.{member}
+use Rattle.fastbloom.proofs.SharedLemmas.{made-at}
 use Rattle.fastbloom.proofs.TakenLemmas.{taken-count}
 
 -- a builder of the rate one half, whose hasher is the number 7
@@ -110,9 +111,9 @@ abbrev one_take : ℕ → List Taken
 one_take found = record { step = Take 0; found = found; ended = Done } ∷ []
 
 -- a take of one word is a swap of word 0, and gives the word that the swap found
-takes-one : (name : ℕ) → FoundBySwap (filter name 1 1).words 0 5
+takes-one : (name turn next : ℕ) → InTurn (FoundBySwap (filter name 1 1).words 0 5) turn next
     → TakesWords (filter name 1 1) (5 ∷ [])
-takes-one name made = record {
+takes-one name turn next made = record {
   made = record {
     taken = one_take 5;
     script = record {
@@ -122,7 +123,9 @@ takes-one name made = record {
       running = only _ _ (λ early. absurd (omega (arith, early)));
       last = only _ _ (λ last. refl);
     };
-    made = only _ _ made;
+    first = turn;
+    last = next;
+    made = (next, made, refl);
     answers = refl;
   };
   found = refl;
@@ -141,11 +144,14 @@ takes-each : {S : Type 0} (f : SharedFilter S) (words : List ℕ) → TakesWords
     → (i : ℕ) → i < f.words.count
     → (found : ℕ) × FoundBySwap f.words i found × (slice_get words i ≡ Some found)
 takes-each f words takes i within =
-    let s = takes.made.taken in
-    let at = member s i (omega (arith, within, takes.made.script.count)) in (
+    let calls = takes.made in
+    let s = calls.taken in
+    let at = member s i (omega (arith, within, calls.script.count)) in
+    let made = made-at f.words f.words calls.first calls.last s calls.made i at.0 at.1 in (
       at.0.found,
-      subst (λ step. IsMade f.words f.words step at.0.found)
-          (takes.made.script.steps i at.0 at.1) (takes.made.made i at.0 at.1),
+      made-in_turn made.0 made.1
+          (subst (λ step. IsMade f.words f.words made.0 step at.0.found made.1)
+          (calls.script.steps i at.0 at.1) made.2),
       ap (λ l. slice_get l i) takes.found
           ∙ slice_get-map (λ (t : Taken). t.found) s i
           ∙ ap (option_map (λ (t : Taken). t.found)) at.1,

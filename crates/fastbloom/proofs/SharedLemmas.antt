@@ -10,25 +10,34 @@ use Rattle.bloom_steps.specs.Scripts.{Taken, Each, Linked, IsScript, IsLastEnd, 
 use Rattle.fastbloom.specs.LiveStore.{Lent, MakesStep}
 use Rattle.fastbloom.specs.Shared.{SharedFilter, IsMade, MakesCall}
 
--- linked steps of the store were all made on the words that it lends
-linked-made : (lent : Lent) (taken : List Taken) (before after : Lent) → before ≡ lent
-    → Linked MakesStep before taken after
-    → Each taken (λ i t. IsMade lent.words lent.other t.step t.found)
-linked-made lent [] before after same linked i t got = absurd (none-some t got)
-linked-made lent (u ∷ us) before after same linked zero t got =
-    subst (λ (v : Taken). IsMade lent.words lent.other v.step v.found) (same_Some u t got)
-    (subst (λ (l : Lent). IsMade l.words l.other u.step u.found) same linked.1.0)
-linked-made lent (u ∷ us) before after same linked (suc i) t got =
-    linked-made lent us linked.0 after (linked.1.1 ∙ same) linked.2 i t got
+-- linked steps of a store were made, from turn to turn, on the words that it lends
+pub steps-made : (words other : SharedWords) (taken : List Taken) (before after : Lent)
+    → before.words ≡ words → before.other ≡ other → Linked MakesStep before taken after
+    → Linked (IsMade words other) before.turn taken after.turn
+steps-made words other [] before after is_words is_other linked =
+    ap (λ (l : Lent). l.turn) linked
+steps-made words other (t ∷ ts) before after is_words is_other linked =
+    let mid = linked.0 in
+    let step = linked.1 in (
+      mid.turn,
+      subst (λ o. IsMade words o before.turn t.step t.found mid.turn) is_other
+          (subst (λ w. IsMade w before.other before.turn t.step t.found mid.turn) is_words step.0),
+      steps-made words other ts mid after (step.1 ∙ is_words) (step.2 ∙ is_other) linked.2,
+    )
 
--- the linked steps of a store were made on the filters whose words it lends
-pub steps-made : {S : Type 0} (f other : SharedFilter S) (store after : Lent) (taken : List Taken)
-    → store.words ≡ f.words → store.other ≡ other.words → Linked MakesStep store taken after
-    → Each taken (λ i t. IsMade f.words other.words t.step t.found)
-steps-made f other store after taken words others linked =
-    subst (λ o. Each taken (λ i t. IsMade f.words o t.step t.found)) others
-    (subst (λ w. Each taken (λ i t. IsMade w store.other t.step t.found)) words
-    (linked-made store taken store after refl linked))
+-- one of the steps that were made, with its turn and the next one
+pub made-at : (words other : SharedWords) (first last : ℕ) (taken : List Taken)
+    → Linked (IsMade words other) first taken last → (i : ℕ) (t : Taken)
+    → slice_get taken i ≡ Some t
+    → (before : ℕ) × (after : ℕ) × IsMade words other before t.step t.found after
+made-at words other first last [] made i t got = absurd (none-some t got)
+made-at words other first last (u ∷ us) made zero t got = (
+  first,
+  made.0,
+  subst (λ (v : Taken). IsMade words other first v.step v.found made.0) (same_Some u t got) made.1,
+)
+made-at words other first last (u ∷ us) made (suc i) t got =
+    made-at words other made.0 last us made.2 i t got
 
 -- a script in as many words as a store has is one in the words of the filter that it lends
 pub script-in : {S : Type 0} (f : SharedFilter S) (call : Call) (store : Lent) (taken : List Taken)
@@ -45,7 +54,9 @@ pub drives-make : {S : Type 0} (f other : SharedFilter S) (call : Call) (reply :
 drives-make f other call reply store after words others drives = record {
   taken = drives.taken;
   script = script-in f call store drives.taken words drives.script;
-  made = steps-made f other store after drives.taken words others drives.linked;
+  first = store.turn;
+  last = after.turn;
+  made = steps-made f.words other.words drives.taken store after words others drives.linked;
   answers = drives.answers;
 }
 
@@ -110,6 +121,8 @@ pub replies-none : {S : Type 0} (f other : SharedFilter S) (call : Call) (reply 
 replies-none f other call reply calls ends = record {
   taken = calls.taken;
   script = calls.script;
+  first = calls.first;
+  last = calls.last;
   made = calls.made;
   answers = sym (silent calls.taken (λ i t got last. ends t (calls.script.last i t got last)));
 }

@@ -62,7 +62,9 @@ drives-take f reply before after words others size drives =
       made = record {
         taken = drives.taken;
         script = script-in f call.Take before.lent drives.taken words drives.script;
-        made = steps-made f f before.lent after.lent drives.taken words others lent;
+        first = before.lent.turn;
+        last = after.lent.turn;
+        made = steps-made f.words f.words drives.taken before.lent after.lent words others lent;
         answers = sym (silent drives.taken drives.script.last);
       };
       found =

@@ -7,14 +7,17 @@ use Rattle.bloom_steps.specs.declared.steps.vocabulary.Step.{Step}
 use Rattle.bloom_steps.specs.declared.steps.vocabulary.Step.TheVariants.{Load, Or, And, Zero, Other, Take}
 use Rattle.fastbloom.specs.Shared.{IsMade}
 
--- the vectors of a filter and of the other
+-- the vectors of a filter and of the other, and the turn of the next step
 pub record Lent : Type 0 where
   pub words : SharedWords
   pub other : SharedWords
+  pub turn : ℕ
 
--- a step was made on the lent vectors, and the store lends the same ones afterwards
+-- a step was made in its turn on the lent vectors, and the store lends the same ones afterwards
 abbrev pub MakesStep : Lent → Step → ℕ → Lent → Type 0
-MakesStep before step found after = IsMade before.words before.other step found × (after ≡ before)
+MakesStep before step found after =
+    IsMade before.words before.other before.turn step found after.turn
+    × (after.words ≡ before.words) × (after.other ≡ before.other)
 
 -- what is lent, and the words that were taken out so far
 pub record Keeping : Type 0 where

@@ -3,7 +3,7 @@
 -- on one word, and a script is a list of steps, each with what it found, that a call may make
 -- (`bloom_steps`). These definitions are this project's own.
 use Rattle.std.specs.Prelude.{◌≡◌, ◌≢◌, ℕ, ◌<◌, Bool, List, [], ◌∷◌, ◌++◌, length, map, slice_get, All, Option, Some, None}
-use Rattle.bloom_parts.specs.Made.{SharedWords, BeganWith, FoundByLoad, FoundByOr, FoundByAnd, MadeZero, FoundBySwap}
+use Rattle.bloom_parts.specs.Made.{SharedWords, BeganWith, FoundByLoad, FoundByOr, FoundByAnd, MadeZero, FoundBySwap, InTurn}
 use Rattle.bloom_plain.specs.Builders.{RateStart, IsSizeOf, sized_filter, empty_start}
 use Rattle.bloom_plain.specs.Filter.{Filter}
 use Rattle.bloom_steps.specs.declared.steps.vocabulary.Step.{Step}
@@ -11,7 +11,7 @@ use Rattle.bloom_steps.specs.declared.steps.vocabulary.Step.TheVariants.{Load, O
 use Rattle.bloom_steps.specs.declared.steps.vocabulary.Call.{Call}
 use Rattle.bloom_steps.specs.declared.steps.vocabulary.Call.TheVariants.{Insert}
 use Rattle.bloom_steps.specs.declared.steps.vocabulary.Call.TheVariants as call
-use Rattle.bloom_steps.specs.Scripts.{Taken, Each, IsScript, answer_of}
+use Rattle.bloom_steps.specs.Scripts.{Taken, Linked, IsScript, answer_of}
 
 -- the vector of the words, the number of hashes, and the hasher
 pub record SharedFilter (S : Type 0) : Type 0 where
@@ -38,23 +38,28 @@ HasFormFor start items f =
     (bits : ℕ) × IsSizeOf start items bits
     × HasFormOf f (sized_filter (empty_start start bits) items)
 
--- a step was made on a vector, or on the other vector where it reads the other's word, and this is
--- what it found
-abbrev pub IsMade : SharedWords → SharedWords → Step → ℕ → Type 0
-IsMade words other (Load i) found = FoundByLoad words i found
-IsMade words other (Or i mask) found = FoundByOr words i mask found
-IsMade words other (And i mask) found = FoundByAnd words i mask found
-IsMade words other (Zero i) found = MadeZero words i × (found ≡ 0)
-IsMade words other (Other i) found = FoundByLoad other i found
-IsMade words other (Take i) found = FoundBySwap words i found
+-- from one turn to the other a step was made on a vector, or on the other vector where it reads the
+-- other's word, and this is what it found
+abbrev pub IsMade : SharedWords → SharedWords → ℕ → Step → ℕ → ℕ → Type 0
+IsMade words other before (Load i) found after = InTurn (FoundByLoad words i found) before after
+IsMade words other before (Or i mask) found after =
+    InTurn (FoundByOr words i mask found) before after
+IsMade words other before (And i mask) found after =
+    InTurn (FoundByAnd words i mask found) before after
+IsMade words other before (Zero i) found after =
+    InTurn (MadeZero words i) before after × (found ≡ 0)
+IsMade words other before (Other i) found after = InTurn (FoundByLoad other i found) before after
+IsMade words other before (Take i) found after = InTurn (FoundBySwap words i found) before after
 
--- a call was made: every step of one of its scripts was made on the words of a filter, and the
--- reply is the script's answer
+-- a call was made: every step of one of its scripts was made on the words of a filter, from turn to
+-- turn, so each by itself and in order, and the reply is the script's answer
 pub record MakesCall {S : Type 0} (f other : SharedFilter S) (call : Call) (reply : Option Bool)
     : Type 0 where
   pub taken : List Taken
   pub script : IsScript f.words.count f.hashes call taken
-  pub made : Each taken (λ i t. IsMade f.words other.words t.step t.found)
+  pub first : ℕ
+  pub last : ℕ
+  pub made : Linked (IsMade f.words other.words) first taken last
   pub answers : reply ≡ answer_of taken
 
 -- a hash was inserted, and this was the reply

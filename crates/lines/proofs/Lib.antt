@@ -1,4 +1,5 @@
 mod EndFacts
+mod FillingFacts
 mod LineFacts
 pub mod LineLemmas
 mod ReadingFacts

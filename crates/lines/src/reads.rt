@@ -1,6 +1,7 @@
 //! Reading some bytes, or as many as there is room for.
 ghost use Rattle.std.specs.Prelude.{◌≡◌, ◌<◌, ◌≤◌, length, take, IfOk, OnErr};
 ghost use Rattle.std.specs.Io.KnownBytes.{Consumes, IsAtEnd, Keeps};
+ghost use Rattle.lines.specs.Filling.{GivesFewer};
 
 use std::io;
 use std::io::{ErrorKind, Read};
@@ -41,6 +42,9 @@ pub fn read_full<R: Read>(input: &mut R, bytes: &mut [u8]) -> io::Result<usize>
     ensures end { IfOk result (λ n. n < length bytes.new → IsAtEnd (R.remaining input.new)) }
     ensures count { IfOk result (λ n. n ≤ length bytes.new) }
     ensures room { length bytes.new ≡ length bytes.old }
+    // After an error fewer bytes were taken than there was room for.
+    ensures part { OnErr result
+        (GivesFewer (length bytes.old) (R.remaining input.old) (R.remaining input.new)) }
 {
     let mut count: usize = 0;
     'reads: while count < bytes.len() {

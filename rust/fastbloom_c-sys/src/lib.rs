@@ -43,7 +43,7 @@ pub const FASTBLOOM_MEMORY: u8 = 6;
 pub const FASTBLOOM_HASH_COUNT: u8 = 7;
 /// A thread couldn't be started.
 pub const FASTBLOOM_WORKER: u8 = 8;
-/// The file doesn't begin with `fbloom` and a zero byte.
+/// The file has fewer than eight bytes, or doesn't begin with `fbloom` and a zero byte.
 pub const FASTBLOOM_NOT_A_FILTER: u8 = 9;
 /// The version of the file isn't `1`.
 pub const FASTBLOOM_UNKNOWN_VERSION: u8 = 10;

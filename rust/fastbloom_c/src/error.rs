@@ -33,7 +33,7 @@ pub enum Error {
     Memory,
     /// A file has 0 hashes, or 2^32 and more.
     HashCount,
-    /// A file doesn't begin with `fbloom` and a zero byte.
+    /// A file has fewer than eight bytes, or doesn't begin with `fbloom` and a zero byte.
     NotAFilter,
     /// The version of a file isn't `1`.
     Version,

@@ -1,10 +1,44 @@
-//! The words of a vector that threads share, lent as a slice.
+//! The words of a vector that threads share, lent as a slice to steps that are made in turn.
 ghost use Rattle.std.specs.Prelude.{◌≡◌, ◌^◌, ◌<◌, ◌≤◌};
-ghost use Rattle.bloom_parts.specs.Made.{FoundByLoad, FoundByOr, FoundByAnd, MadeZero, FoundBySwap};
+ghost use Rattle.bloom_parts.specs.Made.{FoundByLoad, FoundByOr, FoundByAnd, MadeZero, FoundBySwap, InTurn};
 
 use super::atomic::{AtomicBitVec, and_into, load_from, or_into, swap_in, zero_in};
 use std::marker::Model;
+use std::snapshot::Snapshot;
 use std::sync::atomic::AtomicU64;
+
+/// The turn of the step that comes next, among those of one call. It has no bytes.
+///
+/// Contracts see a name that no clause fixes. A step leads from its turn to the next one, so one
+/// step can't be taken for two.
+#[derive(Drop)]
+pub struct Turn {
+    name: Snapshot<u64>,
+}
+
+impl Model for Turn {
+    ghost use Rattle.std.specs.Prelude.{ℕ};
+
+    ghost Value = { ℕ };
+
+    ghost view = { λ t. t.name.value };
+}
+
+impl Turn {
+    /// The turn of a first step.
+    #[inline]
+    pub fn first() -> Self {
+        Turn {
+            name: Snapshot::of(&0),
+        }
+    }
+
+    // The turn of the next step. Its name is another to every caller, since no clause tells it.
+    #[inline(always)]
+    fn pass(&mut self) {
+        self.name = Snapshot::of(&0);
+    }
+}
 
 /// The words of a vector, with where they lie and how many there are.
 ///
@@ -52,7 +86,7 @@ impl<'a> LentWords<'a> {
         self.words.len()
     }
 
-    /// Reads a word.
+    /// Reads a word, in no turn.
     #[inline]
     pub fn load(&self, word: usize) -> u64
         requires { word < self.now.count }
@@ -61,39 +95,58 @@ impl<'a> LentWords<'a> {
         load_from(self.vector, self.words, word)
     }
 
+    /// Reads a word in its turn.
+    #[inline]
+    #[tactic(auto, using(crate::specs::Made::made_by_turn))]
+    pub fn load_in_turn(&self, turn: &mut Turn, word: usize) -> u64
+        requires { word < self.now.count }
+        ensures { InTurn (FoundByLoad self.now word result) turn.old turn.new }
+    {
+        turn.pass();
+        self.load(word)
+    }
+
     /// Sets the bits of a mask in a word, and returns the word as it was.
     #[inline]
-    pub fn fetch_or(&self, word: usize, mask: u64) -> u64
+    #[tactic(auto, using(crate::specs::Made::made_by_turn))]
+    pub fn fetch_or(&self, turn: &mut Turn, word: usize, mask: u64) -> u64
         requires { word < self.now.count }
-        ensures { FoundByOr self.now word mask result }
+        ensures { InTurn (FoundByOr self.now word mask result) turn.old turn.new }
     {
+        turn.pass();
         or_into(self.vector, self.words, word, mask)
     }
 
     /// Clears the bits of a word that a mask lacks, and returns the word as it was.
     #[inline]
-    pub fn fetch_and(&self, word: usize, mask: u64) -> u64
+    #[tactic(auto, using(crate::specs::Made::made_by_turn))]
+    pub fn fetch_and(&self, turn: &mut Turn, word: usize, mask: u64) -> u64
         requires { word < self.now.count }
-        ensures { FoundByAnd self.now word mask result }
+        ensures { InTurn (FoundByAnd self.now word mask result) turn.old turn.new }
     {
+        turn.pass();
         and_into(self.vector, self.words, word, mask)
     }
 
     /// Clears every bit of a word.
     #[inline]
-    pub fn store_zero(&self, word: usize)
+    #[tactic(auto, using(crate::specs::Made::made_by_turn))]
+    pub fn store_zero(&self, turn: &mut Turn, word: usize)
         requires { word < self.now.count }
-        ensures { MadeZero self.now word }
+        ensures { InTurn (MadeZero self.now word) turn.old turn.new }
     {
+        turn.pass();
         zero_in(self.vector, self.words, word);
     }
 
     /// Clears every bit of a word, and returns the word as it was.
     #[inline]
-    pub fn swap_zero(&self, word: usize) -> u64
+    #[tactic(auto, using(crate::specs::Made::made_by_turn))]
+    pub fn swap_zero(&self, turn: &mut Turn, word: usize) -> u64
         requires { word < self.now.count }
-        ensures { FoundBySwap self.now word result }
+        ensures { InTurn (FoundBySwap self.now word result) turn.old turn.new }
     {
+        turn.pass();
         swap_in(self.vector, self.words, word)
     }
 }

@@ -22,7 +22,7 @@ fn upper_bound(filled: Filled) -> Option<usize>
     if filled.ones == 0 {
         return Some(0);
     }
-    last_passing(&MaybeBelow(filled)).checked_add(1)
+    last_passing(&mut MaybeBelow { filled, tests: 0 }).checked_add(1)
 }
 
 /// The number of items in a filter of `bits` bits of which `ones` are set, as two bounds.
@@ -35,6 +35,6 @@ pub fn estimated_items(hashes: u32, bits: usize, ones: usize) -> Estimate
     ensures { EstimatesItems bits hashes ones result }
 {
     let filled = Filled { hashes, bits, ones };
-    let low = last_passing(&AtMost(filled));
+    let low = last_passing(&mut AtMost { filled, tests: 0 });
     Estimate::new(low, upper_bound(filled))
 }

@@ -1,16 +1,22 @@
 //! The search of a number of items by tests of the expected density.
-ghost use Rattle.std.specs.Prelude.{◌↔◌, ℕ, ◌+◌, ◌*◌, ◌^◌, ◌<◌, ◌≤◌, IsTrue};
+ghost use Rattle.std.specs.Prelude.{◌≡◌, ◌↔◌, ℕ, ◌+◌, ◌*◌, ◌^◌, ◌<◌, ◌≤◌, IsTrue};
 ghost use Rattle.bloom_parts.specs.Brackets.{density_low, density_high};
 
 use super::expected::{high_end, low_end};
 use super::powers::UNIT;
 
-// A test of numbers of items.
+// A test of numbers of items, which counts how often it was made.
 pub(super) trait Side {
     ghost passes: { Self → ℕ → Type 0 };
 
-    fn passes(&self, items: usize) -> bool
-        ensures { IsTrue result ↔ passes self.now items };
+    ghost count: { Self → ℕ };
+
+    fn passes(&mut self, items: usize) -> bool
+        requires room { count self.old < 64 }
+        ensures value { IsTrue result ↔ passes self.old items }
+        // It stays the same test.
+        ensures same { (n : ℕ) → passes self.old n ↔ passes self.new n }
+        ensures tests { count self.new ≡ count self.old + 1 };
 }
 
 // A filter of which so many bits are set.
@@ -23,40 +29,56 @@ pub(super) struct Filled {
 }
 
 // Whether the expected density is certainly at most the share of bits that is set.
-#[derive(Clone, Copy)]
-pub(super) struct AtMost(pub(super) Filled);
+#[derive(Drop)]
+pub(super) struct AtMost {
+    pub(super) filled: Filled,
+    pub(super) tests: u32,
+}
 
 impl Side for AtMost {
-    ghost passes = { λ side items. let it = side.0 in
+    ghost passes = { λ side items. let it = side.filled in
         density_high it.bits (it.hashes * items) * it.bits ≤ 2 ^ 63 * it.ones };
 
-    fn passes(&self, items: usize) -> bool {
-        let Filled { hashes, bits, ones } = self.0;
+    ghost count = { λ side. side.tests };
+
+    fn passes(&mut self, items: usize) -> bool {
+        self.tests += 1;
+        let Filled { hashes, bits, ones } = self.filled;
         let density = high_end(bits, hashes as u128 * items as u128);
         density as u128 * bits as u128 <= UNIT as u128 * ones as u128
     }
 }
 
 // Whether the expected density may be below the share of bits that is set.
-#[derive(Clone, Copy)]
-pub(super) struct MaybeBelow(pub(super) Filled);
+#[derive(Drop)]
+pub(super) struct MaybeBelow {
+    pub(super) filled: Filled,
+    pub(super) tests: u32,
+}
 
 impl Side for MaybeBelow {
-    ghost passes = { λ side items. let it = side.0 in
+    ghost passes = { λ side items. let it = side.filled in
         density_low it.bits (it.hashes * items) * it.bits < 2 ^ 63 * it.ones };
 
-    fn passes(&self, items: usize) -> bool {
-        let Filled { hashes, bits, ones } = self.0;
+    ghost count = { λ side. side.tests };
+
+    fn passes(&mut self, items: usize) -> bool {
+        self.tests += 1;
+        let Filled { hashes, bits, ones } = self.filled;
         let density = low_end(bits, hashes as u128 * items as u128);
         (density as u128 * bits as u128) < UNIT as u128 * ones as u128
     }
 }
 
 // A number of items that passes, of which the next does not, found by 64 tests.
-pub(super) fn last_passing<T: Side>(side: &T) -> usize
-    requires { T.passes side.now 0 }
-    ensures passes { T.passes side.now result }
-    ensures last { result + 1 < 2 ^ 64 → T.passes side.now (result + 1) → ⊥ }
+//
+// It can make no `T`, so its answer rests on counted tests alone.
+pub(super) fn last_passing<T: Side>(side: &mut T) -> usize
+    requires zero { T.passes side.old 0 }
+    requires none { T.count side.old ≡ 0 }
+    ensures passes { T.passes side.old result }
+    ensures last { result + 1 < 2 ^ 64 → T.passes side.old (result + 1) → ⊥ }
+    ensures tests { T.count side.new ≡ 64 }
 {
     let mut found: usize = 0;
     'bits: for bit in (0..64u32).rev() {

@@ -115,7 +115,7 @@ impl BloomFilter {
         let (start, others) = bytes.split_at(HEAD);
         let head = head_in(start);
         let mut words = Vec::with_capacity(alloc, head.num_words)?;
-        push_numbers(&mut words, others)?;
+        push_numbers(&mut words, others);
         Ok(filter_with(head, words))
     }
 }

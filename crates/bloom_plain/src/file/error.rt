@@ -10,7 +10,7 @@ use thiserror::Error;
 /// in the order of the variants.
 #[derive(Clone, Copy, Debug, PartialEq, Eq, Drop, Error)]
 pub enum FileError {
-    /// The file doesn't begin with `fbloom` and a zero byte.
+    /// The file has fewer than eight bytes, or doesn't begin with `fbloom` and a zero byte.
     #[error("not a filter")]
     NotAFilter,
     /// The version isn't `1`.

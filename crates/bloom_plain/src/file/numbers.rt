@@ -1,10 +1,9 @@
 //! Numbers of 64 bits as little-endian bytes.
-ghost use Rattle.std.specs.Prelude.{◌≡◌, ◌+◌, ◌*◌, ◌%◌, ◌<◌, ◌++◌, length, IfOk};
+ghost use Rattle.std.specs.Prelude.{◌≡◌, ◌+◌, ◌*◌, ◌/◌, ◌%◌, ◌<◌, ◌≤◌, ◌++◌, length, vec_len};
+ghost use Rattle.std.specs.Vec.{vec_capacity};
 ghost use Rattle.bloom_parts.specs.Sip.{whole_words};
 ghost use Rattle.bloom_plain.specs.File.{bytes_of};
 ghost use Rattle.bloom_plain.specs.FileRefusals.{number_at};
-
-use std::alloc::AllocError;
 
 // The number at a place, counted from 0, or 0 where there are fewer bytes.
 pub(super) fn number_at(bytes: &[u8], place: usize) -> u64
@@ -29,17 +28,16 @@ pub(super) fn put_numbers(bytes: &mut [u8], numbers: &[u64])
     }
 }
 
-// Appends the numbers of bytes to words, as far as they are whole.
-pub(super) fn push_numbers(words: &mut Vec<u64>, bytes: &[u8]) -> Result<(), AllocError>
-    ensures words { IfOk result
-        (λ _. words.new.items ≡ words.old.items ++ whole_words bytes.now) }
+// Appends the numbers of bytes, as far as they are whole, to words that have room for them.
+pub(super) fn push_numbers(words: &mut Vec<u64>, bytes: &[u8])
+    requires room { vec_len words.old + length bytes.now / 8 ≤ vec_capacity words.old }
+    ensures words { words.new.items ≡ words.old.items ++ whole_words bytes.now }
     // The bytes of these numbers are those that were read.
-    ensures bytes { IfOk result (λ _. length bytes.now % 8 ≡ 0
-        → bytes_of (whole_words bytes.now) ≡ bytes.now) }
+    ensures bytes { length bytes.now % 8 ≡ 0 → bytes_of (whole_words bytes.now) ≡ bytes.now }
+    ensures capacity { vec_capacity words.new ≡ vec_capacity words.old }
 {
     let (numbers, _rest) = bytes.as_chunks::<8>();
     'numbers: for number in numbers {
-        words.push(u64::from_le_bytes(*number))?;
+        words.push_reserved(u64::from_le_bytes(*number));
     }
-    Ok(())
 }

@@ -5,7 +5,7 @@ ghost use Rattle.std.specs.Result.{result_err};
 ghost use Rattle.std.specs.Io.KnownBytes.{Appends, Consumes, IsAtEnd};
 ghost use Rattle.lines.specs.Writing.{AppendsPart};
 ghost use Rattle.bloom_plain.specs.File.{HasOwnKey, bytes_of, file_of};
-ghost use Rattle.bloom_plain.specs.FileReads.{IsReadAs, IsToldOf, ReadsFile, ReadsWords, StopsEnd, StopsWords};
+ghost use Rattle.bloom_plain.specs.FileReads.{AsksAsGiven, FailsEarly, FailsWithin, Gives, IsReadAs, IsToldOf, ReadsFile, ReadsWords, StopsEnd, StopsWords};
 ghost use Rattle.bloom_plain.specs.FileRefusals.{head_refusal};
 
 use super::bytes::filter_with;
@@ -59,6 +59,7 @@ fn make_room(words: &mut Vec<u64>, more: usize, most: usize) -> Result<(), FileE
     requires { more ≤ most }
     ensures same { words.new.items ≡ words.old.items }
     ensures refused { IfErr result (λ error. error ≡ FileError.Memory) }
+    ensures enough { OnOk result (vec_len words.new + more ≤ vec_capacity words.new) }
     // Room is asked for as many words as there are, or for a block, and for no more than may come.
     ensures few { vec_capacity words.new
         ≤ max (vec_capacity words.old) (vec_len words.old + max (vec_len words.old) more) }
@@ -71,18 +72,23 @@ fn make_room(words: &mut Vec<u64>, more: usize, most: usize) -> Result<(), FileE
     Ok(())
 }
 
-// Reads at most a block of words, and appends them.
+// Reads at most a block of words, and appends them where there is room.
 fn read_block<R: Read>(
     input: &mut R,
     more: usize,
     words: &mut Vec<u64>,
     hasher: &mut RandomDefaultHasher,
 ) -> Result<(), FileError>
-    requires { more ≤ 512 }
+    requires few { more ≤ 512 }
+    requires room { vec_len words.old + more ≤ vec_capacity words.old }
     ensures taken { OnOk result (ReadsWords (R.remaining input.old) (R.remaining input.new)
         words.old.items words.new.items hasher.old hasher.new) }
     ensures count { OnOk result (length words.new.items ≡ length words.old.items + more) }
     ensures stops { IfErr result (StopsWords (8 * more) (R.remaining input.old)) }
+    ensures input { IfErr result
+        (FailsWithin (8 * more) (R.remaining input.old) (R.remaining input.new)) }
+    ensures gave { Gives (R.remaining input.old) (R.remaining input.new) }
+    ensures capacity { vec_capacity words.new ≡ vec_capacity words.old }
 {
     let mut block = [0u8; 8 * BLOCK];
     let bytes = &mut block[..8 * more];
@@ -94,31 +100,37 @@ fn read_block<R: Read>(
         return Err(FileError::Cut);
     }
     hasher.write(bytes);
-    push_numbers(words, bytes)?;
+    push_numbers(words, bytes);
     Ok(())
 }
 
-// Reads words, and asks for their room only as they come.
+// Reads words into a vector that has no room yet, and asks for their room only as they come.
 fn read_words<R: Read>(
-    alloc: Global,
     input: &mut R,
     count: usize,
+    words: &mut Vec<u64>,
     hasher: &mut RandomDefaultHasher,
-) -> Result<Vec<u64>, FileError>
-    requires { count < 2 ^ 58 }
-    ensures taken { IfOk result (λ words. ReadsWords (R.remaining input.old) (R.remaining input.new)
-        [] words.items hasher.old hasher.new) }
-    ensures count { IfOk result (λ words. length words.items ≡ count) }
+) -> Result<(), FileError>
+    requires count { count < 2 ^ 58 }
+    requires empty { words.old.items ≡ [] }
+    requires none { vec_capacity words.old ≡ 0 }
+    ensures taken { OnOk result (ReadsWords (R.remaining input.old) (R.remaining input.new)
+        [] words.new.items hasher.old hasher.new) }
+    ensures count { OnOk result (length words.new.items ≡ count) }
+    // There is room for a block, and for at most twice as many words as came, also after an error.
+    ensures room { AsksAsGiven (R.remaining input.old) (R.remaining input.new)
+        (vec_capacity words.new) }
     ensures stops { IfErr result (StopsWords (8 * count) (R.remaining input.old)) }
+    ensures input { IfErr result
+        (FailsWithin (8 * count) (R.remaining input.old) (R.remaining input.new)) }
 {
-    let mut words = Vec::new(alloc);
     'pieces: while words.len() < count {
         let left = count - words.len();
         let more = left.min(BLOCK);
-        make_room(&mut words, more, left)?;
-        read_block(input, more, &mut words, hasher)?;
+        make_room(words, more, left)?;
+        read_block(input, more, words, hasher)?;
     }
-    Ok(words)
+    Ok(())
 }
 
 // Reads the head of a file, and refuses one that is none.
@@ -128,6 +140,8 @@ fn read_start<R: Read>(input: &mut R) -> Result<[u8; 64], FileError>
     ensures size { IfOk result (λ head. length head ≡ 64) }
     ensures good { IfOk result (λ head. head_refusal head ≡ None) }
     ensures refused { IfErr result (λ error. IsToldOf (R.remaining input.old) error) }
+    ensures input { IfErr result
+        (FailsWithin 64 (R.remaining input.old) (R.remaining input.new)) }
 {
     let mut head = [0u8; HEAD];
     let count = match read_full(input, &mut head) {
@@ -146,6 +160,8 @@ fn read_end<R: Read>(input: &mut R) -> Result<(), FileError>
     ensures nothing { OnOk result (Consumes (R.remaining input.old) (R.remaining input.new) []) }
     ensures end { OnOk result (IsAtEnd (R.remaining input.new)) }
     ensures more { IfErr result (StopsEnd (R.remaining input.old)) }
+    ensures input { IfErr result
+        (FailsWithin 1 (R.remaining input.old) (R.remaining input.new)) }
 {
     let mut more = [0u8; 1];
     match read_full(input, &mut more) {
@@ -178,19 +194,25 @@ impl BloomFilter {
     ///
     /// # Errors
     /// The first reason for which the bytes are no file of a filter, in the order of the variants
-    /// of `FileError`; `Memory`, where the head isn't refused; and `Input`, where a read fails.
+    /// of `FileError`; `Memory`, where the head isn't refused; and `Input`, where a read fails
+    /// before the bytes decide a reason: a head of fewer than 64 bytes, or one that isn't refused
+    /// with no byte behind its words, decides none yet.
     pub fn read_file<R: Read>(alloc: Global, input: &mut R) -> Result<Self, FileError>
         ensures file { IfOk result
             (ReadsFile (R.remaining input.old) (R.remaining input.new)) }
         ensures key { IfOk result HasOwnKey }
         ensures refused { IfSome (R.remaining input.old)
             (λ bytes. IsReadAs bytes (result_err result)) }
+        // A failed read is told only where the bytes before it decide no refusal yet.
+        ensures input { IfErr result
+            (FailsEarly (R.remaining input.old) (R.remaining input.new)) }
     {
         let start = read_start(input)?;
         let head = head_in(&start);
         let mut hasher = RandomDefaultHasher::default();
         hasher.write(&start[..40]);
-        let words = read_words(alloc, input, head.num_words, &mut hasher)?;
+        let mut words = Vec::new(alloc);
+        read_words(input, head.num_words, &mut words, &mut hasher)?;
         read_end(input)?;
         check_reserved(&start)?;
         check_seal(number_at(&start, 5), hasher.finish())?;

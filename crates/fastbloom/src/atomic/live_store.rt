@@ -1,15 +1,17 @@
 //! The words of filters that threads share, as a store of steps.
 ghost use Rattle.fastbloom.specs.LiveStore.{MakesStep};
 
-use bloom_parts::bit_vector::{AtomicBitVec, LentWords};
+use bloom_parts::bit_vector::{AtomicBitVec, LentWords, Turn};
 use bloom_steps::{Step, WordStore};
 use std::marker::Model;
 
-// Lends the words of one filter, and those of the other, which may be the same.
+// Lends the words of one filter, and those of the other, which may be the same, to steps that are
+// made one after the other.
 #[derive(Drop)]
 pub(super) struct LiveStore<'a> {
     words: LentWords<'a>,
     other: LentWords<'a>,
+    turn: Turn,
 }
 
 impl<'a> Model for LiveStore<'a> {
@@ -18,7 +20,7 @@ impl<'a> Model for LiveStore<'a> {
 
     ghost Value = { Lent };
 
-    ghost view = { λ s. record { words = s.words; other = s.other } };
+    ghost view = { λ s. record { words = s.words; other = s.other; turn = s.turn } };
 
     ghost invariant = { λ s. s.other.count ≡ s.words.count };
 }
@@ -36,6 +38,7 @@ impl<'a> LiveStore<'a> {
         LiveStore {
             words: words.lent(),
             other: other.lent(),
+            turn: Turn::first(),
         }
     }
 }
@@ -50,19 +53,19 @@ impl<'a> WordStore for LiveStore<'a> {
         self.words.len()
     }
 
-    // Each step is one atomic operation.
+    // Each step is one atomic operation, in its turn.
     #[inline(always)]
     fn step(&mut self, step: Step) -> u64 {
         match step {
-            Step::Load(word) => self.words.load(word),
-            Step::Or(word, mask) => self.words.fetch_or(word, mask),
-            Step::And(word, mask) => self.words.fetch_and(word, mask),
+            Step::Load(word) => self.words.load_in_turn(&mut self.turn, word),
+            Step::Or(word, mask) => self.words.fetch_or(&mut self.turn, word, mask),
+            Step::And(word, mask) => self.words.fetch_and(&mut self.turn, word, mask),
             Step::Zero(word) => {
-                self.words.store_zero(word);
+                self.words.store_zero(&mut self.turn, word);
                 0
             }
-            Step::Other(word) => self.other.load(word),
-            Step::Take(word) => self.words.swap_zero(word),
+            Step::Other(word) => self.other.load_in_turn(&mut self.turn, word),
+            Step::Take(word) => self.words.swap_zero(&mut self.turn, word),
         }
     }
 }

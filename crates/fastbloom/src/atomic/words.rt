@@ -13,6 +13,14 @@ use bloom_plain::expected_rate;
 use bloom_steps::{Call, drive};
 use std::alloc::Global;
 
+// Room for as many words. No filter is at hand here, so none is touched where memory is refused.
+fn make_room(alloc: Global, count: usize) -> Result<Vec<u64>, FilterError>
+    ensures count { IfOk result (λ room. length room.items ≡ count) }
+    ensures refused { IsOkUnless result FilterError.Memory }
+{
+    Ok(vec![in alloc; 0u64; count]?)
+}
+
 impl<S> AtomicBloomFilter<S> {
     /// An iterator over the words, word 0 first, which loads each when it is asked for it.
     pub fn iter(&self) -> AtomicWords<'_>
@@ -49,10 +57,19 @@ impl<S> AtomicBloomFilter<S> {
         ensures count { IfOk result (λ words. length words.items ≡ self.now.words.count) }
         ensures refused { IsOkUnless result FilterError.Memory }
     {
-        let kept = vec![in alloc; 0u64; self.words.len()]?;
-        let mut store = KeepingStore::new(&self.words, kept);
+        let room = make_room(alloc, self.words.len())?;
+        Ok(self.take_into(room))
+    }
+
+    // Takes the words out, each in place of one number. No memory can be asked for here, so nothing
+    // is refused once a word is taken.
+    fn take_into(&self, room: Vec<u64>) -> Vec<u64>
+        requires { length room.items ≡ self.now.words.count }
+        ensures { TakesWords self.now result.items }
+    {
+        let mut store = KeepingStore::new(&self.words, room);
         drive(&mut store, Call::Take, self.num_hashes);
-        Ok(store.into_kept())
+        store.into_kept()
     }
 
     /// The rate of false positives to expect once `num_items` items are in the filter.

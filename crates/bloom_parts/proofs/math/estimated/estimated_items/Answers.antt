@@ -5,8 +5,8 @@ use Rattle.bloom_parts.proofs.EstimatedLemmas.{estimates-items}
 use Rattle.bloom_parts.proofs.math.estimated.estimated_items.Goals as goal
 
 -- no bit is expected to be set of no items
-pub last_passing-low-requires : goal.last_passing-low-requires
-last_passing-low-requires c =
+pub last_passing-low-requires-clause-zero : goal.last_passing-low-requires-clause-zero
+last_passing-low-requires-clause-zero c =
     let (_, none) =
     density-none c.args.bits (c.args.hashes * 0) (omega (arith, c.requires.bits)) (omega arith) in
     rw none (omega arith)

@@ -3,8 +3,8 @@ use Rattle.bloom_parts.proofs.DensityLemmas.{density-none}
 use Rattle.bloom_parts.proofs.math.estimated.upper_bound.Goals as goal
 
 -- no bit is expected to be on of no items, and some is
-pub last_passing-requires : goal.last_passing-requires
-last_passing-requires c =
+pub last_passing-requires-clause-zero : goal.last_passing-requires-clause-zero
+last_passing-requires-clause-zero c =
     let filled = c.args.filled in
     let (none, _) = density-none filled.bits (filled.hashes * 0) filled.some (omega arith) in
     rw none (omega (arith, c.if-filled-eq0.false))

@@ -8,7 +8,7 @@ pub returns-clause-words : goal.returns-clause-words
 returns-clause-words c =
     let numbers = c.as_chunks.result.0.now in
     let all = take_all c.numbers.number-index numbers (omega arith) in
-    c.numbers.invariant
+    c.numbers.invariant.items
     ∙ ap (λ l. c.args.words.now.items ++ map (from_le_bytes w64) l)
     (all ∙ c.as_chunks.ensures.front)
     ∙ ap (λ l. c.args.words.now.items ++ l) (sym (whole_words-chunks c.args.bytes.now))

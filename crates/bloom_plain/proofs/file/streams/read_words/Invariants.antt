@@ -1,13 +1,14 @@
-use Rattle.std.proofs.Common.{◌≤◌, ◌-◌, [], length}
+use Rattle.std.proofs.Common.{◌≤◌, ◌+◌, ◌-◌, ◌*◌, [], length, vec_capacity}
 use Rattle.bloom_plain.specs.FileReads.{ReadsWords}
 use Rattle.bloom_plain.proofs.file.streams.read_words.Given as goal
 
--- the words so far were read
+-- the words so far were read, and there is room for at most twice as many, and a block
 abbrev pub invariant-pieces : goal.invariant-pieces
 invariant-pieces g l = record {
   reads : ReadsWords (g.R.Read.remaining l.fn.input) (g.R.Read.remaining l.input) []
       l.words.items l.fn.hasher l.hasher;
   within : length l.words.items ≤ l.count;
+  room : vec_capacity l.words ≤ 2 * length l.words.items + 512;
 }
 
 -- the words that are left

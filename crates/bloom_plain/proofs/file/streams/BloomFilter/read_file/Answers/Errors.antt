@@ -5,12 +5,14 @@ use Rattle.bloom_plain.proofs.ReadLemmas.{told-end, told-reserved, told-words}
 use Rattle.bloom_plain.proofs.file.streams.BloomFilter.read_file.Goals as goal
 
 -- the words weren't read
-pub error-words : goal.returns-in_err-words-clause-refused
+pub error-words : goal.returns-in_err-read_words-clause-refused
 error-words g c =
-    let is : c.from_residual-in_err-words.result ≡ Err c.in_err-words.field-0.0 = search rules in
+    let is : c.from_residual-in_err-read_words.result ≡ Err c.in_err-read_words.field-0.0 =
+    search rules in
     let begun = c.in_ok-start.ensures in
     rw is (told-words _ _ _ begun.size begun.good begun.taken _
-    (ap (λ (h : Head). h.num_words) c.head_in-head.ensures.head) _ c.in_err-words.ensures.stops)
+    (ap (λ (h : Head). h.num_words) c.head_in-head.ensures.head) _
+    c.in_err-read_words.ensures.stops)
 
 -- the reader isn't at its end
 pub error-end : goal.returns-in_err-read_end-clause-refused
@@ -18,7 +20,7 @@ error-end g c =
     let is : c.from_residual-in_err-read_end.result ≡ Err c.in_err-read_end.field-0.0 =
     search rules in
     let begun = c.in_ok-start.ensures in
-    let read = c.in_ok-words.ensures in
+    let read = c.in_ok-read_words.ensures in
     rw is (told-end _ _ _ _ begun.size begun.good begun.taken _ _ _ read.taken
     (read.count ∙ ap (λ (h : Head). h.num_words) c.head_in-head.ensures.head) _
     c.in_err-read_end.ensures.more)
@@ -29,7 +31,7 @@ error-reserved g c =
     let is : c.from_residual-in_err-check_reserved.result ≡ Err c.in_err-check_reserved.field-0.0 =
     search rules in
     let begun = c.in_ok-start.ensures in
-    let read = c.in_ok-words.ensures in
+    let read = c.in_ok-read_words.ensures in
     let ended = c.in_ok-read_end.ensures in
     rw is (told-reserved _ _ _ _ begun.size begun.good begun.taken _ _ _ read.taken
     (read.count ∙ ap (λ (h : Head). h.num_words) c.head_in-head.ensures.head) _ ended.nothing

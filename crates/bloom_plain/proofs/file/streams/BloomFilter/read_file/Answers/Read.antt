@@ -9,7 +9,7 @@ use Rattle.bloom_plain.proofs.file.streams.BloomFilter.read_file.Goals as goal
 pub file-read : goal.returns-clause-file
 file-read g c =
     let begun = c.in_ok-start.ensures in
-    let read = c.in_ok-words.ensures in
+    let read = c.in_ok-read_words.ensures in
     let ended = c.in_ok-read_end.ensures in
     let head = c.head_in-head.ensures in
     let made = c.filter_with.ensures in

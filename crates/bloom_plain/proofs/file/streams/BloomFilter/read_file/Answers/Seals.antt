@@ -11,7 +11,7 @@ error-seal g c =
     let is : c.from_residual-in_err-check_seal.result ≡ Err c.in_err-check_seal.field-0.0 =
     search rules in
     let begun = c.in_ok-start.ensures in
-    let read = c.in_ok-words.ensures in
+    let read = c.in_ok-read_words.ensures in
     let ended = c.in_ok-read_end.ensures in
     rw is (told-seal _ _ _ _ begun.size begun.good begun.taken _ _ _ read.taken
     (read.count ∙ ap (λ (h : Head). h.num_words) c.head_in-head.ensures.head) _ ended.nothing
@@ -24,7 +24,7 @@ error-seal g c =
 pub none-refused : goal.returns-clause-refused
 none-refused g c =
     let begun = c.in_ok-start.ensures in
-    let read = c.in_ok-words.ensures in
+    let read = c.in_ok-read_words.ensures in
     let ended = c.in_ok-read_end.ensures in
     told-seal _ _ _ _ begun.size begun.good begun.taken _ _ _ read.taken
     (read.count ∙ ap (λ (h : Head). h.num_words) c.head_in-head.ensures.head) _ ended.nothing
