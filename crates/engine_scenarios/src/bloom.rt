@@ -60,13 +60,10 @@ fn make_run(
     let mut reader = Source::new(input.as_bytes(), reading, &seen);
     let mut writer = Sink::new(alloc, writing, &seen);
     let ended = serve(alloc, &mut filter, &mut reader, &mut writer);
-    let written = writer.written.as_slice();
-    assert_eq!(rt; written, output.as_bytes(), "on {given:?}, {input:?}");
+    assert!(rt; writer.written.as_slice() == output.as_bytes(), "{input}");
     assert!(rt; seen.ends.get() <= 1, "an end is told once");
-    assert_eq!(rt; seen.early.get(), 0, "no answer waits while a read may wait");
-    if writing.flushes > 1 {
-        assert_eq!(rt; seen.waiting.get(), 0, "no answer waits at the end");
-    }
+    assert!(rt; seen.early.get() == 0, "no answer waits while a read may wait");
+    assert!(rt; seen.waiting.get() == 0 || writing.flushes <= 1, "no answer waits at the end");
     Ok((ended, filter.as_slice().first().copied().unwrap_or(0)))
 }
 
@@ -87,7 +84,7 @@ fn pieces_of_input_change_no_answer(rt: HostRuntime) -> Result<(), Fail> {
                     writing,
                 };
                 let (ended, _word) = make_run(&rt, rt.alloc(), run, output)?;
-                assert_eq!(rt; ended, wanted, "on {given:?}, {input:?} by {piece}");
+                assert!(rt; ended == wanted, "{given}: {input}");
             }
         }
     }
@@ -105,7 +102,7 @@ fn a_read_a_write_or_a_flush_may_fail(rt: HostRuntime) -> Result<(), Fail> {
                 writing,
             };
             let left = make_run(&rt, rt.alloc(), run, output)?;
-            assert_eq!(rt; left, (Err(fault), word), "on {input:?} by {piece}");
+            assert!(rt; left == (Err(fault), word), "{input}");
         }
     }
     Ok(())
@@ -114,8 +111,8 @@ fn a_read_a_write_or_a_flush_may_fail(rt: HostRuntime) -> Result<(), Fail> {
 #[test]
 fn faults_have_a_text_and_a_status(rt: HostRuntime) -> Result<(), Fail> {
     for (fault, text, status) in TEXTS {
-        assert_eq!(rt; fault.to_string(rt.alloc())?.as_str(), text);
-        assert_eq!(rt; fault.status(), status, "of {text}");
+        let told = fault.to_string(rt.alloc())?;
+        assert!(rt; told.as_str() == text && fault.status() == status, "{text}");
     }
     Ok(())
 }

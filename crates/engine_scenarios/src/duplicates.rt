@@ -216,11 +216,10 @@ fn make_run(
         &mut writer,
         &mut Quiet,
     );
-    assert_eq!(rt; writer.written.as_slice(), output.as_bytes());
-    assert_eq!(rt; seen.early.get(), 0, "a flush comes before each read and open");
-    if ended.is_ok() {
-        assert_eq!(rt; seen.ends.get(), run.inputs.len(), "each end is told once");
-    }
+    assert!(rt; writer.written.as_slice() == output.as_bytes(), "{output}");
+    assert!(rt; seen.early.get() == 0, "a flush comes before each read and open");
+    let ends = seen.ends.get();
+    assert!(rt; ended.is_err() || ends == run.inputs.len(), "each end is told once");
     Ok(ended)
 }
 
@@ -228,7 +227,7 @@ fn make_run(
 fn odd_runs_write_and_end_as_they_are_to(rt: HostRuntime) -> Result<(), Fail> {
     for (run, output, wanted) in RUNS {
         let ended = make_run(&rt, rt.alloc(), run, output)?;
-        assert_eq!(rt; ended, wanted, "with {output:?}");
+        assert!(rt; ended == wanted, "{output}");
     }
     Ok(())
 }
@@ -258,8 +257,7 @@ fn a_read_may_fail_behind_any_byte(rt: HostRuntime) -> Result<(), Fail> {
             ..PLAIN
         };
         let ended = make_run(&rt, rt.alloc(), run, output)?;
-        let wanted = Err(Fault::Input(ErrorKind::BrokenPipe));
-        assert_eq!(rt; ended, wanted, "on {inputs:?}");
+        assert!(rt; ended == Err(Fault::Input(ErrorKind::BrokenPipe)), "{output}");
     }
     Ok(())
 }
@@ -277,7 +275,7 @@ const TEXTS: [(Fault, &str); 6] = [
 #[test]
 fn faults_have_texts(rt: HostRuntime) -> Result<(), Fail> {
     for (fault, text) in TEXTS {
-        assert_eq!(rt; fault.to_string(rt.alloc())?.as_str(), text);
+        assert!(rt; fault.to_string(rt.alloc())?.as_str() == text, "{text}");
     }
     Ok(())
 }

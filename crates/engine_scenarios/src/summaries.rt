@@ -195,8 +195,8 @@ fn acts_write_and_stop_as_they_are_to(rt: HostRuntime) -> Result<(), Fail> {
             Ok(()) => String::new(rt.alloc()),
             Err(stop) => stop.to_string(rt.alloc())?,
         };
-        assert_eq!(rt; told.as_str(), text, "on {keys:?}");
-        assert_eq!(rt; sink.written.as_slice(), output, "on {keys:?}");
+        assert!(rt; told.as_str() == text, "{text}");
+        assert!(rt; sink.written.as_slice() == output, "{text}");
     }
     Ok(())
 }
@@ -211,7 +211,7 @@ fn a_read_of_a_file_may_fail_behind_any_byte(rt: HostRuntime) -> Result<(), Fail
         match load(rt.alloc(), "odd", 64, &mut input) {
             Ok(_) => return Err(Fail::from("a filter was loaded")),
             Err(stop) => {
-                assert_eq!(rt; stop.to_string(rt.alloc())?.as_str(), UNREAD, "at byte {end}");
+                assert!(rt; stop.to_string(rt.alloc())?.as_str() == UNREAD, "{end}");
             }
         }
     }
