@@ -168,7 +168,7 @@ const ACTS: [(Act, &[u8], Reading, Writing, &[u8], &str); 21] = [
         WHOLE,
         STUCK,
         b"{\"b",
-        "the filter can't be written: write zero",
+        "the filter can't be written: failed to write whole buffer",
     ),
     (
         Act::PutText,
