@@ -62,8 +62,14 @@ fn make_run(
     let ended = serve(alloc, &mut filter, &mut reader, &mut writer);
     assert!(rt; writer.written.as_slice() == output.as_bytes(), "{input}");
     assert!(rt; seen.ends.get() <= 1, "an end is told once");
-    assert!(rt; seen.early.get() == 0, "no answer waits while a read may wait");
-    assert!(rt; seen.waiting.get() == 0 || writing.flushes <= 1, "no answer waits at the end");
+    assert!(rt;
+        seen.early.get() == 0,
+        "no answer waits while a read may wait"
+    );
+    assert!(rt;
+        seen.waiting.get() == 0 || writing.flushes <= 1,
+        "no answer waits at the end"
+    );
     Ok((ended, filter.as_slice().first().copied().unwrap_or(0)))
 }
 

@@ -98,7 +98,10 @@ const RUNS: [(Run, &str, Result<Tally, Fault>); 17] = [
         Err(Fault::Open(ErrorKind::NotFound)),
     ),
     (
-        Run { inputs: &[], ..PLAIN },
+        Run {
+            inputs: &[],
+            ..PLAIN
+        },
         "",
         Ok(Tally { read: 0, held: 0 }),
     ),
@@ -217,9 +220,15 @@ fn make_run(
         &mut Quiet,
     );
     assert!(rt; writer.written.as_slice() == output.as_bytes(), "{output}");
-    assert!(rt; seen.early.get() == 0, "a flush comes before each read and open");
+    assert!(rt;
+        seen.early.get() == 0,
+        "a flush comes before each read and open"
+    );
     let ends = seen.ends.get();
-    assert!(rt; ended.is_err() || ends == run.inputs.len(), "each end is told once");
+    assert!(rt;
+        ended.is_err() || ends == run.inputs.len(),
+        "each end is told once"
+    );
     Ok(ended)
 }
 
@@ -257,7 +266,10 @@ fn a_read_may_fail_behind_any_byte(rt: HostRuntime) -> Result<(), Fail> {
             ..PLAIN
         };
         let ended = make_run(&rt, rt.alloc(), run, output)?;
-        assert!(rt; ended == Err(Fault::Input(ErrorKind::BrokenPipe)), "{output}");
+        assert!(rt;
+            ended == Err(Fault::Input(ErrorKind::BrokenPipe)),
+            "{output}"
+        );
     }
     Ok(())
 }
@@ -267,9 +279,18 @@ const TEXTS: [(Fault, &str); 6] = [
     (Fault::TooLong(7), "line 7 is too long"),
     (Fault::Memory, "out of memory"),
     (Fault::Full, "the filter can take no more lines"),
-    (Fault::Open(ErrorKind::WriteZero), "it can't be opened: write zero"),
-    (Fault::Input(ErrorKind::WriteZero), "it can't be read: write zero"),
-    (Fault::Output(ErrorKind::WriteZero), "the output can't be written: write zero"),
+    (
+        Fault::Open(ErrorKind::WriteZero),
+        "it can't be opened: write zero",
+    ),
+    (
+        Fault::Input(ErrorKind::WriteZero),
+        "it can't be read: write zero",
+    ),
+    (
+        Fault::Output(ErrorKind::WriteZero),
+        "the output can't be written: write zero",
+    ),
 ];
 
 #[test]

@@ -79,13 +79,13 @@ impl<'a> Source<'a> {
         }
     }
 
-    fn end(&mut self) -> io::Result<usize> {
+    fn end(&mut self) -> io::Result<()> {
         self.seen.ends.set(self.seen.ends.get().saturating_add(1));
         if self.reading.fails {
             return Err(ErrorKind::BrokenPipe.into());
         }
         self.rest = LATER;
-        Ok(0)
+        Ok(())
     }
 }
 
@@ -100,7 +100,8 @@ impl<'a> Read for Source<'a> {
         }
         let count = self.rest.len().min(buf.len()).min(self.reading.piece);
         if count == 0 {
-            return self.end();
+            self.end()?;
+            return Ok(0);
         }
         buf[..count].copy_from_slice(&self.rest[..count]);
         self.rest = &self.rest[count..];

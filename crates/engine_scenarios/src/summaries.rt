@@ -29,7 +29,7 @@ const BOTH: &[u8] = b"fbloom\01\x02\0\0\0\0\0\0\0\
 const TEXT: &[u8] =
     b"{\"bits\":{\"bits\":[268500992]},\"num_hashes_minus_one\":1,\"k0\":0,\"k1\":0}\n";
 
-const UNREAD: &str = "odd: it can't be read: broken pipe";
+const UNREAD: &[u8] = b"odd: it can't be read: broken pipe";
 
 // Inputs, each of which gives its keys as told.
 #[derive(Drop)]
@@ -100,14 +100,10 @@ fn carry_out<R: Threads + AllocGlobal>(
 
 // An act, its input, and how that is read and the output is taken; what is written, and why the act
 // stops early.
-const ACTS: [(Act, &[u8], Reading, Writing, &[u8], &str); 21] = [
-    (Act::Build, b"b\na", SLOW, NARROW, BOTH, ""),
-    (Act::Build, b"", FAILING, ROOMY, b"", UNREAD),
-    (Act::Build, b"a", FAILING, ROOMY, b"", UNREAD),
-    (Act::Build, b"a\n", FAILING, ROOMY, b"", UNREAD),
-    (Act::Build, b"a\nb", FAILING, ROOMY, b"", UNREAD),
+const ACTS: [(Act, &[u8], Reading, Writing, &[u8], &[u8]); 18] = [
+    (Act::Build, b"b\na", SLOW, NARROW, BOTH, b""),
     (Act::Build, b"a\nb\n", FAILING, ROOMY, b"", UNREAD),
-    (Act::Ask, b"b\na\nc\na", SLOW, NARROW, b"a\na\n", ""),
+    (Act::Ask, b"b\na\nc\na", SLOW, NARROW, b"a\na\n", b""),
     (Act::Ask, b"a\na\na", FAILING, ROOMY, b"a\na\n", UNREAD),
     (
         Act::Ask,
@@ -115,7 +111,7 @@ const ACTS: [(Act, &[u8], Reading, Writing, &[u8], &str); 21] = [
         WHOLE,
         FULL,
         b"a\na",
-        "the keys can't be written: no storage space",
+        b"the keys can't be written: no storage space",
     ),
     (
         Act::Ask,
@@ -123,19 +119,20 @@ const ACTS: [(Act, &[u8], Reading, Writing, &[u8], &str); 21] = [
         WHOLE,
         STUCK,
         b"a\na",
-        "the keys can't be written: write zero",
+        b"the keys can't be written: write zero",
     ),
-    (Act::Load, A, SLOW, NARROW, A, ""),
-    (Act::Load, BOTH, WHOLE, ROOMY, BOTH, ""),
-    (Act::Load, TEXT, SLOW, NARROW, A, ""),
-    (Act::Put, b"", WHOLE, NARROW, A, ""),
+    (Act::Load, A, SLOW, NARROW, A, b""),
+    (Act::Load, A, FAILING, ROOMY, b"", UNREAD),
+    (Act::Load, BOTH, WHOLE, ROOMY, BOTH, b""),
+    (Act::Load, TEXT, SLOW, NARROW, A, b""),
+    (Act::Put, b"", WHOLE, NARROW, A, b""),
     (
         Act::Put,
         b"",
         WHOLE,
         FULL,
         b"fbl",
-        "the filter can't be written: no storage space",
+        b"the filter can't be written: no storage space",
     ),
     (
         Act::Put,
@@ -143,7 +140,7 @@ const ACTS: [(Act, &[u8], Reading, Writing, &[u8], &str); 21] = [
         WHOLE,
         STUCK,
         b"fbl",
-        "the filter can't be written: write zero",
+        b"the filter can't be written: write zero",
     ),
     (
         Act::Put,
@@ -151,16 +148,16 @@ const ACTS: [(Act, &[u8], Reading, Writing, &[u8], &str); 21] = [
         WHOLE,
         UNFLUSHED,
         A,
-        "the filter can't be written: broken pipe",
+        b"the filter can't be written: broken pipe",
     ),
-    (Act::PutText, b"", WHOLE, NARROW, TEXT, ""),
+    (Act::PutText, b"", WHOLE, NARROW, TEXT, b""),
     (
         Act::PutText,
         b"",
         WHOLE,
         FULL,
         b"{\"b",
-        "the filter can't be written: no storage space",
+        b"the filter can't be written: no storage space",
     ),
     (
         Act::PutText,
@@ -168,7 +165,7 @@ const ACTS: [(Act, &[u8], Reading, Writing, &[u8], &str); 21] = [
         WHOLE,
         STUCK,
         b"{\"b",
-        "the filter can't be written: failed to write whole buffer",
+        b"the filter can't be written: failed to write whole buffer",
     ),
     (
         Act::PutText,
@@ -176,43 +173,34 @@ const ACTS: [(Act, &[u8], Reading, Writing, &[u8], &str); 21] = [
         WHOLE,
         UNFLUSHED,
         TEXT,
-        "the filter can't be written: broken pipe",
+        b"the filter can't be written: broken pipe",
     ),
 ];
 
+// A read that fails may do so behind any byte; that of keys that are asked for, behind all.
 #[test]
 fn acts_write_and_stop_as_they_are_to(rt: HostRuntime) -> Result<(), Fail> {
     let (filter, _form) = load(rt.alloc(), "a", 64, &mut &A[..])?;
-    for (act, keys, reading, writing, output, text) in ACTS {
-        let seen = Seen::new();
-        let odd = Odd {
-            keys,
-            reading,
-            seen: &seen,
+    for (act, input, reading, writing, output, text) in ACTS {
+        let first = if text == UNREAD && output.is_empty() {
+            0
+        } else {
+            input.len()
         };
-        let mut sink = Sink::new(rt.alloc(), writing, &seen);
-        let told = match carry_out(&rt, act, &odd, &filter, &mut sink) {
-            Ok(()) => String::new(rt.alloc()),
-            Err(stop) => stop.to_string(rt.alloc())?,
-        };
-        assert!(rt; told.as_str() == text, "{text}");
-        assert!(rt; sink.written.as_slice() == output, "{text}");
-    }
-    Ok(())
-}
-
-// The end of a whole file is looked for too.
-#[test]
-fn a_read_of_a_file_may_fail_behind_any_byte(rt: HostRuntime) -> Result<(), Fail> {
-    for end in 0..=72 {
-        let seen = Seen::new();
-        let bytes = A.get(..end).unwrap_or(&[]);
-        let mut input = Source::new(bytes, FAILING, &seen);
-        match load(rt.alloc(), "odd", 64, &mut input) {
-            Ok(_) => return Err(Fail::from("a filter was loaded")),
-            Err(stop) => {
-                assert!(rt; stop.to_string(rt.alloc())?.as_str() == UNREAD, "{end}");
-            }
+        for end in first..input.len().saturating_add(1) {
+            let seen = Seen::new();
+            let odd = Odd {
+                keys: input.get(..end).unwrap_or(&[]),
+                reading,
+                seen: &seen,
+            };
+            let mut sink = Sink::new(rt.alloc(), writing, &seen);
+            let told = match carry_out(&rt, act, &odd, &filter, &mut sink) {
+                Ok(()) => String::new(rt.alloc()),
+                Err(stop) => stop.to_string(rt.alloc())?,
+            };
+            assert!(rt; sink.written.as_slice() == output, "{told}");
+            assert!(rt; told.as_bytes() == text, "{told}");
         }
     }
     Ok(())

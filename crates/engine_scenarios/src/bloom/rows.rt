@@ -16,15 +16,35 @@ const BAD: Ended = Err(Fault::Line(1));
 /// Arguments with a space between two, and input; what is written, and how the run ends. The end of
 /// the input ends a line without its own.
 pub(super) const RUNS: [(&str, &str, &str, Ended); 32] = [
-    ("1 3", "i 1\nc 1\nw\n", "false\ntrue\n0000000100100001\n", WELL),
-    ("1 2", "i 18446744073709551615\nw\n", "false\n8000080000000000\n", WELL),
+    (
+        "1 3",
+        "i 1\nc 1\nw\n",
+        "false\ntrue\n0000000100100001\n",
+        WELL,
+    ),
+    (
+        "1 2",
+        "i 18446744073709551615\nw\n",
+        "false\n8000080000000000\n",
+        WELL,
+    ),
     ("1 3", "i 1\nx\n", "false\n", Err(Fault::Line(2))),
     ("0 3", "", "", USAGE),
     ("1", "", "", USAGE),
     ("1048577 1", "", "", USAGE),
-    ("2 3", "i 1\nw\n", "false\n0000010000000001\n0000000000000001\n", WELL),
+    (
+        "2 3",
+        "i 1\nw\n",
+        "false\n0000010000000001\n0000000000000001\n",
+        WELL,
+    ),
     ("1 1", "", "", WELL),
-    ("1 3", "i 1\nz\nc 1\nw\n", "false\nfalse\n0000000000000000\n", WELL),
+    (
+        "1 3",
+        "i 1\nz\nc 1\nw\n",
+        "false\nfalse\n0000000000000000\n",
+        WELL,
+    ),
     ("1 2", "i 18446744073709551616\n", "", BAD),
     ("1 2", "c 00000000000000000001\n", "false\n", WELL),
     ("1 2", "c 000000000000000000001\n", "", BAD),
@@ -36,7 +56,12 @@ pub(super) const RUNS: [(&str, &str, &str, Ended); 32] = [
     ("1 1 1", "", "", USAGE),
     ("1 4294967296", "", "", USAGE),
     ("x 3", "", "", USAGE),
-    ("00000000000000000001 3", "i 1\nw\n", "false\n0000000100100001\n", WELL),
+    (
+        "00000000000000000001 3",
+        "i 1\nw\n",
+        "false\n0000000100100001\n",
+        WELL,
+    ),
     ("000000000000000000001 3", "", "", USAGE),
     ("+1 3", "", "", USAGE),
     ("1 0", "i 1\nw\n", "false\n0000000000000001\n", WELL),
@@ -100,7 +125,11 @@ pub(super) const FAULTS: [(&str, Reading, Writing, &str, Fault, u64); 16] = [
 pub(super) const TEXTS: [(Fault, &str, u8); 6] = [
     (Fault::Usage, "usage: bloom WORDS HASHES", 2),
     (Fault::Line(1), "line 1: bad command", 2),
-    (Fault::Line(u64::MAX), "line 18446744073709551615: bad command", 2),
+    (
+        Fault::Line(u64::MAX),
+        "line 18446744073709551615: bad command",
+        2,
+    ),
     (Fault::Memory, "no memory", 3),
     (INPUT, "input failed", 4),
     (OUTPUT, "output failed", 4),
