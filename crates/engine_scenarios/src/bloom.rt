@@ -34,43 +34,39 @@ struct Run {
     writing: Writing,
 }
 
-// Makes a run, of which this must be written: how it ends, and the filter's first word.
-fn make_run(
+// Makes a run: whether this is written, it ends so, and leaves this as the filter's first word, if
+// that is told. An end is told once, and no answer waits while a read may wait, or at the end.
+fn is_right(
     rt: &impl Abort,
     alloc: Global,
     run: Run,
     output: &str,
-) -> Result<(Result<(), Fault>, u64), Fail> {
-    let Run {
-        given,
-        input,
-        reading,
-        writing,
-    } = run;
+    wanted: Result<(), Fault>,
+    word: Option<u64>,
+) -> Result<bool, AllocError> {
     let mut words = Vec::new(alloc);
-    for word in given.split_whitespace() {
-        words.push(word.to_string(alloc)?)?;
+    for argument in run.given.split_whitespace() {
+        words.push(argument.to_string(alloc)?)?;
     }
     let (count, hashes) = match arguments(words.as_slice()) {
         Ok(shape) => shape,
-        Err(fault) => return Ok((Err(fault), 0)),
+        Err(fault) => return Ok((wanted == Err(fault)) & output.is_empty()),
     };
     let seen = Seen::new();
     let mut filter = filter_of(rt, alloc, count, hashes)?;
-    let mut reader = Source::new(input.as_bytes(), reading, &seen);
-    let mut writer = Sink::new(alloc, writing, &seen);
+    let mut reader = Source::new(run.input.as_bytes(), run.reading, &seen);
+    let mut writer = Sink::new(alloc, run.writing, &seen);
     let ended = serve(alloc, &mut filter, &mut reader, &mut writer);
-    assert!(rt; writer.written.as_slice() == output.as_bytes(), "{input}");
-    assert!(rt; seen.ends.get() <= 1, "an end is told once");
-    assert!(rt;
-        seen.early.get() == 0,
-        "no answer waits while a read may wait"
-    );
-    assert!(rt;
-        seen.waiting.get() == 0 || writing.flushes <= 1,
-        "no answer waits at the end"
-    );
-    Ok((ended, filter.as_slice().first().copied().unwrap_or(0)))
+    let left = filter.as_slice().first().copied().unwrap_or(0);
+    let is_done = (ended == wanted) & (word.unwrap_or(left) == left);
+    let is_flushed = (seen.waiting.get() == 0) | (run.writing.flushes <= 1);
+    Ok(
+        is_done
+            & is_flushed
+            & (writer.written.as_slice() == output.as_bytes())
+            & (seen.ends.get() <= 1)
+            & (seen.early.get() == 0),
+    )
 }
 
 #[test]
@@ -89,8 +85,10 @@ fn pieces_of_input_change_no_answer(rt: HostRuntime) -> Result<(), Fail> {
                     reading,
                     writing,
                 };
-                let (ended, _word) = make_run(&rt, rt.alloc(), run, output)?;
-                assert!(rt; ended == wanted, "{given}: {input}");
+                assert!(rt;
+                    is_right(&rt, rt.alloc(), run, output, wanted, None)?,
+                    "{input}"
+                );
             }
         }
     }
@@ -107,8 +105,11 @@ fn a_read_a_write_or_a_flush_may_fail(rt: HostRuntime) -> Result<(), Fail> {
                 reading: Reading { piece, ..reading },
                 writing,
             };
-            let left = make_run(&rt, rt.alloc(), run, output)?;
-            assert!(rt; left == (Err(fault), word), "{input}");
+            let wanted = Err(fault);
+            assert!(rt;
+                is_right(&rt, rt.alloc(), run, output, wanted, Some(word))?,
+                "{input}"
+            );
         }
     }
     Ok(())

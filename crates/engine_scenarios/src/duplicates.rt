@@ -9,16 +9,16 @@ use odd::{Limited, Quiet, Sources};
 use rows::{PLAIN, READS, RUNS, Run, TEXTS};
 use std::alloc::Global;
 use std::io::ErrorKind;
-use std::process::Abort;
 use std::test::Fail;
 
-// Makes a run over a plain filter, of which this must be written: how it ends.
-fn make_run(
-    rt: &impl Abort,
+// Makes a run over a plain filter: whether this is written, and it ends so. A flush comes before
+// each read and open, and each end is told once.
+fn is_right(
     alloc: Global,
     run: Run,
     output: &str,
-) -> Result<Result<Tally, Fault>, Fail> {
+    wanted: Result<Tally, Fault>,
+) -> Result<bool, Fail> {
     let seen = Seen::new();
     let mut sieve = Limited {
         sieve: BloomFilter::with_false_pos(Rate::new(1, 1000)?).expected_items(alloc, 1000)?,
@@ -46,24 +46,19 @@ fn make_run(
         &mut writer,
         &mut Quiet,
     );
-    assert!(rt; writer.written.as_slice() == output.as_bytes(), "{output}");
-    assert!(rt;
-        seen.early.get() == 0,
-        "a flush comes before each read and open"
-    );
-    let ends = seen.ends.get();
-    assert!(rt;
-        ended.is_err() || ends == run.inputs.len(),
-        "each end is told once"
-    );
-    Ok(ended)
+    let is_read = ended.is_err() | (seen.ends.get() == run.inputs.len());
+    Ok(
+        is_read
+            & (ended == wanted)
+            & (writer.written.as_slice() == output.as_bytes())
+            & (seen.early.get() == 0),
+    )
 }
 
 #[test]
 fn odd_runs_write_and_end_as_they_are_to(rt: HostRuntime) -> Result<(), Fail> {
     for (run, output, wanted) in RUNS {
-        let ended = make_run(&rt, rt.alloc(), run, output)?;
-        assert!(rt; ended == wanted, "{output}");
+        assert!(rt; is_right(rt.alloc(), run, output, wanted)?, "{output}");
     }
     Ok(())
 }
@@ -76,11 +71,8 @@ fn a_read_may_fail_behind_any_byte(rt: HostRuntime) -> Result<(), Fail> {
             reading: FAILING,
             ..PLAIN
         };
-        let ended = make_run(&rt, rt.alloc(), run, output)?;
-        assert!(rt;
-            ended == Err(Fault::Input(ErrorKind::BrokenPipe)),
-            "{output}"
-        );
+        let wanted = Err(Fault::Input(ErrorKind::BrokenPipe));
+        assert!(rt; is_right(rt.alloc(), run, output, wanted)?, "{output}");
     }
     Ok(())
 }
