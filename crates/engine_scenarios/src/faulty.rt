@@ -5,7 +5,7 @@ use std::io;
 use std::io::{ErrorKind, Read, Write};
 
 /// How a reader gives its bytes.
-#[derive(Clone, Copy, Debug)]
+#[derive(Clone, Copy)]
 pub(crate) struct Reading {
     /// The most bytes of a read.
     pub(crate) piece: usize,
@@ -15,52 +15,84 @@ pub(crate) struct Reading {
     pub(crate) fails: bool,
 }
 
-/// Gives its bytes as its settings say, and others after each end that it tells.
+/// A reader that gives all at once.
+pub(crate) const WHOLE: Reading = Reading {
+    piece: 65536,
+    interrupts: false,
+    fails: false,
+};
+
+/// A reader that gives a byte a read, with an interrupted read before each.
+pub(crate) const SLOW: Reading = Reading {
+    piece: 1,
+    interrupts: true,
+    fails: false,
+};
+
+/// The same, but it fails where it would tell its end.
+pub(crate) const FAILING: Reading = Reading {
+    piece: 1,
+    interrupts: true,
+    fails: true,
+};
+
+/// What is seen of the readers and the writer of a run.
+#[derive(Drop)]
+pub(crate) struct Seen {
+    /// How many bytes were written and not flushed.
+    pub(crate) waiting: Cell<usize>,
+    /// How many ends were told, or failures in place of one.
+    pub(crate) ends: Cell<usize>,
+    /// How many reads and opens came while what was written waited for a flush.
+    pub(crate) early: Cell<usize>,
+}
+
+impl Seen {
+    pub(crate) fn new() -> Self {
+        Seen {
+            waiting: Cell::new(0),
+            ends: Cell::new(0),
+            early: Cell::new(0),
+        }
+    }
+}
+
+// What a reader gives that is asked again after its end.
+const LATER: &[u8] = b" 1\nx\n";
+
+/// Gives its bytes as its settings say, and others after the end that it tells.
 #[derive(Drop)]
 pub(crate) struct Source<'a> {
-    pub(crate) rest: &'a [u8],
-    later: &'a [u8],
+    rest: &'a [u8],
     reading: Reading,
     is_interrupted: bool,
-    waiting: &'a Cell<usize>,
-    /// How many ends it told, or failed in place of.
-    pub(crate) ends: usize,
-    /// How many reads came while what was written waited for a flush.
-    pub(crate) early: usize,
+    seen: &'a Seen,
 }
 
 impl<'a> Source<'a> {
-    pub(crate) fn new(
-        rest: &'a [u8],
-        later: &'a [u8],
-        reading: Reading,
-        waiting: &'a Cell<usize>,
-    ) -> Self {
+    pub(crate) fn new(rest: &'a [u8], reading: Reading, seen: &'a Seen) -> Self {
         Source {
             rest,
-            later,
             reading,
             is_interrupted: false,
-            waiting,
-            ends: 0,
-            early: 0,
+            seen,
         }
     }
 
     fn end(&mut self) -> io::Result<()> {
-        self.ends = self.ends.saturating_add(1);
+        self.seen.ends.set(self.seen.ends.get().saturating_add(1));
         if self.reading.fails {
             return Err(ErrorKind::BrokenPipe.into());
         }
-        self.rest = self.later;
+        self.rest = LATER;
         Ok(())
     }
 }
 
 impl<'a> Read for Source<'a> {
     fn read(&mut self, buf: &mut [u8]) -> io::Result<usize> {
-        if self.waiting.get() > 0 {
-            self.early = self.early.saturating_add(1);
+        if self.seen.waiting.get() > 0 {
+            self.seen.early.set(self.seen.early.get().saturating_add(1));
         }
         self.is_interrupted = self.reading.interrupts && !self.is_interrupted;
         if self.is_interrupted {
@@ -78,7 +110,7 @@ impl<'a> Read for Source<'a> {
 }
 
 /// How a writer takes its bytes.
-#[derive(Clone, Copy, Debug)]
+#[derive(Clone, Copy)]
 pub(crate) struct Writing {
     /// The most bytes of a write.
     pub(crate) piece: usize,
@@ -88,25 +120,80 @@ pub(crate) struct Writing {
     pub(crate) interrupts: bool,
     /// Whether it takes nothing where no room is left, in place of an error.
     pub(crate) takes_none: bool,
-    pub(crate) flush_fails: bool,
+    /// The most flushes that don't fail.
+    pub(crate) flushes: usize,
 }
 
-/// Takes bytes as its settings say, and counts in a cell how many wait for a flush.
+/// A writer that takes all.
+pub(crate) const ROOMY: Writing = Writing {
+    piece: 65536,
+    room: 1 << 40,
+    interrupts: false,
+    takes_none: false,
+    flushes: 1 << 40,
+};
+
+/// A writer that takes a byte a write, with an interrupted write before each.
+pub(crate) const NARROW: Writing = Writing {
+    piece: 1,
+    room: 1 << 40,
+    interrupts: true,
+    takes_none: false,
+    flushes: 1 << 40,
+};
+
+/// The same, but it fails behind three bytes.
+pub(crate) const FULL: Writing = Writing {
+    piece: 1,
+    room: 3,
+    interrupts: true,
+    takes_none: false,
+    flushes: 1 << 40,
+};
+
+/// The same, but it takes nothing behind three bytes.
+pub(crate) const STUCK: Writing = Writing {
+    piece: 1,
+    room: 3,
+    interrupts: true,
+    takes_none: true,
+    flushes: 1 << 40,
+};
+
+/// A writer whose first flush fails.
+pub(crate) const UNFLUSHED: Writing = Writing {
+    piece: 65536,
+    room: 1 << 40,
+    interrupts: false,
+    takes_none: false,
+    flushes: 0,
+};
+
+/// A writer whose second flush fails.
+pub(crate) const FLUSHED_ONCE: Writing = Writing {
+    piece: 65536,
+    room: 1 << 40,
+    interrupts: false,
+    takes_none: false,
+    flushes: 1,
+};
+
+/// Takes bytes as its settings say.
 #[derive(Drop)]
 pub(crate) struct Sink<'a> {
     pub(crate) written: Vec<u8>,
     writing: Writing,
     is_interrupted: bool,
-    waiting: &'a Cell<usize>,
+    seen: &'a Seen,
 }
 
 impl<'a> Sink<'a> {
-    pub(crate) fn new(alloc: Global, writing: Writing, waiting: &'a Cell<usize>) -> Self {
+    pub(crate) fn new(alloc: Global, writing: Writing, seen: &'a Seen) -> Self {
         Sink {
             written: Vec::new(alloc),
             writing,
             is_interrupted: false,
-            waiting,
+            seen,
         }
     }
 }
@@ -123,40 +210,18 @@ impl<'a> Write for Sink<'a> {
         }
         let count = buf.len().min(self.writing.piece).min(room);
         self.written.extend_from_slice(&buf[..count])?;
-        self.waiting.set(self.waiting.get().saturating_add(count));
+        self.seen
+            .waiting
+            .set(self.seen.waiting.get().saturating_add(count));
         Ok(count)
     }
 
     fn flush(&mut self) -> io::Result<()> {
-        if self.writing.flush_fails {
+        if self.writing.flushes == 0 {
             return Err(ErrorKind::BrokenPipe.into());
         }
-        self.waiting.set(0);
+        self.writing.flushes -= 1;
+        self.seen.waiting.set(0);
         Ok(())
     }
 }
-
-/// A reader that gives all at once.
-pub(crate) const WHOLE: Reading = Reading {
-    piece: 65536,
-    interrupts: false,
-    fails: false,
-};
-
-/// A writer that takes all.
-pub(crate) const ROOMY: Writing = Writing {
-    piece: 65536,
-    room: 1 << 40,
-    interrupts: false,
-    takes_none: false,
-    flush_fails: false,
-};
-
-/// A writer that takes a byte a write, with an interrupted write before each.
-pub(crate) const NARROW: Writing = Writing {
-    piece: 1,
-    room: 0,
-    interrupts: true,
-    takes_none: false,
-    flush_fails: false,
-};

@@ -1,4 +1,4 @@
-//! Tests of the engines of the programs: what no contract says, over readers, writers and stores
+//! Tests of the engines of the programs: what no contract says, over readers, writers and sieves
 //! that fail or behave oddly.
 #![tactic(auto)]
 
@@ -9,12 +9,6 @@ mod duplicates;
 #[cfg(test)]
 mod faulty;
 #[cfg(test)]
-mod forms;
-#[cfg(test)]
-mod guards;
-#[cfg(test)]
 mod room;
-#[cfg(test)]
-mod shelf;
 #[cfg(test)]
 mod summaries;

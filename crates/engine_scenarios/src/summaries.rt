@@ -1,36 +1,42 @@
 //! Filters of keys over odd readers and writers.
-ghost use Rattle.std.specs.Prelude.{IfOk};
 ghost use Rattle.summaries_engine.specs.Answers.{IsKeyed};
 
-use crate::faulty::{NARROW, ROOMY, Reading, Sink, Source, WHOLE, Writing};
+use crate::faulty::{
+    FAILING, FULL, NARROW, ROOMY, Reading, SLOW, STUCK, Seen, Sink, Source, UNFLUSHED, WHOLE,
+    Writing,
+};
 use fastbloom::{BloomFilter, Shape};
-use std::alloc::Global;
-use std::cell::Cell;
 use std::test::Fail;
 use std::thread::Threads;
-use summaries_engine::{Inputs, Stop, Told, ask, build, load, put};
+use summaries_engine::{Inputs, Stop, Told, ask, build, load, put, put_file};
 
-// Filters of 64 bits and two hashes, of the key "a", and of "a" and "b". These words were worked
-// out by another program, from the papers on SipHash and on the multiply and shift.
-const A: &str = r#"{"bits":{"bits":[268500992]},"num_hashes_minus_one":1,"k0":0,"k1":0}"#;
+// The files of filters of 64 bits and two hashes, of the key "a", and of "a" and "b". Their words
+// were worked out by another program, from the papers on SipHash and on the multiply and shift.
+// Their seals are what Python 3.11, whose hash of bytes is SipHash-1-3, answers under the key of
+// zeros.
+const A: &[u8] = b"fbloom\01\x02\0\0\0\0\0\0\0\
+    \x01\0\0\0\0\0\0\0\0\0\0\0\0\0\0\0\
+    \0\0\0\0\0\0\0\0>f\xd2\xf60\x19\xfb\xc8\
+    \0\0\0\0\0\0\0\0\0\0\0\0\0\0\0\0\
+    \0\0\x01\x10\0\0\0\0";
 
-// With the end of its line.
-const BOTH: &str =
-    "{\"bits\":{\"bits\":[281492425080832]},\"num_hashes_minus_one\":1,\"k0\":0,\"k1\":0}\n";
+const BOTH: &[u8] = b"fbloom\01\x02\0\0\0\0\0\0\0\
+    \x01\0\0\0\0\0\0\0\0\0\0\0\0\0\0\0\
+    \0\0\0\0\0\0\0\0~o\\\x05\x08\0{\x11\
+    \0\0\0\0\0\0\0\0\0\0\0\0\0\0\0\0\
+    \0\0\x01\x10\x04\0\x01\0";
 
-// Gives at most three bytes a read, and fails at its end.
-const FAILING: Reading = Reading {
-    piece: 3,
-    interrupts: false,
-    fails: true,
-};
+const TEXT: &[u8] =
+    b"{\"bits\":{\"bits\":[268500992]},\"num_hashes_minus_one\":1,\"k0\":0,\"k1\":0}\n";
 
-// Inputs whose names are their keys. Each gives them as told.
+const UNREAD: &[u8] = b"odd: it can't be read: broken pipe";
+
+// Inputs, each of which gives its keys as told.
 #[derive(Drop)]
 struct Odd<'a> {
     keys: &'a [u8],
     reading: Reading,
-    waiting: &'a Cell<usize>,
+    seen: &'a Seen,
 }
 
 impl<'a> Inputs for Odd<'a> {
@@ -40,134 +46,162 @@ impl<'a> Inputs for Odd<'a> {
 
     ghost fails = { λ odd name stop. Unit {0} };
 
+    // The input `first` has the key "a", and is odd in nothing.
     fn open(&self, name: &str) -> Result<Source<'a>, Stop> {
-        if name == "whole" {
-            return Ok(Source::new(b"a\nb\n", b"", WHOLE, self.waiting));
+        if name == "first" {
+            return Ok(Source::new(b"a\n", WHOLE, self.seen));
         }
-        Ok(Source::new(self.keys, b"", self.reading, self.waiting))
+        Ok(Source::new(self.keys, self.reading, self.seen))
     }
 }
 
-// The filter of a text.
-fn filter_in(alloc: Global, text: &str) -> Result<BloomFilter, Stop>
-    ensures { IfOk result IsKeyed }
+// What is done over an input, and written.
+#[derive(Clone, Copy)]
+enum Act {
+    // The file of the filter of its keys, and of those of another input.
+    Build,
+    // Those of its keys that are "a".
+    Ask,
+    // The file that it is.
+    Load,
+    // The file of the filter of "a", and its text.
+    Put,
+    PutText,
+}
+
+// Carries an act out: why it stops early.
+fn carry_out<R: Threads + AllocGlobal>(
+    rt: &R,
+    act: Act,
+    odd: &Odd,
+    filter: &BloomFilter,
+    output: &mut Sink,
+) -> Result<(), Stop>
+    requires { IsKeyed filter.now }
 {
-    let (filter, _form) = load(alloc, "a", 64, &mut text.as_bytes())?;
-    Ok(filter)
-}
-
-// The text of an error, or none.
-fn told<T: Drop>(alloc: Global, ended: Result<T, Stop>) -> Result<String, Fail> {
-    match ended {
-        Ok(_) => Ok(String::new(alloc)),
-        Err(Stop::Input(error)) => Ok(error.to_string(alloc)?),
-        Err(Stop::Bad(error)) => Ok(error.to_string(alloc)?),
-        Err(Stop::Output(error)) => Ok(error.to_string(alloc)?),
-        Err(stop) => Ok(stop.to_string(alloc)?),
+    let alloc = rt.alloc();
+    match act {
+        Act::Build => {
+            let Ok(shape) = Shape::new(64, 2) else {
+                return Err(Stop::Memory);
+            };
+            let built = build::<10, _, _>(rt, alloc, shape, 2, odd, &["first", "odd"])?;
+            put_file(&built, output).map_err(Stop::Output)
+        }
+        Act::Ask => ask::<10, _, _>(alloc, filter, Told::Found, odd, &["odd"], output),
+        Act::Load => {
+            let (loaded, _form) = load(alloc, "odd", 64, &mut odd.open("odd")?)?;
+            put_file(&loaded, output).map_err(Stop::Output)
+        }
+        Act::Put => put_file(filter, output).map_err(Stop::Output),
+        Act::PutText => put(alloc, filter, output),
     }
 }
 
-// Builds a filter of the keys of two inputs: why there is none, if so.
-fn built<R: Threads>(rt: &R, alloc: Global, keys: &[u8], reading: Reading) -> Result<String, Fail> {
-    let waiting = Cell::new(0);
-    let odd = Odd {
-        keys,
-        reading,
-        waiting: &waiting,
-    };
-    let shape = Shape::new(64, 2)?;
-    told(
-        alloc,
-        build::<10, _, _>(rt, alloc, shape, 2, &odd, &["whole", "odd"]),
-    )
-}
+// An act, its input, and how that is read and the output is taken; what is written, and why the act
+// stops early.
+const ACTS: [(Act, &[u8], Reading, Writing, &[u8], &[u8]); 18] = [
+    (Act::Build, b"b\na", SLOW, NARROW, BOTH, b""),
+    (Act::Build, b"a\nb\n", FAILING, ROOMY, b"", UNREAD),
+    (Act::Ask, b"b\na\nc\na", SLOW, NARROW, b"a\na\n", b""),
+    (Act::Ask, b"a\na\na", FAILING, ROOMY, b"a\na\n", UNREAD),
+    (
+        Act::Ask,
+        b"a\na\n",
+        WHOLE,
+        FULL,
+        b"a\na",
+        b"the keys can't be written: no storage space",
+    ),
+    (
+        Act::Ask,
+        b"a\na\n",
+        WHOLE,
+        STUCK,
+        b"a\na",
+        b"the keys can't be written: write zero",
+    ),
+    (Act::Load, A, SLOW, NARROW, A, b""),
+    (Act::Load, A, FAILING, ROOMY, b"", UNREAD),
+    (Act::Load, BOTH, WHOLE, ROOMY, BOTH, b""),
+    (Act::Load, TEXT, SLOW, NARROW, A, b""),
+    (Act::Put, b"", WHOLE, NARROW, A, b""),
+    (
+        Act::Put,
+        b"",
+        WHOLE,
+        FULL,
+        b"fbl",
+        b"the filter can't be written: no storage space",
+    ),
+    (
+        Act::Put,
+        b"",
+        WHOLE,
+        STUCK,
+        b"fbl",
+        b"the filter can't be written: write zero",
+    ),
+    (
+        Act::Put,
+        b"",
+        WHOLE,
+        UNFLUSHED,
+        A,
+        b"the filter can't be written: broken pipe",
+    ),
+    (Act::PutText, b"", WHOLE, NARROW, TEXT, b""),
+    (
+        Act::PutText,
+        b"",
+        WHOLE,
+        FULL,
+        b"{\"b",
+        b"the filter can't be written: no storage space",
+    ),
+    (
+        Act::PutText,
+        b"",
+        WHOLE,
+        STUCK,
+        b"{\"b",
+        b"the filter can't be written: failed to write whole buffer",
+    ),
+    (
+        Act::PutText,
+        b"",
+        WHOLE,
+        UNFLUSHED,
+        TEXT,
+        b"the filter can't be written: broken pipe",
+    ),
+];
 
-// Asks the filter of a text: why not all keys were answered, if so, and what was written.
-fn asked(
-    alloc: Global,
-    text: &str,
-    keys: &[u8],
-    reading: Reading,
-    writing: Writing,
-) -> Result<(String, Vec<u8>), Fail> {
-    let waiting = Cell::new(0);
-    let filter = filter_in(alloc, text)?;
-    let odd = Odd {
-        keys,
-        reading,
-        waiting: &waiting,
-    };
-    let mut output = Sink::new(alloc, writing, &waiting);
-    let asked = ask::<10, _, _>(alloc, &filter, Told::Found, &odd, &["odd"], &mut output);
-    let Sink { written, .. } = output;
-    Ok((told(alloc, asked)?, written))
-}
-
+// A read that fails may do so behind any byte; that of keys that are asked for, behind all.
 #[test]
-fn a_read_that_fails_ends_the_keys(rt: HostRuntime) -> Result<(), Fail> {
-    for end in 0..5 {
-        let keys = b"a\nb\n".get(..end).unwrap_or(&[]);
-        let told = built(&rt, rt.alloc(), keys, FAILING)?;
-        assert_eq!(rt; told.as_str(), "odd: it can't be read");
-    }
-    let (told, written) = asked(rt.alloc(), A, b"a\na\na", FAILING, ROOMY)?;
-    assert_eq!(rt; told.as_str(), "odd: it can't be read");
-    assert_eq!(rt; written.as_slice(), b"a\na\n".as_slice());
-    Ok(())
-}
-
-// A key of 65536 bytes is the longest.
-#[test]
-fn a_key_may_be_too_long(rt: HostRuntime) -> Result<(), Fail> {
-    for (count, text) in [(65536, ""), (65537, "odd: key 2 has more than 65536 bytes")] {
-        let mut keys = vec![in rt.alloc(); b'b'; count]?;
-        keys.insert(0, b'\n')?;
-        keys.insert(0, b'a')?;
-        let told = built(&rt, rt.alloc(), keys.as_slice(), WHOLE)?;
-        assert_eq!(rt; told.as_str(), text);
-        let (told, written) = asked(rt.alloc(), A, keys.as_slice(), WHOLE, ROOMY)?;
-        assert_eq!(rt; told.as_str(), text);
-        assert_eq!(rt; written.get(..2), Some(b"a\n".as_slice()));
-    }
-    Ok(())
-}
-
-// With room for all 75 bytes the filter is written.
-#[test]
-fn a_write_may_fail_at_any_byte_of_a_filter(rt: HostRuntime) -> Result<(), Fail> {
-    let waiting = Cell::new(0);
-    let filter = filter_in(rt.alloc(), BOTH)?;
-    for room in 0..76 {
-        let writing = Writing { room, ..NARROW };
-        let mut output = Sink::new(rt.alloc(), writing, &waiting);
-        let told = told(rt.alloc(), put(rt.alloc(), &filter, &mut output))?;
-        let wanted = if room < 75 {
-            "the filter can't be written"
+fn acts_write_and_stop_as_they_are_to(rt: HostRuntime) -> Result<(), Fail> {
+    let (filter, _form) = load(rt.alloc(), "a", 64, &mut &A[..])?;
+    for (act, input, reading, writing, output, text) in ACTS {
+        let first = if text == UNREAD && output.is_empty() {
+            0
         } else {
-            ""
+            input.len()
         };
-        assert_eq!(rt; told.as_str(), wanted, "with room for {room} bytes");
-        assert_eq!(rt;
-            Some(output.written.as_slice()),
-            BOTH.as_bytes().get(..room)
-        );
-    }
-    Ok(())
-}
-
-// With room for all 4 bytes the keys are answered.
-#[test]
-fn a_write_may_fail_at_any_byte_of_the_answers(rt: HostRuntime) -> Result<(), Fail> {
-    for room in 0..5 {
-        let writing = Writing { room, ..NARROW };
-        let (told, written) = asked(rt.alloc(), BOTH, b"a\nc\nb\n", WHOLE, writing)?;
-        let wanted = if room < 4 {
-            "the keys can't be written"
-        } else {
-            ""
-        };
-        assert_eq!(rt; told.as_str(), wanted, "with room for {room} bytes");
-        assert_eq!(rt; Some(written.as_slice()), b"a\nb\n".get(..room));
+        for end in first..input.len().saturating_add(1) {
+            let seen = Seen::new();
+            let odd = Odd {
+                keys: input.get(..end).unwrap_or(&[]),
+                reading,
+                seen: &seen,
+            };
+            let mut sink = Sink::new(rt.alloc(), writing, &seen);
+            let told = match carry_out(&rt, act, &odd, &filter, &mut sink) {
+                Ok(()) => String::new(rt.alloc()),
+                Err(stop) => stop.to_string(rt.alloc())?,
+            };
+            let is_right = (sink.written.as_slice() == output) & (told.as_bytes() == text);
+            assert!(rt; is_right, "{told}");
+        }
     }
     Ok(())
 }
