@@ -46,15 +46,17 @@ pub(crate) fn has_hash(pair: &Pair, item: &Item, hash: u64) -> bool {
 }
 
 /// Inserts the numbers from the first up to the last.
-pub(crate) fn extend(pair: &mut Pair, first: u64, last: u64) {
+pub(crate) fn extend(pair: &mut Pair, first: u64, last: u64) -> bool {
     pair.plain.extend(first..last);
     pair.shared.extend(first..last);
+    true
 }
 
 /// Clears both filters.
-pub(crate) fn clear(pair: &mut Pair) {
+pub(crate) fn clear(pair: &mut Pair) -> bool {
     pair.plain.clear();
     pair.shared.clear();
+    true
 }
 
 /// Unites the shared filter with itself, and intersects it with itself.
