@@ -10,10 +10,10 @@ mod sets;
 pub(crate) use builders::REFUSALS;
 
 /// Every scene.
-pub(crate) const ALL: [&'static [Scene]; 5] = [
-    &by_hash::SCENES,
-    &sets::SCENES,
-    &builders::SCENES,
-    &items::SCENES,
-    &sessions::SCENES,
+pub(crate) const ALL: &'static [&'static [Scene]] = &[
+    by_hash::SCENES,
+    sets::SCENES,
+    builders::SCENES,
+    items::SCENES,
+    sessions::SCENES,
 ];

@@ -7,6 +7,7 @@ pub(crate) enum Item {
 }
 
 /// The items that size a filter.
+#[derive(Drop)]
 pub(crate) enum Items {
     /// As many as are expected. None go in.
     Expected(usize),
@@ -17,6 +18,7 @@ pub(crate) enum Items {
 }
 
 /// How the filters are made. The key is that of a seed, or else the zero key.
+#[derive(Drop)]
 pub(crate) enum Make {
     /// Of a number of bits, with a number of hashes.
     Bits(usize, u32),

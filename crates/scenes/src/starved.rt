@@ -8,8 +8,8 @@ use crate::scene::Op::{
 };
 use crate::scene::{Item, Items, Make, Scene};
 use fastbloom::{
-    Call, FilterError, Machine, MemoryStore, Rate, Shape, drive, expected_density,
-    expected_false_pos, optimal_hashes, optimal_size,
+    Call, FilterError, Machine, MemoryStore, Rate, drive, expected_density, expected_false_pos,
+    optimal_hashes, optimal_size,
 };
 use std::io;
 use std::test::Fail;
@@ -28,12 +28,12 @@ pub(crate) fn word_of(ended: &Result<bool, FilterError>) -> &'static str {
 // The words 5 and 6 under three hashes and the key of seed 42.
 const STANDING: Make = Make::Words(&[5, 6], 42, 3);
 
-// The two words of the key of seed 42.
-const KEY: (u64, u64) = (0, 3026418949592973312);
+// The second word of the key of seed 42. The first is 0.
+const KEY: u64 = 3026418949592973312;
 
 // Scenes, and the calls of each that take memory. A refused call ends its scene, and leaves both
 // filters as they were. `shared hashes` makes the filters of every scene.
-const SCENES: [(&'static [&'static str], Scene); 4] = [
+const SCENES: &'static [(&'static [&'static str], Scene)] = &[
     (
         &[
             "with_num_bits",
@@ -55,7 +55,7 @@ const SCENES: [(&'static [&'static str], Scene); 4] = [
             (Build(Make::BitsFor(64, Items::Numbers(&[1, 2])), 64, 22), true),
             (Build(Make::RateFor(1, 2, 0, Items::Expected(1000)), 1472, 1), true),
             (Build(Make::RateFor(1, 1000, 0, Items::Numbers(&[1, 2])), 64, 22), true),
-            (Build(Make::Data(&[5, 6], 2, KEY.0, KEY.1), 128, 3), true),
+            (Build(Make::Data(&[5, 6], 2, 0, KEY), 128, 3), true),
             (Build(Make::WordsFor(&[5], 42, Items::Expected(2)), 64, 22), true),
             (Build(Make::WordsFor(&[5], 42, Items::Numbers(&[1, 2])), 64, 22), true),
             (Words(&[5, 6]), true),
@@ -75,7 +75,7 @@ const SCENES: [(&'static [&'static str], Scene); 4] = [
             "copies, data and lists",
             STANDING,
             (Clone, true),
-            (Data(KEY.0, KEY.1), true),
+            (Data(0, KEY), true),
             (Words(&[5, 6]), true),
             (Replay(&[false, false, true, true, false]), true),
             (Words(&[0, 0]), true),
@@ -140,7 +140,7 @@ fn print_end(rt: &HostRuntime, calls: &[&str], scene: &Scene) -> io::Result<()> 
 fn sizes_and_steps(words: Vec<u64>, others: Vec<u64>) -> Result<bool, FilterError> {
     let sizes = (optimal_size(1000, Rate::new(1, 2)?)? == 1448) & (optimal_hashes(1024, 2) == 355);
     let rate = expected_false_pos(2, expected_density(1, 64, 1));
-    let _shape = Shape::new(64, 3)?;
+    let _shape = fastbloom::Shape::new(64, 3)?;
     let mut store = MemoryStore::new(words, others);
     let was_there = drive(&mut store, Call::Insert(1), 2);
     let asks = Machine::new(Call::Union, 1, 2).ask().is_some();
@@ -160,7 +160,7 @@ fn sizes_and_steps_take_no_memory(rt: HostRuntime) -> Result<(), Fail> {
 
 #[test]
 fn scenes_are_whole_or_refused(rt: HostRuntime) -> Result<(), Fail> {
-    for (calls, scene) in &SCENES {
+    for (calls, scene) in SCENES {
         print_end(&rt, calls, scene)?;
     }
     Ok(())

@@ -30,7 +30,7 @@ macro_rules! takes_item {
     };
 }
 
-pub(super) const SCENES: [Scene; 16] = [
+pub(super) const SCENES: &'static [Scene] = &[
     // Bits are rounded up to words. An insert of billions of hashes takes long, so there is none.
     takes_item!(Make::Bits(1, 4), 64, 4),
     takes_item!(Make::Bits(64, 4), 64, 4),
@@ -61,7 +61,7 @@ macro_rules! at_half {
 }
 
 /// What is asked for, and why both filters are refused.
-pub(crate) const REFUSALS: [(Make, FilterError); 13] = [
+pub(crate) const REFUSALS: &'static [(Make, FilterError)] = &[
     // No bits, more than 2^58 - 1 words twice, and 2^61 - 8 bytes, which no machine has.
     (Make::Bits(0, 1), FilterError::ZeroBits),
     (Make::Bits(18446744073709551615, 1), FilterError::TooManyWords),

@@ -4,7 +4,7 @@
 use crate::scene::Op::{Clear, Contains, Insert, Words};
 use crate::scene::{Make, Scene};
 
-pub(super) const SCENES: [Scene; 3] = [
+pub(super) const SCENES: &'static [Scene] = &[
     scene!(
         "session 11 of the original crate",
         Make::Words(&[0; 16], 0, 22),
