@@ -2,6 +2,7 @@
 //! refused, and what it leaves. Each test prints its calls and how they ended, which bin/starve
 //! compares.
 use crate::fills::{THREE, gate_for, parts_of};
+use crate::starved::word_of;
 use bloom_parts::bit_vector::{AtomicBitVec, BitVec};
 use fastbloom::{
     BloomFilter, Call, Event, FilterError, GrowingError, GrowingFilter, Rate, SeatedBloomFilter,
@@ -10,17 +11,6 @@ use fastbloom::{
 use std::alloc::Global;
 use std::sync::Arc;
 use std::test::Fail;
-
-// How a call ended: with the full result, with another, or with a refusal.
-fn word_of(ended: &Result<bool, FilterError>) -> &'static str {
-    match ended {
-        Ok(true) => "whole",
-        Ok(false) => "wrong",
-        Err(FilterError::Memory) => "Memory",
-        Err(FilterError::Worker) => "Worker",
-        Err(_refusal) => "wrong",
-    }
-}
 
 // The builders' refusal, or one that no lack of memory brings.
 fn refusal_of(error: GrowingError) -> FilterError {

@@ -1,0 +1,214 @@
+//! How both filters of a scene are made, and whether they are alike.
+use crate::scene::{Items, Make};
+use fastbloom::{
+    AtomicBloomFilter, AtomicBuilderWithBits, BitsData, BloomFilter, BuilderWithBits, FilterData,
+    FilterError, Rate,
+};
+use std::alloc::Global;
+
+/// The test's own memory, in place of the name of a call.
+pub(crate) const THE_TEST: &'static str = "the test";
+
+/// A call that was refused, and why.
+#[derive(Drop, PartialEq)]
+pub(crate) struct Refused {
+    pub(crate) call: &'static str,
+    pub(crate) reason: FilterError,
+}
+
+/// A plain and a shared filter, on which the same calls are made.
+#[derive(Drop)]
+pub(crate) struct Pair {
+    pub(crate) plain: BloomFilter,
+    pub(crate) shared: AtomicBloomFilter,
+}
+
+/// The outcome of a call, with the call's name where it was refused.
+pub(crate) fn named<T>(
+    call: &'static str,
+    outcome: Result<T, FilterError>,
+) -> Result<T, Refused> {
+    match outcome {
+        Ok(made) => Ok(made),
+        Err(reason) => Err(Refused { call, reason }),
+    }
+}
+
+/// A vector of these words.
+pub(crate) fn words_of(alloc: Global, words: &[u64]) -> Result<Vec<u64>, Refused> {
+    match words.to_vec(alloc) {
+        Ok(copy) => Ok(copy),
+        Err(_error) => Err(Refused {
+            call: THE_TEST,
+            reason: FilterError::Memory,
+        }),
+    }
+}
+
+// Data of these words and this key.
+fn data_of(
+    alloc: Global,
+    words: &[u64],
+    num_hashes_minus_one: u32,
+    k0: u64,
+    k1: u64,
+) -> Result<FilterData, Refused> {
+    Ok(FilterData {
+        bits: BitsData {
+            bits: words_of(alloc, words)?,
+        },
+        num_hashes_minus_one,
+        k0,
+        k1,
+    })
+}
+
+fn plain_for(builder: BuilderWithBits, items: &Items) -> BloomFilter {
+    match items {
+        Items::Expected(number) => builder.expected_items(*number),
+        Items::Numbers(numbers) => builder.items(*numbers),
+        Items::Texts(texts) => builder.items(*texts),
+    }
+}
+
+fn plain_at(
+    alloc: Global,
+    rate: Rate,
+    seed: u128,
+    items: &Items,
+) -> Result<BloomFilter, Refused> {
+    let builder = BloomFilter::with_false_pos(rate).seed(&seed);
+    match items {
+        Items::Expected(number) => {
+            named("expected_items by rate", builder.expected_items(alloc, *number))
+        }
+        Items::Numbers(numbers) => named("items by rate", builder.items(alloc, *numbers)),
+        Items::Texts(texts) => named("items by rate", builder.items(alloc, *texts)),
+    }
+}
+
+// A builder of this many bits.
+fn plain_bits(alloc: Global, bits: usize) -> Result<BuilderWithBits, Refused> {
+    named("with_num_bits", BloomFilter::with_num_bits(alloc, bits))
+}
+
+// A builder of these words, with the key of a seed.
+fn plain_words(alloc: Global, words: &[u64], seed: u128) -> Result<BuilderWithBits, Refused> {
+    let words = words_of(alloc, words)?;
+    Ok(named("from_vec", BloomFilter::from_vec(words))?.seed(&seed))
+}
+
+/// The plain filter.
+pub(crate) fn plain_of(alloc: Global, make: &Make) -> Result<BloomFilter, Refused> {
+    match make {
+        Make::Bits(bits, hashes) => Ok(plain_bits(alloc, *bits)?.hashes(*hashes)),
+        Make::BitsFor(bits, items) => Ok(plain_for(plain_bits(alloc, *bits)?, items)),
+        Make::Words(words, seed, hashes) => Ok(plain_words(alloc, words, *seed)?.hashes(*hashes)),
+        Make::WordsFor(words, seed, items) => {
+            Ok(plain_for(plain_words(alloc, words, *seed)?, items))
+        }
+        Make::RateFor(num, den, seed, items) => {
+            plain_at(alloc, named("Rate::new", Rate::new(*num, *den))?, *seed, items)
+        }
+        Make::Data(words, less_one, k0, k1) => {
+            let form = data_of(alloc, words, *less_one, *k0, *k1)?;
+            named("from_data", BloomFilter::from_data(form))
+        }
+    }
+}
+
+fn shared_for(
+    alloc: Global,
+    builder: AtomicBuilderWithBits,
+    items: &Items,
+) -> Result<AtomicBloomFilter, Refused> {
+    match items {
+        Items::Expected(number) => {
+            named("shared expected_items", builder.expected_items(alloc, *number))
+        }
+        Items::Numbers(numbers) => named("shared items", builder.items(alloc, *numbers)),
+        Items::Texts(texts) => named("shared items", builder.items(alloc, *texts)),
+    }
+}
+
+fn shared_at(
+    alloc: Global,
+    rate: Rate,
+    seed: u128,
+    items: &Items,
+) -> Result<AtomicBloomFilter, Refused> {
+    let builder = AtomicBloomFilter::with_false_pos(rate).seed(&seed);
+    match items {
+        Items::Expected(number) => named(
+            "shared expected_items by rate",
+            builder.expected_items(alloc, *number),
+        ),
+        Items::Numbers(numbers) => named("shared items by rate", builder.items(alloc, *numbers)),
+        Items::Texts(texts) => named("shared items by rate", builder.items(alloc, *texts)),
+    }
+}
+
+// A builder of this many bits.
+fn shared_bits(alloc: Global, bits: usize) -> Result<AtomicBuilderWithBits, Refused> {
+    named(
+        "shared with_num_bits",
+        AtomicBloomFilter::with_num_bits(alloc, bits),
+    )
+}
+
+// A builder of these words, with the key of a seed.
+fn shared_words(
+    alloc: Global,
+    words: &[u64],
+    seed: u128,
+) -> Result<AtomicBuilderWithBits, Refused> {
+    let words = words_of(alloc, words)?;
+    Ok(named("shared from_vec", AtomicBloomFilter::from_vec(words))?.seed(&seed))
+}
+
+/// The shared filter.
+pub(crate) fn shared_of(alloc: Global, make: &Make) -> Result<AtomicBloomFilter, Refused> {
+    match make {
+        Make::Bits(bits, hashes) => {
+            let builder = shared_bits(alloc, *bits)?;
+            named("shared hashes", builder.hashes(alloc, *hashes))
+        }
+        Make::BitsFor(bits, items) => shared_for(alloc, shared_bits(alloc, *bits)?, items),
+        Make::Words(words, seed, hashes) => {
+            let builder = shared_words(alloc, words, *seed)?;
+            named("shared hashes", builder.hashes(alloc, *hashes))
+        }
+        Make::WordsFor(words, seed, items) => {
+            shared_for(alloc, shared_words(alloc, words, *seed)?, items)
+        }
+        Make::RateFor(num, den, seed, items) => {
+            shared_at(alloc, named("Rate::new", Rate::new(*num, *den))?, *seed, items)
+        }
+        Make::Data(words, less_one, k0, k1) => {
+            let form = data_of(alloc, words, *less_one, *k0, *k1)?;
+            named("shared from_data", AtomicBloomFilter::from_data(alloc, form))
+        }
+    }
+}
+
+/// Both filters.
+pub(crate) fn pair_of(alloc: Global, make: &Make) -> Result<Pair, Refused> {
+    Ok(Pair {
+        plain: plain_of(alloc, make)?,
+        shared: shared_of(alloc, make)?,
+    })
+}
+
+/// Whether both filters have the same shape, words and hasher.
+pub(crate) fn are_alike(pair: &Pair) -> bool {
+    let Pair { plain, shared } = pair;
+    (plain.num_bits() == shared.num_bits())
+        & (plain.num_hashes() == shared.num_hashes())
+        & (plain.source_hash(&7u64) == shared.source_hash(&7u64))
+        & plain.iter().eq(shared.iter())
+}
+
+/// Whether both filters have these words.
+pub(crate) fn have_words(pair: &Pair, words: &[u64]) -> bool {
+    (pair.plain.as_slice() == words) & pair.shared.iter().eq(words.iter().copied())
+}

@@ -1,0 +1,167 @@
+//! Scenes that are run again and again, each time with one request for memory refused. They print
+//! their calls and how each ended, which bin/starve compares.
+use crate::follow::follow;
+use crate::making::THE_TEST;
+use crate::scene::Op::{
+    Build, Clear, Clone, ContainsItem, Data, Extend, Insert, InsertItem, Intersect, IsEmpty, Replay,
+    SameShape, SameWords, Shape, Take, Unite, UniteWithItself, Words,
+};
+use crate::scene::{Item, Items, Make, Scene};
+use fastbloom::{
+    Call, FilterError, Machine, MemoryStore, Rate, drive, expected_density, expected_false_pos,
+    optimal_hashes, optimal_size,
+};
+use std::io;
+use std::test::Fail;
+
+/// How a call ended: with the full result, with another, or with a refusal.
+pub(crate) fn word_of(ended: &Result<bool, FilterError>) -> &'static str {
+    match ended {
+        Ok(true) => "whole",
+        Ok(false) => "wrong",
+        Err(FilterError::Memory) => "Memory",
+        Err(FilterError::Worker) => "Worker",
+        Err(_refusal) => "wrong",
+    }
+}
+
+// The words 5 and 6 under three hashes and the key of seed 42.
+const STANDING: Make = Make::Words(&[5, 6], 42, 3);
+
+// The second word of the key of seed 42. The first is 0.
+const KEY: u64 = 3026418949592973312;
+
+// Scenes, and the calls of each that take memory. A refused call ends its scene, and leaves both
+// filters as they were. `shared hashes` makes the filters of every scene.
+const SCENES: &'static [(&'static [&'static str], Scene)] = &[
+    (
+        &[
+            "with_num_bits",
+            "expected_items by rate",
+            "items by rate",
+            "shared with_num_bits",
+            "shared hashes",
+            "shared expected_items",
+            "shared items",
+            "shared expected_items by rate",
+            "shared items by rate",
+            "shared from_data",
+        ],
+        scene!(
+            "builders",
+            STANDING,
+            (Build(Make::Bits(100, 4), 128, 4), true),
+            (Build(Make::BitsFor(1202, Items::Expected(4)), 1216, 211), true),
+            (Build(Make::BitsFor(64, Items::Numbers(&[1, 2])), 64, 22), true),
+            (Build(Make::RateFor(1, 2, 0, Items::Expected(1000)), 1472, 1), true),
+            (Build(Make::RateFor(1, 1000, 0, Items::Numbers(&[1, 2])), 64, 22), true),
+            (Build(Make::Data(&[5, 6], 2, 0, KEY), 128, 3), true),
+            (Build(Make::WordsFor(&[5], 42, Items::Expected(2)), 64, 22), true),
+            (Build(Make::WordsFor(&[5], 42, Items::Numbers(&[1, 2])), 64, 22), true),
+            (Words(&[5, 6]), true),
+        ),
+    ),
+    (
+        &[
+            "try_clone",
+            "shared try_clone",
+            "to_data",
+            "shared to_data",
+            "shared from_data",
+            "replay",
+        ],
+        // Hash 1 has the positions 0, 40 and 64, of which 40 is clear at first.
+        scene!(
+            "copies, data and lists",
+            STANDING,
+            (Clone, true),
+            (Data(0, KEY), true),
+            (Words(&[5, 6]), true),
+            (Replay(&[false, false, true, true, false]), true),
+            (Words(&[0, 0]), true),
+        ),
+    ),
+    (
+        &["take_words"],
+        scene!(
+            "a take",
+            STANDING,
+            (Take, true),
+            (Words(&[0, 0]), true),
+        ),
+    ),
+    (
+        &[],
+        scene!(
+            "calls",
+            STANDING,
+            (InsertItem(Item::Number(2)), false),
+            (Extend(3, 7), true),
+            (ContainsItem(Item::Number(6)), true),
+            (Insert(1), false),
+            (SameShape(&[5, 6], 3), true),
+            (Unite(&[5, 6]), true),
+            (Intersect(&[5, 6]), true),
+            (UniteWithItself, true),
+            (Words(&[5, 6]), true),
+            (SameWords(&[5, 6], 3), true),
+            (Shape(128, 3), true),
+            (Clear, true),
+            (IsEmpty, true),
+        ),
+    ),
+];
+
+// Prints each call of a scene that was whole.
+fn print_whole(rt: &HostRuntime, calls: &[&str]) -> io::Result<()> {
+    for call in calls {
+        println!(rt; "{call}: whole")?;
+    }
+    Ok(())
+}
+
+// Follows a scene, and prints how it ended.
+fn print_end(rt: &HostRuntime, calls: &[&str], scene: &Scene) -> io::Result<()> {
+    match follow(rt.alloc(), scene) {
+        Ok(None) if calls.is_empty() => println!(rt; "{}: without memory", scene.name),
+        Ok(None) => print_whole(rt, calls),
+        Ok(Some(line)) => println!(rt; "{}, line {line}: wrong", scene.name),
+        Err(refused) => {
+            let (call, reason) = (refused.call, refused.reason);
+            if call == THE_TEST {
+                return println!(rt; "{}: no room for the test", scene.name);
+            }
+            println!(rt; "{call}: {}", word_of(&Err(reason)))
+        }
+    }
+}
+
+// Whether sizes are right, and a store of words makes the steps of an insert.
+fn sizes_and_steps(words: Vec<u64>, others: Vec<u64>) -> Result<bool, FilterError> {
+    let sizes = (optimal_size(1000, Rate::new(1, 2)?)? == 1448) & (optimal_hashes(1024, 2) == 355);
+    let rate = expected_false_pos(2, expected_density(1, 64, 1));
+    let _shape = fastbloom::Shape::new(64, 3)?;
+    let mut store = MemoryStore::new(words, others);
+    let was_there = drive(&mut store, Call::Insert(1), 2);
+    let asks = Machine::new(Call::Union, 1, 2).ask().is_some();
+    let steps = (was_there == Some(false)) & (store.words() == [1048577].as_slice()) & asks;
+    Ok(sizes & steps & (rate.low() == 2251799813685248))
+}
+
+#[test]
+fn sizes_and_steps_take_no_memory(rt: HostRuntime) -> Result<(), Fail> {
+    let (Ok(words), Ok(others)) = ([0].to_vec(rt.alloc()), [0].to_vec(rt.alloc())) else {
+        return Ok(println!(rt; "sizes and steps: no room for the test")?);
+    };
+    assert!(rt; matches!(sizes_and_steps(words, others), Ok(true)));
+    println!(rt; "sizes and steps: without memory")?;
+    Ok(())
+}
+
+#[test]
+fn scenes_are_whole_or_refused(rt: HostRuntime) -> Result<(), Fail> {
+    for (calls, scene) in SCENES {
+        print_end(&rt, calls, scene)?;
+    }
+    Ok(())
+}
