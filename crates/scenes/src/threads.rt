@@ -1,4 +1,4 @@
-//! Threads that share a filter. Each is started with an `Arc` of it, and joined. No thread waits for
+//! Threads that share a filter. Each is started with an `Arc` of it, and joined. None waits for
 //! another: each has enough to do for their calls to overlap.
 ghost use Rattle.std.specs.Prelude.{⊤};
 

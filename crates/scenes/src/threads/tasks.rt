@@ -94,8 +94,8 @@ fn is_always_flipped(
     Ok(is_right)
 }
 
-// How many positions the act of a turn set anew, less those that it cleared and took out, and
-// whether its answers were right.
+// How many inserts of a turn answered false, less the bits that it took out, and whether its
+// answers were right.
 fn turn(
     alloc: Global,
     filter: &AtomicBloomFilter,
@@ -128,9 +128,8 @@ fn turn(
     }
 }
 
-/// Does a task. Counts the positions that were set anew less those that were taken out, modulo 2^64,
-/// and the turns in which an answer was wrong or memory ran out. An insert that sets several
-/// positions counts as one.
+/// Does a task. Counts the inserts that answered false less the bits that were taken out, modulo
+/// 2^64, and the turns in which an answer was wrong or memory ran out.
 pub(super) fn work(alloc: Global, filter: &AtomicBloomFilter, task: Task) -> (u64, u64) {
     let (act, first, end) = task;
     let mut new = 0u64;
