@@ -62,7 +62,11 @@ fn filled<R: Threads>(
     let gate = Arc::new(alloc, gate_for(count))?;
     let seen = Arc::try_clone(&gate)?;
     let filter = fill(rt, alloc, gate, shape, parts)?;
-    let numbers = if count < 64 { !(u64::MAX << count) } else { u64::MAX };
+    let numbers = if count < 64 {
+        !(u64::MAX << count)
+    } else {
+        u64::MAX
+    };
     let is_seen = (seen.passes.load(Ordering::SeqCst) == count as u64)
         & (seen.numbers.load(Ordering::SeqCst) == numbers)
         & (seen.met.load(Ordering::SeqCst) == count.min(2) as u64);
@@ -99,7 +103,10 @@ fn parts_fill_a_filter_however_they_are_cut(rt: HostRuntime) -> Result<(), Fail>
         let parts = parts_of(rt.alloc(), cut)?;
         let (filter, is_seen) = filled(&rt, rt.alloc(), Shape::new(bits, hashes)?, parts)?;
         assert!(rt; filter.as_slice() == [word].as_slice(), "{cut:?}");
-        assert!(rt; (filter.num_bits(), filter.num_hashes()) == rounded, "{cut:?}");
+        assert!(rt;
+            (filter.num_bits(), filter.num_hashes()) == rounded,
+            "{cut:?}"
+        );
         assert!(rt; is_seen, "{cut:?}");
     }
     Ok(())

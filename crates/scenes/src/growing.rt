@@ -35,7 +35,10 @@ fn each_filter_begins_when_the_one_before_is_full(rt: HostRuntime) -> Result<(),
         if !filter.insert_hash(rt.alloc(), spread(i))? {
             new = new.saturating_add(1);
         }
-        assert!(rt; is_grown(&filter, new) & filter.contains_hash(spread(i)), "{i}");
+        assert!(rt;
+            is_grown(&filter, new) & filter.contains_hash(spread(i)),
+            "{i}"
+        );
     }
     assert_eq!(rt; filter.older().len(), 3);
     Ok(())

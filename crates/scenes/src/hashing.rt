@@ -74,10 +74,7 @@ const PIECES: [&'static [Piece]; 7] = [
     ],
     // The lowest byte is 1, and the next 2.
     &[Piece::U16(0x0201), Piece::Answers(0x1d6b_2993_44ba_b347)],
-    &[
-        Piece::Bytes(&[1, 2]),
-        Piece::Answers(0x1d6b_2993_44ba_b347),
-    ],
+    &[Piece::Bytes(&[1, 2]), Piece::Answers(0x1d6b_2993_44ba_b347)],
     &[
         Piece::Bytes(&[1, 1, 1, 1, 1, 1, 1, 1, 1, 1, 1, 1, 1, 1, 1, 1]),
         Piece::U8(1),
@@ -114,7 +111,10 @@ fn a_hash_is_of_the_key_and_of_the_bytes_written(rt: HostRuntime) {
     }
     for (length, hash) in COUNTED {
         let message = Piece::Bytes(&MESSAGE[..length.min(MESSAGE.len())]);
-        assert!(rt; answers(COUNTING, &[message, Piece::Answers(hash)]), "{length}");
+        assert!(rt;
+            answers(COUNTING, &[message, Piece::Answers(hash)]),
+            "{length}"
+        );
     }
     for (key, message, hash) in DRAWN {
         let pieces = [Piece::Bytes(message), Piece::Answers(hash)];
@@ -138,7 +138,9 @@ fn sixteen_bytes_make_the_key_of_a_hasher(rt: HostRuntime) -> Result<(), FilterE
     assert!(rt; of_counting.source_hash(&()) == 0xabac_0158_050f_c4dc);
     assert!(rt; given.key() == (0, 3026418949592973312));
     let of_given = empty_filter(rt.alloc(), given)?;
-    let of_seed = BloomFilter::with_num_bits(rt.alloc(), 64)?.seed(&42).hashes(2);
+    let of_seed = BloomFilter::with_num_bits(rt.alloc(), 64)?
+        .seed(&42)
+        .hashes(2);
     assert!(rt; of_seed.source_hash(&"42") == of_given.source_hash(&"42"));
     assert!(rt; of_seed.source_hash(&7u64) == of_given.source_hash(&7u64));
     Ok(())
@@ -176,9 +178,17 @@ fn items_of_all_types_go_in_by_their_hash(rt: HostRuntime) -> Result<(), FilterE
         goes_in(&mut filter, &(1u32, -2i16), 0x7764_59f8_d398_c60e),
         goes_in(&mut filter, &Shape::Dot, 0xbd60_acb6_58c7_9e45),
         goes_in(&mut filter, &Shape::Round(3), 0x23a5_d0f3_6a07_c6bc),
-        goes_in(&mut filter, &Shape::Square { side: 9 }, 0xbde4_4376_9258_25d7),
+        goes_in(
+            &mut filter,
+            &Shape::Square { side: 9 },
+            0xbde4_4376_9258_25d7,
+        ),
         goes_in(&mut filter, &(), 0xd1fb_a762_150c_532c),
-        goes_in(&mut filter, &Text([1, 2, 3, 4, 5].as_slice()), 0xde68_2ee7_0fbe_bc3f),
+        goes_in(
+            &mut filter,
+            &Text([1, 2, 3, 4, 5].as_slice()),
+            0xde68_2ee7_0fbe_bc3f,
+        ),
         goes_in(&mut filter, &Text([7].as_slice()), 0xfff3_eb0c_7071_97bf),
         goes_in(&mut filter, &Text([].as_slice()), 0xd1fb_a762_150c_532c),
     ];

@@ -64,7 +64,10 @@ fn agree(alloc: Global, bits: usize, seed: u128) -> Result<bool, Fail> {
 fn both_kinds_are_read_from_one_anothers_data(rt: HostRuntime) -> Result<(), Fail> {
     for bits in [64, 1024, 4096, 65536] {
         for seed in 4..19u64 {
-            assert!(rt; agree(rt.alloc(), bits, seed as u128)?, "{bits} bits, seed {seed}");
+            assert!(rt;
+                agree(rt.alloc(), bits, seed as u128)?,
+                "{bits} bits, seed {seed}"
+            );
         }
     }
     Ok(())

@@ -44,7 +44,11 @@ fn a_filter_that_grows_is_whole_or_refused(rt: HostRuntime) -> Result<(), Fail> 
     };
     println!(rt; "insert_hash that grows: {}", word_of(&ended))?;
     let left = (filter.older().len(), filter.room(), filter.contains_hash(2));
-    let wanted = if ended.is_ok() { (1, 2, true) } else { (0, 1, false) };
+    let wanted = if ended.is_ok() {
+        (1, 2, true)
+    } else {
+        (0, 1, false)
+    };
     assert!(rt; (left == wanted) & filter.contains_hash(1) & (filter.taken() == 1));
     Ok(())
 }

@@ -3,8 +3,7 @@ use fastbloom::{BitsData, BloomFilter, FilterData, FilterError};
 use std::alloc::Global;
 use std::test::Fail;
 
-const FIVE: &'static str =
-    r#"{"bits":{"bits":[5]},"num_hashes_minus_one":1,"k0":0,"k1":0}"#;
+const FIVE: &'static str = r#"{"bits":{"bits":[5]},"num_hashes_minus_one":1,"k0":0,"k1":0}"#;
 
 // Numbers above 2^53 are no whole numbers to some readers of JSON. Here they keep every bit.
 const LARGE: &'static str = "{\"bits\":{\"bits\":[18446744073709551615,9007199254740993,\
@@ -13,7 +12,14 @@ const LARGE: &'static str = "{\"bits\":{\"bits\":[18446744073709551615,900719925
 
 // Texts, the words, the number of hashes less one and the key that each says, and why no filter is
 // made of them, if none is.
-type Said = (&'static str, &'static [u64], u32, u64, u64, Option<FilterError>);
+type Said = (
+    &'static str,
+    &'static [u64],
+    u32,
+    u64,
+    u64,
+    Option<FilterError>,
+);
 
 const SAID: [Said; 2] = [
     (FIVE, &[5], 1, 0, 0, None),
@@ -42,7 +48,10 @@ fn texts_are_read_and_written_with_every_bit(rt: HostRuntime) -> Result<(), Fail
             k0,
             k1,
         };
-        assert!(rt; serde_json::to_string(rt.alloc(), &form)?.as_str() == text, "{text}");
+        assert!(rt;
+            serde_json::to_string(rt.alloc(), &form)?.as_str() == text,
+            "{text}"
+        );
         assert!(rt; read(rt.alloc(), text)? == form, "{text}");
         assert!(rt; BloomFilter::from_data(form).err() == refused, "{text}");
     }

@@ -38,7 +38,9 @@ fn filter_of(
     key: u128,
     has_one: bool,
 ) -> Result<BloomFilter, FilterError> {
-    let mut filter = BloomFilter::with_num_bits(alloc, bits)?.seed(&key).hashes(2);
+    let mut filter = BloomFilter::with_num_bits(alloc, bits)?
+        .seed(&key)
+        .hashes(2);
     if has_one {
         remember(&mut filter, 1);
     }
@@ -66,7 +68,10 @@ fn plain_filters_are_built_and_made_again(rt: HostRuntime) -> Result<(), Fail> {
 #[test]
 fn repeated_names_are_counted(rt: HostRuntime) -> Result<(), Fail> {
     let names = ["crab", "lobster", "crab"];
-    assert_eq!(rt; plain::count_repeated(rt.alloc(), &drawn_key(&rt)?, &names)?, 1);
+    assert_eq!(rt;
+        plain::count_repeated(rt.alloc(), &drawn_key(&rt)?, &names)?,
+        1
+    );
     let many = ["crab", "lobster", "crab", "ray", "eel"];
     assert!(rt; growing::count_repeated(rt.alloc(), &42, &many)? == (1, 2));
     Ok(())
@@ -130,7 +135,10 @@ fn shared_filters_find_what_threads_inserted(rt: HostRuntime) -> Result<(), Fail
 // items is alike itself, and isn't alike an empty one.
 #[test]
 fn estimates_tell_items_and_likeness(rt: HostRuntime) -> Result<(), Fail> {
-    assert_eq!(rt; bounds_of(&filter_of(rt.alloc(), 64, 0, true)?), (1, Some(2)));
+    assert_eq!(rt;
+        bounds_of(&filter_of(rt.alloc(), 64, 0, true)?),
+        (1, Some(2))
+    );
     let mut filter = filter_of(rt.alloc(), 1 << 16, 0, false)?;
     let empty = filter_of(rt.alloc(), 1 << 16, 0, false)?;
     filter.extend(0..1000u64);

@@ -5,8 +5,8 @@
 pub mod builders;
 pub mod clauses;
 pub mod estimates;
-pub mod filled;
 pub mod files;
+pub mod filled;
 pub mod growing;
 pub mod keys;
 pub mod lists;

@@ -88,7 +88,10 @@ fn a_changed_number_is_refused_once_it_is_whole(rt: HostRuntime) {
     for (place, number, length, refused) in REFUSED {
         let file = changed(place, number);
         let refusals = refusals(rt.alloc(), &file[..length.min(72)]);
-        assert!(rt; refusals == (Some(refused), Some(refused)), "{place}, {number}, {length}");
+        assert!(rt;
+            refusals == (Some(refused), Some(refused)),
+            "{place}, {number}, {length}"
+        );
     }
 }
 
@@ -101,7 +104,10 @@ fn every_cut_is_refused_and_so_is_a_byte_more(rt: HostRuntime) -> Result<(), All
         } else {
             Some(FileError::Cut)
         };
-        assert!(rt; refusals(rt.alloc(), &WORKED[..length]) == (reason, reason), "{length}");
+        assert!(rt;
+            refusals(rt.alloc(), &WORKED[..length]) == (reason, reason),
+            "{length}"
+        );
     }
     let mut longer = WORKED.to_vec(rt.alloc())?;
     longer.push(0)?;

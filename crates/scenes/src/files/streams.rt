@@ -81,12 +81,7 @@ fn written(
 }
 
 // The filter of a file, by a reader that gives so many bytes a call.
-fn read(
-    alloc: Global,
-    file: &[u8],
-    piece: usize,
-    fails: bool,
-) -> Result<BloomFilter, FileError> {
+fn read(alloc: Global, file: &[u8], piece: usize, fails: bool) -> Result<BloomFilter, FileError> {
     let mut input = Source {
         rest: file,
         piece,
@@ -102,7 +97,10 @@ fn streams_that_fail_are_told_at_each_place(rt: HostRuntime) -> Result<(), Fail>
     let filter = crabs(rt.alloc())?;
     for length in 0..=72usize {
         let refused = read(rt.alloc(), &WORKED[..length], 5, true).err();
-        assert!(rt; refused == Some(FileError::Input(ErrorKind::BrokenPipe)), "{length}");
+        assert!(rt;
+            refused == Some(FileError::Input(ErrorKind::BrokenPipe)),
+            "{length}"
+        );
         let (file, ended) = written(rt.alloc(), &filter, 3, length);
         assert!(rt; file.as_slice() == &WORKED[..length], "{length}");
         assert!(rt; ended.is_ok() == (length == 72), "{length}");
@@ -141,7 +139,10 @@ fn filters_come_back_in_pieces_and_cut_files_do_not(rt: HostRuntime) -> Result<(
         let (file, ended) = written(rt.alloc(), &filter, piece, usize::MAX);
         ended?;
         let back = read(rt.alloc(), file.as_slice(), piece, false)?;
-        assert!(rt; (back == filter) & (back.hasher().key() == filter.hasher().key()), "{words}");
+        assert!(rt;
+            (back == filter) & (back.hasher().key() == filter.hasher().key()),
+            "{words}"
+        );
         let cut = &file[..file.len().saturating_sub(1)];
         let refused = read(rt.alloc(), cut, piece, false).err();
         assert!(rt; refused == Some(FileError::Cut), "{words}");
