@@ -60,6 +60,9 @@ fn list_names_filters(alloc: Global) -> Result<bool, FilterError> {
         BloomFilter::from_vec(Vec::from_array(alloc, [8])?)?.hashes(1),
     ];
     let [six, eight] = &others;
+    if !filter.same_shape(six) || !filter.same_shape(eight) {
+        return Ok(false);
+    }
     let list = [
         Command::Intersect(six),
         Command::Union(eight),
