@@ -99,7 +99,7 @@ fn is_driven(alloc: Global, row: &Driven) -> Result<bool, AllocError> {
     let found = drive(&mut store, call, num_hashes.max(1));
     let counted = drive(&mut tally, call, num_hashes.max(1));
     let words = [after];
-    let is_left = (store.words() == &words) & (tally.memory.words() == &words);
+    let is_left = (store.words() == words.as_slice()) & (tally.memory.words() == words.as_slice());
     Ok((found == answer) & (counted == answer) & (tally.steps == steps) & is_left)
 }
 
