@@ -46,21 +46,30 @@ fn refusals(alloc: Global, bytes: &[u8]) -> (Option<FileError>, Option<FileError
     )
 }
 
+// Whether both ways to write give the worked file.
+fn is_written(alloc: Global) -> Result<bool, Fail> {
+    let filter = crabs(alloc)?;
+    let mut output = Vec::new(alloc);
+    filter.write_file(&mut output)?;
+    let in_memory = filter.to_bytes(alloc)?;
+    Ok((output.as_slice() == WORKED.as_slice()) & (in_memory.as_slice() == WORKED.as_slice()))
+}
+
+// Whether both ways to read give the worked filter, and the reader is at its end.
+fn is_read(alloc: Global, bytes: &[u8]) -> Result<bool, FileError> {
+    let in_memory = BloomFilter::from_bytes(alloc, bytes)?;
+    let mut input = bytes;
+    let from_reader = BloomFilter::read_file(alloc, &mut input)?;
+    Ok(are_crabs(&in_memory) & are_crabs(&from_reader) & input.is_empty())
+}
+
 // A file may have no seal. Byte 40 is the first of the seal.
 #[test]
 fn the_worked_file_is_written_and_read(rt: HostRuntime) -> Result<(), Fail> {
-    let filter = crabs(rt.alloc())?;
-    let mut output = Vec::new(rt.alloc());
-    filter.write_file(&mut output)?;
-    assert!(rt; output.as_slice() == WORKED.as_slice());
-    assert!(rt; filter.to_bytes(rt.alloc())?.as_slice() == WORKED.as_slice());
     let mut unsealed = WORKED;
     unsealed[40..48].copy_from_slice(&[0; 8]);
-    for file in [WORKED, unsealed] {
-        let mut input = file.as_slice();
-        assert!(rt; are_crabs(&BloomFilter::from_bytes(rt.alloc(), &file)?));
-        assert!(rt; are_crabs(&BloomFilter::read_file(rt.alloc(), &mut input)?));
-        assert!(rt; input.is_empty());
-    }
+    assert!(rt; is_written(rt.alloc())?);
+    assert!(rt; is_read(rt.alloc(), &WORKED)?);
+    assert!(rt; is_read(rt.alloc(), &unsealed)?);
     Ok(())
 }

@@ -1,6 +1,6 @@
 //! Filters that workers fill, each with a part of the hashes.
 
-use crate::drawn::spread_from;
+use crate::drawn::{spread, spread_from};
 use fastbloom::{BloomFilter, FilterError, Gate, Shape, fill};
 use std::alloc::Global;
 use std::sync::Arc;
@@ -100,14 +100,12 @@ const FILLINGS: [Filling; 5] = [
 #[test]
 fn parts_fill_a_filter_however_they_are_cut(rt: HostRuntime) -> Result<(), Fail> {
     for (bits, hashes, rounded, cut, word) in FILLINGS {
+        let shape = Shape::new(bits, hashes)?;
         let parts = parts_of(rt.alloc(), cut)?;
-        let (filter, is_seen) = filled(&rt, rt.alloc(), Shape::new(bits, hashes)?, parts)?;
-        assert!(rt; filter.as_slice() == [word].as_slice(), "{cut:?}");
-        assert!(rt;
-            (filter.num_bits(), filter.num_hashes()) == rounded,
-            "{cut:?}"
-        );
-        assert!(rt; is_seen, "{cut:?}");
+        let (filter, is_seen) = filled(&rt, rt.alloc(), shape, parts)?;
+        let is_rounded = (filter.num_bits(), filter.num_hashes()) == rounded;
+        let is_word = filter.as_slice() == [word].as_slice();
+        assert!(rt; is_rounded & is_word & is_seen, "{cut:?}");
     }
     Ok(())
 }
@@ -120,18 +118,28 @@ fn shapes_are_refused_as_by_builders(rt: HostRuntime) {
     assert!(rt; most == Some(FilterError::TooManyWords));
 }
 
+// A hundred parts of a thousand hashes each.
+fn hundred(alloc: Global) -> Result<Vec<Vec<u64>>, FilterError> {
+    let mut parts = Vec::new(alloc);
+    for part in 0..100u64 {
+        parts.push(spread_from(alloc, part * 1000, part * 1000 + 1000)?)?;
+    }
+    Ok(parts)
+}
+
+// The filter that one thread makes of them.
+fn made_alone(alloc: Global) -> Result<BloomFilter, FilterError> {
+    let mut filter = BloomFilter::with_num_bits(alloc, 1 << 20)?.hashes(7);
+    for i in 0..100_000u64 {
+        filter.insert_hash(spread(i));
+    }
+    Ok(filter)
+}
+
 #[test]
 fn a_hundred_workers_make_the_filter_of_one_thread(rt: HostRuntime) -> Result<(), Fail> {
-    let mut alone = BloomFilter::with_num_bits(rt.alloc(), 1 << 20)?.hashes(7);
-    let mut parts = Vec::new(rt.alloc());
-    for part in 0..100u64 {
-        let hashes = spread_from(rt.alloc(), part * 1000, part * 1000 + 1000)?;
-        for hash in &hashes {
-            alone.insert_hash(*hash);
-        }
-        parts.push(hashes)?;
-    }
-    let (filter, is_seen) = filled(&rt, rt.alloc(), Shape::new(1 << 20, 7)?, parts)?;
-    assert!(rt; (filter == alone) & is_seen);
+    let shape = Shape::new(1 << 20, 7)?;
+    let (filter, is_seen) = filled(&rt, rt.alloc(), shape, hundred(rt.alloc())?)?;
+    assert!(rt; (filter == made_alone(rt.alloc())?) & is_seen);
     Ok(())
 }

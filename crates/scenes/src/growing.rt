@@ -81,13 +81,13 @@ fn a_filter_that_cannot_be_made_is_refused(rt: HostRuntime) -> Result<(), Fail> 
 // A filter under a seed takes an item as the builders' filter under that seed does.
 #[test]
 fn items_go_into_the_filter_that_the_builders_make(rt: HostRuntime) -> Result<(), Fail> {
-    let mut filter = GrowingFilter::seeded(rt.alloc(), Rate::new(1, 10)?, 8, &42)?;
     let builder = BloomFilter::with_false_pos(Rate::new(1, 20)?).seed(&42);
     let mut other = builder.expected_items(rt.alloc(), 8)?;
-    assert!(rt; !filter.insert(rt.alloc(), &"crab")? & !other.insert(&"crab"));
-    assert!(rt; *filter.newest() == other);
+    let mut filter = GrowingFilter::seeded(rt.alloc(), Rate::new(1, 10)?, 8, &42)?;
+    assert!(rt; filter.insert(rt.alloc(), &"crab") == Ok(false));
+    assert!(rt; filter.insert(rt.alloc(), &"crab") == Ok(true));
+    assert!(rt; !other.insert(&"crab") & (*filter.newest() == other));
     assert!(rt; filter.source_hash(&"crab") == other.source_hash(&"crab"));
     assert!(rt; filter.contains(&"crab") & !filter.contains(&"ray"));
-    assert!(rt; filter.insert(rt.alloc(), &"crab")?);
     Ok(())
 }

@@ -128,21 +128,29 @@ fn empty_filter(alloc: Global, hasher: DefaultHasher) -> Result<BloomFilter, Fil
     Ok(builder.hasher(hasher).hashes(3))
 }
 
+// The hash of an item in a filter under a hasher.
+fn hash_of<T: Hash>(alloc: Global, hasher: DefaultHasher, item: &T) -> Result<u64, FilterError> {
+    Ok(empty_filter(alloc, hasher)?.source_hash(item))
+}
+
+// The hash of an item in a filter under the seed 42.
+fn seeded_hash_of<T: Hash>(alloc: Global, item: &T) -> Result<u64, FilterError> {
+    let builder = BloomFilter::with_num_bits(alloc, 64)?.seed(&42);
+    Ok(builder.hashes(2).source_hash(item))
+}
+
 // An item that writes nothing hashes to the hash of no bytes. A seed makes the hasher of its
 // sixteen big-endian bytes.
 #[test]
 fn sixteen_bytes_make_the_key_of_a_hasher(rt: HostRuntime) -> Result<(), FilterError> {
+    let alloc = rt.alloc();
     let counting = DefaultHasher::seeded(&COUNTING.to_be_bytes());
+    assert!(rt; hash_of(alloc, counting, &())? == 0xabac_0158_050f_c4dc);
     let given = DefaultHasher::seeded(&42u128.to_be_bytes());
-    let of_counting = empty_filter(rt.alloc(), counting)?;
-    assert!(rt; of_counting.source_hash(&()) == 0xabac_0158_050f_c4dc);
     assert!(rt; given.key() == (0, 3026418949592973312));
-    let of_given = empty_filter(rt.alloc(), given)?;
-    let of_seed = BloomFilter::with_num_bits(rt.alloc(), 64)?
-        .seed(&42)
-        .hashes(2);
-    assert!(rt; of_seed.source_hash(&"42") == of_given.source_hash(&"42"));
-    assert!(rt; of_seed.source_hash(&7u64) == of_given.source_hash(&7u64));
+    assert!(rt; hash_of(alloc, given, &7u64)? == seeded_hash_of(alloc, &7u64)?);
+    let given = DefaultHasher::seeded(&42u128.to_be_bytes());
+    assert!(rt; hash_of(alloc, given, &"42")? == seeded_hash_of(alloc, &"42")?);
     Ok(())
 }
 

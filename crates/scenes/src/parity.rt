@@ -40,24 +40,42 @@ fn stay_alike(
     Ok(before & after & answer_alike(&plain, &shared, 250))
 }
 
-// Whether filters of a size and a seed with the numbers 0 to 100, and each kind as it is read from
-// the other's data, by text and not, stay alike.
-fn agree(alloc: Global, bits: usize, seed: u128) -> Result<bool, Fail> {
+// A plain filter for 100 items with the numbers 0 to 100.
+fn plain_of(alloc: Global, bits: usize, seed: u128) -> Result<BloomFilter, Fail> {
     let builder = BloomFilter::with_num_bits(alloc, bits)?.seed(&seed);
-    let mut plain = builder.expected_items(100);
-    plain.extend(0..101u64);
+    let mut filter = builder.expected_items(100);
+    filter.extend(0..101u64);
+    Ok(filter)
+}
+
+// A shared filter for 100 items with the numbers 0 to 100.
+fn shared_of(alloc: Global, bits: usize, seed: u128) -> Result<AtomicBloomFilter, Fail> {
     let builder = AtomicBloomFilter::with_num_bits(alloc, bits)?.seed(&seed);
-    let shared = builder.expected_items(alloc, 100)?;
-    shared.extend(0..101u64);
-    let mut is_right = true;
-    for by_text in [false, true] {
-        let of_shared = sent(alloc, shared.to_data(alloc)?, by_text)?;
-        let of_plain = sent(alloc, plain.to_data(alloc)?, by_text)?;
-        let other = BloomFilter::from_data(of_shared)?;
-        let other_shared = AtomicBloomFilter::from_data(alloc, of_plain)?;
-        is_right &= stay_alike(alloc, other, other_shared)?;
-    }
-    Ok(is_right & stay_alike(alloc, plain, shared)?)
+    let filter = builder.expected_items(alloc, 100)?;
+    filter.extend(0..101u64);
+    Ok(filter)
+}
+
+// Whether each kind stays alike as it is read from the other's data, by text or not.
+fn are_crossed(
+    alloc: Global,
+    plain: &BloomFilter,
+    shared: &AtomicBloomFilter,
+    by_text: bool,
+) -> Result<bool, Fail> {
+    let of_shared = sent(alloc, shared.to_data(alloc)?, by_text)?;
+    let other = BloomFilter::from_data(of_shared)?;
+    let of_plain = sent(alloc, plain.to_data(alloc)?, by_text)?;
+    stay_alike(alloc, other, AtomicBloomFilter::from_data(alloc, of_plain)?)
+}
+
+// Whether all of this holds at a size and a seed.
+fn agree(alloc: Global, bits: usize, seed: u128) -> Result<bool, Fail> {
+    let plain = plain_of(alloc, bits, seed)?;
+    let shared = shared_of(alloc, bits, seed)?;
+    let by_data = are_crossed(alloc, &plain, &shared, false)?;
+    let by_text = are_crossed(alloc, &plain, &shared, true)?;
+    Ok(by_data & by_text & stay_alike(alloc, plain, shared)?)
 }
 
 #[test]

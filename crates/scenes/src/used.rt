@@ -4,6 +4,7 @@ use fastbloom::{AtomicBloomFilter, BloomFilter, FilterError, SeatedBloomFilter};
 use std::alloc::Global;
 use std::fs;
 use std::test::Fail;
+use std::thread::Threads;
 use uses::builders::{by_bits_and_hashes, by_bits_and_items, by_rate_and_items, by_words};
 use uses::clauses::remember;
 use uses::estimates::{are_alike, bounds_of};
@@ -109,25 +110,37 @@ fn a_filter_is_read_from_its_file_and_carries_out_a_list(rt: HostRuntime) -> Res
     Ok(())
 }
 
-// Of the hashes 1, 2 and 1 two set a bit.
-#[test]
-fn shared_filters_find_what_threads_inserted(rt: HostRuntime) -> Result<(), Fail> {
-    assert_eq!(rt; count_found(&rt, rt.alloc())?, 2000);
-    let words = vec![in rt.alloc(); 0u64; 64]?;
-    let (seated, mut passes) = SeatedBloomFilter::new(rt.alloc(), words, 2, 1)?;
+// How many of the hashes 1, 2 and 1 set a bit.
+fn count_new(alloc: Global) -> Result<u64, Fail> {
+    let words = vec![in alloc; 0u64; 64]?;
+    let (filter, mut passes) = SeatedBloomFilter::new(alloc, words, 2, 1)?;
     let Some(mut pass) = passes.pop() else {
         unreachable!()
     };
-    assert_eq!(rt; insert_hashes(&seated, &mut pass, &[1, 2, 1]), 2);
-    let builder = AtomicBloomFilter::with_num_bits(rt.alloc(), 64)?.seed(&42);
-    let live = builder.hashes(rt.alloc(), 2)?;
+    Ok(insert_hashes(&filter, &mut pass, &[1, 2, 1]))
+}
+
+// Whether a rotation gives what was inserted, and leaves nothing.
+fn is_rotated(alloc: Global) -> Result<bool, FilterError> {
+    let builder = AtomicBloomFilter::with_num_bits(alloc, 64)?.seed(&42);
+    let live = builder.hashes(alloc, 2)?;
     live.insert_hash(1);
-    assert!(rt; rotate(rt.alloc(), &live, &42)? == filter_of(rt.alloc(), 64, 42, true)?);
-    assert!(rt; !live.contains_hash(1));
-    let filled = filled::filter_of(&rt, rt.alloc(), &[1, 2, 3, 4, 5, 6, 7])?;
-    for hash in 1..=7u64 {
-        assert!(rt; filled.contains_hash(hash), "{hash}");
-    }
+    let past = rotate(alloc, &live, &42)?;
+    Ok((past.as_slice() == [WORD_OF_ONE].as_slice()) & !live.contains_hash(1))
+}
+
+// Whether a filter that workers fill finds the hashes.
+fn is_filled<R: Threads>(rt: &R, alloc: Global) -> Result<bool, FilterError> {
+    let filter = filled::filter_of(rt, alloc, &[1, 2, 3, 4, 5, 6, 7])?;
+    Ok((1..8u64).all(|hash| filter.contains_hash(hash)))
+}
+
+#[test]
+fn shared_filters_find_what_threads_inserted(rt: HostRuntime) -> Result<(), Fail> {
+    assert_eq!(rt; count_found(&rt, rt.alloc())?, 2000);
+    assert_eq!(rt; count_new(rt.alloc())?, 2);
+    assert!(rt; is_rotated(rt.alloc())?);
+    assert!(rt; is_filled(&rt, rt.alloc())?);
     Ok(())
 }
 
