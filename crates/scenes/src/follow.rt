@@ -76,7 +76,7 @@ fn first_wrong(alloc: Global, scenes: &[Scene]) -> Option<(&'static str, Option<
 
 #[test]
 fn both_filters_answer_each_scene_as_said(rt: HostRuntime) {
-    for scenes in rows::ALL {
+    for scenes in rows::all() {
         let wrong = first_wrong(rt.alloc(), scenes);
         assert!(rt; wrong.is_none(), "{wrong:?}");
     }

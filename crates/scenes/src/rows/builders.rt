@@ -30,7 +30,7 @@ macro_rules! takes_item {
     };
 }
 
-pub(super) const SCENES: &'static [Scene] = &[
+const SCENES: &'static [Scene] = &[
     // Bits are rounded up to words. An insert of billions of hashes takes long, so there is none.
     takes_item!(Make::Bits(1, 4), 64, 4),
     takes_item!(Make::Bits(64, 4), 64, 4),
@@ -52,6 +52,10 @@ pub(super) const SCENES: &'static [Scene] = &[
     takes_item!(Make::RateFor(3, 2, 0, Items::Expected(1000)), 64, 1),
     takes_item!(Make::RateFor(1, 1000, 0, Items::Expected(1000)), 14400, 10),
 ];
+
+pub(super) fn scenes() -> &'static [Scene] {
+    SCENES
+}
 
 // Items at one in two.
 macro_rules! at_half {

@@ -36,7 +36,7 @@ macro_rules! estimate {
 // The second word of the key of seed 42. The first is 0.
 const KEY: u64 = 3026418949592973312;
 
-pub(super) const SCENES: &'static [Scene] = &[
+const SCENES: &'static [Scene] = &[
     goes_in!(u64::MAX, &[0], 2, &[9223380832947798016]),
     goes_in!(1, &[0], 2, &[1048577]),
     goes_in!(1, &[0], 3, &[4296015873]),
@@ -149,3 +149,7 @@ pub(super) const SCENES: &'static [Scene] = &[
         (Words(&[5, 1]), true),
     ),
 ];
+
+pub(super) fn scenes() -> &'static [Scene] {
+    SCENES
+}

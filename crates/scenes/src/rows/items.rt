@@ -52,7 +52,7 @@ macro_rules! is_large {
 // The words of the items 1, 2 and 3 among 128 bits, where there are four hashes.
 const THREE: &'static [u64] = &[90072061271121920, 4755818802984517632];
 
-pub(super) const SCENES: &'static [Scene] = &[
+const SCENES: &'static [Scene] = &[
     goes_in!(Item::Number(42), 0x7b3e_724b_36eb_df51),
     goes_in!(Item::Text("🦀"), 0x75e3_0e0e_d52f_68a3),
     scene!(
@@ -121,3 +121,7 @@ pub(super) const SCENES: &'static [Scene] = &[
     is_large!(17),
     is_large!(40),
 ];
+
+pub(super) fn scenes() -> &'static [Scene] {
+    SCENES
+}

@@ -4,7 +4,7 @@
 use crate::scene::Op::{Clear, Contains, Insert, Words};
 use crate::scene::{Make, Scene};
 
-pub(super) const SCENES: &'static [Scene] = &[
+const SCENES: &'static [Scene] = &[
     scene!(
         "session 11 of the original crate",
         Make::Words(&[0; 16], 0, 22),
@@ -173,3 +173,7 @@ pub(super) const SCENES: &'static [Scene] = &[
         (Words(&[0; 9]), true),
     ),
 ];
+
+pub(super) fn scenes() -> &'static [Scene] {
+    SCENES
+}

@@ -51,7 +51,7 @@ const DOWN: &'static [u64] = &[8, 7, 6, 5, 4, 3, 2, 1, 0];
 // The words of the hashes 2 and 3 among 256 bits, where there are four hashes.
 const TWO_AND_THREE: &'static [u64] = &[5, 268435456, 17179869192, 4504699138998272];
 
-pub(super) const SCENES: &'static [Scene] = &[
+const SCENES: &'static [Scene] = &[
     // 5 or 6 is 7, and 5 and 6 is 4.
     meets!(&[5], Unite(&[6]), &[7]),
     meets!(&[5], Intersect(&[6]), &[4]),
@@ -141,3 +141,7 @@ pub(super) const SCENES: &'static [Scene] = &[
         (Hash(Item::Number(42), 531597369852119952), true),
     ),
 ];
+
+pub(super) fn scenes() -> &'static [Scene] {
+    SCENES
+}
