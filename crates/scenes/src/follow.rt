@@ -38,11 +38,7 @@ fn holds(alloc: Global, pair: &mut Pair, line: &Line) -> Result<bool, Refused> {
 }
 
 // The first line that isn't answered as said, or after which the filters differ.
-fn first_broken(
-    alloc: Global,
-    pair: &mut Pair,
-    lines: &[Line],
-) -> Result<Option<usize>, Refused> {
+fn first_broken(alloc: Global, pair: &mut Pair, lines: &[Line]) -> Result<Option<usize>, Refused> {
     'lines: for (i, line) in lines.iter().enumerate() {
         let held = holds(alloc, pair, line);
         if !are_alike(pair) {

@@ -24,10 +24,7 @@ pub(crate) struct Pair {
 }
 
 /// The outcome of a call, with the call's name where it was refused.
-pub(crate) fn named<T>(
-    call: &'static str,
-    outcome: Result<T, FilterError>,
-) -> Result<T, Refused> {
+pub(crate) fn named<T>(call: &'static str, outcome: Result<T, FilterError>) -> Result<T, Refused> {
     match outcome {
         Ok(made) => Ok(made),
         Err(reason) => Err(Refused { call, reason }),
@@ -71,16 +68,14 @@ fn plain_for(builder: BuilderWithBits, items: &Items) -> BloomFilter {
     }
 }
 
-fn plain_at(
-    alloc: Global,
-    rate: Rate,
-    seed: u128,
-    items: &Items,
-) -> Result<BloomFilter, Refused> {
+fn plain_at(alloc: Global, rate: Rate, seed: u128, items: &Items) -> Result<BloomFilter, Refused> {
     let builder = BloomFilter::with_false_pos(rate).seed(&seed);
     match items {
         Items::Expected(number) => {
-            named("expected_items by rate", builder.expected_items(alloc, *number))
+            named(
+                "expected_items by rate",
+                builder.expected_items(alloc, *number),
+            )
         }
         Items::Numbers(numbers) => named("items by rate", builder.items(alloc, *numbers)),
         Items::Texts(texts) => named("items by rate", builder.items(alloc, *texts)),
@@ -108,7 +103,12 @@ pub(crate) fn plain_of(alloc: Global, make: &Make) -> Result<BloomFilter, Refuse
             Ok(plain_for(plain_words(alloc, words, *seed)?, items))
         }
         Make::RateFor(num, den, seed, items) => {
-            plain_at(alloc, named("Rate::new", Rate::new(*num, *den))?, *seed, items)
+            plain_at(
+                alloc,
+                named("Rate::new", Rate::new(*num, *den))?,
+                *seed,
+                items,
+            )
         }
         Make::Data(words, less_one, k0, k1) => {
             let form = data_of(alloc, words, *less_one, *k0, *k1)?;
@@ -124,7 +124,10 @@ fn shared_for(
 ) -> Result<AtomicBloomFilter, Refused> {
     match items {
         Items::Expected(number) => {
-            named("shared expected_items", builder.expected_items(alloc, *number))
+            named(
+                "shared expected_items",
+                builder.expected_items(alloc, *number),
+            )
         }
         Items::Numbers(numbers) => named("shared items", builder.items(alloc, *numbers)),
         Items::Texts(texts) => named("shared items", builder.items(alloc, *texts)),
@@ -182,11 +185,19 @@ pub(crate) fn shared_of(alloc: Global, make: &Make) -> Result<AtomicBloomFilter,
             shared_for(alloc, shared_words(alloc, words, *seed)?, items)
         }
         Make::RateFor(num, den, seed, items) => {
-            shared_at(alloc, named("Rate::new", Rate::new(*num, *den))?, *seed, items)
+            shared_at(
+                alloc,
+                named("Rate::new", Rate::new(*num, *den))?,
+                *seed,
+                items,
+            )
         }
         Make::Data(words, less_one, k0, k1) => {
             let form = data_of(alloc, words, *less_one, *k0, *k1)?;
-            named("shared from_data", AtomicBloomFilter::from_data(alloc, form))
+            named(
+                "shared from_data",
+                AtomicBloomFilter::from_data(alloc, form),
+            )
         }
     }
 }

@@ -131,7 +131,10 @@ pub(crate) fn to_data_and_back(
     let shared_form = named("shared to_data", pair.shared.to_data(alloc))?;
     let are_given = is_form_of(&form, &pair.plain, k0, k1) & (form == shared_form);
     let is_kept = are_alike(pair);
-    let shared = named("shared from_data", AtomicBloomFilter::from_data(alloc, form))?;
+    let shared = named(
+        "shared from_data",
+        AtomicBloomFilter::from_data(alloc, form),
+    )?;
     let plain = named("from_data", BloomFilter::from_data(shared_form))?;
     *pair = Pair { plain, shared };
     Ok(are_given & is_kept)

@@ -3,8 +3,8 @@
 use crate::follow::follow;
 use crate::making::THE_TEST;
 use crate::scene::Op::{
-    Build, Clear, Clone, ContainsItem, Data, Extend, Insert, InsertItem, Intersect, IsEmpty, Replay,
-    SameShape, SameWords, Shape, Take, Unite, UniteWithItself, Words,
+    Build, Clear, Clone, ContainsItem, Data, Extend, Insert, InsertItem, Intersect, IsEmpty,
+    Replay, SameShape, SameWords, Shape, Take, Unite, UniteWithItself, Words,
 };
 use crate::scene::{Item, Items, Make, Scene};
 use fastbloom::{
@@ -51,13 +51,31 @@ const SCENES: &'static [(&'static [&'static str], Scene)] = &[
             "builders",
             STANDING,
             (Build(Make::Bits(100, 4), 128, 4), true),
-            (Build(Make::BitsFor(1202, Items::Expected(4)), 1216, 211), true),
-            (Build(Make::BitsFor(64, Items::Numbers(&[1, 2])), 64, 22), true),
-            (Build(Make::RateFor(1, 2, 0, Items::Expected(1000)), 1472, 1), true),
-            (Build(Make::RateFor(1, 1000, 0, Items::Numbers(&[1, 2])), 64, 22), true),
+            (
+                Build(Make::BitsFor(1202, Items::Expected(4)), 1216, 211),
+                true
+            ),
+            (
+                Build(Make::BitsFor(64, Items::Numbers(&[1, 2])), 64, 22),
+                true
+            ),
+            (
+                Build(Make::RateFor(1, 2, 0, Items::Expected(1000)), 1472, 1),
+                true
+            ),
+            (
+                Build(Make::RateFor(1, 1000, 0, Items::Numbers(&[1, 2])), 64, 22),
+                true
+            ),
             (Build(Make::Data(&[5, 6], 2, 0, KEY), 128, 3), true),
-            (Build(Make::WordsFor(&[5], 42, Items::Expected(2)), 64, 22), true),
-            (Build(Make::WordsFor(&[5], 42, Items::Numbers(&[1, 2])), 64, 22), true),
+            (
+                Build(Make::WordsFor(&[5], 42, Items::Expected(2)), 64, 22),
+                true
+            ),
+            (
+                Build(Make::WordsFor(&[5], 42, Items::Numbers(&[1, 2])), 64, 22),
+                true
+            ),
             (Words(&[5, 6]), true),
         ),
     ),
@@ -83,12 +101,7 @@ const SCENES: &'static [(&'static [&'static str], Scene)] = &[
     ),
     (
         &["take_words"],
-        scene!(
-            "a take",
-            STANDING,
-            (Take, true),
-            (Words(&[0, 0]), true),
-        ),
+        scene!("a take", STANDING, (Take, true), (Words(&[0, 0]), true),),
     ),
     (
         &[],

@@ -68,12 +68,24 @@ macro_rules! at_half {
 pub(crate) const REFUSALS: &'static [(Make, FilterError)] = &[
     // No bits, more than 2^58 - 1 words twice, and 2^61 - 8 bytes, which no machine has.
     (Make::Bits(0, 1), FilterError::ZeroBits),
-    (Make::Bits(18446744073709551615, 1), FilterError::TooManyWords),
-    (Make::Bits(18446744073709551553, 1), FilterError::TooManyWords),
+    (
+        Make::Bits(18446744073709551615, 1),
+        FilterError::TooManyWords,
+    ),
+    (
+        Make::Bits(18446744073709551553, 1),
+        FilterError::TooManyWords,
+    ),
     (Make::Bits(18446744073709551552, 1), FilterError::Memory),
     (Make::Words(&[], 0, 1), FilterError::EmptyWords),
-    (Make::RateFor(0, 5, 0, Items::Expected(1)), FilterError::ZeroRate),
-    (Make::RateFor(5, 0, 0, Items::Expected(1)), FilterError::ZeroRate),
+    (
+        Make::RateFor(0, 5, 0, Items::Expected(1)),
+        FilterError::ZeroRate,
+    ),
+    (
+        Make::RateFor(5, 0, 0, Items::Expected(1)),
+        FilterError::ZeroRate,
+    ),
     // The size is 2^64 - 8 bits, and for one item more 2^64.
     (at_half!(12786308645202655226), FilterError::TooManyWords),
     (at_half!(12786308645202655227), FilterError::SizeOverflow),
