@@ -85,16 +85,12 @@ pub(crate) fn has_ones(pair: &Pair, ones: usize) -> bool {
     (pair.plain.count_ones() == ones) & (pair.shared.count_ones() == ones)
 }
 
-/// Whether the number of items is told with this lower bound.
-pub(crate) fn has_low(pair: &Pair, low: usize) -> bool {
+/// Whether the number of items is told with these bounds. Where there is no upper one, the lower
+/// isn't compared.
+pub(crate) fn has_bounds(pair: &Pair, low: usize, high: Option<usize>) -> bool {
     let (plain, shared) = (pair.plain.estimated_items(), pair.shared.estimated_items());
-    (plain.low() == low) & (shared.low() == low)
-}
-
-/// Whether the number of items is told with this upper bound, or with none.
-pub(crate) fn has_high(pair: &Pair, high: Option<usize>) -> bool {
-    let (plain, shared) = (pair.plain.estimated_items(), pair.shared.estimated_items());
-    (plain.high() == high) & (shared.high() == high)
+    let has_low = (plain.low() == low) | high.is_none();
+    has_low & (plain.low() == shared.low()) & (plain.high() == high) & (shared.high() == high)
 }
 
 /// Whether the rate that is expected has these ends.

@@ -71,14 +71,19 @@ fn estimates_are_within_four_deviations_of_the_true_number(rt: HostRuntime) {
     }
 }
 
+// A filter of 2^20 bits and three hashes with the items from the first up to the last.
+fn with_items(alloc: Global, first: u64, last: u64) -> Result<BloomFilter, FilterError> {
+    let mut filter = BloomFilter::with_num_bits(alloc, 1 << 20)?.hashes(3);
+    filter.extend(first..last);
+    Ok(filter)
+}
+
 // Items 0 to 59,999 and 40,000 to 99,999: 20,000 of 100,000 in common. Four deviations are 171 for
 // each filter and 291 for both together. The part in common lies between 0.19 and 0.21, since four
 // deviations of each of the three numbers are less than one part in a hundred.
 fn are_alike(alloc: Global) -> Result<bool, FilterError> {
-    let mut first = BloomFilter::with_num_bits(alloc, 1 << 20)?.hashes(3);
-    let mut second = BloomFilter::with_num_bits(alloc, 1 << 20)?.hashes(3);
-    first.extend(0..60_000u64);
-    second.extend(40_000..100_000u64);
+    let first = with_items(alloc, 0, 60_000)?;
+    let second = with_items(alloc, 40_000, 100_000)?;
     if !first.same_shape(&second) {
         return Ok(false);
     }

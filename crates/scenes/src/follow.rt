@@ -1,6 +1,6 @@
 //! Follows scenes: after each line both filters have the same words, hashes and hasher.
 use crate::making::{Pair, Refused, are_alike, have_words, pair_of, plain_of, shared_of};
-use crate::scene::{Line, Make, Op, Scene};
+use crate::scene::{Line, Make, Op, Scene, Size};
 use crate::{answers, memory, rows};
 use fastbloom::FilterError;
 use std::alloc::Global;
@@ -21,28 +21,23 @@ fn holds(alloc: Global, pair: &mut Pair, line: &Line) -> Result<bool, Refused> {
         Op::IsEmpty => Ok(answers::is_empty(pair)),
         Op::Shape(bits, hashes) => Ok(answers::has_shape(pair, *bits, *hashes)),
         Op::Ones(ones) => Ok(answers::has_ones(pair, *ones)),
-        Op::AtLeast(low) => Ok(answers::has_low(pair, *low)),
-        Op::AtMost(high) => Ok(answers::has_high(pair, *high)),
+        Op::Bounds(low, high) => Ok(answers::has_bounds(pair, *low, *high)),
         Op::Rate(items, low, high) => Ok(answers::has_rate(pair, *items, *low, *high)),
         Op::InsertAll(first, last) => memory::insert_all(alloc, pair, *first, *last),
-        Op::Unite(words) => Ok(memory::unite(alloc, pair, words)? == *said),
-        Op::Intersect(words) => Ok(memory::intersect(alloc, pair, words)? == *said),
+        Op::Meet(words, unites) => Ok(memory::meet(alloc, pair, words, *unites)? == *said),
         Op::Clone => memory::copy(alloc, pair, *said),
         Op::Data(k0, k1) => memory::to_data_and_back(alloc, pair, *k0, *k1),
         Op::Take => memory::take(alloc, pair),
         Op::Replay(replies) => memory::replay(alloc, pair, replies),
         Op::Build(make, bits, hashes) => memory::build(alloc, make, *bits, *hashes),
-        Op::SameShape(words, hashes) => memory::compare_shapes(alloc, pair, words, *hashes, *said),
-        Op::SameWords(words, hashes) => memory::compare_words(alloc, pair, words, *hashes, *said),
+        Op::Compare(words, hashes, same_shape) => {
+            memory::compare(alloc, pair, words, *hashes, *same_shape, *said)
+        }
     }
 }
 
 // The first line that isn't answered as said, or after which the filters differ.
-fn first_broken(
-    alloc: Global,
-    pair: &mut Pair,
-    lines: &[Line],
-) -> Result<Option<usize>, Refused> {
+fn first_broken(alloc: Global, pair: &mut Pair, lines: &[Line]) -> Result<Option<usize>, Refused> {
     'lines: for (i, line) in lines.iter().enumerate() {
         let held = holds(alloc, pair, line);
         if !are_alike(pair) {
@@ -76,7 +71,7 @@ fn first_wrong(alloc: Global, scenes: &[Scene]) -> Option<(&'static str, Option<
 
 #[test]
 fn both_filters_answer_each_scene_as_said(rt: HostRuntime) {
-    for scenes in rows::ALL {
+    for scenes in rows::all() {
         let wrong = first_wrong(rt.alloc(), scenes);
         assert!(rt; wrong.is_none(), "{wrong:?}");
     }
@@ -85,7 +80,7 @@ fn both_filters_answer_each_scene_as_said(rt: HostRuntime) {
 #[test]
 fn builders_give_as_many_hashes_as_asked(rt: HostRuntime) {
     for hashes in 1..1000 {
-        let built = memory::build(rt.alloc(), &Make::Bits(1, hashes), 64, hashes);
+        let built = memory::build(rt.alloc(), &Make::Bits(1, Size::Hashes(hashes)), 64, hashes);
         assert!(rt; matches!(built, Ok(true)), "{hashes}");
     }
 }

@@ -1,5 +1,5 @@
 //! How both filters of a scene are made, and whether they are alike.
-use crate::scene::{Items, Make};
+use crate::scene::{Make, Size};
 use fastbloom::{
     AtomicBloomFilter, AtomicBuilderWithBits, BitsData, BloomFilter, BuilderWithBits, FilterData,
     FilterError, Rate,
@@ -16,6 +16,12 @@ pub(crate) struct Refused {
     pub(crate) reason: FilterError,
 }
 
+// Where a rate is to take a number of hashes.
+const NO_SUCH_CALL: Refused = Refused {
+    call: "hashes by rate",
+    reason: FilterError::ZeroRate,
+};
+
 /// A plain and a shared filter, on which the same calls are made.
 #[derive(Drop)]
 pub(crate) struct Pair {
@@ -24,10 +30,7 @@ pub(crate) struct Pair {
 }
 
 /// The outcome of a call, with the call's name where it was refused.
-pub(crate) fn named<T>(
-    call: &'static str,
-    outcome: Result<T, FilterError>,
-) -> Result<T, Refused> {
+pub(crate) fn named<T>(call: &'static str, outcome: Result<T, FilterError>) -> Result<T, Refused> {
     match outcome {
         Ok(made) => Ok(made),
         Err(reason) => Err(Refused { call, reason }),
@@ -63,52 +66,48 @@ fn data_of(
     })
 }
 
-fn plain_for(builder: BuilderWithBits, items: &Items) -> BloomFilter {
-    match items {
-        Items::Expected(number) => builder.expected_items(*number),
-        Items::Numbers(numbers) => builder.items(*numbers),
-        Items::Texts(texts) => builder.items(*texts),
+fn plain_for(builder: BuilderWithBits, size: &Size) -> BloomFilter {
+    match size {
+        Size::Hashes(hashes) => builder.hashes(*hashes),
+        Size::Expected(number) => builder.expected_items(*number),
+        Size::Numbers(numbers) => builder.items(*numbers),
+        Size::Texts(texts) => builder.items(*texts),
     }
 }
 
-fn plain_at(
-    alloc: Global,
-    rate: Rate,
-    seed: u128,
-    items: &Items,
-) -> Result<BloomFilter, Refused> {
-    let builder = BloomFilter::with_false_pos(rate).seed(&seed);
-    match items {
-        Items::Expected(number) => {
-            named("expected_items by rate", builder.expected_items(alloc, *number))
+fn plain_at(alloc: Global, rate: Rate, seed: &u128, size: &Size) -> Result<BloomFilter, Refused> {
+    let builder = BloomFilter::with_false_pos(rate).seed(seed);
+    match size {
+        Size::Hashes(_) => Err(NO_SUCH_CALL),
+        Size::Expected(number) => {
+            named(
+                "expected_items by rate",
+                builder.expected_items(alloc, *number),
+            )
         }
-        Items::Numbers(numbers) => named("items by rate", builder.items(alloc, *numbers)),
-        Items::Texts(texts) => named("items by rate", builder.items(alloc, *texts)),
+        Size::Numbers(numbers) => named("items by rate", builder.items(alloc, *numbers)),
+        Size::Texts(texts) => named("items by rate", builder.items(alloc, *texts)),
     }
-}
-
-// A builder of this many bits.
-fn plain_bits(alloc: Global, bits: usize) -> Result<BuilderWithBits, Refused> {
-    named("with_num_bits", BloomFilter::with_num_bits(alloc, bits))
-}
-
-// A builder of these words, with the key of a seed.
-fn plain_words(alloc: Global, words: &[u64], seed: u128) -> Result<BuilderWithBits, Refused> {
-    let words = words_of(alloc, words)?;
-    Ok(named("from_vec", BloomFilter::from_vec(words))?.seed(&seed))
 }
 
 /// The plain filter.
 pub(crate) fn plain_of(alloc: Global, make: &Make) -> Result<BloomFilter, Refused> {
     match make {
-        Make::Bits(bits, hashes) => Ok(plain_bits(alloc, *bits)?.hashes(*hashes)),
-        Make::BitsFor(bits, items) => Ok(plain_for(plain_bits(alloc, *bits)?, items)),
-        Make::Words(words, seed, hashes) => Ok(plain_words(alloc, words, *seed)?.hashes(*hashes)),
-        Make::WordsFor(words, seed, items) => {
-            Ok(plain_for(plain_words(alloc, words, *seed)?, items))
+        Make::Bits(bits, size) => {
+            let builder = named("with_num_bits", BloomFilter::with_num_bits(alloc, *bits))?;
+            Ok(plain_for(builder, size))
         }
-        Make::RateFor(num, den, seed, items) => {
-            plain_at(alloc, named("Rate::new", Rate::new(*num, *den))?, *seed, items)
+        Make::Words(words, seed, size) => {
+            let builder = BloomFilter::from_vec(words_of(alloc, words)?);
+            Ok(plain_for(named("from_vec", builder)?.seed(seed), size))
+        }
+        Make::Rate(num, den, seed, size) => {
+            plain_at(
+                alloc,
+                named("Rate::new", Rate::new(*num, *den))?,
+                seed,
+                size,
+            )
         }
         Make::Data(words, less_one, k0, k1) => {
             let form = data_of(alloc, words, *less_one, *k0, *k1)?;
@@ -120,73 +119,64 @@ pub(crate) fn plain_of(alloc: Global, make: &Make) -> Result<BloomFilter, Refuse
 fn shared_for(
     alloc: Global,
     builder: AtomicBuilderWithBits,
-    items: &Items,
+    size: &Size,
 ) -> Result<AtomicBloomFilter, Refused> {
-    match items {
-        Items::Expected(number) => {
-            named("shared expected_items", builder.expected_items(alloc, *number))
+    match size {
+        Size::Hashes(hashes) => named("shared hashes", builder.hashes(alloc, *hashes)),
+        Size::Expected(number) => {
+            named(
+                "shared expected_items",
+                builder.expected_items(alloc, *number),
+            )
         }
-        Items::Numbers(numbers) => named("shared items", builder.items(alloc, *numbers)),
-        Items::Texts(texts) => named("shared items", builder.items(alloc, *texts)),
+        Size::Numbers(numbers) => named("shared items", builder.items(alloc, *numbers)),
+        Size::Texts(texts) => named("shared items", builder.items(alloc, *texts)),
     }
 }
 
 fn shared_at(
     alloc: Global,
     rate: Rate,
-    seed: u128,
-    items: &Items,
+    seed: &u128,
+    size: &Size,
 ) -> Result<AtomicBloomFilter, Refused> {
-    let builder = AtomicBloomFilter::with_false_pos(rate).seed(&seed);
-    match items {
-        Items::Expected(number) => named(
+    let builder = AtomicBloomFilter::with_false_pos(rate).seed(seed);
+    match size {
+        Size::Hashes(_) => Err(NO_SUCH_CALL),
+        Size::Expected(number) => named(
             "shared expected_items by rate",
             builder.expected_items(alloc, *number),
         ),
-        Items::Numbers(numbers) => named("shared items by rate", builder.items(alloc, *numbers)),
-        Items::Texts(texts) => named("shared items by rate", builder.items(alloc, *texts)),
+        Size::Numbers(numbers) => named("shared items by rate", builder.items(alloc, *numbers)),
+        Size::Texts(texts) => named("shared items by rate", builder.items(alloc, *texts)),
     }
-}
-
-// A builder of this many bits.
-fn shared_bits(alloc: Global, bits: usize) -> Result<AtomicBuilderWithBits, Refused> {
-    named(
-        "shared with_num_bits",
-        AtomicBloomFilter::with_num_bits(alloc, bits),
-    )
-}
-
-// A builder of these words, with the key of a seed.
-fn shared_words(
-    alloc: Global,
-    words: &[u64],
-    seed: u128,
-) -> Result<AtomicBuilderWithBits, Refused> {
-    let words = words_of(alloc, words)?;
-    Ok(named("shared from_vec", AtomicBloomFilter::from_vec(words))?.seed(&seed))
 }
 
 /// The shared filter.
 pub(crate) fn shared_of(alloc: Global, make: &Make) -> Result<AtomicBloomFilter, Refused> {
     match make {
-        Make::Bits(bits, hashes) => {
-            let builder = shared_bits(alloc, *bits)?;
-            named("shared hashes", builder.hashes(alloc, *hashes))
+        Make::Bits(bits, size) => {
+            let builder = AtomicBloomFilter::with_num_bits(alloc, *bits);
+            shared_for(alloc, named("shared with_num_bits", builder)?, size)
         }
-        Make::BitsFor(bits, items) => shared_for(alloc, shared_bits(alloc, *bits)?, items),
-        Make::Words(words, seed, hashes) => {
-            let builder = shared_words(alloc, words, *seed)?;
-            named("shared hashes", builder.hashes(alloc, *hashes))
+        Make::Words(words, seed, size) => {
+            let builder = AtomicBloomFilter::from_vec(words_of(alloc, words)?);
+            shared_for(alloc, named("shared from_vec", builder)?.seed(seed), size)
         }
-        Make::WordsFor(words, seed, items) => {
-            shared_for(alloc, shared_words(alloc, words, *seed)?, items)
-        }
-        Make::RateFor(num, den, seed, items) => {
-            shared_at(alloc, named("Rate::new", Rate::new(*num, *den))?, *seed, items)
+        Make::Rate(num, den, seed, size) => {
+            shared_at(
+                alloc,
+                named("Rate::new", Rate::new(*num, *den))?,
+                seed,
+                size,
+            )
         }
         Make::Data(words, less_one, k0, k1) => {
             let form = data_of(alloc, words, *less_one, *k0, *k1)?;
-            named("shared from_data", AtomicBloomFilter::from_data(alloc, form))
+            named(
+                "shared from_data",
+                AtomicBloomFilter::from_data(alloc, form),
+            )
         }
     }
 }

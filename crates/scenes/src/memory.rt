@@ -1,7 +1,7 @@
 //! What both filters answer to a call that takes memory, or that needs another filter.
 use crate::making::{Pair, Refused, THE_TEST, are_alike, have_words, named, pair_of, words_of};
-use crate::scene::Make;
-use fastbloom::{AtomicBloomFilter, BloomFilter, Command, FilterData, FilterError};
+use crate::scene::{Make, Size};
+use fastbloom::{AtomicBloomFilter, BloomFilter, Command, FilterError};
 use std::alloc::Global;
 
 // The key of the other filters, which no call looks at.
@@ -9,15 +9,19 @@ const OTHER_SEED: u128 = 2;
 
 // Another pair, of these words and this number of hashes.
 fn other_of(alloc: Global, words: &'static [u64], num_hashes: u32) -> Result<Pair, Refused> {
-    pair_of(alloc, &Make::Words(words, OTHER_SEED, num_hashes))
+    pair_of(
+        alloc,
+        &Make::Words(words, OTHER_SEED, Size::Hashes(num_hashes)),
+    )
 }
 
-/// Whether the filters are united with filters of these words, which stay as they are. False: the
-/// shapes differ, and nothing is done.
-pub(crate) fn unite(
+/// Whether the filters are united, or else intersected, with filters of these words, which stay as
+/// they are. False: the shapes differ, and nothing is done.
+pub(crate) fn meet(
     alloc: Global,
     pair: &mut Pair,
     words: &'static [u64],
+    unites: bool,
 ) -> Result<bool, Refused> {
     let other = other_of(alloc, words, pair.plain.num_hashes())?;
     if !pair.plain.same_shape(&other.plain) {
@@ -26,58 +30,34 @@ pub(crate) fn unite(
     if !pair.shared.same_shape(&other.shared) {
         return Ok(false);
     }
-    pair.plain.union(&other.plain);
-    pair.shared.union(&other.shared);
+    if unites {
+        pair.plain.union(&other.plain);
+        pair.shared.union(&other.shared);
+    } else {
+        pair.plain.intersect(&other.plain);
+        pair.shared.intersect(&other.shared);
+    }
     Ok(have_words(&other, words))
 }
 
-/// Whether the filters are intersected with filters of these words, which stay as they are. False:
-/// the shapes differ, and nothing is done.
-pub(crate) fn intersect(
-    alloc: Global,
-    pair: &mut Pair,
-    words: &'static [u64],
-) -> Result<bool, Refused> {
-    let other = other_of(alloc, words, pair.plain.num_hashes())?;
-    if !pair.plain.same_shape(&other.plain) {
-        return Ok(false);
-    }
-    if !pair.shared.same_shape(&other.shared) {
-        return Ok(false);
-    }
-    pair.plain.intersect(&other.plain);
-    pair.shared.intersect(&other.shared);
-    Ok(have_words(&other, words))
-}
-
-/// Whether the shape is found to be that of a filter of these words and hashes, or else another.
-pub(crate) fn compare_shapes(
+/// Whether the shape, and the shape and words, are found to be those of filters of these words and
+/// hashes, or to differ.
+pub(crate) fn compare(
     alloc: Global,
     pair: &Pair,
     words: &'static [u64],
     num_hashes: u32,
-    said: bool,
+    same_shape: bool,
+    same_words: bool,
 ) -> Result<bool, Refused> {
     let other = other_of(alloc, words, num_hashes)?;
-    let plain = pair.plain.same_shape(&other.plain);
-    let shared = pair.shared.same_shape(&other.shared);
-    Ok((plain == said) & (shared == said) & have_words(&other, words))
-}
-
-/// Whether the filters are found equal to filters of these words and hashes, or else to differ.
-pub(crate) fn compare_words(
-    alloc: Global,
-    pair: &Pair,
-    words: &'static [u64],
-    num_hashes: u32,
-    said: bool,
-) -> Result<bool, Refused> {
-    let other = other_of(alloc, words, num_hashes)?;
-    let plain = (pair.plain == other.plain) == said;
-    let differs = (pair.plain != other.plain) != said;
-    let shared = pair.shared.same_words(&other.shared) == said;
-    let turned = other.shared.same_words(&pair.shared) == said;
-    Ok(plain & differs & shared & turned & have_words(&other, words))
+    let plain = pair.plain.same_shape(&other.plain) == same_shape;
+    let shared = pair.shared.same_shape(&other.shared) == same_shape;
+    let is_equal = (pair.plain == other.plain) == same_words;
+    let differs = (pair.plain != other.plain) != same_words;
+    let is_same = pair.shared.same_words(&other.shared) == same_words;
+    let turned = other.shared.same_words(&pair.shared) == same_words;
+    Ok(plain & shared & is_equal & differs & is_same & turned & have_words(&other, words))
 }
 
 /// Inserts the numbers from the first up to the last, which a vector lends.
@@ -113,13 +93,6 @@ pub(crate) fn copy(alloc: Global, pair: &Pair, said: bool) -> Result<bool, Refus
     Ok(are_equal & differ & (copies.shared.same_words(&pair.shared) != said))
 }
 
-// Whether data are those of a filter, with this key.
-fn is_form_of(form: &FilterData, plain: &BloomFilter, k0: u64, k1: u64) -> bool {
-    (form.bits.bits.as_slice() == plain.as_slice())
-        & (form.num_hashes_minus_one == plain.num_hashes() - 1)
-        & ((form.k0, form.k1) == (k0, k1))
-}
-
 /// Whether both filters have these data, with this key. They go on as they are read from them.
 pub(crate) fn to_data_and_back(
     alloc: Global,
@@ -129,9 +102,14 @@ pub(crate) fn to_data_and_back(
 ) -> Result<bool, Refused> {
     let form = named("to_data", pair.plain.to_data(alloc))?;
     let shared_form = named("shared to_data", pair.shared.to_data(alloc))?;
-    let are_given = is_form_of(&form, &pair.plain, k0, k1) & (form == shared_form);
-    let is_kept = are_alike(pair);
-    let shared = named("shared from_data", AtomicBloomFilter::from_data(alloc, form))?;
+    let has_words = form.bits.bits.as_slice() == pair.plain.as_slice();
+    let has_hashes = form.num_hashes_minus_one == pair.plain.num_hashes() - 1;
+    let are_given = has_words & has_hashes & ((form.k0, form.k1) == (k0, k1));
+    let is_kept = are_alike(pair) & (form == shared_form);
+    let shared = named(
+        "shared from_data",
+        AtomicBloomFilter::from_data(alloc, form),
+    )?;
     let plain = named("from_data", BloomFilter::from_data(shared_form))?;
     *pair = Pair { plain, shared };
     Ok(are_given & is_kept)

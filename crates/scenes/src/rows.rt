@@ -9,11 +9,13 @@ mod sets;
 
 pub(crate) use builders::REFUSALS;
 
-/// Every scene.
-pub(crate) const ALL: &'static [&'static [Scene]] = &[
-    by_hash::SCENES,
-    sets::SCENES,
-    builders::SCENES,
-    items::SCENES,
-    sessions::SCENES,
-];
+/// Every scene, by tables.
+pub(crate) fn all() -> [&'static [Scene]; 5] {
+    [
+        by_hash::scenes(),
+        sets::scenes(),
+        builders::scenes(),
+        items::scenes(),
+        sessions::scenes(),
+    ]
+}

@@ -6,10 +6,12 @@ pub(crate) enum Item {
     Text(&'static str),
 }
 
-/// The items that size a filter.
+/// What fixes the number of hashes, and with a rate the number of bits too.
 #[derive(Drop)]
-pub(crate) enum Items {
-    /// As many as are expected. None go in.
+pub(crate) enum Size {
+    /// So many hashes. A rate can't take them.
+    Hashes(u32),
+    /// As many items as are expected. None go in.
     Expected(usize),
     /// These numbers, which go in.
     Numbers(&'static [u64]),
@@ -17,20 +19,16 @@ pub(crate) enum Items {
     Texts(&'static [&'static str]),
 }
 
-/// How the filters are made. The key is that of a seed, or else the zero key.
+/// What the filters are made of. The key is that of a seed, or else the zero key.
 #[derive(Drop)]
 pub(crate) enum Make {
-    /// Of a number of bits, with a number of hashes.
-    Bits(usize, u32),
-    /// Of a number of bits, for items.
-    BitsFor(usize, Items),
-    /// Of words, with a seed and a number of hashes.
-    Words(&'static [u64], u128, u32),
-    /// Of words, with a seed, for items.
-    WordsFor(&'static [u64], u128, Items),
-    /// For a rate of two parts, with a seed, for items.
-    RateFor(u64, u64, u128, Items),
-    /// Of data: words, the number of hashes less one, and the two words of the key.
+    /// A number of bits.
+    Bits(usize, Size),
+    /// Words and a seed.
+    Words(&'static [u64], u128, Size),
+    /// The two parts of a rate, and a seed.
+    Rate(u64, u64, u128, Size),
+    /// Data: words, the number of hashes less one, and the two words of the key.
     Data(&'static [u64], u32, u64, u64),
 }
 
@@ -50,10 +48,9 @@ pub(crate) enum Op {
     /// `extend` by the numbers from the first up to the second.
     Extend(u64, u64),
     Clear,
-    /// `union` with a filter of these words. False: the shapes differ, and nothing is done.
-    Unite(&'static [u64]),
-    /// `intersect` with a filter of these words. False: the shapes differ, and nothing is done.
-    Intersect(&'static [u64]),
+    /// `union`, or else `intersect`, with a filter of these words. False: the shapes differ, and
+    /// nothing is done.
+    Meet(&'static [u64], bool),
     /// `union` and `intersect` of the shared filter with itself.
     UniteWithItself,
     /// `try_clone`: the copies equal the filters. True: they differ once 42 went into the copies.
@@ -74,16 +71,13 @@ pub(crate) enum Op {
     IsEmpty,
     /// The numbers of bits and of hashes are these.
     Shape(usize, u32),
-    /// `same_shape` with a filter of these words and hashes.
-    SameShape(&'static [u64], u32),
-    /// `==` and `same_words` with a filter of these words and hashes.
-    SameWords(&'static [u64], u32),
+    /// `==` and `same_words` with a filter of these words and hashes, after `same_shape` with it, which
+    /// is this.
+    Compare(&'static [u64], u32, bool),
     /// `count_ones` is this.
     Ones(usize),
-    /// `estimated_items` has this lower bound.
-    AtLeast(usize),
-    /// `estimated_items` has this upper bound, or none.
-    AtMost(Option<usize>),
+    /// `estimated_items` has these bounds. Where there is no upper one, the lower isn't compared.
+    Bounds(usize, Option<usize>),
     /// `expected_false_pos` for so many items has these ends.
     Rate(usize, u64, u64),
 }

@@ -3,10 +3,11 @@
 use crate::follow::follow;
 use crate::making::THE_TEST;
 use crate::scene::Op::{
-    Build, Clear, Clone, ContainsItem, Data, Extend, Insert, InsertItem, Intersect, IsEmpty, Replay,
-    SameShape, SameWords, Shape, Take, Unite, UniteWithItself, Words,
+    Build, Clear, Clone, Compare, ContainsItem, Data, Extend, Insert, InsertItem, IsEmpty, Meet,
+    Replay, Shape, Take, UniteWithItself, Words,
 };
-use crate::scene::{Item, Items, Make, Scene};
+use crate::scene::Size::{Expected, Hashes, Numbers};
+use crate::scene::{Item, Make, Scene};
 use fastbloom::{
     Call, FilterError, Machine, MemoryStore, Rate, drive, expected_density, expected_false_pos,
     optimal_hashes, optimal_size,
@@ -26,38 +27,63 @@ pub(crate) fn word_of(ended: &Result<bool, FilterError>) -> &'static str {
 }
 
 // The words 5 and 6 under three hashes and the key of seed 42.
-const STANDING: Make = Make::Words(&[5, 6], 42, 3);
+const STANDING: Make = Make::Words(&[5, 6], 42, Hashes(3));
 
 // The second word of the key of seed 42. The first is 0.
 const KEY: u64 = 3026418949592973312;
 
-// Scenes, and the calls of each that take memory. A refused call ends its scene, and leaves both
-// filters as they were. `shared hashes` makes the filters of every scene.
-const SCENES: &'static [(&'static [&'static str], Scene)] = &[
+// Calls that take memory, and scenes that make them beside filters that stand. A refused call ends
+// its scene, and leaves the filters as they were. `shared hashes` makes the filters of every scene.
+const SCENES: [(&'static [&'static str], Scene); 8] = [
     (
         &[
             "with_num_bits",
-            "expected_items by rate",
-            "items by rate",
             "shared with_num_bits",
             "shared hashes",
             "shared expected_items",
-            "shared items",
-            "shared expected_items by rate",
-            "shared items by rate",
-            "shared from_data",
         ],
         scene!(
-            "builders",
+            "filters of bits",
             STANDING,
-            (Build(Make::Bits(100, 4), 128, 4), true),
-            (Build(Make::BitsFor(1202, Items::Expected(4)), 1216, 211), true),
-            (Build(Make::BitsFor(64, Items::Numbers(&[1, 2])), 64, 22), true),
-            (Build(Make::RateFor(1, 2, 0, Items::Expected(1000)), 1472, 1), true),
-            (Build(Make::RateFor(1, 1000, 0, Items::Numbers(&[1, 2])), 64, 22), true),
+            (Build(Make::Bits(100, Hashes(4)), 128, 4), true),
+            (Build(Make::Bits(1202, Expected(4)), 1216, 211), true),
+            (Words(&[5, 6]), true),
+        ),
+    ),
+    (
+        &[
+            "shared items",
+            "expected_items by rate",
+            "shared expected_items by rate",
+        ],
+        scene!(
+            "filters for items",
+            STANDING,
+            (Build(Make::Bits(64, Numbers(&[1, 2])), 64, 22), true),
+            (Build(Make::Rate(1, 2, 0, Expected(1000)), 1472, 1), true),
+            (Words(&[5, 6]), true),
+        ),
+    ),
+    (
+        &["items by rate", "shared items by rate", "shared from_data"],
+        scene!(
+            "filters for a rate and of data",
+            STANDING,
+            (
+                Build(Make::Rate(1, 1000, 0, Numbers(&[1, 2])), 64, 22),
+                true
+            ),
             (Build(Make::Data(&[5, 6], 2, 0, KEY), 128, 3), true),
-            (Build(Make::WordsFor(&[5], 42, Items::Expected(2)), 64, 22), true),
-            (Build(Make::WordsFor(&[5], 42, Items::Numbers(&[1, 2])), 64, 22), true),
+            (Words(&[5, 6]), true),
+        ),
+    ),
+    (
+        &[],
+        scene!(
+            "plain filters of words",
+            STANDING,
+            (Build(Make::Words(&[5], 42, Expected(2)), 64, 22), true),
+            (Build(Make::Words(&[5], 42, Numbers(&[1, 2])), 64, 22), true),
             (Words(&[5, 6]), true),
         ),
     ),
@@ -68,43 +94,48 @@ const SCENES: &'static [(&'static [&'static str], Scene)] = &[
             "to_data",
             "shared to_data",
             "shared from_data",
-            "replay",
         ],
-        // Hash 1 has the positions 0, 40 and 64, of which 40 is clear at first.
         scene!(
-            "copies, data and lists",
+            "copies and data",
             STANDING,
             (Clone, true),
             (Data(0, KEY), true),
             (Words(&[5, 6]), true),
-            (Replay(&[false, false, true, true, false]), true),
-            (Words(&[0, 0]), true),
         ),
     ),
     (
-        &["take_words"],
+        &["take_words", "replay"],
         scene!(
-            "a take",
+            "a take and a list",
             STANDING,
             (Take, true),
+            (Words(&[0, 0]), true),
+            (Replay(&[false, false, true, true, false]), true),
             (Words(&[0, 0]), true),
         ),
     ),
     (
         &[],
         scene!(
-            "calls",
+            "calls with items and another filter",
             STANDING,
             (InsertItem(Item::Number(2)), false),
             (Extend(3, 7), true),
             (ContainsItem(Item::Number(6)), true),
             (Insert(1), false),
-            (SameShape(&[5, 6], 3), true),
-            (Unite(&[5, 6]), true),
-            (Intersect(&[5, 6]), true),
+            (Meet(&[5, 6], true), true),
+            (Meet(&[5, 6], false), true),
+            (Words(&[5, 6]), true),
+        ),
+    ),
+    (
+        &[],
+        scene!(
+            "comparisons and clears",
+            STANDING,
+            (Compare(&[5, 6], 3, true), true),
             (UniteWithItself, true),
             (Words(&[5, 6]), true),
-            (SameWords(&[5, 6], 3), true),
             (Shape(128, 3), true),
             (Clear, true),
             (IsEmpty, true),
@@ -120,8 +151,11 @@ fn print_whole(rt: &HostRuntime, calls: &[&str]) -> io::Result<()> {
     Ok(())
 }
 
-// Follows a scene, and prints how it ended.
-fn print_end(rt: &HostRuntime, calls: &[&str], scene: &Scene) -> io::Result<()> {
+// Follows the scene of this number, and prints how it ended.
+fn print_end(rt: &HostRuntime, number: usize) -> io::Result<()> {
+    let Some((calls, scene)) = SCENES.get(number) else {
+        return println!(rt; "scene {number}: wrong");
+    };
     match follow(rt.alloc(), scene) {
         Ok(None) if calls.is_empty() => println!(rt; "{}: without memory", scene.name),
         Ok(None) => print_whole(rt, calls),
@@ -136,16 +170,12 @@ fn print_end(rt: &HostRuntime, calls: &[&str], scene: &Scene) -> io::Result<()> 
     }
 }
 
-// Whether sizes are right, and a store of words makes the steps of an insert.
-fn sizes_and_steps(words: Vec<u64>, others: Vec<u64>) -> Result<bool, FilterError> {
-    let sizes = (optimal_size(1000, Rate::new(1, 2)?)? == 1448) & (optimal_hashes(1024, 2) == 355);
+// Whether sizes and rates are right.
+fn are_sized() -> Result<bool, FilterError> {
+    let size = optimal_size(1000, Rate::new(1, 2)?)?;
     let rate = expected_false_pos(2, expected_density(1, 64, 1));
     let _shape = fastbloom::Shape::new(64, 3)?;
-    let mut store = MemoryStore::new(words, others);
-    let was_there = drive(&mut store, Call::Insert(1), 2);
-    let asks = Machine::new(Call::Union, 1, 2).ask().is_some();
-    let steps = (was_there == Some(false)) & (store.words() == [1048577].as_slice()) & asks;
-    Ok(sizes & steps & (rate.low() == 2251799813685248))
+    Ok((size == 1448) & (optimal_hashes(1024, 2) == 355) & (rate.low() == 2251799813685248))
 }
 
 #[test]
@@ -153,15 +183,53 @@ fn sizes_and_steps_take_no_memory(rt: HostRuntime) -> Result<(), Fail> {
     let (Ok(words), Ok(others)) = ([0].to_vec(rt.alloc()), [0].to_vec(rt.alloc())) else {
         return Ok(println!(rt; "sizes and steps: no room for the test")?);
     };
-    assert!(rt; matches!(sizes_and_steps(words, others), Ok(true)));
+    let mut store = MemoryStore::new(words, others);
+    let was_there = drive(&mut store, Call::Insert(1), 2);
+    let asks = Machine::new(Call::Union, 1, 2).ask().is_some();
+    assert!(rt; asks & (was_there == Some(false)));
+    assert_eq!(rt; store.words(), [1048577].as_slice());
+    assert!(rt; matches!(are_sized(), Ok(true)));
     println!(rt; "sizes and steps: without memory")?;
     Ok(())
 }
 
+// Each test counts its own requests, so the scenes stand in tests of their own.
 #[test]
-fn scenes_are_whole_or_refused(rt: HostRuntime) -> Result<(), Fail> {
-    for (calls, scene) in SCENES {
-        print_end(&rt, calls, scene)?;
-    }
-    Ok(())
+fn filters_of_bits_are_whole_or_refused(rt: HostRuntime) -> Result<(), Fail> {
+    Ok(print_end(&rt, 0)?)
+}
+
+#[test]
+fn filters_for_items_are_whole_or_refused(rt: HostRuntime) -> Result<(), Fail> {
+    Ok(print_end(&rt, 1)?)
+}
+
+#[test]
+fn filters_for_a_rate_and_of_data_are_whole_or_refused(rt: HostRuntime) -> Result<(), Fail> {
+    Ok(print_end(&rt, 2)?)
+}
+
+#[test]
+fn plain_filters_of_words_take_no_memory(rt: HostRuntime) -> Result<(), Fail> {
+    Ok(print_end(&rt, 3)?)
+}
+
+#[test]
+fn copies_and_data_are_whole_or_refused(rt: HostRuntime) -> Result<(), Fail> {
+    Ok(print_end(&rt, 4)?)
+}
+
+#[test]
+fn a_take_and_a_list_are_whole_or_refused(rt: HostRuntime) -> Result<(), Fail> {
+    Ok(print_end(&rt, 5)?)
+}
+
+#[test]
+fn calls_with_items_take_no_memory(rt: HostRuntime) -> Result<(), Fail> {
+    Ok(print_end(&rt, 6)?)
+}
+
+#[test]
+fn comparisons_take_no_memory(rt: HostRuntime) -> Result<(), Fail> {
+    Ok(print_end(&rt, 7)?)
 }

@@ -2,12 +2,13 @@
 //! built unchanged but for its default key, 16 zero bytes, and driven by calls that were drawn. All
 //! forty are cases of the program `bloom`, over the plain filter.
 use crate::scene::Op::{Clear, Contains, Insert, Words};
+use crate::scene::Size::Hashes;
 use crate::scene::{Make, Scene};
 
-pub(super) const SCENES: &'static [Scene] = &[
+const SCENES: &'static [Scene] = &[
     scene!(
         "session 11 of the original crate",
-        Make::Words(&[0; 16], 0, 22),
+        Make::Words(&[0; 16], 0, Hashes(22)),
         (Insert(9223372036854775808), false),
         (Contains(11784801846849301304), false),
         (Contains(0), false),
@@ -82,7 +83,7 @@ pub(super) const SCENES: &'static [Scene] = &[
     ),
     scene!(
         "session 15 of the original crate",
-        Make::Words(&[0; 5], 0, 13),
+        Make::Words(&[0; 5], 0, Hashes(13)),
         (Contains(17252194379717726066), false),
         (Clear, true),
         (Insert(9223372036854775808), false),
@@ -126,7 +127,7 @@ pub(super) const SCENES: &'static [Scene] = &[
     ),
     scene!(
         "session 25 of the original crate",
-        Make::Words(&[0; 9], 0, 4),
+        Make::Words(&[0; 9], 0, Hashes(4)),
         (Insert(14278296827974455000), false),
         (Insert(9223372036854775808), false),
         (Insert(17560418837469613839), false),
@@ -173,3 +174,7 @@ pub(super) const SCENES: &'static [Scene] = &[
         (Words(&[0; 9]), true),
     ),
 ];
+
+pub(super) fn scenes() -> &'static [Scene] {
+    SCENES
+}

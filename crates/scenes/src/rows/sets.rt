@@ -1,9 +1,9 @@
 //! Whole filters: unions, intersections, clears, copies and comparisons. Words are taken eight at a
 //! time, so that lengths go from below eight to above sixteen. Another filter has another key.
 use crate::scene::Op::{
-    Clear, Clone, Contains, Hash, Insert, Intersect, IsEmpty, SameShape, SameWords, Shape, Unite,
-    UniteWithItself, Words,
+    Clear, Clone, Compare, Contains, Hash, Insert, IsEmpty, Meet, Shape, UniteWithItself, Words,
 };
+use crate::scene::Size::Hashes;
 use crate::scene::{Item, Make, Scene};
 
 // A filter of these words meets one of those by a union or an intersection, which makes these.
@@ -11,7 +11,7 @@ macro_rules! meets {
     ($words:expr, $op:expr, $made:expr) => {
         scene!(
             "two filters meet word by word",
-            Make::Words($words, 0, 1),
+            Make::Words($words, 0, Hashes(1)),
             ($op, true),
             (Words($made), true),
         )
@@ -23,7 +23,7 @@ macro_rules! is_cleared {
     ($length:expr) => {
         scene!(
             "a filter is cleared",
-            Make::Words(&[u64::MAX; $length], 0, 1),
+            Make::Words(&[u64::MAX; $length], 0, Hashes(1)),
             (Clear, true),
             (IsEmpty, true),
             (Shape(64 * $length, 1), true),
@@ -36,9 +36,8 @@ macro_rules! compares {
     ($words:expr, $hashes:expr, $same_shape:expr, $same_words:expr) => {
         scene!(
             "filters are compared",
-            Make::Words(&[5, 6], 0, 2),
-            (SameShape($words, $hashes), $same_shape),
-            (SameWords($words, $hashes), $same_words),
+            Make::Words(&[5, 6], 0, Hashes(2)),
+            (Compare($words, $hashes, $same_shape), $same_words),
             (Words(&[5, 6]), true),
         )
     };
@@ -51,44 +50,44 @@ const DOWN: &'static [u64] = &[8, 7, 6, 5, 4, 3, 2, 1, 0];
 // The words of the hashes 2 and 3 among 256 bits, where there are four hashes.
 const TWO_AND_THREE: &'static [u64] = &[5, 268435456, 17179869192, 4504699138998272];
 
-pub(super) const SCENES: &'static [Scene] = &[
+const SCENES: &'static [Scene] = &[
     // 5 or 6 is 7, and 5 and 6 is 4.
-    meets!(&[5], Unite(&[6]), &[7]),
-    meets!(&[5], Intersect(&[6]), &[4]),
-    meets!(&[5, 0], Unite(&[6, 3]), &[7, 3]),
-    meets!(&[5, 2], Intersect(&[6, 3]), &[4, 2]),
-    meets!(UP, Unite(DOWN), &[8, 7, 6, 7, 4, 7, 6, 7, 8]),
-    meets!(UP, Intersect(DOWN), &[0, 1, 2, 1, 4, 1, 2, 1, 0]),
+    meets!(&[5], Meet(&[6], true), &[7]),
+    meets!(&[5], Meet(&[6], false), &[4]),
+    meets!(&[5, 0], Meet(&[6, 3], true), &[7, 3]),
+    meets!(&[5, 2], Meet(&[6, 3], false), &[4, 2]),
+    meets!(UP, Meet(DOWN, true), &[8, 7, 6, 7, 4, 7, 6, 7, 8]),
+    meets!(UP, Meet(DOWN, false), &[0, 1, 2, 1, 4, 1, 2, 1, 0]),
     scene!(
         "filters of other shapes don't meet",
-        Make::Words(&[5], 0, 1),
-        (Unite(&[6, 3]), false),
-        (Intersect(&[6, 3]), false),
+        Make::Words(&[5], 0, Hashes(1)),
+        (Meet(&[6, 3], true), false),
+        (Meet(&[6, 3], false), false),
         (Words(&[5]), true),
     ),
     scene!(
         "a shared filter may be its own other",
-        Make::Words(&[5, 6, 0], 0, 2),
+        Make::Words(&[5, 6, 0], 0, Hashes(2)),
         (UniteWithItself, true),
         (Words(&[5, 6, 0]), true),
     ),
     scene!(
         "a union finds what either filter was given",
-        Make::Words(&[0, 0, 0, 0], 0, 4),
+        Make::Words(&[0, 0, 0, 0], 0, Hashes(4)),
         (Insert(1), false),
         (Insert(2), false),
         (Contains(3), false),
-        (Unite(TWO_AND_THREE), true),
+        (Meet(TWO_AND_THREE, true), true),
         (Contains(1), true),
         (Contains(2), true),
         (Contains(3), true),
     ),
     scene!(
         "an intersection finds what both filters were given",
-        Make::Words(&[0, 0, 0, 0], 0, 4),
+        Make::Words(&[0, 0, 0, 0], 0, Hashes(4)),
         (Insert(1), false),
         (Insert(2), false),
-        (Intersect(TWO_AND_THREE), true),
+        (Meet(TWO_AND_THREE, false), true),
         (Contains(1), false),
         (Contains(2), true),
         (Contains(3), false),
@@ -101,23 +100,23 @@ pub(super) const SCENES: &'static [Scene] = &[
     is_cleared!(17),
     scene!(
         "a copy of words goes its own way",
-        Make::Words(&[0], 0, 4),
+        Make::Words(&[0], 0, Hashes(4)),
         (Clone, true),
         (IsEmpty, true),
     ),
     scene!(
         "a copy of bits goes its own way",
-        Make::Bits(4, 4),
+        Make::Bits(4, Hashes(4)),
         (Clone, true),
         (IsEmpty, true),
     ),
     // The eighth word is the last of a group, and the ninth the rest.
     scene!(
         "nine words are compared",
-        Make::Words(UP, 0, 1),
-        (SameWords(UP, 1), true),
-        (SameWords(&[0, 1, 2, 3, 4, 5, 6, 7, 9], 1), false),
-        (SameWords(&[0, 1, 2, 3, 4, 5, 6, 8, 8], 1), false),
+        Make::Words(UP, 0, Hashes(1)),
+        (Compare(UP, 1, true), true),
+        (Compare(&[0, 1, 2, 3, 4, 5, 6, 7, 9], 1, true), false),
+        (Compare(&[0, 1, 2, 3, 4, 5, 6, 8, 8], 1, true), false),
     ),
     compares!(&[5, 6], 2, true, true),
     compares!(&[5, 7], 2, true, false),
@@ -128,16 +127,19 @@ pub(super) const SCENES: &'static [Scene] = &[
     // SipHash-1-3 under the keys of seeds 1 and 2.
     scene!(
         "filters under the key of seed 1 equal those under seed 2",
-        Make::Words(&[5], 1, 1),
-        (SameShape(&[5], 1), true),
-        (SameWords(&[5], 1), true),
+        Make::Words(&[5], 1, Hashes(1)),
+        (Compare(&[5], 1, true), true),
         (Hash(Item::Number(42), 6125342479052626876), true),
     ),
     scene!(
         "items have another hash under seed 2",
-        Make::Words(&[5], 2, 1),
-        (SameWords(&[5], 1), true),
-        (SameWords(&[5], 2), false),
+        Make::Words(&[5], 2, Hashes(1)),
+        (Compare(&[5], 1, true), true),
+        (Compare(&[5], 2, false), false),
         (Hash(Item::Number(42), 531597369852119952), true),
     ),
 ];
+
+pub(super) fn scenes() -> &'static [Scene] {
+    SCENES
+}
