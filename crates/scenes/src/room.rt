@@ -13,11 +13,13 @@ use std::sync::Arc;
 use std::test::Fail;
 use std::thread::Threads;
 
-// The builders' refusal, or one that no lack of memory brings.
-fn refusal_of(error: GrowingError) -> FilterError {
-    match error {
-        GrowingError::Filter(refusal) => refusal,
-        GrowingError::RateOverflow | GrowingError::TooManyItems => FilterError::SizeOverflow,
+// How a call ended, with the builders' refusal, or with one that no lack of memory brings.
+fn by_builders(ended: Result<bool, GrowingError>) -> Result<bool, FilterError> {
+    match ended {
+        Ok(is_right) => Ok(is_right),
+        Err(GrowingError::Filter(refusal)) => Err(refusal),
+        Err(GrowingError::RateOverflow) => Err(FilterError::SizeOverflow),
+        Err(GrowingError::TooManyItems) => Err(FilterError::SizeOverflow),
     }
 }
 
@@ -34,30 +36,36 @@ fn full(alloc: Global) -> Result<GrowingFilter, GrowingError> {
     Ok(filter)
 }
 
+// Whether a filter has so many full filters and this room, took one hash into its newest, and
+// contains hash 1.
+fn is_left(filter: &GrowingFilter, full: usize, room: usize) -> bool {
+    let filters = (filter.older().len() == full) & (filter.room() == room);
+    filters & (filter.taken() == 1) & filter.contains_hash(1)
+}
+
 // Whether a full filter takes hash 2 into a second filter, or stays as it was.
-fn grown(alloc: Global, filter: &mut GrowingFilter) -> Result<bool, FilterError> {
-    let ended = filter.insert_hash(alloc, 2).map_err(refusal_of);
-    let left = (filter.older().len(), filter.room(), filter.contains_hash(2));
-    let wanted = if ended.is_ok() {
-        (1, 2, true)
-    } else {
-        (0, 1, false)
-    };
-    let is_left = (left == wanted) & filter.contains_hash(1) & (filter.taken() == 1);
-    if !is_left {
-        return Ok(false);
+fn grown(alloc: Global, filter: &mut GrowingFilter) -> Result<bool, GrowingError> {
+    match filter.insert_hash(alloc, 2) {
+        Ok(held) => Ok(!held & is_left(filter, 1, 2) & filter.contains_hash(2)),
+        Err(error) => {
+            if !is_left(filter, 0, 1) {
+                return Ok(false);
+            }
+            Err(error)
+        }
     }
-    ended.map(|held| !held)
 }
 
 #[test]
 fn a_filter_that_grows_is_whole_or_refused(rt: HostRuntime) -> Result<(), Fail> {
-    let ended = begun(rt.alloc()).map_err(refusal_of);
-    println!(rt; "GrowingFilter::new: {}", word_of(&ended))?;
+    println!(rt;
+        "GrowingFilter::new: {}",
+        word_of(&by_builders(begun(rt.alloc())))
+    )?;
     let Ok(mut filter) = full(rt.alloc()) else {
         return Ok(println!(rt; "insert_hash that grows: no room for the test")?);
     };
-    let ended = grown(rt.alloc(), &mut filter);
+    let ended = by_builders(grown(rt.alloc(), &mut filter));
     println!(rt; "insert_hash that grows: {}", word_of(&ended))?;
     Ok(())
 }
@@ -139,9 +147,10 @@ fn closed(alloc: Global) -> Result<Result<bool, FilterError>, FilterError> {
     let was_new = !filter.insert_hash_as(&mut first, 1);
     let is_found = filter.contains_hash_as(&mut second, 1);
     filter.meet(&mut first, &mut second);
-    let is_right = was_new & is_found;
-    let ended = filter.close(alloc, second);
-    Ok(ended.map(|words| is_right & (words.as_slice() == [1048577].as_slice())))
+    match filter.close(alloc, second) {
+        Ok(words) => Ok(Ok(was_new & is_found & (words.as_slice() == [1048577].as_slice()))),
+        Err(refusal) => Ok(Err(refusal)),
+    }
 }
 
 #[test]

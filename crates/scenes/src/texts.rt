@@ -38,22 +38,25 @@ pub(crate) fn read(alloc: Global, text: &str) -> Result<FilterData, serde_json::
     serde_json::from_str(alloc, text)
 }
 
+// Whether a text is read and written as its row says.
+fn is_said(alloc: Global, row: &Said) -> Result<bool, Fail> {
+    let (text, words, num_hashes_minus_one, k0, k1, refused) = *row;
+    let bits = words.to_vec(alloc)?;
+    let form = FilterData {
+        bits: BitsData { bits },
+        num_hashes_minus_one,
+        k0,
+        k1,
+    };
+    let is_read = read(alloc, text)? == form;
+    let is_written = serde_json::to_string(alloc, &form)?.as_str() == text;
+    Ok(is_read & is_written & (BloomFilter::from_data(form).err() == refused))
+}
+
 #[test]
 fn texts_are_read_and_written_with_every_bit(rt: HostRuntime) -> Result<(), Fail> {
-    for (text, words, num_hashes_minus_one, k0, k1, refused) in SAID {
-        let bits = words.to_vec(rt.alloc())?;
-        let form = FilterData {
-            bits: BitsData { bits },
-            num_hashes_minus_one,
-            k0,
-            k1,
-        };
-        assert!(rt;
-            serde_json::to_string(rt.alloc(), &form)?.as_str() == text,
-            "{text}"
-        );
-        assert!(rt; read(rt.alloc(), text)? == form, "{text}");
-        assert!(rt; BloomFilter::from_data(form).err() == refused, "{text}");
+    for row in &SAID {
+        assert!(rt; is_said(rt.alloc(), row)?, "{}", row.0);
     }
     Ok(())
 }

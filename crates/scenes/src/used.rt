@@ -132,7 +132,11 @@ fn is_rotated(alloc: Global) -> Result<bool, FilterError> {
 // Whether a filter that workers fill finds the hashes.
 fn is_filled<R: Threads>(rt: &R, alloc: Global) -> Result<bool, FilterError> {
     let filter = filled::filter_of(rt, alloc, &[1, 2, 3, 4, 5, 6, 7])?;
-    Ok((1..8u64).all(|hash| filter.contains_hash(hash)))
+    let mut are_found = true;
+    for hash in 1..=7u64 {
+        are_found &= filter.contains_hash(hash);
+    }
+    Ok(are_found)
 }
 
 #[test]
