@@ -18,9 +18,19 @@ mod answers;
 #[cfg(test)]
 mod concrete;
 #[cfg(test)]
+mod drawn;
+#[cfg(test)]
 mod estimates;
 #[cfg(test)]
+mod files;
+#[cfg(test)]
+mod fills;
+#[cfg(test)]
 mod follow;
+#[cfg(test)]
+mod growing;
+#[cfg(test)]
+mod hashing;
 #[cfg(test)]
 mod making;
 #[cfg(test)]
@@ -30,8 +40,22 @@ mod numbers;
 #[cfg(test)]
 mod overstated;
 #[cfg(test)]
+mod parity;
+#[cfg(test)]
+mod room;
+#[cfg(test)]
 mod rows;
 #[cfg(test)]
 mod scene;
 #[cfg(test)]
+mod seated;
+#[cfg(test)]
 mod starved;
+#[cfg(test)]
+mod steps;
+#[cfg(test)]
+mod texts;
+#[cfg(test)]
+mod threads;
+#[cfg(test)]
+mod used;
