@@ -50,8 +50,6 @@ mod scene;
 #[cfg(test)]
 mod seated;
 #[cfg(test)]
-mod starved;
-#[cfg(test)]
 mod steps;
 #[cfg(test)]
 mod texts;

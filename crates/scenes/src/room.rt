@@ -1,9 +1,11 @@
 //! Calls that take memory and are no lines of a scene: how each ends where a request for memory is
 //! refused, and what it leaves. Each test prints its calls and how they ended, which bin/starve
 //! compares.
+mod calls;
+
 use crate::fills::{THREE, Watching, gate_for, parts_of};
-use crate::starved::word_of;
 use bloom_parts::bit_vector::{AtomicBitVec, BitVec};
+use calls::word_of;
 use fastbloom::{
     BloomFilter, Call, Event, FilterError, GrowingError, GrowingFilter, Rate, SeatedBloomFilter,
     Shape, fill, run,

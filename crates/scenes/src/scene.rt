@@ -71,8 +71,8 @@ pub(crate) enum Op {
     IsEmpty,
     /// The numbers of bits and of hashes are these.
     Shape(usize, u32),
-    /// `==` and `same_words` with a filter of these words and hashes, after `same_shape` with it, which
-    /// is this.
+    /// `==` and `same_words` with a filter of these words and hashes. `same_shape` with it is the
+    /// last part.
     Compare(&'static [u64], u32, bool),
     /// `count_ones` is this.
     Ones(usize),

@@ -16,7 +16,7 @@ use std::io;
 use std::test::Fail;
 
 /// How a call ended: with the full result, with another, or with a refusal.
-pub(crate) fn word_of(ended: &Result<bool, FilterError>) -> &'static str {
+pub(super) fn word_of(ended: &Result<bool, FilterError>) -> &'static str {
     match ended {
         Ok(true) => "whole",
         Ok(false) => "wrong",
