@@ -1,35 +1,20 @@
-//! The examples of README and of docs/CALLING.md, which the tests run.
+//! The examples of README and of docs/CALLING.md, and a theorem about two threads that a caller
+//! wants.
 #![tactic(auto)]
 
-#[cfg(test)]
-mod builders;
-#[cfg(test)]
-mod clauses;
-#[cfg(test)]
-mod estimates;
-#[cfg(test)]
-mod files;
-#[cfg(test)]
-mod filled;
-#[cfg(test)]
-mod growing;
-#[cfg(test)]
-mod keys;
-#[cfg(test)]
-mod lists;
-#[cfg(test)]
-mod plain;
-#[cfg(test)]
-mod readme;
-#[cfg(test)]
-mod rotated;
-#[cfg(test)]
-mod saved;
-#[cfg(test)]
-mod seated;
-#[cfg(test)]
-mod sets;
-#[cfg(test)]
-mod shared;
-#[cfg(test)]
-mod tests;
+pub mod builders;
+pub mod clauses;
+pub mod estimates;
+pub mod files;
+pub mod filled;
+pub mod growing;
+pub mod keys;
+pub mod lists;
+pub mod plain;
+pub mod readme;
+pub mod rotated;
+pub mod saved;
+pub mod seated;
+pub mod sets;
+pub mod shared;
+pub mod two;

@@ -1,0 +1,101 @@
+//! What both filters answer to a call that takes no memory.
+use crate::making::Pair;
+use crate::scene::Item;
+
+/// Whether the insert of a hash is answered so.
+pub(crate) fn insert_hash(pair: &mut Pair, hash: u64, said: bool) -> bool {
+    (pair.plain.insert_hash(hash) == said) & (pair.shared.insert_hash(hash) == said)
+}
+
+/// Whether the look-up of a hash is answered so.
+pub(crate) fn contains_hash(pair: &Pair, hash: u64, said: bool) -> bool {
+    (pair.plain.contains_hash(hash) == said) & (pair.shared.contains_hash(hash) == said)
+}
+
+/// Whether the insert of an item is answered so.
+pub(crate) fn insert_item(pair: &mut Pair, item: &Item, said: bool) -> bool {
+    let Pair { plain, shared } = pair;
+    match item {
+        Item::Number(number) => (plain.insert(number) == said) & (shared.insert(number) == said),
+        Item::Text(text) => (plain.insert(text) == said) & (shared.insert(text) == said),
+    }
+}
+
+/// Whether the look-up of an item is answered so.
+pub(crate) fn contains_item(pair: &Pair, item: &Item, said: bool) -> bool {
+    let Pair { plain, shared } = pair;
+    match item {
+        Item::Number(number) => {
+            (plain.contains(number) == said) & (shared.contains(number) == said)
+        }
+        Item::Text(text) => (plain.contains(text) == said) & (shared.contains(text) == said),
+    }
+}
+
+/// Whether an item has this source hash.
+pub(crate) fn has_hash(pair: &Pair, item: &Item, hash: u64) -> bool {
+    let Pair { plain, shared } = pair;
+    match item {
+        Item::Number(number) => {
+            (plain.source_hash(number) == hash) & (shared.source_hash(number) == hash)
+        }
+        Item::Text(text) => {
+            (plain.source_hash(text) == hash) & (shared.source_hash(text) == hash)
+        }
+    }
+}
+
+/// Inserts the numbers from the first up to the last.
+pub(crate) fn extend(pair: &mut Pair, first: u64, last: u64) -> bool {
+    pair.plain.extend(first..last);
+    pair.shared.extend(first..last);
+    true
+}
+
+/// Clears both filters.
+pub(crate) fn clear(pair: &mut Pair) -> bool {
+    pair.plain.clear();
+    pair.shared.clear();
+    true
+}
+
+/// Unites the shared filter with itself, and intersects it with itself.
+pub(crate) fn unite_with_itself(pair: &Pair) -> bool {
+    let shared = &pair.shared;
+    if !shared.same_shape(shared) {
+        return false;
+    }
+    shared.union(shared);
+    shared.intersect(shared);
+    shared.same_words(shared)
+}
+
+/// Whether every bit is clear.
+pub(crate) fn is_empty(pair: &Pair) -> bool {
+    pair.plain.iter().all(|word| word == 0)
+}
+
+/// Whether the numbers of bits and of hashes are these.
+pub(crate) fn has_shape(pair: &Pair, num_bits: usize, num_hashes: u32) -> bool {
+    (pair.plain.num_bits() == num_bits) & (pair.plain.num_hashes() == num_hashes)
+}
+
+/// Whether so many bits are set.
+pub(crate) fn has_ones(pair: &Pair, ones: usize) -> bool {
+    (pair.plain.count_ones() == ones) & (pair.shared.count_ones() == ones)
+}
+
+/// Whether the number of items is told with these bounds. Where there is no upper one, the lower
+/// isn't compared.
+pub(crate) fn has_bounds(pair: &Pair, low: usize, high: Option<usize>) -> bool {
+    let (plain, shared) = (pair.plain.estimated_items(), pair.shared.estimated_items());
+    let has_low = (plain.low() == low) | high.is_none();
+    has_low & (plain.low() == shared.low()) & (plain.high() == high) & (shared.high() == high)
+}
+
+/// Whether the rate that is expected has these ends.
+pub(crate) fn has_rate(pair: &Pair, items: usize, low: u64, high: u64) -> bool {
+    let plain = pair.plain.expected_false_pos(items);
+    let shared = pair.shared.expected_false_pos(items);
+    (plain == shared) & (plain.low() == low) & (plain.high() == high)
+}

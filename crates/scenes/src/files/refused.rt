@@ -1,0 +1,117 @@
+//! Files that are refused: the number and the text of each reason, heads at the borders of what is
+//! refused, and files that end too early or too late.
+use crate::files::{WORKED, refusals};
+use bloom_plain::file::FileError;
+use std::alloc::AllocError;
+use std::io::ErrorKind;
+
+// As docs/FILE.md tells them.
+const ERRORS: [(FileError, u8, &'static str); 11] = [
+    (FileError::NotAFilter, 9, "not a filter"),
+    (
+        FileError::Version,
+        10,
+        "a version of the file that isn't known",
+    ),
+    (FileError::HashCount, 7, "hash count out of range"),
+    (FileError::EmptyWords, 2, "no words"),
+    (FileError::TooManyWords, 3, "too many words"),
+    (FileError::Cut, 11, "the file is cut"),
+    (
+        FileError::TooLong,
+        12,
+        "the file goes on after its last word",
+    ),
+    (FileError::Reserved, 13, "a reserved byte isn't zero"),
+    (
+        FileError::Seal,
+        14,
+        "the seal is wrong: the file was changed",
+    ),
+    (FileError::Memory, 6, "no memory"),
+    (
+        FileError::Input(ErrorKind::BrokenPipe),
+        15,
+        "input failed: broken pipe",
+    ),
+];
+
+#[test]
+fn each_refusal_has_its_text_and_number(rt: HostRuntime) -> Result<(), AllocError> {
+    for (error, code, text) in ERRORS {
+        let found = error.to_string(rt.alloc())?;
+        assert!(rt; (found.as_str() == text) & (error.code() == code), "{text}");
+    }
+    Ok(())
+}
+
+// A place of the worked file, the number that is put there, how many bytes are read of the file,
+// and why it is refused then. The seal is wrong wherever nothing comes before it. Fifteen bytes
+// don't tell a number of hashes, nor 23 a number of words. Nobody has the memory for 2^57 words.
+const REFUSED: [(usize, u64, usize, FileError); 23] = [
+    (0, 0x3100_6d6f_6f6c_6267, 72, FileError::NotAFilter),
+    (0, 0x3101_6d6f_6f6c_6266, 72, FileError::NotAFilter),
+    (0, 0x3200_6d6f_6f6c_6266, 72, FileError::Version),
+    (8, 0, 72, FileError::HashCount),
+    (8, 0, 16, FileError::HashCount),
+    (8, 0, 15, FileError::Cut),
+    (8, 1, 72, FileError::Seal),
+    (8, 0xffff_ffff, 72, FileError::Seal),
+    (8, 0x1_0000_0000, 72, FileError::HashCount),
+    (16, 0, 72, FileError::EmptyWords),
+    (16, 0, 24, FileError::EmptyWords),
+    (16, 0, 23, FileError::Cut),
+    (16, 1 << 57, 72, FileError::Cut),
+    (16, 1 << 57, 64, FileError::Cut),
+    (16, 0x03ff_ffff_ffff_ffff, 72, FileError::Cut),
+    (16, 0x0400_0000_0000_0000, 72, FileError::TooManyWords),
+    (24, 0x0706_0504_0302_0101, 72, FileError::Seal),
+    (32, 0x8f0e_0d0c_0b0a_0908, 72, FileError::Seal),
+    (40, 0x5d9d_8dee_d40a_1ba9, 72, FileError::Seal),
+    (48, 1, 72, FileError::Reserved),
+    (56, 1 << 63, 72, FileError::Reserved),
+    (64, 0x1080_0080_4000_1401, 72, FileError::Seal),
+    (64, 0x9080_0080_4000_1400, 72, FileError::Seal),
+];
+
+// The worked file with another number at a place, or as it is where the place lies behind it.
+fn changed(place: usize, number: u64) -> [u8; 72] {
+    let mut file = WORKED;
+    if place <= 64 {
+        file[place..place + 8].copy_from_slice(&number.to_le_bytes());
+    }
+    file
+}
+
+#[test]
+fn a_changed_number_is_refused_once_it_is_whole(rt: HostRuntime) {
+    for (place, number, length, refused) in REFUSED {
+        let file = changed(place, number);
+        let refusals = refusals(rt.alloc(), &file[..length.min(72)]);
+        assert!(rt;
+            refusals == (Some(refused), Some(refused)),
+            "{place}, {number}, {length}"
+        );
+    }
+}
+
+// Eight bytes tell that it is a filter.
+#[test]
+fn every_cut_is_refused_and_so_is_a_byte_more(rt: HostRuntime) -> Result<(), AllocError> {
+    for length in 0..72usize {
+        let reason = if length < 8 {
+            Some(FileError::NotAFilter)
+        } else {
+            Some(FileError::Cut)
+        };
+        assert!(rt;
+            refusals(rt.alloc(), &WORKED[..length]) == (reason, reason),
+            "{length}"
+        );
+    }
+    let mut longer = WORKED.to_vec(rt.alloc())?;
+    longer.push(0)?;
+    let reason = Some(FileError::TooLong);
+    assert!(rt; refusals(rt.alloc(), longer.as_slice()) == (reason, reason));
+    Ok(())
+}

@@ -1,0 +1,145 @@
+//! Filters that workers fill, each with a part of the hashes.
+
+use crate::drawn::{spread, spread_from};
+use fastbloom::{BloomFilter, FilterError, Gate, Shape, fill};
+use std::alloc::Global;
+use std::sync::Arc;
+use std::sync::atomic::{AtomicU64, Ordering};
+use std::test::Fail;
+use std::thread::{Threads, yield_now};
+
+/// A gate that counts the workers, and keeps a bit for the number of each of the first 64. Workers
+/// 0 and 1 each look for those that are awaited, for at most 10,000,000 turns.
+#[derive(Drop)]
+pub(crate) struct Watching {
+    pub(crate) awaited: u64,
+    pub(crate) passes: AtomicU64,
+    pub(crate) numbers: AtomicU64,
+    pub(crate) met: AtomicU64,
+}
+
+/// A gate that no worker passed yet, for so many workers. The first two await one another.
+pub(crate) fn gate_for(workers: usize) -> Watching {
+    Watching {
+        awaited: if workers < 2 { 1 } else { 3 },
+        passes: AtomicU64::new(0),
+        numbers: AtomicU64::new(0),
+        met: AtomicU64::new(0),
+    }
+}
+
+// Two workers can meet only while both run. Each turn lets other threads run, since the other
+// worker may have no processor yet. Without that, 1 run in 600 failed: all its turns were over
+// before the other worker came.
+impl Gate for Watching {
+    fn pass(&self, worker: usize) {
+        self.passes.fetch_add(1, Ordering::SeqCst);
+        if worker < 64 {
+            self.numbers.fetch_or(1 << worker, Ordering::SeqCst);
+        }
+        if worker >= 2 {
+            return;
+        }
+        'turns: for _ in 0..10_000_000 {
+            if self.numbers.load(Ordering::SeqCst) & self.awaited == self.awaited {
+                self.met.fetch_add(1, Ordering::SeqCst);
+                return;
+            }
+            yield_now();
+        }
+    }
+}
+
+// A filter that is filled by a worker for each part, and whether each worker passed the gate once,
+// by its number, and the first two while both ran.
+fn filled<R: Threads>(
+    rt: &R,
+    alloc: Global,
+    shape: Shape,
+    parts: Vec<Vec<u64>>,
+) -> Result<(BloomFilter, bool), FilterError> {
+    let count = parts.len();
+    let gate = Arc::new(alloc, gate_for(count))?;
+    let seen = Arc::try_clone(&gate)?;
+    let filter = fill(rt, alloc, gate, shape, parts)?;
+    let numbers = if count < 64 {
+        !(u64::MAX << count)
+    } else {
+        u64::MAX
+    };
+    let is_seen = (seen.passes.load(Ordering::SeqCst) == count as u64)
+        & (seen.numbers.load(Ordering::SeqCst) == numbers)
+        & (seen.met.load(Ordering::SeqCst) == count.min(2) as u64);
+    Ok((filter, is_seen))
+}
+
+/// Vectors of these parts.
+pub(crate) fn parts_of(alloc: Global, cut: &[&[u64]]) -> Result<Vec<Vec<u64>>, FilterError> {
+    let mut parts = Vec::new(alloc);
+    for part in cut {
+        parts.push(part.to_vec(alloc)?)?;
+    }
+    Ok(parts)
+}
+
+/// Hash 1, then hashes 0 and 1, then none.
+pub(crate) const THREE: &'static [&'static [u64]] = &[&[1], &[0, 1], &[]];
+
+// The bits and hashes of a shape, the shape that they are rounded to, parts of hashes, and the word
+// that they make: no part at all, and the same hashes, cut in further ways.
+type Filling = (usize, u32, (usize, u32), &'static [&'static [u64]], u64);
+
+const FILLINGS: [Filling; 5] = [
+    (64, 3, (64, 3), THREE, 4296015873),
+    (64, 3, (64, 3), &[], 0),
+    (64, 3, (64, 3), &[&[1], &[0]], 4296015873),
+    (64, 3, (64, 3), &[&[], &[0, 1]], 4296015873),
+    (1, 0, (64, 1), &[], 0),
+];
+
+#[test]
+fn parts_fill_a_filter_however_they_are_cut(rt: HostRuntime) -> Result<(), Fail> {
+    for (bits, hashes, rounded, cut, word) in FILLINGS {
+        let shape = Shape::new(bits, hashes)?;
+        let parts = parts_of(rt.alloc(), cut)?;
+        let (filter, is_seen) = filled(&rt, rt.alloc(), shape, parts)?;
+        let is_rounded = (filter.num_bits(), filter.num_hashes()) == rounded;
+        let is_word = filter.as_slice() == [word].as_slice();
+        assert!(rt; is_rounded & is_word & is_seen, "{cut:?}");
+    }
+    Ok(())
+}
+
+// A shape is refused as by a builder.
+#[test]
+fn shapes_are_refused_as_by_builders(rt: HostRuntime) {
+    let most = Shape::new(usize::MAX, 1).err();
+    assert!(rt; Shape::new(0, 1).err() == Some(FilterError::ZeroBits));
+    assert!(rt; most == Some(FilterError::TooManyWords));
+}
+
+// A hundred parts of a thousand hashes each.
+fn hundred(alloc: Global) -> Result<Vec<Vec<u64>>, FilterError> {
+    let mut parts = Vec::new(alloc);
+    for part in 0..100u64 {
+        parts.push(spread_from(alloc, part * 1000, part * 1000 + 1000)?)?;
+    }
+    Ok(parts)
+}
+
+// The filter that one thread makes of them.
+fn made_alone(alloc: Global) -> Result<BloomFilter, FilterError> {
+    let mut filter = BloomFilter::with_num_bits(alloc, 1 << 20)?.hashes(7);
+    for i in 0..100_000u64 {
+        filter.insert_hash(spread(i));
+    }
+    Ok(filter)
+}
+
+#[test]
+fn a_hundred_workers_make_the_filter_of_one_thread(rt: HostRuntime) -> Result<(), Fail> {
+    let shape = Shape::new(1 << 20, 7)?;
+    let (filter, is_seen) = filled(&rt, rt.alloc(), shape, hundred(rt.alloc())?)?;
+    assert!(rt; (filter == made_alone(rt.alloc())?) & is_seen);
+    Ok(())
+}

@@ -1,0 +1,93 @@
+//! Filters that grow: their sizes at values worked out by hand from the definitions, and refusals.
+
+use crate::drawn::spread;
+use fastbloom::{BloomFilter, FilterError, GrowingError, GrowingFilter, Rate};
+use std::test::Fail;
+
+// How many new hashes came before each of the first four filters for a rate of 1/10 and 8 items,
+// its room, and its bits and hashes. The filters are for 8, 16, 32 and 64 items at 1/20, 1/40, 1/80
+// and 1/160. To come to the rate one is halved 4.32 times, and then once more each time. Times the
+// items, and by the logarithm of 2, these are 50, 123, 292 and 676 bits, which are rounded up to
+// words.
+const FILTERS: [(usize, usize, usize, u32); 4] = [
+    (0, 8, 64, 6),
+    (8, 16, 128, 6),
+    (24, 32, 320, 7),
+    (56, 64, 704, 8),
+];
+
+// Whether the newest filter is that of its row, once so many new hashes came.
+fn is_grown(filter: &GrowingFilter, new: usize) -> bool {
+    let Some((before, room, bits, hashes)) = FILTERS.get(filter.older().len()) else {
+        return false;
+    };
+    let shape = (filter.newest().num_bits(), filter.newest().num_hashes());
+    let taken = filter.taken();
+    let is_begun = (taken >= 1) & (taken <= *room) & (filter.room() == *room);
+    (shape == (*bits, *hashes)) & is_begun & (before.saturating_add(taken) == new)
+}
+
+#[test]
+fn each_filter_begins_when_the_one_before_is_full(rt: HostRuntime) -> Result<(), Fail> {
+    let mut filter = GrowingFilter::new(rt.alloc(), Rate::new(1, 10)?, 8)?;
+    let mut new = 0usize;
+    for i in 0..100u64 {
+        if !filter.insert_hash(rt.alloc(), spread(i))? {
+            new = new.saturating_add(1);
+        }
+        assert!(rt;
+            is_grown(&filter, new) & filter.contains_hash(spread(i)),
+            "{i}"
+        );
+    }
+    assert_eq!(rt; filter.older().len(), 3);
+    Ok(())
+}
+
+// Refusals, with their texts, and the parts of a rate and the items that bring them. The first
+// filter is for half the rate: at 1/1 the sizes are 2^64 - 8 bits, and for one item more 2^64. A
+// refusal of the builders keeps its text. No filter is so large that its items are too many.
+const REFUSED: [(GrowingError, &'static str, Option<(u64, u64, usize)>); 4] = [
+    (
+        GrowingError::RateOverflow,
+        "lower part of the rate too large",
+        Some((1, 9223372036854775808, 1)),
+    ),
+    (GrowingError::TooManyItems, "too many items", None),
+    (
+        GrowingError::Filter(FilterError::TooManyWords),
+        "too many words",
+        Some((1, 1, 12786308645202655226)),
+    ),
+    (
+        GrowingError::Filter(FilterError::SizeOverflow),
+        "size too large",
+        Some((1, 1, 12786308645202655227)),
+    ),
+];
+
+#[test]
+fn a_filter_that_cannot_be_made_is_refused(rt: HostRuntime) -> Result<(), Fail> {
+    for (error, text, asked) in REFUSED {
+        assert!(rt; error.to_string(rt.alloc())?.as_str() == text, "{text}");
+        if let Some((num, den, items)) = asked {
+            let refused = GrowingFilter::new(rt.alloc(), Rate::new(num, den)?, items).err();
+            assert!(rt; refused == Some(error), "{text}");
+        }
+    }
+    Ok(())
+}
+
+// A filter under a seed takes an item as the builders' filter under that seed does.
+#[test]
+fn items_go_into_the_filter_that_the_builders_make(rt: HostRuntime) -> Result<(), Fail> {
+    let builder = BloomFilter::with_false_pos(Rate::new(1, 20)?).seed(&42);
+    let mut other = builder.expected_items(rt.alloc(), 8)?;
+    let mut filter = GrowingFilter::seeded(rt.alloc(), Rate::new(1, 10)?, 8, &42)?;
+    assert!(rt; filter.insert(rt.alloc(), &"crab") == Ok(false));
+    assert!(rt; filter.insert(rt.alloc(), &"crab") == Ok(true));
+    assert!(rt; !other.insert(&"crab") & (*filter.newest() == other));
+    assert!(rt; filter.source_hash(&"crab") == other.source_hash(&"crab"));
+    assert!(rt; filter.contains(&"crab") & !filter.contains(&"ray"));
+    Ok(())
+}

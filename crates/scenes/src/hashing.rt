@@ -1,0 +1,205 @@
+//! SipHash-1-3, its keys, and items, at values from outside.
+
+mod nothing;
+mod vectors;
+
+use bloom_parts::hasher::{DefaultHasher, RandomDefaultHasher};
+use fastbloom::{BloomFilter, FilterError, Text};
+use std::alloc::Global;
+use std::hash::{BuildHasher, Hash, Hasher};
+use vectors::{COUNTED, DRAWN, MESSAGE};
+
+// What a hasher takes in, and what it answers on the way.
+#[derive(Clone, Copy)]
+enum Piece {
+    Bytes(&'static [u8]),
+    U8(u8),
+    U16(u16),
+    U32(u32),
+    U64(u64),
+    U128(u128),
+    Usize(usize),
+    I8(i8),
+    I16(i16),
+    I32(i32),
+    I64(i64),
+    I128(i128),
+    Isize(isize),
+    Answers(u64),
+}
+
+// Whether a hasher under the key of a big-endian number answers as the pieces say.
+fn answers(key: u128, pieces: &[Piece]) -> bool {
+    let mut hasher = RandomDefaultHasher::seeded(&key.to_be_bytes());
+    let mut is_right = true;
+    'pieces: for piece in pieces {
+        match *piece {
+            Piece::Bytes(bytes) => hasher.write(bytes),
+            Piece::U8(number) => hasher.write_u8(number),
+            Piece::U16(number) => hasher.write_u16(number),
+            Piece::U32(number) => hasher.write_u32(number),
+            Piece::U64(number) => hasher.write_u64(number),
+            Piece::U128(number) => hasher.write_u128(number),
+            Piece::Usize(number) => hasher.write_usize(number),
+            Piece::I8(number) => hasher.write_i8(number),
+            Piece::I16(number) => hasher.write_i16(number),
+            Piece::I32(number) => hasher.write_i32(number),
+            Piece::I64(number) => hasher.write_i64(number),
+            Piece::I128(number) => hasher.write_i128(number),
+            Piece::Isize(number) => hasher.write_isize(number),
+            Piece::Answers(hash) => is_right &= hasher.finish() == hash,
+        }
+    }
+    is_right
+}
+
+// The bytes of sixteen bytes and of one number of each type, all of them 1, lowest first.
+const NUMBERS: &'static [u8] = &[
+    1, 1, 1, 1, 1, 1, 1, 1, 1, 1, 1, 1, 1, 1, 1, 1, 1, 1, 0, 1, 0, 0, 0, 1, 0, 0, 0, 0, 0, 0, 0, 1,
+    0, 0, 0, 0, 0, 0, 0, 0, 0, 0, 0, 0, 0, 0, 0, 1, 0, 0, 0, 0, 0, 0, 0, 1, 1, 0, 1, 0, 0, 0, 1, 0,
+    0, 0, 0, 0, 0, 0, 1, 0, 0, 0, 0, 0, 0, 0, 0, 0, 0, 0, 0, 0, 0, 0, 1, 0, 0, 0, 0, 0, 0, 0,
+];
+
+// The values are those of Rust's own `std::hash::DefaultHasher` (1.95), which is SipHash-1-3 under
+// the zero key, for the same bytes.
+const PIECES: [&'static [Piece]; 7] = [
+    &[
+        Piece::Bytes(&[1, 2, 3]),
+        Piece::Bytes(&[4, 5]),
+        Piece::Answers(0xde68_2ee7_0fbe_bc3f),
+    ],
+    &[
+        Piece::Bytes(&[1, 2, 3, 4, 5]),
+        Piece::Answers(0xde68_2ee7_0fbe_bc3f),
+    ],
+    // The lowest byte is 1, and the next 2.
+    &[Piece::U16(0x0201), Piece::Answers(0x1d6b_2993_44ba_b347)],
+    &[Piece::Bytes(&[1, 2]), Piece::Answers(0x1d6b_2993_44ba_b347)],
+    &[
+        Piece::Bytes(&[1, 1, 1, 1, 1, 1, 1, 1, 1, 1, 1, 1, 1, 1, 1, 1]),
+        Piece::U8(1),
+        Piece::U16(1),
+        Piece::U32(1),
+        Piece::U64(1),
+        Piece::U128(1),
+        Piece::Usize(1),
+        Piece::I8(1),
+        Piece::I16(1),
+        Piece::I32(1),
+        Piece::I64(1),
+        Piece::I128(1),
+        Piece::Isize(1),
+        Piece::Answers(0xa974_2e3c_46eb_4c8f),
+    ],
+    &[Piece::Bytes(NUMBERS), Piece::Answers(0xa974_2e3c_46eb_4c8f)],
+    // A hasher that answered goes on.
+    &[
+        Piece::Answers(0xd1fb_a762_150c_532c),
+        Piece::Bytes(&[7]),
+        Piece::Answers(0xfff3_eb0c_7071_97bf),
+        Piece::Answers(0xfff3_eb0c_7071_97bf),
+    ],
+];
+
+// The key bytes 0 to 15.
+const COUNTING: u128 = 0x0001_0203_0405_0607_0809_0a0b_0c0d_0e0f;
+
+#[test]
+fn a_hash_is_of_the_key_and_of_the_bytes_written(rt: HostRuntime) {
+    for pieces in PIECES {
+        assert!(rt; answers(0, pieces));
+    }
+    for (length, hash) in COUNTED {
+        let message = Piece::Bytes(&MESSAGE[..length.min(MESSAGE.len())]);
+        assert!(rt;
+            answers(COUNTING, &[message, Piece::Answers(hash)]),
+            "{length}"
+        );
+    }
+    for (key, message, hash) in DRAWN {
+        let pieces = [Piece::Bytes(message), Piece::Answers(hash)];
+        assert!(rt; answers(key, &pieces), "{hash}");
+    }
+}
+
+// A filter of 256 bits and 3 hashes, with nothing in it.
+fn empty_filter(alloc: Global, hasher: DefaultHasher) -> Result<BloomFilter, FilterError> {
+    let builder = BloomFilter::from_vec(vec![in alloc; 0; 4]?)?;
+    Ok(builder.hasher(hasher).hashes(3))
+}
+
+// The hash of an item in a filter under a hasher.
+fn hash_of<T: Hash>(alloc: Global, hasher: DefaultHasher, item: &T) -> Result<u64, FilterError> {
+    Ok(empty_filter(alloc, hasher)?.source_hash(item))
+}
+
+// The hash of an item in a filter under the seed 42.
+fn seeded_hash_of<T: Hash>(alloc: Global, item: &T) -> Result<u64, FilterError> {
+    let builder = BloomFilter::with_num_bits(alloc, 64)?.seed(&42);
+    Ok(builder.hashes(2).source_hash(item))
+}
+
+// An item that writes nothing hashes to the hash of no bytes. A seed makes the hasher of its
+// sixteen big-endian bytes.
+#[test]
+fn sixteen_bytes_make_the_key_of_a_hasher(rt: HostRuntime) -> Result<(), FilterError> {
+    let alloc = rt.alloc();
+    let counting = DefaultHasher::seeded(&COUNTING.to_be_bytes());
+    assert!(rt; hash_of(alloc, counting, &())? == 0xabac_0158_050f_c4dc);
+    let given = DefaultHasher::seeded(&42u128.to_be_bytes());
+    assert!(rt; given.key() == (0, 3026418949592973312));
+    assert!(rt; hash_of(alloc, given, &7u64)? == seeded_hash_of(alloc, &7u64)?);
+    let given = DefaultHasher::seeded(&42u128.to_be_bytes());
+    assert!(rt; hash_of(alloc, given, &"42")? == seeded_hash_of(alloc, &"42")?);
+    Ok(())
+}
+
+#[derive(PartialEq, Eq, Hash)]
+enum Shape {
+    Dot,
+    Round(u8),
+    Square { side: u64 },
+}
+
+// Whether an item hashes to this under the zero key, and is found in a filter that was cleared once
+// it was inserted, and not before.
+fn goes_in<T: Hash>(filter: &mut BloomFilter, item: &T, hash: u64) -> bool {
+    filter.clear();
+    let found_before = filter.contains(item);
+    let stood_before = filter.insert(item);
+    let stands = filter.insert(item);
+    let is_new = !found_before & !stood_before;
+    (filter.source_hash(item) == hash) & is_new & stands & filter.contains(item)
+}
+
+// What Rust's own hasher (1.95) answers for the same items, and after one write of the bytes of a
+// text.
+#[test]
+fn items_of_all_types_go_in_by_their_hash(rt: HostRuntime) -> Result<(), FilterError> {
+    let mut filter = empty_filter(rt.alloc(), DefaultHasher::default())?;
+    let all = [
+        goes_in(&mut filter, &42u64, 0x7b3e_724b_36eb_df51),
+        goes_in(&mut filter, &-1i32, 0x52c4_0c88_74ca_d6e2),
+        goes_in(&mut filter, &"42", 0x05ee_89d1_0068_c3d9),
+        goes_in(&mut filter, &"🦀", 0x75e3_0e0e_d52f_68a3),
+        goes_in(&mut filter, &(1u8, 2u16), 0x6b1c_fe27_4045_3cce),
+        goes_in(&mut filter, &(1u32, -2i16), 0x7764_59f8_d398_c60e),
+        goes_in(&mut filter, &Shape::Dot, 0xbd60_acb6_58c7_9e45),
+        goes_in(&mut filter, &Shape::Round(3), 0x23a5_d0f3_6a07_c6bc),
+        goes_in(
+            &mut filter,
+            &Shape::Square { side: 9 },
+            0xbde4_4376_9258_25d7,
+        ),
+        goes_in(&mut filter, &(), 0xd1fb_a762_150c_532c),
+        goes_in(
+            &mut filter,
+            &Text([1, 2, 3, 4, 5].as_slice()),
+            0xde68_2ee7_0fbe_bc3f,
+        ),
+        goes_in(&mut filter, &Text([7].as_slice()), 0xfff3_eb0c_7071_97bf),
+        goes_in(&mut filter, &Text([].as_slice()), 0xd1fb_a762_150c_532c),
+    ];
+    assert!(rt; all == [true; 13]);
+    Ok(())
+}

@@ -1,0 +1,59 @@
+//! Tests of the filters and their parts: what no contract says, at values from outside.
+#![tactic(auto)]
+
+// A scene of a name, how its filters are made, and its lines.
+#[cfg(test)]
+macro_rules! scene {
+    ($name:expr, $make:expr, $($line:expr),+ $(,)?) => {
+        Scene {
+            name: $name,
+            make: $make,
+            lines: &[$($line),+],
+        }
+    };
+}
+
+#[cfg(test)]
+mod answers;
+#[cfg(test)]
+mod concrete;
+#[cfg(test)]
+mod drawn;
+#[cfg(test)]
+mod estimates;
+#[cfg(test)]
+mod files;
+#[cfg(test)]
+mod fills;
+#[cfg(test)]
+mod follow;
+#[cfg(test)]
+mod growing;
+#[cfg(test)]
+mod hashing;
+#[cfg(test)]
+mod making;
+#[cfg(test)]
+mod memory;
+#[cfg(test)]
+mod numbers;
+#[cfg(test)]
+mod overstated;
+#[cfg(test)]
+mod parity;
+#[cfg(test)]
+mod room;
+#[cfg(test)]
+mod rows;
+#[cfg(test)]
+mod scene;
+#[cfg(test)]
+mod seated;
+#[cfg(test)]
+mod steps;
+#[cfg(test)]
+mod texts;
+#[cfg(test)]
+mod threads;
+#[cfg(test)]
+mod used;

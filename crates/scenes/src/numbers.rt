@@ -1,0 +1,162 @@
+//! Numbers of hashes, sizes, rates and brackets at values from outside, and the refusals' texts.
+use fastbloom::{
+    BloomFilter, Bracket, FilterError, Rate, expected_density, expected_false_pos, optimal_hashes,
+    optimal_size,
+};
+use std::alloc::Global;
+
+// Bits, items and the number of hashes. The quotient of bits and items times the logarithm of 2 is
+// rounded half up: 1024 / 2 gives 354.9. The last line is two and a half, since its items are the
+// logarithm times 2^53.
+const HASHES: [(usize, usize, u32); 9] = [
+    (1024, 2, 355),
+    (1024, 500, 1),
+    (64, 1, 44),
+    (64, 0, 4294967295),
+    (0, 0, 1),
+    (0, 5, 1),
+    (18446744073709551615, 1, 4294967295),
+    (64, 18446744073709551615, 1),
+    (22517998136852480, 6243314768165359, 3),
+];
+
+#[test]
+fn hashes_are_rounded_half_up_within_their_range(rt: HostRuntime) {
+    for (bits, items, hashes) in HASHES {
+        assert!(rt; optimal_hashes(bits, items) == hashes, "{items}");
+    }
+}
+
+// Items, the two parts of a rate, and the size. The size goes by how many times one is halved to
+// come to the rate: once for a half, 638 sixty-fourths of a time for a thousandth, 64 times for the
+// least rate, not at all for 3/2 and more, and a sixty-fourth of a time for the greatest rate below
+// one. No word holds the last two sizes.
+const SIZES: [(usize, u64, u64, Result<usize, FilterError>); 14] = [
+    (1, 1, 2, Ok(64)),
+    (1000, 1, 2, Ok(1448)),
+    (1, 1, 18446744073709551615, Ok(96)),
+    (2, 1, 1000, Ok(64)),
+    (1000, 1, 1000, Ok(14384)),
+    (1000, 3, 2, Ok(64)),
+    (0, 1, 1000, Ok(64)),
+    (1000, 18446744073709551615, 1, Ok(64)),
+    (
+        1000000,
+        18446744073709551614,
+        18446744073709551615,
+        Ok(22544),
+    ),
+    (12786308645202655226, 1, 2, Ok(18446744073709551608)),
+    (12786308645202655227, 1, 2, Err(FilterError::SizeOverflow)),
+    (18446744073709551615, 1, 2, Err(FilterError::SizeOverflow)),
+    (1, 0, 5, Err(FilterError::ZeroRate)),
+    (1, 5, 0, Err(FilterError::ZeroRate)),
+];
+
+// The size for this many items at a rate of two parts.
+fn size_of(items: usize, num: u64, den: u64) -> Result<usize, FilterError> {
+    optimal_size(items, Rate::new(num, den)?)
+}
+
+#[test]
+fn sizes_are_whole_bytes_of_a_word_or_more_or_are_refused(rt: HostRuntime) {
+    for (items, num, den, size) in SIZES {
+        assert!(rt; size_of(items, num, den) == size, "{items}");
+    }
+}
+
+// Hashes, bits, items, and both ends in units of 2^-63: 1 - (63/64)^t, and 1 - (2/3). The last two
+// lines, computed apart with Python's whole numbers, tell how each product is rounded: other ways
+// of rounding give other ends.
+const DENSITIES: [(u32, usize, usize, u64, u64); 8] = [
+    (1, 64, 1, 144115188075855872, 144115188075855872),
+    (1, 64, 2, 285978576338026496, 285978576338026496),
+    (1, 3, 1, 3074457345618258602, 3074457345618258603),
+    (2, 64, 0, 0, 0),
+    (1, 1, 1, 9223372036854775808, 9223372036854775808),
+    (1, 18446744073709551615, 1, 0, 1),
+    (7, 1024, 100, 4568972320092213995, 4568972320092214093),
+    (13, 1000, 77, 5835371729641738664, 5835371729641739423),
+];
+
+// Whether a bracket has these ends.
+fn has_ends(bracket: Bracket, low: u64, high: u64) -> bool {
+    (bracket.low() == low) & (bracket.high() == high)
+}
+
+// Whether these powers of densities have these ends, and the greatest arguments return in range.
+fn powers_hold() -> bool {
+    let sixty_fourth = expected_density(1, 64, 1);
+    let squared = expected_false_pos(2, sixty_fourth);
+    let seventh = expected_false_pos(7, expected_density(7, 1024, 100));
+    let whole = expected_false_pos(0, Bracket::new(0, 0));
+    let density = expected_density(4294967295, 18446744073709551615, 18446744073709551615);
+    let greatest = expected_false_pos(4294967295, density);
+    (expected_false_pos(1, sixty_fourth) == sixty_fourth)
+        & has_ends(squared, 2251799813685248, 2251799813685248)
+        & has_ends(seventh, 67513609598153215, 67513609598153226)
+        & has_ends(whole, 9223372036854775808, 9223372036854775808)
+        & (density.low() <= density.high())
+        & (density.high() <= 9223372036854775808)
+        & (greatest.low() <= greatest.high())
+        & (greatest.high() <= 9223372036854775808)
+}
+
+#[test]
+fn densities_and_their_powers_have_these_ends(rt: HostRuntime) {
+    for (hashes, bits, items, low, high) in DENSITIES {
+        assert!(rt;
+            has_ends(expected_density(hashes, bits, items), low, high),
+            "{bits}"
+        );
+    }
+    assert!(rt; powers_hold());
+}
+
+const REFUSALS: [(FilterError, u8, &str); 8] = [
+    (FilterError::ZeroBits, 1, "zero bits"),
+    (FilterError::EmptyWords, 2, "no words"),
+    (FilterError::TooManyWords, 3, "too many words"),
+    (FilterError::ZeroRate, 4, "rate with a zero part"),
+    (FilterError::SizeOverflow, 5, "size too large"),
+    (FilterError::Memory, 6, "no memory"),
+    (FilterError::HashCount, 7, "hash count too large"),
+    (FilterError::Worker, 8, "no worker"),
+];
+
+// Whether a refusal has this number and this text.
+fn reads(alloc: Global, refusal: &(FilterError, u8, &str)) -> Result<bool, FilterError> {
+    let (error, code, text) = refusal;
+    let Ok(found) = error.to_string(alloc) else {
+        return Err(FilterError::Memory);
+    };
+    Ok((error.code() == *code) & (found.as_str() == *text))
+}
+
+#[test]
+fn refusals_have_these_numbers_and_texts(rt: HostRuntime) {
+    for refusal in &REFUSALS {
+        assert!(rt;
+            matches!(reads(rt.alloc(), refusal), Ok(true)),
+            "{}",
+            refusal.1
+        );
+    }
+}
+
+// Whether a rate keeps its parts, and equals by value, as the builders of rates do, whatever their
+// hashers.
+fn rates_hold() -> Result<bool, FilterError> {
+    let (half, same, third) = (Rate::new(1, 2)?, Rate::new(2, 4)?, Rate::new(1, 3)?);
+    let parts = (same.num() == 2) & (same.den() == 4);
+    let by_value = (half == same) & (half != third);
+    let of_half = BloomFilter::with_false_pos(half).seed(&1);
+    let of_same = BloomFilter::with_false_pos(same).seed(&2);
+    let of_third = BloomFilter::with_false_pos(third).seed(&1);
+    Ok(parts & by_value & (of_half == of_same) & (of_half != of_third))
+}
+
+#[test]
+fn rates_keep_their_parts_and_equal_by_value(rt: HostRuntime) {
+    assert!(rt; matches!(rates_hold(), Ok(true)));
+}

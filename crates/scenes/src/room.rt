@@ -1,0 +1,206 @@
+//! Calls that take memory and are no lines of a scene: how each ends where a request for memory is
+//! refused, and what it leaves. Each test prints its calls and how they ended, which bin/starve
+//! compares.
+mod calls;
+
+use crate::fills::{THREE, Watching, gate_for, parts_of};
+use bloom_parts::bit_vector::{AtomicBitVec, BitVec};
+use calls::word_of;
+use fastbloom::{
+    BloomFilter, Call, Event, FilterError, GrowingError, GrowingFilter, Rate, SeatedBloomFilter,
+    Shape, fill, run,
+};
+use std::alloc::Global;
+use std::sync::Arc;
+use std::test::Fail;
+use std::thread::Threads;
+
+// How a call ended, with the builders' refusal, or with one that no lack of memory brings.
+fn by_builders(ended: Result<bool, GrowingError>) -> Result<bool, FilterError> {
+    match ended {
+        Ok(is_right) => Ok(is_right),
+        Err(GrowingError::Filter(refusal)) => Err(refusal),
+        Err(GrowingError::RateOverflow) => Err(FilterError::SizeOverflow),
+        Err(GrowingError::TooManyItems) => Err(FilterError::SizeOverflow),
+    }
+}
+
+// Whether a filter for one item has its room.
+fn begun(alloc: Global) -> Result<bool, GrowingError> {
+    let filter = GrowingFilter::new(alloc, Rate::new(4, 1)?, 1)?;
+    Ok((filter.newest().num_bits() == 64) & (filter.room() == 1))
+}
+
+// A filter for one item that is full, with hash 1. The first insert takes no memory.
+fn full(alloc: Global) -> Result<GrowingFilter, GrowingError> {
+    let mut filter = GrowingFilter::new(alloc, Rate::new(4, 1)?, 1)?;
+    filter.insert_hash(alloc, 1)?;
+    Ok(filter)
+}
+
+// Whether a filter has so many full filters and this room, took one hash into its newest, and
+// contains hash 1.
+fn is_left(filter: &GrowingFilter, full: usize, room: usize) -> bool {
+    let filters = (filter.older().len() == full) & (filter.room() == room);
+    filters & (filter.taken() == 1) & filter.contains_hash(1)
+}
+
+// Whether a full filter takes hash 2 into a second filter, or stays as it was.
+fn grown(alloc: Global, filter: &mut GrowingFilter) -> Result<bool, GrowingError> {
+    match filter.insert_hash(alloc, 2) {
+        Ok(held) => Ok(!held & is_left(filter, 1, 2) & filter.contains_hash(2)),
+        Err(error) => {
+            if !is_left(filter, 0, 1) {
+                return Ok(false);
+            }
+            Err(error)
+        }
+    }
+}
+
+#[test]
+fn a_filter_that_grows_is_whole_or_refused(rt: HostRuntime) -> Result<(), Fail> {
+    println!(rt;
+        "GrowingFilter::new: {}",
+        word_of(&by_builders(begun(rt.alloc())))
+    )?;
+    let Ok(mut filter) = full(rt.alloc()) else {
+        return Ok(println!(rt; "insert_hash that grows: no room for the test")?);
+    };
+    let ended = by_builders(grown(rt.alloc(), &mut filter));
+    println!(rt; "insert_hash that grows: {}", word_of(&ended))?;
+    Ok(())
+}
+
+// A filter that stands by.
+fn standing(alloc: Global) -> Result<BloomFilter, FilterError> {
+    let words = [5, 6].to_vec(alloc)?;
+    Ok(BloomFilter::from_vec(words)?.hashes(3))
+}
+
+fn plain_words(alloc: Global) -> Result<bool, FilterError> {
+    let words = [7u64, 8, 9];
+    let bits = BitVec::from_words(alloc, words.iter().copied())?;
+    Ok(bits.as_slice() == words.as_slice())
+}
+
+fn shared_words(alloc: Global) -> Result<bool, FilterError> {
+    let words = [7u64, 8, 9];
+    let bits = AtomicBitVec::from_words(alloc, words.iter().copied())?;
+    Ok(bits.iter().eq(words.iter().copied()))
+}
+
+// Two inserts of one hash, whose positions are 0 and 20.
+const INSERTS: [Event; 6] = [
+    Event::Begin {
+        party: 0,
+        call: Call::Insert(1),
+    },
+    Event::Begin {
+        party: 1,
+        call: Call::Insert(1),
+    },
+    Event::Go { party: 0, given: 0 },
+    Event::Go { party: 1, given: 0 },
+    Event::Go { party: 1, given: 0 },
+    Event::Go { party: 0, given: 0 },
+];
+
+fn course(alloc: Global) -> Result<bool, FilterError> {
+    let trace = run(alloc, &[0], 2, 2, &INSERTS)?;
+    Ok((trace.words() == [1048577].as_slice()) & (trace.records().len() == 6))
+}
+
+// Whether the filter that stands by is as it was.
+fn stands(filter: &BloomFilter) -> bool {
+    (filter.as_slice() == [5, 6].as_slice()) & (filter.num_hashes() == 3)
+}
+
+#[test]
+fn words_and_a_run_are_whole_or_refused(rt: HostRuntime) -> Result<(), Fail> {
+    let Ok(filter) = standing(rt.alloc()) else {
+        return Ok(println!(rt; "from_words: no room for the test")?);
+    };
+    let plain = word_of(&plain_words(rt.alloc()));
+    let shared = word_of(&shared_words(rt.alloc()));
+    let course = word_of(&course(rt.alloc()));
+    assert!(rt; stands(&filter));
+    println!(rt; "from_words: {plain}")?;
+    println!(rt; "shared from_words: {shared}")?;
+    println!(rt; "run: {course}")?;
+    Ok(())
+}
+
+// Whether a filter of one word has the three passes that were asked for.
+fn opened(alloc: Global) -> Result<bool, FilterError> {
+    let words = [0].to_vec(alloc)?;
+    let (_filter, passes) = SeatedBloomFilter::new(alloc, words, 2, 3)?;
+    Ok(passes.len() == 3)
+}
+
+// How `close` ended after two of the passes called, if there was room for the filter. Hash 1 has
+// the positions 0 and 20.
+fn closed(alloc: Global) -> Result<Result<bool, FilterError>, FilterError> {
+    let words = [0].to_vec(alloc)?;
+    let (filter, mut passes) = SeatedBloomFilter::new(alloc, words, 2, 3)?;
+    let (Some(mut first), Some(mut second)) = (passes.pop(), passes.pop()) else {
+        return Ok(Ok(false));
+    };
+    let was_new = !filter.insert_hash_as(&mut first, 1);
+    let is_found = filter.contains_hash_as(&mut second, 1);
+    filter.meet(&mut first, &mut second);
+    match filter.close(alloc, second) {
+        Ok(words) => Ok(Ok(was_new & is_found & (words.as_slice() == [1048577].as_slice()))),
+        Err(refusal) => Ok(Err(refusal)),
+    }
+}
+
+#[test]
+fn a_seated_filter_is_whole_or_refused(rt: HostRuntime) -> Result<(), Fail> {
+    let Ok(filter) = standing(rt.alloc()) else {
+        return Ok(println!(rt; "seated new: no room for the test")?);
+    };
+    let opened = word_of(&opened(rt.alloc()));
+    let closed = match closed(rt.alloc()) {
+        Ok(ended) => word_of(&ended),
+        Err(_refusal) => "no room for the test",
+    };
+    assert!(rt; stands(&filter));
+    println!(rt; "seated new: {opened}")?;
+    println!(rt; "seated close: {closed}")?;
+    Ok(())
+}
+
+fn filled<R: Threads>(
+    rt: &R,
+    alloc: Global,
+    gate: Arc<Watching, Global>,
+    parts: Vec<Vec<u64>>,
+) -> Result<bool, FilterError> {
+    let filter = fill(rt, alloc, gate, Shape::new(64, 3)?, parts)?;
+    Ok((filter.as_slice() == [4296015873].as_slice()) & (filter.num_hashes() == 3))
+}
+
+// A gate, seen twice, and the parts.
+type Ready = (Arc<Watching, Global>, Arc<Watching, Global>, Vec<Vec<u64>>);
+
+fn ready(alloc: Global) -> Result<Ready, FilterError> {
+    let parts = parts_of(alloc, THREE)?;
+    let gate = Arc::new(alloc, gate_for(1))?;
+    let seen = Arc::try_clone(&gate)?;
+    Ok((gate, seen, parts))
+}
+
+// A worker has the gate until it ends. So all have ended, and none comes later, where no one else
+// has it.
+#[test]
+fn a_filled_filter_is_whole_or_refused_once_all_workers_ended(rt: HostRuntime) -> Result<(), Fail> {
+    let Ok((gate, seen, parts)) = ready(rt.alloc()) else {
+        return Ok(println!(rt; "fill: no room for the test")?);
+    };
+    let word = word_of(&filled(&rt, rt.alloc(), gate, parts));
+    let holders = Arc::strong_count(&seen);
+    assert!(rt; holders == 1, "a worker still has the gate");
+    println!(rt; "fill: {word}")?;
+    Ok(())
+}

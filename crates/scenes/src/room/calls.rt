@@ -1,0 +1,235 @@
+//! Scenes that are run again and again, each time with one request for memory refused. They print
+//! their calls and how each ended, which bin/starve compares.
+use crate::follow::follow;
+use crate::making::THE_TEST;
+use crate::scene::Op::{
+    Build, Clear, Clone, Compare, ContainsItem, Data, Extend, Insert, InsertItem, IsEmpty, Meet,
+    Replay, Shape, Take, UniteWithItself, Words,
+};
+use crate::scene::Size::{Expected, Hashes, Numbers};
+use crate::scene::{Item, Make, Scene};
+use fastbloom::{
+    Call, FilterError, Machine, MemoryStore, Rate, drive, expected_density, expected_false_pos,
+    optimal_hashes, optimal_size,
+};
+use std::io;
+use std::test::Fail;
+
+/// How a call ended: with the full result, with another, or with a refusal.
+pub(super) fn word_of(ended: &Result<bool, FilterError>) -> &'static str {
+    match ended {
+        Ok(true) => "whole",
+        Ok(false) => "wrong",
+        Err(FilterError::Memory) => "Memory",
+        Err(FilterError::Worker) => "Worker",
+        Err(_refusal) => "wrong",
+    }
+}
+
+// The words 5 and 6 under three hashes and the key of seed 42.
+const STANDING: Make = Make::Words(&[5, 6], 42, Hashes(3));
+
+// The second word of the key of seed 42. The first is 0.
+const KEY: u64 = 3026418949592973312;
+
+// Calls that take memory, and scenes that make them beside filters that stand. A refused call ends
+// its scene, and leaves the filters as they were. `shared hashes` makes the filters of every scene.
+const SCENES: [(&'static [&'static str], Scene); 8] = [
+    (
+        &[
+            "with_num_bits",
+            "shared with_num_bits",
+            "shared hashes",
+            "shared expected_items",
+        ],
+        scene!(
+            "filters of bits",
+            STANDING,
+            (Build(Make::Bits(100, Hashes(4)), 128, 4), true),
+            (Build(Make::Bits(1202, Expected(4)), 1216, 211), true),
+            (Words(&[5, 6]), true),
+        ),
+    ),
+    (
+        &[
+            "shared items",
+            "expected_items by rate",
+            "shared expected_items by rate",
+        ],
+        scene!(
+            "filters for items",
+            STANDING,
+            (Build(Make::Bits(64, Numbers(&[1, 2])), 64, 22), true),
+            (Build(Make::Rate(1, 2, 0, Expected(1000)), 1472, 1), true),
+            (Words(&[5, 6]), true),
+        ),
+    ),
+    (
+        &["items by rate", "shared items by rate", "shared from_data"],
+        scene!(
+            "filters for a rate and of data",
+            STANDING,
+            (
+                Build(Make::Rate(1, 1000, 0, Numbers(&[1, 2])), 64, 22),
+                true
+            ),
+            (Build(Make::Data(&[5, 6], 2, 0, KEY), 128, 3), true),
+            (Words(&[5, 6]), true),
+        ),
+    ),
+    (
+        &[],
+        scene!(
+            "plain filters of words",
+            STANDING,
+            (Build(Make::Words(&[5], 42, Expected(2)), 64, 22), true),
+            (Build(Make::Words(&[5], 42, Numbers(&[1, 2])), 64, 22), true),
+            (Words(&[5, 6]), true),
+        ),
+    ),
+    (
+        &[
+            "try_clone",
+            "shared try_clone",
+            "to_data",
+            "shared to_data",
+            "shared from_data",
+        ],
+        scene!(
+            "copies and data",
+            STANDING,
+            (Clone, true),
+            (Data(0, KEY), true),
+            (Words(&[5, 6]), true),
+        ),
+    ),
+    (
+        &["take_words", "replay"],
+        scene!(
+            "a take and a list",
+            STANDING,
+            (Take, true),
+            (Words(&[0, 0]), true),
+            (Replay(&[false, false, true, true, false]), true),
+            (Words(&[0, 0]), true),
+        ),
+    ),
+    (
+        &[],
+        scene!(
+            "calls with items and another filter",
+            STANDING,
+            (InsertItem(Item::Number(2)), false),
+            (Extend(3, 7), true),
+            (ContainsItem(Item::Number(6)), true),
+            (Insert(1), false),
+            (Meet(&[5, 6], true), true),
+            (Meet(&[5, 6], false), true),
+            (Words(&[5, 6]), true),
+        ),
+    ),
+    (
+        &[],
+        scene!(
+            "comparisons and clears",
+            STANDING,
+            (Compare(&[5, 6], 3, true), true),
+            (UniteWithItself, true),
+            (Words(&[5, 6]), true),
+            (Shape(128, 3), true),
+            (Clear, true),
+            (IsEmpty, true),
+        ),
+    ),
+];
+
+// Prints each call of a scene that was whole.
+fn print_whole(rt: &HostRuntime, calls: &[&str]) -> io::Result<()> {
+    for call in calls {
+        println!(rt; "{call}: whole")?;
+    }
+    Ok(())
+}
+
+// Follows the scene of this number, and prints how it ended.
+fn print_end(rt: &HostRuntime, number: usize) -> io::Result<()> {
+    let Some((calls, scene)) = SCENES.get(number) else {
+        return println!(rt; "scene {number}: wrong");
+    };
+    match follow(rt.alloc(), scene) {
+        Ok(None) if calls.is_empty() => println!(rt; "{}: without memory", scene.name),
+        Ok(None) => print_whole(rt, calls),
+        Ok(Some(line)) => println!(rt; "{}, line {line}: wrong", scene.name),
+        Err(refused) => {
+            let (call, reason) = (refused.call, refused.reason);
+            if call == THE_TEST {
+                return println!(rt; "{}: no room for the test", scene.name);
+            }
+            println!(rt; "{call}: {}", word_of(&Err(reason)))
+        }
+    }
+}
+
+// Whether sizes and rates are right.
+fn are_sized() -> Result<bool, FilterError> {
+    let size = optimal_size(1000, Rate::new(1, 2)?)?;
+    let rate = expected_false_pos(2, expected_density(1, 64, 1));
+    let _shape = fastbloom::Shape::new(64, 3)?;
+    Ok((size == 1448) & (optimal_hashes(1024, 2) == 355) & (rate.low() == 2251799813685248))
+}
+
+#[test]
+fn sizes_and_steps_take_no_memory(rt: HostRuntime) -> Result<(), Fail> {
+    let (Ok(words), Ok(others)) = ([0].to_vec(rt.alloc()), [0].to_vec(rt.alloc())) else {
+        return Ok(println!(rt; "sizes and steps: no room for the test")?);
+    };
+    let mut store = MemoryStore::new(words, others);
+    let was_there = drive(&mut store, Call::Insert(1), 2);
+    let asks = Machine::new(Call::Union, 1, 2).ask().is_some();
+    assert!(rt; asks & (was_there == Some(false)));
+    assert_eq!(rt; store.words(), [1048577].as_slice());
+    assert!(rt; matches!(are_sized(), Ok(true)));
+    println!(rt; "sizes and steps: without memory")?;
+    Ok(())
+}
+
+// Each test counts its own requests, so the scenes stand in tests of their own.
+#[test]
+fn filters_of_bits_are_whole_or_refused(rt: HostRuntime) -> Result<(), Fail> {
+    Ok(print_end(&rt, 0)?)
+}
+
+#[test]
+fn filters_for_items_are_whole_or_refused(rt: HostRuntime) -> Result<(), Fail> {
+    Ok(print_end(&rt, 1)?)
+}
+
+#[test]
+fn filters_for_a_rate_and_of_data_are_whole_or_refused(rt: HostRuntime) -> Result<(), Fail> {
+    Ok(print_end(&rt, 2)?)
+}
+
+#[test]
+fn plain_filters_of_words_take_no_memory(rt: HostRuntime) -> Result<(), Fail> {
+    Ok(print_end(&rt, 3)?)
+}
+
+#[test]
+fn copies_and_data_are_whole_or_refused(rt: HostRuntime) -> Result<(), Fail> {
+    Ok(print_end(&rt, 4)?)
+}
+
+#[test]
+fn a_take_and_a_list_are_whole_or_refused(rt: HostRuntime) -> Result<(), Fail> {
+    Ok(print_end(&rt, 5)?)
+}
+
+#[test]
+fn calls_with_items_take_no_memory(rt: HostRuntime) -> Result<(), Fail> {
+    Ok(print_end(&rt, 6)?)
+}
+
+#[test]
+fn comparisons_take_no_memory(rt: HostRuntime) -> Result<(), Fail> {
+    Ok(print_end(&rt, 7)?)
+}

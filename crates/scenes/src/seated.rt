@@ -1,0 +1,144 @@
+//! Seated filters at values from outside, by one thread. In a seated filter a bit that was set
+//! stays set, and each thread calls it with a pass of its own.
+ghost use Rattle.std.specs.Prelude.{◌≡◌};
+
+mod threads;
+
+use fastbloom::{FilterError, Pass, SeatedBloomFilter};
+use std::alloc::Global;
+use std::test::Fail;
+
+// A call by a pass.
+#[derive(Clone, Copy)]
+enum Call {
+    Insert(u64),
+    Contains(u64),
+}
+
+// The words and hashes of a filter, how many passes are asked for, what the first pass answers,
+// then the second, if there is one, then the second once they met, and the words to which the last
+// of them closes the filter.
+struct Seating {
+    name: &'static str,
+    words: &'static [u64],
+    num_hashes: u32,
+    passes: usize,
+    first: &'static [(Call, bool)],
+    second: &'static [(Call, bool)],
+    met: &'static [(Call, bool)],
+    closed: &'static [u64],
+}
+
+// Among 64 bits hash 1 has the positions 0 and 20. Among 192 hash 2^63 has the position 96.
+const SEATINGS: [Seating; 6] = [
+    Seating {
+        name: "what a pass inserted it finds, and another by an insert",
+        words: &[0],
+        num_hashes: 2,
+        passes: 2,
+        first: &[(Call::Insert(1), false), (Call::Contains(1), true)],
+        second: &[(Call::Insert(1), true)],
+        met: &[],
+        closed: &[1048577],
+    },
+    Seating {
+        name: "a pass finds what another inserted",
+        words: &[0],
+        num_hashes: 2,
+        passes: 2,
+        first: &[(Call::Insert(1), false)],
+        second: &[(Call::Contains(1), true)],
+        met: &[(Call::Contains(1), true)],
+        closed: &[1048577],
+    },
+    Seating {
+        name: "words that were given are there, and a hash is new once",
+        words: &[1],
+        num_hashes: 2,
+        passes: 1,
+        first: &[
+            (Call::Contains(0), true),
+            (Call::Contains(1), false),
+            (Call::Insert(1), false),
+            (Call::Contains(1), true),
+        ],
+        second: &[],
+        met: &[],
+        closed: &[1048577],
+    },
+    Seating {
+        name: "words that were given are left",
+        words: &[5, 0, u64::MAX],
+        num_hashes: 3,
+        passes: 1,
+        first: &[],
+        second: &[],
+        met: &[],
+        closed: &[5, 0, u64::MAX],
+    },
+    Seating {
+        name: "one bit is set and no other",
+        words: &[0, 0, 0],
+        num_hashes: 1,
+        passes: 1,
+        first: &[(Call::Insert(1 << 63), false)],
+        second: &[],
+        met: &[],
+        closed: &[0, 1 << 32, 0],
+    },
+    Seating {
+        name: "no hashes and no passes count as one",
+        words: &[0],
+        num_hashes: 0,
+        passes: 0,
+        first: &[(Call::Insert(1), false)],
+        second: &[],
+        met: &[],
+        closed: &[1],
+    },
+];
+
+// Whether a pass answers these calls so.
+fn answers(filter: &SeatedBloomFilter, pass: &mut Pass, calls: &[(Call, bool)]) -> bool
+    requires { pass.old.filter ≡ filter.now.table }
+    ensures { pass.new.filter ≡ pass.old.filter }
+{
+    let mut is_right = true;
+    'calls: for (call, answer) in calls {
+        let found = match *call {
+            Call::Insert(hash) => filter.insert_hash_as(pass, hash),
+            Call::Contains(hash) => filter.contains_hash_as(pass, hash),
+        };
+        is_right &= found == *answer;
+    }
+    is_right
+}
+
+// Whether the passes of a filter answer, and it is closed, as its row says.
+fn is_kept(alloc: Global, row: &Seating) -> Result<bool, Fail> {
+    let words = row.words.to_vec(alloc)?;
+    let (filter, mut passes) = SeatedBloomFilter::new(alloc, words, row.num_hashes, row.passes)?;
+    let Some(mut last) = passes.pop() else {
+        unreachable!()
+    };
+    let Some(mut first) = passes.pop() else {
+        let is_right = answers(&filter, &mut last, row.first);
+        return Ok(is_right & (filter.close(alloc, last)?.as_slice() == row.closed));
+    };
+    let by_first = answers(&filter, &mut first, row.first);
+    let by_second = answers(&filter, &mut last, row.second);
+    filter.meet(&mut first, &mut last);
+    let is_right = by_first & by_second & answers(&filter, &mut last, row.met);
+    Ok(is_right & (filter.close(alloc, last)?.as_slice() == row.closed))
+}
+
+#[test]
+fn passes_find_and_close_gives_what_was_given_or_inserted(rt: HostRuntime) -> Result<(), Fail> {
+    for row in &SEATINGS {
+        assert!(rt; is_kept(rt.alloc(), row)?, "{}", row.name);
+    }
+    let none = SeatedBloomFilter::new(rt.alloc(), Vec::new(rt.alloc()), 2, 1);
+    let Err(refusal) = none else { unreachable!() };
+    assert!(rt; refusal == FilterError::EmptyWords);
+    Ok(())
+}

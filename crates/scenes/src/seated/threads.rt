@@ -1,0 +1,136 @@
+//! Threads that share a seated filter, each with a pass of its own.
+ghost use Rattle.std.specs.Prelude.{◌≡◌, ◌+◌, ◌≤◌, All, IfOk, vec_len};
+ghost use Rattle.std.specs.Arc.{arc_value};
+
+use crate::drawn::{spread, spread_from};
+use fastbloom::{BloomFilter, FilterError, Pass, SeatedBloomFilter};
+use std::alloc::Global;
+use std::snapshot::Snapshot;
+use std::sync::Arc;
+use std::test::Fail;
+use std::thread;
+use std::thread::{Promise, PromisedHandle, Threads};
+use uses::two::found_by_both;
+
+const HASHES: u64 = 1000;
+
+// The pass that a thread gives back is of the filter.
+#[derive(Drop)]
+struct IsOfFilter(Snapshot<SeatedBloomFilter>);
+
+impl Promise<(u64, Pass)> for IsOfFilter {
+    ghost kept_by = { λ promise back. back.1.filter ≡ promise.0.value.table };
+}
+
+type Child = PromisedHandle<(u64, Pass), IsOfFilter>;
+
+// Inserts all hashes, and counts the answers that were false.
+fn insert_all(filter: &SeatedBloomFilter, mut pass: Pass) -> (u64, Pass)
+    requires { pass.filter ≡ filter.now.table }
+    ensures { result.1.filter ≡ filter.entry.now.table }
+{
+    let mut new = 0u64;
+    'hashes: for i in 0..HASHES {
+        if !filter.insert_hash_as(&mut pass, spread(i)) {
+            new = new.saturating_add(1);
+        }
+    }
+    (new, pass)
+}
+
+// Starts a thread that inserts all hashes, with the last of the passes.
+fn start<R: Threads>(
+    rt: &R,
+    filter: &Arc<SeatedBloomFilter, Global>,
+    passes: &mut Vec<Pass>,
+) -> Result<Child, FilterError>
+    requires some { 1 ≤ vec_len passes.old }
+    requires of_filter { All (λ pass. pass.filter ≡ (arc_value filter.now).table) passes.old.items }
+    ensures child { IfOk result (λ child. child.promise.0.value ≡ arc_value filter.now) }
+    ensures left { vec_len passes.old ≡ vec_len passes.new + 1 }
+    ensures of_filter { All (λ pass. pass.filter ≡ (arc_value filter.now).table)
+        passes.new.items }
+{
+    let Some(pass) = passes.pop() else {
+        unreachable!()
+    };
+    let shared = Arc::try_clone(filter)?;
+    let promise = IsOfFilter(Snapshot::of(&*shared));
+    match thread::spawn_with(rt, promise, move || insert_all(&shared, pass)) {
+        Ok(child) => Ok(child),
+        Err(_refused) => Err(FilterError::Worker),
+    }
+}
+
+// How many positions of a plain filter are set after the same inserts.
+fn count_by_one(alloc: Global) -> Result<u64, Fail> {
+    let mut filter = BloomFilter::with_num_bits(alloc, 4096)?.hashes(1);
+    'hashes: for i in 0..HASHES {
+        filter.insert_hash(spread(i));
+    }
+    Ok(filter.count_ones() as u64)
+}
+
+// How many of the hashes a pass finds.
+fn count_found(filter: &SeatedBloomFilter, pass: &mut Pass) -> u64
+    requires { pass.old.filter ≡ filter.now.table }
+    ensures { pass.new.filter ≡ pass.old.filter }
+{
+    let mut found = 0u64;
+    'hashes: for i in 0..HASHES {
+        if filter.contains_hash_as(pass, spread(i)) {
+            found = found.saturating_add(1);
+        }
+    }
+    found
+}
+
+// Each position is gained by one pass alone, and after they met each finds what all inserted.
+#[test]
+fn four_threads_insert_the_same_hashes(rt: HostRuntime) -> Result<(), Fail> {
+    let by_one = count_by_one(rt.alloc())?;
+    let words = vec![in rt.alloc(); 0u64; 64]?;
+    let (filter, mut passes) = SeatedBloomFilter::new(rt.alloc(), words, 1, 4)?;
+    let shared = Arc::new(rt.alloc(), filter)?;
+    let one = start(&rt, &shared, &mut passes).expect(&rt, "the first thread");
+    let two = start(&rt, &shared, &mut passes).expect(&rt, "the second thread");
+    let three = start(&rt, &shared, &mut passes).expect(&rt, "the third thread");
+    let four = start(&rt, &shared, &mut passes).expect(&rt, "the fourth thread");
+    let (new_of_one, mut first) = one.join(&rt);
+    let (new_of_two, mut second) = two.join(&rt);
+    let (new_of_three, mut third) = three.join(&rt);
+    let (new_of_four, mut fourth) = four.join(&rt);
+    let new = new_of_one
+        .saturating_add(new_of_two)
+        .saturating_add(new_of_three)
+        .saturating_add(new_of_four);
+    assert_eq!(rt; new, by_one);
+    shared.meet(&mut first, &mut second);
+    shared.meet(&mut third, &mut fourth);
+    shared.meet(&mut first, &mut third);
+    assert_eq!(rt; count_found(&shared, &mut first), HASHES);
+    assert_eq!(rt; count_found(&shared, &mut fourth), HASHES);
+    Ok(())
+}
+
+// Two threads insert a hundred hashes each.
+fn found<R: Threads>(rt: &R, alloc: Global, asked: u64) -> Result<(bool, bool), Fail> {
+    let hashes = (spread_from(alloc, 0, 100)?, spread_from(alloc, 500, 600)?);
+    let words = vec![in alloc; 0u64; 64]?;
+    let (filter, mut passes) = SeatedBloomFilter::new(alloc, words, 3, 2)?;
+    let Some(second) = passes.pop() else {
+        unreachable!()
+    };
+    let Some(first) = passes.pop() else {
+        unreachable!()
+    };
+    Ok(found_by_both(rt, alloc, filter, (first, second), hashes, spread(asked))?)
+}
+
+#[test]
+fn what_either_of_two_inserted_is_found(rt: HostRuntime) -> Result<(), Fail> {
+    for asked in [0, 99, 500, 599] {
+        assert_eq!(rt; found(&rt, rt.alloc(), asked)?, (true, true));
+    }
+    Ok(())
+}
