@@ -1,6 +1,8 @@
+mod Read
 use Rattle.std.proofs.Common.{ap, arith, length, sym, ◌∙◌}
 use Rattle.bloom_plain.specs.declared.file.head.Head.{Head}
-use Rattle.bloom_plain.proofs.AcceptedLemmas.{accepted, body-size, head-good, head-size, reserved-good, words-bytes, words-count, words-shape}
+use Rattle.bloom_plain.proofs.AcceptedLemmas.{body-size, head-good, words-count, words-shape}
+use Rattle.bloom_plain.proofs.file.bytes.BloomFilter.from_bytes.Answers.Read.{file-read}
 use Rattle.bloom_plain.proofs.file.bytes.BloomFilter.from_bytes.Goals as goal
 
 pub head_in-head-requires : goal.head_in-head-requires
@@ -35,16 +37,4 @@ filter_with-requires-clause-count c =
     ∙ sym (ap (λ (h : Head). h.num_words) c.head_in-head.ensures.head)
 
 pub returns-clause-file : goal.returns-clause-file
-returns-clause-file c =
-    let cut = c.split_at.ensures in
-    let none = sym c.in_ok-check_file.ensures in
-    let bytes = c.args.bytes.now in
-    let pushed = c.push_numbers.ensures in
-    let head = c.head_in-head.ensures in
-    let made = c.filter_with.ensures in
-    accepted bytes _ _ cut.front cut.back none c.push_numbers.new.words.items c.filter_with.result
-    (words-bytes bytes _ _ cut.front cut.back none _ _ c.in_ok-words.ensures.items pushed.words
-    pushed.bytes)
-    (made.head ∙ head.head) made.words made.range head.seal
-    (head.bytes (head-size bytes _ _ cut.front cut.back none)
-    (reserved-good bytes _ _ cut.front cut.back none))
+returns-clause-file = file-read
