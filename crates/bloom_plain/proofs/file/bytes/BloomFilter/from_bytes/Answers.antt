@@ -1,6 +1,8 @@
-use Rattle.std.proofs.Common.{ap, arith, length, sym, ◌∙◌}
+mod Made
+use Rattle.std.proofs.Common.{ap, sym, ◌∙◌}
 use Rattle.bloom_plain.specs.declared.file.head.Head.{Head}
-use Rattle.bloom_plain.proofs.AcceptedLemmas.{accepted, body-size, head-good, head-size, reserved-good, words-bytes, words-count, words-shape}
+use Rattle.bloom_plain.proofs.AcceptedLemmas.{head-good, words-count, words-shape}
+use Rattle.bloom_plain.proofs.file.bytes.BloomFilter.from_bytes.Answers.Made.{file-made, words-fit}
 use Rattle.bloom_plain.proofs.file.bytes.BloomFilter.from_bytes.Goals as goal
 
 pub head_in-head-requires : goal.head_in-head-requires
@@ -8,17 +10,8 @@ head_in-head-requires c =
     let cut = c.split_at.ensures in
     head-good c.args.bytes.now _ _ cut.front cut.back (sym c.in_ok-check_file.ensures)
 
--- there is room for all words
 pub push_numbers-requires : goal.push_numbers-requires
-push_numbers-requires c =
-    let cut = c.split_at.ensures in
-    omega (
-      arith,
-      body-size c.args.bytes.now _ _ cut.front cut.back (sym c.in_ok-check_file.ensures),
-      ap (λ (h : Head). h.num_words) c.head_in-head.ensures.head,
-      c.in_ok-words.ensures.capacity,
-      ap length c.in_ok-words.ensures.items,
-    )
+push_numbers-requires = words-fit
 
 pub filter_with-requires-clause-shape : goal.filter_with-requires-clause-shape
 filter_with-requires-clause-shape c =
@@ -35,16 +28,4 @@ filter_with-requires-clause-count c =
     ∙ sym (ap (λ (h : Head). h.num_words) c.head_in-head.ensures.head)
 
 pub returns-clause-file : goal.returns-clause-file
-returns-clause-file c =
-    let cut = c.split_at.ensures in
-    let none = sym c.in_ok-check_file.ensures in
-    let bytes = c.args.bytes.now in
-    let pushed = c.push_numbers.ensures in
-    let head = c.head_in-head.ensures in
-    let made = c.filter_with.ensures in
-    accepted bytes _ _ cut.front cut.back none c.push_numbers.new.words.items c.filter_with.result
-    (words-bytes bytes _ _ cut.front cut.back none _ _ c.in_ok-words.ensures.items pushed.words
-    pushed.bytes)
-    (made.head ∙ head.head) made.words made.range head.seal
-    (head.bytes (head-size bytes _ _ cut.front cut.back none)
-    (reserved-good bytes _ _ cut.front cut.back none))
+returns-clause-file = file-made
