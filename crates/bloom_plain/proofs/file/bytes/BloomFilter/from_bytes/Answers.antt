@@ -1,8 +1,8 @@
-mod Read
-use Rattle.std.proofs.Common.{ap, arith, length, sym, ◌∙◌}
+mod Made
+use Rattle.std.proofs.Common.{ap, sym, ◌∙◌}
 use Rattle.bloom_plain.specs.declared.file.head.Head.{Head}
-use Rattle.bloom_plain.proofs.AcceptedLemmas.{body-size, head-good, words-count, words-shape}
-use Rattle.bloom_plain.proofs.file.bytes.BloomFilter.from_bytes.Answers.Read.{file-read}
+use Rattle.bloom_plain.proofs.AcceptedLemmas.{head-good, words-count, words-shape}
+use Rattle.bloom_plain.proofs.file.bytes.BloomFilter.from_bytes.Answers.Made.{file-made, words-fit}
 use Rattle.bloom_plain.proofs.file.bytes.BloomFilter.from_bytes.Goals as goal
 
 pub head_in-head-requires : goal.head_in-head-requires
@@ -10,17 +10,8 @@ head_in-head-requires c =
     let cut = c.split_at.ensures in
     head-good c.args.bytes.now _ _ cut.front cut.back (sym c.in_ok-check_file.ensures)
 
--- there is room for all words
 pub push_numbers-requires : goal.push_numbers-requires
-push_numbers-requires c =
-    let cut = c.split_at.ensures in
-    omega (
-      arith,
-      body-size c.args.bytes.now _ _ cut.front cut.back (sym c.in_ok-check_file.ensures),
-      ap (λ (h : Head). h.num_words) c.head_in-head.ensures.head,
-      c.in_ok-words.ensures.capacity,
-      ap length c.in_ok-words.ensures.items,
-    )
+push_numbers-requires = words-fit
 
 pub filter_with-requires-clause-shape : goal.filter_with-requires-clause-shape
 filter_with-requires-clause-shape c =
@@ -37,4 +28,4 @@ filter_with-requires-clause-count c =
     ∙ sym (ap (λ (h : Head). h.num_words) c.head_in-head.ensures.head)
 
 pub returns-clause-file : goal.returns-clause-file
-returns-clause-file = file-read
+returns-clause-file = file-made
