@@ -1,8 +1,9 @@
 //! The command line.
 
 use bloom_plain::Rate;
+use clap::builder::ValueParser;
 use clap::error::ErrorKind;
-use clap::{Arg, ArgMatches, Command, Error, value_parser};
+use clap::{Arg, ArgMatches, Command, Error};
 use std::alloc::Global;
 
 /// The version that the program tells.
@@ -46,94 +47,126 @@ pub struct Options<'a> {
     pub request: Request<'a>,
 }
 
-fn word<'a>(alloc: Global, id: &'a str, help: &'a str) -> Arg<'a> {
-    Arg::new(alloc, id).required(true).help(help)
+// How an argument is given.
+#[derive(Clone, Copy)]
+enum Kind {
+    // As a word, which has to be there.
+    Word,
+    // Behind its name, as any text. First stands what help calls the text, and then the text that
+    // it is where none is given.
+    Text(&'static str, &'static str),
+    // Behind its name, as a number of at least so many. First stands the number that it is where
+    // none is given.
+    Number(&'static str, u64),
 }
 
-fn put_command<'a>(alloc: Global) -> Result<Command<'a>, Error> {
-    Ok(
-        Command::new(alloc, "put")
-            .about("Puts a value at a key that has none yet, and prints added or taken")
-            .arg(word(alloc, "KEY", "A key, any text"))?
-            .arg(word(alloc, "VALUE", "Its value, any text"))?,
-    )
-}
+// An argument: its name, how it is given, and its help.
+type Row = (&'static str, Kind, &'static str);
 
-fn get_command<'a>(alloc: Global) -> Result<Command<'a>, Error> {
-    Ok(
-        Command::new(alloc, "get")
-            .about("Prints the value of a key")
-            .arg(word(alloc, "KEY", "A key"))?,
-    )
-}
+const PROGRAM: &'static [Row] = &[
+    (
+        "rate",
+        Kind::Text("A/B", "1/1000"),
+        "The share of absent keys that may be looked up in the store for nothing",
+    ),
+    (
+        "STORE",
+        Kind::Word,
+        "A SQLite file, which put and load make where there is none",
+    ),
+];
 
-fn delete_command<'a>(alloc: Global) -> Result<Command<'a>, Error> {
-    Ok(
-        Command::new(alloc, "delete")
-            .about("Takes the value of a key away, and prints deleted")
-            .arg(word(alloc, "KEY", "A key"))?,
-    )
-}
+const LOAD: &'static [Row] = &[
+    (
+        "batch",
+        Kind::Number("10000", 1),
+        "How many lines are put together, or not at all",
+    ),
+    (
+        "items",
+        Kind::Number("1000000", 0),
+        "How many lines are expected, where FILE is no regular file",
+    ),
+    (
+        "FILE",
+        Kind::Word,
+        "Each line has a key, a tab, and a value",
+    ),
+];
 
-fn load_command<'a>(alloc: Global) -> Result<Command<'a>, Error> {
-    let batch = Arg::new(alloc, "batch")
-        .long("batch")
-        .value_name("N")
-        .default_value("10000")
-        .help("How many lines are put together, or not at all")
-        .value_parser(value_parser!(u64).range(1..=1_000_000_000_000));
-    let items = Arg::new(alloc, "items")
-        .long("items")
-        .value_name("N")
-        .default_value("1000000")
-        .help("How many lines are expected, where FILE is no regular file")
-        .value_parser(value_parser!(u64).range(0..=1_000_000_000_000));
-    Ok(
-        Command::new(alloc, "load")
-            .about("Puts the entries of a file, and prints what that came to")
-            .arg(batch)?
-            .arg(items)?
-            .arg(word(alloc, "FILE", "Each line has a key, a tab, and a value"))?,
-    )
-}
-
-fn list_command<'a>(alloc: Global) -> Command<'a> {
-    Command::new(alloc, "list").about("Prints all entries, as load reads them")
-}
-
-fn stats_command<'a>(alloc: Global) -> Command<'a> {
-    Command::new(alloc, "stats").about(
+// The commands: the name of each, its help, and its arguments.
+const COMMANDS: [(&'static str, &'static str, &'static [Row]); 6] = [
+    (
+        "put",
+        "Puts a value at a key that has none yet, and prints added or taken",
+        &[
+            ("KEY", Kind::Word, "A key, any text"),
+            ("VALUE", Kind::Word, "Its value, any text"),
+        ],
+    ),
+    (
+        "get",
+        "Prints the value of a key",
+        &[("KEY", Kind::Word, "A key")],
+    ),
+    (
+        "delete",
+        "Takes the value of a key away, and prints deleted",
+        &[("KEY", Kind::Word, "A key")],
+    ),
+    (
+        "load",
+        "Puts the entries of a file, and prints what that came to",
+        LOAD,
+    ),
+    ("list", "Prints all entries, as load reads them", &[]),
+    (
+        "stats",
         "Looks up the keys of its input, one a line, and prints what that came to",
-    )
+        &[],
+    ),
+];
+
+// An argument that is given so.
+fn given<'a>(arg: Arg<'a>, id: &'a str, kind: Kind) -> Arg<'a> {
+    match kind {
+        Kind::Word => arg.required(true),
+        Kind::Text(name, default) => arg.long(id).value_name(name).default_value(default),
+        Kind::Number(default, least) => {
+            arg.long(id)
+                .value_name("N")
+                .default_value(default)
+                .value_parser(ValueParser::Unsigned(least, 1_000_000_000_000))
+        }
+    }
+}
+
+// A command with the arguments of these rows.
+fn with_arguments<'a>(
+    alloc: Global,
+    mut command: Command<'a>,
+    rows: &[Row],
+) -> Result<Command<'a>, Error> {
+    'arguments: for (id, kind, help) in rows {
+        let arg = Arg::new(alloc, id).help(help);
+        command = command.arg(given(arg, id, *kind))?;
+    }
+    Ok(command)
 }
 
 // The words that the program understands.
 fn command<'a>(alloc: Global) -> Result<Command<'a>, Error> {
-    let rate = Arg::new(alloc, "rate")
-        .long("rate")
-        .value_name("A/B")
-        .default_value("1/1000")
-        .help("The share of absent keys that may be looked up in the store for nothing");
-    let store = word(
-        alloc,
-        "STORE",
-        "A SQLite file, which put and load make where there is none",
-    );
-    Ok(
-        Command::new(alloc, "guard")
-            .version(VERSION)
-            .about("A store of values by keys, behind a filter of its keys")
-            .subcommand_required(true)
-            .arg_required_else_help(true)
-            .arg(rate)?
-            .arg(store)?
-            .subcommand(put_command(alloc)?)?
-            .subcommand(get_command(alloc)?)?
-            .subcommand(delete_command(alloc)?)?
-            .subcommand(load_command(alloc)?)?
-            .subcommand(list_command(alloc))?
-            .subcommand(stats_command(alloc))?,
-    )
+    let program = Command::new(alloc, "guard")
+        .version(VERSION)
+        .about("A store of values by keys, behind a filter of its keys")
+        .subcommand_required(true)
+        .arg_required_else_help(true);
+    let mut program = with_arguments(alloc, program, PROGRAM)?;
+    'commands: for (name, about, rows) in &COMMANDS {
+        let command = Command::new(alloc, name).about(about);
+        program = program.subcommand(with_arguments(alloc, command, rows)?)?;
+    }
+    Ok(program)
 }
 
 // The rate that a text such as 1/1000 tells, if it lies between 0 and 1.

@@ -1,8 +1,9 @@
 //! The arguments of the program.
 
 use crate::rates::rate_of;
+use clap::builder::ValueParser;
 use clap::error::ErrorKind;
-use clap::{Arg, ArgAction, ArgGroup, ArgMatches, Command, Error, value_parser};
+use clap::{Arg, ArgAction, ArgGroup, ArgMatches, Command, Error};
 use std::alloc::Global;
 
 // The commands' arguments by their ids.
@@ -33,187 +34,249 @@ pub const ABSENT: &str = "absent";
 // The version of the library whose filters these are.
 const VERSION: &str = "0.17.0";
 
-// An argument that counts bits or keys.
-fn counted<'a>(arg: Arg<'a>) -> Arg<'a> {
-    arg.value_parser(value_parser!(u64).range(1..1_000_000_000_001))
+// How an argument is given.
+#[derive(Clone, Copy)]
+enum Kind {
+    // By its name, or by this letter where it has one.
+    Flag(Option<char>),
+    // Behind its name, as a number. It may have one that it is where none is given.
+    Number(&'static [&'static str], ValueParser<'static>),
+    // Behind its name, as a fraction.
+    Rate,
+    // As a word, which has to be there.
+    Word,
+    // As words, at least this many.
+    Words(usize),
 }
 
-fn bits<'a>(alloc: Global) -> Arg<'a> {
-    counted(Arg::new(alloc, BITS))
-        .long("bits")
-        .value_name("N")
-        .help("At least this many bits: ten for each key make one mistake in a hundred")
-}
+// An argument: its name, how it is given, its help, the arguments that it needs, and those that it
+// can't be given with.
+type Row = (
+    &'static str,
+    Kind,
+    &'static str,
+    &'static [&'static str],
+    &'static [&'static str],
+);
 
-fn hashes<'a>(alloc: Global) -> Arg<'a> {
-    Arg::new(alloc, HASHES)
-        .long("hashes")
-        .value_name("N")
-        .default_value("7")
-        .help("How many bits each key turns on")
-        .value_parser(value_parser!(u32).range(1..1001))
-}
+// How many bits or keys there may be.
+const COUNT: ValueParser<'static> = ValueParser::Unsigned(1, 1_000_000_000_000);
 
-fn items<'a>(alloc: Global) -> Result<Arg<'a>, Error> {
-    let items = counted(Arg::new(alloc, ITEMS))
-        .long("items")
-        .value_name("N")
-        .help("How many keys are expected, in place of --bits and --hashes");
-    Ok(items.requires_arg(RATE)?.conflicts_with(HASHES)?)
-}
+const JSON_ROW: Row = (
+    JSON,
+    Kind::Flag(None),
+    "Writes the filter as JSON, in place of the file form",
+    &[],
+    &[],
+);
 
-fn rate<'a>(alloc: Global) -> Result<Arg<'a>, Error> {
-    let rate = Arg::new(alloc, RATE).long("rate").value_name("A/B").help(
+const MOST_HASHES_ROW: Row = (
+    MOST_HASHES,
+    Kind::Number(&["64"], ValueParser::Signed(1, 4_294_967_295)),
+    "Refuses a filter with more hashes: each costs time at every key",
+    &[],
+    &[],
+);
+
+const FILTER_ROW: Row = (
+    FILTER,
+    Kind::Word,
+    "A file with a filter, in the file form or as JSON",
+    &[],
+    &[],
+);
+
+const ZERO_ROW: Row = (
+    ZERO,
+    Kind::Flag(Some('z')),
+    "A zero byte ends each key, in place of a line's end",
+    &[],
+    &[],
+);
+
+const FILE_ROW: Row = (
+    FILE,
+    Kind::Words(0),
+    "Files with keys, one a line; none, or -, is standard input",
+    &[],
+    &[],
+);
+
+const BUILD: &'static [Row] = &[
+    (
+        BITS,
+        Kind::Number(&[], COUNT),
+        "At least this many bits: ten for each key make one mistake in a hundred",
+        &[],
+        &[],
+    ),
+    (
+        HASHES,
+        Kind::Number(&["7"], ValueParser::Signed(1, 1000)),
+        "How many bits each key turns on",
+        &[],
+        &[],
+    ),
+    (
+        ITEMS,
+        Kind::Number(&[], COUNT),
+        "How many keys are expected, in place of --bits and --hashes",
+        &[RATE],
+        &[HASHES],
+    ),
+    (
+        RATE,
+        Kind::Rate,
         "The share of other keys that may be taken for one of them by mistake",
-    );
-    Ok(
-        rate.requires_arg(ITEMS)?
-            .conflicts_with(BITS)?
-            .conflicts_with(HASHES)?,
-    )
-}
+        &[ITEMS],
+        &[BITS, HASHES],
+    ),
+    (
+        WORKERS,
+        Kind::Number(&["1"], ValueParser::Signed(1, 1024)),
+        "How many threads fill the filter",
+        &[],
+        &[],
+    ),
+    JSON_ROW,
+    ZERO_ROW,
+    FILE_ROW,
+];
 
-// Bits or keys are given.
-fn size<'a>(alloc: Global) -> Result<ArgGroup<'a>, Error> {
-    let size = ArgGroup::new(alloc, "size").required(true);
-    Ok(size.arg(BITS)?.arg(ITEMS)?)
-}
+const UNITE: &'static [Row] = &[
+    MOST_HASHES_ROW,
+    JSON_ROW,
+    (
+        FILTER,
+        Kind::Words(1),
+        "Files with filters of one shape and key, in the file form or as JSON",
+        &[],
+        &[],
+    ),
+];
 
-fn with_bits<'a>(alloc: Global, command: Command<'a>) -> Result<Command<'a>, Error> {
-    Ok(command.arg(bits(alloc))?.arg(hashes(alloc))?)
-}
+const ASK: &'static [Row] = &[
+    MOST_HASHES_ROW,
+    (
+        ABSENT,
+        Kind::Flag(None),
+        "Writes the keys that are surely not in, in place of those that may be",
+        &[],
+        &[],
+    ),
+    FILTER_ROW,
+    ZERO_ROW,
+    FILE_ROW,
+];
 
-fn with_items<'a>(alloc: Global, command: Command<'a>) -> Result<Command<'a>, Error> {
-    Ok(command.arg(items(alloc)?)?.arg(rate(alloc)?)?)
-}
+const COMPARE: &'static [Row] = &[
+    FILTER_ROW,
+    (
+        OTHER,
+        Kind::Word,
+        "A file with another filter of the same shape and key",
+        &[],
+        &[],
+    ),
+];
 
-// The arguments that size a filter: by its bits, or by its keys and a rate. Each has a function of
-// its own, since a function that holds many of them at once takes minutes to prove.
-fn with_sizes<'a>(alloc: Global, command: Command<'a>) -> Result<Command<'a>, Error> {
-    let command = with_items(alloc, with_bits(alloc, command)?)?;
-    Ok(command.group(size(alloc)?)?)
-}
-
-fn zero<'a>(alloc: Global) -> Arg<'a> {
-    Arg::new(alloc, ZERO)
-        .short('z')
-        .long("zero")
-        .action(ArgAction::SetTrue)
-        .help("A zero byte ends each key, in place of a line's end")
-}
-
-fn key_files<'a>(alloc: Global) -> Arg<'a> {
-    Arg::new(alloc, FILE)
-        .action(ArgAction::Append)
-        .num_args(0..)
-        .help("Files with keys, one a line; none, or -, is standard input")
-}
-
-fn with_keys<'a>(alloc: Global, command: Command<'a>) -> Result<Command<'a>, Error> {
-    Ok(command.arg(zero(alloc))?.arg(key_files(alloc))?)
-}
-
-fn build_command<'a>(alloc: Global) -> Result<Command<'a>, Error> {
-    let workers = Arg::new(alloc, WORKERS)
-        .long("workers")
-        .value_name("N")
-        .default_value("1")
-        .help("How many threads fill the filter")
-        .value_parser(value_parser!(u16).range(1..1025));
-    let command = Command::new(alloc, "build").about(
+// The commands: the name of each, its help, its arguments, and those of which it needs one.
+const COMMANDS: [(
+    &'static str,
+    &'static str,
+    &'static [Row],
+    &'static [&'static str],
+); 5] = [
+    (
+        "build",
         "Reads keys, one a line, and writes their filter",
-    );
-    let command = with_sizes(alloc, command)?.arg(workers)?.arg(json(alloc))?;
-    with_keys(alloc, command)
+        BUILD,
+        &[BITS, ITEMS],
+    ),
+    (
+        "unite",
+        "Writes the filter of all keys of some filters",
+        UNITE,
+        &[],
+    ),
+    (
+        "ask",
+        "Reads keys, one a line, and writes those that may be in a filter",
+        ASK,
+        &[],
+    ),
+    ("info", "Prints what a filter is", &[FILTER_ROW], &[]),
+    (
+        "compare",
+        "Prints how many keys two filters have, each and in common",
+        COMPARE,
+        &[],
+    ),
+];
+
+// An argument that is given so.
+fn given<'a>(arg: Arg<'a>, id: &'a str, kind: Kind) -> Arg<'a> {
+    match kind {
+        Kind::Flag(None) => arg.long(id).action(ArgAction::SetTrue),
+        Kind::Flag(Some(letter)) => arg.long(id).short(letter).action(ArgAction::SetTrue),
+        Kind::Number(default, parser) => {
+            arg.long(id)
+                .value_name("N")
+                .default_values(default)
+                .value_parser(parser)
+        }
+        Kind::Rate => arg.long(id).value_name("A/B"),
+        Kind::Word => arg.required(true),
+        Kind::Words(least) => {
+            arg.required(least > 0)
+                .action(ArgAction::Append)
+                .num_args(least..)
+        }
+    }
 }
 
-fn json<'a>(alloc: Global) -> Arg<'a> {
-    Arg::new(alloc, JSON)
-        .long("json")
-        .action(ArgAction::SetTrue)
-        .help("Writes the filter as JSON, in place of the file form")
+// A command with the arguments of these rows.
+fn with_arguments<'a>(
+    alloc: Global,
+    mut command: Command<'a>,
+    rows: &[Row],
+) -> Result<Command<'a>, Error> {
+    'arguments: for (id, kind, help, needs, others) in rows {
+        let arg = Arg::new(alloc, id)
+            .help(help)
+            .requires_all(needs)?
+            .conflicts_with_all(others)?;
+        command = command.arg(given(arg, id, *kind))?;
+    }
+    Ok(command)
 }
 
-fn most_hashes<'a>(alloc: Global) -> Arg<'a> {
-    Arg::new(alloc, MOST_HASHES)
-        .long("hashes-up-to")
-        .value_name("N")
-        .default_value("64")
-        .help("Refuses a filter with more hashes: each costs time at every key")
-        .value_parser(value_parser!(u32).range(1..4_294_967_296))
-}
-
-fn file<'a>(alloc: Global) -> Arg<'a> {
-    Arg::new(alloc, FILTER)
-        .required(true)
-        .help("A file with a filter, in the file form or as JSON")
-}
-
-fn unite_command<'a>(alloc: Global) -> Result<Command<'a>, Error> {
-    let files = Arg::new(alloc, FILTER)
-        .required(true)
-        .action(ArgAction::Append)
-        .num_args(1..)
-        .help("Files with filters of one shape and key, in the file form or as JSON");
-    Ok(
-        Command::new(alloc, "unite")
-            .about("Writes the filter of all keys of some filters")
-            .arg(most_hashes(alloc))?
-            .arg(json(alloc))?
-            .arg(files)?,
-    )
-}
-
-fn absent<'a>(alloc: Global) -> Arg<'a> {
-    Arg::new(alloc, ABSENT)
-        .long("absent")
-        .action(ArgAction::SetTrue)
-        .help("Writes the keys that are surely not in, in place of those that may be")
-}
-
-fn ask_command<'a>(alloc: Global) -> Result<Command<'a>, Error> {
-    let command = Command::new(alloc, "ask")
-        .about("Reads keys, one a line, and writes those that may be in a filter")
-        .arg(most_hashes(alloc))?
-        .arg(absent(alloc))?
-        .arg(file(alloc))?;
-    with_keys(alloc, command)
-}
-
-fn info_command<'a>(alloc: Global) -> Result<Command<'a>, Error> {
-    Ok(
-        Command::new(alloc, "info")
-            .about("Prints what a filter is")
-            .arg(file(alloc))?,
-    )
-}
-
-fn compare_command<'a>(alloc: Global) -> Result<Command<'a>, Error> {
-    let other = Arg::new(alloc, OTHER)
-        .required(true)
-        .help("A file with another filter of the same shape and key");
-    Ok(
-        Command::new(alloc, "compare")
-            .about("Prints how many keys two filters have, each and in common")
-            .arg(file(alloc))?
-            .arg(other)?,
-    )
+// A command that needs one of these arguments, where there are any.
+fn with_choice<'a>(
+    alloc: Global,
+    command: Command<'a>,
+    ids: &[&'static str],
+) -> Result<Command<'a>, Error> {
+    if ids.is_empty() {
+        return Ok(command);
+    }
+    let choice = ArgGroup::new(alloc, "size").required(true).args(ids)?;
+    Ok(command.group(choice)?)
 }
 
 // The program's command line.
 fn command<'a>(alloc: Global) -> Result<Command<'a>, Error> {
-    Ok(
-        Command::new(alloc, "summaries")
-            .about("Filters of the keys of shards")
-            .version(VERSION)
-            .subcommand_required(true)
-            .arg_required_else_help(true)
-            .subcommand(build_command(alloc)?)?
-            .subcommand(unite_command(alloc)?)?
-            .subcommand(ask_command(alloc)?)?
-            .subcommand(info_command(alloc)?)?
-            .subcommand(compare_command(alloc)?)?,
-    )
+    let mut program = Command::new(alloc, "summaries")
+        .about("Filters of the keys of shards")
+        .version(VERSION)
+        .subcommand_required(true)
+        .arg_required_else_help(true);
+    'commands: for (name, about, rows, choice) in &COMMANDS {
+        let command = Command::new(alloc, name).about(about);
+        let command = with_arguments(alloc, command, rows)?;
+        program = program.subcommand(with_choice(alloc, command, choice)?)?;
+    }
+    Ok(program)
 }
 
 // Whether a command's words have a rate that is none.
