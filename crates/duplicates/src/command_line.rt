@@ -125,8 +125,8 @@ const ARGUMENTS: [Row; 9] = [
     ),
 ];
 
-// An argument that is given so.
-fn given<'a>(arg: Arg<'a>, id: &'a str, kind: Kind) -> Arg<'a> {
+// Sets how an argument is given.
+fn set_kind<'a>(arg: Arg<'a>, id: &'a str, kind: Kind) -> Arg<'a> {
     match kind {
         Kind::Flag(None) => arg.long(id).action(ArgAction::SetTrue),
         Kind::Flag(Some(letter)) => arg.long(id).short(letter).action(ArgAction::SetTrue),
@@ -148,7 +148,7 @@ fn command<'a>(alloc: Global) -> Result<Command<'a>, Error> {
         .about("Prints each line of its input that is certainly new");
     'arguments: for (id, kind, help, others) in &ARGUMENTS {
         let arg = Arg::new(alloc, id).help(help).conflicts_with_all(others)?;
-        command = command.arg(given(arg, id, *kind))?;
+        command = command.arg(set_kind(arg, id, *kind))?;
     }
     Ok(command)
 }

@@ -127,8 +127,8 @@ const COMMANDS: [(&'static str, &'static str, &'static [Row]); 6] = [
     ),
 ];
 
-// An argument that is given so.
-fn given<'a>(arg: Arg<'a>, id: &'a str, kind: Kind) -> Arg<'a> {
+// Sets how an argument is given.
+fn set_kind<'a>(arg: Arg<'a>, id: &'a str, kind: Kind) -> Arg<'a> {
     match kind {
         Kind::Word => arg.required(true),
         Kind::Text(name, default) => arg.long(id).value_name(name).default_value(default),
@@ -141,15 +141,15 @@ fn given<'a>(arg: Arg<'a>, id: &'a str, kind: Kind) -> Arg<'a> {
     }
 }
 
-// A command with the arguments of these rows.
-fn with_arguments<'a>(
+// Adds the arguments of these rows.
+fn add_arguments<'a>(
     alloc: Global,
     mut command: Command<'a>,
     rows: &[Row],
 ) -> Result<Command<'a>, Error> {
     'arguments: for (id, kind, help) in rows {
         let arg = Arg::new(alloc, id).help(help);
-        command = command.arg(given(arg, id, *kind))?;
+        command = command.arg(set_kind(arg, id, *kind))?;
     }
     Ok(command)
 }
@@ -161,10 +161,10 @@ fn command<'a>(alloc: Global) -> Result<Command<'a>, Error> {
         .about("A store of values by keys, behind a filter of its keys")
         .subcommand_required(true)
         .arg_required_else_help(true);
-    let mut program = with_arguments(alloc, program, PROGRAM)?;
+    let mut program = add_arguments(alloc, program, PROGRAM)?;
     'commands: for (name, about, rows) in &COMMANDS {
         let command = Command::new(alloc, name).about(about);
-        program = program.subcommand(with_arguments(alloc, command, rows)?)?;
+        program = program.subcommand(add_arguments(alloc, command, rows)?)?;
     }
     Ok(program)
 }

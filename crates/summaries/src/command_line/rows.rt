@@ -1,0 +1,186 @@
+//! The arguments of each command.
+
+use super::{
+    ABSENT, BITS, FILE, FILTER, HASHES, ITEMS, JSON, MOST_HASHES, OTHER, RATE, WORKERS, ZERO,
+};
+use clap::builder::ValueParser;
+
+/// How an argument is given.
+#[derive(Clone, Copy)]
+pub enum Kind {
+    /// By its name, or by this letter where it has one.
+    Flag(Option<char>),
+    /// Behind its name, as a number. It may have one that it is where none is given.
+    Number(&'static [&'static str], ValueParser<'static>),
+    /// Behind its name, as a fraction.
+    Rate,
+    /// As a word, which has to be there.
+    Word,
+    /// As words, at least this many.
+    Words(usize),
+}
+
+/// An argument: its name, how it is given, its help, the arguments that it needs, and those that it
+/// can't be given with.
+pub type Row = (
+    &'static str,
+    Kind,
+    &'static str,
+    &'static [&'static str],
+    &'static [&'static str],
+);
+
+// How many bits or keys there may be.
+const COUNT: ValueParser<'static> = ValueParser::Unsigned(1, 1_000_000_000_000);
+
+const JSON_ROW: Row = (
+    JSON,
+    Kind::Flag(None),
+    "Writes the filter as JSON, in place of the file form",
+    &[],
+    &[],
+);
+
+const MOST_HASHES_ROW: Row = (
+    MOST_HASHES,
+    Kind::Number(&["64"], ValueParser::Signed(1, 4_294_967_295)),
+    "Refuses a filter with more hashes: each costs time at every key",
+    &[],
+    &[],
+);
+
+const FILTER_ROW: Row = (
+    FILTER,
+    Kind::Word,
+    "A file with a filter, in the file form or as JSON",
+    &[],
+    &[],
+);
+
+const ZERO_ROW: Row = (
+    ZERO,
+    Kind::Flag(Some('z')),
+    "A zero byte ends each key, in place of a line's end",
+    &[],
+    &[],
+);
+
+const FILE_ROW: Row = (
+    FILE,
+    Kind::Words(0),
+    "Files with keys, one a line; none, or -, is standard input",
+    &[],
+    &[],
+);
+
+const BUILD: &'static [Row] = &[
+    (
+        BITS,
+        Kind::Number(&[], COUNT),
+        "At least this many bits: ten for each key make one mistake in a hundred",
+        &[],
+        &[],
+    ),
+    (
+        HASHES,
+        Kind::Number(&["7"], ValueParser::Signed(1, 1000)),
+        "How many bits each key turns on",
+        &[],
+        &[],
+    ),
+    (
+        ITEMS,
+        Kind::Number(&[], COUNT),
+        "How many keys are expected, in place of --bits and --hashes",
+        &[RATE],
+        &[HASHES],
+    ),
+    (
+        RATE,
+        Kind::Rate,
+        "The share of other keys that may be taken for one of them by mistake",
+        &[ITEMS],
+        &[BITS, HASHES],
+    ),
+    (
+        WORKERS,
+        Kind::Number(&["1"], ValueParser::Signed(1, 1024)),
+        "How many threads fill the filter",
+        &[],
+        &[],
+    ),
+    JSON_ROW,
+    ZERO_ROW,
+    FILE_ROW,
+];
+
+const UNITE: &'static [Row] = &[
+    MOST_HASHES_ROW,
+    JSON_ROW,
+    (
+        FILTER,
+        Kind::Words(1),
+        "Files with filters of one shape and key, in the file form or as JSON",
+        &[],
+        &[],
+    ),
+];
+
+const ASK: &'static [Row] = &[
+    MOST_HASHES_ROW,
+    (
+        ABSENT,
+        Kind::Flag(None),
+        "Writes the keys that are surely not in, in place of those that may be",
+        &[],
+        &[],
+    ),
+    FILTER_ROW,
+    ZERO_ROW,
+    FILE_ROW,
+];
+
+const COMPARE: &'static [Row] = &[
+    FILTER_ROW,
+    (
+        OTHER,
+        Kind::Word,
+        "A file with another filter of the same shape and key",
+        &[],
+        &[],
+    ),
+];
+
+/// The commands: the name of each, its help, its arguments, and those of which it needs one.
+pub const COMMANDS: [(
+    &'static str,
+    &'static str,
+    &'static [Row],
+    &'static [&'static str],
+); 5] = [
+    (
+        "build",
+        "Reads keys, one a line, and writes their filter",
+        BUILD,
+        &[BITS, ITEMS],
+    ),
+    (
+        "unite",
+        "Writes the filter of all keys of some filters",
+        UNITE,
+        &[],
+    ),
+    (
+        "ask",
+        "Reads keys, one a line, and writes those that may be in a filter",
+        ASK,
+        &[],
+    ),
+    ("info", "Prints what a filter is", &[FILTER_ROW], &[]),
+    (
+        "compare",
+        "Prints how many keys two filters have, each and in common",
+        COMPARE,
+        &[],
+    ),
+];
