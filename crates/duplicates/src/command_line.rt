@@ -4,7 +4,7 @@ use bloom_plain::Rate;
 use clap::builder::ValueParser;
 use clap::error::ErrorKind;
 use clap::{Arg, ArgAction, ArgMatches, Command, Error};
-use std::alloc::Global;
+use std::alloc::{AllocError, Global};
 
 /// The version that the program tells: that of the Rust crate that it was made from.
 const VERSION: &str = "0.17.0";
@@ -141,14 +141,25 @@ fn set_kind<'a>(arg: Arg<'a>, id: &'a str, kind: Kind) -> Arg<'a> {
     }
 }
 
+// An argument that can't be given with these others.
+fn argument<'a>(
+    alloc: Global,
+    id: &'a str,
+    kind: Kind,
+    help: &'a str,
+    others: &'a [&'a str],
+) -> Result<Arg<'a>, AllocError> {
+    let arg = Arg::new(alloc, id).help(help).conflicts_with_all(others)?;
+    Ok(set_kind(arg, id, kind))
+}
+
 // The words that the program understands.
 fn command<'a>(alloc: Global) -> Result<Command<'a>, Error> {
     let mut command = Command::new(alloc, "duplicates")
         .version(VERSION)
         .about("Prints each line of its input that is certainly new");
     'arguments: for (id, kind, help, others) in &ARGUMENTS {
-        let arg = Arg::new(alloc, id).help(help).conflicts_with_all(others)?;
-        command = command.arg(set_kind(arg, id, *kind))?;
+        command = command.arg(argument(alloc, id, *kind, help, others)?)?;
     }
     Ok(command)
 }

@@ -6,7 +6,7 @@ use crate::rates::rate_of;
 use clap::error::ErrorKind;
 use clap::{Arg, ArgAction, ArgGroup, ArgMatches, Command, Error};
 use rows::{COMMANDS, Kind, Row};
-use std::alloc::Global;
+use std::alloc::{AllocError, Global};
 
 // The commands' arguments by their ids.
 pub const BITS: &str = "bits";
@@ -57,18 +57,27 @@ fn set_kind<'a>(arg: Arg<'a>, id: &'a str, kind: Kind) -> Arg<'a> {
     }
 }
 
+// An argument that needs some others, and can't be given with some.
+fn argument<'a>(
+    alloc: Global,
+    id: &'a str,
+    kind: Kind,
+    help: &'a str,
+    needed: &'a [&'a str],
+    excluded: &'a [&'a str],
+) -> Result<Arg<'a>, AllocError> {
+    let arg = Arg::new(alloc, id).help(help).requires_all(needed)?;
+    Ok(set_kind(arg.conflicts_with_all(excluded)?, id, kind))
+}
+
 // Adds the arguments of these rows.
 fn add_arguments<'a>(
     alloc: Global,
     mut command: Command<'a>,
     rows: &[Row],
 ) -> Result<Command<'a>, Error> {
-    'arguments: for (id, kind, help, needs, others) in rows {
-        let arg = Arg::new(alloc, id)
-            .help(help)
-            .requires_all(needs)?
-            .conflicts_with_all(others)?;
-        command = command.arg(set_kind(arg, id, *kind))?;
+    'arguments: for (id, kind, help, needed, excluded) in rows {
+        command = command.arg(argument(alloc, id, *kind, help, needed, excluded)?)?;
     }
     Ok(command)
 }
@@ -77,7 +86,7 @@ fn add_arguments<'a>(
 fn require_one<'a>(
     alloc: Global,
     command: Command<'a>,
-    ids: &[&'static str],
+    ids: &'a [&'a str],
 ) -> Result<Command<'a>, Error> {
     if ids.is_empty() {
         return Ok(command);
