@@ -53,14 +53,13 @@ pub struct Request<'n, 's> {
 // How an argument is given.
 #[derive(Clone, Copy)]
 enum Kind {
-    // By its name, or by this letter where it has one.
-    Flag(Option<char>),
-    // Behind its name, as a number between two others. First stand what help calls the number, and
-    // the number that it is where none is given.
-    Number(&'static str, &'static str, u64, u64),
-    // Behind its name, as any text. First stands what help calls the text.
-    Text(&'static str, &'static str),
-    // As any words, of which help tells this.
+    // By its name.
+    Flag,
+    // By its name, or by this letter.
+    Letter(char),
+    // Behind its name. First stand what help calls it, and what it is where none is given.
+    Option(&'static str, &'static str, ValueParser<'static>),
+    // As any words, as help calls them.
     Words(&'static str),
 }
 
@@ -71,49 +70,49 @@ type Row = (&'static str, Kind, &'static str, &'static [&'static str]);
 const ARGUMENTS: [Row; 9] = [
     (
         ITEMS,
-        Kind::Number("N", "1000000", 1, 1_000_000_000_000),
+        Kind::Option("N", "1000000", ValueParser::Unsigned(1, 1_000_000_000_000)),
         "How many different lines are expected; more may come",
         &[],
     ),
     (
         RATE,
-        Kind::Text("A/B", "1/1000"),
+        Kind::Option("A/B", "1/1000", ValueParser::String),
         "The share of new lines that may be held back by mistake",
         &[],
     ),
     (
         LONGEST,
-        Kind::Number("BYTES", "65536", 0, 1_073_741_824),
+        Kind::Option("BYTES", "65536", ValueParser::Unsigned(0, 1_073_741_824)),
         "How many bytes a line may have",
         &[],
     ),
     (
         FIXED,
-        Kind::Flag(None),
+        Kind::Flag,
         "Keeps one filter for N lines, and tells where more come",
         &[],
     ),
     (
         HELD_BACK,
-        Kind::Flag(None),
+        Kind::Flag,
         "Prints the lines that are held back, in place of the new ones",
         &[],
     ),
     (
         COUNT,
-        Kind::Flag(None),
+        Kind::Flag,
         "Prints how many lines were read and how many were held back, and no line",
         &[HELD_BACK],
     ),
     (
         ZERO,
-        Kind::Flag(Some('z')),
+        Kind::Letter('z'),
         "Lines end in a zero byte, not in a newline",
         &[],
     ),
     (
         QUIET,
-        Kind::Flag(Some('q')),
+        Kind::Letter('q'),
         "Tells nothing of a run that ends well",
         &[],
     ),
@@ -125,32 +124,51 @@ const ARGUMENTS: [Row; 9] = [
     ),
 ];
 
-// Sets how an argument is given.
-fn set_kind<'a>(arg: Arg<'a>, id: &'a str, kind: Kind) -> Arg<'a> {
+// A function that holds an argument or a command and branches takes long to prove, so each of these
+// goes one way.
+fn flag<'a>(alloc: Global, id: &'a str, help: &'a str) -> Arg<'a> {
+    Arg::new(alloc, id)
+        .long(id)
+        .action(ArgAction::SetTrue)
+        .help(help)
+}
+
+fn option<'a>(
+    alloc: Global,
+    id: &'a str,
+    help: &'a str,
+    name: &'a str,
+    default: &'a str,
+    parser: ValueParser<'a>,
+) -> Arg<'a> {
+    Arg::new(alloc, id)
+        .long(id)
+        .value_name(name)
+        .default_value(default)
+        .value_parser(parser)
+        .help(help)
+}
+
+fn words<'a>(alloc: Global, id: &'a str, help: &'a str, name: &'a str) -> Arg<'a> {
+    Arg::new(alloc, id)
+        .value_name(name)
+        .action(ArgAction::Append)
+        .num_args(0..)
+        .help(help)
+}
+
+fn argument<'a>(alloc: Global, id: &'a str, kind: Kind, help: &'a str) -> Arg<'a> {
     match kind {
-        Kind::Flag(None) => arg.long(id).action(ArgAction::SetTrue),
-        Kind::Flag(Some(letter)) => arg.long(id).short(letter).action(ArgAction::SetTrue),
-        Kind::Number(name, default, least, most) => {
-            arg.long(id)
-                .value_name(name)
-                .default_value(default)
-                .value_parser(ValueParser::Unsigned(least, most))
-        }
-        Kind::Text(name, default) => arg.long(id).value_name(name).default_value(default),
-        Kind::Words(name) => arg.value_name(name).action(ArgAction::Append).num_args(0..),
+        Kind::Flag => flag(alloc, id, help),
+        Kind::Letter(letter) => flag(alloc, id, help).short(letter),
+        Kind::Option(name, default, parser) => option(alloc, id, help, name, default, parser),
+        Kind::Words(name) => words(alloc, id, help, name),
     }
 }
 
-// An argument that can't be given with these others.
-fn argument<'a>(
-    alloc: Global,
-    id: &'a str,
-    kind: Kind,
-    help: &'a str,
-    others: &'a [&'a str],
-) -> Result<Arg<'a>, AllocError> {
-    let arg = Arg::new(alloc, id).help(help).conflicts_with_all(others)?;
-    Ok(set_kind(arg, id, kind))
+// An argument that can't be given with some others.
+fn excluding<'a>(arg: Arg<'a>, others: &'a [&'a str]) -> Result<Arg<'a>, AllocError> {
+    arg.conflicts_with_all(others)
 }
 
 // The words that the program understands.
@@ -159,7 +177,8 @@ fn command<'a>(alloc: Global) -> Result<Command<'a>, Error> {
         .version(VERSION)
         .about("Prints each line of its input that is certainly new");
     'arguments: for (id, kind, help, others) in &ARGUMENTS {
-        command = command.arg(argument(alloc, id, *kind, help, others)?)?;
+        let arg = argument(alloc, id, *kind, help);
+        command = command.arg(excluding(arg, others)?)?;
     }
     Ok(command)
 }

@@ -52,12 +52,8 @@ pub struct Options<'a> {
 enum Kind {
     // As a word, which has to be there.
     Word,
-    // Behind its name, as any text. First stands what help calls the text, and then the text that
-    // it is where none is given.
-    Text(&'static str, &'static str),
-    // Behind its name, as a number of at least so many. First stands the number that it is where
-    // none is given.
-    Number(&'static str, u64),
+    // Behind its name. First stand what help calls it, and what it is where none is given.
+    Option(&'static str, &'static str, ValueParser<'static>),
 }
 
 // An argument: its name, how it is given, and its help.
@@ -66,7 +62,7 @@ type Row = (&'static str, Kind, &'static str);
 const PROGRAM: &'static [Row] = &[
     (
         "rate",
-        Kind::Text("A/B", "1/1000"),
+        Kind::Option("A/B", "1/1000", ValueParser::String),
         "The share of absent keys that may be looked up in the store for nothing",
     ),
     (
@@ -79,12 +75,12 @@ const PROGRAM: &'static [Row] = &[
 const LOAD: &'static [Row] = &[
     (
         "batch",
-        Kind::Number("10000", 1),
+        Kind::Option("N", "10000", ValueParser::Unsigned(1, 1_000_000_000_000)),
         "How many lines are put together, or not at all",
     ),
     (
         "items",
-        Kind::Number("1000000", 0),
+        Kind::Option("N", "1000000", ValueParser::Unsigned(0, 1_000_000_000_000)),
         "How many lines are expected, where FILE is no regular file",
     ),
     (
@@ -127,17 +123,32 @@ const COMMANDS: [(&'static str, &'static str, &'static [Row]); 6] = [
     ),
 ];
 
-// Sets how an argument is given.
-fn set_kind<'a>(arg: Arg<'a>, id: &'a str, kind: Kind) -> Arg<'a> {
+// A function that holds an argument or a command and branches takes long to prove, so each of these
+// goes one way.
+fn word<'a>(alloc: Global, id: &'a str, help: &'a str) -> Arg<'a> {
+    Arg::new(alloc, id).required(true).help(help)
+}
+
+fn option<'a>(
+    alloc: Global,
+    id: &'a str,
+    help: &'a str,
+    name: &'a str,
+    default: &'a str,
+    parser: ValueParser<'a>,
+) -> Arg<'a> {
+    Arg::new(alloc, id)
+        .long(id)
+        .value_name(name)
+        .default_value(default)
+        .value_parser(parser)
+        .help(help)
+}
+
+fn argument<'a>(alloc: Global, id: &'a str, kind: Kind, help: &'a str) -> Arg<'a> {
     match kind {
-        Kind::Word => arg.required(true),
-        Kind::Text(name, default) => arg.long(id).value_name(name).default_value(default),
-        Kind::Number(default, least) => {
-            arg.long(id)
-                .value_name("N")
-                .default_value(default)
-                .value_parser(ValueParser::Unsigned(least, 1_000_000_000_000))
-        }
+        Kind::Word => word(alloc, id, help),
+        Kind::Option(name, default, parser) => option(alloc, id, help, name, default, parser),
     }
 }
 
@@ -148,8 +159,7 @@ fn add_arguments<'a>(
     rows: &[Row],
 ) -> Result<Command<'a>, Error> {
     'arguments: for (id, kind, help) in rows {
-        let arg = Arg::new(alloc, id).help(help);
-        command = command.arg(set_kind(arg, id, *kind))?;
+        command = command.arg(argument(alloc, id, *kind, help))?;
     }
     Ok(command)
 }

@@ -3,6 +3,7 @@
 mod rows;
 
 use crate::rates::rate_of;
+use clap::builder::ValueParser;
 use clap::error::ErrorKind;
 use clap::{Arg, ArgAction, ArgGroup, ArgMatches, Command, Error};
 use rows::{COMMANDS, Kind, Row};
@@ -36,38 +37,69 @@ pub const ABSENT: &str = "absent";
 // The version of the library whose filters these are.
 const VERSION: &str = "0.17.0";
 
-// Sets how an argument is given.
-fn set_kind<'a>(arg: Arg<'a>, id: &'a str, kind: Kind) -> Arg<'a> {
+// A function that holds an argument or a command and branches takes long to prove, so each of these
+// goes one way.
+fn flag<'a>(alloc: Global, id: &'a str, help: &'a str) -> Arg<'a> {
+    Arg::new(alloc, id)
+        .long(id)
+        .action(ArgAction::SetTrue)
+        .help(help)
+}
+
+fn option<'a>(
+    alloc: Global,
+    id: &'a str,
+    help: &'a str,
+    name: &'a str,
+    default: &'a [&'a str],
+    parser: ValueParser<'a>,
+) -> Arg<'a> {
+    Arg::new(alloc, id)
+        .long(id)
+        .value_name(name)
+        .default_values(default)
+        .value_parser(parser)
+        .help(help)
+}
+
+fn words<'a>(
+    alloc: Global,
+    id: &'a str,
+    help: &'a str,
+    action: ArgAction,
+    least: usize,
+    most: usize,
+) -> Arg<'a> {
+    Arg::new(alloc, id)
+        .required(least > 0)
+        .action(action)
+        .num_args(least..=most)
+        .help(help)
+}
+
+fn argument<'a>(alloc: Global, id: &'a str, kind: Kind, help: &'a str) -> Arg<'a> {
     match kind {
-        Kind::Flag(None) => arg.long(id).action(ArgAction::SetTrue),
-        Kind::Flag(Some(letter)) => arg.long(id).short(letter).action(ArgAction::SetTrue),
-        Kind::Number(default, parser) => {
-            arg.long(id)
-                .value_name("N")
-                .default_values(default)
-                .value_parser(parser)
-        }
-        Kind::Rate => arg.long(id).value_name("A/B"),
-        Kind::Word => arg.required(true),
-        Kind::Words(least) => {
-            arg.required(least > 0)
-                .action(ArgAction::Append)
-                .num_args(least..)
-        }
+        Kind::Flag => flag(alloc, id, help),
+        Kind::Letter(letter) => flag(alloc, id, help).short(letter),
+        Kind::Option(name, default, parser) => option(alloc, id, help, name, default, parser),
+        Kind::Words(action, least, most) => words(alloc, id, help, action, least, most),
     }
 }
 
 // An argument that needs some others, and can't be given with some.
-fn argument<'a>(
-    alloc: Global,
-    id: &'a str,
-    kind: Kind,
-    help: &'a str,
+fn with_rules<'a>(
+    arg: Arg<'a>,
     needed: &'a [&'a str],
     excluded: &'a [&'a str],
 ) -> Result<Arg<'a>, AllocError> {
-    let arg = Arg::new(alloc, id).help(help).requires_all(needed)?;
-    Ok(set_kind(arg.conflicts_with_all(excluded)?, id, kind))
+    arg.requires_all(needed)?.conflicts_with_all(excluded)
+}
+
+// The arguments of which one has to be given, if there are any.
+fn choice<'a>(alloc: Global, ids: &'a [&'a str]) -> Result<ArgGroup<'a>, AllocError> {
+    ArgGroup::new(alloc, "size")
+        .required(!ids.is_empty())
+        .args(ids)
 }
 
 // Adds the arguments of these rows.
@@ -77,22 +109,10 @@ fn add_arguments<'a>(
     rows: &[Row],
 ) -> Result<Command<'a>, Error> {
     'arguments: for (id, kind, help, needed, excluded) in rows {
-        command = command.arg(argument(alloc, id, *kind, help, needed, excluded)?)?;
+        let arg = argument(alloc, id, *kind, help);
+        command = command.arg(with_rules(arg, needed, excluded)?)?;
     }
     Ok(command)
-}
-
-// Requires one of these arguments, where there are any.
-fn require_one<'a>(
-    alloc: Global,
-    command: Command<'a>,
-    ids: &'a [&'a str],
-) -> Result<Command<'a>, Error> {
-    if ids.is_empty() {
-        return Ok(command);
-    }
-    let choice = ArgGroup::new(alloc, "size").required(true).args(ids)?;
-    Ok(command.group(choice)?)
 }
 
 // The program's command line.
@@ -102,10 +122,10 @@ fn command<'a>(alloc: Global) -> Result<Command<'a>, Error> {
         .version(VERSION)
         .subcommand_required(true)
         .arg_required_else_help(true);
-    'commands: for (name, about, rows, choice) in &COMMANDS {
-        let command = Command::new(alloc, name).about(about);
-        let command = add_arguments(alloc, command, rows)?;
-        program = program.subcommand(require_one(alloc, command, choice)?)?;
+    'commands: for (name, about, rows, ids) in &COMMANDS {
+        let group = choice(alloc, ids)?;
+        let command = Command::new(alloc, name).about(about).group(group)?;
+        program = program.subcommand(add_arguments(alloc, command, rows)?)?;
     }
     Ok(program)
 }

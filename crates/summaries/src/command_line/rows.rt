@@ -3,21 +3,24 @@
 use super::{
     ABSENT, BITS, FILE, FILTER, HASHES, ITEMS, JSON, MOST_HASHES, OTHER, RATE, WORKERS, ZERO,
 };
+use clap::ArgAction;
 use clap::builder::ValueParser;
 
 /// How an argument is given.
 #[derive(Clone, Copy)]
 pub enum Kind {
-    /// By its name, or by this letter where it has one.
-    Flag(Option<char>),
-    /// Behind its name, as a number. It may have one that it is where none is given.
-    Number(&'static [&'static str], ValueParser<'static>),
-    /// Behind its name, as a fraction.
-    Rate,
-    /// As a word, which has to be there.
-    Word,
-    /// As words, at least this many.
-    Words(usize),
+    /// By its name.
+    Flag,
+    /// By its name, or by this letter.
+    Letter(char),
+    /// Behind its name, as help calls it. It may have a value where none is given.
+    Option(
+        &'static str,
+        &'static [&'static str],
+        ValueParser<'static>,
+    ),
+    /// As words, of which there are at least and at most this many.
+    Words(ArgAction, usize, usize),
 }
 
 /// An argument: its name, how it is given, its help, the arguments that it needs, and those that it
@@ -30,12 +33,14 @@ pub type Row = (
     &'static [&'static str],
 );
 
-// How many bits or keys there may be.
-const COUNT: ValueParser<'static> = ValueParser::Unsigned(1, 1_000_000_000_000);
+// A number of bits or keys.
+const COUNT: Kind = Kind::Option("N", &[], ValueParser::Unsigned(1, 1_000_000_000_000));
+
+const WORD: Kind = Kind::Words(ArgAction::Set, 1, 1);
 
 const JSON_ROW: Row = (
     JSON,
-    Kind::Flag(None),
+    Kind::Flag,
     "Writes the filter as JSON, in place of the file form",
     &[],
     &[],
@@ -43,7 +48,7 @@ const JSON_ROW: Row = (
 
 const MOST_HASHES_ROW: Row = (
     MOST_HASHES,
-    Kind::Number(&["64"], ValueParser::Signed(1, 4_294_967_295)),
+    Kind::Option("N", &["64"], ValueParser::Signed(1, 4_294_967_295)),
     "Refuses a filter with more hashes: each costs time at every key",
     &[],
     &[],
@@ -51,7 +56,7 @@ const MOST_HASHES_ROW: Row = (
 
 const FILTER_ROW: Row = (
     FILTER,
-    Kind::Word,
+    WORD,
     "A file with a filter, in the file form or as JSON",
     &[],
     &[],
@@ -59,7 +64,7 @@ const FILTER_ROW: Row = (
 
 const ZERO_ROW: Row = (
     ZERO,
-    Kind::Flag(Some('z')),
+    Kind::Letter('z'),
     "A zero byte ends each key, in place of a line's end",
     &[],
     &[],
@@ -67,7 +72,7 @@ const ZERO_ROW: Row = (
 
 const FILE_ROW: Row = (
     FILE,
-    Kind::Words(0),
+    Kind::Words(ArgAction::Append, 0, usize::MAX),
     "Files with keys, one a line; none, or -, is standard input",
     &[],
     &[],
@@ -76,35 +81,35 @@ const FILE_ROW: Row = (
 const BUILD: &'static [Row] = &[
     (
         BITS,
-        Kind::Number(&[], COUNT),
+        COUNT,
         "At least this many bits: ten for each key make one mistake in a hundred",
         &[],
         &[],
     ),
     (
         HASHES,
-        Kind::Number(&["7"], ValueParser::Signed(1, 1000)),
+        Kind::Option("N", &["7"], ValueParser::Signed(1, 1000)),
         "How many bits each key turns on",
         &[],
         &[],
     ),
     (
         ITEMS,
-        Kind::Number(&[], COUNT),
+        COUNT,
         "How many keys are expected, in place of --bits and --hashes",
         &[RATE],
         &[HASHES],
     ),
     (
         RATE,
-        Kind::Rate,
+        Kind::Option("A/B", &[], ValueParser::String),
         "The share of other keys that may be taken for one of them by mistake",
         &[ITEMS],
         &[BITS, HASHES],
     ),
     (
         WORKERS,
-        Kind::Number(&["1"], ValueParser::Signed(1, 1024)),
+        Kind::Option("N", &["1"], ValueParser::Signed(1, 1024)),
         "How many threads fill the filter",
         &[],
         &[],
@@ -119,7 +124,7 @@ const UNITE: &'static [Row] = &[
     JSON_ROW,
     (
         FILTER,
-        Kind::Words(1),
+        Kind::Words(ArgAction::Append, 1, usize::MAX),
         "Files with filters of one shape and key, in the file form or as JSON",
         &[],
         &[],
@@ -130,7 +135,7 @@ const ASK: &'static [Row] = &[
     MOST_HASHES_ROW,
     (
         ABSENT,
-        Kind::Flag(None),
+        Kind::Flag,
         "Writes the keys that are surely not in, in place of those that may be",
         &[],
         &[],
@@ -144,7 +149,7 @@ const COMPARE: &'static [Row] = &[
     FILTER_ROW,
     (
         OTHER,
-        Kind::Word,
+        WORD,
         "A file with another filter of the same shape and key",
         &[],
         &[],
