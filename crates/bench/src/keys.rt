@@ -1,5 +1,6 @@
 //! The keys that are measured, and their hashes.
 
+use fastbloom::BloomFilter;
 use std::alloc::{AllocError, Global};
 
 /// The hash of a key: the numbers of keys, spread evenly.
@@ -17,15 +18,12 @@ pub fn first_foreign_key(keys: u64, round: u32) -> u64 {
     keys.wrapping_mul(round as u64).wrapping_add(1 << 40)
 }
 
-/// Makes a call for each of this many keys from the first on, and counts the answers that were
-/// true. Each call has a loop of its own, in which it is inlined.
+/// Looks up this many keys from the first on, and counts the answers that were true.
 #[inline(never)]
-pub fn count_keys<F: FnMut(u64) -> bool>(first: u64, keys: u64, mut call: F) -> u64
-    requires { F.IsAlwaysCallable call }
-{
+pub fn contains_keys(filter: &BloomFilter, first: u64, keys: u64) -> u64 {
     let mut answers: u64 = 0;
     'keys: for key in 0..keys {
-        let answer = call(first.wrapping_add(key));
+        let answer = filter.contains_hash(hash_of(first.wrapping_add(key)));
         answers = answers.wrapping_add(answer as u64);
     }
     answers

@@ -1,15 +1,73 @@
 //! The calls of a plain filter: a key, or a word of the filter.
 use crate::filters::filter_for;
-use crate::keys::{count_keys, first_foreign_key, hash_of, numbers_to};
+use crate::keys::{contains_keys, first_foreign_key, hash_of, numbers_to};
 use crate::plan::Unit;
 use crate::table::{Made, Measured, Rows};
 use fastbloom::{BloomFilter, FilterData, FilterError};
 use std::alloc::{AllocError, Global};
 
-// The text of a key's turn.
-#[inline(always)]
-fn text_of(texts: &[String], key: u64) -> Option<&String> {
-    texts.get(key as usize % 32)
+// The answers of `source_hash` are counted by their lowest bit.
+#[inline(never)]
+fn hash_numbers(filter: &BloomFilter, keys: u64) -> u64 {
+    let mut answers: u64 = 0;
+    'keys: for key in 0..keys {
+        answers = answers.wrapping_add(filter.source_hash(&key) % 2);
+    }
+    answers
+}
+
+// The items are 32 texts by turns.
+#[inline(never)]
+fn hash_texts(filter: &BloomFilter, texts: &[String], keys: u64) -> u64 {
+    let mut answers: u64 = 0;
+    'keys: for key in 0..keys {
+        if let Some(item) = texts.get(key as usize % 32) {
+            answers = answers.wrapping_add(filter.source_hash(item) % 2);
+        }
+    }
+    answers
+}
+
+#[inline(never)]
+fn insert_texts(filter: &mut BloomFilter, texts: &[String], keys: u64) -> u64 {
+    let mut answers: u64 = 0;
+    'keys: for key in 0..keys {
+        if let Some(item) = texts.get(key as usize % 32) {
+            answers = answers.wrapping_add(filter.insert(item) as u64);
+        }
+    }
+    answers
+}
+
+#[inline(never)]
+fn contains_texts(filter: &BloomFilter, texts: &[String], keys: u64) -> u64 {
+    let mut answers: u64 = 0;
+    'keys: for key in 0..keys {
+        if let Some(item) = texts.get(key as usize % 32) {
+            answers = answers.wrapping_add(filter.contains(item) as u64);
+        }
+    }
+    answers
+}
+
+#[inline(never)]
+fn insert_numbers(filter: &mut BloomFilter, keys: u64) -> u64 {
+    let mut answers: u64 = 0;
+    'keys: for key in 0..keys {
+        let answer = filter.insert(&key);
+        answers = answers.wrapping_add(answer as u64);
+    }
+    answers
+}
+
+#[inline(never)]
+fn contains_numbers(filter: &BloomFilter, keys: u64) -> u64 {
+    let mut answers: u64 = 0;
+    'keys: for key in 0..keys {
+        let answer = filter.contains(&key);
+        answers = answers.wrapping_add(answer as u64);
+    }
+    answers
 }
 
 #[inline(never)]
@@ -19,6 +77,17 @@ fn count_odd(filter: &BloomFilter) -> u64 {
         odd = odd.wrapping_add(word % 2);
     }
     odd
+}
+
+/// Inserts this many keys, and counts the answers that were true.
+#[inline(never)]
+pub fn insert_keys(filter: &mut BloomFilter, keys: u64) -> u64 {
+    let mut answers: u64 = 0;
+    'keys: for key in 0..keys {
+        let answer = filter.insert_hash(hash_of(key));
+        answers = answers.wrapping_add(answer as u64);
+    }
+    answers
 }
 
 /// The calls of a plain filter.
@@ -160,57 +229,29 @@ pub struct Calls {
 }
 
 impl Calls {
-    // What the answers of a call by items come to. Texts are 32 by turns, and answers of
-    // `source_hash` are counted where they are odd.
-    fn count_items(&mut self, call: Call) -> u64 {
-        let keys = self.keys as u64;
-        let (filter, texts) = (&mut self.filter, self.texts.as_slice());
-        match call {
-            Call::HashNumbers => count_keys(0, keys, |key| filter.source_hash(&key) % 2 == 1),
-            Call::Insert => count_keys(0, keys, |key| filter.insert(&key)),
-            Call::Contains => count_keys(0, keys, |key| filter.contains(&key)),
-            Call::HashTexts => count_keys(0, keys, |key| match text_of(texts, key) {
-                Some(item) => filter.source_hash(item) % 2 == 1,
-                None => false,
-            }),
-            Call::InsertTexts => count_keys(0, keys, |key| match text_of(texts, key) {
-                Some(item) => filter.insert(item),
-                None => false,
-            }),
-            Call::ContainsTexts => count_keys(0, keys, |key| match text_of(texts, key) {
-                Some(item) => filter.contains(item),
-                None => false,
-            }),
-            _ => 0,
-        }
-    }
-
     // What the answers of a call that gives nothing else come to.
     fn count_answers(&mut self, call: Call, round: u32) -> u64 {
-        let (keys, filter) = (self.keys as u64, &mut self.filter);
+        let (keys, texts) = (self.keys as u64, self.texts.as_slice());
         match call {
+            Call::HashNumbers => hash_numbers(&self.filter, keys),
+            Call::HashTexts => hash_texts(&self.filter, texts, keys),
+            Call::InsertTexts => insert_texts(&mut self.filter, texts, keys),
+            Call::ContainsTexts => contains_texts(&self.filter, texts, keys),
+            Call::Insert => insert_numbers(&mut self.filter, keys),
+            Call::Contains => contains_numbers(&self.filter, keys),
             Call::Extend => {
-                filter.extend(0..keys);
-                filter.contains(&0u64) as u64
+                self.filter.extend(0..keys);
+                self.filter.contains(&0u64) as u64
             }
             Call::InsertAll => {
-                filter.insert_all(&self.numbers);
-                filter.contains(&0u64) as u64
+                self.filter.insert_all(&self.numbers);
+                self.filter.contains(&0u64) as u64
             }
-            Call::InsertHash => count_keys(0, keys, |key| filter.insert_hash(hash_of(key))),
-            Call::Hit => count_keys(0, keys, |key| filter.contains_hash(hash_of(key))),
-            Call::Miss => {
-                count_keys(
-                    first_foreign_key(keys, round),
-                    keys,
-                    |key| filter.contains_hash(hash_of(key)),
-                )
-            }
+            Call::InsertHash => insert_keys(&mut self.filter, keys),
+            Call::Hit => contains_keys(&self.filter, 0, keys),
+            Call::Miss => contains_keys(&self.filter, first_foreign_key(keys, round), keys),
             Call::Iter => count_odd(&self.other),
-            Call::Union | Call::Intersect | Call::Equality | Call::Clear => {
-                answer_of(filter, &self.other, call) as u64
-            }
-            _ => self.count_items(call),
+            _ => answer_of(&mut self.filter, &self.other, call) as u64,
         }
     }
 }
@@ -219,7 +260,7 @@ impl Measured for Calls {
     type Call = Call;
 
     fn prepare(&mut self, call: Call, number: u32, round: u32) -> anyhow::Result<()> {
-        let alloc = self.alloc;
+        let (alloc, keys) = (self.alloc, self.keys as u64);
         if round == 0 {
             match call {
                 Call::HashTexts | Call::InsertTexts | Call::ContainsTexts => {
@@ -231,11 +272,11 @@ impl Measured for Calls {
                 _ => self.filter = filter_for(alloc, self.keys, number)?,
             }
             match call {
-                Call::Contains => self.count_answers(Call::Insert, 0),
-                Call::ContainsTexts => self.count_answers(Call::InsertTexts, 0),
-                Call::Hit | Call::Miss => self.count_answers(Call::InsertHash, 0),
+                Call::Contains => insert_numbers(&mut self.filter, keys),
+                Call::ContainsTexts => insert_texts(&mut self.filter, self.texts.as_slice(), 32),
+                Call::Hit | Call::Miss => insert_keys(&mut self.filter, keys),
                 Call::ToData | Call::FromData | Call::Write | Call::Read => {
-                    self.count_answers(Call::InsertHash, 0)
+                    insert_keys(&mut self.filter, keys)
                 }
                 _ => 0,
             };

@@ -2,7 +2,7 @@
 ghost use Rattle.std.specs.Prelude.{◌≤◌, ◌<◌, ◌^◌, vec_len};
 
 use crate::filters::{count_words, shared_filter_for};
-use crate::keys::{count_keys, first_foreign_key, hash_of, numbers_to};
+use crate::keys::{first_foreign_key, hash_of, numbers_to};
 use crate::plan::Unit;
 use crate::table::{Made, Measured, Rows};
 use fastbloom::{AtomicBloomFilter, FilterError};
@@ -10,13 +10,25 @@ use std::alloc::{AllocError, Global};
 use std::sync::atomic::{AtomicU64, Ordering};
 
 /// Inserts this many keys from the first on, and counts the answers that were true.
+#[inline(never)]
 pub fn insert_keys(filter: &AtomicBloomFilter, first: u64, keys: u64) -> u64 {
-    count_keys(first, keys, |key| filter.insert_hash(hash_of(key)))
+    let mut answers: u64 = 0;
+    'keys: for key in 0..keys {
+        let answer = filter.insert_hash(hash_of(first.wrapping_add(key)));
+        answers = answers.wrapping_add(answer as u64);
+    }
+    answers
 }
 
 /// Looks up this many keys from the first on, and counts the answers that were true.
+#[inline(never)]
 pub fn contains_keys(filter: &AtomicBloomFilter, first: u64, keys: u64) -> u64 {
-    count_keys(first, keys, |key| filter.contains_hash(hash_of(key)))
+    let mut answers: u64 = 0;
+    'keys: for key in 0..keys {
+        let answer = filter.contains_hash(hash_of(first.wrapping_add(key)));
+        answers = answers.wrapping_add(answer as u64);
+    }
+    answers
 }
 
 #[inline(never)]

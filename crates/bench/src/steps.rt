@@ -3,7 +3,7 @@ ghost use Rattle.std.specs.Prelude.{All, IfOk};
 ghost use Rattle.bench.specs.Lists.{FitsEach};
 
 use crate::filters::{count_words, filter_for, zeros};
-use crate::keys::{count_keys, hash_of};
+use crate::keys::hash_of;
 use crate::plan::Unit;
 use crate::table::{Made, Measured, Rows};
 use fastbloom::{
@@ -19,12 +19,14 @@ fn store_for(alloc: Global, keys: u32) -> Result<MemoryStore, AllocError> {
     Ok(MemoryStore::new(words, other))
 }
 
+#[inline(never)]
 fn drive_inserts(store: &mut MemoryStore, keys: u64) -> u64 {
-    count_keys(
-        0,
-        keys,
-        |key| drive(store, Call::Insert(hash_of(key)), 7) == Some(true),
-    )
+    let mut answers: u64 = 0;
+    'keys: for key in 0..keys {
+        let answer = drive(store, Call::Insert(hash_of(key)), 7);
+        answers = answers.wrapping_add((answer == Some(true)) as u64);
+    }
+    answers
 }
 
 // This many events: inserts of one party, each of which is its beginning and seven steps.

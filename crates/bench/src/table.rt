@@ -1,6 +1,6 @@
 //! The table of what was measured.
 
-use crate::keys::{count_keys, hash_of};
+use crate::keys::contains_keys;
 use crate::plan::{Plan, Unit};
 use fastbloom::{AtomicBloomFilter, BloomFilter, FilterData, FilterError, Trace};
 use std::io;
@@ -39,9 +39,7 @@ impl Made {
             Made::Answers(answers) => answers,
             Made::Copy(filter) => filter.contains_hash(0) as u64,
             Made::SharedCopy(filter) => filter.contains_hash(0) as u64,
-            Made::Filled(filter, keys) => {
-                count_keys(0, keys, |key| filter.contains_hash(hash_of(key)))
-            }
+            Made::Filled(filter, keys) => contains_keys(&filter, 0, keys),
             Made::Data(data) => data.bits.bits.len() as u64,
             Made::Text(text) => text.len() as u64,
             Made::Words(words) => words.len() as u64,

@@ -14,11 +14,7 @@ pub enum Kind {
     /// By its name, or by this letter.
     Letter(char),
     /// Behind its name, as help calls it. It may have a value where none is given.
-    Option(
-        &'static str,
-        &'static [&'static str],
-        ValueParser<'static>,
-    ),
+    Option(&'static str, &'static [&'static str], ValueParser<'static>),
     /// As words, of which there are at least and at most this many.
     Words(ArgAction, usize, usize),
 }
