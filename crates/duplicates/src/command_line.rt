@@ -1,9 +1,10 @@
 //! The command line.
 
 use bloom_plain::Rate;
+use clap::builder::ValueParser;
 use clap::error::ErrorKind;
-use clap::{Arg, ArgAction, ArgMatches, Command, Error, value_parser};
-use std::alloc::Global;
+use clap::{Arg, ArgAction, ArgMatches, Command, Error};
+use std::alloc::{AllocError, Global};
 
 /// The version that the program tells: that of the Rust crate that it was made from.
 const VERSION: &str = "0.17.0";
@@ -49,68 +50,137 @@ pub struct Request<'n, 's> {
     pub quiet: bool,
 }
 
-fn items<'a>(alloc: Global) -> Arg<'a> {
-    Arg::new(alloc, ITEMS)
-        .long(ITEMS)
-        .value_name("N")
-        .default_value("1000000")
-        .help("How many different lines are expected; more may come")
-        .value_parser(value_parser!(u64).range(1..=1_000_000_000_000))
+// How an argument is given.
+#[derive(Clone, Copy)]
+enum Kind {
+    // By its name.
+    Flag,
+    // By its name, or by this letter.
+    Letter(char),
+    // Behind its name. First stand what help calls it, and what it is where none is given.
+    Option(&'static str, &'static str, ValueParser<'static>),
+    // As any words, as help calls them.
+    Words(&'static str),
 }
 
-fn rate<'a>(alloc: Global) -> Arg<'a> {
-    Arg::new(alloc, RATE)
-        .long(RATE)
-        .value_name("A/B")
-        .default_value("1/1000")
-        .help("The share of new lines that may be held back by mistake")
-}
+// An argument: its name, how it is given, its help, and the arguments that it can't be given with.
+type Row = (&'static str, Kind, &'static str, &'static [&'static str]);
 
-fn longest<'a>(alloc: Global) -> Arg<'a> {
-    Arg::new(alloc, LONGEST)
-        .long(LONGEST)
-        .value_name("BYTES")
-        .default_value("65536")
-        .help("How many bytes a line may have")
-        .value_parser(value_parser!(u64).range(0..=1_073_741_824))
-}
+// The arguments, in the order of the help.
+const ARGUMENTS: [Row; 9] = [
+    (
+        ITEMS,
+        Kind::Option("N", "1000000", ValueParser::Unsigned(1, 1_000_000_000_000)),
+        "How many different lines are expected; more may come",
+        &[],
+    ),
+    (
+        RATE,
+        Kind::Option("A/B", "1/1000", ValueParser::String),
+        "The share of new lines that may be held back by mistake",
+        &[],
+    ),
+    (
+        LONGEST,
+        Kind::Option("BYTES", "65536", ValueParser::Unsigned(0, 1_073_741_824)),
+        "How many bytes a line may have",
+        &[],
+    ),
+    (
+        FIXED,
+        Kind::Flag,
+        "Keeps one filter for N lines, and tells where more come",
+        &[],
+    ),
+    (
+        HELD_BACK,
+        Kind::Flag,
+        "Prints the lines that are held back, in place of the new ones",
+        &[],
+    ),
+    (
+        COUNT,
+        Kind::Flag,
+        "Prints how many lines were read and how many were held back, and no line",
+        &[HELD_BACK],
+    ),
+    (
+        ZERO,
+        Kind::Letter('z'),
+        "Lines end in a zero byte, not in a newline",
+        &[],
+    ),
+    (
+        QUIET,
+        Kind::Letter('q'),
+        "Tells nothing of a run that ends well",
+        &[],
+    ),
+    (
+        FILES,
+        Kind::Words("FILE"),
+        "Files with lines, one after the other; - is standard input, and so is none",
+        &[],
+    ),
+];
 
-fn files<'a>(alloc: Global) -> Arg<'a> {
-    Arg::new(alloc, FILES)
-        .value_name("FILE")
-        .action(ArgAction::Append)
-        .num_args(0..)
-        .help("Files with lines, one after the other; - is standard input, and so is none")
-}
-
-fn flag<'a>(alloc: Global, name: &'a str, help: &'a str) -> Arg<'a> {
-    Arg::new(alloc, name)
-        .long(name)
+// A function that holds an argument or a command and branches takes long to prove, so each of these
+// goes one way.
+fn flag<'a>(alloc: Global, id: &'a str, help: &'a str) -> Arg<'a> {
+    Arg::new(alloc, id)
+        .long(id)
         .action(ArgAction::SetTrue)
         .help(help)
 }
 
+fn option<'a>(
+    alloc: Global,
+    id: &'a str,
+    help: &'a str,
+    name: &'a str,
+    default: &'a str,
+    parser: ValueParser<'a>,
+) -> Arg<'a> {
+    Arg::new(alloc, id)
+        .long(id)
+        .value_name(name)
+        .default_value(default)
+        .value_parser(parser)
+        .help(help)
+}
+
+fn words<'a>(alloc: Global, id: &'a str, help: &'a str, name: &'a str) -> Arg<'a> {
+    Arg::new(alloc, id)
+        .value_name(name)
+        .action(ArgAction::Append)
+        .num_args(0..)
+        .help(help)
+}
+
+fn argument<'a>(alloc: Global, id: &'a str, kind: Kind, help: &'a str) -> Arg<'a> {
+    match kind {
+        Kind::Flag => flag(alloc, id, help),
+        Kind::Letter(letter) => flag(alloc, id, help).short(letter),
+        Kind::Option(name, default, parser) => option(alloc, id, help, name, default, parser),
+        Kind::Words(name) => words(alloc, id, help, name),
+    }
+}
+
+// An argument that can't be given with some others.
+fn excluding<'a>(arg: Arg<'a>, others: &'a [&'a str]) -> Result<Arg<'a>, AllocError> {
+    arg.conflicts_with_all(others)
+}
+
 // The words that the program understands.
 fn command<'a>(alloc: Global) -> Result<Command<'a>, Error> {
-    let fixed = "Keeps one filter for N lines, and tells where more come";
-    let held_back = "Prints the lines that are held back, in place of the new ones";
-    let count = "Prints how many lines were read and how many were held back, and no line";
-    let zero = "Lines end in a zero byte, not in a newline";
-    let quiet = "Tells nothing of a run that ends well";
-    Ok(
-        Command::new(alloc, "duplicates")
-            .version(VERSION)
-            .about("Prints each line of its input that is certainly new")
-            .arg(items(alloc))?
-            .arg(rate(alloc))?
-            .arg(longest(alloc))?
-            .arg(flag(alloc, FIXED, fixed))?
-            .arg(flag(alloc, HELD_BACK, held_back))?
-            .arg(flag(alloc, COUNT, count).conflicts_with(HELD_BACK)?)?
-            .arg(flag(alloc, ZERO, zero).short('z'))?
-            .arg(flag(alloc, QUIET, quiet).short('q'))?
-            .arg(files(alloc))?,
-    )
+    let mut command = Command::new(alloc, "duplicates")
+        .version(VERSION)
+        .about("Prints each line of its input that is certainly new");
+    'arguments: for (id, kind, help, others) in &ARGUMENTS {
+        let arg = argument(alloc, id, *kind, help);
+        command = command.arg(excluding(arg, others)?)?;
+    }
+    Ok(command)
 }
 
 // The rate that a text like 1/1000 is, if it lies between 0 and 1.

@@ -1,8 +1,9 @@
 //! The command line.
 
 use bloom_plain::Rate;
+use clap::builder::ValueParser;
 use clap::error::ErrorKind;
-use clap::{Arg, ArgMatches, Command, Error, value_parser};
+use clap::{Arg, ArgMatches, Command, Error};
 use std::alloc::Global;
 
 /// The version that the program tells.
@@ -46,94 +47,136 @@ pub struct Options<'a> {
     pub request: Request<'a>,
 }
 
+// How an argument is given.
+#[derive(Clone, Copy)]
+enum Kind {
+    // As a word, which has to be there.
+    Word,
+    // Behind its name. First stand what help calls it, and what it is where none is given.
+    Option(&'static str, &'static str, ValueParser<'static>),
+}
+
+// An argument: its name, how it is given, and its help.
+type Row = (&'static str, Kind, &'static str);
+
+const PROGRAM: &'static [Row] = &[
+    (
+        "rate",
+        Kind::Option("A/B", "1/1000", ValueParser::String),
+        "The share of absent keys that may be looked up in the store for nothing",
+    ),
+    (
+        "STORE",
+        Kind::Word,
+        "A SQLite file, which put and load make where there is none",
+    ),
+];
+
+const LOAD: &'static [Row] = &[
+    (
+        "batch",
+        Kind::Option("N", "10000", ValueParser::Unsigned(1, 1_000_000_000_000)),
+        "How many lines are put together, or not at all",
+    ),
+    (
+        "items",
+        Kind::Option("N", "1000000", ValueParser::Unsigned(0, 1_000_000_000_000)),
+        "How many lines are expected, where FILE is no regular file",
+    ),
+    (
+        "FILE",
+        Kind::Word,
+        "Each line has a key, a tab, and a value",
+    ),
+];
+
+// The commands: the name of each, its help, and its arguments.
+const COMMANDS: [(&'static str, &'static str, &'static [Row]); 6] = [
+    (
+        "put",
+        "Puts a value at a key that has none yet, and prints added or taken",
+        &[
+            ("KEY", Kind::Word, "A key, any text"),
+            ("VALUE", Kind::Word, "Its value, any text"),
+        ],
+    ),
+    (
+        "get",
+        "Prints the value of a key",
+        &[("KEY", Kind::Word, "A key")],
+    ),
+    (
+        "delete",
+        "Takes the value of a key away, and prints deleted",
+        &[("KEY", Kind::Word, "A key")],
+    ),
+    (
+        "load",
+        "Puts the entries of a file, and prints what that came to",
+        LOAD,
+    ),
+    ("list", "Prints all entries, as load reads them", &[]),
+    (
+        "stats",
+        "Looks up the keys of its input, one a line, and prints what that came to",
+        &[],
+    ),
+];
+
+// A function that holds an argument or a command and branches takes long to prove, so each of these
+// goes one way.
 fn word<'a>(alloc: Global, id: &'a str, help: &'a str) -> Arg<'a> {
     Arg::new(alloc, id).required(true).help(help)
 }
 
-fn put_command<'a>(alloc: Global) -> Result<Command<'a>, Error> {
-    Ok(
-        Command::new(alloc, "put")
-            .about("Puts a value at a key that has none yet, and prints added or taken")
-            .arg(word(alloc, "KEY", "A key, any text"))?
-            .arg(word(alloc, "VALUE", "Its value, any text"))?,
-    )
+fn option<'a>(
+    alloc: Global,
+    id: &'a str,
+    help: &'a str,
+    name: &'a str,
+    default: &'a str,
+    parser: ValueParser<'a>,
+) -> Arg<'a> {
+    Arg::new(alloc, id)
+        .long(id)
+        .value_name(name)
+        .default_value(default)
+        .value_parser(parser)
+        .help(help)
 }
 
-fn get_command<'a>(alloc: Global) -> Result<Command<'a>, Error> {
-    Ok(
-        Command::new(alloc, "get")
-            .about("Prints the value of a key")
-            .arg(word(alloc, "KEY", "A key"))?,
-    )
+fn argument<'a>(alloc: Global, id: &'a str, kind: Kind, help: &'a str) -> Arg<'a> {
+    match kind {
+        Kind::Word => word(alloc, id, help),
+        Kind::Option(name, default, parser) => option(alloc, id, help, name, default, parser),
+    }
 }
 
-fn delete_command<'a>(alloc: Global) -> Result<Command<'a>, Error> {
-    Ok(
-        Command::new(alloc, "delete")
-            .about("Takes the value of a key away, and prints deleted")
-            .arg(word(alloc, "KEY", "A key"))?,
-    )
-}
-
-fn load_command<'a>(alloc: Global) -> Result<Command<'a>, Error> {
-    let batch = Arg::new(alloc, "batch")
-        .long("batch")
-        .value_name("N")
-        .default_value("10000")
-        .help("How many lines are put together, or not at all")
-        .value_parser(value_parser!(u64).range(1..=1_000_000_000_000));
-    let items = Arg::new(alloc, "items")
-        .long("items")
-        .value_name("N")
-        .default_value("1000000")
-        .help("How many lines are expected, where FILE is no regular file")
-        .value_parser(value_parser!(u64).range(0..=1_000_000_000_000));
-    Ok(
-        Command::new(alloc, "load")
-            .about("Puts the entries of a file, and prints what that came to")
-            .arg(batch)?
-            .arg(items)?
-            .arg(word(alloc, "FILE", "Each line has a key, a tab, and a value"))?,
-    )
-}
-
-fn list_command<'a>(alloc: Global) -> Command<'a> {
-    Command::new(alloc, "list").about("Prints all entries, as load reads them")
-}
-
-fn stats_command<'a>(alloc: Global) -> Command<'a> {
-    Command::new(alloc, "stats").about(
-        "Looks up the keys of its input, one a line, and prints what that came to",
-    )
+// Adds the arguments of these rows.
+fn add_arguments<'a>(
+    alloc: Global,
+    mut command: Command<'a>,
+    rows: &[Row],
+) -> Result<Command<'a>, Error> {
+    'arguments: for (id, kind, help) in rows {
+        command = command.arg(argument(alloc, id, *kind, help))?;
+    }
+    Ok(command)
 }
 
 // The words that the program understands.
 fn command<'a>(alloc: Global) -> Result<Command<'a>, Error> {
-    let rate = Arg::new(alloc, "rate")
-        .long("rate")
-        .value_name("A/B")
-        .default_value("1/1000")
-        .help("The share of absent keys that may be looked up in the store for nothing");
-    let store = word(
-        alloc,
-        "STORE",
-        "A SQLite file, which put and load make where there is none",
-    );
-    Ok(
-        Command::new(alloc, "guard")
-            .version(VERSION)
-            .about("A store of values by keys, behind a filter of its keys")
-            .subcommand_required(true)
-            .arg_required_else_help(true)
-            .arg(rate)?
-            .arg(store)?
-            .subcommand(put_command(alloc)?)?
-            .subcommand(get_command(alloc)?)?
-            .subcommand(delete_command(alloc)?)?
-            .subcommand(load_command(alloc)?)?
-            .subcommand(list_command(alloc))?
-            .subcommand(stats_command(alloc))?,
-    )
+    let program = Command::new(alloc, "guard")
+        .version(VERSION)
+        .about("A store of values by keys, behind a filter of its keys")
+        .subcommand_required(true)
+        .arg_required_else_help(true);
+    let mut program = add_arguments(alloc, program, PROGRAM)?;
+    'commands: for (name, about, rows) in &COMMANDS {
+        let command = Command::new(alloc, name).about(about);
+        program = program.subcommand(add_arguments(alloc, command, rows)?)?;
+    }
+    Ok(program)
 }
 
 // The rate that a text such as 1/1000 tells, if it lies between 0 and 1.

@@ -14,7 +14,7 @@ use std::fmt;
 use std::io::Read;
 
 /// What a task came to.
-#[derive(Debug, Drop)]
+#[derive(Drop)]
 pub enum Answer {
     Put(Put),
     Found(Found),
@@ -25,7 +25,7 @@ pub enum Answer {
 }
 
 /// Why a task wasn't carried out to its end.
-#[derive(Debug, Drop)]
+#[derive(Drop)]
 pub enum Trouble<E, F> {
     /// A value wasn't put.
     Put(Fault<E, F>),

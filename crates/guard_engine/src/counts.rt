@@ -4,7 +4,7 @@ ghost use Rattle.guard_engine.specs.Counted.{one_more};
 
 /// How many look-ups the filter spared the store, how many the store was asked for, and how many of
 /// those for nothing. Each stops at the greatest number.
-#[derive(Clone, Copy, Debug, PartialEq, Eq)]
+#[derive(Clone, Copy)]
 pub struct Counts {
     pub spared: u64,
     pub asked: u64,

@@ -44,7 +44,7 @@ impl<T: Store + Drop, K: Kept + Drop> Model for Guard<T, K> {
 }
 
 /// What a look-up found, and whether the store was asked.
-#[derive(Debug, Drop)]
+#[derive(Drop)]
 pub enum Found {
     /// The filter lacks the key, and the store wasn't asked.
     Spared,
@@ -55,7 +55,7 @@ pub enum Found {
 }
 
 /// What became of an entry that was to be put.
-#[derive(Clone, Copy, Debug, PartialEq, Eq)]
+#[derive(Clone, Copy)]
 pub enum Put {
     /// The entry came into the store.
     Added,
@@ -64,7 +64,7 @@ pub enum Put {
 }
 
 /// Why a change wasn't made.
-#[derive(Debug, Drop)]
+#[derive(Drop)]
 pub enum Fault<E, F> {
     Store(E),
     /// The filter couldn't be saved.
@@ -72,7 +72,7 @@ pub enum Fault<E, F> {
 }
 
 /// Why a guard couldn't be made.
-#[derive(Debug, Drop)]
+#[derive(Drop)]
 pub enum Refusal<E> {
     Store(E),
     Filter(FilterError),

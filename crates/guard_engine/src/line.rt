@@ -3,7 +3,7 @@ ghost use Rattle.std.specs.Prelude.{◌≡◌, ℕ, IfErr, IfOk, IsUtf8};
 ghost use Rattle.guard_engine.specs.Loaded.{IsBad, IsEntryIn};
 
 /// What is wrong with a line.
-#[derive(Clone, Copy, Debug, PartialEq, Eq)]
+#[derive(Clone, Copy)]
 pub enum BadLine {
     /// It has no tab.
     NoTab,

@@ -1,7 +1,7 @@
 //! What a guard may be asked to do.
 
 /// What is to be done with a store. A reader has one entry or one key on each line.
-#[derive(Debug, Drop)]
+#[derive(Drop)]
 pub enum Task<'a, R: Drop> {
     /// Put this value at this key.
     Put(&'a str, &'a str),

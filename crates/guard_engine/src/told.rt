@@ -11,7 +11,7 @@ use std::fmt;
 use std::fmt::Display;
 
 /// Of what it is told that a task wasn't carried out.
-#[derive(Clone, Copy, Debug, PartialEq, Eq)]
+#[derive(Clone, Copy)]
 pub enum Subject {
     Store,
     /// The place of the filter.

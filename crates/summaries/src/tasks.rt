@@ -6,7 +6,6 @@ use crate::command_line::{
 use crate::form::{Disk, load_named};
 use crate::key_files::{KeyFiles, called_inputs};
 use crate::rates::rate_of;
-use anyhow::{Context, anyhow};
 use clap::ArgMatches;
 use fastbloom::{BloomFilter, FilterError, Shape};
 use std::io::{BufWriter, Write};
@@ -14,12 +13,8 @@ use std::rt::Files;
 use std::thread::Threads;
 use summaries_engine::{
     Shelf, Stop, Told, ask, build, compare_named, facts_of, put, put_file, shape_for, unite_named,
+    unsaid, unshaped, written,
 };
-
-// The error of words that the command line lets through only by a mistake of the program.
-fn unsaid(what: &str) -> Stop {
-    Stop::Bad(anyhow!("which {what}?"))
-}
 
 fn shape_by_rate(matches: &ArgMatches, items: u64) -> Result<Shape, Stop> {
     let Some(text) = matches.get_str(RATE) else {
@@ -45,8 +40,7 @@ fn shape_by_bits(matches: &ArgMatches) -> Result<Shape, Stop> {
 fn made(shape: Result<Shape, FilterError>) -> Result<Shape, Stop> {
     match shape {
         Ok(shape) => Ok(shape),
-        Err(FilterError::Memory) => Err(Stop::Memory),
-        Err(error) => Err(Stop::Bad(anyhow::Error::from(error))),
+        Err(error) => Err(unshaped(error)),
     }
 }
 
@@ -146,13 +140,9 @@ fn ask_of<R: Files + Input + Print + AllocGlobal>(
     } else {
         ask::<10, _, _>(rt.alloc(), &filter, told, &files, names, &mut output)
     };
-    match output.flush().context("the keys can't be written") {
-        Ok(()) => asked,
-        Err(error) => {
-            asked?;
-            Err(Stop::Output(error))
-        }
-    }
+    let flushed = written(output.flush(), "the keys can't be written");
+    asked?;
+    flushed
 }
 
 // Asks a filter for the keys of the inputs that the words name.
@@ -166,10 +156,7 @@ fn run_ask<R: Files + Input + Print + AllocGlobal>(
 
 // Prints what is told of filters.
 fn print_facts<R: Print>(rt: &R, facts: &str) -> Result<(), Stop> {
-    match print!(rt; "{facts}").context("the facts can't be written") {
-        Ok(()) => Ok(()),
-        Err(error) => Err(Stop::Output(error)),
-    }
+    written(print!(rt; "{facts}"), "the facts can't be written")
 }
 
 fn run_info<R: Files + Print + AllocGlobal>(rt: &R, matches: &ArgMatches) -> Result<(), Stop> {

@@ -5,7 +5,7 @@ ghost use Rattle.lines.specs.Writing.{AppendsPart};
 ghost use Rattle.fastbloom.specs.File.{file_of};
 ghost use Rattle.summaries_engine.specs.Stops.{SaysOver};
 
-use crate::stop::Stop;
+use crate::stop::{Stop, written};
 use anyhow::Context;
 use fastbloom::BloomFilter;
 use std::alloc::Global;
@@ -57,10 +57,10 @@ pub fn put<W: Write>(alloc: Global, filter: &BloomFilter, output: &mut W) -> Res
     let Ok(text) = serde_json::to_string(alloc, &data) else {
         return Err(Stop::Memory);
     };
-    match write_line(text.as_str(), output).context("the filter can't be written") {
-        Ok(()) => Ok(()),
-        Err(error) => Err(Stop::Output(error)),
-    }
+    written(
+        write_line(text.as_str(), output),
+        "the filter can't be written",
+    )
 }
 
 fn write_line<W: Write>(text: &str, output: &mut W) -> std::io::Result<()> {

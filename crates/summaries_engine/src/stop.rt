@@ -1,9 +1,12 @@
 //! Why a run stopped.
+use anyhow::{Context, anyhow};
+use fastbloom::FilterError;
 use std::fmt;
 use std::fmt::Display;
+use std::io;
 
 /// Why a run stopped, with what is said of it.
-#[derive(Debug, Drop)]
+#[derive(Drop)]
 pub enum Stop {
     /// Out of memory.
     Memory,
@@ -27,5 +30,29 @@ impl Display for Stop {
             Stop::Bad(error) => write!(f, "{error:#}"),
             Stop::Output(error) => write!(f, "{error:#}"),
         }
+    }
+}
+
+/// That the words of a program leave this out, which they can only by a mistake of the program.
+pub fn unsaid(what: &str) -> Stop {
+    Stop::Bad(anyhow!("which {what}?"))
+}
+
+/// Why there is no shape.
+pub fn unshaped(error: FilterError) -> Stop {
+    match error {
+        FilterError::Memory => Stop::Memory,
+        error => Stop::Bad(anyhow::Error::from(error)),
+    }
+}
+
+/// What came of a write, with what is said where it failed.
+///
+/// # Errors
+/// Where it failed.
+pub fn written(done: io::Result<()>, said: &'static str) -> Result<(), Stop> {
+    match done.context(said) {
+        Ok(()) => Ok(()),
+        Err(error) => Err(Stop::Output(error)),
     }
 }

@@ -10,7 +10,7 @@ use fastbloom::laws::{equality_of_filters, fill_of_any_cutting, filled_contains}
 use fastbloom::{BloomFilter, DefaultHasher};
 
 /// How a filter differs from those with which it was to be united.
-#[derive(Clone, Copy, Debug, PartialEq, Eq)]
+#[derive(Clone, Copy)]
 pub enum Difference {
     /// The numbers of words or of hashes differ.
     Shape,
@@ -19,7 +19,7 @@ pub enum Difference {
 }
 
 /// Why filters weren't united.
-#[derive(Debug, PartialEq, Eq, Drop)]
+#[derive(Drop)]
 pub enum Refusal<E> {
     /// A filter couldn't be had.
     Unread(E),

@@ -26,14 +26,14 @@ pub const LONGEST: usize = 1048576;
 pub const MOST: u64 = u64::MAX - 1;
 
 /// How many entries a load put, and how many it left out since their keys had values.
-#[derive(Clone, Copy, Debug, PartialEq, Eq)]
+#[derive(Clone, Copy)]
 pub struct Loaded {
     pub added: u64,
     pub taken: u64,
 }
 
 /// Why a load or a list of look-ups stopped.
-#[derive(Debug, Drop)]
+#[derive(Drop)]
 pub enum Why<E, F> {
     Store(E),
     /// The filter couldn't be saved.
@@ -45,7 +45,7 @@ pub enum Why<E, F> {
 }
 
 /// A load or a list of look-ups stopped.
-#[derive(Debug, Drop)]
+#[derive(Drop)]
 pub struct Stop<E, F> {
     pub why: Why<E, F>,
     /// The number, from 1, of the line at which it stopped. Where a batch couldn't be begun or

@@ -15,7 +15,7 @@ use bloom_plain::{BloomFilter, FilterError, Rate};
 use std::alloc::Global;
 
 /// Where the filter of a guard comes from.
-#[derive(Debug, Drop)]
+#[derive(Drop)]
 pub enum Origin<F> {
     /// It was kept.
     Kept,

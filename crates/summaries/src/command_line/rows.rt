@@ -1,0 +1,187 @@
+//! The arguments of each command.
+
+use super::{
+    ABSENT, BITS, FILE, FILTER, HASHES, ITEMS, JSON, MOST_HASHES, OTHER, RATE, WORKERS, ZERO,
+};
+use clap::ArgAction;
+use clap::builder::ValueParser;
+
+/// How an argument is given.
+#[derive(Clone, Copy)]
+pub enum Kind {
+    /// By its name.
+    Flag,
+    /// By its name, or by this letter.
+    Letter(char),
+    /// Behind its name, as help calls it. It may have a value where none is given.
+    Option(&'static str, &'static [&'static str], ValueParser<'static>),
+    /// As words, of which there are at least and at most this many.
+    Words(ArgAction, usize, usize),
+}
+
+/// An argument: its name, how it is given, its help, the arguments that it needs, and those that it
+/// can't be given with.
+pub type Row = (
+    &'static str,
+    Kind,
+    &'static str,
+    &'static [&'static str],
+    &'static [&'static str],
+);
+
+// A number of bits or keys.
+const COUNT: Kind = Kind::Option("N", &[], ValueParser::Unsigned(1, 1_000_000_000_000));
+
+const WORD: Kind = Kind::Words(ArgAction::Set, 1, 1);
+
+const JSON_ROW: Row = (
+    JSON,
+    Kind::Flag,
+    "Writes the filter as JSON, in place of the file form",
+    &[],
+    &[],
+);
+
+const MOST_HASHES_ROW: Row = (
+    MOST_HASHES,
+    Kind::Option("N", &["64"], ValueParser::Signed(1, 4_294_967_295)),
+    "Refuses a filter with more hashes: each costs time at every key",
+    &[],
+    &[],
+);
+
+const FILTER_ROW: Row = (
+    FILTER,
+    WORD,
+    "A file with a filter, in the file form or as JSON",
+    &[],
+    &[],
+);
+
+const ZERO_ROW: Row = (
+    ZERO,
+    Kind::Letter('z'),
+    "A zero byte ends each key, in place of a line's end",
+    &[],
+    &[],
+);
+
+const FILE_ROW: Row = (
+    FILE,
+    Kind::Words(ArgAction::Append, 0, usize::MAX),
+    "Files with keys, one a line; none, or -, is standard input",
+    &[],
+    &[],
+);
+
+const BUILD: &'static [Row] = &[
+    (
+        BITS,
+        COUNT,
+        "At least this many bits: ten for each key make one mistake in a hundred",
+        &[],
+        &[],
+    ),
+    (
+        HASHES,
+        Kind::Option("N", &["7"], ValueParser::Signed(1, 1000)),
+        "How many bits each key turns on",
+        &[],
+        &[],
+    ),
+    (
+        ITEMS,
+        COUNT,
+        "How many keys are expected, in place of --bits and --hashes",
+        &[RATE],
+        &[HASHES],
+    ),
+    (
+        RATE,
+        Kind::Option("A/B", &[], ValueParser::String),
+        "The share of other keys that may be taken for one of them by mistake",
+        &[ITEMS],
+        &[BITS, HASHES],
+    ),
+    (
+        WORKERS,
+        Kind::Option("N", &["1"], ValueParser::Signed(1, 1024)),
+        "How many threads fill the filter",
+        &[],
+        &[],
+    ),
+    JSON_ROW,
+    ZERO_ROW,
+    FILE_ROW,
+];
+
+const UNITE: &'static [Row] = &[
+    MOST_HASHES_ROW,
+    JSON_ROW,
+    (
+        FILTER,
+        Kind::Words(ArgAction::Append, 1, usize::MAX),
+        "Files with filters of one shape and key, in the file form or as JSON",
+        &[],
+        &[],
+    ),
+];
+
+const ASK: &'static [Row] = &[
+    MOST_HASHES_ROW,
+    (
+        ABSENT,
+        Kind::Flag,
+        "Writes the keys that are surely not in, in place of those that may be",
+        &[],
+        &[],
+    ),
+    FILTER_ROW,
+    ZERO_ROW,
+    FILE_ROW,
+];
+
+const COMPARE: &'static [Row] = &[
+    FILTER_ROW,
+    (
+        OTHER,
+        WORD,
+        "A file with another filter of the same shape and key",
+        &[],
+        &[],
+    ),
+];
+
+/// The commands: the name of each, its help, its arguments, and those of which it needs one.
+pub const COMMANDS: [(
+    &'static str,
+    &'static str,
+    &'static [Row],
+    &'static [&'static str],
+); 5] = [
+    (
+        "build",
+        "Reads keys, one a line, and writes their filter",
+        BUILD,
+        &[BITS, ITEMS],
+    ),
+    (
+        "unite",
+        "Writes the filter of all keys of some filters",
+        UNITE,
+        &[],
+    ),
+    (
+        "ask",
+        "Reads keys, one a line, and writes those that may be in a filter",
+        ASK,
+        &[],
+    ),
+    ("info", "Prints what a filter is", &[FILTER_ROW], &[]),
+    (
+        "compare",
+        "Prints how many keys two filters have, each and in common",
+        COMPARE,
+        &[],
+    ),
+];
