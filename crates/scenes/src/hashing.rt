@@ -116,7 +116,7 @@ fn a_hash_is_of_the_key_and_of_the_bytes_written(rt: HostRuntime) {
             "{length}"
         );
     }
-    for (key, message, hash) in DRAWN {
+    for (key, hash, message) in DRAWN {
         let pieces = [Piece::Bytes(message), Piece::Answers(hash)];
         assert!(rt; answers(key, &pieces), "{hash}");
     }

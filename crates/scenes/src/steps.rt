@@ -3,8 +3,6 @@ ghost use Rattle.std.specs.Prelude.{length};
 ghost use Rattle.scenes.specs.Tallies.{CountsStep};
 
 mod courses;
-mod tables;
-mod takes;
 
 use fastbloom::{Call, Machine, MemoryStore, Step, WordStore, drive};
 use std::alloc::{AllocError, Global};

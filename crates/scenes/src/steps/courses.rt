@@ -1,240 +1,215 @@
 //! Runs of calls whose steps come in the order of a schedule, with the courses that were worked out
 //! by hand. A course is what a run records: which call began, and each step with what it found.
-use super::tables::{Course, began, begin, did, go, go_given, is_taken};
-use fastbloom::{Call, End, Event, Record, Step};
+use fastbloom::{Call, End, Event, Record, Step, run};
+use std::alloc::Global;
 
-const COURSES: [Course; 10] = [
+// The words before, what is run on them, and the records and the words that this gives.
+struct Course {
+    name: &'static str,
+    words: &'static [u64],
+    num_hashes: u32,
+    parties: usize,
+    after: &'static [u64],
+    schedule: &'static [Event],
+    records: &'static [Record],
+}
+
+// An event of a party's number.
+macro_rules! event {
+    ($party:literal begins $call:ident $(($hash:expr))?) => {
+        Event::Begin {
+            party: $party,
+            call: Call::$call $(($hash))?,
+        }
+    };
+    ($party:literal goes) => {
+        event!($party goes given 0)
+    };
+    ($party:literal goes given $given:literal) => {
+        Event::Go {
+            party: $party,
+            given: $given,
+        }
+    };
+}
+
+// A record of a party's number. A step that ends its call is the last or gives the answer.
+macro_rules! record {
+    ($party:literal begins $call:ident $(($hash:expr))?) => {
+        Record::Began {
+            party: $party,
+            call: Call::$call $(($hash))?,
+        }
+    };
+    ($party:literal makes $step:ident $at:tt finding $found:literal) => {
+        record!($party $step $at $found End::Running)
+    };
+    ($party:literal makes $step:ident $at:tt finding $found:literal ending) => {
+        record!($party $step $at $found End::Done)
+    };
+    ($party:literal makes $step:ident $at:tt finding $found:literal answering $answer:literal) => {
+        record!($party $step $at $found End::Answer($answer))
+    };
+    ($party:literal $step:ident $at:tt $found:literal $ended:expr) => {
+        Record::Did {
+            party: $party,
+            step: Step::$step $at,
+            found: $found,
+            ended: $ended,
+        }
+    };
+}
+
+// A name; the words, the number of hashes, that of the parties, and the words in the end; the
+// schedule; and what is recorded.
+macro_rules! course {
+    (
+        $name:literal, $words:tt, $num_hashes:literal, $parties:literal, $after:tt;
+        $([$($event:tt)+])* => $([$($record:tt)+])*
+    ) => {
+        Course {
+            name: $name,
+            words: &$words,
+            num_hashes: $num_hashes,
+            parties: $parties,
+            after: &$after,
+            schedule: &[$(event!($($event)+)),*],
+            records: &[$(record!($($record)+)),*],
+        }
+    };
+}
+
+const COURSES: [Course; 13] = [
     // Both inserts find one of their bits off, so both answer false: inserts aren't single steps.
     // Two steps found their bit off, and two bits were gained.
-    Course {
-        name: "two inserts of one fresh hash both answer false",
-        words: &[0],
-        num_hashes: 2,
-        parties: 2,
-        schedule: &[
-            begin!(0, Call::Insert(1)),
-            begin!(1, Call::Insert(1)),
-            go!(0),
-            go!(1),
-            go!(1),
-            go!(0),
-        ],
-        records: &[
-            began!(0, Call::Insert(1)),
-            began!(1, Call::Insert(1)),
-            did!(0, Step::Or(0, 1), 0, End::Running),
-            did!(1, Step::Or(0, 1), 1, End::Running),
-            did!(1, Step::Or(0, 1048576), 1, End::Answer(false)),
-            did!(0, Step::Or(0, 1048576), 1048577, End::Answer(false)),
-        ],
-        after: &[1048577],
+    course! {
+        "two inserts of one fresh hash both answer false",
+        [0], 2, 2, [1048577];
+        [0 begins Insert(1)] [1 begins Insert(1)] [0 goes] [1 goes] [1 goes] [0 goes] =>
+        [0 begins Insert(1)] [1 begins Insert(1)] [0 makes Or(0, 1) finding 0]
+        [1 makes Or(0, 1) finding 1] [1 makes Or(0, 1048576) finding 1 answering false]
+        [0 makes Or(0, 1048576) finding 1048577 answering false]
     },
     // The words were 1, 0 and 1048576, so positions 0 and 20 were never on together. The look-up is
     // disturbed: between its first step and its last the clear turned off position 0 of its hash.
-    Course {
-        name: "a disturbed contains may be true at no moment",
-        words: &[1],
-        num_hashes: 2,
-        parties: 3,
-        schedule: &[
-            begin!(0, Call::Contains(1)),
-            go!(0),
-            begin!(1, Call::Clear),
-            go!(1),
-            begin!(2, Call::Union),
-            go_given!(2, 1048576),
-            go!(2),
-            go!(0),
-        ],
-        records: &[
-            began!(0, Call::Contains(1)),
-            did!(0, Step::Load(0), 1, End::Running),
-            began!(1, Call::Clear),
-            did!(1, Step::Zero(0), 0, End::Done),
-            began!(2, Call::Union),
-            did!(2, Step::Other(0), 1048576, End::Running),
-            did!(2, Step::Or(0, 1048576), 0, End::Done),
-            did!(0, Step::Load(0), 1048576, End::Answer(true)),
-        ],
-        after: &[1048576],
+    course! {
+        "a disturbed contains may be true at no moment",
+        [1], 2, 3, [1048576];
+        [0 begins Contains(1)] [0 goes] [1 begins Clear] [1 goes] [2 begins Union]
+        [2 goes given 1048576] [2 goes] [0 goes] =>
+        [0 begins Contains(1)] [0 makes Load(0) finding 1] [1 begins Clear]
+        [1 makes Zero(0) finding 0 ending] [2 begins Union] [2 makes Other(0) finding 1048576]
+        [2 makes Or(0, 1048576) finding 0 ending] [0 makes Load(0) finding 1048576 answering true]
     },
-    Course {
-        name: "a union under way undoes a clear",
-        words: &[5],
-        num_hashes: 1,
-        parties: 2,
-        schedule: &[
-            begin!(0, Call::Union),
-            go_given!(0, 5),
-            begin!(1, Call::Clear),
-            go!(1),
-            go!(0),
-        ],
-        records: &[
-            began!(0, Call::Union),
-            did!(0, Step::Other(0), 5, End::Running),
-            began!(1, Call::Clear),
-            did!(1, Step::Zero(0), 0, End::Done),
-            did!(0, Step::Or(0, 5), 0, End::Done),
-        ],
-        after: &[5],
+    course! {
+        "a union under way undoes a clear",
+        [5], 1, 2, [5];
+        [0 begins Union] [0 goes given 5] [1 begins Clear] [1 goes] [0 goes] =>
+        [0 begins Union] [0 makes Other(0) finding 5] [1 begins Clear]
+        [1 makes Zero(0) finding 0 ending] [0 makes Or(0, 5) finding 0 ending]
     },
     // Hash 1 has the positions 0, 40 and 64 of 128 bits. The clear turns position 64 off.
-    Course {
-        name: "a clear under way takes from an insert",
-        words: &[0, 0],
-        num_hashes: 3,
-        parties: 2,
-        schedule: &[
-            begin!(0, Call::Clear),
-            go!(0),
-            begin!(1, Call::Insert(1)),
-            go!(1),
-            go!(1),
-            go!(1),
-            go!(0),
-            begin!(1, Call::Contains(1)),
-            go!(1),
-            go!(1),
-            go!(1),
-        ],
-        records: &[
-            began!(0, Call::Clear),
-            did!(0, Step::Zero(0), 0, End::Running),
-            began!(1, Call::Insert(1)),
-            did!(1, Step::Or(0, 1), 0, End::Running),
-            did!(1, Step::Or(0, 1099511627776), 1, End::Running),
-            did!(1, Step::Or(1, 1), 0, End::Answer(false)),
-            did!(0, Step::Zero(1), 0, End::Done),
-            began!(1, Call::Contains(1)),
-            did!(1, Step::Load(0), 1099511627777, End::Running),
-            did!(1, Step::Load(0), 1099511627777, End::Running),
-            did!(1, Step::Load(1), 0, End::Answer(false)),
-        ],
-        after: &[1099511627777, 0],
+    course! {
+        "a clear under way takes from an insert",
+        [0, 0], 3, 2, [1099511627777, 0];
+        [0 begins Clear] [0 goes] [1 begins Insert(1)] [1 goes] [1 goes] [1 goes] [0 goes]
+        [1 begins Contains(1)] [1 goes] [1 goes] [1 goes] =>
+        [0 begins Clear] [0 makes Zero(0) finding 0] [1 begins Insert(1)]
+        [1 makes Or(0, 1) finding 0] [1 makes Or(0, 1099511627776) finding 1]
+        [1 makes Or(1, 1) finding 0 answering false] [0 makes Zero(1) finding 0 ending]
+        [1 begins Contains(1)] [1 makes Load(0) finding 1099511627777]
+        [1 makes Load(0) finding 1099511627777] [1 makes Load(1) finding 0 answering false]
     },
-    Course {
-        name: "events that make no sense record nothing",
-        words: &[0],
-        num_hashes: 1,
-        parties: 1,
-        schedule: &[
-            go!(0),
-            begin!(7, Call::Clear),
-            begin!(0, Call::Clear),
-            begin!(0, Call::Insert(0)),
-            go!(0),
-            go!(0),
-        ],
-        records: &[began!(0, Call::Clear), did!(0, Step::Zero(0), 0, End::Done)],
-        after: &[0],
+    course! {
+        "events that make no sense record nothing",
+        [0], 1, 1, [0];
+        [0 goes] [7 begins Clear] [0 begins Clear] [0 begins Insert(0)] [0 goes] [0 goes] =>
+        [0 begins Clear] [0 makes Zero(0) finding 0 ending]
     },
-    Course {
-        name: "a call that has ended makes no step",
-        words: &[1048576],
-        num_hashes: 2,
-        parties: 1,
-        schedule: &[begin!(0, Call::Contains(1)), go!(0), go!(0)],
-        records: &[
-            began!(0, Call::Contains(1)),
-            did!(0, Step::Load(0), 1048576, End::Answer(false)),
-        ],
-        after: &[1048576],
+    course! {
+        "a call that has ended makes no step",
+        [1048576], 2, 1, [1048576];
+        [0 begins Contains(1)] [0 goes] [0 goes] =>
+        [0 begins Contains(1)] [0 makes Load(0) finding 1048576 answering false]
     },
-    Course {
-        name: "a run of no parties records nothing",
-        words: &[9],
-        num_hashes: 1,
-        parties: 0,
-        schedule: &[begin!(0, Call::Clear), go!(0)],
-        records: &[],
-        after: &[9],
+    course! {
+        "a run of no parties records nothing",
+        [9], 1, 0, [9];
+        [0 begins Clear] [0 goes] =>
     },
     // The look-up is undisturbed, since no step turned off a position of its hash. At the moment of
     // its last load its hash isn't contained.
-    Course {
-        name: "an undisturbed contains is false before the insert ends",
-        words: &[0],
-        num_hashes: 2,
-        parties: 2,
-        schedule: &[
-            begin!(0, Call::Contains(1)),
-            begin!(1, Call::Insert(1)),
-            go!(1),
-            go!(0),
-            go!(0),
-            go!(1),
-        ],
-        records: &[
-            began!(0, Call::Contains(1)),
-            began!(1, Call::Insert(1)),
-            did!(1, Step::Or(0, 1), 0, End::Running),
-            did!(0, Step::Load(0), 1, End::Running),
-            did!(0, Step::Load(0), 1, End::Answer(false)),
-            did!(1, Step::Or(0, 1048576), 1, End::Answer(false)),
-        ],
-        after: &[1048577],
+    course! {
+        "an undisturbed contains is false before the insert ends",
+        [0], 2, 2, [1048577];
+        [0 begins Contains(1)] [1 begins Insert(1)] [1 goes] [0 goes] [0 goes] [1 goes] =>
+        [0 begins Contains(1)] [1 begins Insert(1)] [1 makes Or(0, 1) finding 0]
+        [0 makes Load(0) finding 1] [0 makes Load(0) finding 1 answering false]
+        [1 makes Or(0, 1048576) finding 1 answering false]
     },
-    Course {
-        name: "a finished insert is found",
-        words: &[0],
-        num_hashes: 2,
-        parties: 2,
-        schedule: &[
-            begin!(0, Call::Insert(1)),
-            go!(0),
-            go!(0),
-            begin!(1, Call::Contains(1)),
-            go!(1),
-            go!(1),
-        ],
-        records: &[
-            began!(0, Call::Insert(1)),
-            did!(0, Step::Or(0, 1), 0, End::Running),
-            did!(0, Step::Or(0, 1048576), 1, End::Answer(false)),
-            began!(1, Call::Contains(1)),
-            did!(1, Step::Load(0), 1048577, End::Running),
-            did!(1, Step::Load(0), 1048577, End::Answer(true)),
-        ],
-        after: &[1048577],
+    course! {
+        "a finished insert is found",
+        [0], 2, 2, [1048577];
+        [0 begins Insert(1)] [0 goes] [0 goes] [1 begins Contains(1)] [1 goes] [1 goes] =>
+        [0 begins Insert(1)] [0 makes Or(0, 1) finding 0]
+        [0 makes Or(0, 1048576) finding 1 answering false] [1 begins Contains(1)]
+        [1 makes Load(0) finding 1048577] [1 makes Load(0) finding 1048577 answering true]
     },
     // With one hash of 64 bits the position is the top six binary digits: hash 2^58 has position 1.
-    Course {
-        name: "five parties make all five calls",
-        words: &[8],
-        num_hashes: 1,
-        parties: 5,
-        schedule: &[
-            begin!(0, Call::Insert(1 << 58)),
-            begin!(1, Call::Contains(1 << 58)),
-            begin!(2, Call::Clear),
-            begin!(3, Call::Union),
-            begin!(4, Call::Intersect),
-            go!(2),
-            go!(0),
-            go!(1),
-            go_given!(3, 4),
-            go_given!(4, 3),
-            go!(3),
-            go!(4),
-        ],
-        records: &[
-            began!(0, Call::Insert(1 << 58)),
-            began!(1, Call::Contains(1 << 58)),
-            began!(2, Call::Clear),
-            began!(3, Call::Union),
-            began!(4, Call::Intersect),
-            did!(2, Step::Zero(0), 0, End::Done),
-            did!(0, Step::Or(0, 2), 0, End::Answer(false)),
-            did!(1, Step::Load(0), 2, End::Answer(true)),
-            did!(3, Step::Other(0), 4, End::Running),
-            did!(4, Step::Other(0), 3, End::Running),
-            did!(3, Step::Or(0, 4), 2, End::Done),
-            did!(4, Step::And(0, 3), 6, End::Done),
-        ],
-        after: &[2],
+    course! {
+        "five parties make all five calls",
+        [8], 1, 5, [2];
+        [0 begins Insert(1 << 58)] [1 begins Contains(1 << 58)] [2 begins Clear] [3 begins Union]
+        [4 begins Intersect] [2 goes] [0 goes] [1 goes] [3 goes given 4] [4 goes given 3] [3 goes]
+        [4 goes] =>
+        [0 begins Insert(1 << 58)] [1 begins Contains(1 << 58)] [2 begins Clear] [3 begins Union]
+        [4 begins Intersect] [2 makes Zero(0) finding 0 ending]
+        [0 makes Or(0, 2) finding 0 answering false] [1 makes Load(0) finding 2 answering true]
+        [3 makes Other(0) finding 4] [4 makes Other(0) finding 3]
+        [3 makes Or(0, 4) finding 2 ending] [4 makes And(0, 3) finding 6 ending]
+    },
+    // The first step leaves the call running, the second ends it.
+    course! {
+        "a take finds each word and leaves none",
+        [5, 2], 1, 1, [0, 0];
+        [0 begins Take] [0 goes] [0 goes] =>
+        [0 begins Take] [0 makes Take(0) finding 5] [0 makes Take(1) finding 2 ending]
+    },
+    course! {
+        "two takes share no bit",
+        [7], 1, 2, [0];
+        [0 begins Take] [1 begins Take] [1 goes] [0 goes] =>
+        [0 begins Take] [1 begins Take] [1 makes Take(0) finding 7 ending]
+        [0 makes Take(0) finding 0 ending]
+    },
+    // Two steps found their bit off; the take found one of the bits, and one is left.
+    course! {
+        "a take between two steps of an insert loses no bit",
+        [0], 2, 2, [1048576];
+        [0 begins Insert(1)] [0 goes] [1 begins Take] [1 goes] [0 goes] =>
+        [0 begins Insert(1)] [0 makes Or(0, 1) finding 0] [1 begins Take]
+        [1 makes Take(0) finding 1 ending] [0 makes Or(0, 1048576) finding 0 answering false]
     },
 ];
+
+// Whether a run of a course's schedule gives its records, and its words in the end.
+fn is_taken(alloc: Global, course: &Course) -> bool {
+    let words = course.words;
+    if words.is_empty() || words.len() >= 1 << 58 || course.num_hashes == 0 {
+        return false;
+    }
+    let Ok(trace) = run(
+        alloc,
+        words,
+        course.num_hashes,
+        course.parties,
+        course.schedule,
+    ) else {
+        return false;
+    };
+    let records = trace.records() == course.records;
+    (trace.start() == words) & records & (trace.words() == course.after)
+}
 
 #[test]
 fn calls_in_the_order_of_a_schedule_take_these_courses(rt: HostRuntime) {
