@@ -124,8 +124,6 @@ const ARGUMENTS: [Row; 9] = [
     ),
 ];
 
-// A function that holds an argument or a command and branches takes long to prove, so each of these
-// goes one way.
 fn flag<'a>(alloc: Global, id: &'a str, help: &'a str) -> Arg<'a> {
     Arg::new(alloc, id)
         .long(id)

@@ -6,7 +6,7 @@ use crate::tally::Tally;
 
 /// Counts of the lines so far, and how many more new lines may come before a warning, if one is
 /// still to come.
-#[derive(Clone, Copy, Debug, PartialEq, Eq)]
+#[derive(Clone, Copy)]
 pub struct Counted {
     pub tally: Tally,
     pub room: Option<u64>,

@@ -33,7 +33,7 @@ impl<const END: u8> Opened<END> {
 }
 
 /// What the next step came to.
-#[derive(Clone, Copy, Debug, PartialEq, Eq)]
+#[derive(Clone, Copy)]
 pub enum Step {
     /// All inputs have ended.
     End,

@@ -1,7 +1,7 @@
 //! What a run is to do.
 
 /// Which lines are written.
-#[derive(Clone, Copy, Debug, PartialEq, Eq)]
+#[derive(Clone, Copy)]
 pub enum Written {
     /// Those that are certainly new.
     New,
@@ -12,7 +12,7 @@ pub enum Written {
 }
 
 /// What a run is to do.
-#[derive(Clone, Copy, Debug, PartialEq, Eq)]
+#[derive(Clone, Copy)]
 pub struct Options {
     /// How many bytes a line may have, without its end.
     pub longest: usize,

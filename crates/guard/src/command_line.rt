@@ -123,8 +123,6 @@ const COMMANDS: [(&'static str, &'static str, &'static [Row]); 6] = [
     ),
 ];
 
-// A function that holds an argument or a command and branches takes long to prove, so each of these
-// goes one way.
 fn word<'a>(alloc: Global, id: &'a str, help: &'a str) -> Arg<'a> {
     Arg::new(alloc, id).required(true).help(help)
 }

@@ -37,8 +37,6 @@ pub const ABSENT: &str = "absent";
 // The version of the library whose filters these are.
 const VERSION: &str = "0.17.0";
 
-// A function that holds an argument or a command and branches takes long to prove, so each of these
-// goes one way.
 fn flag<'a>(alloc: Global, id: &'a str, help: &'a str) -> Arg<'a> {
     Arg::new(alloc, id)
         .long(id)
