@@ -1,9 +1,8 @@
 //! Why a run stopped.
 use anyhow::{Context, anyhow};
 use fastbloom::FilterError;
-use std::fmt;
 use std::fmt::Display;
-use std::io;
+use std::{fmt, io};
 
 /// Why a run stopped, with what is said of it.
 #[derive(Drop)]
