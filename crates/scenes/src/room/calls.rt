@@ -1,7 +1,7 @@
 //! Scenes that are run again and again, each time with one request for memory refused. They print
 //! their calls and how each ended, which bin/starve compares.
 use crate::follow::follow;
-use crate::making::THE_TEST;
+use crate::making::{Refused, THE_TEST};
 use crate::scene::Op::{
     Build, Clear, Clone, Compare, ContainsItem, Data, Extend, Insert, InsertItem, IsEmpty, Meet,
     Replay, Shape, Take, UniteWithItself, Words,
@@ -151,23 +151,30 @@ fn print_whole(rt: &HostRuntime, calls: &[&str]) -> io::Result<()> {
     Ok(())
 }
 
-// Follows the scene of this number, and prints how it ended.
-fn print_end(rt: &HostRuntime, number: usize) -> io::Result<()> {
+// Prints the call that was refused, or that there was no room for the test.
+fn print_refused(rt: &HostRuntime, scene: &str, refused: &Refused) -> io::Result<()> {
+    if refused.call == THE_TEST {
+        return println!(rt; "{scene}: no room for the test");
+    }
+    println!(rt; "{}: {}", refused.call, word_of(&Err(refused.reason)))
+}
+
+// Follows the scene of this number, and prints how it ended. It gives whether each line was as said,
+// up to a refusal.
+fn print_end(rt: &HostRuntime, number: usize) -> io::Result<bool> {
     let Some((calls, scene)) = SCENES.get(number) else {
-        return println!(rt; "scene {number}: wrong");
+        return Ok(false);
     };
     match follow(rt.alloc(), scene) {
-        Ok(None) if calls.is_empty() => println!(rt; "{}: without memory", scene.name),
-        Ok(None) => print_whole(rt, calls),
-        Ok(Some(line)) => println!(rt; "{}, line {line}: wrong", scene.name),
-        Err(refused) => {
-            let (call, reason) = (refused.call, refused.reason);
-            if call == THE_TEST {
-                return println!(rt; "{}: no room for the test", scene.name);
-            }
-            println!(rt; "{call}: {}", word_of(&Err(reason)))
+        Ok(None) if calls.is_empty() => println!(rt; "{}: without memory", scene.name)?,
+        Ok(None) => print_whole(rt, calls)?,
+        Ok(Some(line)) => {
+            println!(rt; "{}, line {line}: wrong", scene.name)?;
+            return Ok(false);
         }
+        Err(refused) => print_refused(rt, scene.name, &refused)?,
     }
+    Ok(true)
 }
 
 // Whether sizes and rates are right.
@@ -196,40 +203,48 @@ fn sizes_and_steps_take_no_memory(rt: HostRuntime) -> Result<(), Fail> {
 // Each test counts its own requests, so the scenes stand in tests of their own.
 #[test]
 fn filters_of_bits_are_whole_or_refused(rt: HostRuntime) -> Result<(), Fail> {
-    Ok(print_end(&rt, 0)?)
+    assert!(rt; print_end(&rt, 0)?);
+    Ok(())
 }
 
 #[test]
 fn filters_for_items_are_whole_or_refused(rt: HostRuntime) -> Result<(), Fail> {
-    Ok(print_end(&rt, 1)?)
+    assert!(rt; print_end(&rt, 1)?);
+    Ok(())
 }
 
 #[test]
 fn filters_for_a_rate_and_of_data_are_whole_or_refused(rt: HostRuntime) -> Result<(), Fail> {
-    Ok(print_end(&rt, 2)?)
+    assert!(rt; print_end(&rt, 2)?);
+    Ok(())
 }
 
 #[test]
 fn plain_filters_of_words_take_no_memory(rt: HostRuntime) -> Result<(), Fail> {
-    Ok(print_end(&rt, 3)?)
+    assert!(rt; print_end(&rt, 3)?);
+    Ok(())
 }
 
 #[test]
 fn copies_and_data_are_whole_or_refused(rt: HostRuntime) -> Result<(), Fail> {
-    Ok(print_end(&rt, 4)?)
+    assert!(rt; print_end(&rt, 4)?);
+    Ok(())
 }
 
 #[test]
 fn a_take_and_a_list_are_whole_or_refused(rt: HostRuntime) -> Result<(), Fail> {
-    Ok(print_end(&rt, 5)?)
+    assert!(rt; print_end(&rt, 5)?);
+    Ok(())
 }
 
 #[test]
 fn calls_with_items_take_no_memory(rt: HostRuntime) -> Result<(), Fail> {
-    Ok(print_end(&rt, 6)?)
+    assert!(rt; print_end(&rt, 6)?);
+    Ok(())
 }
 
 #[test]
 fn comparisons_take_no_memory(rt: HostRuntime) -> Result<(), Fail> {
-    Ok(print_end(&rt, 7)?)
+    assert!(rt; print_end(&rt, 7)?);
+    Ok(())
 }
