@@ -180,7 +180,11 @@ const ACTS: [(Act, &[u8], Reading, Writing, &[u8], &[u8]); 18] = [
 // A read that fails may do so behind any byte; that of keys that are asked for, behind all.
 #[test]
 fn acts_write_and_stop_as_they_are_to(rt: HostRuntime) -> Result<(), Fail> {
-    let (filter, _form) = load(rt.alloc(), "a", 64, &mut &A[..])?;
+    let loaded = load(rt.alloc(), "a", 64, &mut &A[..]);
+    assert!(rt; loaded.is_ok(), "a good filter isn't loaded");
+    let Ok((filter, _form)) = loaded else {
+        unreachable!()
+    };
     for (act, input, reading, writing, output, text) in ACTS {
         let first = if text == UNREAD && output.is_empty() {
             0
