@@ -159,8 +159,8 @@ fn print_refused(rt: &HostRuntime, scene: &str, refused: &Refused) -> io::Result
     println!(rt; "{}: {}", refused.call, word_of(&Err(refused.reason)))
 }
 
-// Follows the scene of this number, and prints how it ended. It gives whether each line was as said,
-// up to a refusal.
+// Follows the scene of this number, and prints how it ended. It gives whether each line was as
+// said, up to a refusal.
 fn print_end(rt: &HostRuntime, number: usize) -> io::Result<bool> {
     let Some((calls, scene)) = SCENES.get(number) else {
         return Ok(false);
