@@ -18,7 +18,8 @@
  *  - memory that a call may write (a parameter that isn't const) overlaps with nothing else that
  *    the call is given;
  *  - while a call runs that may write words, no other thread or process touches them. While a call
- *    runs that reads words, none writes them. Calls that read may run at once.
+ *    runs that reads words, none writes them. Calls that read may run at once. The calls whose names
+ *    begin with fastbloom_shared_ have a rule of their own instead, which stands beside them.
  *
  * It is built for x86-64 with SSE4.2 (x86-64-v2).
  */
@@ -80,7 +81,8 @@ enum fastbloom_status {
 /* The numbers of words and of hashes for this many items, where 0 counts as 1, at the rate
  * num / den of false positives. It answers FASTBLOOM_OK; or FASTBLOOM_ZERO_RATE,
  * FASTBLOOM_SIZE_OVERFLOW or FASTBLOOM_TOO_MANY_WORDS, and then both numbers are 0, so that a
- * caller who doesn't look has no words, which are no filter. */
+ * caller who doesn't look has no words, which are no filter. A rate of 1 or above is taken, as the
+ * Rust crate takes it, and gives the smallest filter: see that num < den where a user chooses it. */
 FASTBLOOM_MUST_USE uint8_t fastbloom_plan(uint64_t num, uint64_t den, size_t items,
                                           size_t *num_words, uint32_t *num_hashes);
 
@@ -88,10 +90,13 @@ FASTBLOOM_MUST_USE uint8_t fastbloom_plan(uint64_t num, uint64_t den, size_t ite
 size_t fastbloom_num_bits(size_t num_words);
 
 /* Two bounds of the rate of false positives to expect once this many items are in the filter, as
- * fractions of 2^63. It answers FASTBLOOM_OK; or FASTBLOOM_EMPTY_WORDS or FASTBLOOM_TOO_MANY_WORDS,
- * and then the bounds are 0 and 2^63. */
+ * fractions of 2^63: the first by the classical formula, which is a little below the mean rate, and
+ * the second of that mean rate itself. They answer FASTBLOOM_OK; or FASTBLOOM_EMPTY_WORDS or
+ * FASTBLOOM_TOO_MANY_WORDS, and then the bounds are 0 and 2^63. */
 FASTBLOOM_MUST_USE uint8_t fastbloom_expected_rate(size_t num_words, uint32_t num_hashes,
                                                    size_t items, uint64_t *low, uint64_t *high);
+FASTBLOOM_MUST_USE uint8_t fastbloom_rate_bounds(size_t num_words, uint32_t num_hashes,
+                                                 size_t items, uint64_t *low, uint64_t *high);
 
 /* SipHash-1-3 of exactly these bytes under the key. The key's first eight bytes are the
  * little-endian word k0. The item `Text` of the Rattle library has the same hash. */
@@ -189,6 +194,89 @@ FASTBLOOM_MUST_USE bool fastbloom_estimate_common(const uint64_t *words, size_t 
 FASTBLOOM_MUST_USE bool fastbloom_jaccard(const uint64_t *words, size_t num_words,
                                           const uint64_t *other, size_t num_other,
                                           uint32_t num_hashes, uint64_t *low, uint64_t *high);
+
+/* Two bounds of the rate of false positives of the filter as it is, as fractions of 2^63: the part
+ * of all look-ups, where each position is drawn alike, that it answers with true. It answers true.
+ * Where num_words is 0 or more than 2^58 - 1, it answers false, and both bounds are 0. */
+FASTBLOOM_MUST_USE bool fastbloom_rate_now(const uint64_t *words, size_t num_words,
+                                           uint32_t num_hashes, uint64_t *low, uint64_t *high);
+
+/* A filter that threads share, and processes too. Any number of threads may make these calls on the
+ * same words at once, and none waits for another: each call is made of atomic operations on single
+ * words. So a bit that a call set is lost to no other call, but to one that clears it.
+ *
+ * The words are the caller's, passed by value as a pointer and a number: in the heap, in a mapped
+ * file, or in memory that processes share. They are those of a plain filter, and the same words may
+ * be given to plain calls at another time. From the first of these calls until the last one has
+ * returned, the caller keeps these rules for the words, which nothing checks:
+ *  - they are aligned to 8, and stay where they are: they aren't freed, moved or unmapped;
+ *  - these calls alone change or read them. No plain call and no other code touches them meanwhile,
+ *    in this process or in another.
+ * Other memory that a call is given (hashes, found, fresh, bytes, key, taken, loaded) is that
+ * call's alone, as everywhere here. The words may be NULL where their number is 0.
+ *
+ * Where there are no words, or more than 2^58 - 1, each of these calls returns false, or 0, and
+ * touches nothing. num_hashes 0 counts as 1. */
+typedef struct fastbloom_shared {
+    uint64_t *words;
+    size_t num_words;
+} fastbloom_shared;
+
+/* Sets all positions of a hash, each by one operation, and returns whether these operations found
+ * all of them set already. So it returns false exactly if it set a bit itself: with one hash, as
+ * many of these calls return false as bits are set. */
+bool fastbloom_shared_insert_hash(fastbloom_shared words, uint32_t num_hashes, uint64_t hash);
+
+/* Whether all positions of a hash were found set, one after the other. While no call clears bits,
+ * false means that no insert of it had returned when this call began. */
+bool fastbloom_shared_contains_hash(fastbloom_shared words, uint32_t num_hashes, uint64_t hash);
+
+/* The two calls above at the hash of the bytes. */
+bool fastbloom_shared_insert(fastbloom_shared words, uint32_t num_hashes, const uint8_t key[16],
+                             const uint8_t *bytes, size_t len);
+bool fastbloom_shared_contains(fastbloom_shared words, uint32_t num_hashes, const uint8_t key[16],
+                               const uint8_t *bytes, size_t len);
+
+/* Inserts each of count hashes, and returns true. */
+bool fastbloom_shared_insert_hashes(fastbloom_shared words, uint32_t num_hashes,
+                                    const uint64_t *hashes, size_t count);
+
+/* As fastbloom_contains_hashes and fastbloom_insert_hashes_tell_new: bit i % 64 of word i / 64 is
+ * what the look-up of hashes[i] returned, or is set where its insert returned false. */
+FASTBLOOM_MUST_USE bool fastbloom_shared_contains_hashes(fastbloom_shared words,
+                                                         uint32_t num_hashes,
+                                                         const uint64_t *hashes, size_t count,
+                                                         uint64_t *found, size_t num_found);
+FASTBLOOM_MUST_USE bool fastbloom_shared_insert_hashes_tell_new(fastbloom_shared words,
+                                                                uint32_t num_hashes,
+                                                                const uint64_t *hashes,
+                                                                size_t count, uint64_t *fresh,
+                                                                size_t num_fresh);
+
+/* Clears every position, one word after the other. */
+bool fastbloom_shared_clear(fastbloom_shared words);
+
+/* A union sets what is found set in the other words, one word after the other. An intersection
+ * clears what is found clear in them. They return true. Where the numbers of words differ, they
+ * return false and change nothing. Threads may share the other words as well, and both may be the
+ * same. The caller sees to it that the numbers of hashes are equal, and the keys. */
+FASTBLOOM_MUST_USE bool fastbloom_shared_union(fastbloom_shared words, fastbloom_shared other);
+FASTBLOOM_MUST_USE bool fastbloom_shared_intersect(fastbloom_shared words, fastbloom_shared other);
+
+/* Takes the words out into plain ones, which the caller owns: each is read and cleared by one
+ * operation. A bit that another thread sets meanwhile is either taken or still there, so none is
+ * lost. It returns true. Where num_taken isn't the number of words, it returns false and takes
+ * nothing. */
+FASTBLOOM_MUST_USE bool fastbloom_shared_take(fastbloom_shared words, uint64_t *taken,
+                                              size_t num_taken);
+
+/* Loads the words into plain ones, one after the other, as for a file. It returns true. Where
+ * num_loaded isn't the number of words, it returns false and writes nothing. */
+FASTBLOOM_MUST_USE bool fastbloom_shared_load(fastbloom_shared words, uint64_t *loaded,
+                                              size_t num_loaded);
+
+/* The number of positions that are set in the words as they are loaded, one after the other. */
+size_t fastbloom_shared_count_ones(fastbloom_shared words);
 
 /* A file is a head of 64 bytes and then the words. All numbers in it are little-endian. */
 
@@ -367,6 +455,58 @@ FASTBLOOM_MUST_USE FASTBLOOM_INLINE bool fastbloom_jaccard_(const uint64_t *word
                              high);
 }
 
+FASTBLOOM_MUST_USE FASTBLOOM_INLINE bool fastbloom_rate_now_(const uint64_t *words,
+                                                             size_t num_words, uint32_t num_hashes,
+                                                             uint64_t *low, uint64_t *high) {
+    return fastbloom_rate_now(fastbloom_read_words_(words, num_words), num_words, num_hashes, low,
+                              high);
+}
+
+FASTBLOOM_INLINE bool fastbloom_shared_insert_(fastbloom_shared words, uint32_t num_hashes,
+                                               const uint8_t key[16], const uint8_t *bytes,
+                                               size_t len) {
+    return fastbloom_shared_insert(words, num_hashes, key, fastbloom_bytes_(bytes, len), len);
+}
+
+FASTBLOOM_INLINE bool fastbloom_shared_contains_(fastbloom_shared words, uint32_t num_hashes,
+                                                 const uint8_t key[16], const uint8_t *bytes,
+                                                 size_t len) {
+    return fastbloom_shared_contains(words, num_hashes, key, fastbloom_bytes_(bytes, len), len);
+}
+
+FASTBLOOM_INLINE bool fastbloom_shared_insert_hashes_(fastbloom_shared words, uint32_t num_hashes,
+                                                      const uint64_t *hashes, size_t count) {
+    return fastbloom_shared_insert_hashes(words, num_hashes, fastbloom_read_words_(hashes, count),
+                                          count);
+}
+
+FASTBLOOM_MUST_USE FASTBLOOM_INLINE bool
+fastbloom_shared_contains_hashes_(fastbloom_shared words, uint32_t num_hashes,
+                                  const uint64_t *hashes, size_t count, uint64_t *found,
+                                  size_t num_found) {
+    return fastbloom_shared_contains_hashes(words, num_hashes, fastbloom_read_words_(hashes, count),
+                                            count, fastbloom_words_(found, num_found), num_found);
+}
+
+FASTBLOOM_MUST_USE FASTBLOOM_INLINE bool
+fastbloom_shared_insert_hashes_tell_new_(fastbloom_shared words, uint32_t num_hashes,
+                                         const uint64_t *hashes, size_t count, uint64_t *fresh,
+                                         size_t num_fresh) {
+    return fastbloom_shared_insert_hashes_tell_new(
+        words, num_hashes, fastbloom_read_words_(hashes, count), count,
+        fastbloom_words_(fresh, num_fresh), num_fresh);
+}
+
+FASTBLOOM_MUST_USE FASTBLOOM_INLINE bool
+fastbloom_shared_take_(fastbloom_shared words, uint64_t *taken, size_t num_taken) {
+    return fastbloom_shared_take(words, fastbloom_words_(taken, num_taken), num_taken);
+}
+
+FASTBLOOM_MUST_USE FASTBLOOM_INLINE bool
+fastbloom_shared_load_(fastbloom_shared words, uint64_t *loaded, size_t num_loaded) {
+    return fastbloom_shared_load(words, fastbloom_words_(loaded, num_loaded), num_loaded);
+}
+
 FASTBLOOM_INLINE uint64_t fastbloom_seal_(const uint64_t *words, size_t num_words,
                                           uint32_t num_hashes, const uint8_t key[16]) {
     return fastbloom_seal(fastbloom_read_words_(words, num_words), num_words, num_hashes, key);
@@ -397,6 +537,14 @@ FASTBLOOM_INLINE void fastbloom_hasher_update_(fastbloom_hasher *hasher, const u
 #define fastbloom_estimate_union fastbloom_estimate_union_
 #define fastbloom_estimate_common fastbloom_estimate_common_
 #define fastbloom_jaccard fastbloom_jaccard_
+#define fastbloom_rate_now fastbloom_rate_now_
+#define fastbloom_shared_insert fastbloom_shared_insert_
+#define fastbloom_shared_contains fastbloom_shared_contains_
+#define fastbloom_shared_insert_hashes fastbloom_shared_insert_hashes_
+#define fastbloom_shared_contains_hashes fastbloom_shared_contains_hashes_
+#define fastbloom_shared_insert_hashes_tell_new fastbloom_shared_insert_hashes_tell_new_
+#define fastbloom_shared_take fastbloom_shared_take_
+#define fastbloom_shared_load fastbloom_shared_load_
 #define fastbloom_seal fastbloom_seal_
 #define fastbloom_hash fastbloom_hash_
 #define fastbloom_hasher_update fastbloom_hasher_update_

@@ -10,7 +10,8 @@
 // that can fail answers a `result`, or a bool. A filter that was moved from, or made by default,
 // has no words: it contains nothing, and an insert changes nothing.
 //
-// Threads may read one filter at once. While a thread changes it, no other touches it.
+// Threads may read one filter at once. While a thread changes it, no other touches it. The filter
+// that threads share is in fastbloom_shared.hpp.
 #ifndef FASTBLOOM_HPP
 #define FASTBLOOM_HPP
 
@@ -45,6 +46,7 @@ enum class status : std::uint8_t {
     too_long = FASTBLOOM_TOO_LONG,
     reserved = FASTBLOOM_RESERVED,
     seal = FASTBLOOM_SEAL,
+    rate_too_large = 254, // a rate of 1 or above
     too_many_hashes = 255, // more hashes than the caller allows
 };
 
@@ -64,6 +66,7 @@ inline const char *reason(status why) noexcept {
     case status::too_long: return "the file goes on after its last word";
     case status::reserved: return "a reserved byte isn't zero";
     case status::seal: return "the seal is wrong: the file was changed";
+    case status::rate_too_large: return "rate of 1 or above";
     case status::too_many_hashes: return "more hashes than are allowed";
     }
     return "an unknown refusal";
@@ -163,6 +166,8 @@ private:
     fastbloom_hasher state_;
 };
 
+class shared_filter;
+
 // A set of byte strings that never misses a member, and now and then takes something else for one.
 class filter {
 public:
@@ -170,9 +175,10 @@ public:
     filter() noexcept = default;
 
     // The empty filter for this many items, where 0 counts as 1, at the rate num / den of false
-    // positives.
+    // positives, which is below 1.
     static result<filter> make(std::uint64_t num, std::uint64_t den, std::size_t items,
                                const key_bytes &key = {}) noexcept {
+        if (den != 0 && num >= den) return status::rate_too_large;
         std::size_t num_words = 0;
         std::uint32_t num_hashes = 0;
         const std::uint8_t code = fastbloom_plan(num, den, items, &num_words, &num_hashes);
@@ -366,13 +372,30 @@ public:
     // How many bits are on.
     std::size_t count_ones() const noexcept { return fastbloom_count_ones(words_, num_words_); }
 
-    // Two bounds of the rate of false positives to expect once this many items are in the filter.
-    // A filter with no words has none.
+    // Two bounds of the rate of false positives to expect once this many items are in the filter:
+    // by the classical formula, which is a little below the mean rate, and of that mean rate. A
+    // filter with no words has none.
     result<rate_bounds> expected_rate(std::size_t items) const noexcept {
         rate_bounds bounds{};
         const std::uint8_t code = fastbloom_expected_rate(num_words_, num_hashes_, items,
                                                           &bounds.low, &bounds.high);
         if (code != FASTBLOOM_OK) return static_cast<fastbloom::status>(code);
+        return bounds;
+    }
+    result<rate_bounds> false_positive_bounds(std::size_t items) const noexcept {
+        rate_bounds bounds{};
+        const std::uint8_t code = fastbloom_rate_bounds(num_words_, num_hashes_, items,
+                                                        &bounds.low, &bounds.high);
+        if (code != FASTBLOOM_OK) return static_cast<fastbloom::status>(code);
+        return bounds;
+    }
+
+    // Two bounds of the rate of false positives of the filter as it is. A filter with no words has
+    // none.
+    std::optional<rate_bounds> false_positive_rate() const noexcept {
+        rate_bounds bounds{};
+        if (!fastbloom_rate_now(words_, num_words_, num_hashes_, &bounds.low, &bounds.high))
+            return std::nullopt;
         return bounds;
     }
 
@@ -425,6 +448,9 @@ public:
     }
 
 private:
+    // It takes words over, or fills them.
+    friend class shared_filter;
+
     // The bounds that a call of the library hands out, unless it answers false.
     template <typename Call> static std::optional<item_bounds> items(Call call) noexcept {
         std::size_t low = 0, high = 0;

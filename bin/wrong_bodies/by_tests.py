@@ -2,13 +2,18 @@
 import concurrent.futures
 import os
 import re
+import shutil
 import sys
 import tempfile
 
+from proved import crates_of
 from wrong_bodies.bodies import bodies_in
-from wrong_bodies.trees import crates_of, run
+from wrong_bodies.trees import copy_or_link, run
 
 TESTS = re.compile(r'# tests: (\w+)(?: ([\w:]+))?(, starved)?$', re.MULTILINE)
+TESTS_IN_C = re.compile(r'^# tests in C: (\w+)$', re.MULTILINE)
+# The crate that C calls.
+LIBRARY = 'fastbloom_c'
 # More requests for memory than a test makes.
 MOST_REQUESTS = 60
 
@@ -44,6 +49,47 @@ class Tests:
         return ' '.join([*flags, f'{failed[1]}: {failed[2]}']) if failed else ''
 
 
+class TestsInC:
+    """A program of tests/c that is linked with the library for C, which is proved with the body."""
+
+    def __init__(self, source, room, name):
+        self.source, self.room, self.name = source, room, name
+        self.crates = crates_of(source)
+
+    def fault(self, body):
+        """What the program says where it fails with a body; nothing where it ends well."""
+        with tempfile.TemporaryDirectory(dir=self.room) as tree:
+            folder = self.make_tree(tree, body)
+            self.runs(['rt', 'lib'], folder)
+            self.runs(['cc', '-std=c11', '-O1', f'-I{self.source}/include',
+                       f'{self.source}/tests/c/{self.name}.c', f'{folder}/out/lib{LIBRARY}.a',
+                       '-pthread', '-o', f'{tree}/{self.name}'], tree)
+            status, said, _ = run([f'{tree}/{self.name}'], tree)
+            return said.partition('\n')[0] or f'status {status}' if status else ''
+
+    def make_tree(self, tree, body):
+        """The crates of the library, with what was proved of those that the body can't change."""
+        crates = [self.crates[name] for name in [*self.crates[LIBRARY].libraries, LIBRARY]]
+        with open(f'{tree}/crates.txt', 'w', encoding='utf-8') as it:
+            it.writelines(f'{crate.row}\n' for crate in crates)
+        for crate in crates:
+            crate.copy_texts(self.source, tree)
+            if crate.name == body.crate or body.crate in crate.libraries:
+                crate.copy(self.source, tree, 'out/incremental', shutil.copy2)
+            else:
+                crate.copy(self.source, tree, 'out/rlib', copy_or_link)
+        for file, text in body.texts.items():
+            with open(f'{tree}/crates/{body.crate}/{file}', 'w', encoding='utf-8') as it:
+                it.write(text)
+        return f'{tree}/crates/{LIBRARY}'
+
+    @staticmethod
+    def runs(words, tree):
+        status, said, _ = run(words, tree)
+        if status:
+            raise Unrun(' / '.join(said.rstrip('\n').split('\n')[-3:]))
+
+
 class Unrun(Exception):
     """Tests that couldn't be run."""
 
@@ -57,9 +103,13 @@ def try_by_tests(top, names, lanes, out=sys.stdout):
             try:
                 edit = f'{top}/crates/{body.crate}/tested-bodies/{body.name}.edit'
                 with open(edit, encoding='utf-8') as it:
-                    tests = TESTS.search(it.read())
-                if not why and not tests:
-                    why = "BAD EDIT: no line '# tests: CRATE'"
+                    said = it.read()
+                tests, in_c = TESTS.search(said), TESTS_IN_C.search(said)
+                if not why and not tests and not in_c:
+                    why = "BAD EDIT: no line '# tests: CRATE' or '# tests in C: NAME'"
+                elif not why and in_c:
+                    why = TestsInC(top, room, in_c[1]).fault(body)
+                    is_refused, why = bool(why), why or f'tests/c/{in_c[1]}.c ends well with it'
                 elif not why:
                     why = Tests(top, room, tests[1], tests[2]).fault(body, bool(tests[3]))
                     is_refused, why = bool(why), why or f'the tests of {tests[1]} pass with it'

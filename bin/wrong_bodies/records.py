@@ -5,7 +5,8 @@ import os
 import subprocess
 import sys
 
-from wrong_bodies.trees import crates_of, files_and_folders
+from proved import crates_of
+from wrong_bodies.trees import files_and_folders
 
 BIN = os.path.dirname(os.path.dirname(os.path.realpath(__file__)))
 # The files of this program that try no body against a contract.
@@ -34,7 +35,7 @@ def tools(folder=BIN):
     line = subprocess.run(['rt', 'version'], stdout=subprocess.PIPE, check=True).stdout
     files = sorted(glob.glob(f'{glob.escape(folder)}/wrong_bodies/*.py'))
     used = [it for it in files if os.path.basename(it) not in UNUSED]
-    return [line, *map(bytes_of, [f'{folder}/wrong-bodies', *used])]
+    return [line, *map(bytes_of, [f'{folder}/wrong-bodies', f'{folder}/proved.py', *used])]
 
 
 class Records:

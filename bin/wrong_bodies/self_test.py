@@ -5,19 +5,17 @@ import io
 import os
 import re
 import shutil
+import subprocess
 import tempfile
-import time
 
 from wrong_bodies.bodies import Body, bodies_in, functions_of
 from wrong_bodies.records import BIN, UNUSED, Recorder, Records, bytes_of, tools
 from wrong_bodies.standing import count_named
 from wrong_bodies.tasks import Room, Task
-from wrong_bodies.trees import crates_of, proved_since
 from wrong_bodies.trial import Trial, try_bodies
 
 KEPT = f'{os.path.dirname(BIN)}/tests/wrong-bodies'
 TOLD = re.compile(r'(NOT REFUSED|NOT STANDING|refused) ')
-SECOND = 1_000_000_000
 # Which change of a file voids the record of a crate over `low`, and which doesn't.
 TEXTS = ('src/lib.rt', 'specs/Lib.antt', 'proofs/Lib.antt')
 RECORD = 'crates/tried/wrong-bodies/RECORD'
@@ -79,30 +77,6 @@ def are_all_refused():
     return (before, ended) == ([], ['one'])
 
 
-def is_proof_used():
-    """Whether just those libraries are taken that were proved since, from texts as they are."""
-    with scratch() as top:
-        write(f'{top}/crates.txt', 'low:\nmid: low\nhigh: mid\nolder:\nstamped:\nbare:\n')
-        write(f'{top}/since', '')
-        crates, now = crates_of(top), time.time_ns()
-        for name in crates:
-            write(f'{top}/crates/{name}/src/lib.rt', name)
-            write(f'{top}/crates/{name}/out/rlib/{name}.rlib', name)
-        os.remove(f'{top}/crates/bare/out/rlib/bare.rlib')
-        write(f'{top}/crates/stamped/out/rlib/stamp', 'stamp')
-        for file in glob.glob(f'{top}/crates/*/out/rlib/*'):
-            made = now + (0 if 'older' in file else 2 * SECOND)
-            os.utime(file, ns=(made, made))
-        os.utime(f'{top}/since', ns=(now + SECOND, now + SECOND))
-        found = [proved_since(top, crates, f'{top}/since')]
-        # (no call sets the time of a change, so this waits until it is later)
-        while time.time_ns() < now + SECOND:
-            time.sleep(0.1)
-        write(f'{top}/crates/mid/specs/Lib.antt', 'mid')
-        found.append(proved_since(top, crates, f'{top}/since'))
-        return found == [{'low', 'mid', 'high'}, {'low'}]
-
-
 def tested_records():
     """What a record has to do, and whether it does."""
     with scratch() as top:
@@ -138,7 +112,8 @@ def are_tools_known():
     """Whether the tools change with the toolchain's line and with each file that tries a body."""
     with scratch() as top:
         shutil.copytree(f'{BIN}/wrong_bodies', f'{top}/wrong_bodies')
-        shutil.copy(f'{BIN}/wrong-bodies', f'{top}/wrong-bodies')
+        for name in ('wrong-bodies', 'proved.py'):
+            shutil.copy(f'{BIN}/{name}', f'{top}/{name}')
         write(f'{top}/kit/rt', '#!/bin/sh\necho kit "$1"\n')
         os.chmod(f'{top}/kit/rt', 0o755)
         path, were = os.environ['PATH'], tools(top)
@@ -146,13 +121,43 @@ def are_tools_known():
         is_of_kit = tools(top) == [b'kit version\n', *were[1:]]
         os.environ['PATH'] = path
         left = []
-        for file in [f'{top}/wrong-bodies', *glob.glob(f'{top}/wrong_bodies/*.py')]:
+        modules = glob.glob(f'{top}/wrong_bodies/*.py')
+        for file in (f'{top}/wrong-bodies', f'{top}/proved.py', *modules):
             with open(file, 'a', encoding='utf-8') as it:
                 it.write('#')
             now = tools(top)
             left += [os.path.basename(file)] * (now == were)
             were = now
         return is_of_kit and sorted(left) == sorted(UNUSED)
+
+
+def handed_on(*words):
+    """What the full check, with these words, calls this program with, and its status.
+
+    It runs in a tree where one crate has a record and another has none. All that it calls is well.
+    """
+    with scratch() as top:
+        for name in ('old', 'new'):
+            write(f'{top}/crates/{name}/wrong-bodies/a.edit', 'text')
+        write(f'{top}/crates/old/wrong-bodies/RECORD', 'text')
+        calls = [f'bin/{name}' for name in os.listdir(BIN) if os.path.isfile(f'{BIN}/{name}')]
+        for file in ('rt', *calls):
+            told = f'echo {file} "$@" >> {top}/log'
+            write(f'{top}/{file}', f'#!/bin/sh\n{told}\necho 1 passed, 0 failed\n')
+            os.chmod(f'{top}/{file}', 0o755)
+        os.mkdir(f'{top}/.ci')
+        shutil.copy(f'{os.path.dirname(BIN)}/.ci/run', f'{top}/.ci/run')
+        env = {**os.environ, 'PATH': f'{top}:{os.environ["PATH"]}'}
+        run = subprocess.run([f'{top}/.ci/run', *words], env=env, capture_output=True, text=True)
+        called = bytes_of(f'{top}/log').decode() if os.path.exists(f'{top}/log') else ''
+        tries = re.findall(r'^bin/wrong-bodies (--record )?((?:new |old ?)+)$', called, re.M)
+        return run.returncode, tries, 'wrong bodies of new' in run.stdout
+
+
+def does_check_hand_on():
+    """Whether the full check writes records where it is told to, and there alone."""
+    return ([handed_on(), handed_on('--record'), handed_on('--records')]
+            == [(0, [('', 'old')], True), (0, [('--record ', 'new old')], False), (2, [], False)])
 
 
 def said_of_bodies(lanes):
@@ -186,8 +191,9 @@ def self_test(lanes):
     others = {'tasks have room': is_room_left(), 'named bodies are counted': named == (2, 3),
               'a function has its comment and its attributes': ranges == [(1, 5)],
               'a crate ends once all are refused': are_all_refused(),
-              'proofs of before are used': is_proof_used(),
-              'the tools are known': are_tools_known(), **tested_records()}
+              'the tools are known': are_tools_known(),
+              'the full check writes records if told to': does_check_hand_on(),
+              **tested_records()}
     for what in (it for it, is_well in others.items() if not is_well):
         print(f'expected: {what}')
     well = sum(others.values())

@@ -5,7 +5,7 @@ import glob
 import os
 import re
 
-from wrong_bodies.trees import TEXTS, kit
+from proved import TEXTS, kit
 
 
 @dataclasses.dataclass

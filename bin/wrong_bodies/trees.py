@@ -1,21 +1,14 @@
 """Copies of the repository, in which crates are proved and checked with wrong bodies."""
 import contextlib
-import dataclasses
-import functools
-import glob
-import importlib.machinery
-import importlib.util
 import os
-import re
 import shutil
 import signal
 import subprocess
 import sys
 import tempfile
 
+from proved import TEXTS, built_in, copy_tree, crates_of, take
 from wrong_bodies.report import Report
-
-TEXTS = ('src', 'specs', 'proofs')
 
 
 def copy_or_link(source, to):
@@ -25,81 +18,40 @@ def copy_or_link(source, to):
         shutil.copy2(source, to)
 
 
-@dataclasses.dataclass
-class Crate:
-    name: str
-    row: str
-    libraries: list  # those of the repository below it, lowest first
-
-    def folder(self, tree):
-        return f'{tree}/crates/{self.name}'
-
-    def copy_texts(self, tree, to):
-        for part in TEXTS:
-            self.copy(tree, to, part, shutil.copy2)
-
-    def copy(self, tree, to, part, copy):
-        source, made = f'{self.folder(tree)}/{part}', f'{self.folder(to)}/{part}'
-        if os.path.isdir(source):
-            shutil.copytree(source, made, copy_function=copy)
-
-
-def crates_of(tree):
-    """The repository's crates by name, lowest first."""
-    with open(f'{tree}/crates.txt', encoding='utf-8') as it:
-        rows = [row for row in (line.partition('#')[0].strip() for line in it) if row]
-    rows = {re.split(r'[\s:]', row)[0]: row for row in rows}
-    crates = {}
-
-    def add(name):
-        if name not in crates:
-            uses = [it for it in rows[name].partition(':')[2].split() if it in rows]
-            below = [lower for it in uses for lower in (*add(it).libraries, it)]
-            crates[name] = Crate(name, rows[name], list(dict.fromkeys(below)))
-        return crates[name]
-
-    for name in rows:
-        add(name)
-    return crates
-
-
 class Trees:
     """Copies of the repository in a temporary folder: a base of proved crates, and one a check."""
 
-    def __init__(self, source, room, since=None):
+    def __init__(self, source, room):
         self.source, self.room, self.crates = source, room, crates_of(source)
         self.base = f'{room}/proved'
-        # Libraries that need no further proof: those of `rt ci`, and those that `rt` has built.
-        self.of_gate = proved_since(source, self.crates, since) if since else set()
-        self.proved = self.of_gate | built_in(source, self.crates)
+        # Crates that need no further proof: those that `rt` has built in the repository, and, where
+        # it hasn't built all, those that `rt ci` has proved.
+        self.proved = set()
         # The functions of each crate that was proved, by their paths.
         self.functions = {}
 
-    def rows(self, tree, names):
-        os.makedirs(tree, exist_ok=True)
-        with open(f'{tree}/crates.txt', 'w', encoding='utf-8') as it:
-            it.writelines(f'{self.crates[name].row}\n' for name in names)
-
-    def make_base(self, names):
+    def make_base(self, crates):
         """Copies these crates, with what earlier runs kept of them."""
-        self.rows(self.base, names)
-        for crate in (self.crates[name] for name in names):
-            crate.copy_texts(self.source, self.base)
-            crate.copy(self.source, self.base, 'out/rlib', copy_or_link)
+        copy_tree(self.source, crates, self.base)
+        below = {name for crate in crates for name in crate.libraries}
+        self.proved = built_in(self.source, crates)
+        taken = set() if self.proved.issuperset(below) else take(self.base)
+        for crate in crates:
+            if crate.name not in taken:
+                crate.copy(self.source, self.base, 'out/rlib', copy_or_link)
             # (what a run kept fits only the libraries that it was made over)
-            if not self.of_gate.intersection(crate.libraries):
+            if not taken.intersection(crate.libraries):
                 crate.copy(self.source, self.base, 'out/incremental', shutil.copy2)
-        stamp(self.base, [name for name in names if name in self.of_gate])
+        self.proved |= taken
 
     @contextlib.contextmanager
     def tree_of(self, crate):
         """A tree of its own for one run of `rt` on a crate, which would else wait for others."""
         with tempfile.TemporaryDirectory(dir=self.room) as tree:
-            self.rows(tree, [*crate.libraries, crate.name])
-            for lower in (self.crates[name] for name in crate.libraries):
-                lower.copy_texts(self.base, tree)
-                lower.copy(self.base, tree, 'out/rlib', copy_or_link)
-            crate.copy_texts(self.base, tree)
+            lower = [self.crates[name] for name in crate.libraries]
+            copy_tree(self.base, [*lower, crate], tree)
+            for it in lower:
+                it.copy(self.base, tree, 'out/rlib', copy_or_link)
             crate.copy(self.base, tree, 'out/incremental', shutil.copy2)
             yield tree
 
@@ -159,61 +111,12 @@ class Trees:
         return os.path.isdir(crate.folder(self.base) + '/out/incremental')
 
 
-def proved_since(top, crates, since):
-    """The libraries that `rt ci` proved after this file was written, whose texts are older."""
-    began, proved = os.stat(since).st_mtime_ns, set()
-    for crate in crates.values():
-        made = glob.glob(f'{glob.escape(crate.folder(top))}/out/rlib/*')
-        texts = [f'{top}/crates.txt', *files_and_folders(crate.folder(top))]
-        # (`rt ci` writes no stamp, as other runs do, and its libraries fit only one another)
-        is_of_gate = made and not any(it.endswith('/stamp') for it in made)
-        if (is_of_gate and proved.issuperset(crate.libraries)
-                and all(os.stat(it).st_mtime_ns > began for it in made)
-                and all(os.stat(it).st_ctime_ns < began for it in texts)):
-            proved.add(crate.name)
-    return proved
-
-
-def built_in(top, crates):
-    """The libraries that `rt` takes as built, by the stamps that it wrote."""
-    known = {}
-    stamped = [it for it in crates.values() if os.path.isfile(f'{it.folder(top)}/out/rlib/stamp')]
-    found = [(it.name, toolchain().Crate(it.folder(top), top, known)) for it in stamped]
-    return {name for name, crate in found if crate.is_built()}
-
-
 def files_and_folders(folder):
     """What there is below the parts of a crate that have texts, in order."""
     for part in TEXTS:
         for at, folders, names in os.walk(f'{folder}/{part}'):
             folders.sort()
             yield from (at, *(f'{at}/{name}' for name in sorted(names)))
-
-
-def stamp(tree, names):
-    """Writes beside each of these libraries the stamp by which `rt` takes it as built."""
-    crates, known = toolchain() if names else None, {}
-    for name in names:
-        folder = f'{tree}/crates/{name}'
-        with open(f'{folder}/out/rlib/stamp', 'w', encoding='utf-8') as it:
-            it.write(crates.Crate(folder, tree, known).stamp())
-
-
-@functools.lru_cache(maxsize=None)
-def kit():
-    """The folder of the toolchain."""
-    said = subprocess.run(['rt', 'doc'], stdout=subprocess.PIPE, text=True, check=True).stdout
-    return os.path.dirname(said.strip())
-
-
-@functools.lru_cache(maxsize=None)
-def toolchain():
-    """The module of the toolchain that knows crates and their stamps."""
-    sys.dont_write_bytecode = True
-    loader = importlib.machinery.SourceFileLoader('rtlib', f'{kit()}/bin/rtlib.py')
-    module = importlib.util.module_from_spec(importlib.util.spec_from_loader('rtlib', loader))
-    loader.exec_module(module)
-    return module
 
 
 # The numbers of the processes that were started and haven't ended.

@@ -45,7 +45,7 @@ class Trial:
         tried = [self.trees.crates[name] for name in self.bodies]
         needed = {name for it in tried for name in (it.name, *it.libraries)}
         self.needed = [it for it in self.trees.crates.values() if it.name in needed]
-        self.trees.make_base([it.name for it in self.needed])
+        self.trees.make_base(self.needed)
         below = {name for it in tried for name in it.libraries}
         proofs = [self.proof_of(it, it.name in below) for it in self.needed]
         side_by_side([*proofs, *self.first_tasks()], self.room)
@@ -133,10 +133,10 @@ class Trial:
         print(text, file=self.out, flush=True)
 
 
-def try_bodies(top, bodies, lanes, since=None, ended=None, out=sys.stdout):
+def try_bodies(top, bodies, lanes, ended=None, out=sys.stdout):
     """Tries bodies, and gives the counts of those refused and not."""
     with tempfile.TemporaryDirectory(prefix='wrong-bodies-') as room:
-        trial = Trial(Trees(top, room, since), bodies, Room(lanes), out, ended)
+        trial = Trial(Trees(top, room), bodies, Room(lanes), out, ended)
         counts = trial.run()
     trial.tell_times()
     return counts

@@ -1,7 +1,10 @@
 /* What an insert by hash costs: `bench [KEYS [HASHES [ROUNDS]]]`, into ten bits a key.
  *
  * It prints how many inserts answered true and the nanoseconds of one, and then what a hash costs
- * where 1,000 are inserted at once: of all rounds the best, each into a filter with no bit on. */
+ * where 1,000 are inserted at once: of all rounds the best, each into a filter with no bit on. The
+ * lines behind are of the calls for a filter that threads share, by one thread: an insert, one of
+ * 1,000 that are inserted at once, and a look-up that finds its hash, beside that of the plain
+ * filter. */
 #define _POSIX_C_SOURCE 199309L
 #include "fastbloom.h"
 
@@ -53,6 +56,57 @@ static void insert_at_once(struct filter filter, uint64_t keys) {
     }
 }
 
+/* The same by the calls for a filter that threads share. */
+static uint64_t insert_shared(struct filter filter, uint64_t keys) {
+    fastbloom_shared words = {filter.words, filter.num_words};
+    uint64_t answers = 0;
+    for (uint64_t key = 0; key < keys; key++)
+        answers += fastbloom_shared_insert_hash(words, filter.num_hashes, hash_of(key));
+    return answers;
+}
+
+static uint64_t insert_shared_at_once(struct filter filter, uint64_t keys) {
+    fastbloom_shared words = {filter.words, filter.num_words};
+    uint64_t hashes[1000], done = 0;
+    for (uint64_t key = 0; key < keys;) {
+        size_t count = 0;
+        for (; count < 1000 && key < keys; key++) hashes[count++] = hash_of(key);
+        done += fastbloom_shared_insert_hashes(words, filter.num_hashes, hashes, count);
+    }
+    return done;
+}
+
+/* Looks the keys up, each of which was inserted, and answers how many are found. */
+static uint64_t find_plain(struct filter filter, uint64_t keys) {
+    uint64_t found = 0;
+    for (uint64_t key = 0; key < keys; key++)
+        found += fastbloom_contains_hash(filter.words, filter.num_words, filter.num_hashes,
+                                         hash_of(key));
+    return found;
+}
+
+static uint64_t find_shared(struct filter filter, uint64_t keys) {
+    fastbloom_shared words = {filter.words, filter.num_words};
+    uint64_t found = 0;
+    for (uint64_t key = 0; key < keys; key++)
+        found += fastbloom_shared_contains_hash(words, filter.num_hashes, hash_of(key));
+    return found;
+}
+
+/* Prints the nanoseconds of a key, of all rounds the best, and what the last round answered. */
+static void measure(const char *name, uint64_t (*call)(struct filter, uint64_t),
+                    struct filter filter, uint64_t keys, uint64_t rounds, bool clears) {
+    uint64_t answers = 0;
+    double best = 1e300;
+    for (uint64_t round = 0; round < rounds; round++) {
+        if (clears) fastbloom_clear(filter.words, filter.num_words);
+        double began = now();
+        answers = call(filter, keys);
+        best = smaller(best, now() - began);
+    }
+    printf("%s %.3f, %" PRIu64 " true\n", name, best / (double)keys, answers);
+}
+
 int main(int argc, char **argv) {
     uint64_t keys = argc > 1 ? strtoull(argv[1], NULL, 10) : 10000000;
     uint32_t num_hashes = argc > 2 ? (uint32_t)strtoul(argv[2], NULL, 10) : 7;
@@ -77,6 +131,10 @@ int main(int argc, char **argv) {
     }
     printf("%" PRIu64 " %.3f\n", answers, one_a_call / (double)keys);
     printf("at once %.3f\n", at_once / (double)keys);
+    measure("shared insert", insert_shared, filter, keys, rounds, true);
+    measure("shared, at once", insert_shared_at_once, filter, keys, rounds, true);
+    measure("hit", find_plain, filter, keys, rounds, false);
+    measure("shared hit", find_shared, filter, keys, rounds, false);
     free(filter.words);
     return 0;
 }

@@ -69,6 +69,27 @@ static void plans(void) {
     /* One of 64 bits is on: one hash of 64. */
     CHECK(fastbloom_expected_rate(1, 1, 1, &low, &high) == 0 && low == high);
     CHECK(low == (uint64_t)1 << 57);
+    CHECK(fastbloom_rate_bounds(0, 7, 1, &low, &high) == FASTBLOOM_EMPTY_WORDS);
+    CHECK(low == 0 && high == (uint64_t)1 << 63);
+    CHECK(fastbloom_rate_bounds((size_t)1 << 58, 7, 1, &low, &high) == FASTBLOOM_TOO_MANY_WORDS);
+    CHECK(low == 0 && high == (uint64_t)1 << 63);
+    CHECK(fastbloom_rate_bounds(1, 3, 0, &low, &high) == 0 && low == 0 && high == 0);
+    CHECK(fastbloom_rate_bounds(1, 0, 1, &low, &high) == 0 && low == high);
+    CHECK(low == (uint64_t)1 << 57);
+    CHECK(fastbloom_rate_bounds(16, 7, 100, &low, &high) == 0);
+    CHECK(low == 67513609598153215 && high == 68936744759523058);
+    /* Of 192 bits 100 are on, and of 64 one, two or all. */
+    uint64_t words_on[3] = {UINT64_MAX, UINT64_MAX >> 28, 0};
+    CHECK(fastbloom_rate_now(words_on, 3, 7, &low, &high));
+    CHECK(low == 95891723822588019 && high == 95891723822588021);
+    CHECK(fastbloom_rate_now(words_on, 1, 7, &low, &high));
+    CHECK(low == high && low == (uint64_t)1 << 63);
+    words_on[0] = 4;
+    CHECK(fastbloom_rate_now(words_on, 1, 0, &low, &high));
+    CHECK(low == high && low == (uint64_t)1 << 57);
+    CHECK(!fastbloom_rate_now(words_on, 0, 7, &low, &high) && low == 0 && high == 0);
+    low = high = 5;
+    CHECK(!fastbloom_rate_now(words_on, (size_t)1 << 58, 7, &low, &high) && low == 0 && high == 0);
     CHECK(fastbloom_num_bits((size_t)1 << 58) == 0 && fastbloom_num_bits(SIZE_MAX) == 0);
 }
 

@@ -133,6 +133,11 @@ static void counts() {
     const auto rate = made->expected_rate(1);
     CHECK(rate && rate->low == std::uint64_t{1} << 57 && rate->high == rate->low);
     CHECK(made->expected_rate(0)->high == 0);
+    CHECK(made->false_positive_bounds(0)->high == 0);
+    CHECK(made->false_positive_bounds(1)->low == rate->low);
+    CHECK(made->false_positive_rate()->low == rate->low);
+    CHECK(filter{}.false_positive_bounds(1).status() == status::empty_words);
+    CHECK(!filter{}.false_positive_rate());
     CHECK(filter{}.count_ones() == 0 && filter{}.expected_rate(1).status() == status::empty_words);
 }
 
@@ -212,6 +217,13 @@ static void spans() {
 
 static void refused() {
     CHECK(filter::make(1, 0, 10).status() == status::zero_rate);
+    CHECK(filter::make(0, 5, 10).status() == status::zero_rate);
+    // A rate is below 1, and the greatest that is may be any.
+    CHECK(filter::make(1000, 1, 1000).status() == status::rate_too_large);
+    CHECK(filter::make(5, 5, 10).status() == status::rate_too_large);
+    CHECK(filter::make(UINT64_MAX, UINT64_MAX - 1, 10).status() == status::rate_too_large);
+    CHECK(filter::make(UINT64_MAX - 1, UINT64_MAX, 10).status() == status::ok);
+    CHECK(reason(status::rate_too_large) == std::string("rate of 1 or above"));
     CHECK(filter::make(1, 2, 12786308645202655226u).status() == status::too_many_words);
     CHECK(filter::make(1, 2, 12786308645202655227u).status() == status::size_overflow);
     CHECK(filter::with_shape(0, 3).status() == status::empty_words);

@@ -35,7 +35,7 @@ def items():
     digest = 1469598103934665603
     for word in seen.words():
         digest = (digest ^ word) * 1099511628211 % 2**64
-    keyed = Filter(1, 1, key=COUNTING_KEY)
+    keyed = Filter(1, "1/2", key=COUNTING_KEY)
     print(f"words {seen.num_words} hashes {seen.num_hashes}")
     print(f"hash {keyed.hash(bytes(range(15))):016x}")
     print(f"digest {digest:016x}")

@@ -155,7 +155,7 @@ class Items(unittest.TestCase):
         self.assertEqual(seen.contains_many([b"crab", "eel", raw, record.tobytes()]), [True] * 4)
 
     def test_hashes_are_those_of_the_bytes_under_the_key(self):
-        keyed = Filter(1, 1, COUNTING_KEY)
+        keyed = Filter(1, "1/2", COUNTING_KEY)
         for length, value in HASHES.items():
             self.assertEqual(keyed.hash(TEXT[:length]), value)
 
@@ -278,6 +278,11 @@ class Sizes(unittest.TestCase):
         for items, rate in ((-1, "1/2"), (2**64, "1/2"), (10, -0.5), (10, "crab"),
                             (10, float("nan")), (10, float("inf")), (10, f"1/{2**64}")):
             self.assertRaises(ValueError, Filter, items, rate)
+        # A rate is below 1, as those that the programs take. The greatest that is may be any.
+        for rate in (1000, 1, 1.0, "1/1", "5/5", "3/2", 1.5, Decimal("1"), Fraction(7, 7),
+                     f"{2**64 - 1}/{2**64 - 2}"):
+            self.assertRaises(ValueError, Filter, 1000, rate)
+        self.assertEqual(Filter(1000, f"{2**64 - 2}/{2**64 - 1}").num_bits, 64)
         for items, rate in ((1.5, "1/2"), ("10", "1/2"), (10, None), (10, b"1/2"), (10, (1, 2))):
             self.assertRaises(TypeError, Filter, items, rate)
 
@@ -331,7 +336,7 @@ class Sizes(unittest.TestCase):
 
     def test_the_expected_rate_lies_between_its_bounds(self):
         # One hash, and one of 64 bits is on.
-        one = Filter(1000, "3/2")
+        one = Filter(1000, "99/100")
         self.assertEqual((one.num_words, one.num_hashes), (1, 1))
         self.assertEqual(one.expected_rate(0), (0, 0))
         self.assertEqual(one.expected_rate(1), (Fraction(1, 64), Fraction(1, 64)))
@@ -346,6 +351,37 @@ class Sizes(unittest.TestCase):
             self.assertRaises(ValueError, one.expected_rate, items)
         for items in (1.5, "10", None):
             self.assertRaises(TypeError, one.expected_rate, items)
+
+    def test_the_rate_of_a_filter_is_that_of_the_bits_that_are_on(self):
+        draw = random.Random(61)
+        for _ in range(1000):
+            words, hashes = draw.randint(1, 40), draw.choice((1, 2, 3, 7, 13, 44, 64))
+            kept = draw.choice((0, 1, 8, 32, 56, 64))
+            seen = of_words([draw.getrandbits(64) | draw.getrandbits(64) << kept & 2**64 - 1
+                             for _ in range(words)], hashes)
+            share = Fraction(seen.count_ones(), 64 * words)
+            low, high = seen.exact_false_positive_rate()
+            self.assertTrue(low <= share**hashes <= high)
+            self.assertLessEqual(high - low, Fraction(2 * hashes, 2**63))
+            below, above = seen.false_positive_rate()
+            self.assertTrue(below <= low <= high <= above)
+            self.assertLessEqual(above - below, high - low + Fraction(high) / 2**51)
+        self.assertEqual(of_words([2**64 - 1], 7).false_positive_rate(), (1.0, 1.0))
+        self.assertEqual(of_words([0], 7).false_positive_rate(), (0.0, 0.0))
+
+    def test_the_mean_rate_lies_between_its_bounds(self):
+        one = of_words([0], 2)
+        # Of two draws among 64 positions: a query of two finds both in 64 * 1 + 64 * 63 * 4 cases.
+        mean = Fraction(64 + 64 * 63 * 4, 64**4)
+        low, high = one.exact_expected_false_positive_rate(1)
+        self.assertTrue(one.expected_rate(1)[1] < mean and low == one.expected_rate(1)[0])
+        self.assertTrue(low <= mean <= high)
+        below, above = one.expected_false_positive_rate(1)
+        self.assertTrue(below <= low <= high <= above)
+        self.assertEqual(one.expected_false_positive_rate(0), (0.0, 0.0))
+        for items in (-1, 2**64):
+            self.assertRaises(ValueError, one.expected_false_positive_rate, items)
+        self.assertRaises(TypeError, one.expected_false_positive_rate, 1.5)
 
     def test_an_estimate_is_that_of_the_bits_that_are_on(self):
         # Of 64 bits one is expected to be on after one hash, 1.98 after two, 2.95 after three.

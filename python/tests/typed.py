@@ -4,11 +4,12 @@
 the first lines and refuses the last.
 """
 
+from array import array
 from fractions import Fraction
 from pathlib import Path
 from typing import List, Optional, Tuple
 
-from fastbloom import Filter, Refusal
+from fastbloom import Filter, Refusal, SharedFilter
 
 
 class Own(Filter):
@@ -32,7 +33,18 @@ def kept(path: str) -> Tuple[Filter, Own, Optional[int], List[bool]]:
     return mine, theirs.copy(), mine.estimate().high, mine.contains_many(iter(["a text"]))
 
 
-def refused(mine: Filter) -> None:
+def shared(path: str, memory: bytearray) -> Tuple[Filter, List[bool]]:
+    ours = SharedFilter.over(memory, 4)
+    ours |= SharedFilter.map(Path(path))
+    ours.update(["a text", b"bytes"])
+    ours.add_hashes(array("Q", [1, 2]))
+    was_in: bool = ours.add("a text")
+    print("a text" in ours, was_in)
+    return ours.take(), ours.contains_hashes(array("Q", [1]))
+
+
+def refused(mine: Filter, ours: SharedFilter) -> None:
+    ours.add(5)  # type: ignore[arg-type]
     mine.add(5)  # type: ignore[arg-type]
     mine.update([5])  # type: ignore[list-item]
     Filter(1000, None)  # type: ignore[arg-type]

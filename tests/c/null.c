@@ -20,7 +20,10 @@ int main(void) {
     const uint8_t key[16] = {0};
     uint64_t word = 0, from, to;
     size_t low, high;
+    fastbloom_shared none, one;
     fastbloom_hasher hasher;
+    none.words = NULL, none.num_words = 0;
+    one.words = &word, one.num_words = 1;
     fastbloom_hasher_init(&hasher, key);
     fastbloom_hasher_update(&hasher, NULL, 0);
     wants("finish", hash_of_nothing, fastbloom_hasher_finish(&hasher));
@@ -42,12 +45,35 @@ int main(void) {
     wants("estimate_union", 0, fastbloom_estimate_union(NULL, 0, NULL, 0, 1, &low, &high));
     wants("estimate_common", 0, fastbloom_estimate_common(NULL, 0, NULL, 0, 1, &low, &high));
     wants("jaccard", 0, fastbloom_jaccard(NULL, 0, NULL, 0, 1, &from, &to));
+    wants("rate_now", 0, fastbloom_rate_now(NULL, 0, 1, &from, &to));
+    wants("shared insert_hash", 0, fastbloom_shared_insert_hash(none, 1, 5));
+    wants("shared insert_hashes", 0, fastbloom_shared_insert_hashes(none, 1, NULL, 0));
+    wants("shared contains_hash", 0, fastbloom_shared_contains_hash(none, 1, 5));
+    wants("shared contains_hashes", 0, fastbloom_shared_contains_hashes(none, 1, NULL, 0, NULL, 0));
+    wants("shared tell_new", 0,
+          fastbloom_shared_insert_hashes_tell_new(none, 1, NULL, 0, NULL, 0));
+    wants("shared insert", 0, fastbloom_shared_insert(none, 1, key, NULL, 0));
+    wants("shared contains", 0, fastbloom_shared_contains(none, 1, key, NULL, 0));
+    wants("shared clear", 0, fastbloom_shared_clear(none));
+    wants("shared union", 0, fastbloom_shared_union(none, none));
+    wants("shared intersect", 0, fastbloom_shared_intersect(none, none));
+    wants("shared take", 0, fastbloom_shared_take(none, NULL, 0));
+    wants("shared load", 0, fastbloom_shared_load(none, NULL, 0));
+    wants("shared count_ones", 0, fastbloom_shared_count_ones(none));
     wants("seal", fastbloom_seal(&word, 0, 1, key), fastbloom_seal(NULL, 0, 1, key));
     /* no hashes and no bytes, of a filter with a word */
     wants("insert_hashes", 1, fastbloom_insert_hashes(&word, 1, 1, NULL, 0));
     wants("contains_hashes", 1, fastbloom_contains_hashes(&word, 1, 1, NULL, 0, NULL, 0));
     wants("tell_new", 1, fastbloom_insert_hashes_tell_new(&word, 1, 1, NULL, 0, NULL, 0));
+    wants("shared insert_hashes", 1, fastbloom_shared_insert_hashes(one, 1, NULL, 0));
+    wants("shared contains_hashes", 1, fastbloom_shared_contains_hashes(one, 1, NULL, 0, NULL, 0));
+    wants("shared tell_new", 1, fastbloom_shared_insert_hashes_tell_new(one, 1, NULL, 0, NULL, 0));
+    wants("shared take", 0, fastbloom_shared_take(one, NULL, 0));
+    wants("shared load", 0, fastbloom_shared_load(one, NULL, 0));
     wants("the word", 0, word);
+    wants("shared insert", 0, fastbloom_shared_insert(one, 1, key, NULL, 0));
+    wants("shared contains", 1, fastbloom_shared_contains(one, 1, key, NULL, 0));
+    word = 0;
     wants("insert", 0, fastbloom_insert(&word, 1, 1, key, NULL, 0));
     wants("contains", 1, fastbloom_contains(&word, 1, 1, key, NULL, 0));
     return wrong;

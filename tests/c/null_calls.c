@@ -143,6 +143,15 @@ bool fastbloom_estimate(const uint64_t *words, size_t num_words, uint32_t num_ha
     return false;
 }
 
+bool fastbloom_rate_now(const uint64_t *words, size_t num_words, uint32_t num_hashes, uint64_t *low,
+                        uint64_t *high) {
+    (void)num_words, (void)num_hashes;
+    some("words", words);
+    some("low", low);
+    some("high", high);
+    return false;
+}
+
 bool fastbloom_estimate_union(const uint64_t *words, size_t num_words, const uint64_t *other,
                               size_t num_other, uint32_t num_hashes, size_t *low, size_t *high) {
     (void)num_words, (void)num_other, (void)num_hashes;
@@ -178,5 +187,88 @@ uint64_t fastbloom_seal(const uint64_t *words, size_t num_words, uint32_t num_ha
     (void)num_words, (void)num_hashes;
     some("words", words);
     some("key", key);
+    return 0;
+}
+
+bool fastbloom_shared_insert_hash(fastbloom_shared words, uint32_t num_hashes, uint64_t hash) {
+    (void)words, (void)num_hashes, (void)hash;
+    return false;
+}
+
+bool fastbloom_shared_contains_hash(fastbloom_shared words, uint32_t num_hashes, uint64_t hash) {
+    (void)words, (void)num_hashes, (void)hash;
+    return false;
+}
+
+bool fastbloom_shared_insert(fastbloom_shared words, uint32_t num_hashes, const uint8_t key[16],
+                             const uint8_t *bytes, size_t len) {
+    (void)words, (void)num_hashes, (void)len;
+    some("key", key);
+    some("bytes", bytes);
+    return false;
+}
+
+bool fastbloom_shared_contains(fastbloom_shared words, uint32_t num_hashes, const uint8_t key[16],
+                               const uint8_t *bytes, size_t len) {
+    (void)num_hashes, (void)len;
+    some("key", key);
+    some("bytes", bytes);
+    return words.num_words > 0;
+}
+
+bool fastbloom_shared_insert_hashes(fastbloom_shared words, uint32_t num_hashes,
+                                    const uint64_t *hashes, size_t count) {
+    (void)num_hashes, (void)count;
+    some("hashes", hashes);
+    return words.num_words > 0;
+}
+
+bool fastbloom_shared_contains_hashes(fastbloom_shared words, uint32_t num_hashes,
+                                      const uint64_t *hashes, size_t count, uint64_t *found,
+                                      size_t num_found) {
+    (void)num_hashes, (void)count, (void)num_found;
+    some("hashes", hashes);
+    some("found", found);
+    return words.num_words > 0;
+}
+
+bool fastbloom_shared_insert_hashes_tell_new(fastbloom_shared words, uint32_t num_hashes,
+                                             const uint64_t *hashes, size_t count, uint64_t *fresh,
+                                             size_t num_fresh) {
+    (void)num_hashes, (void)count, (void)num_fresh;
+    some("hashes", hashes);
+    some("fresh", fresh);
+    return words.num_words > 0;
+}
+
+bool fastbloom_shared_clear(fastbloom_shared words) {
+    (void)words;
+    return false;
+}
+
+bool fastbloom_shared_union(fastbloom_shared words, fastbloom_shared other) {
+    (void)words, (void)other;
+    return false;
+}
+
+bool fastbloom_shared_intersect(fastbloom_shared words, fastbloom_shared other) {
+    (void)words, (void)other;
+    return false;
+}
+
+bool fastbloom_shared_take(fastbloom_shared words, uint64_t *taken, size_t num_taken) {
+    (void)words, (void)num_taken;
+    some("taken", taken);
+    return false;
+}
+
+bool fastbloom_shared_load(fastbloom_shared words, uint64_t *loaded, size_t num_loaded) {
+    (void)words, (void)num_loaded;
+    some("loaded", loaded);
+    return false;
+}
+
+size_t fastbloom_shared_count_ones(fastbloom_shared words) {
+    (void)words;
     return 0;
 }

@@ -5,7 +5,7 @@ ghost use Rattle.bloom_engine.specs.Faults.{status_of};
 use std::fmt;
 
 /// Why the program ends early. Its text goes to standard error.
-#[derive(Clone, Copy, Debug, PartialEq, Eq)]
+#[derive(Clone, Copy, Debug, PartialEq)]
 pub enum Fault {
     /// The arguments aren't two numbers within their limits.
     Usage,

@@ -1,22 +1,28 @@
 mod AlikeFacts
 mod AlikeLemmas
+mod AvoidLemmas
 mod BracketFacts
 mod BracketLemmas
 mod BufferFacts
 mod BufferLemmas
 mod ClearLemmas
-mod ContentLemmas
 mod CommonFacts
+mod ContentLemmas
 mod CountFacts
 mod CountLemmas
 mod DeciderFacts
 mod DeciderLemmas
 mod DensityLemmas
+mod DrawFacts
+mod DrawLemmas
+mod DrawTableFacts
 mod EndLemmas
 mod EstimateFacts
 mod EstimateLemmas
 mod EstimatedLemmas
+mod FalsePositiveFacts
 mod FillLemmas
+mod FormulaLemmas
 mod HalvingFacts
 mod HalvingLemmas
 mod HashedLemmas
@@ -26,6 +32,7 @@ mod HasherWordLemmas
 mod HoldsFacts
 mod LaneFacts
 mod LookLemmas
+mod MeanLemmas
 mod MergeLemmas
 mod NearLemmas
 mod NumberLemmas
@@ -37,6 +44,9 @@ mod PowerBounds
 mod PowerDigits
 mod PowerWidths
 pub mod PublishedLemmas
+mod QueryLemmas
+mod RateBoundLemmas
+mod RateEndLemmas
 mod RateFacts
 mod ReadingFacts
 mod RootLemmas
@@ -50,6 +60,8 @@ mod SipLemmas
 mod SizingFacts
 mod StandardFacts
 mod StretchLemmas
+mod SumLemmas
 mod TurnLemmas
+mod UpperLemmas
 mod WordLemmas
 mod WriteLemmas

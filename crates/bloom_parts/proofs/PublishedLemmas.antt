@@ -25,5 +25,7 @@ pub use Rattle.bloom_parts.proofs.DeciderLemmas.{last_decision-append, state-app
 pub use Rattle.bloom_parts.proofs.DeciderLemmas.{option_or-assoc, unwrap_or-option_or}
 -- bytes and more bytes are bytes
 pub use Rattle.bloom_parts.proofs.BufferLemmas.{AreBytes-append}
--- a word behind others adds its own bits
-pub use Rattle.bloom_parts.proofs.CountLemmas.{count-push}
+-- a word behind others adds its own bits, and no more positions are on than there are
+pub use Rattle.bloom_parts.proofs.CountLemmas.{count-push, count-most}
+-- a set answers a power of its share of all queries
+pub use Rattle.bloom_parts.proofs.MeanLemmas.{positives_law}

@@ -6,7 +6,9 @@ pub mod Codes
 pub mod Content
 pub mod Counts
 pub mod Deciders
+pub mod Draws
 pub mod Estimates
+pub mod FalsePositives
 pub mod Hashed
 pub mod HasherWords
 pub mod Keys

@@ -2,6 +2,7 @@
 //! laws.
 ghost use Rattle.std.specs.Prelude.{ℕ, ◌<◌, slice_index};
 ghost use Rattle.bloom_parts.specs.Content.{EqualWordsLaw, BoundLaw};
+ghost use Rattle.bloom_parts.specs.Draws.{ListsLaw, MeanLaw, PositivesLaw, PowersLaw, FormulaLaw, UpperLaw};
 ghost use Rattle.bloom_parts.specs.Estimates.{DensityLaw};
 ghost use Rattle.bloom_parts.specs.Laws.{CuttingLaw, JoiningLaw};
 ghost use Rattle.bloom_parts.specs.Places.{PositionsLaw, SubsetLaw, RangeLaw};
@@ -56,6 +57,26 @@ pub fn size_of_rate()
 /// The share of bits that is expected to be set grows with each time that one is set.
 pub fn density_grows()
     ensures { DensityLaw }
+{}
+
+/// All lists of draws are counted, and the mean share of the positions that were drawn is exact.
+pub fn density_of_draws()
+    ensures lists { ListsLaw }
+    ensures mean { MeanLaw }
+{}
+
+/// A set of positions answers a power of its share of all queries with true, and the rate of false
+/// positives is the mean of that power.
+pub fn rate_of_draws()
+    ensures positives { PositivesLaw }
+    ensures powers { PowersLaw }
+{}
+
+/// The classical formula of the rate of false positives is at most the rate, which is at most the
+/// same formula of a share of set bits that is a little greater.
+pub fn rate_by_formula()
+    ensures lower { FormulaLaw }
+    ensures upper { UpperLaw }
 {}
 
 /// A quotient rounded half up is the greatest whole number that is at most a half above it.

@@ -25,6 +25,8 @@ mod GrowingInsertFacts
 mod GrowingKeptLemmas
 mod GrowingLawLemmas
 mod GrowingLemmas
+mod GrowingRateFacts
+mod GrowingRateLemmas
 mod GrowingRefusalFacts
 mod GrowingRefusalLemmas
 mod GrowingTakesLemmas

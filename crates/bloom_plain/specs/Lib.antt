@@ -9,6 +9,7 @@ pub mod Filter
 pub mod Growing
 pub mod GrowingInserts
 pub mod GrowingLaws
+pub mod GrowingRates
 pub mod Laws
 pub mod Ones
 pub mod Replies

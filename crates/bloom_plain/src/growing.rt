@@ -12,6 +12,7 @@ mod error;
 mod items;
 mod looks;
 mod parts;
+mod rates;
 
 use crate::bloom::BloomFilter;
 use crate::builder::hasher_of_seed;

@@ -1,4 +1,6 @@
 mod CourseFacts
+pub mod LiveLemmas
+pub mod LoadedLemmas
 mod RunLemmas
 mod StepFacts
-mod StepLemmas
+pub mod StepLemmas

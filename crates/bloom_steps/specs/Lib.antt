@@ -1,5 +1,7 @@
 pub mod Courses
 pub mod Interleavings
+pub mod LiveSteps
+pub mod Loaded
 pub mod Machines
 pub mod Memories
 pub mod Moments

@@ -17,6 +17,8 @@ const RATE: &str = "rate";
 
 const LONGEST: &str = "longest";
 
+const SKIP_LONGER: &str = "skip-longer";
+
 const FIXED: &str = "fixed";
 
 const HELD_BACK: &str = "held-back";
@@ -38,6 +40,8 @@ pub struct Request<'n, 's> {
     pub rate: Rate,
     /// How many bytes a line may have, without its end.
     pub longest: usize,
+    /// Whether a longer line is passed on unsifted, where it ends the run otherwise.
+    pub skips_longer: bool,
     /// Whether one filter for these many lines is kept, however many come.
     pub fixed: bool,
     /// Whether the lines that are held back are written, in place of the new ones.
@@ -67,7 +71,7 @@ enum Kind {
 type Row = (&'static str, Kind, &'static str, &'static [&'static str]);
 
 // The arguments, in the order of the help.
-const ARGUMENTS: [Row; 9] = [
+const ARGUMENTS: [Row; 10] = [
     (
         ITEMS,
         Kind::Option("N", "1000000", ValueParser::Unsigned(1, 1_000_000_000_000)),
@@ -82,8 +86,14 @@ const ARGUMENTS: [Row; 9] = [
     ),
     (
         LONGEST,
-        Kind::Option("BYTES", "65536", ValueParser::Unsigned(0, 1_073_741_824)),
+        Kind::Option("BYTES", "16777216", ValueParser::Unsigned(0, 1_073_741_824)),
         "How many bytes a line may have",
+        &[],
+    ),
+    (
+        SKIP_LONGER,
+        Kind::Flag,
+        "Prints longer lines with the new ones, unsifted, and counts them",
         &[],
     ),
     (
@@ -216,6 +226,7 @@ pub fn request_of<'n, 's>(matches: &'n ArgMatches<'s>) -> Option<Request<'n, 's>
         items: matches.get_one::<u64>(ITEMS)?,
         rate: rate_of(matches.get_str(RATE)?)?,
         longest: matches.get_one::<u64>(LONGEST)? as usize,
+        skips_longer: matches.get_flag(SKIP_LONGER),
         fixed: matches.get_flag(FIXED),
         held_back: matches.get_flag(HELD_BACK),
         count: matches.get_flag(COUNT),

@@ -2,8 +2,14 @@
 
 use duplicates_engine::Inputs;
 use std::fs::File;
-use std::io;
 use std::io::{Read, StdinLock};
+use std::os::unix::fs::MetadataExt;
+use std::{fs, io};
+
+// Where Linux keeps what the standard streams are.
+const STANDARD_INPUT: &str = "/proc/self/fd/0";
+
+const STANDARD_OUTPUT: &str = "/proc/self/fd/1";
 
 /// An input that is open.
 #[derive(Drop)]
@@ -60,8 +66,10 @@ impl<'r, 'n, 's> Inputs for Files<'r, 'n, 's> {
 
     type Input = Opened;
 
-    // Nothing is known of what files have.
+    // Nothing is known of what files have, nor of an open that fails.
     ghost coming = { λ _. None };
+
+    ghost fails = { λ _ _ _. Unit {0} };
 
     fn open_next(&mut self) -> io::Result<Option<Opened>> {
         let Some(name) = self.name(self.at) else {
@@ -72,5 +80,46 @@ impl<'r, 'n, 's> Inputs for Files<'r, 'n, 's> {
             return Ok(Some(Opened::Standard(self.rt.reader())));
         }
         Ok(Some(Opened::File(File::open(self.rt, name)?)))
+    }
+}
+
+// The device of a file, and its number there. What isn't a regular file has none.
+fn file_at(rt: &HostRuntime, path: &str) -> Option<(u64, u64)> {
+    let found = fs::metadata(rt, path).ok()?;
+    if found.is_file() {
+        Some((found.dev(), found.ino()))
+    } else {
+        None
+    }
+}
+
+// Whether the input of this name is this file.
+fn is_file(rt: &HostRuntime, name: &str, file: (u64, u64)) -> bool {
+    let path = if name == "-" { STANDARD_INPUT } else { name };
+    match file_at(rt, path) {
+        Some(found) => found == file,
+        None => false,
+    }
+}
+
+/// The first name of an input that is the file that standard output is written to, if one is.
+pub fn name_of_output<'n, 's>(rt: &HostRuntime, names: Option<&'n [&'s str]>) -> Option<&'s str> {
+    let output = file_at(rt, STANDARD_OUTPUT)?;
+    match names {
+        Some(names) => {
+            'names: for name in names {
+                if is_file(rt, name, output) {
+                    return Some(*name);
+                }
+            }
+            None
+        }
+        None => {
+            if is_file(rt, "-", output) {
+                Some("-")
+            } else {
+                None
+            }
+        }
     }
 }

@@ -1,17 +1,19 @@
 //! A run over the inputs.
 
 use crate::command_line::Request;
-use crate::files::Files;
+use crate::files::{Files, name_of_output};
 use crate::gauge::Gauge;
-use crate::telling::{DONE, OVERFULL, Teller, tell_fault, tell_no_room};
+use crate::telling::{DONE, OVERFULL, Teller, tell_fault, tell_no_room, tell_output};
 use bloom_plain::{BloomFilter, FilterError, GrowingError, GrowingFilter};
-use duplicates_engine::{Fault, Options, Sieve, Tally, Written, keep_new};
+use duplicates_engine::{Fault, Options, Sieve, Total, Written, keep_new};
+use std::io;
 use std::io::{BufWriter, IsTerminal};
 
 // What the engine is to do.
 fn options_of(request: &Request) -> Options {
     Options {
         longest: request.longest,
+        skips_longer: request.skips_longer,
         written: if request.count {
             Written::Nothing
         } else if request.held_back {
@@ -34,7 +36,7 @@ fn keep<V: Sieve>(
     sieve: &mut V,
     files: &mut Files,
     teller: &mut Teller,
-) -> Result<Tally, Fault> {
+) -> Result<Total, Fault> {
     let options = options_of(request);
     let Ok(mut output) = BufWriter::new(rt.alloc(), std::io::writer(rt)) else {
         return Err(Fault::Memory);
@@ -46,16 +48,36 @@ fn keep<V: Sieve>(
     }
 }
 
+// Prints the counts, as they are asked for.
+fn print_counts(rt: &HostRuntime, request: &Request, total: Total, held: u64) -> io::Result<()> {
+    let read = total.tally.read;
+    if request.skips_longer {
+        println!(rt; "{read} {held} {}", total.longer)
+    } else {
+        println!(rt; "{read} {held}")
+    }
+}
+
 // Tells the counts of a run that ended well, and gives the status.
-fn sum_up(rt: &HostRuntime, request: &Request, tally: Tally) -> u8 {
+fn sum_up(rt: &HostRuntime, request: &Request, total: Total) -> u8 {
+    let read = total.tally.read;
+    let held = total.tally.held.saturating_sub(total.longer);
     if request.count {
-        return match println!(rt; "{} {}", tally.read, tally.held) {
+        return match print_counts(rt, request, total, held) {
             Ok(()) => DONE,
-            Err(error) => tell_fault(rt, "-", false, Fault::Output(error.kind())),
+            Err(error) => {
+                let fault = Fault::of_writer(error);
+                tell_fault(rt, "-", false, request.longest, fault)
+            }
         };
     }
     if !request.quiet {
-        let _ = eprintln!(rt; "{} of {} lines held back", tally.held, tally.read);
+        let _ = if request.skips_longer {
+            let longer = total.longer;
+            eprintln!(rt; "{held} of {read} lines held back, {longer} longer ones not sifted")
+        } else {
+            eprintln!(rt; "{held} of {read} lines held back")
+        };
     }
     DONE
 }
@@ -67,12 +89,17 @@ fn sift<V: Sieve + Gauge>(rt: &HostRuntime, request: &Request, sieve: &mut V) ->
     let mut teller = Teller {
         rt,
         is_on: !request.quiet && rt.stderr().is_terminal(),
+        held: if request.skips_longer {
+            "held back or not sifted"
+        } else {
+            "held back"
+        },
         items: request.items,
         is_warned: false,
     };
     match keep(rt, request, sieve, &mut files, &mut teller) {
-        Ok(tally) => {
-            let status = sum_up(rt, request, tally);
+        Ok(total) => {
+            let status = sum_up(rt, request, total);
             if teller.is_on {
                 sieve.tell_full(rt);
             }
@@ -82,7 +109,7 @@ fn sift<V: Sieve + Gauge>(rt: &HostRuntime, request: &Request, sieve: &mut V) ->
                 status
             }
         }
-        Err(fault) => tell_fault(rt, files.current(), is_named, fault),
+        Err(fault) => tell_fault(rt, files.current(), is_named, request.longest, fault),
     }
 }
 
@@ -91,6 +118,9 @@ fn sift<V: Sieve + Gauge>(rt: &HostRuntime, request: &Request, sieve: &mut V) ->
 /// # Errors
 /// Why there is no filter for this many lines at this rate.
 pub fn run(rt: &HostRuntime, request: &Request) -> Result<u8, &'static str> {
+    if let Some(name) = name_of_output(rt, request.names) {
+        return Ok(tell_output(rt, name));
+    }
     let items = request.items as usize;
     let refusal = if request.fixed {
         match BloomFilter::with_false_pos(request.rate).expected_items(rt.alloc(), items) {

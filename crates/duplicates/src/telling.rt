@@ -10,7 +10,8 @@ use std::io::ErrorKind;
 /// All lines were done.
 pub const DONE: u8 = 0;
 
-/// The words after the program's name are wrong, or a line of an input is too long.
+/// The words after the program's name are wrong, a line of an input is too long, or an input is the
+/// output.
 pub const BAD: u8 = 2;
 
 /// Out of memory, or of room for one more filter.
@@ -29,6 +30,8 @@ pub struct Teller<'a> {
     pub rt: &'a HostRuntime,
     /// Whether it is told how far the run is.
     pub is_on: bool,
+    /// How the lines are called that count as held back.
+    pub held: &'static str,
     pub items: u64,
     pub is_warned: bool,
 }
@@ -43,7 +46,7 @@ impl Progress for Teller<'_> {
 
     fn tell(&mut self, tally: Tally) {
         if self.is_on {
-            let _ = eprintln!(self.rt; "{} lines, {} held back", tally.read, tally.held);
+            let _ = eprintln!(self.rt; "{} lines, {} {}", tally.read, tally.held, self.held);
         }
     }
 
@@ -64,9 +67,6 @@ impl Display for Because {
     fn fmt<W: fmt::Write>(&self, f: &mut fmt::Formatter<W>) -> fmt::Result {
         match self.0 {
             ErrorKind::Other => Ok(()),
-            ErrorKind::NotFound => f.write_str(": there is no such file"),
-            ErrorKind::IsADirectory => f.write_str(": it is a folder"),
-            ErrorKind::StorageFull => f.write_str(": no space is left"),
             kind => write!(f, ": {}", Reason(kind)),
         }
     }
@@ -77,16 +77,43 @@ fn called(name: &str) -> &str {
     if name == "-" { "standard input" } else { name }
 }
 
-/// Tells why a run ended early, in which input it was, and answers the status.
-pub fn tell_fault(rt: &HostRuntime, name: &str, is_named: bool, fault: Fault) -> u8 {
+// What a user may do about a line that is too long.
+const ADVICE: &str = "see --longest and --skip-longer";
+
+// Tells that a line is too long, in which input it is, and how many bytes a line may have.
+fn tell_long(rt: &HostRuntime, place: &str, is_named: bool, number: u64, longest: usize) {
+    let _ = if is_named {
+        eprintln!(rt;
+            "duplicates: {place}: line {number} has more than {longest} bytes: {}",
+            ADVICE
+        )
+    } else {
+        eprintln!(rt;
+            "duplicates: line {number} has more than {longest} bytes: {}",
+            ADVICE
+        )
+    };
+}
+
+/// Tells that an input is the output, and answers the status.
+pub fn tell_output(rt: &HostRuntime, name: &str) -> u8 {
+    let _ = eprintln!(rt; "duplicates: {} is the output, too", called(name));
+    BAD
+}
+
+/// Tells why a run ended early, in which input it was, and answers the status. A line may have
+/// `longest` bytes.
+pub fn tell_fault(
+    rt: &HostRuntime,
+    name: &str,
+    is_named: bool,
+    longest: usize,
+    fault: Fault,
+) -> u8 {
     let place = called(name);
     match fault {
         Fault::TooLong(number) => {
-            if is_named {
-                let _ = eprintln!(rt; "duplicates: {place}: line {number} is too long");
-            } else {
-                let _ = eprintln!(rt; "duplicates: line {number} is too long");
-            }
+            tell_long(rt, place, is_named, number, longest);
             BAD
         }
         Fault::Open(kind) => {

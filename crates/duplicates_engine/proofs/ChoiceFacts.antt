@@ -1,12 +1,14 @@
 -- Which lines a run writes: of each relation cases that hold, and near ones that don't.
-use Rattle.std.proofs.Common.{◌≡◌, ◌<◌, ℕ, zero, suc, Bool, true, false, cond, List, [], ◌∷◌, ◌++◌, length, get_or, map, take, Some, None, refl, sym, ◌∙◌, ap, subst, arith}
+use Rattle.std.proofs.Common.{◌≡◌, ◌⊎◌, inl, inr, ◌<◌, ◌≤◌, ℕ, zero, suc, Bool, true, false, cond, List, [], ◌∷◌, ◌++◌, length, get_or, map, take, Some, None, refl, sym, ◌∙◌, ap, subst, arith}
 use Rattle.std.specs.Prelude.{codes, nat_lt}
+use Rattle.std.proofs.lemmas.List.Elements.{All-from_recursion}
 use Rattle.lines.specs.Lines.{lines_by}
+use Rattle.lines.specs.Reading.{AreShort}
 use Rattle.duplicates_engine.specs.declared.fault.Fault.TheVariants.{Memory}
 use Rattle.duplicates_engine.specs.declared.options.Options.{Options}
 use Rattle.duplicates_engine.specs.declared.options.Written.{Written}
 use Rattle.duplicates_engine.specs.declared.options.Written.TheVariants.{New, HeldBack, Nothing}
-use Rattle.duplicates_engine.specs.Choices.{lines_at, IsNewAt, WritesNew, LeavesOutNew, IsChoice, WritesChoice, WritesChoiceUntil}
+use Rattle.duplicates_engine.specs.Choices.{lines_at, IsNewAt, IsLongerAt, WritesNew, LeavesOutNew, IsChoice, WritesChoice, WritesChoiceUntil}
 use Rattle.duplicates_engine.specs.Kept.{lines_text}
 
 -- three lines, of which the third came before
@@ -14,11 +16,8 @@ abbrev lines : List (List ℕ)
 lines = codes "a" ∷ codes "b" ∷ codes "a" ∷ []
 
 -- a line and its like
-abbrev twice : List (List ℕ)
+abbrev pub twice : List (List ℕ)
 twice = codes "a" ∷ codes "a" ∷ []
-
-abbrev asked : Written → Options
-asked written = record { longest = 9; written = written; most = None }
 
 -- the lines at the second place and behind it
 at-places : lines_at (nat_lt 0) lines ≡ codes "b" ∷ codes "a" ∷ []
@@ -50,25 +49,42 @@ second-new (suc i) before same = omega (arith, before)
 third-not : IsNewAt lines 2 → ⊥
 third-not is = is 0 (omega arith) refl
 
+-- none of the three is longer than nine bytes
+none-longer : (place : ℕ) → place < length lines → IsLongerAt 9 lines place → ⊥
+none-longer zero within long = omega (arith, long)
+none-longer (suc zero) within long = omega (arith, long)
+none-longer (suc (suc zero)) within long = omega (arith, long)
+none-longer (suc (suc (suc place))) within long = omega (arith, within)
+
 -- the first two lines may be written where the new ones are asked for
-writes : WritesNew lines (codes "a" ∷ codes "b" ∷ [])
-writes = record { places = λ place. nat_lt place 2; stand = refl; new = are }
+writes : WritesNew 9 lines (codes "a" ∷ codes "b" ∷ [])
+writes = record { places = λ place. nat_lt place 2; stand = refl; new = are; longer = none }
   where
-    are : (place : ℕ) → place < length lines → nat_lt place 2 ≡ true → IsNewAt lines place
-    are zero within is = first-new
-    are (suc zero) within is = second-new
+    are : (place : ℕ) → place < length lines → nat_lt place 2 ≡ true
+        → IsLongerAt 9 lines place ⊎ IsNewAt lines place
+    are zero within is = inr first-new
+    are (suc zero) within is = inr second-new
     are (suc (suc zero)) within is = let no : false ≡ true = is in cc
     are (suc (suc (suc place))) within is = absurd (omega (arith, within))
 
+    none : (place : ℕ) → place < length lines → IsLongerAt 9 lines place
+        → nat_lt place 2 ≡ true
+    none place within long = absurd (none-longer place within long)
+
 -- the first two lines may be left out where those held back are asked for
-leaves : LeavesOutNew lines (codes "a" ∷ [])
-leaves = record { places = nat_lt 1; stand = refl; new = are }
+leaves : LeavesOutNew 9 lines (codes "a" ∷ [])
+leaves = record { places = nat_lt 1; stand = refl; new = are; longer = none }
   where
-    are : (place : ℕ) → place < length lines → nat_lt 1 place ≡ false → IsNewAt lines place
-    are zero within is = first-new
-    are (suc zero) within is = second-new
+    are : (place : ℕ) → place < length lines → nat_lt 1 place ≡ false
+        → IsLongerAt 9 lines place ⊎ IsNewAt lines place
+    are zero within is = inr first-new
+    are (suc zero) within is = inr second-new
     are (suc (suc zero)) within is = let no : true ≡ false = is in cc
     are (suc (suc (suc place))) within is = absurd (omega (arith, within))
+
+    none : (place : ℕ) → place < length lines → IsLongerAt 9 lines place
+        → nat_lt 1 place ≡ false
+    none place within long = absurd (none-longer place within long)
 
 -- of a line and its like, the lines at a set of places
 abbrev of_twice : Bool → Bool → List (List ℕ)
@@ -87,111 +103,86 @@ second-left-out p false text = refl
 second-left-out true true text = let two : 0 ≡ 4 = ap length text in absurd (omega (arith, two))
 second-left-out false true text = let one : 0 ≡ 2 = ap length text in absurd (omega (arith, one))
 
+-- the second of two like lines is neither longer nor new
+second-not : IsLongerAt 9 twice 1 ⊎ IsNewAt twice 1 → ⊥
+second-not (inl long) = omega (arith, long)
+second-not (inr is) = is 0 (omega arith) refl
+
 -- a line isn't written behind its like, where the new ones are asked for
-writes-like : (written : List (List ℕ)) → codes "a\na\n" ≡ lines_text 10 written
-    → WritesNew twice written → ⊥
+pub writes-like : (written : List (List ℕ)) → codes "a\na\n" ≡ lines_text 10 written
+    → WritesNew 9 twice written → ⊥
 writes-like written text is =
-    is.new 1 (omega arith)
-    (second-written (is.places 0) (is.places 1) (text ∙ ap (lines_text 10) (sym is.stand)))
-    0 (omega arith) refl
+    second-not (is.new 1 (omega arith)
+    (second-written (is.places 0) (is.places 1) (text ∙ ap (lines_text 10) (sym is.stand))))
 
 -- a line isn't left out behind its like, where those held back are asked for
-leaves-like : (written : List (List ℕ)) → [] ≡ lines_text 10 written
-    → LeavesOutNew twice written → ⊥
+pub leaves-like : (written : List (List ℕ)) → [] ≡ lines_text 10 written
+    → LeavesOutNew 9 twice written → ⊥
 leaves-like written text is =
-    is.new 1 (omega arith)
-    (second-left-out (is.places 0) (is.places 1) (text ∙ ap (lines_text 10) (sym is.stand)))
-    0 (omega arith) refl
+    second-not (is.new 1 (omega arith)
+    (second-left-out (is.places 0) (is.places 1) (text ∙ ap (lines_text 10) (sym is.stand))))
 
 -- which of the three holds is told by what was asked for
-choice-new : IsChoice New twice twice → ⊥
+choice-new : IsChoice New 9 twice twice → ⊥
 choice-new is = writes-like twice refl is
 
-choice-held : IsChoice HeldBack twice [] → ⊥
+choice-held : IsChoice HeldBack 9 twice [] → ⊥
 choice-held is = leaves-like [] refl is
 
-choice-nothing : IsChoice Nothing twice []
+choice-nothing : IsChoice Nothing 9 twice []
 choice-nothing = refl
 
-choice-nothing-not : IsChoice Nothing twice (codes "a" ∷ []) → ⊥
+choice-nothing-not : IsChoice Nothing 9 twice (codes "a" ∷ []) → ⊥
 choice-nothing-not is = let one : 1 ≡ 0 = ap length is in omega (arith, one)
 
 -- the second of two like lines is written, and the first left out
-repeat : LeavesOutNew twice (codes "a" ∷ [])
-repeat = record { places = nat_lt 0; stand = refl; new = are }
+pub repeat : LeavesOutNew 9 twice (codes "a" ∷ [])
+repeat = record { places = nat_lt 0; stand = refl; new = are; longer = none }
   where
-    are : (place : ℕ) → place < length twice → nat_lt 0 place ≡ false → IsNewAt twice place
-    are zero within is = λ earlier before. absurd (omega (arith, before))
+    are : (place : ℕ) → place < length twice → nat_lt 0 place ≡ false
+        → IsLongerAt 9 twice place ⊎ IsNewAt twice place
+    are zero within is = inr (λ earlier before. absurd (omega (arith, before)))
     are (suc zero) within is = let no : true ≡ false = is in cc
     are (suc (suc place)) within is = absurd (omega (arith, within))
 
--- a whole run that writes what came before
-run : WritesChoice 10 (asked HeldBack) (Some (codes "a\na\n" ∷ [])) (Some []) (Some [])
-    (Some (codes "a\n"))
-unfolding lines_by
-run = record {
-  lines = twice;
-  chosen = codes "a" ∷ [];
-  whole = record { are_lines = refl; none_left = refl };
-  is_choice = repeat;
-  text = refl;
-}
+    none : (place : ℕ) → place < length twice → IsLongerAt 9 twice place
+        → nat_lt 0 place ≡ false
+    none zero within long = absurd (omega (arith, long))
+    none (suc zero) within long = absurd (omega (arith, long))
+    none (suc (suc place)) within long = absurd (omega (arith, within))
 
--- a whole run leaves out no line that came before
-run-leaves : WritesChoice 10 (asked HeldBack) (Some (codes "a\na\n" ∷ [])) (Some []) (Some [])
-    (Some []) → ⊥
-unfolding lines_by
-run-leaves run =
-    let lines : twice ≡ run.lines = run.whole.are_lines in
-    leaves-like run.chosen run.text
-    (subst (λ l. LeavesOutNew l run.chosen) (sym lines) run.is_choice)
+-- a longer line and its like
+abbrev long : List (List ℕ)
+long = codes "aa" ∷ codes "aa" ∷ []
 
--- where the new lines are asked for, it writes none that came before
-run-writes : WritesChoice 10 (asked New) (Some (codes "a\na\n" ∷ [])) (Some []) (Some [])
-    (Some (codes "a\na\n")) → ⊥
-unfolding lines_by
-run-writes run =
-    let lines : twice ≡ run.lines = run.whole.are_lines in
-    writes-like run.chosen run.text
-    (subst (λ l. WritesNew l run.chosen) (sym lines) run.is_choice)
+second-long : IsLongerAt 1 long 1
+second-long = omega arith
 
--- a run up to a fault, over both lines
-until : WritesChoiceUntil 10 (asked HeldBack) (Some (codes "a\na\n" ∷ [])) (Some [])
-    (Some (codes "a\n")) Memory
-unfolding lines_by
-until = record {
-  lines = twice;
-  chosen = codes "a" ∷ [];
-  reached = record { later = []; cut = refl };
-  is_choice = repeat;
-  written = codes "a\n";
-  text = refl;
-  is_text = refl;
-}
+-- both are written where the new ones are asked for
+writes-longer : WritesNew 1 long long
+writes-longer = record { places = λ place. true; stand = refl; new = are; longer = λ p w l. refl }
+  where
+    are : (place : ℕ) → place < length long → true ≡ true
+        → IsLongerAt 1 long place ⊎ IsNewAt long place
+    are zero within is = inl (omega arith)
+    are (suc zero) within is = inl second-long
+    are (suc (suc place)) within is = absurd (omega (arith, within))
 
--- of one line at most itself is written
-one-written : (p : Bool) → codes "a\na\n"
-    ≡ lines_text 10 (map (λ place. get_or (codes "a" ∷ []) place []) (cond p (0 ∷ []) [])) → ⊥
-one-written true text = let one : 4 ≡ 2 = ap length text in omega (arith, one)
-one-written false text = let none : 4 ≡ 0 = ap length text in omega (arith, none)
+-- one of them isn't left out
+writes-longer-not : WritesNew 1 (codes "aa" ∷ []) [] → ⊥
+writes-longer-not is = none (is.places 0) (is.longer 0 (omega arith) (omega arith)) is.stand
+  where
+    none : (p : Bool) → p ≡ true
+        → map (λ place. get_or (codes "aa" ∷ []) place []) (cond p (0 ∷ []) []) ≡ [] → ⊥
+    none true is same = let one : 1 ≡ 0 = ap length same in omega (arith, one)
+    none false is same = cc
 
--- however many of these lines were read, a line and its like aren't both written as new
-writes-first : (lines chosen later : List (List ℕ)) → twice ≡ lines ++ later
-    → codes "a\na\n" ≡ lines_text 10 chosen → WritesNew lines chosen → ⊥
-writes-first [] chosen later cut text is =
-    let none : 4 ≡ 0 = ap length (text ∙ ap (lines_text 10) (sym is.stand)) in omega (arith, none)
-writes-first (l ∷ []) chosen later cut text is =
-    let one = subst (λ ls. WritesNew ls chosen) (sym (ap (take 1) cut)) is in
-    one-written (one.places 0) (text ∙ ap (lines_text 10) (sym one.stand))
-writes-first (l ∷ m ∷ []) chosen later cut text is =
-    writes-like chosen text (subst (λ ls. WritesNew ls chosen) (sym (ap (take 2) cut)) is)
-writes-first (l ∷ m ∷ n ∷ rest) chosen later cut text is =
-    let more : 2 ≡ suc (suc (suc (length (rest ++ later)))) = ap length cut in omega (arith, more)
-
--- a run up to a fault writes no line that came before, where the new ones are asked for
-until-writes : WritesChoiceUntil 10 (asked New) (Some (codes "a\na\n" ∷ [])) (Some [])
-    (Some (codes "a\na\n")) Memory → ⊥
-unfolding lines_by
-until-writes run =
-    writes-first run.lines run.chosen run.reached.later run.reached.cut (run.text ∙ run.is_text)
-    run.is_choice
+-- and both are left out where those held back are asked for
+leaves-longer-not : LeavesOutNew 1 (codes "aa" ∷ []) (codes "aa" ∷ []) → ⊥
+leaves-longer-not is = one (is.places 0) (is.longer 0 (omega arith) (omega arith)) is.stand
+  where
+    one : (p : Bool) → p ≡ false
+        → map (λ place. get_or (codes "aa" ∷ []) place []) (cond p (0 ∷ []) [])
+        ≡ codes "aa" ∷ [] → ⊥
+    one true is same = cc
+    one false is same = let none : 0 ≡ 1 = ap length same in omega (arith, none)

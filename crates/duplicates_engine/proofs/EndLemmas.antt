@@ -5,6 +5,7 @@ use Rattle.std.specs.Prelude.{IfSome}
 use Rattle.lines.specs.Lines.{lines_by}
 use Rattle.lines.specs.Reading.{Ends, TakesLongBy}
 use Rattle.lines.proofs.TakenLemmas.{IsReadFrom-taken, IsReadToLong-from}
+use Rattle.duplicates_engine.specs.Causes.{AreOfFirst}
 use Rattle.duplicates_engine.specs.Inputs.{NoneComes, lines_in, AreAllRead, AreFirstRead, AreReadToLong, StandBeforeLong}
 use Rattle.duplicates_engine.proofs.InputLemmas.{Stands, IsReading, whole-of, done-more}
 
@@ -86,6 +87,28 @@ long-read end come coming left new lines longest number next is long counts = re
       is_long = IsReadToLong-from end longest
           (Some stands.input) left new is.last stands.taken long;
     }
+
+-- where the input that is open has ended, the lines are all of the first inputs
+behind-of : (end : ℕ) (come coming : Option (List (List ℕ))) (left final : Option (List ℕ))
+    (earlier lines : List (List ℕ)) → Stands end come left coming earlier lines → Ends left final
+    → IfSome come (λ inputs. AreOfFirst end inputs (earlier ++ lines))
+behind-of end None coming left final earlier lines is ends = tt
+behind-of end (Some inputs) None left final earlier lines is ends = absurd is
+behind-of end (Some inputs) (Some rest) left final earlier lines is ends = record {
+  done = is.done ++ is.input ∷ [];
+  rest = rest;
+  cut = is.cut ∙ sym (append_assoc is.done (is.input ∷ []) rest);
+  are_lines =
+      done-more end is.done is.input earlier lines is.are_earlier
+      (whole-of end is.input left final lines is.taken ends);
+}
+
+pub behind-read : (end : ℕ) (come coming : Option (List (List ℕ))) (left final : Option (List ℕ))
+    (lines : List (List ℕ)) (number : ℕ) → IsReading end come left coming number lines
+    → Ends left final → IfSome come (λ inputs. AreOfFirst end inputs lines)
+behind-read end come coming left final lines number is ends =
+    subst (λ l. IfSome come (λ inputs. AreOfFirst end inputs l)) (sym is.cut)
+    (behind-of end come coming left final is.earlier is.last is.stands ends)
 
 -- no input came, and so no line
 pub none-read : (end : ℕ) (come left : Option (List (List ℕ))) → NoneComes come left

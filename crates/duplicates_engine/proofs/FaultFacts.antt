@@ -3,22 +3,7 @@ use Rattle.std.proofs.Common.{◌≡◌, ◌≤◌, ℕ, ◌-◌, ◌^◌, List,
 use Rattle.std.specs.Prelude.{codes}
 use Rattle.std.specs.declared.io.ErrorKind.TheVariants as kind
 use Rattle.duplicates_engine.specs.declared.fault.Fault.TheVariants.{TooLong, Memory, Full, Open, Input, Output}
-use Rattle.duplicates_engine.specs.Faults.{IsOfReader, IsOfOpen, IsOfWriter, IsOfSystem, IsReadAt, IsWrittenAt}
-
--- a line that is too long is no fault of a reader
-reader-long : (number : ℕ) → IsOfReader (TooLong number) → ⊥
-reader-long number is = is
-
--- a fault of a writer is none of a reader
-reader-output : IsOfReader (Output kind.BrokenPipe) → ⊥
-reader-output is = is
-
--- a reader finds no memory, or a read fails
-reader-memory : IsOfReader Memory
-reader-memory = tt
-
-reader-input : IsOfReader (Input kind.BrokenPipe)
-reader-input = tt
+use Rattle.duplicates_engine.specs.Faults.{IsOfWriter, IsOfSystem, IsReadAt, IsWrittenAt}
 
 -- at a fault of the writer a beginning was written
 written : IsWrittenAt (Output kind.BrokenPipe) (codes "a\n") (codes "a")
@@ -62,15 +47,9 @@ reached-most : (longest number : ℕ) (come : Option (List (List ℕ))) (lines :
     → IsReadAt 10 longest (TooLong number) come lines → number ≤ 2 ^ 64 - 1
 reached-most longest number come lines is = omega (arith, is.is_number)
 
--- an open is no reader, and no writer
-open-reader : IsOfReader (Open kind.NotFound) → ⊥
-open-reader is = is
-
+-- an open is no writer
 open-writer : IsOfWriter (Open kind.NotFound) → ⊥
 open-writer is = is
-
-open-open : IsOfOpen (Open kind.NotFound)
-open-open = tt
 
 -- a line that is too long is no fault of the system
 long-system : (number : ℕ) → IsOfSystem (TooLong number) → ⊥

@@ -4,13 +4,18 @@ use Rattle.std.specs.Prelude.{IfOk, IfErr}
 use Rattle.std.specs.Io.KnownBytes.{Keeps}
 use Rattle.std.proofs.KnownBytes.{Appends-kept}
 use Rattle.lines.proofs.WritingLemmas.{Begins-whole}
+use Rattle.std.specs.declared.io.ErrorKind.{ErrorKind}
+use Rattle.bloom_plain.specs.declared.growing.error.GrowingError.{GrowingError}
 use Rattle.duplicates_engine.specs.declared.fault.Fault.{Fault}
 use Rattle.duplicates_engine.specs.declared.fault.Fault.TheVariants.{TooLong, Memory, Full, Open, Input, Output}
 use Rattle.duplicates_engine.specs.declared.options.Options.{Options}
 use Rattle.duplicates_engine.specs.declared.tally.Tally.{Tally}
+use Rattle.duplicates_engine.specs.declared.tally.Total.{Total}
 use Rattle.duplicates_engine.specs.Faults.{IsOfWriter, IsReadAt}
 use Rattle.duplicates_engine.specs.Inputs.{AreFirstRead}
-use Rattle.duplicates_engine.specs.Kept.{text_of, KeepsNew, KeepsUntil}
+use Rattle.duplicates_engine.specs.Kept.{text_of, EndsEarly, KeepsNew, KeepsUntil}
+use Rattle.duplicates_engine.specs.Longer.{limit_of}
+use Rattle.duplicates_engine.proofs.CauseLemmas.{caused-writer}
 use Rattle.duplicates_engine.proofs.EndLemmas.{first-all, first-long}
 use Rattle.duplicates_engine.proofs.WriteLemmas.{from-begins, to-begins, writer-system, reached-at}
 
@@ -29,10 +34,10 @@ module _ {V : Type 0} (has : V → List ℕ → Type 0) (sifts : V → List ℕ 
     (from to kept : Option (List ℕ)) (before after calm warned : Option (List Tally))
     (keeps : Keeps to kept) where
   -- a flush changes nothing
-  pub all-flushed : (left : Option (List (List ℕ))) (tally : Tally)
-      → KeepsNew has sifts end options come left old new from to before after calm warned tally
-      → KeepsNew has sifts end options come left old new from kept before after calm warned tally
-  all-flushed left tally run = record {
+  pub all-flushed : (left : Option (List (List ℕ))) (total : Total)
+      → KeepsNew has sifts end options come left old new from to before after calm warned total
+      → KeepsNew has sifts end options come left old new from kept before after calm warned total
+  all-flushed left total run = record {
     lines = run.lines;
     replies = run.replies;
     sifted = run.sifted;
@@ -40,6 +45,7 @@ module _ {V : Type 0} (has : V → List ℕ → Type 0) (sifts : V → List ℕ 
     whole = run.whole;
     short = run.short;
     counts = run.counts;
+    longer = run.longer;
     tells = run.tells;
     warns = run.warns;
   }
@@ -62,10 +68,10 @@ module _ {V : Type 0} (has : V → List ℕ → Type 0) (sifts : V → List ℕ 
 
   module _ (fault : Fault) (is : IsOfWriter fault) where
     -- where the flush behind a whole run fails, the run ended at that
-    pub all-broken : (left : Option (List (List ℕ))) (tally : Tally)
-        → KeepsNew has sifts end options come left old new from to before after calm warned tally
+    pub all-broken : (left : Option (List (List ℕ))) (total : Total)
+        → KeepsNew has sifts end options come left old new from to before after calm warned total
         → KeepsUntil has sifts end options come old new from kept before after calm warned fault
-    all-broken left tally run =
+    all-broken left total run =
         let text = text_of end options run.lines run.replies in
         record {
           lines = run.lines;
@@ -75,7 +81,7 @@ module _ {V : Type 0} (has : V → List ℕ → Type 0) (sifts : V → List ℕ 
           text = Appends-kept from to kept _ run.text keeps;
           is_text = from-begins fault text text is (Begins-whole text text refl);
           reached =
-              reached-at end options.longest fault come run.lines (writer-system fault is)
+              reached-at end (limit_of options) fault come run.lines (writer-system fault is)
               (first-all end come left run.lines run.whole);
           short = run.short;
           tells = run.tells;
@@ -97,19 +103,57 @@ module _ {V : Type 0} (has : V → List ℕ → Type 0) (sifts : V → List ℕ 
           is_text =
               from-begins fault text run.written is (to-begins first text run.written run.is_text);
           reached =
-              reached-at end options.longest fault come run.lines (writer-system fault is)
-              (first-lines end options.longest first come run.lines run.reached);
+              reached-at end (limit_of options) fault come run.lines (writer-system fault is)
+              (first-lines end (limit_of options) first come run.lines run.reached);
           short = run.short;
           tells = run.tells;
           warns = run.warns;
         }
 
-    -- whatever came first, where the flush fails the run ended at that
-    pub broken : (left : Option (List (List ℕ))) (result : Result Tally Fault)
-        → IfOk result
-        (KeepsNew has sifts end options come left old new from to before after calm warned)
-        → IfErr result
-        (KeepsUntil has sifts end options come old new from to before after calm warned)
-        → KeepsUntil has sifts end options come old new from kept before after calm warned fault
-    broken left (Ok tally) all until = all-broken left tally all
-    broken left (Err first) all until = until-broken first until
+module _ {V I : Type 0} (has : V → List ℕ → Type 0) (sifts : V → List ℕ → Bool → V → Type 0)
+    (refuses : V → List ℕ → GrowingError → Type 0) (fails : I → I → ErrorKind → Type 0)
+    (end : ℕ) (options : Options) (come : Option (List (List ℕ))) (inputs : I) (old new : V)
+    (from to kept : Option (List ℕ)) (before after calm warned : Option (List Tally))
+    (keeps : Keeps to kept) where
+  -- a run that ended early did so behind a flush too
+  pub ends-flushed : {A : Type 0} (result : Result A Fault)
+      → IfErr result
+      (EndsEarly has sifts refuses fails end options come inputs old new from to before after calm
+      warned)
+      → IfErr result
+      (EndsEarly has sifts refuses fails end options come inputs old new from kept before after calm
+      warned)
+  unfolding until-flushed
+  ends-flushed (Ok value) ends = tt
+  ends-flushed (Err fault) ends = record {
+    until =
+        until-flushed has sifts end options come old new from to kept before after calm warned keeps
+        fault ends.until;
+    caused = ends.caused;
+  }
+
+  -- whatever came first, where the flush fails the run ended at that
+  pub broken : (fault : Fault) (is : IsOfWriter fault) (left : Option (List (List ℕ)))
+      (result : Result Total Fault)
+      → IfOk result
+      (KeepsNew has sifts end options come left old new from to before after calm warned)
+      → IfErr result
+      (EndsEarly has sifts refuses fails end options come inputs old new from to before after calm
+      warned)
+      → EndsEarly has sifts refuses fails end options come inputs old new from kept before after
+      calm warned fault
+  unfolding all-broken until-broken
+  broken fault is left (Ok total) all ends = record {
+    until =
+        all-broken has sifts end options come old new from to kept before after calm warned keeps
+        fault is left total all;
+    caused =
+        caused-writer refuses fails end options.longest come new all.lines inputs fault is;
+  }
+  broken fault is left (Err first) all ends = record {
+    until =
+        until-broken has sifts end options come old new from to kept before after calm warned keeps
+        fault is first ends.until;
+    caused =
+        caused-writer refuses fails end options.longest come new ends.until.lines inputs fault is;
+  }

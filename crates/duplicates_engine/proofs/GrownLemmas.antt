@@ -1,9 +1,11 @@
 -- What one line does to a filter that grows.
-use Rattle.std.proofs.Common.{◌≡◌, ◌⊎◌, inl, inr, ◌<◌, ◌≤◌, ℕ, Bool, true, false, List, [], ◌∷◌, Result, Ok, Err, refl, sym, ◌∙◌, ap, subst}
-use Rattle.std.specs.Prelude.{IfOk, OnOk}
+use Rattle.std.proofs.Common.{◌≡◌, ◌⊎◌, inl, inr, ◌<◌, ◌≤◌, ℕ, Bool, true, false, List, [], ◌∷◌, Result, Ok, Err, Some, refl, sym, ◌∙◌, ap, subst}
+use Rattle.std.specs.Prelude.{IfOk, IfErr, OnOk}
+use Rattle.std.specs.Result.{result_err}
+use Rattle.bloom_plain.specs.declared.growing.error.GrowingError.{GrowingError}
 use Rattle.std.proofs.lemmas.Bool.{cases_lt}
 use Rattle.bloom_plain.specs.Growing.{Growing, has, newest_room}
-use Rattle.bloom_plain.specs.GrowingInserts.{MakesRoom, Takes}
+use Rattle.bloom_plain.specs.GrowingInserts.{MakesRoom, RefusesInsert, Takes}
 use Rattle.bloom_plain.specs.GrowingLaws.{TakesAll, GrowingKeptLaw, GrowingFoundLaw}
 
 -- room is made under the same plan
@@ -63,3 +65,10 @@ module _ {S E : Type 0} (hash_of : S → List ℕ → ℕ) (old new : Growing S)
       → has new (hash_of new.plan.hasher other) ≡ true)
   stays-ok (Ok reply) took kept = grown-stays hash_of old new line reply took kept
   stays-ok (Err error) took kept = tt
+
+-- a refusal is one of the line's hash
+pub refused-err : {S A : Type 0} (old : Growing S) (hash : ℕ) (result : Result A GrowingError)
+    → RefusesInsert old hash (result_err result)
+    → IfErr result (λ error. RefusesInsert old hash (Some error))
+refused-err old hash (Ok value) refuses = tt
+refused-err old hash (Err error) refuses = refuses

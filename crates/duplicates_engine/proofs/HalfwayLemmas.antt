@@ -1,5 +1,5 @@
 -- A run that stands half-way.
-use Rattle.std.proofs.Common.{◌≡◌, ℕ, ◌≤◌, length, Bool, List, [], Option}
+use Rattle.std.proofs.Common.{◌≡◌, ℕ, ◌-◌, ◌^◌, ◌≤◌, min, refl, length, Bool, List, [], Option}
 use Rattle.std.proofs.lemmas.Bool.{both_ways}
 use Rattle.std.proofs.lemmas.List.Elements.{All-nil}
 use Rattle.std.specs.Io.KnownBytes.{Appends}
@@ -9,6 +9,7 @@ use Rattle.duplicates_engine.specs.declared.options.Options.{Options}
 use Rattle.duplicates_engine.specs.declared.tally.Tally.{Tally}
 use Rattle.duplicates_engine.specs.Inputs.{Opens, IsFresh}
 use Rattle.duplicates_engine.specs.Kept.{text_of}
+use Rattle.duplicates_engine.specs.Longer.{limit_of, longer_lines}
 use Rattle.duplicates_engine.specs.Sieves.{HasSifted}
 use Rattle.duplicates_engine.specs.Told.{Counts, TellsOf, WarnsOf, HasRoom}
 use Rattle.duplicates_engine.proofs.InputLemmas.{IsReading, opens-left, reading-first}
@@ -21,24 +22,27 @@ module _ {V : Type 0} (has : V → List ℕ → Type 0) (sifts : V → List ℕ 
     (before calm : Option (List Tally)) where
   -- half-way: these lines were sifted, the chosen ones written, and each was counted and told
   pub record IsSifting (now : V) (to : Option (List ℕ)) (after warned : Option (List Tally))
-      (tally : Tally) (room : Option ℕ) (lines : List (List ℕ)) (replies : List Bool) : Type 0
+      (tally : Tally) (longer : ℕ) (room : Option ℕ) (lines : List (List ℕ))
+      (replies : List Bool) : Type 0
     where
-      pub sifted : HasSifted has sifts old now lines replies
+      pub sifted : HasSifted has sifts options.longest old now lines replies
       pub text : Appends from to (text_of end options lines replies)
-      pub short : AreShort options.longest lines
+      pub short : AreShort (limit_of options) lines
       pub counts : Counts replies tally
+      pub are_longer : longer ≡ min (longer_lines options.longest lines) (2 ^ 64 - 1)
       pub tells : TellsOf before after replies
       pub warns : WarnsOf options.most calm warned replies
       pub has_room : HasRoom options.most replies room
 
   -- nothing was sifted yet
   sifting-nil : (tally : Tally) → tally.read ≡ 0 → tally.held ≡ 0
-      → IsSifting old from before calm tally options.most [] []
+      → IsSifting old from before calm tally 0 options.most [] []
   sifting-nil tally none_read none_held = record {
-    sifted = sifted-nil has sifts old;
+    sifted = sifted-nil has sifts options.longest old;
     text = Appends-nil from;
-    short = All-nil (λ line. length line ≤ options.longest);
+    short = All-nil (λ line. length line ≤ limit_of options);
     counts = counts-nil tally none_read none_held;
+    are_longer = refl;
     tells = told-nil before;
     warns = warns-nil options.most calm;
     has_room = room-nil options.most;
@@ -47,19 +51,20 @@ module _ {V : Type 0} (has : V → List ℕ → Type 0) (sifts : V → List ℕ 
   -- half-way through the inputs
   pub record IsKeeping (waiting : Waiting) (rest : Option (List ℕ))
       (coming : Option (List (List ℕ))) (number : ℕ) (now : V) (to : Option (List ℕ))
-      (after warned : Option (List Tally)) (tally : Tally) (room : Option ℕ) : Type 0 where
-    pub lines : List (List ℕ)
-    pub replies : List Bool
-    pub sifting : IsSifting now to after warned tally room lines replies
-    pub reading : IsReading end come (left_of waiting rest) coming number lines
-    pub knows : KnowsEnd waiting.ended rest
-    pub has_longest : waiting.longest ≡ options.longest
+      (after warned : Option (List Tally)) (tally : Tally) (longer : ℕ) (room : Option ℕ) : Type 0
+    where
+      pub lines : List (List ℕ)
+      pub replies : List Bool
+      pub sifting : IsSifting now to after warned tally longer room lines replies
+      pub reading : IsReading end come (left_of waiting rest) coming number lines
+      pub knows : KnowsEnd waiting.ended rest
+      pub has_longest : waiting.longest ≡ limit_of options
 
   -- the first input was opened
   pub keeping-first : (waiting : Waiting) (rest : Option (List ℕ))
       (coming : Option (List (List ℕ))) (number : ℕ) (tally : Tally) → Opens come coming rest
-      → IsFresh options.longest waiting number → tally.read ≡ 0 → tally.held ≡ 0
-      → IsKeeping waiting rest coming number old from before calm tally options.most
+      → IsFresh (limit_of options) waiting number → tally.read ≡ 0 → tally.held ≡ 0
+      → IsKeeping waiting rest coming number old from before calm tally 0 options.most
   keeping-first waiting rest coming number tally opens fresh none_read none_held = record {
     lines = [];
     replies = [];

@@ -10,6 +10,7 @@ use Rattle.duplicates_engine.specs.declared.options.Written.{Written}
 use Rattle.duplicates_engine.specs.declared.options.Written.TheVariants.{New, HeldBack, Nothing}
 use Rattle.duplicates_engine.specs.declared.tally.Tally.{Tally}
 use Rattle.duplicates_engine.specs.Kept.{chosen, text_of, piece, Writes}
+use Rattle.duplicates_engine.specs.Longer.{limit_of, longer_lines, short_lines, short_replies}
 use Rattle.duplicates_engine.specs.Plain.{line_hash}
 use Rattle.duplicates_engine.specs.Told.{held_back, new_lines, Counts}
 
@@ -21,7 +22,20 @@ abbrev replies : List Bool
 replies = false ∷ false ∷ true ∷ []
 
 abbrev asked : Written → Options
-asked written = record { longest = 9; written = written; most = Some 5 }
+asked written =
+    record { longest = 9; skips_longer = false; written = written; most = Some 5 }
+
+-- lines of more than a byte are passed on
+abbrev passing : Written → Options
+passing written =
+    record { longest = 1; skips_longer = true; written = written; most = Some 5 }
+
+-- three lines, of which the second is longer
+abbrev long : List (List ℕ)
+long = codes "a" ∷ codes "bb" ∷ codes "a" ∷ []
+
+abbrev given : List Bool
+given = false ∷ true ∷ true ∷ []
 
 -- the new lines are written, with their ends
 text-new : text_of 10 (asked New) lines replies ≡ codes "a\nb\n"
@@ -34,6 +48,42 @@ text-held = refl
 -- or none
 text-nothing : text_of 10 (asked Nothing) lines replies ≡ []
 text-nothing = refl
+
+-- a longer line is written with the new ones
+text-longer : text_of 10 (passing New) long given ≡ codes "a\nbb\n"
+text-longer = refl
+
+-- and not with those that were held back
+text-longer-held : text_of 10 (passing HeldBack) long given ≡ codes "a\n"
+text-longer-held = refl
+
+text-longer-nothing : text_of 10 (passing Nothing) long given ≡ []
+text-longer-nothing = refl
+
+-- a line of as many bytes as it may have is no longer one
+text-as-long : text_of 10 (passing New) (codes "b" ∷ []) (true ∷ []) ≡ []
+text-as-long = refl
+
+-- one of the lines is longer
+longer-one : longer_lines 1 long ≡ 1
+longer-one = refl
+
+longer-none : longer_lines 2 long ≡ 0
+longer-none = refl
+
+-- the others are sifted, with their replies
+longer-short : short_lines 1 long ≡ codes "a" ∷ codes "a" ∷ []
+longer-short = refl
+
+longer-replies : short_replies 1 long given ≡ false ∷ true ∷ []
+longer-replies = refl
+
+-- where longer lines are passed on any line is read, and else those that aren't longer
+limit-passing : (written : Written) → limit_of (passing written) ≡ 2 ^ 64 - 1
+limit-passing written = refl
+
+limit-asked : (written : Written) → limit_of (asked written) ≡ 9
+limit-asked written = refl
 
 -- another byte may end a line
 text-zero : text_of 0 (asked New) lines replies ≡ 97 ∷ 0 ∷ 98 ∷ 0 ∷ []
@@ -50,10 +100,10 @@ piece-back : piece 0 (asked HeldBack) (codes "a") true ≡ 97 ∷ 0 ∷ []
 piece-back = refl
 
 -- lines without a reply aren't written, nor are replies without a line
-chosen-ends : chosen New lines [] ≡ []
+chosen-ends : chosen (asked New) lines [] ≡ []
 chosen-ends = refl
 
-chosen-none : chosen HeldBack [] (true ∷ []) ≡ []
+chosen-none : chosen (asked HeldBack) [] (true ∷ []) ≡ []
 chosen-none = refl
 
 -- one line is held back, and two are new

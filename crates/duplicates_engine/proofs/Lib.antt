@@ -1,5 +1,8 @@
+mod CauseFacts
+mod CauseLemmas
 mod ChoiceFacts
 mod ChoiceLemmas
+mod ChoiceRunFacts
 mod EndLemmas
 mod FaultFacts
 mod FlushLemmas
@@ -10,6 +13,8 @@ mod InputLemmas
 mod KeepingLemmas
 mod KeptFacts
 mod LineStepLemmas
+mod LongerLemmas
+mod PlaceLemmas
 mod PlainLemmas
 mod RunFacts
 mod SieveFacts

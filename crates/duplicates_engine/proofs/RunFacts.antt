@@ -7,7 +7,7 @@ use Rattle.lines.specs.Reading.{AreShort}
 use Rattle.duplicates_engine.specs.declared.fault.Fault.TheVariants.{Memory}
 use Rattle.duplicates_engine.specs.declared.options.Options.{Options}
 use Rattle.duplicates_engine.specs.declared.options.Written.TheVariants.{New}
-use Rattle.duplicates_engine.specs.declared.tally.Tally.{Tally}
+use Rattle.duplicates_engine.specs.declared.tally.Total.{Total}
 use Rattle.duplicates_engine.specs.Inputs.{lines_in}
 use Rattle.duplicates_engine.specs.Kept.{text_of, KeepsNew, KeepsUntil}
 use Rattle.duplicates_engine.proofs.SiftLemmas.{sifted-nil}
@@ -20,32 +20,37 @@ abbrev sifts : Unit {0} → List ℕ → Bool → Unit {0} → Type 0
 sifts old line reply new = reply ≡ false
 
 abbrev asked : Options
-asked = record { longest = 1; written = New; most = None }
+asked = record { longest = 1; skips_longer = false; written = New; most = None }
+
+-- nothing was counted
+abbrev none_read : Total
+none_read = record { tally = record { read = 0; held = 0 }; longer = 0 }
 
 -- a run over nothing
 keeps : KeepsNew has sifts 10 asked (Some []) (Some []) tt tt (Some []) (Some []) None None
-    None None (record { read = 0; held = 0 })
+    None None none_read
 keeps = record {
   lines = [];
   replies = [];
-  sifted = sifted-nil has sifts tt;
+  sifted = sifted-nil has sifts 1 tt;
   text = refl;
   whole = record { are_lines = refl; none_left = refl };
   short = All-nil (λ line. length line ≤ 1);
   counts = record { read = refl; held = refl };
+  longer = refl;
   tells = tt;
   warns = refl;
 }
 
-module _ (tally : Tally) (to : Option (List ℕ)) where
+module _ (total : Total) (to : Option (List ℕ)) where
   -- a whole run leaves no input
   keeps-left : KeepsNew has sifts 10 asked (Some (codes "a" ∷ [])) (Some (codes "b" ∷ [])) tt tt
-      (Some []) to None None None None tally → ⊥
+      (Some []) to None None None None total → ⊥
   keeps-left run = cc run.whole.none_left
 
   -- a whole run has no line that is too long
   keeps-long : KeepsNew has sifts 10 asked (Some (codes "ab\n" ∷ [])) (Some []) tt tt
-      (Some []) to None None None None tally → ⊥
+      (Some []) to None None None None total → ⊥
   unfolding lines_by
   keeps-long run =
       let lines : codes "ab" ∷ [] ≡ run.lines = run.whole.are_lines in
@@ -54,7 +59,7 @@ module _ (tally : Tally) (to : Option (List ℕ)) where
 
 -- a run over one line counts it
 keeps-count : KeepsNew has sifts 10 asked (Some (codes "a\n" ∷ [])) (Some []) tt tt (Some [])
-    (Some (codes "a\n")) None None None None (record { read = 0; held = 0 }) → ⊥
+    (Some (codes "a\n")) None None None None none_read → ⊥
 unfolding lines_by
 keeps-count run =
     let lines : codes "a" ∷ [] ≡ run.lines = run.whole.are_lines in
@@ -68,7 +73,7 @@ until : KeepsUntil has sifts 10 asked (Some (codes "a\n" ∷ [])) tt tt (Some []
 until = record {
   lines = [];
   replies = [];
-  sifted = sifted-nil has sifts tt;
+  sifted = sifted-nil has sifts 1 tt;
   written = [];
   text = refl;
   is_text = refl;

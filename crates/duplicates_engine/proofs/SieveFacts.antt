@@ -1,8 +1,8 @@
 -- What is true of lines that were sifted: of each relation a case that holds, and near ones that
 -- don't.
-use Rattle.std.proofs.Common.{◌≡◌, ℕ, zero, suc, Bool, true, false, List, [], ◌∷◌, ◌++◌, length, get_or, refl, sym, ap, arith}
+use Rattle.std.proofs.Common.{◌≡◌, ◌≤◌, ℕ, zero, suc, Bool, true, false, List, [], ◌∷◌, ◌++◌, length, get_or, refl, sym, ap, arith}
 use Rattle.std.specs.Prelude.{codes}
-use Rattle.duplicates_engine.specs.Sieves.{SiftsAll, AreNew, HasAll, AreUnseen, HasSifted}
+use Rattle.duplicates_engine.specs.Sieves.{SiftsAll, SiftsShort, AreNew, HasShort, AreUnseen, HasSifted}
 
 -- three lines, of which the third came before
 abbrev lines : List (List ℕ)
@@ -57,13 +57,37 @@ abbrev has_a : List ℕ → Type 0
 has_a line = line ≡ codes "a"
 
 -- it has all of a list of that line, and not of another
-has-all : HasAll has_a (codes "a" ∷ [])
-has-all zero within = refl
-has-all (suc i) within = absurd (omega (arith, within))
+has-all : HasShort 1 has_a (codes "a" ∷ [])
+has-all zero within short = refl
+has-all (suc i) within short = absurd (omega (arith, within))
 
-has-all-not : HasAll has_a (codes "a" ∷ codes "b" ∷ []) → ⊥
+has-all-not : HasShort 1 has_a (codes "a" ∷ codes "b" ∷ []) → ⊥
 has-all-not is =
-    let letter : 98 ≡ 97 = ap (λ l. get_or l 0 0) (is 1 (omega arith)) in omega (arith, letter)
+    let letter : 98 ≡ 97 = ap (λ l. get_or l 0 0) (is 1 (omega arith) (omega arith)) in
+    omega (arith, letter)
+
+-- a longer line needn't be among those that it has
+has-longer : HasShort 1 has_a (codes "bb" ∷ [])
+has-longer zero within short = absurd (omega (arith, short))
+has-longer (suc i) within short = absurd (omega (arith, within))
+
+-- a line that isn't longer passes the sieve
+short : SiftsShort keeps 1 [] (codes "a") false (codes "a" ∷ [])
+short = record { short = λ is. refl; longer = λ is. absurd (omega (arith, is)) }
+
+short-not : SiftsShort keeps 1 [] (codes "a") false [] → ⊥
+short-not is = let one : 0 ≡ 1 = ap length (is.short (omega arith)) in omega (arith, one)
+
+-- a longer one doesn't, and is answered true
+longer : SiftsShort keeps 1 [] (codes "aa") true []
+longer = record { short = λ is. absurd (omega (arith, is)); longer = λ is. (refl, refl) }
+
+longer-sifted : SiftsShort keeps 1 [] (codes "aa") true (codes "aa" ∷ []) → ⊥
+longer-sifted is =
+    let one : 1 ≡ 0 = ap length (is.longer (omega arith)).1 in omega (arith, one)
+
+longer-new : SiftsShort keeps 1 [] (codes "aa") false [] → ⊥
+longer-new is = let no : false ≡ true = (is.longer (omega arith)).0 in cc
 
 -- the line that it has may be answered true, and another false
 unseen : AreUnseen has_a (codes "a" ∷ codes "b" ∷ []) (true ∷ false ∷ [])
@@ -77,18 +101,19 @@ unseen-not : AreUnseen has_a (codes "b" ∷ codes "a" ∷ []) (false ∷ false �
 unseen-not is = is 1 (omega arith) refl refl
 
 module _ {V : Type 0} (has : V → List ℕ → Type 0) (sifts : V → List ℕ → Bool → V → Type 0)
-    (old new : V) where
+    (longest : ℕ) (old new : V) where
   -- lines that were sifted have a reply each
-  sifted-count : HasSifted has sifts old new lines (false ∷ []) → ⊥
+  sifted-count : HasSifted has sifts longest old new lines (false ∷ []) → ⊥
   sifted-count is = omega (arith, is.count)
 
   -- the second of two equal lines isn't answered false
-  sifted-new : HasSifted has sifts old new (codes "a" ∷ codes "a" ∷ []) (false ∷ false ∷ []) → ⊥
+  sifted-new : HasSifted has sifts longest old new (codes "a" ∷ codes "a" ∷ [])
+      (false ∷ false ∷ []) → ⊥
   sifted-new is = new-adjacent is.are_new
 
   -- over two runs of one sieve a line that was answered false differs from those of the first
-  sifted-later : (end : V) (line : List ℕ)
-      → HasSifted has sifts old new (line ∷ []) (false ∷ [])
-      → HasSifted has sifts new end (line ∷ []) (false ∷ []) → ⊥
-  sifted-later end line first later =
-      later.are_unseen 0 (omega arith) refl (first.are_in 0 (omega arith))
+  sifted-later : (end : V) (line : List ℕ) → length line ≤ longest
+      → HasSifted has sifts longest old new (line ∷ []) (false ∷ [])
+      → HasSifted has sifts longest new end (line ∷ []) (false ∷ []) → ⊥
+  sifted-later end line short first later =
+      later.are_unseen 0 (omega arith) refl (first.are_in 0 (omega arith) short)

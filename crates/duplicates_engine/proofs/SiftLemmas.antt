@@ -3,17 +3,17 @@ use Rattle.std.proofs.Common.{◌≡◌, ◌⊎◌, inl, inr, ◌≤◌, ℕ, �
 use Rattle.std.proofs.lemmas.Bool.{cases_lt, true≢false}
 use Rattle.std.proofs.Math.Seq.{get_or-append_seam}
 use Rattle.std.proofs.lemmas.List.{get_or_append_left}
-use Rattle.duplicates_engine.specs.Sieves.{SiftsAll, HasSifted}
+use Rattle.duplicates_engine.specs.Sieves.{SiftsAll, SiftsShort, HasSifted}
 
 -- no line was sifted yet
 pub sifted-nil : {V : Type 0} (has : V → List ℕ → Type 0) (sifts : V → List ℕ → Bool → V → Type 0)
-    (sieve : V) → HasSifted has sifts sieve sieve [] []
-sifted-nil has sifts sieve = record {
+    (longest : ℕ) (sieve : V) → HasSifted has sifts longest sieve sieve [] []
+sifted-nil has sifts longest sieve = record {
   all = refl;
   count = refl;
   are_new = λ i j before within. absurd (omega (arith, within));
   are_unseen = λ j within. absurd (omega (arith, within));
-  are_in = λ i within. absurd (omega (arith, within));
+  are_in = λ i within short. absurd (omega (arith, within));
   stay = λ line is. is;
 }
 
@@ -33,9 +33,10 @@ sifts-more sifts old now new (l ∷ lines) (r ∷ replies) line reply so_far one
 )
 
 module _ {V : Type 0} (has : V → List ℕ → Type 0) (sifts : V → List ℕ → Bool → V → Type 0)
-    (old now : V) (lines : List (List ℕ)) (replies : List Bool)
-    (so_far : HasSifted has sifts old now lines replies) (new : V) (line : List ℕ) (reply : Bool)
-    (one : sifts now line reply new) (seen : has now line → reply ≡ true) (taken : has new line)
+    (longest : ℕ) (old now : V) (lines : List (List ℕ)) (replies : List Bool)
+    (so_far : HasSifted has sifts longest old now lines replies) (new : V) (line : List ℕ)
+    (reply : Bool) (one : SiftsShort sifts longest now line reply new)
+    (seen : has now line → reply ≡ true) (taken : length line ≤ longest → has new line)
     (stays : (other : List ℕ) → has now other → has new other) where
   -- the lines before are the same
   same_line : (k : ℕ) → k < length lines
@@ -72,8 +73,15 @@ module _ {V : Type 0} (has : V → List ℕ → Type 0) (sifts : V → List ℕ 
       let last : j ≡ length lines = is_last j within late in
       let first : i < length lines = omega (arith, before, last) in
       let was : get_or lines i [] ≡ line = sym (same_line i first) ∙ same ∙ last_line j last in
-      let held : reply ≡ true = seen (subst (has now) was (so_far.are_in i first)) in
-      true≢false (sym held ∙ sym (last_reply j last) ∙ is)
+      true≢false (sym (held (cases_lt longest (length line)) was) ∙ sym (last_reply j last) ∙ is)
+    where
+      held : (longest < length line) ⊎ (length line ≤ longest) → get_or lines i [] ≡ line
+          → reply ≡ true
+      held (inl long) was = (one.longer long).0
+      held (inr short) was =
+          seen (subst (has now) was
+          (so_far.are_in i (omega (arith, before, is_last j within late))
+          (subst (λ l. length l ≤ longest) (sym was) short)))
 
   is_unseen : (j : ℕ) → j < length (lines ++ line ∷ [])
       → get_or (replies ++ reply ∷ []) j true ≡ false
@@ -87,21 +95,25 @@ module _ {V : Type 0} (has : V → List ℕ → Type 0) (sifts : V → List ℕ 
       seen (so_far.stay line (subst (has old) (last_line j last) was)) in
       true≢false (sym held ∙ sym (last_reply j last) ∙ is)
 
-  is_in : (i : ℕ) → i < length (lines ++ line ∷ []) → (i < length lines) ⊎ (length lines ≤ i)
-      → has new (get_or (lines ++ line ∷ []) i [])
-  is_in i within (inl early) =
+  is_in : (i : ℕ) → i < length (lines ++ line ∷ [])
+      → length (get_or (lines ++ line ∷ []) i []) ≤ longest
+      → (i < length lines) ⊎ (length lines ≤ i) → has new (get_or (lines ++ line ∷ []) i [])
+  is_in i within short (inl early) =
       stays (get_or (lines ++ line ∷ []) i [])
-      (subst (has now) (sym (same_line i early)) (so_far.are_in i early))
-  is_in i within (inr late) = subst (has new) (sym (last_line i (is_last i within late))) taken
+      (subst (has now) (sym (same_line i early))
+      (so_far.are_in i early (subst (λ l. length l ≤ longest) (same_line i early) short)))
+  is_in i within short (inr late) =
+      let last = last_line i (is_last i within late) in
+      subst (has new) (sym last) (taken (subst (λ l. length l ≤ longest) last short))
 
   -- one more line was sifted
-  pub sifted-more : HasSifted has sifts old new (lines ++ line ∷ []) (replies ++ reply ∷ [])
+  pub sifted-more : HasSifted has sifts longest old new (lines ++ line ∷ []) (replies ++ reply ∷ [])
   sifted-more = record {
-    all = sifts-more sifts old now new lines replies line reply so_far.all one;
+    all = sifts-more (SiftsShort sifts longest) old now new lines replies line reply so_far.all one;
     count = simp length-append (omega (arith, so_far.count));
     are_new = λ i j before within is same.
         is_new i j before within is same (cases_lt j (length lines));
     are_unseen = λ j within is was. is_unseen j within is was (cases_lt j (length lines));
-    are_in = λ i within. is_in i within (cases_lt i (length lines));
+    are_in = λ i within short. is_in i within short (cases_lt i (length lines));
     stay = λ other is. stays other (so_far.stay other is);
   }

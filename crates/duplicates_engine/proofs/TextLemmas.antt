@@ -2,8 +2,7 @@
 use Rattle.std.proofs.Common.{◌≡◌, ℕ, Bool, true, false, cond, List, [], ◌∷◌, ◌++◌, length, refl, ◌∙◌, ap, append-nil, arith}
 use Rattle.std.proofs.lemmas.Grind.{flat_map-append}
 use Rattle.duplicates_engine.specs.declared.options.Options.{Options}
-use Rattle.duplicates_engine.specs.declared.options.Written.{Written}
-use Rattle.duplicates_engine.specs.Kept.{is_written, chosen, lines_text, text_of, piece}
+use Rattle.duplicates_engine.specs.Kept.{writes_line, chosen, lines_text, text_of, piece}
 
 -- a line that is written or not stays at the front
 at-front : (b : Bool) (line : List ℕ) (all first last : List (List ℕ)) → all ≡ first ++ last
@@ -12,17 +11,18 @@ at-front true line all first last same = ap (λ l. line ∷ l) same
 at-front false line all first last same = same
 
 -- what one more line adds to those that are written
-chosen-more : (written : Written) (lines : List (List ℕ)) (replies : List Bool) (line : List ℕ)
+chosen-more : (options : Options) (lines : List (List ℕ)) (replies : List Bool) (line : List ℕ)
     (reply : Bool) → length replies ≡ length lines
-    → chosen written (lines ++ line ∷ []) (replies ++ reply ∷ [])
-    ≡ chosen written lines replies ++ chosen written (line ∷ []) (reply ∷ [])
-chosen-more written [] [] line reply same = refl
-chosen-more written [] (r ∷ replies) line reply same = absurd (omega (arith, same))
-chosen-more written (l ∷ lines) [] line reply same = absurd (omega (arith, same))
-chosen-more written (l ∷ lines) (r ∷ replies) line reply same =
-    at-front (is_written written r) l (chosen written (lines ++ line ∷ []) (replies ++ reply ∷ []))
-    (chosen written lines replies) (chosen written (line ∷ []) (reply ∷ []))
-    (chosen-more written lines replies line reply (omega (arith, same)))
+    → chosen options (lines ++ line ∷ []) (replies ++ reply ∷ [])
+    ≡ chosen options lines replies ++ chosen options (line ∷ []) (reply ∷ [])
+chosen-more options [] [] line reply same = refl
+chosen-more options [] (r ∷ replies) line reply same = absurd (omega (arith, same))
+chosen-more options (l ∷ lines) [] line reply same = absurd (omega (arith, same))
+chosen-more options (l ∷ lines) (r ∷ replies) line reply same =
+    at-front (writes_line options l r) l
+    (chosen options (lines ++ line ∷ []) (replies ++ reply ∷ []))
+    (chosen options lines replies) (chosen options (line ∷ []) (reply ∷ []))
+    (chosen-more options lines replies line reply (omega (arith, same)))
 
 -- the text of one line
 one-text : (end : ℕ) (line : List ℕ) (b : Bool)
@@ -37,8 +37,8 @@ pub text-more : (end : ℕ) (options : Options) (lines : List (List ℕ)) (repli
     → text_of end options (lines ++ line ∷ []) (replies ++ reply ∷ [])
     ≡ text_of end options lines replies ++ piece end options line reply
 text-more end options lines replies line reply same =
-    ap (lines_text end) (chosen-more options.written lines replies line reply same)
-    ∙ flat_map-append (λ l. l ++ end ∷ []) (chosen options.written lines replies)
-    (chosen options.written (line ∷ []) (reply ∷ []))
+    ap (lines_text end) (chosen-more options lines replies line reply same)
+    ∙ flat_map-append (λ l. l ++ end ∷ []) (chosen options lines replies)
+    (chosen options (line ∷ []) (reply ∷ []))
     ∙ ap (λ t. text_of end options lines replies ++ t)
-    (one-text end line (is_written options.written reply))
+    (one-text end line (writes_line options line reply))

@@ -1,11 +1,13 @@
 -- What was written of a text at each fault.
 use Rattle.std.proofs.Common.{ℕ, ◌≡◌, List, Option, Ok, Err, refl}
 use Rattle.std.specs.Io.KnownBytes.{Appends}
+use Rattle.std.specs.declared.io.ErrorKind.{ErrorKind}
 use Rattle.lines.specs.Writing.{AppendsPart, Begins}
 use Rattle.lines.proofs.WritingLemmas.{Begins-whole}
 use Rattle.duplicates_engine.specs.declared.fault.Fault.{Fault}
 use Rattle.duplicates_engine.specs.declared.fault.Fault.TheVariants.{TooLong, Memory, Full, Open, Input, Output}
-use Rattle.duplicates_engine.specs.Faults.{IsOfOpen, IsOfSystem, IsOfWriter, IsWrittenAt, IsReadAt}
+use Rattle.duplicates_engine.specs.Causes.{TellsWrite}
+use Rattle.duplicates_engine.specs.Faults.{IsOfSystem, IsOfWriter, IsWrittenAt, IsReadAt}
 use Rattle.duplicates_engine.specs.Inputs.{AreFirstRead}
 use Rattle.duplicates_engine.specs.Kept.{Writes}
 
@@ -67,14 +69,14 @@ reached-at end longest (Open kind) come lines is first = first
 reached-at end longest (Input kind) come lines is first = first
 reached-at end longest (Output kind) come lines is first = first
 
--- the fault of an open is no long line
-pub open-system : (fault : Fault) → IsOfOpen fault → IsOfSystem fault
-open-system (TooLong number) is = absurd is
-open-system Memory is = tt
-open-system Full is = absurd is
-open-system (Open kind) is = tt
-open-system (Input kind) is = absurd is
-open-system (Output kind) is = absurd is
+-- what is told of a writer is the fault of one
+pub told-writer : (kind : ErrorKind) (fault : Fault) → TellsWrite kind fault → IsOfWriter fault
+told-writer kind (TooLong number) is = absurd is
+told-writer kind Memory is = absurd is
+told-writer kind Full is = absurd is
+told-writer kind (Open told) is = absurd is
+told-writer kind (Input told) is = absurd is
+told-writer kind (Output told) is = tt
 
 -- a text was written by what was written of it
 pub writes-all : (whole other : List ℕ) (from to : Option (List ℕ)) → Appends from to whole

@@ -1,8 +1,9 @@
 -- Which lines a run writes, in words of lines alone: neither the sieve nor its replies are named. A
 -- place is the number of a line among all lines of all inputs, from 0 on.
-use Rattle.std.specs.Prelude.{◌≡◌, ◌≢◌, ◌<◌, ℕ, Bool, true, false, List, [], length, get_or, map, filter, Option}
+use Rattle.std.specs.Prelude.{◌≡◌, ◌≢◌, ◌⊎◌, ◌<◌, ℕ, Bool, true, false, List, [], length, get_or, map, filter, Option}
 use Rattle.std.specs.List.{range_with_len}
 use Rattle.std.specs.Io.KnownBytes.{Appends}
+use Rattle.lines.specs.Reading.{AreShort}
 use Rattle.duplicates_engine.specs.declared.fault.Fault.{Fault}
 use Rattle.duplicates_engine.specs.declared.options.Options.{Options}
 use Rattle.duplicates_engine.specs.declared.options.Written.{Written}
@@ -10,6 +11,7 @@ use Rattle.duplicates_engine.specs.declared.options.Written.TheVariants.{New, He
 use Rattle.duplicates_engine.specs.Faults.{IsWrittenAt, IsReadAt}
 use Rattle.duplicates_engine.specs.Inputs.{AreAllRead}
 use Rattle.duplicates_engine.specs.Kept.{lines_text}
+use Rattle.duplicates_engine.specs.Longer.{limit_of}
 
 -- the lines at the places of a set, in order
 abbrev pub lines_at : (ℕ → Bool) → List (List ℕ) → List (List ℕ)
@@ -21,24 +23,36 @@ abbrev pub IsNewAt : List (List ℕ) → ℕ → Type 0
 IsNewAt lines place =
     (earlier : ℕ) → earlier < place → get_or lines earlier [] ≢ get_or lines place []
 
--- these lines stand at some places of all lines, and each of them differs from every line before it
-pub record WritesNew (lines written : List (List ℕ)) : Type 0 where
-  pub places : ℕ → Bool
-  pub stand : lines_at places lines ≡ written
-  pub new : (place : ℕ) → place < length lines → places place ≡ true → IsNewAt lines place
+-- the line at this place is longer than a line may be
+abbrev pub IsLongerAt : ℕ → List (List ℕ) → ℕ → Type 0
+IsLongerAt longest lines place = longest < length (get_or lines place [])
 
--- these lines stand at some places of all lines, and each line at another place, which is left out,
--- differs from every line before it
-pub record LeavesOutNew (lines written : List (List ℕ)) : Type 0 where
+-- these lines stand at some places of all lines. Each of them differs from every line before it, or
+-- is longer than a line may be, and each longer one is among them
+pub record WritesNew (longest : ℕ) (lines written : List (List ℕ)) : Type 0 where
   pub places : ℕ → Bool
   pub stand : lines_at places lines ≡ written
-  pub new : (place : ℕ) → place < length lines → places place ≡ false → IsNewAt lines place
+  pub new : (place : ℕ) → place < length lines → places place ≡ true
+      → IsLongerAt longest lines place ⊎ IsNewAt lines place
+  pub longer : (place : ℕ) → place < length lines → IsLongerAt longest lines place
+      → places place ≡ true
+
+-- these lines stand at some places of all lines. Each line at another place, which is left out,
+-- differs from every line before it, or is longer than a line may be, and each longer one is left
+-- out
+pub record LeavesOutNew (longest : ℕ) (lines written : List (List ℕ)) : Type 0 where
+  pub places : ℕ → Bool
+  pub stand : lines_at places lines ≡ written
+  pub new : (place : ℕ) → place < length lines → places place ≡ false
+      → IsLongerAt longest lines place ⊎ IsNewAt lines place
+  pub longer : (place : ℕ) → place < length lines → IsLongerAt longest lines place
+      → places place ≡ false
 
 -- what the lines that are written are to all lines, by what was asked for
-abbrev pub IsChoice : Written → List (List ℕ) → List (List ℕ) → Type 0
-IsChoice New lines written = WritesNew lines written
-IsChoice HeldBack lines written = LeavesOutNew lines written
-IsChoice Nothing lines written = written ≡ []
+abbrev pub IsChoice : Written → ℕ → List (List ℕ) → List (List ℕ) → Type 0
+IsChoice New longest lines written = WritesNew longest lines written
+IsChoice HeldBack longest lines written = LeavesOutNew longest lines written
+IsChoice Nothing longest lines written = written ≡ []
 
 -- a whole run: of all lines of the inputs such lines were written, and nothing else
 pub record WritesChoice (end : ℕ) (options : Options) (come left : Option (List (List ℕ)))
@@ -46,7 +60,8 @@ pub record WritesChoice (end : ℕ) (options : Options) (come left : Option (Lis
   pub lines : List (List ℕ)
   pub chosen : List (List ℕ)
   pub whole : AreAllRead end come left lines
-  pub is_choice : IsChoice options.written lines chosen
+  pub is_choice : IsChoice options.written options.longest lines chosen
+  pub short : AreShort (limit_of options) lines
   pub text : Appends from to (lines_text end chosen)
 
 -- a run up to a fault: of the first lines of the inputs such lines were written, at a fault of the
@@ -55,8 +70,9 @@ pub record WritesChoiceUntil (end : ℕ) (options : Options) (come : Option (Lis
     (from to : Option (List ℕ)) (fault : Fault) : Type 0 where
   pub lines : List (List ℕ)
   pub chosen : List (List ℕ)
-  pub reached : IsReadAt end options.longest fault come lines
-  pub is_choice : IsChoice options.written lines chosen
+  pub reached : IsReadAt end (limit_of options) fault come lines
+  pub is_choice : IsChoice options.written options.longest lines chosen
+  pub short : AreShort (limit_of options) lines
   pub written : List ℕ
   pub text : Appends from to written
   pub is_text : IsWrittenAt fault (lines_text end chosen) written

@@ -5,24 +5,6 @@ use Rattle.duplicates_engine.specs.declared.fault.Fault.TheVariants.{TooLong, Me
 use Rattle.duplicates_engine.specs.Inputs.{AreFirstRead, AreReadToLong}
 use Rattle.lines.specs.Writing.{Begins}
 
--- the fault of a reader
-abbrev pub IsOfReader : Fault → Type 0
-IsOfReader (TooLong number) = ⊥
-IsOfReader Memory = Unit {0}
-IsOfReader Full = ⊥
-IsOfReader (Open kind) = ⊥
-IsOfReader (Input kind) = Unit {0}
-IsOfReader (Output kind) = ⊥
-
--- the fault of an open
-abbrev pub IsOfOpen : Fault → Type 0
-IsOfOpen (TooLong number) = ⊥
-IsOfOpen Memory = Unit {0}
-IsOfOpen Full = ⊥
-IsOfOpen (Open kind) = Unit {0}
-IsOfOpen (Input kind) = ⊥
-IsOfOpen (Output kind) = ⊥
-
 -- the fault of a writer
 abbrev pub IsOfWriter : Fault → Type 0
 IsOfWriter (TooLong number) = ⊥

@@ -1,8 +1,10 @@
+pub mod Causes
 pub mod Choices
 pub mod Faults
 pub mod Grown
 pub mod Inputs
 pub mod Kept
+pub mod Longer
 pub mod Plain
 pub mod Sieves
 pub mod Told

@@ -5,6 +5,7 @@ use Rattle.bloom_parts.specs.Operations.{Insert}
 use Rattle.bloom_plain.specs.Filter.{Filter, contains}
 use Rattle.bloom_plain.specs.Replies.{CarriesOut}
 use Rattle.bloom_plain.specs.SourceHash.{hash_by}
+use Rattle.duplicates_engine.specs.Longer.{short_lines, short_replies}
 use Rattle.duplicates_engine.specs.Sieves.{HasSifted}
 
 -- the hash that stands for a line: the answer of a fresh hasher after one write of its bytes
@@ -26,8 +27,8 @@ module _ {S H : Type 0} (h : hasher.Ghosts H) (build : S → H) where
   inserts_lines old lines replies new =
       CarriesOut old (map Insert (map (line_hash h (build old.hasher)) lines)) new replies
 
-  -- what a filter sifted it inserted as one list of commands
+  -- what a filter sifted it inserted as one list of commands: all lines but the longer ones
   abbrev pub SiftedLaw : Type 0
-  SiftedLaw = (old new : Filter S) (lines : List (List ℕ)) (replies : List Bool)
-      → HasSifted has_line inserts_line old new lines replies
-      → inserts_lines old lines replies new
+  SiftedLaw = (longest : ℕ) (old new : Filter S) (lines : List (List ℕ)) (replies : List Bool)
+      → HasSifted has_line inserts_line longest old new lines replies
+      → inserts_lines old (short_lines longest lines) (short_replies longest lines replies) new

@@ -1,6 +1,6 @@
 //! Why a run ends early.
-ghost use Rattle.std.specs.Prelude.{◌≡◌, ◌≢◌};
-ghost use Rattle.duplicates_engine.specs.Faults.{IsOfOpen, IsOfReader, IsOfSystem};
+ghost use Rattle.std.specs.IoError.{error_kind};
+ghost use Rattle.duplicates_engine.specs.Causes.{TellsOpen, TellsRead, TellsRefusal, TellsWrite};
 
 use bloom_plain::{FilterError, GrowingError};
 use std::io;
@@ -35,7 +35,7 @@ pub enum Fault {
 impl Fault {
     /// The fault of a reader of lines.
     pub fn of_reader(error: io::Error) -> Fault
-        ensures { IsOfReader result }
+        ensures { TellsRead (error_kind error) result }
     {
         match error.kind() {
             ErrorKind::OutOfMemory => Fault::Memory,
@@ -45,9 +45,7 @@ impl Fault {
 
     /// The fault of a sieve.
     pub fn of_sieve(error: GrowingError) -> Fault
-        ensures memory { error ≡ GrowingError.Filter FilterError.Memory → result ≡ Fault.Memory }
-        ensures full { error ≢ GrowingError.Filter FilterError.Memory → result ≡ Fault.Full }
-        ensures kind { IsOfSystem result }
+        ensures { TellsRefusal error result }
     {
         match error {
             GrowingError::Filter(FilterError::Memory) => Fault::Memory,
@@ -57,11 +55,18 @@ impl Fault {
 
     /// The fault of an open.
     pub fn of_open(error: io::Error) -> Fault
-        ensures { IsOfOpen result }
+        ensures { TellsOpen (error_kind error) result }
     {
         match error.kind() {
             ErrorKind::OutOfMemory => Fault::Memory,
             kind => Fault::Open(kind),
         }
+    }
+
+    /// The fault of a writer. A write is never out of memory.
+    pub fn of_writer(error: io::Error) -> Fault
+        ensures { TellsWrite (error_kind error) result }
+    {
+        Fault::Output(error.kind())
     }
 }

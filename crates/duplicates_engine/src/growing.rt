@@ -1,6 +1,6 @@
 //! A filter that grows as a sieve.
-ghost use Rattle.std.specs.Prelude.{◌≡◌, ℕ, List, true, IfOk, OnOk, OnErr};
-ghost use Rattle.duplicates_engine.specs.Grown.{grown_has, grown_takes};
+ghost use Rattle.std.specs.Prelude.{◌≡◌, ℕ, List, true, IfOk, OnOk, OnErr, IfErr};
+ghost use Rattle.duplicates_engine.specs.Grown.{grown_has, grown_refuses, grown_takes};
 
 use crate::sieve::Sieve;
 use bloom_plain::laws::growing_inserted_stays_found;
@@ -14,6 +14,9 @@ impl Sieve for GrowingFilter {
         ⟦<DefaultHasher as BuildHasher>⟧.build_hasher };
 
     ghost sifts = { grown_takes ⟦<RandomDefaultHasher as Hasher>⟧
+        ⟦<DefaultHasher as BuildHasher>⟧.build_hasher };
+
+    ghost refuses = { grown_refuses ⟦<RandomDefaultHasher as Hasher>⟧
         ⟦<DefaultHasher as BuildHasher>⟧.build_hasher };
 
     fn sift(&mut self, alloc: Global, line: &[u8]) -> Result<bool, GrowingError> {

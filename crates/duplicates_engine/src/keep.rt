@@ -1,7 +1,7 @@
 //! Writes the lines that are asked for.
 ghost use Rattle.std.specs.Prelude.{IfOk, IfErr};
 ghost use Rattle.duplicates_engine.specs.Choices.{WritesChoice, WritesChoiceUntil};
-ghost use Rattle.duplicates_engine.specs.Kept.{KeepsNew, KeepsUntil};
+ghost use Rattle.duplicates_engine.specs.Kept.{EndsEarly, KeepsNew};
 
 use crate::counted::{Counted, count_line};
 use crate::fault::Fault;
@@ -10,8 +10,8 @@ use crate::opened::{Opened, Step, flush, next_step, open_next};
 use crate::options::Options;
 use crate::output::put_chosen;
 use crate::progress::Progress;
-use crate::sieve::Sieve;
-use crate::tally::Tally;
+use crate::sieve::{Sieve, sift_line};
+use crate::tally::{Tally, Total};
 use std::alloc::Global;
 use std::io::{ErrorKind, Write};
 
@@ -23,46 +23,37 @@ fn keep_lines<V: Sieve, I: Inputs, W: Write, P: Progress, const END: u8>(
     inputs: &mut I,
     output: &mut W,
     progress: &mut P,
-) -> Result<Tally, Fault>
+) -> Result<Total, Fault>
     ensures all { IfOk result (KeepsNew V.has V.sifts END options
         (I.coming inputs.old) (I.coming inputs.new) sieve.old sieve.new
         (W.contents output.old) (W.contents output.new)
         (P.tells progress.old) (P.tells progress.new)
         (P.warnings progress.old) (P.warnings progress.new)) }
-    ensures fault { IfErr result (KeepsUntil V.has V.sifts END options
-        (I.coming inputs.old) sieve.old sieve.new
+    ensures fault { IfErr result (EndsEarly V.has V.sifts V.refuses I.fails END options
+        (I.coming inputs.old) inputs.new sieve.old sieve.new
         (W.contents output.old) (W.contents output.new)
         (P.tells progress.old) (P.tells progress.new)
         (P.warnings progress.old) (P.warnings progress.new)) }
 {
     let mut counted = Counted {
         tally: Tally { read: 0, held: 0 },
+        longer: 0,
         room: options.most,
     };
     let Some(mut input) = open_next(inputs)? else {
-        return Ok(counted.tally);
+        return Ok(counted.total());
     };
-    let mut opened = Opened::<END>::new(alloc, options.longest)?;
+    let mut opened = Opened::<END>::new(alloc, options)?;
     'steps: for _step in 0..u64::MAX {
-        match next_step(
-            alloc,
-            options.longest,
-            &mut opened,
-            &mut input,
-            inputs,
-            output,
-        )? {
-            Step::End => return Ok(counted.tally),
+        match next_step(alloc, options, &mut opened, &mut input, inputs, output)? {
+            Step::End => return Ok(counted.total()),
             Step::Opened => continue,
             Step::TooLong => return Err(Fault::TooLong(opened.number.saturating_add(1))),
             Step::Line => {}
         }
         let line = opened.lines.line();
-        let is_held = match sieve.sift(alloc, line) {
-            Ok(is_held) => is_held,
-            Err(error) => return Err(Fault::of_sieve(error)),
-        };
-        count_line(&mut counted, is_held, progress);
+        let is_held = sift_line(alloc, sieve, options, line)?;
+        count_line(&mut counted, options.is_longer(line), is_held, progress);
         put_chosen::<W, END>(output, options, line, is_held)?;
     }
     Err(Fault::Input(ErrorKind::TimedOut))
@@ -71,14 +62,16 @@ fn keep_lines<V: Sieve, I: Inputs, W: Write, P: Progress, const END: u8>(
 /// Sifts each line of the inputs, and writes those that are asked for, each with its end.
 ///
 /// A new line is held back by mistake only where the sieve takes it for a line before; no line is
-/// called new twice, in whichever inputs it stands. What was written is flushed before each read
-/// and open that may wait, and before the call returns. `progress` is told each million lines, and
-/// warned once where more new lines came than the most.
+/// called new twice, in whichever inputs it stands. Where longer lines are passed on, they are
+/// written with the new ones, and not sifted. What was written is flushed before each read and open
+/// that may wait, and before the call returns. `progress` is told each million lines, and warned
+/// once where more new lines came than the most.
 ///
 /// # Errors
-/// `TooLong` at the first line that has more bytes than a line may have; `Memory` where the sieve,
-/// a block or a line is out of memory; `Full` where the sieve can take no more lines; `Open`,
-/// `Input` and `Output` where an open, a read, or a write or a flush failed, with its kind.
+/// `TooLong` at the first line that has more bytes than a line may have, where longer lines aren't
+/// passed on; `Memory` where the sieve, a block or a line is out of memory; `Full` where the sieve
+/// can take no more lines; `Open`, `Input` and `Output` where an open, a read, or a write or a
+/// flush failed, with its kind.
 pub fn keep_new<V: Sieve, I: Inputs, W: Write, P: Progress, const END: u8>(
     alloc: Global,
     sieve: &mut V,
@@ -86,22 +79,25 @@ pub fn keep_new<V: Sieve, I: Inputs, W: Write, P: Progress, const END: u8>(
     inputs: &mut I,
     output: &mut W,
     progress: &mut P,
-) -> Result<Tally, Fault>
-    // All lines were sifted in order; each that was answered false differs from every line before
-    // it. Those that are asked for were written, and progress was told what there was to tell.
+) -> Result<Total, Fault>
+    // All lines were sifted in order, but for longer ones; each that was answered false differs
+    // from every line before it. Those that are asked for were written, and progress was told what
+    // there was to tell.
     ensures all { IfOk result (KeepsNew V.has V.sifts END options
         (I.coming inputs.old) (I.coming inputs.new) sieve.old sieve.new
         (W.contents output.old) (W.contents output.new)
         (P.tells progress.old) (P.tells progress.new)
         (P.warnings progress.old) (P.warnings progress.new)) }
-    // The same of the lines before a fault.
-    ensures fault { IfErr result (KeepsUntil V.has V.sifts END options
-        (I.coming inputs.old) sieve.old sieve.new
+    // The same of the lines before a fault, which is the fault of what came behind them: the sieve
+    // refused the next line, an open failed, or a line is too long.
+    ensures fault { IfErr result (EndsEarly V.has V.sifts V.refuses I.fails END options
+        (I.coming inputs.old) inputs.new sieve.old sieve.new
         (W.contents output.old) (W.contents output.new)
         (P.tells progress.old) (P.tells progress.new)
         (P.warnings progress.old) (P.warnings progress.new)) }
     // In words of lines alone: where the new lines are asked for, each line that is written differs
-    // from every line before it; where those held back are, each line that is left out does.
+    // from every line before it; where those held back are, each line that is left out does. A line
+    // that is passed on, since it is longer, is written there and left out here.
     ensures choice { IfOk result (λ _. WritesChoice END options
         (I.coming inputs.old) (I.coming inputs.new)
         (W.contents output.old) (W.contents output.new)) }

@@ -21,4 +21,4 @@ pub use keep::keep_new;
 pub use options::{Options, Written};
 pub use progress::{Progress, STRETCH, tell};
 pub use sieve::Sieve;
-pub use tally::Tally;
+pub use tally::{Tally, Total};

@@ -1,12 +1,15 @@
 //! An input that is open.
-ghost use Rattle.std.specs.Prelude.{◌≡◌, ◌↔◌, true, false, [], IfOk, IfErr, IfSome, OnOk, MatchOption};
+ghost use Rattle.std.specs.Prelude.{◌≡◌, ◌↔◌, true, false, [], IfOk, IfErr, IfSome, IsOkUnless, OnOk, MatchOption};
 ghost use Rattle.std.specs.Io.KnownBytes.{Keeps};
 ghost use Rattle.lines.specs.Reading.{KnowsEnd, left_of};
-ghost use Rattle.duplicates_engine.specs.Faults.{IsOfOpen, IsOfSystem, IsOfWriter};
+ghost use Rattle.duplicates_engine.specs.Causes.{FailsBehind, FailsToOpen, IsOfStep};
+ghost use Rattle.duplicates_engine.specs.Faults.{IsOfWriter};
 ghost use Rattle.duplicates_engine.specs.Inputs.{IsFresh, NoneComes, Opens, Steps};
+ghost use Rattle.duplicates_engine.specs.Longer.{limit_of};
 
 use crate::fault::Fault;
 use crate::inputs::Inputs;
+use crate::options::Options;
 use lines::{LineReaderBy, Next};
 use std::alloc::Global;
 use std::io::{Read, Write};
@@ -21,11 +24,12 @@ pub struct Opened<const END: u8> {
 
 impl<const END: u8> Opened<END> {
     /// Nothing was read yet.
-    pub fn new(alloc: Global, longest: usize) -> Result<Self, Fault>
-        ensures fresh { IfOk result (λ opened. IsFresh longest opened.lines opened.number) }
-        ensures fault { IfErr result IsOfOpen }
+    pub fn new(alloc: Global, options: Options) -> Result<Self, Fault>
+        ensures fresh { IfOk result
+            (λ opened. IsFresh (limit_of options) opened.lines opened.number) }
+        ensures fault { IsOkUnless result Fault.Memory }
     {
-        match LineReaderBy::new(alloc, longest) {
+        match LineReaderBy::new(alloc, options.limit()) {
             Ok(lines) => Ok(Opened { lines, number: 0 }),
             Err(_) => Err(Fault::Memory),
         }
@@ -50,7 +54,7 @@ pub fn open_next<I: Inputs>(inputs: &mut I) -> Result<Option<I::Input>, Fault>
     ensures opened { IfOk result (λ found. MatchOption found
         (NoneComes (I.coming inputs.old) (I.coming inputs.new))
         (λ input. Opens (I.coming inputs.old) (I.coming inputs.new) (I.Input.remaining input))) }
-    ensures fault { IfErr result IsOfOpen }
+    ensures fault { IfErr result (FailsToOpen I.fails inputs.old inputs.new) }
 {
     match inputs.open_next() {
         Ok(found) => Ok(found),
@@ -65,7 +69,7 @@ pub fn flush<W: Write>(output: &mut W) -> Result<(), Fault>
 {
     match output.flush() {
         Ok(()) => Ok(()),
-        Err(error) => Err(Fault::Output(error.kind())),
+        Err(error) => Err(Fault::of_writer(error)),
     }
 }
 
@@ -93,7 +97,7 @@ fn open_after<I: Inputs, W: Write>(
         (NoneComes (I.coming inputs.old) (I.coming inputs.new))
         (λ input. Opens (I.coming inputs.old) (I.coming inputs.new) (I.Input.remaining input))) }
     ensures kept { Keeps (W.contents output.old) (W.contents output.new) }
-    ensures fault { IfErr result IsOfSystem }
+    ensures fault { IfErr result (IsOfStep (FailsToOpen I.fails inputs.old inputs.new)) }
 {
     flush(output)?;
     open_next(inputs)
@@ -105,7 +109,7 @@ fn open_after<I: Inputs, W: Write>(
 #[inline(never)]
 fn begin_next<I: Inputs, W: Write, const END: u8>(
     alloc: Global,
-    longest: usize,
+    options: Options,
     opened: &mut Opened<END>,
     input: &mut I::Input,
     inputs: &mut I,
@@ -115,13 +119,13 @@ fn begin_next<I: Inputs, W: Write, const END: u8>(
         (NoneComes (I.coming inputs.old) (I.coming inputs.new)
         × (opened.new ≡ opened.old) × (input.new ≡ input.old))
         (λ _. Opens (I.coming inputs.old) (I.coming inputs.new) (I.Input.remaining input.new)
-        × IsFresh longest opened.new.lines opened.new.number)) }
+        × IsFresh (limit_of options) opened.new.lines opened.new.number)) }
     ensures kept { Keeps (W.contents output.old) (W.contents output.new) }
-    ensures fault { IfErr result IsOfSystem }
+    ensures fault { IfErr result (IsOfStep (FailsToOpen I.fails inputs.old inputs.new)) }
 {
     match open_after(inputs, output)? {
         Some(next) => {
-            *opened = Opened::new(alloc, longest)?;
+            *opened = Opened::new(alloc, options)?;
             *input = next;
             Ok(Some(()))
         }
@@ -133,23 +137,25 @@ fn begin_next<I: Inputs, W: Write, const END: u8>(
 /// that may wait, what was written is flushed.
 pub fn next_step<I: Inputs, W: Write, const END: u8>(
     alloc: Global,
-    longest: usize,
+    options: Options,
     opened: &mut Opened<END>,
     input: &mut I::Input,
     inputs: &mut I,
     output: &mut W,
 ) -> Result<Step, Fault>
     requires knows { KnowsEnd opened.old.lines.ended (I.Input.remaining input.old) }
-    requires limit { opened.old.lines.longest ≡ longest }
-    ensures step { IfOk result (Steps END longest
+    requires limit { opened.old.lines.longest ≡ limit_of options }
+    ensures step { IfOk result (Steps END (limit_of options)
         (left_of opened.old.lines (I.Input.remaining input.old))
         (left_of opened.new.lines (I.Input.remaining input.new))
         (I.coming inputs.old) (I.coming inputs.new) opened.old.number opened.new.number
         opened.new.lines.line) }
     ensures knows { OnOk result (KnowsEnd opened.new.lines.ended (I.Input.remaining input.new)) }
-    ensures limit { OnOk result (opened.new.lines.longest ≡ longest) }
+    ensures limit { OnOk result (opened.new.lines.longest ≡ limit_of options) }
     ensures kept { Keeps (W.contents output.old) (W.contents output.new) }
-    ensures fault { IfErr result IsOfSystem }
+    ensures fault { IfErr result (IsOfStep
+        (FailsBehind I.fails (left_of opened.old.lines (I.Input.remaining input.old))
+        inputs.old inputs.new)) }
 {
     flush_before_a_read(&opened.lines, output)?;
     match opened.lines.next_line(input) {
@@ -161,7 +167,7 @@ pub fn next_step<I: Inputs, W: Write, const END: u8>(
         Ok(Next::TooLong) => return Ok(Step::TooLong),
         Err(error) => return Err(Fault::of_reader(error)),
     }
-    match begin_next(alloc, longest, opened, input, inputs, output)? {
+    match begin_next(alloc, options, opened, input, inputs, output)? {
         Some(()) => Ok(Step::Opened),
         None => Ok(Step::End),
     }

@@ -8,12 +8,12 @@ use lines::put_line_by;
 use std::io::Write;
 
 // Whether a line is written that was answered this.
-fn writes(written: Written, is_held: bool) -> bool
-    ensures { result ≡ is_written written is_held }
+fn writes(written: Written, is_longer: bool, is_held: bool) -> bool
+    ensures { result ≡ is_written written is_longer is_held }
 {
     match written {
-        Written::New => !is_held,
-        Written::HeldBack => is_held,
+        Written::New => is_longer || !is_held,
+        Written::HeldBack => !is_longer && is_held,
         Written::Nothing => false,
     }
 }
@@ -28,11 +28,11 @@ pub fn put_chosen<W: Write, const END: u8>(
     ensures { Writes (piece END options line.now is_held)
         (W.contents output.old) (W.contents output.new) result }
 {
-    if !writes(options.written, is_held) {
+    if !writes(options.written, options.is_longer(line), is_held) {
         return Ok(());
     }
     match put_line_by(output, line, END) {
         Ok(()) => Ok(()),
-        Err(error) => Err(Fault::Output(error.kind())),
+        Err(error) => Err(Fault::of_writer(error)),
     }
 }

@@ -14,6 +14,9 @@ impl<S: BuildHasher> Sieve for BloomFilter<S> {
 
     ghost sifts = { inserts_line S.Hasher.Hasher S.build_hasher };
 
+    // No line is refused.
+    ghost refuses = { λ _ _ _. ⊥ };
+
     fn sift(&mut self, _alloc: Global, line: &[u8]) -> Result<bool, GrowingError> {
         insert_answers_contains::<S>();
         contained_stays::<S>();

@@ -1,12 +1,14 @@
 //! Counts of lines.
 ghost use Rattle.std.specs.Prelude.{◌≡◌, ◌+◌, ◌-◌, ◌^◌, min, if◌then◌else◌};
 
-/// How many lines were read, and how many of them were held back. Both numbers stay at 2^64 - 1.
+/// How many lines were read, and how many of them may have come before. Both numbers stay at
+/// 2^64 - 1.
 #[derive(Clone, Copy, PartialEq, Eq)]
 pub struct Tally {
     /// The lines that were read.
     pub read: u64,
-    /// Those that weren't written, since they may have come before.
+    /// Those that may have come before. A longer line that is passed on is among them, since it
+    /// isn't sifted.
     pub held: u64,
 }
 
@@ -27,4 +29,12 @@ impl Tally {
             held,
         }
     }
+}
+
+/// The counts of a run that ended well.
+#[derive(Clone, Copy, PartialEq, Eq)]
+pub struct Total {
+    pub tally: Tally,
+    /// The longer lines that were passed on. The number stays at 2^64 - 1.
+    pub longer: u64,
 }

@@ -4,7 +4,7 @@ mod rows;
 
 use crate::faulty::{FAILING, Seen, Sink};
 use bloom_plain::{BloomFilter, Rate};
-use duplicates_engine::{Fault, Options, Tally, keep_new};
+use duplicates_engine::{Fault, Options, Total, keep_new};
 use odd::{Limited, Quiet, Sources};
 use rows::{PLAIN, READS, RUNS, Run, TEXTS};
 use std::alloc::Global;
@@ -17,7 +17,7 @@ fn is_right(
     alloc: Global,
     run: Run,
     output: &str,
-    wanted: Result<Tally, Fault>,
+    wanted: Result<Total, Fault>,
 ) -> Result<bool, Fail> {
     let seen = Seen::new();
     let mut sieve = Limited {
@@ -35,6 +35,7 @@ fn is_right(
     let mut writer = Sink::new(alloc, run.writing, &seen);
     let options = Options {
         longest: run.longest,
+        skips_longer: run.skips_longer,
         written: run.written,
         most: None,
     };

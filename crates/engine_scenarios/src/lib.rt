@@ -9,6 +9,8 @@ mod duplicates;
 #[cfg(test)]
 mod faulty;
 #[cfg(test)]
+mod files;
+#[cfg(test)]
 mod room;
 #[cfg(test)]
 mod summaries;

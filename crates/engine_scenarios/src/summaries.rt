@@ -26,6 +26,25 @@ const BOTH: &[u8] = b"fbloom\01\x02\0\0\0\0\0\0\0\
     \0\0\0\0\0\0\0\0\0\0\0\0\0\0\0\0\
     \0\0\x01\x10\x04\0\x01\0";
 
+// The file of "a" without its last byte, with one more, and with another last byte.
+const CUT: &[u8] = b"fbloom\01\x02\0\0\0\0\0\0\0\
+    \x01\0\0\0\0\0\0\0\0\0\0\0\0\0\0\0\
+    \0\0\0\0\0\0\0\0>f\xd2\xf60\x19\xfb\xc8\
+    \0\0\0\0\0\0\0\0\0\0\0\0\0\0\0\0\
+    \0\0\x01\x10\0\0\0";
+
+const LONG: &[u8] = b"fbloom\01\x02\0\0\0\0\0\0\0\
+    \x01\0\0\0\0\0\0\0\0\0\0\0\0\0\0\0\
+    \0\0\0\0\0\0\0\0>f\xd2\xf60\x19\xfb\xc8\
+    \0\0\0\0\0\0\0\0\0\0\0\0\0\0\0\0\
+    \0\0\x01\x10\0\0\0\0\0";
+
+const CHANGED: &[u8] = b"fbloom\01\x02\0\0\0\0\0\0\0\
+    \x01\0\0\0\0\0\0\0\0\0\0\0\0\0\0\0\
+    \0\0\0\0\0\0\0\0>f\xd2\xf60\x19\xfb\xc8\
+    \0\0\0\0\0\0\0\0\0\0\0\0\0\0\0\0\
+    \0\0\x01\x10\0\0\0\x01";
+
 const TEXT: &[u8] =
     b"{\"bits\":{\"bits\":[268500992]},\"num_hashes_minus_one\":1,\"k0\":0,\"k1\":0}\n";
 
@@ -100,7 +119,7 @@ fn carry_out<R: Threads + AllocGlobal>(
 
 // An act, its input, and how that is read and the output is taken; what is written, and why the act
 // stops early.
-const ACTS: [(Act, &[u8], Reading, Writing, &[u8], &[u8]); 18] = [
+const ACTS: [(Act, &[u8], Reading, Writing, &[u8], &[u8]); 22] = [
     (Act::Build, b"b\na", SLOW, NARROW, BOTH, b""),
     (Act::Build, b"a\nb\n", FAILING, ROOMY, b"", UNREAD),
     (Act::Ask, b"b\na\nc\na", SLOW, NARROW, b"a\na\n", b""),
@@ -111,7 +130,7 @@ const ACTS: [(Act, &[u8], Reading, Writing, &[u8], &[u8]); 18] = [
         WHOLE,
         FULL,
         b"a\na",
-        b"the keys can't be written: no storage space",
+        b"the keys can't be written: no space is left",
     ),
     (
         Act::Ask,
@@ -125,6 +144,38 @@ const ACTS: [(Act, &[u8], Reading, Writing, &[u8], &[u8]); 18] = [
     (Act::Load, A, FAILING, ROOMY, b"", UNREAD),
     (Act::Load, BOTH, WHOLE, ROOMY, BOTH, b""),
     (Act::Load, TEXT, SLOW, NARROW, A, b""),
+    (
+        Act::Load,
+        CUT,
+        WHOLE,
+        ROOMY,
+        b"",
+        b"odd: it holds no filter: the file is cut",
+    ),
+    (
+        Act::Load,
+        LONG,
+        WHOLE,
+        ROOMY,
+        b"",
+        b"odd: it holds no filter: the file goes on after its last word",
+    ),
+    (
+        Act::Load,
+        CHANGED,
+        SLOW,
+        ROOMY,
+        b"",
+        b"odd: it holds no filter: the seal is wrong: the file was changed",
+    ),
+    (
+        Act::Load,
+        b"fbloom\02",
+        SLOW,
+        ROOMY,
+        b"",
+        b"odd: it holds no filter: a version of the file that isn't known",
+    ),
     (Act::Put, b"", WHOLE, NARROW, A, b""),
     (
         Act::Put,
@@ -132,7 +183,7 @@ const ACTS: [(Act, &[u8], Reading, Writing, &[u8], &[u8]); 18] = [
         WHOLE,
         FULL,
         b"fbl",
-        b"the filter can't be written: no storage space",
+        b"the filter can't be written: no space is left",
     ),
     (
         Act::Put,
@@ -157,7 +208,7 @@ const ACTS: [(Act, &[u8], Reading, Writing, &[u8], &[u8]); 18] = [
         WHOLE,
         FULL,
         b"{\"b",
-        b"the filter can't be written: no storage space",
+        b"the filter can't be written: no space is left",
     ),
     (
         Act::PutText,
@@ -165,7 +216,7 @@ const ACTS: [(Act, &[u8], Reading, Writing, &[u8], &[u8]); 18] = [
         WHOLE,
         STUCK,
         b"{\"b",
-        b"the filter can't be written: failed to write whole buffer",
+        b"the filter can't be written: write zero",
     ),
     (
         Act::PutText,

@@ -9,10 +9,11 @@ use Rattle.bloom_parts.specs.Content.{bit_is_on}
 use Rattle.bloom_parts.specs.Made.{FoundByOr, made-in_turn}
 use Rattle.bloom_parts.specs.Places.{place}
 use Rattle.bloom_steps.specs.Scripts.{Any, answer_of_end}
-use Rattle.fastbloom.specs.Shared.{SharedFilter, IsMade, MakesInsert, WasInserted, QueuesInsert}
+use Rattle.bloom_steps.specs.LiveSteps.{IsMade}
+use Rattle.fastbloom.specs.Shared.{SharedFilter, MakesInsert, WasInserted, QueuesInsert}
 use Rattle.fastbloom.proofs.SharedFacts.{insert-turns-on-each}
 use Rattle.fastbloom.proofs.ScriptLemmas.{member}
-use Rattle.fastbloom.proofs.SharedLemmas.{last-of, made-at}
+use Rattle.bloom_steps.proofs.LiveLemmas.{last-of, made-at}
 
 -- one step of an insert turned on this place, and found it on or off
 abbrev TurnsOn : {S : Type 0} → SharedFilter S → ℕ → Bool → Type 0

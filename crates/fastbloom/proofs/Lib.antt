@@ -10,13 +10,11 @@ mod LiveStoreFacts
 mod LoadedFacts
 mod MadeFacts
 mod OnesFacts
-mod OnesLemmas
 mod ReadingLemmas
 mod ScriptLemmas
 mod SeatedStepFacts
 mod SharedFacts
 mod SharedFormFacts
-mod SharedLemmas
 mod TakenLemmas
 mod TogetherLemmas
 mod TurnFacts

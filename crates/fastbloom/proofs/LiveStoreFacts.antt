@@ -3,7 +3,8 @@
 use Rattle.std.proofs.Common.{◌≡◌, ℕ, [], ◌∷◌, ap, arith, refl}
 use Rattle.bloom_parts.specs.Made.{SharedWords, FoundByLoad, FoundBySwap, InTurn}
 use Rattle.bloom_steps.specs.declared.steps.vocabulary.Step.TheVariants.{Load, Or, And, Zero, Other, Take}
-use Rattle.fastbloom.specs.LiveStore.{Lent, MakesStep, Keeping, kept_after, KeepsStep}
+use Rattle.bloom_steps.specs.LiveSteps.{Lent, MakesStep}
+use Rattle.fastbloom.specs.LiveStore.{Keeping, kept_after, KeepsStep}
 
 -- a vector of one word, under a name
 abbrev vector : ℕ → SharedWords

@@ -3,7 +3,8 @@
 use Rattle.std.proofs.Common.{◌≡◌, ℕ, List, [], ◌∷◌, Some, refl, slice_get, sym, subst, arith}
 use Rattle.std.proofs.lemmas.Option.{same_Some}
 use Rattle.bloom_parts.specs.Made.{BeganWith, FoundByLoad}
-use Rattle.fastbloom.specs.Shared.{WereLoaded, BeganAsLoaded}
+use Rattle.bloom_steps.specs.Loaded.{WereLoaded}
+use Rattle.fastbloom.specs.Shared.{BeganAsLoaded}
 use Rattle.fastbloom.proofs.SharedFacts.{filter}
 
 -- the words of a vector of one word

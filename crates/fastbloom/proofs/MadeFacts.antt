@@ -2,7 +2,7 @@
 use Rattle.std.proofs.Common.{◌≡◌, ◌↔◌, ℕ}
 use Rattle.bloom_parts.specs.Made.{SharedWords, FoundByLoad, FoundByOr, FoundByAnd, MadeZero, FoundBySwap, InTurn}
 use Rattle.bloom_steps.specs.declared.steps.vocabulary.Step.TheVariants.{Load, Or, And, Zero, Other, Take}
-use Rattle.fastbloom.specs.Shared.{IsMade}
+use Rattle.bloom_steps.specs.LiveSteps.{IsMade}
 
 module _ (words other : SharedWords) (before i mask found after : ℕ) where
   -- a load reads the filter's own word

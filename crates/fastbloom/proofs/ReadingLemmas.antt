@@ -5,7 +5,8 @@ use Rattle.std.specs.Iterator.{Yields}
 use Rattle.std.specs.Iterator.Runs.{Run, YieldsRun}
 use Rattle.bloom_parts.specs.Made.{FoundByLoad, SharedWords}
 use Rattle.bloom_parts.specs.Reading.{Reading, ReadsNext}
-use Rattle.fastbloom.specs.Shared.{SharedFilter, WereLoaded}
+use Rattle.bloom_steps.specs.Loaded.{WereLoaded}
+use Rattle.fastbloom.specs.Shared.{SharedFilter}
 
 -- a reading after some words: it stays on its vector, has gone on by as many words, and isn't past
 -- the last

@@ -9,9 +9,10 @@ use Rattle.bloom_steps.specs.declared.steps.vocabulary.Call.TheVariants.{Insert,
 use Rattle.bloom_steps.specs.declared.steps.vocabulary.End.TheVariants.{Answer}
 use Rattle.bloom_steps.specs.Scripts.{Taken, Each}
 use Rattle.bloom_plain.specs.Filter.{Filter}
-use Rattle.fastbloom.specs.Shared.{SharedFilter, HaveSameShape, HasFormOf, IsMade, MakesCall, MakesInsert, WereFoundAlike, WereFoundToDiffer}
+use Rattle.bloom_steps.specs.LiveSteps.{IsMade}
+use Rattle.fastbloom.specs.Shared.{SharedFilter, HaveSameShape, HasFormOf, MakesCall, MakesInsert, WereFoundAlike, WereFoundToDiffer}
 use Rattle.fastbloom.proofs.ScriptLemmas.{member}
-use Rattle.fastbloom.proofs.SharedLemmas.{insert-answers, made-at, silent}
+use Rattle.bloom_steps.proofs.LiveLemmas.{insert-answers, made-at, silent}
 
 -- a filter with this number of words and of hashes, under any name, whose hasher is a number
 abbrev pub filter : ℕ → ℕ → ℕ → SharedFilter ℕ

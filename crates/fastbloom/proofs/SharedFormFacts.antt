@@ -8,10 +8,11 @@ use Rattle.bloom_plain.specs.Builders.{RateStart, words_for, empty_start, sized_
 use Rattle.bloom_steps.specs.declared.steps.vocabulary.Step.TheVariants.{Take}
 use Rattle.bloom_steps.specs.declared.steps.vocabulary.End.TheVariants.{Done}
 use Rattle.bloom_steps.specs.Scripts.{Taken}
-use Rattle.fastbloom.specs.Shared.{SharedFilter, HasFormFor, IsMade, MakesInsert, MakesInserts, TakesWords}
+use Rattle.bloom_steps.specs.LiveSteps.{IsMade}
+use Rattle.fastbloom.specs.Shared.{SharedFilter, HasFormFor, MakesInsert, MakesInserts, TakesWords}
 use Rattle.fastbloom.proofs.SharedFacts.{filter, only}
 use Rattle.fastbloom.proofs.ScriptLemmas.{member}
-use Rattle.fastbloom.proofs.SharedLemmas.{made-at}
+use Rattle.bloom_steps.proofs.LiveLemmas.{made-at}
 use Rattle.fastbloom.proofs.TakenLemmas.{taken-count}
 
 -- a builder of the rate one half, whose hasher is the number 7
@@ -133,11 +134,11 @@ takes-one name turn next made = record {
 
 -- no fewer words are taken than there are
 takes-fewer : (name : ℕ) → TakesWords (filter name 1 1) [] → ⊥
-takes-fewer name takes = let count = taken-count _ _ takes in omega (arith, count)
+takes-fewer name takes = let count = taken-count _ _ _ takes in omega (arith, count)
 
 -- no more words are taken than there are
 takes-more : (name : ℕ) → TakesWords (filter name 1 1) (5 ∷ 6 ∷ []) → ⊥
-takes-more name takes = let count = taken-count _ _ takes in omega (arith, count)
+takes-more name takes = let count = taken-count _ _ _ takes in omega (arith, count)
 
 -- each word taken was found by a swap of the word of its index
 takes-each : {S : Type 0} (f : SharedFilter S) (words : List ℕ) → TakesWords f words

@@ -5,10 +5,10 @@ use Rattle.std.proofs.lemmas.List.{append_assoc, length-map, length-set, take_mo
 use Rattle.bloom_parts.specs.Made.{SharedWords}
 use Rattle.bloom_steps.specs.declared.steps.vocabulary.Step.TheVariants.{Take}
 use Rattle.bloom_steps.specs.declared.steps.vocabulary.Call.TheVariants as call
-use Rattle.bloom_steps.specs.Scripts.{Drives, Linked, Taken}
-use Rattle.fastbloom.specs.LiveStore.{Keeping, KeepsStep, MakesStep, kept_after}
-use Rattle.fastbloom.specs.Shared.{SharedFilter, TakesWords}
-use Rattle.fastbloom.proofs.SharedLemmas.{script-in, silent, steps-made}
+use Rattle.bloom_steps.specs.Scripts.{Drives, IsScript, Linked, Taken}
+use Rattle.bloom_steps.specs.LiveSteps.{MakesStep, TakesWordsOf}
+use Rattle.fastbloom.specs.LiveStore.{Keeping, KeepsStep, kept_after}
+use Rattle.bloom_steps.proofs.LiveLemmas.{silent, steps-made}
 
 -- what was found, in order
 abbrev founds : List Taken → List ℕ
@@ -48,23 +48,24 @@ linked-kept from (t ∷ ts) before after linked size steps =
     (take_more_set before.kept from t.found (omega (arith, size)))
     ∙ append_assoc (take from before.kept) (t.found ∷ []) (founds ts)
 
--- a store that keeps, driven through a take, has kept the words of the filter that it lends
-pub drives-take : {S : Type 0} (f : SharedFilter S) (reply : Option Bool) (before after : Keeping)
-    → before.lent.words ≡ f.words → before.lent.other ≡ f.words
-    → length before.kept ≡ f.words.count
-    → Drives KeepsStep before.lent.words.count f.hashes call.Take before after reply
-    → TakesWords f after.kept
-drives-take f reply before after words others size drives =
-    let same = ap (λ (v : SharedWords). v.count) words in
+-- a store that keeps, driven through a take, has kept the words of the vector that it lends
+pub drives-take : (words : SharedWords) (hashes : ℕ) (reply : Option Bool) (before after : Keeping)
+    → before.lent.words ≡ words → before.lent.other ≡ words → length before.kept ≡ words.count
+    → Drives KeepsStep before.lent.words.count hashes call.Take before after reply
+    → TakesWordsOf words hashes after.kept
+drives-take words hashes reply before after is_words is_other size drives =
+    let same = ap (λ (v : SharedWords). v.count) is_words in
     let count = drives.script.count in
     let lent = linked-lent drives.taken before after drives.linked in
     record {
       made = record {
         taken = drives.taken;
-        script = script-in f call.Take before.lent drives.taken words drives.script;
+        script =
+            subst (λ (v : SharedWords). IsScript v.count hashes call.Take drives.taken) is_words
+            drives.script;
         first = before.lent.turn;
         last = after.lent.turn;
-        made = steps-made f.words f.words drives.taken before.lent after.lent words others lent;
+        made = steps-made words words drives.taken before.lent after.lent is_words is_other lent;
         answers = sym (silent drives.taken drives.script.last);
       };
       found =
@@ -73,9 +74,9 @@ drives-take f reply before after words others size drives =
           (λ i t got. subst (λ n. t.step ≡ Take n) (omega arith) (drives.script.steps i t got));
     }
 
--- a take gives as many words as the filter has
-pub taken-count : {S : Type 0} (f : SharedFilter S) (words : List ℕ) → TakesWords f words
-    → length words ≡ f.words.count
-taken-count f words takes =
+-- a take gives as many words as the vector has
+pub taken-count : (vector : SharedWords) (hashes : ℕ) (words : List ℕ)
+    → TakesWordsOf vector hashes words → length words ≡ vector.count
+taken-count vector hashes words takes =
     ap length takes.found ∙ length-map takes.made.taken (λ (t : Taken). t.found)
     ∙ takes.made.script.count

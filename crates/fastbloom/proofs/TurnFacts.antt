@@ -8,7 +8,8 @@ use Rattle.bloom_steps.specs.declared.steps.vocabulary.Step.TheVariants.{Load}
 use Rattle.bloom_steps.specs.declared.steps.vocabulary.End.TheVariants.{Running}
 use Rattle.bloom_steps.specs.Scripts.{Taken, Each, Linked}
 use Rattle.bloom_steps.specs.Steps.{or_at}
-use Rattle.fastbloom.specs.Shared.{SharedFilter, IsMade, MakesInsert}
+use Rattle.bloom_steps.specs.LiveSteps.{IsMade}
+use Rattle.fastbloom.specs.Shared.{SharedFilter, MakesInsert}
 use Rattle.fastbloom.proofs.SharedFacts.{filter}
 
 -- the words of a filter with two hashes

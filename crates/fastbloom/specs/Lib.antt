@@ -22,6 +22,8 @@ pub use Rattle.bloom_seated.specs.SeatedLaws
 pub use Rattle.bloom_seated.specs.Sets
 pub use Rattle.bloom_steps.specs.Courses
 pub use Rattle.bloom_steps.specs.Interleavings
+pub use Rattle.bloom_steps.specs.LiveSteps
+pub use Rattle.bloom_steps.specs.Loaded
 pub use Rattle.bloom_steps.specs.Machines
 pub use Rattle.bloom_steps.specs.Memories
 pub use Rattle.bloom_steps.specs.Moments

@@ -1,23 +1,9 @@
--- The stores on which a call of a shared filter makes its steps: which vectors a store lends, which
--- words it keeps, and what one step of it does. A step is one atomic operation on one word
--- (`bloom_steps`). This project's own.
+-- The store on which a take of a shared filter makes its steps: which words it keeps. A step is one
+-- atomic operation on one word (`bloom_steps`). This project's own.
 use Rattle.std.specs.Prelude.{◌≡◌, ℕ, List, slice_set}
-use Rattle.bloom_parts.specs.Made.{SharedWords}
+use Rattle.bloom_steps.specs.LiveSteps.{Lent, MakesStep}
 use Rattle.bloom_steps.specs.declared.steps.vocabulary.Step.{Step}
 use Rattle.bloom_steps.specs.declared.steps.vocabulary.Step.TheVariants.{Load, Or, And, Zero, Other, Take}
-use Rattle.fastbloom.specs.Shared.{IsMade}
-
--- the vectors of a filter and of the other, and the turn of the next step
-pub record Lent : Type 0 where
-  pub words : SharedWords
-  pub other : SharedWords
-  pub turn : ℕ
-
--- a step was made in its turn on the lent vectors, and the store lends the same ones afterwards
-abbrev pub MakesStep : Lent → Step → ℕ → Lent → Type 0
-MakesStep before step found after =
-    IsMade before.words before.other before.turn step found after.turn
-    × (after.words ≡ before.words) × (after.other ≡ before.other)
 
 -- what is lent, and the words that were taken out so far
 pub record Keeping : Type 0 where

@@ -1,17 +1,14 @@
 -- What contracts see of a filter that threads share, and which steps its calls make. Contracts
--- don't see its words, since any thread may change them at any time. A step is one atomic operation
--- on one word, and a script is a list of steps, each with what it found, that a call may make
--- (`bloom_steps`). These definitions are this project's own.
-use Rattle.std.specs.Prelude.{◌≡◌, ◌≢◌, ℕ, ◌<◌, Bool, List, [], ◌∷◌, ◌++◌, length, map, slice_get, All, Option, Some, None}
-use Rattle.bloom_parts.specs.Made.{SharedWords, BeganWith, FoundByLoad, FoundByOr, FoundByAnd, MadeZero, FoundBySwap, InTurn}
+-- don't see its words, since any thread may change them at any time. Which steps make up a call is
+-- said once for all vectors (`bloom_steps`). These definitions are this project's own.
+use Rattle.std.specs.Prelude.{◌≡◌, ◌≢◌, ℕ, ◌<◌, Bool, List, [], ◌∷◌, ◌++◌, length, map, All, Option, Some}
+use Rattle.bloom_parts.specs.Made.{SharedWords, BeganWith, FoundByLoad}
 use Rattle.bloom_plain.specs.Builders.{RateStart, IsSizeOf, sized_filter, empty_start}
 use Rattle.bloom_plain.specs.Filter.{Filter}
-use Rattle.bloom_steps.specs.declared.steps.vocabulary.Step.{Step}
-use Rattle.bloom_steps.specs.declared.steps.vocabulary.Step.TheVariants.{Load, Or, And, Zero, Other, Take}
 use Rattle.bloom_steps.specs.declared.steps.vocabulary.Call.{Call}
 use Rattle.bloom_steps.specs.declared.steps.vocabulary.Call.TheVariants.{Insert}
-use Rattle.bloom_steps.specs.declared.steps.vocabulary.Call.TheVariants as call
-use Rattle.bloom_steps.specs.Scripts.{Taken, Linked, IsScript, answer_of}
+use Rattle.bloom_steps.specs.LiveSteps.{MakesCallOn, TakesWordsOf}
+use Rattle.bloom_steps.specs.Loaded.{WereLoaded}
 
 -- the vector of the words, the number of hashes, and the hasher
 pub record SharedFilter (S : Type 0) : Type 0 where
@@ -38,29 +35,10 @@ HasFormFor start items f =
     (bits : ℕ) × IsSizeOf start items bits
     × HasFormOf f (sized_filter (empty_start start bits) items)
 
--- from one turn to the other a step was made on a vector, or on the other vector where it reads the
--- other's word, and this is what it found
-abbrev pub IsMade : SharedWords → SharedWords → ℕ → Step → ℕ → ℕ → Type 0
-IsMade words other before (Load i) found after = InTurn (FoundByLoad words i found) before after
-IsMade words other before (Or i mask) found after =
-    InTurn (FoundByOr words i mask found) before after
-IsMade words other before (And i mask) found after =
-    InTurn (FoundByAnd words i mask found) before after
-IsMade words other before (Zero i) found after =
-    InTurn (MadeZero words i) before after × (found ≡ 0)
-IsMade words other before (Other i) found after = InTurn (FoundByLoad other i found) before after
-IsMade words other before (Take i) found after = InTurn (FoundBySwap words i found) before after
-
 -- a call was made: every step of one of its scripts was made on the words of a filter, from turn to
 -- turn, so each by itself and in order, and the reply is the script's answer
-pub record MakesCall {S : Type 0} (f other : SharedFilter S) (call : Call) (reply : Option Bool)
-    : Type 0 where
-  pub taken : List Taken
-  pub script : IsScript f.words.count f.hashes call taken
-  pub first : ℕ
-  pub last : ℕ
-  pub made : Linked (IsMade f.words other.words) first taken last
-  pub answers : reply ≡ answer_of taken
+abbrev pub MakesCall : {S : Type 0} → SharedFilter S → SharedFilter S → Call → Option Bool → Type 0
+MakesCall f other call reply = MakesCallOn f.words other.words f.hashes call reply
 
 -- a hash was inserted, and this was the reply
 abbrev pub MakesInsert : {S : Type 0} → SharedFilter S → ℕ → Bool → Type 0
@@ -84,15 +62,8 @@ MakesInserts hash_of f items =
     All (λ hash. (reply : Bool) × MakesInsert f hash reply) (map (hash_of f.hasher) items)
 
 -- the words of a filter were taken out: they are what the steps of a take found, in order
-pub record TakesWords {S : Type 0} (f : SharedFilter S) (words : List ℕ) : Type 0 where
-  pub made : MakesCall f f call.Take None
-  pub found : words ≡ map (λ t. t.found) made.taken
-
--- the words of a vector as they were loaded: a load of each index found the word at that index
-pub record WereLoaded (vector : SharedWords) (words : List ℕ) : Type 0 where
-  pub count : length words ≡ vector.count
-  pub each : (i : ℕ) → i < vector.count
-      → (found : ℕ) × FoundByLoad vector i found × (slice_get words i ≡ Some found)
+abbrev pub TakesWords : {S : Type 0} → SharedFilter S → List ℕ → Type 0
+TakesWords f words = TakesWordsOf f.words f.hashes words
 
 -- a vector began with words that were loaded of another, one load for each index
 abbrev pub BeganAsLoaded : SharedWords → SharedWords → Type 0

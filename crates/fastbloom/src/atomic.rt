@@ -8,6 +8,7 @@ mod items;
 mod keeping_store;
 mod live_store;
 mod ones;
+mod rates;
 mod sets;
 mod together;
 mod words;

@@ -8,3 +8,5 @@ mod NoWordLemmas
 mod PieceFacts
 mod PlanFacts
 mod RateFacts
+mod SharedFacts
+mod SharedLemmas

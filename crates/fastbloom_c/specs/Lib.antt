@@ -3,3 +3,4 @@ pub mod Files
 pub mod Many
 pub mod Plans
 pub mod Rates
+pub mod Shared

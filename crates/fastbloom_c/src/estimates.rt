@@ -9,7 +9,7 @@ use bloom_parts::math::{Bracket, Estimate, estimated_common, estimated_items, es
 use bloom_parts::slices;
 
 // Whether there are words, and at most 2^58 - 1.
-fn are_words(words: &[u64]) -> bool
+pub(crate) fn are_words(words: &[u64]) -> bool
     ensures { IsTrue result ↔ ((1 ≤ length words.now) × (length words.now < 2 ^ 58)) }
 {
     !words.is_empty() && words.len() <= MAX_WORDS

@@ -5,6 +5,7 @@
 //! answers false for them. `include/fastbloom.h` says what C must keep, since nothing checks it.
 #![tactic(auto)]
 
+pub mod counted_rates;
 pub mod estimates;
 pub mod files;
 pub mod hashes;
@@ -12,5 +13,8 @@ pub mod many;
 pub mod pieces;
 pub mod plans;
 pub mod rates;
+pub mod shared;
+pub mod shared_many;
+pub mod shared_whole;
 pub mod texts;
 pub mod whole;

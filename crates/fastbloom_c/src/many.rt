@@ -19,7 +19,7 @@ fn mask_where(on: bool, position: usize) -> u64
 
 // Turns a position on where this is to be. It doesn't branch, since no processor foresees it.
 #[inline(always)]
-fn turn_on_where(on: bool, bits: &mut [u64], position: usize)
+pub(crate) fn turn_on_where(on: bool, bits: &mut [u64], position: usize)
     requires { position < 64 * length bits.old }
     ensures content { (p : ℕ) → content bits.new p ≡ (content bits.old p || (p == position && on)) }
     ensures shape { length bits.new ≡ length bits.old }
@@ -62,7 +62,7 @@ fn find_together(words: &[u64], num_hashes: u32, hashes: &[u64], found: &mut [u6
 }
 
 // Whether there are words, and bits enough for these hashes.
-fn have_room(words: usize, hashes: usize, bits: usize) -> bool
+pub(crate) fn have_room(words: usize, hashes: usize, bits: usize) -> bool
     ensures { IsTrue result ↔ ((1 ≤ words) × (hashes ≤ 64 * bits)) }
 {
     words > 0 && hashes.div_ceil(64) <= bits

@@ -1,1 +1,5 @@
+mod CopyFacts
+mod CopyLemmas
+mod LeftFacts
+mod LeftLemmas
 mod StatusFacts

@@ -3,7 +3,6 @@ use Rattle.std.proofs.Common.{◌≡◌, refl}
 use Rattle.std.specs.declared.io.ErrorKind.{ErrorKind}
 use Rattle.sqlite.specs.declared.error.Error.{Error}
 use Rattle.bloom_parts.specs.declared.error.FilterError.TheVariants.{Memory, SizeOverflow, Worker}
-use Rattle.guard.specs.declared.filter_file.FilterFault.{FilterFault}
 use Rattle.guard.specs.declared.store_file.StoreFault.TheVariants.{Sql, Failed, NoMemory, Locked, Unfit}
 use Rattle.guard.specs.Statuses.{status_after, status_for, status_of_lack, status_of_why, status_without}
 use Rattle.guard_engine.specs.declared.commands.Trouble.TheVariants as troubles
@@ -11,6 +10,8 @@ use Rattle.guard_engine.specs.declared.guard.Fault.TheVariants as faults
 use Rattle.guard_engine.specs.declared.guard.Refusal.TheVariants.{Store, Filter}
 use Rattle.guard_engine.specs.declared.guard.loads.Why.TheVariants as why
 use Rattle.guard_engine.specs.declared.line.BadLine.{BadLine}
+use Rattle.guard_parts.specs.declared.filter_file.FilterFault.{FilterFault}
+use Rattle.guard_parts.specs.declared.host_folder.HostFault.{HostFault}
 use Rattle.guard_store.specs.declared.entry_table.Unfit.TheVariants.{Schema}
 
 -- another process has the store open
@@ -36,7 +37,8 @@ large-memory : status_of_lack SizeOverflow ≡ status_of_lack Memory → ⊥
 large-memory is = cc
 
 -- a store or an input fails, or a filter can't be saved
-failed : (error : Error) (kind : ErrorKind) (fault : FilterFault) → (status_for (Failed error) ≡ 4)
+failed : (error : Error) (kind : ErrorKind) (fault : FilterFault HostFault)
+    → (status_for (Failed error) ≡ 4)
     × (status_without (Store (Failed error)) ≡ 4) × (status_of_why (why.Input kind) ≡ 4)
     × (status_of_why (why.Kept fault) ≡ 4) × (status_after (troubles.Put (faults.Kept fault)) ≡ 4)
 failed error kind fault = (refl, refl, refl, refl, refl)

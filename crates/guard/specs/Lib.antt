@@ -1,2 +1,4 @@
+pub mod Copies
+pub mod Laws
+pub mod Left
 pub mod Statuses
-pub mod Trusted

@@ -4,7 +4,6 @@
 use Rattle.std.specs.Prelude.{ℕ}
 use Rattle.bloom_parts.specs.declared.error.FilterError.{FilterError}
 use Rattle.bloom_parts.specs.declared.error.FilterError.TheVariants.{ZeroBits, EmptyWords, TooManyWords, ZeroRate, SizeOverflow, Memory, HashCount, Worker}
-use Rattle.guard.specs.declared.filter_file.FilterFault.{FilterFault}
 use Rattle.guard.specs.declared.store_file.StoreFault.{StoreFault}
 use Rattle.guard.specs.declared.store_file.StoreFault.TheVariants.{Sql, Failed, NoMemory, Locked, Unfit}
 use Rattle.guard_engine.specs.declared.commands.Trouble.{Trouble}
@@ -14,6 +13,8 @@ use Rattle.guard_engine.specs.declared.guard.Refusal.{Refusal}
 use Rattle.guard_engine.specs.declared.guard.Refusal.TheVariants as refusals
 use Rattle.guard_engine.specs.declared.guard.loads.Why.{Why}
 use Rattle.guard_engine.specs.declared.guard.loads.Why.TheVariants as why
+use Rattle.guard_parts.specs.declared.filter_file.FilterFault.{FilterFault}
+use Rattle.guard_parts.specs.declared.host_folder.HostFault.{HostFault}
 
 -- where the store failed
 abbrev pub status_for : StoreFault → ℕ
@@ -24,7 +25,7 @@ status_for Locked = 6
 status_for (Unfit reason) = 2
 
 -- where lines weren't taken to their end
-abbrev pub status_of_why : Why StoreFault FilterFault → ℕ
+abbrev pub status_of_why : Why StoreFault (FilterFault HostFault) → ℕ
 status_of_why (why.Line bad) = 2
 status_of_why (why.Input kind) = 4
 status_of_why why.Memory = 3
@@ -32,7 +33,7 @@ status_of_why (why.Store fault) = status_for fault
 status_of_why (why.Kept fault) = 4
 
 -- where a task wasn't carried out to its end
-abbrev pub status_after : Trouble StoreFault FilterFault → ℕ
+abbrev pub status_after : Trouble StoreFault (FilterFault HostFault) → ℕ
 status_after (troubles.Put (faults.Store fault)) = status_for fault
 status_after (troubles.Put (faults.Kept fault)) = 4
 status_after (troubles.Key fault) = status_for fault

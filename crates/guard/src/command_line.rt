@@ -44,6 +44,8 @@ pub struct Options<'a> {
     pub store: &'a str,
     /// The share of absent keys that may be looked up in the store for nothing.
     pub rate: Rate,
+    /// How many seconds to wait while another process has the store open.
+    pub wait: u64,
     pub request: Request<'a>,
 }
 
@@ -66,6 +68,11 @@ const PROGRAM: &'static [Row] = &[
         "The share of absent keys that may be looked up in the store for nothing",
     ),
     (
+        "wait",
+        Kind::Option("SECONDS", "5", ValueParser::Unsigned(0, 1_000_000_000)),
+        "How long to wait while another process has the store open",
+    ),
+    (
         "STORE",
         Kind::Word,
         "A SQLite file, which put and load make where there is none",
@@ -86,7 +93,7 @@ const LOAD: &'static [Row] = &[
     (
         "FILE",
         Kind::Word,
-        "Each line has a key, a tab, and a value",
+        "Each line has a key, a tab, and a value; - is standard input",
     ),
 ];
 
@@ -222,10 +229,12 @@ pub fn arguments<'a>(alloc: Global, words: &'a [String]) -> Result<Options<'a>, 
         Some(text) => rate_of(text),
         None => None,
     };
-    match (matches.get_str("STORE"), rate, request_of(&matches)) {
-        (Some(store), Some(rate), Some(request)) => Ok(Options {
+    let wait = matches.get_one::<u64>("wait");
+    match (matches.get_str("STORE"), rate, wait, request_of(&matches)) {
+        (Some(store), Some(rate), Some(wait), Some(request)) => Ok(Options {
             store,
             rate,
+            wait,
             request,
         }),
         _ => {

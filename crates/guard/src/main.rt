@@ -3,25 +3,60 @@
 
 mod command_line;
 mod connections;
+mod copies;
 mod filter_file;
 mod guards;
 mod input_file;
+mod left;
+mod locks;
 mod medium;
 mod names;
+mod readings;
 mod sessions;
 mod store_file;
 mod tasks;
 mod telling;
 
-use command_line::arguments;
+use command_line::{Options, arguments};
 use connections::OnDisk;
+use copies::{Copied, is_copied};
+use guard_parts::Unknown;
+use names::Names;
+use readings::Reading;
+use sessions::{names_of, reading_of};
 use std::process::ExitCode;
 use telling::{BAD, DONE, FAILED, NO_MEMORY};
+
+// Does what is asked for with the files themselves.
+//
+// A function at the types of one connection alone: one at those of both takes too long to prove.
+fn on_disk(rt: &HostRuntime, names: &Names, options: Options) -> u8 {
+    sessions::run::<OnDisk>(rt, names, Unknown, options)
+}
+
+// Reads what is asked for of a copy of the files.
+fn on_copy(rt: &HostRuntime, names: &Names, options: Options, reading: Reading) -> u8 {
+    sessions::read::<Copied>(rt, names, Unknown, options, reading)
+}
+
+// Does what is asked for. What changes nothing reads a copy of the files, where one is made.
+fn serve(rt: &HostRuntime, options: Options) -> u8 {
+    let names = match names_of(rt, options) {
+        Ok(names) => names,
+        Err(status) => return status,
+    };
+    if let Some(reading) = reading_of(options.request) {
+        if is_copied(rt, &names) {
+            return on_copy(rt, &names, options, reading);
+        }
+    }
+    on_disk(rt, &names, options)
+}
 
 // What the words ask for is done; the status.
 fn run(rt: &HostRuntime, words: &[String]) -> u8 {
     match arguments(rt.alloc(), words) {
-        Ok(options) => sessions::run::<OnDisk>(rt, options),
+        Ok(options) => serve(rt, options),
         Err(error) => {
             let is_printed = error.print(rt).is_ok();
             if error.use_stderr() {

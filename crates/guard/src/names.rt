@@ -8,6 +8,10 @@ pub struct Names {
     pub store: String,
     /// The log of the store.
     pub log: String,
+    /// What SQLite's own program keeps beside a store while it is connected to it.
+    pub shared: String,
+    /// The journal of a store that was left half changed.
+    pub journal: String,
     pub filter: String,
     /// The filter while it is written.
     pub new_filter: String,
@@ -39,6 +43,8 @@ impl Names {
         Ok(Names {
             store: format!(in alloc; "{store}")?,
             log: format!(in alloc; "{store}-wal")?,
+            shared: format!(in alloc; "{store}-shm")?,
+            journal: format!(in alloc; "{store}-journal")?,
             filter: format!(in alloc; "{store}.filter")?,
             new_filter: format!(in alloc; "{store}.filter.new")?,
             folder: format!(in alloc; "{}", folder_of(store))?,

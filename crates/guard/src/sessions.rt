@@ -3,13 +3,15 @@ ghost use Rattle.std.specs.Prelude.{◌≡◌, ◌≢◌};
 
 use crate::command_line::{Load, Options, Request};
 use crate::connections::Connector;
-use crate::guards::{Reader, Writer};
+use crate::guards::Writer;
 use crate::input_file::open_input;
-use crate::medium::{Files, Medium, StoreFile};
+use crate::medium::{Files, Medium};
 use crate::names::Names;
-use crate::telling::{DONE, FAILED, Input, NO, NO_MEMORY, tell, tell_refusal, tell_store};
+use crate::readings::{Reading, open_reader, read_in};
+use crate::telling::{
+    DONE, FAILED, Input, NO, NO_INPUT, NO_MEMORY, tell, tell_refusal, tell_store,
+};
 use crate::{guards, tasks};
-use bloom_plain::Rate;
 use guard_engine::Task;
 use lines::Reason;
 use std::io::ErrorKind;
@@ -29,39 +31,21 @@ fn status_of_read(kind: ErrorKind) -> u8
     }
 }
 
-// Opens the filter of a store that is there. Where it is made anew, that is told.
-fn open_reader<'a, M: Medium>(
-    rt: &'a HostRuntime,
-    names: &'a Names,
-    rate: Rate,
-) -> Result<Reader<'a, StoreFile<'a, M>>, u8> {
-    if !names.has_store(rt) {
-        tell(rt, names.store.as_str(), "there is no such store");
-        return Err(FAILED);
-    }
-    match guards::over_file(rt, names, StoreFile::new(rt, names), rate) {
-        Ok((mut guard, origin)) => {
-            tasks::save_made(rt, names, &mut guard, origin);
-            Ok(guard)
-        }
-        Err(refusal) => Err(tell_refusal(rt, names, &refusal)),
-    }
-}
-
 // Opens a store and its filter, both of which are made where there is no store. A filter that is
 // made anew has room for this many more keys.
 fn open_writer<'a, M: Medium>(
     rt: &'a HostRuntime,
     names: &'a Names,
-    rate: Rate,
+    world: M::World,
+    options: Options,
     room: usize,
-) -> Result<Writer<'a, M::Table>, u8> {
+) -> Result<Writer<'a, M::Table, M::World>, u8> {
     let is_new = !names.has_store(rt);
-    let table = match M::over(rt, names) {
-        Ok(table) => table,
+    let (table, is_made) = match M::over(rt, names, options.wait) {
+        Ok(over) => over,
         Err(fault) => return Err(tell_store(rt, names, &fault)),
     };
-    match guards::over_table(rt, names, table, is_new, rate, room) {
+    match guards::over_table(rt, names, table, is_made, world, options.rate, room) {
         Ok((mut guard, origin)) => {
             if is_new {
                 drop(guard.save());
@@ -74,14 +58,14 @@ fn open_writer<'a, M: Medium>(
     }
 }
 
-// Closes a store after this status of its task.
+// Closes a store after this status of its task. What fails there is told where the task didn't
+// fail.
 fn close_table<M: Medium>(rt: &HostRuntime, names: &Names, table: M::Table, status: u8) -> u8 {
     match M::close(table) {
         Ok(()) => status,
         Err(fault) => {
-            let failed = tell_store(rt, names, &fault);
             if status == DONE || status == NO {
-                failed
+                tell_store(rt, names, &fault)
             } else {
                 status
             }
@@ -92,7 +76,7 @@ fn close_table<M: Medium>(rt: &HostRuntime, names: &Names, table: M::Table, stat
 fn close_writer<'a, M: Medium>(
     rt: &'a HostRuntime,
     names: &'a Names,
-    guard: Writer<'a, M::Table>,
+    guard: Writer<'a, M::Table, M::World>,
     status: u8,
 ) -> u8 {
     let (table, kept) = guard.into_parts();
@@ -100,41 +84,14 @@ fn close_writer<'a, M: Medium>(
     close_table::<M>(rt, names, table, status)
 }
 
-// A task that takes no lines.
-const NO_INPUT: Input<'static> = Input {
-    place: "",
-    is_put: false,
-};
-
-fn get<'a, M: Medium>(rt: &'a HostRuntime, names: &'a Names, rate: Rate, key: &str) -> u8 {
-    match open_reader::<M>(rt, names, rate) {
-        Ok(mut guard) => {
-            let task: Task<&[u8]> = Task::Get(key);
-            let status = tasks::serve(rt, names, &mut guard, task, NO_INPUT);
-            drop(guard);
-            status
-        }
-        Err(status) => status,
-    }
-}
-
-fn stats<'a, M: Medium>(rt: &'a HostRuntime, names: &'a Names, rate: Rate) -> u8 {
-    let input = Input {
-        place: "standard input",
-        is_put: false,
-    };
-    match open_reader::<M>(rt, names, rate) {
-        Ok(mut guard) => {
-            let status = tasks::count(rt, names, &mut guard, &mut rt.reader(), input);
-            drop(guard);
-            status
-        }
-        Err(status) => status,
-    }
-}
-
-fn delete<'a, M: Medium>(rt: &'a HostRuntime, names: &'a Names, rate: Rate, key: &str) -> u8 {
-    let mut guard = match open_reader::<M>(rt, names, rate) {
+fn delete<'a, M: Medium>(
+    rt: &'a HostRuntime,
+    names: &'a Names,
+    world: M::World,
+    options: Options,
+    key: &str,
+) -> u8 {
+    let mut guard = match open_reader::<M>(rt, names, world, options) {
         Ok(guard) => guard,
         Err(status) => return status,
     };
@@ -151,11 +108,12 @@ fn delete<'a, M: Medium>(rt: &'a HostRuntime, names: &'a Names, rate: Rate, key:
 fn put<'a, M: Medium>(
     rt: &'a HostRuntime,
     names: &'a Names,
-    rate: Rate,
+    world: M::World,
+    options: Options,
     key: &str,
     value: &str,
 ) -> u8 {
-    match open_writer::<M>(rt, names, rate, PUT_ROOM) {
+    match open_writer::<M>(rt, names, world, options, PUT_ROOM) {
         Ok(mut guard) => {
             let task: Task<&[u8]> = Task::Put(key, value);
             let status = tasks::serve(rt, names, &mut guard, task, NO_INPUT);
@@ -165,7 +123,42 @@ fn put<'a, M: Medium>(
     }
 }
 
-fn load<'a, M: Medium>(rt: &'a HostRuntime, names: &'a Names, rate: Rate, load: Load) -> u8 {
+// The place of lines that are to be put.
+fn input_of<'a>(place: &'a str) -> Input<'a> {
+    Input {
+        place,
+        is_put: true,
+    }
+}
+
+// Puts the lines of standard input.
+fn load_input<'a, M: Medium>(
+    rt: &'a HostRuntime,
+    names: &'a Names,
+    world: M::World,
+    options: Options,
+    load: Load,
+) -> u8 {
+    match open_writer::<M>(rt, names, world, options, load.items as usize) {
+        Ok(mut guard) => {
+            let input = input_of("standard input");
+            let status = tasks::fill(rt, names, &mut guard, &mut rt.reader(), load.batch, input);
+            close_writer::<M>(rt, names, guard, status)
+        }
+        Err(status) => status,
+    }
+}
+
+fn load<'a, M: Medium>(
+    rt: &'a HostRuntime,
+    names: &'a Names,
+    world: M::World,
+    options: Options,
+    load: Load,
+) -> u8 {
+    if load.file == "-" {
+        return load_input::<M>(rt, names, world, options, load);
+    }
     let (file, lines) = match open_input(rt, load.file, load.items) {
         Ok(input) => input,
         Err(error) => {
@@ -177,61 +170,68 @@ fn load<'a, M: Medium>(rt: &'a HostRuntime, names: &'a Names, rate: Rate, load: 
             return status_of_read(error.kind());
         }
     };
-    let input = Input {
-        place: load.file,
-        is_put: true,
-    };
-    match open_writer::<M>(rt, names, rate, lines as usize) {
+    match open_writer::<M>(rt, names, world, options, lines as usize) {
         Ok(mut guard) => {
             let task = Task::Load(file, load.batch);
-            let status = tasks::serve(rt, names, &mut guard, task, input);
+            let status = tasks::serve(rt, names, &mut guard, task, input_of(load.file));
             close_writer::<M>(rt, names, guard, status)
         }
         Err(status) => status,
     }
 }
 
-fn list<M: Medium>(rt: &HostRuntime, names: &Names) -> u8 {
-    if !names.has_store(rt) {
-        tell(rt, names.store.as_str(), "there is no such store");
-        return FAILED;
-    }
-    let mut table = match M::found(rt, names) {
-        Ok(table) => table,
-        Err(fault) => return tell_store(rt, names, &fault),
-    };
-    let status = match M::entries(&mut table) {
-        Ok(entries) => tasks::print_entries(rt, names, &entries),
-        Err(fault) => tell_store(rt, names, &fault),
-    };
-    drop(table);
-    status
-}
-
-// Does what is asked for, wherever the store lies.
-fn run_in<M: Medium>(rt: &HostRuntime, options: Options) -> u8 {
-    let names = match Names::of(rt, options.store) {
-        Ok(names) => names,
+/// The names of a store's files, or the status where they can't be had.
+pub fn names_of(rt: &HostRuntime, options: Options) -> Result<Names, u8> {
+    match Names::of(rt, options.store) {
+        Ok(names) => Ok(names),
         Err(error) => {
             tell(
                 rt,
                 options.store,
                 format_args!("it can't be opened: {}", Reason(error.kind())),
             );
-            return status_of_read(error.kind());
+            Err(status_of_read(error.kind()))
         }
-    };
-    match options.request {
-        Request::Put(key, value) => put::<M>(rt, &names, options.rate, key, value),
-        Request::Get(key) => get::<M>(rt, &names, options.rate, key),
-        Request::Delete(key) => delete::<M>(rt, &names, options.rate, key),
-        Request::Load(what) => load::<M>(rt, &names, options.rate, what),
-        Request::List => list::<M>(rt, &names),
-        Request::Stats => stats::<M>(rt, &names, options.rate),
     }
 }
 
+/// What a request reads; none where it makes a change.
+pub fn reading_of(request: Request) -> Option<Reading> {
+    match request {
+        Request::Put(_, _) => None,
+        Request::Delete(_) => None,
+        Request::Load(_) => None,
+        Request::Get(key) => Some(Reading::Get(key)),
+        Request::List => Some(Reading::List),
+        Request::Stats => Some(Reading::Stats),
+    }
+}
+
+// Does what is asked for, wherever the store lies.
+fn run_in<M: Medium>(rt: &HostRuntime, names: &Names, world: M::World, options: Options) -> u8 {
+    let reading = match options.request {
+        Request::Put(key, value) => return put::<M>(rt, names, world, options, key, value),
+        Request::Delete(key) => return delete::<M>(rt, names, world, options, key),
+        Request::Load(what) => return load::<M>(rt, names, world, options, what),
+        Request::Get(key) => Reading::Get(key),
+        Request::List => Reading::List,
+        Request::Stats => Reading::Stats,
+    };
+    read_in::<M>(rt, names, world, options, reading)
+}
+
 /// Does what is asked for with a store in a file, and answers the status.
-pub fn run<C: Connector>(rt: &HostRuntime, options: Options) -> u8 {
-    run_in::<Files<C>>(rt, options)
+pub fn run<C: Connector>(rt: &HostRuntime, names: &Names, world: C::World, options: Options) -> u8 {
+    run_in::<Files<C>>(rt, names, world, options)
+}
+
+/// Reads what is asked for of a store in a file, and answers the status.
+pub fn read<C: Connector>(
+    rt: &HostRuntime,
+    names: &Names,
+    world: C::World,
+    options: Options,
+    reading: Reading,
+) -> u8 {
+    read_in::<Files<C>>(rt, names, world, options, reading)
 }

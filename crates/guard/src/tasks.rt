@@ -84,6 +84,26 @@ where
     }
 }
 
+/// Puts the lines of a reader and prints what that came to; the status.
+pub fn fill<T, K, R>(
+    rt: &HostRuntime,
+    names: &Names,
+    guard: &mut Guard<T, K>,
+    lines: &mut R,
+    batch: u64,
+    input: Input,
+) -> u8
+where
+    T: Store<Error = StoreFault> + Drop,
+    K: Kept<Error = FilterFault> + Drop,
+    R: Read,
+{
+    match guard.load(rt.alloc(), lines, batch) {
+        Ok(loaded) => print_answer(rt, &Answer::Loaded(loaded, guard.counts())),
+        Err(stop) => tell_trouble(rt, names, input, &Trouble::Lines(stop)),
+    }
+}
+
 // Whether an entry can stand on a line: its key has no tab, and neither text has a line's end.
 fn fits_line(key: &str, value: &str) -> bool {
     let (key, value) = (key.as_bytes(), value.as_bytes());

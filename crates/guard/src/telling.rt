@@ -35,6 +35,12 @@ pub struct Input<'a> {
     pub is_put: bool,
 }
 
+/// A task that takes no lines.
+pub const NO_INPUT: Input<'static> = Input {
+    place: "",
+    is_put: false,
+};
+
 /// Tells what failed at a place.
 pub fn tell<D: Display + Drop>(rt: &HostRuntime, place: &str, what: D) {
     let _ = eprintln!(rt; "guard: {place}: {what}");

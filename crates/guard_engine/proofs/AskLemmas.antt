@@ -5,14 +5,35 @@ use Rattle.std.specs.Prelude.{All}
 use Rattle.bloom_plain.specs.Data.{DefaultFilter}
 use Rattle.lines.specs.Reading.{Waiting, left_of}
 use Rattle.guard_engine.specs.declared.counts.Counts.{Counts}
+use Rattle.guard_engine.specs.declared.guard.loads.Stop.{Stop}
+use Rattle.guard_engine.specs.declared.guard.loads.Why.TheVariants.{Memory}
 use Rattle.guard_engine.specs.Batches.{IsReading, ReadsLines}
-use Rattle.guard_engine.specs.Counted.{Tallies}
-use Rattle.guard_engine.specs.Guarded.{Stays}
+use Rattle.guard_engine.specs.Counted.{Tallies, TalliesFirst}
+use Rattle.guard_engine.specs.Guarded.{Entries, Stays}
 use Rattle.guard_engine.specs.Loaded.{IsKey}
+use Rattle.guard_engine.specs.Stops.{TalliesStop}
 use Rattle.guard_engine.specs.Stores.{Sight}
 use Rattle.guard_engine.proofs.PutLinesLemmas.{Stays-same}
-use Rattle.guard_engine.proofs.ReadLemmas.{ReadsLines-new, reading-new}
+use Rattle.guard_engine.proofs.ReadLemmas.{IsReadFrom-read, ReadsLines-new, ReadsLines-nil, reading-new}
 use Rattle.guard_engine.proofs.TallyLemmas.{Tallies-none}
+
+-- what holds where the store told what it has holds where more is known
+pub TalliesFirst-told : {f : DefaultFilter} {was now : Type 0} {entries : Entries}
+    {read : Option (List ℕ)} {many : ℕ} {old new : Counts} → (now → was)
+    → TalliesFirst f was entries read many old new → TalliesFirst f now entries read many old new
+TalliesFirst-told told first = record {
+  lines = first.lines;
+  first = first.first;
+  counted = first.counted;
+  tallies = record {
+    spared = first.tallies.spared;
+    asked = first.tallies.asked;
+    alarms = first.tallies.alarms;
+    false_alarms = first.tallies.false_alarms;
+    at_most = first.tallies.at_most;
+    absent = λ is. first.tallies.absent (told is);
+  };
+}
 
 -- a line that is too long is no key
 pub no_key-long : (line : List ℕ) → 1048576 < length line → ¬ IsKey 1048576 line
@@ -58,3 +79,20 @@ asking-nil {sight = sight} {is_known = is_known} {is_kept = is_kept} {f = f} {ol
       stays = λ known kept. Stays-same (sight old).has;
       known = λ known. known;
     }
+
+-- there was no memory for the lines, and no key was looked up
+pub stop-none : {E F : Type 0} {stop : Stop E F} (f : DefaultFilter) (is_told : Type 0)
+    (entries : Entries) (read : Option (List ℕ)) {start : Counts} → start.spared < 2 ^ 64
+    → start.asked < 2 ^ 64 → start.false_alarms < 2 ^ 64
+    → stop ≡ record { why = Memory; number = 1; done = 0 }
+    → TalliesStop f is_told entries read start start stop
+stop-none f is_told entries read {start = start} spared asked alarms is = rw is (record {
+  before = start;
+  first = record {
+    lines = [];
+    first = IsReadFrom-read read read [] (ReadsLines-nil read);
+    counted = refl;
+    tallies = Tallies-none f is_told entries start spared asked alarms;
+  };
+  last = refl;
+})

@@ -17,11 +17,13 @@ use Rattle.guard_engine.specs.Batches.{ReadsLines}
 use Rattle.guard_engine.specs.Counted.{TalliesAll, TalliesFirst, one_more}
 use Rattle.guard_engine.specs.Guarded.{Lacks, Stays, key_hash}
 use Rattle.guard_engine.specs.Loaded.{IsBad, IsBadAt, IsKey}
+use Rattle.guard_engine.specs.Stops.{ComesNext, LeavesKey, TalliesStop}
 use Rattle.guard_engine.specs.Stores.{Sight}
 use Rattle.guard_engine.proofs.EntryLemmas.{Stays-after}
 use Rattle.guard_engine.proofs.ReadLemmas.{IsBadAt-after, IsBadAt-long, IsBadAt-next, IsReadFrom-read, IsReadWhole-read, ReadsLines-end, ReadsLines-more, ReadsLines-one}
+use Rattle.guard_engine.proofs.StopLemmas.{ComesNext-read}
 use Rattle.guard_engine.proofs.TallyLemmas.{Tallies-more}
-use Rattle.guard_engine.proofs.AskLemmas.{IsAsking, no_key-long}
+use Rattle.guard_engine.proofs.AskLemmas.{IsAsking, TalliesFirst-told, no_key-long}
 
 -- a look-up found a value, a false alarm, or was spared
 abbrev Came : Type 0 → Found → Found → Type 0
@@ -55,6 +57,26 @@ module _ {S L : Type 0} {sight : S → Sight} {is_known : S → Type 0} {is_kept
     counted = is ∙ so_far.numbered;
     tallies = so_far.tallies;
   }
+
+  module _ {E F : Type 0} {stop : Stop E F} {why : Why E F} {last many : ℕ}
+      (is : stop ≡ record { why = why; number = last; done = many }) (same : many ≡ number)
+      (next : last ≡ number + 1) where
+    -- it stops at the next line
+    pub asking_next : ComesNext IsKey 1048576 from stop.number
+    asking_next =
+        let at : stop.number ≡ last = ap (λ s. s.number) is in
+        ComesNext-read from (left_of reader rest) so_far.keys _ so_far.reads so_far.good
+        (at ∙ next ∙ ap (λ n. n + 1) so_far.numbered)
+
+    -- the lines before it were looked up, and it itself as the reason says
+    pub asking-stop : {now_told : Type 0} {new : Counts}
+        → (now_told → is_known mid × is_kept mid_kept) → LeavesKey why before new
+        → TalliesStop f now_told (sight old).has from start new stop
+    asking-stop {now_told = now_told} told left = rw is (record {
+      before = before;
+      first = TalliesFirst-told told (asked-first many same);
+      last = left;
+    })
 
   -- a line that is told is the next one, and is bad for that reason
   pub bad-next : {E F : Type 0} {stop : Stop E F} {why : Why E F}

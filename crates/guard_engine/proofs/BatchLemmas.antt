@@ -31,6 +31,7 @@ ReadsPart-map read turned = record {
   };
   last = read.last;
   whole = read.whole;
+  most = read.most;
   fits = read.fits;
 }
 

@@ -163,7 +163,7 @@ all-uncounted is =
     (subst (λ l. Tallies both (Unit {0}) one l (counts 0 0 0) (counts 0 0 0)) same is.tallies)
 
 -- the first three lines were looked up, each once
-first : TalliesFirst both (Unit {0}) one read 3 (counts 0 0 0) (counts 1 2 1)
+pub first : TalliesFirst both (Unit {0}) one read 3 (counts 0 0 0) (counts 1 2 1)
 first = record {
   lines = keys;
   first = record { later = []; cut = cut };
@@ -172,7 +172,7 @@ first = record {
 }
 
 -- where no line was looked up, none is counted
-first-none : TalliesFirst both (Unit {0}) one read 0 (counts 0 0 0) (counts 1 2 1) → ⊥
+pub first-none : TalliesFirst both (Unit {0}) one read 0 (counts 0 0 0) (counts 1 2 1) → ⊥
 first-none is = of is.lines is.counted is.tallies
   where
     of : (lines : List (List ℕ)) → 0 ≡ length lines

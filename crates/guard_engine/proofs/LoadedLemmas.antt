@@ -18,6 +18,8 @@ use Rattle.guard_engine.specs.Counted.{CountsPuts}
 use Rattle.guard_engine.specs.Guarding.{IsGuarding}
 use Rattle.guard_engine.specs.Stores.{Sight}
 use Rattle.guard_engine.proofs.PutCountLemmas.{CountsPuts-nil}
+use Rattle.guard_engine.specs.Fills.{FillsRead}
+use Rattle.guard_engine.proofs.FillLemmas.{Fills-nil}
 
 -- no line was loaded yet
 pub LoadsMany-nil : (entries : Entries) → LoadsMany [] entries entries 0
@@ -78,6 +80,7 @@ pub record IsLoading {S L : Type 0} (sight : S → Sight) (may_have : L → Defa
   pub known : is_known new → is_known old
   pub kept_known : is_kept kept → is_kept old_kept
   pub counted : CountsPuts before loaded.added loaded.taken counts
+  pub fills : FillsRead from (left_of reader rest) first filter
 
 -- before the first batch
 pub loading-nil : {S L : Type 0} {sight : S → Sight} {may_have : L → DefaultFilter → Type 0}
@@ -104,4 +107,9 @@ loading-nil {sight = sight} {old = old} {before = before} reader rest empty open
       known = λ known. known;
       kept_known = λ known. known;
       counted = CountsPuts-nil before spared asked alarms;
+      fills = record {
+        lines = [];
+        reads = ReadsLines-new reader.bytes rest empty;
+        fills = Fills-nil [] _;
+      };
     }

@@ -9,6 +9,7 @@ use Rattle.guard_engine.specs.declared.guard.loads.batches.Part.{Part}
 use Rattle.guard_engine.specs.declared.line.BadLine.{BadLine}
 use Rattle.guard_engine.specs.Batches.{IsReading, IsWithin, LoadsMany, ReadsEntries, ReadsPart}
 use Rattle.guard_engine.specs.Counted.{CountsPuts}
+use Rattle.guard_engine.specs.Fills.{FillsRead}
 use Rattle.guard_engine.specs.Guarded.{Stays}
 use Rattle.guard_engine.specs.Guarding.{IsGuarding}
 use Rattle.guard_engine.specs.Loaded.{HasEntry, IsBadAt, LoadsAll, LoadsFirst}
@@ -141,9 +142,10 @@ module _ {S L : Type 0} {sight : S → Sight} {may_have : L → DefaultFilter �
     pub loading-more : {last : DefaultFilter} → part.is_last ≡ false → IsReading after left
         → (IsGuarding (sight mid) (may_have mid_kept) filter → is_known new → is_kept kept
         → IsGuarding (sight new) (may_have kept) last)
+        → FillsRead from (left_of after left) first last
         → IsLoading sight may_have is_known is_kept batch from first old old_kept before after left
         last new kept now more (done + batch) (turn + 1)
-    loading-more is reading guards =
+    loading-more is reading guards fills =
         let whole = read.whole is in
         let fits = read.fits in
         record {
@@ -157,4 +159,5 @@ module _ {S L : Type 0} {sight : S → Sight} {may_have : L → DefaultFilter �
           known = λ told. so_far.known (known told);
           kept_known = λ told. so_far.kept_known (kept_known told);
           counted = counts-joined;
+          fills = fills;
         }

@@ -1,8 +1,8 @@
 -- Filters that were made of the keys of a store: a case that holds, and ones that differ from it in
 -- one thing and don't hold. The store has the key 1, whose position with one hash is 17 among 64
--- bits, so its word is 131072. At the rate 3/2 each filter has one word, and 64 bits and 1000001
+-- bits, so its word is 131072. At the rate 3/2 each filter has one word, and 64 bits and 2000002
 -- keys suit one hash.
-use Rattle.std.proofs.Common.{◌≡◌, ◌<◌, ◌+◌, ◌-◌, ◌^◌, ℕ, true, false, List, [], ◌∷◌, Contains, length, map, max, min, replicate, refl, sym, subst, ap, ◌∙◌, arith, lit<, lit≤}
+use Rattle.std.proofs.Common.{◌≡◌, ◌<◌, ◌+◌, ◌*◌, ◌-◌, ◌^◌, ℕ, true, false, List, [], ◌∷◌, Contains, length, map, max, min, replicate, refl, sym, subst, ap, ◌∙◌, arith, lit<, lit≤}
 use Rattle.bloom_parts.specs.Chain.{chain}
 use Rattle.bloom_parts.specs.Content.{content}
 use Rattle.bloom_parts.specs.Operations as operation
@@ -46,12 +46,12 @@ zero_key : HasKey builder.hasher 0 0
 unfolding whole_words rest
 zero_key = record { low = refl; high = refl; words = refl; held = refl; count = refl }
 
--- the filter for 1000001 keys has one zero word and one hash
-made : IsMadeFor builder 1000001 (filter 0 1)
+-- the filter for 2000002 keys has one zero word and one hash
+made : IsMadeFor builder 2000002 (filter 0 1)
 made = (64, (0, halvings-above, refl), refl)
 
 -- the hash of the key 1 is inserted
-inserts : InsertsAll (filter 0 1) (key_hash (1 ∷ []) ∷ []) (filter 131072 1)
+pub inserts : InsertsAll (filter 0 1) (key_hash (1 ∷ []) ∷ []) (filter 131072 1)
 unfolding content positions chain are_in
 inserts = subst (λ h. InsertsAll (filter 0 1) (h ∷ []) (filter 131072 1)) (sym key_hash-one) (
   false ∷ [],
@@ -101,7 +101,8 @@ made_of-high is =
     (is.inserts.1.hasher ∙ ap (λ f. f.hasher) is.made.2) in
     omega (arith, high, is.zero_key.high)
 
--- at the rate 3/2 the filter for keys and room together has one word, and the hashes that suit them
+-- at the rate 3/2 the filter for twice keys and room together has one word, and the hashes that
+-- suit them
 above-made : (items : ℕ) (start : RateStart (CloneBuildHasher RandomDefaultHasher))
     (empty : DefaultFilter) → size_for (max 1 items) 0 ≡ 64 → start.rate ≡ above
     → IsMadeFor start items empty → empty ≡ sized_filter (empty_start start 64) items
@@ -113,13 +114,14 @@ above-made items start empty least rate_is (size, is, same) =
 
 -- the filter of the key 1 alone, as it was made
 made-one : {room : ℕ} {f : DefaultFilter} (is : IsMadeOf above room one f)
-    → is.keys ≡ (1 ∷ []) ∷ [] → size_for (max 1 (min (1 + room) (2 ^ 64 - 1))) 0 ≡ 64
-    → InsertsAll (sized_filter (empty_start is.start 64) (min (1 + room) (2 ^ 64 - 1)))
+    → is.keys ≡ (1 ∷ []) ∷ [] → size_for (max 1 (min (2 * (1 + room)) (2 ^ 64 - 1))) 0 ≡ 64
+    → InsertsAll (sized_filter (empty_start is.start 64) (min (2 * (1 + room)) (2 ^ 64 - 1)))
     (key_hash (1 ∷ []) ∷ []) f
 made-one {room} {f} is listed least =
     let made = subst (λ (keys : List (List ℕ)).
-    IsMadeFor is.start (min (length keys + room) (2 ^ 64 - 1)) is.empty) listed is.made in
-    let empty = above-made (min (1 + room) (2 ^ 64 - 1)) is.start is.empty least is.rate_is made in
+    IsMadeFor is.start (min (2 * (length keys + room)) (2 ^ 64 - 1)) is.empty) listed is.made in
+    let empty = above-made (min (2 * (1 + room)) (2 ^ 64 - 1)) is.start is.empty least is.rate_is
+    made in
     subst (λ e. InsertsAll e (key_hash (1 ∷ []) ∷ []) f) empty
     (subst (λ keys. InsertsAll is.empty (map key_hash keys) f) listed is.inserts)
 
@@ -127,7 +129,7 @@ made-one {room} {f} is listed least =
 made_of-less : (is : IsMadeOf above 1000000 one (filter 0 1)) → is.keys ≡ (1 ∷ []) ∷ [] → ⊥
 unfolding content positions chain
 made_of-less is listed =
-    let did = subst (λ h. InsertsAll (sized_filter (empty_start is.start 64) 1000001) (h ∷ [])
+    let did = subst (λ h. InsertsAll (sized_filter (empty_start is.start 64) 2000002) (h ∷ [])
     (filter 0 1)) key_hash-one (made-one is listed refl) in
     let wrong : false ≡ true = did.1.bits 17 in
     cc
@@ -136,21 +138,22 @@ made_of-less is listed =
 made_of-more : (is : IsMadeOf above 1000000 one (filter 131073 1)) → is.keys ≡ (1 ∷ []) ∷ [] → ⊥
 unfolding content positions chain
 made_of-more is listed =
-    let did = subst (λ h. InsertsAll (sized_filter (empty_start is.start 64) 1000001) (h ∷ [])
+    let did = subst (λ h. InsertsAll (sized_filter (empty_start is.start 64) 2000002) (h ∷ [])
     (filter 131073 1)) key_hash-one (made-one is listed refl) in
     let wrong : true ≡ false = did.1.bits 0 in
     cc
 
--- the room counts: 22 keys suit two hashes
-made_of-room : (is : IsMadeOf above 21 one (filter 131072 1)) → is.keys ≡ (1 ∷ []) ∷ [] → ⊥
+-- the room counts, and twice: 22 keys suit two hashes
+made_of-room : (is : IsMadeOf above 10 one (filter 131072 1)) → is.keys ≡ (1 ∷ []) ∷ [] → ⊥
 made_of-room is listed =
     let hashes : 2 ≡ 1 = (made-one is listed refl).1.shape.hashes in omega (arith, hashes)
 
--- the number of keys and room together stops at the greatest number of 64 bits
+-- twice the number of keys and room together stops at the greatest number of 64 bits
 made_of-most : {f : DefaultFilter} (is : IsMadeOf above (2 ^ 64 - 1) one f)
     → is.keys ≡ (1 ∷ []) ∷ [] → IsMadeFor is.start (2 ^ 64 - 1) is.empty
 made_of-most is listed = subst (λ (keys : List (List ℕ)).
-    IsMadeFor is.start (min (length keys + (2 ^ 64 - 1)) (2 ^ 64 - 1)) is.empty) listed is.made
+    IsMadeFor is.start (min (2 * (length keys + (2 ^ 64 - 1))) (2 ^ 64 - 1)) is.empty) listed
+    is.made
 
 -- at the rate one half so many keys take more than one word
 made_of-rate : IsHalvings 1 2 64
@@ -158,12 +161,12 @@ made_of-rate : IsHalvings 1 2 64
     → is.keys ≡ (1 ∷ []) ∷ [] → ⊥
 made_of-rate half is listed =
     let made = subst (λ (keys : List (List ℕ)).
-    IsMadeFor is.start (min (length keys + 1000000) (2 ^ 64 - 1)) is.empty) listed is.made in
-    let size = subst (λ r. IsSizeFor 1000001 (num_of r) (den_of r) made.0) is.rate_is made.1 in
+    IsMadeFor is.start (min (2 * (length keys + 1000000)) (2 ^ 64 - 1)) is.empty) listed is.made in
+    let size = subst (λ r. IsSizeFor 2000002 (num_of r) (den_of r) made.0) is.rate_is made.1 in
     let parts : size.0 ≡ 64 =
     omega (arith, size.1.least 64 half.enough, half.least size.0 size.1.enough) in
-    let words : length is.empty.words ≡ 22543 =
+    let words : length is.empty.words ≡ 45085 =
     ap (λ f. length f.words) made.2
-    ∙ ap (λ b. length {A = ℕ} (replicate (words_for b) 0)) (size.2 ∙ ap (size_for 1000001) parts) in
+    ∙ ap (λ b. length {A = ℕ} (replicate (words_for b) 0)) (size.2 ∙ ap (size_for 2000002) parts) in
     let one_word : length is.empty.words ≡ 1 = is.inserts.1.shape.words in
     omega (arith, words, one_word)

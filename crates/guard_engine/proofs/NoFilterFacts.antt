@@ -1,6 +1,6 @@
 -- Why there is no filter for a store's keys and the room for more: cases that hold, and near
 -- ones that don't. The room is for three keys, and the store has the key 1 or none.
-use Rattle.std.proofs.Common.{◌≡◌, ℕ, ◌+◌, ◌-◌, ◌^◌, true, false, List, [], ◌∷◌, length, refl, sym, subst, arith}
+use Rattle.std.proofs.Common.{◌≡◌, ℕ, ◌+◌, ◌*◌, ◌-◌, ◌^◌, true, false, List, [], ◌∷◌, length, refl, sym, subst, arith}
 use Rattle.std.specs.Prelude.{Bool, Contains, None, Option, Some, if◌then◌else◌, max, min, nat_le, ⊤}
 use Rattle.bloom_parts.specs.declared.error.FilterError.{FilterError}
 use Rattle.bloom_parts.specs.declared.error.FilterError.TheVariants.{HashCount, Memory, SizeOverflow, TooManyWords}
@@ -24,8 +24,8 @@ module _ (rate : Rate) where
   abbrev IsSize : ℕ → ℕ → Type 0
   IsSize items bits = IsSizeFor items (num_of rate) (den_of rate) bits
 
-  -- no memory may be the reason where the size for three keys isn't refused
-  lacks-memory : (bits : ℕ) → IsSize 3 bits → size_refusal bits ≡ None
+  -- no memory may be the reason where the size for six keys isn't refused
+  lacks-memory : (bits : ℕ) → IsSize 6 bits → size_refusal bits ≡ None
       → LacksFilter rate 3 told none Memory
   lacks-memory bits size fits = record {
     left = 0;
@@ -36,8 +36,8 @@ module _ (rate : Rate) where
     refuses = subst (λ refusal. RefusesAs refusal (Some Memory)) (sym fits) refl;
   }
 
-  -- the size for four keys may be the reason where the store has one
-  lacks-one : (bits : ℕ) → IsSize 4 bits → size_refusal bits ≡ Some SizeOverflow
+  -- the size for eight keys may be the reason where the store has one
+  lacks-one : (bits : ℕ) → IsSize 8 bits → size_refusal bits ≡ Some SizeOverflow
       → LacksFilter rate 3 told one SizeOverflow
   lacks-one bits size large = record {
     left = 0;
@@ -74,28 +74,30 @@ module _ (rate : Rate) where
       (is.lists tt (1 ∷ []) (2 ∷ []) (refl, refl)) in
       absurd (omega (arith, there.1))
 
-  -- the size is that for the keys and the room together
+  -- the size is that for twice the keys and the room together
   lacks-size_for : (is : LacksFilter rate 3 told one Memory) → is.keys ≡ (1 ∷ []) ∷ []
-      → IsSize 4 is.bits
+      → IsSize 8 is.bits
   lacks-size_for is listed =
-      subst (λ (keys : List (List ℕ)). IsSize (max 1 (min (length keys + 3) (2 ^ 64 - 1))) is.bits)
+      subst (λ (keys : List (List ℕ)).
+      IsSize (max 1 (min (2 * (length keys + 3)) (2 ^ 64 - 1))) is.bits)
       listed is.size
 
   -- no keys and no room count as one key
   lacks-size_least : (is : LacksFilter rate 0 told none Memory) → is.keys ≡ [] → IsSize 1 is.bits
   lacks-size_least is listed =
-      subst (λ (keys : List (List ℕ)). IsSize (max 1 (min (length keys + 0) (2 ^ 64 - 1))) is.bits)
+      subst (λ (keys : List (List ℕ)).
+      IsSize (max 1 (min (2 * (length keys + 0)) (2 ^ 64 - 1))) is.bits)
       listed is.size
 
-  -- the number of keys and room together stops at the greatest number of 64 bits
+  -- twice the number of keys and room together stops at the greatest number of 64 bits
   lacks-size_most : (is : LacksFilter rate (2 ^ 64 - 1) told one Memory)
       → is.keys ≡ (1 ∷ []) ∷ [] → IsSize (2 ^ 64 - 1) is.bits
   lacks-size_most is listed =
       subst (λ (keys : List (List ℕ)).
-      IsSize (max 1 (min (length keys + (2 ^ 64 - 1)) (2 ^ 64 - 1))) is.bits) listed is.size
+      IsSize (max 1 (min (2 * (length keys + (2 ^ 64 - 1))) (2 ^ 64 - 1))) is.bits) listed is.size
 
   -- nothing is said of the keys of a store whose medium lied
-  lacks-lied : (bits : ℕ) → IsSize 3 bits → RefusesAs (size_refusal bits) (Some Memory)
+  lacks-lied : (bits : ℕ) → IsSize 6 bits → RefusesAs (size_refusal bits) (Some Memory)
       → LacksFilter rate 3 lied one Memory
   lacks-lied bits size refuses = record {
     left = 0;

@@ -1,5 +1,5 @@
 -- What a filter is that was made of a store's keys, and why there is none.
-use Rattle.std.proofs.Common.{◌≡◌, ◌+◌, ◌-◌, ◌^◌, ℕ, min, List, length, map, Some, Err, Result, sym, ap, subst, ◌∙◌}
+use Rattle.std.proofs.Common.{◌≡◌, ◌+◌, ◌*◌, ◌-◌, ◌^◌, ℕ, min, List, length, map, Some, Err, Result, sym, ap, subst, ◌∙◌, arith}
 use Rattle.std.proofs.lemmas.List.{length-map}
 use Rattle.std.proofs.lemmas.Simd.{map-map}
 use Rattle.bloom_parts.specs.declared.error.FilterError.{FilterError}
@@ -25,13 +25,20 @@ pub covers-listed : (filter : DefaultFilter) (keys : List (List ℕ)) (entries :
     → Lists keys entries → HoldsKeys filter keys → Covers filter entries
 covers-listed filter keys entries lists holds key value has = holds key (lists key value has)
 
+-- twice a sum that is held down to a greatest number is twice the sum, held down to it
+twice-capped : (many room half items : ℕ) → half ≡ min (many + room) (2 ^ 64 - 1)
+    → items ≡ min (half + half) (2 ^ 64 - 1) → items ≡ min (2 * (many + room)) (2 ^ 64 - 1)
+twice-capped many room half items is more = omega (arith, is, more)
+
 module _ {X : Type 0} (text : X → List ℕ) (items listed : List X) (same : listed ≡ items)
-    (rate : Rate) (room many sum : ℕ) (entries : Entries) (start : RateStart
+    (rate : Rate) (room many half sum : ℕ) (entries : Entries) (start : RateStart
     (CloneBuildHasher RandomDefaultHasher)) (rate_is : start.rate ≡ rate)
-    (counted : many ≡ length items) (summed : sum ≡ min (many + room) (2 ^ 64 - 1)) where
+    (counted : many ≡ length items) (halved : half ≡ min (many + room) (2 ^ 64 - 1))
+    (summed : sum ≡ min (half + half) (2 ^ 64 - 1)) where
   -- the number of the texts
-  as_texts : sum ≡ min (length (map text items) + room) (2 ^ 64 - 1)
-  as_texts = summed ∙ ap (λ n. min (n + room) (2 ^ 64 - 1))
+  as_texts : sum ≡ min (2 * (length (map text items) + room)) (2 ^ 64 - 1)
+  as_texts = twice-capped many room half sum halved summed
+      ∙ ap (λ n. min (2 * (n + room)) (2 ^ 64 - 1))
       (counted ∙ sym (length-map items text))
 
   -- a filter was made for the listed keys and room, and just they were inserted
@@ -62,7 +69,7 @@ module _ {X : Type 0} (text : X → List ℕ) (items listed : List X) (same : li
     lists = lists;
     bits = told.0;
     size = subst (λ r. IsSizeOf (record start { rate = r })
-        (min (length (map text items) + room) (2 ^ 64 - 1)) told.0) rate_is
+        (min (2 * (length (map text items) + room)) (2 ^ 64 - 1)) told.0) rate_is
         (subst (λ n. IsSizeOf start n told.0) as_texts told.1);
     refuses = told.2;
   }

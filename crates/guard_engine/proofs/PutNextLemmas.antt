@@ -10,6 +10,7 @@ use Rattle.guard_engine.specs.declared.guard.loads.Loaded.{Loaded}
 use Rattle.guard_engine.specs.declared.line.BadLine.{BadLine}
 use Rattle.guard_engine.specs.Batches.{PutsLines, ReadsEntries, ReadsLines, ReadsPart}
 use Rattle.guard_engine.specs.Counted.{CountsPuts}
+use Rattle.guard_engine.specs.Fills.{FillsRead}
 use Rattle.guard_engine.specs.Guarding.{Watches}
 use Rattle.guard_engine.specs.Loaded.{HasEntry, HasTab, IsBad, IsBadAt}
 use Rattle.guard_engine.specs.Puts.{added_by, taken_by}
@@ -36,7 +37,7 @@ module _ {S : Type 0} {sight : S → Sight} {is_known : S → Type 0} {batch don
       (took : TakesShort reader.longest (left_of reader rest) (left_of after left) after.line)
       {line : List ℕ} (is_line : line ≡ after.line) where
     -- that line was read
-    reads_one : ReadsLines (left_of reader rest) (line ∷ []) (left_of after left)
+    pub reads_one : ReadsLines (left_of reader rest) (line ∷ []) (left_of after left)
     reads_one = ReadsLines-one (left_of reader rest) (left_of after left) line
         (subst (TakesLine (left_of reader rest) (left_of after left)) (sym is_line) took.takes)
 
@@ -120,6 +121,7 @@ module _ {S : Type 0} {sight : S → Sight} {is_known : S → Type 0} {batch don
         entries = entries-more;
         last = λ told. cc;
         whole = λ told. omega (arith, full, so_far.near, so_far.numbered, longer-now);
+        most = omega (arith, so_far.near, so_far.numbered, longer-now);
         fits = omega (arith, so_far.numbered, longer-now, fits);
       }
 
@@ -127,10 +129,10 @@ module _ {S : Type 0} {sight : S → Sight} {is_known : S → Type 0} {batch don
       pub putting-more : {last : DefaultFilter} → number + 1 - done < batch
           → KnowsEnd after.ended left → after.longest ≡ reader.longest
           → (IsInBatch (sight mid) → Watches filter (sight mid) → is_known new
-          → Watches last (sight new))
+          → Watches last (sight new)) → FillsRead from (left_of after left) start last
           → IsPutting sight is_known batch done from start old before after left last new now more
           (number + 1)
-      putting-more room knows longest watches = record {
+      putting-more room knows longest watches fills = record {
         entries = entries-more;
         numbered = omega (arith, so_far.numbered, longer-now);
         near = omega (arith, room, so_far.numbered);
@@ -140,4 +142,5 @@ module _ {S : Type 0} {sight : S → Sight} {is_known : S → Type 0} {batch don
             watches first.batch (so_far.watches batch watched (known told)) told;
         known = λ told. so_far.known (known told);
         counted = counts-more;
+        fills = fills;
       }

@@ -12,6 +12,8 @@ use Rattle.guard_engine.specs.declared.line.BadLine.{BadLine}
 use Rattle.guard_engine.specs.declared.line.BadLine.TheVariants.{NoTab, NotText, TooLong}
 use Rattle.guard_engine.specs.Batches.{IsReading, PutsLines, ReadsEntries, ReadsLines, ReadsPart}
 use Rattle.guard_engine.specs.Counted.{CountsPuts}
+use Rattle.guard_engine.specs.Fills.{FillsRead}
+use Rattle.guard_engine.proofs.FillLemmas.{FillsRead-nil}
 use Rattle.guard_engine.specs.Guarding.{Watches}
 use Rattle.guard_engine.specs.Loaded.{HasEntry, IsBad, IsBadAt}
 use Rattle.guard_engine.specs.Stores.{IsInBatch, Sight}
@@ -45,6 +47,7 @@ pub record IsPutting {S : Type 0} (sight : S → Sight) (is_known : S → Type 0
       → Watches filter (sight new)
   pub known : is_known new → is_known old
   pub counted : CountsPuts before loaded.added loaded.taken counts
+  pub fills : FillsRead from (left_of reader rest) start filter
 
 -- no line yet
 pub putting-nil : {S : Type 0} {sight : S → Sight} {is_known : S → Type 0} {batch done : ℕ}
@@ -68,6 +71,7 @@ putting-nil {sight = sight} {old = old} {before = before} reader rest reading so
       watches = λ batch watches known. watches;
       known = λ known. known;
       counted = CountsPuts-nil before spared asked alarms;
+      fills = FillsRead-nil (left_of reader rest) _;
     }
 
 -- half-way, and what the reader gave next
@@ -97,6 +101,7 @@ module _ {S : Type 0} {sight : S → Sight} {is_known : S → Type 0} {batch don
     };
     last = λ told. ends.end;
     whole = λ told. cc;
+    most = omega (arith, so_far.numbered, so_far.near);
     fits = omega (arith, so_far.numbered, within);
   }
 

@@ -1,6 +1,6 @@
 -- What the answers to tasks and their troubles say, of a store with the key 1 and the value 2:
 -- cases that hold, and near ones that don't. The readers tell their bytes.
-use Rattle.std.proofs.Common.{◌≡◌, inr, ℕ, true, false, List, [], ◌∷◌, Bor, Option, Some, refl, sym, subst, ap, lit<}
+use Rattle.std.proofs.Common.{◌≡◌, inr, ℕ, true, false, List, [], ◌∷◌, Bor, Option, Some, refl, sym, subst, ap}
 use Rattle.guard_engine.specs.declared.commands.Answer.TheVariants as answers
 use Rattle.guard_engine.specs.declared.commands.Trouble.{Trouble}
 use Rattle.guard_engine.specs.declared.commands.Trouble.TheVariants as troubles
@@ -14,35 +14,33 @@ use Rattle.guard_engine.specs.declared.line.BadLine.{BadLine}
 use Rattle.guard_engine.specs.declared.line.BadLine.TheVariants.{NoTab}
 use Rattle.guard_engine.specs.declared.task.Task.{Task}
 use Rattle.guard_engine.specs.declared.task.Task.TheVariants as tasks
-use Rattle.guard_engine.specs.Answers.{CountsTask, IsAnswerTo, IsTroubleOf, Leaves}
+use Rattle.guard_engine.specs.Answers.{IsAnswerTo, IsTroubleOf, Leaves}
 use Rattle.guard_engine.specs.Loaded.{HasEntry, IsBadAt}
 use Rattle.guard_engine.proofs.AnswerFacts.{found-spared}
 use Rattle.guard_engine.proofs.BadLineFacts.{bad-first, bad-second, bytes}
-use Rattle.guard_engine.proofs.CountLemmas.{puts-spared}
-use Rattle.guard_engine.proofs.CountedFacts as counted
 use Rattle.guard_engine.proofs.GuardedFacts.{beside, loses, none, one, stays, stays-less, stays-more}
-use Rattle.guard_engine.proofs.PutCountFacts.{counts, counts_puts-twice}
+use Rattle.guard_engine.proofs.PutCountFacts.{counts}
 use Rattle.guard_engine.proofs.PutFacts.{put-added, put-both}
 use Rattle.guard_engine.proofs.StoppedFacts as stopped
 
 -- a reader of these bytes
-abbrev Reader : Type 0
+abbrev pub Reader : Type 0
 Reader = Option (List ℕ)
 
 -- what it has left
-abbrev left : Reader → Option (List ℕ)
+abbrev pub left : Reader → Option (List ℕ)
 left reader = reader
 
 -- a reference to a text
-abbrev lent : List ℕ → Bor (List ℕ)
+abbrev pub lent : List ℕ → Bor (List ℕ)
 lent text = record { ref_ptr = (0, 0); now = text }
 
 -- a put of the value 2 at the key 1
-abbrev put : Task Reader
+abbrev pub put : Task Reader
 put = tasks.Put (lent (1 ∷ [])) (lent (2 ∷ []))
 
 -- one line with this entry, in batches of one
-abbrev load : Task Reader
+abbrev pub load : Task Reader
 load = tasks.Load (Some (1 ∷ 9 ∷ 2 ∷ 10 ∷ [])) 1
 
 -- ---- answers
@@ -185,31 +183,3 @@ trouble-load-first (stop, same, bad) =
 
     number : stop.number ≡ 1
     number = sym (ap (λ it. it.number) (lines same))
-
--- ---- counts
-
--- the put of a key that the filter lacked counts as spared
-counts-put : CountsTask left counted.both (Unit {0}) put none (counts 0 0 0) (counts 1 0 0)
-    (answers.Put Added)
-counts-put = (
-  Added,
-  refl,
-  puts-spared (counts 0 0 0) (counts 1 0 0) (lit< tt) (lit< tt) (lit< tt)
-      refl,
-)
-
--- a put doesn't look its key up twice
-counts-put-twice : CountsTask left counted.both (Unit {0}) put none (counts 0 0 0) (counts 2 0 0)
-    (answers.Put Added) → ⊥
-counts-put-twice (Added, same, is) = counts_puts-twice is
-counts-put-twice (Taken, same, is) = let e = same in cc
-
--- look-ups tell what was counted
-counts-stats : CountsTask left counted.both (Unit {0}) (tasks.Stats counted.read) one
-    (counts 0 0 0) (counts 1 2 1) (answers.Counted (counts 1 2 1))
-counts-stats = (refl, (Some [], counted.all))
-
--- look-ups don't tell the counts of before
-counts-before : CountsTask left counted.both (Unit {0}) (tasks.Stats counted.read) one
-    (counts 0 0 0) (counts 1 2 1) (answers.Counted (counts 0 0 0)) → ⊥
-counts-before is = let asked = ap (λ answer. answer) is.0 in cc

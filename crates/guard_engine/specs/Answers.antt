@@ -1,6 +1,6 @@
 -- What the answer to a task says of the store's entries before and after it, and of the guard's
 -- counts, and what an error leaves.
-use Rattle.std.specs.Prelude.{◌≡◌, ◌⊎◌, ◌↔◌, ℕ, max, Bool, false, List, Option, string_bytes, IsTrue, ⊤}
+use Rattle.std.specs.Prelude.{◌≡◌, ◌⊎◌, ◌↔◌, ℕ, max, Bool, false, List, [], ◌∷◌, Option, string_bytes, IsTrue}
 use Rattle.guard_engine.specs.declared.commands.Answer.{Answer}
 use Rattle.guard_engine.specs.declared.commands.Answer.TheVariants as answers
 use Rattle.guard_engine.specs.declared.commands.Trouble.{Trouble}
@@ -18,10 +18,12 @@ use Rattle.guard_engine.specs.declared.line.BadLine.{BadLine}
 use Rattle.guard_engine.specs.declared.task.Task.{Task}
 use Rattle.guard_engine.specs.declared.task.Task.TheVariants as tasks
 use Rattle.bloom_plain.specs.Data.{DefaultFilter}
-use Rattle.guard_engine.specs.Counted.{CountsPuts, TalliesAll}
+use Rattle.guard_engine.specs.Counted.{CountsDelete, CountsOnce, CountsPuts, TalliesAll, asked_once, counts_after}
+use Rattle.guard_engine.specs.Fills.{Fills, FillsFrom}
 use Rattle.guard_engine.specs.Guarded.{Entries, Lacks, Loses, Stays}
 use Rattle.guard_engine.specs.Loaded.{HasEntry, IsBadAt, IsKey, LoadsAll, LoadsFirst}
 use Rattle.guard_engine.specs.Puts.{IsPut, added_by, taken_by}
+use Rattle.guard_engine.specs.Stops.{ComesNext, CountsStop, TalliesStop}
 
 -- a look-up whose answer is no value, or nothing that could be taken away
 abbrev pub IsAbsence : Answer → Type 0
@@ -84,10 +86,38 @@ module _ {R : Type 0} (remaining : R → Option (List ℕ)) where
       → Type 0
   CountsTask f is_told (tasks.Put key value) entries old new answer = (put : Put)
       × (answer ≡ answers.Put put) × CountsPuts old (added_by put) (taken_by put) new
-  CountsTask f is_told (tasks.Get key) entries old new answer = ⊤
-  CountsTask f is_told (tasks.Delete key) entries old new answer = ⊤
+  CountsTask f is_told (tasks.Get key) entries old new answer = (found : Found)
+      × (answer ≡ answers.Found found) × (new ≡ counts_after old found)
+  CountsTask f is_told (tasks.Delete key) entries old new answer = (had : Bool)
+      × (answer ≡ answers.Deleted had) × CountsDelete f key.now had old new
   CountsTask f is_told (tasks.Load input batch) entries old new answer = (loaded : Loaded)
       × (answer ≡ answers.Loaded loaded new) × CountsPuts old loaded.added loaded.taken new
   CountsTask f is_told (tasks.Stats input) entries old new answer =
       (answer ≡ answers.Counted new) × ((left : Option (List ℕ))
       × TalliesAll f is_told entries (remaining input) left old new)
+
+  -- from old to new the look-ups of a task that failed were counted, up to where it failed
+  abbrev pub CountsFailed : {E F : Type 0} → DefaultFilter → Type 0 → Task R → Entries → Counts
+      → Counts → Trouble E F → Type 0
+  CountsFailed f is_told (tasks.Put key value) entries old new trouble =
+      (new ≡ old) ⊎ CountsOnce old new
+  CountsFailed f is_told (tasks.Get key) entries old new trouble = new ≡ asked_once old
+  CountsFailed f is_told (tasks.Delete key) entries old new trouble = new ≡ asked_once old
+  CountsFailed f is_told (tasks.Load input batch) entries old new (troubles.Lines stop) =
+      CountsStop (max 1 batch) 0 old new stop
+      × ComesNext HasEntry 1048576 (remaining input) stop.number
+  CountsFailed f is_told (tasks.Load input batch) entries old new (troubles.Put fault) = ⊥
+  CountsFailed f is_told (tasks.Load input batch) entries old new (troubles.Key error) = ⊥
+  CountsFailed f is_told (tasks.Stats input) entries old new (troubles.Lines stop) =
+      TalliesStop f is_told entries (remaining input) old new stop
+      × ComesNext IsKey 1048576 (remaining input) stop.number
+  CountsFailed f is_told (tasks.Stats input) entries old new (troubles.Put fault) = ⊥
+  CountsFailed f is_told (tasks.Stats input) entries old new (troubles.Key error) = ⊥
+
+  -- from old to new just hashes of the keys that a task puts came into the filter
+  abbrev pub FillsTask : Task R → DefaultFilter → DefaultFilter → Type 0
+  FillsTask (tasks.Put key value) old new = Fills (key.now ∷ []) old new
+  FillsTask (tasks.Get key) old new = new ≡ old
+  FillsTask (tasks.Delete key) old new = new ≡ old
+  FillsTask (tasks.Load input batch) old new = FillsFrom (remaining input) old new
+  FillsTask (tasks.Stats input) old new = new ≡ old

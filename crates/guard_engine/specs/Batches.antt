@@ -37,6 +37,7 @@ pub record ReadsPart (batch done : ℕ) (from to : Option (List ℕ))
   pub entries : ReadsEntries from to Puts part.loaded
   pub last : part.is_last ≡ true → IsAtEnd to
   pub whole : part.is_last ≡ false → length entries.lines ≡ batch
+  pub most : length entries.lines ≤ batch
   pub fits : done + length entries.lines < 2 ^ 64 - 1
 
 -- a load stopped at a line of the batch that follows those that are done

@@ -1,11 +1,13 @@
 -- How look-ups are counted, in a store behind a filter. The store is spared a look-up of a
 -- key that the filter lacks, and is asked for each other key. A false alarm is a key that it
 -- was asked for and lacks.
-use Rattle.std.specs.Prelude.{◌≡◌, ◌≤◌, ◌⊎◌, ◌+◌, ◌-◌, ◌^◌, ℕ, not, min, List, [], ◌∷◌, length, filter, Option}
+use Rattle.std.specs.Prelude.{◌≡◌, ◌≤◌, ◌⊎◌, ◌+◌, ◌-◌, ◌^◌, ℕ, Bool, true, false, not, min, List, [], ◌∷◌, length, filter, Option}
 use Rattle.bloom_plain.specs.Data.{DefaultFilter}
 use Rattle.bloom_plain.specs.Filter.{contains}
 use Rattle.lines.specs.Reading.{IsReadFrom, IsReadWhole}
 use Rattle.guard_engine.specs.declared.counts.Counts.{Counts}
+use Rattle.guard_engine.specs.declared.guard.Found.{Found}
+use Rattle.guard_engine.specs.declared.guard.Found.TheVariants.{Spared, FalseAlarm, Value}
 use Rattle.guard_engine.specs.Guarded.{Entries, Lacks, key_hash}
 
 -- this many more, up to the greatest number of 64 bits
@@ -15,6 +17,40 @@ more_by n many = min (n + many) (2 ^ 64 - 1)
 -- one more, up to the greatest number of 64 bits
 abbrev pub one_more : ℕ → ℕ
 one_more n = more_by n 1
+
+-- one look-up more that the store was spared
+abbrev pub spared_once : Counts → Counts
+spared_once counts = record counts { spared = one_more counts.spared }
+
+-- one look-up more that the store was asked for, and no false alarm
+abbrev pub asked_once : Counts → Counts
+asked_once counts = record counts { asked = one_more counts.asked }
+
+-- one look-up more that the store was asked for in vain
+abbrev pub alarmed_once : Counts → Counts
+alarmed_once counts = record counts {
+  asked = one_more counts.asked;
+  false_alarms = one_more counts.false_alarms;
+}
+
+-- one look-up more, of which this was found
+abbrev pub counts_after : Counts → Found → Counts
+counts_after counts Spared = spared_once counts
+counts_after counts FalseAlarm = alarmed_once counts
+counts_after counts (Value value) = asked_once counts
+
+-- from old to new one look-up was counted, in one of the three ways
+abbrev pub CountsOnce : Counts → Counts → Type 0
+CountsOnce old new =
+    (new ≡ spared_once old) ⊎ ((new ≡ asked_once old) ⊎ (new ≡ alarmed_once old))
+
+-- one look-up was counted of a key that was to lose its value: the store was spared what the filter
+-- lacks, and of the rest it had a value, or was asked in vain
+abbrev pub CountsDelete : DefaultFilter → List ℕ → Bool → Counts → Counts → Type 0
+CountsDelete f key true old new = new ≡ asked_once old
+CountsDelete f key false old new =
+    ((contains f (key_hash key) ≡ false) × (new ≡ spared_once old))
+    ⊎ ((contains f (key_hash key) ≡ true) × (new ≡ alarmed_once old))
 
 -- the keys that a filter may have: a store is asked for these
 abbrev pub asked_keys : DefaultFilter → List (List ℕ) → List (List ℕ)
@@ -66,4 +102,16 @@ pub record CountsPuts (old : Counts) (added taken : ℕ) (new : Counts) : Type 0
   pub both : added ≡ spared + alarms
   pub new_spared : new.spared ≡ more_by old.spared spared
   pub new_asked : new.asked ≡ more_by old.asked (alarms + taken)
+  pub new_alarms : new.false_alarms ≡ more_by old.false_alarms alarms
+
+-- from old to new this many look-ups were counted, each as spared or as asked, and some of those
+-- that were asked as false alarms
+pub record CountsMany (old : Counts) (many : ℕ) (new : Counts) : Type 0 where
+  pub spared : ℕ
+  pub asked : ℕ
+  pub alarms : ℕ
+  pub both : many ≡ spared + asked
+  pub at_most : alarms ≤ asked
+  pub new_spared : new.spared ≡ more_by old.spared spared
+  pub new_asked : new.asked ≡ more_by old.asked asked
   pub new_alarms : new.false_alarms ≡ more_by old.false_alarms alarms

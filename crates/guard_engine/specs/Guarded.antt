@@ -1,6 +1,6 @@
 -- What a store has, and what a guard before it keeps true: the guard's filter (B. H. Bloom, 1970)
 -- has each key of the store.
-use Rattle.std.specs.Prelude.{◌≡◌, ◌⊎◌, ◌↔◌, ℕ, ◌+◌, ◌-◌, ◌^◌, min, max, true, List, map, Contains, Some, length}
+use Rattle.std.specs.Prelude.{◌≡◌, ◌⊎◌, ◌↔◌, ℕ, ◌+◌, ◌*◌, ◌-◌, ◌^◌, min, max, true, List, map, Contains, Some, length}
 use Rattle.bloom_parts.specs.declared.error.FilterError.{FilterError}
 use Rattle.bloom_parts.specs.declared.hasher.CloneBuildHasher.{CloneBuildHasher}
 use Rattle.bloom_parts.specs.declared.hasher.sip.RandomDefaultHasher.{RandomDefaultHasher}
@@ -58,8 +58,8 @@ abbrev pub HoldsKeys : DefaultFilter → List (List ℕ) → Type 0
 HoldsKeys filter keys =
     (key : List ℕ) → Contains keys key → contains filter (key_hash key) ≡ true
 
--- a filter was made for a list of keys, each key of these entries among them, and room for more, at
--- a rate and under the zero key, and just these keys were inserted
+-- a filter was made for twice as many keys as a list has, each key of these entries among them, and
+-- twice the room, at a rate and under the zero key, and just the listed keys were inserted
 pub record IsMadeOf (rate : Rate) (room : ℕ) (entries : Entries) (filter : DefaultFilter) : Type 0
   where
     pub keys : List (List ℕ)
@@ -68,11 +68,11 @@ pub record IsMadeOf (rate : Rate) (room : ℕ) (entries : Entries) (filter : Def
     pub rate_is : start.rate ≡ rate
     pub zero_key : HasKey start.hasher 0 0
     pub empty : DefaultFilter
-    pub made : IsMadeFor start (min (length keys + room) (2 ^ 64 - 1)) empty
+    pub made : IsMadeFor start (min (2 * (length keys + room)) (2 ^ 64 - 1)) empty
     pub inserts : InsertsAll empty (map key_hash keys) filter
 
--- why there is no filter: one for this many keys and the room is refused with this error. The store
--- is gone by then, so a store that was left is meant; provided its medium returned what was
+-- why there is no filter: one for twice these keys and the room is refused with this error. The
+-- store is gone by then, so a store that was left is meant; provided its medium returned what was
 -- written, each key of the store is one of these
 pub record LacksFilter {T : Type 0} (rate : Rate) (room : ℕ) (is_known : T → Type 0)
     (entries : Entries) (error : FilterError) : Type 0 where
@@ -80,6 +80,6 @@ pub record LacksFilter {T : Type 0} (rate : Rate) (room : ℕ) (is_known : T →
   pub keys : List (List ℕ)
   pub lists : is_known left → Lists keys entries
   pub bits : ℕ
-  pub size : IsSizeFor (max 1 (min (length keys + room) (2 ^ 64 - 1))) (num_of rate) (den_of rate)
-      bits
+  pub size : IsSizeFor (max 1 (min (2 * (length keys + room)) (2 ^ 64 - 1))) (num_of rate)
+      (den_of rate) bits
   pub refuses : RefusesAs (size_refusal bits) (Some error)

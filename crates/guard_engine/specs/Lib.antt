@@ -1,11 +1,13 @@
 pub mod Answers
 pub mod Batches
 pub mod Counted
+pub mod Fills
 pub mod Guarded
 pub mod Guarding
 pub mod Loaded
 pub mod OnDemand
 pub mod Puts
 pub mod Room
+pub mod Stops
 pub mod Stores
 pub mod Told

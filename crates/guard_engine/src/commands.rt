@@ -1,14 +1,14 @@
 //! Tasks and their answers, over any store.
 ghost use Rattle.std.specs.Prelude.{◌≡◌, ◌↔◌, Ok, IfErr, IfOk, OnErr, IsTrue, Some};
 ghost use Rattle.std.specs.Fmt.{WritesOnOk};
-ghost use Rattle.guard_engine.specs.Answers.{CountsTask, IsAbsence, IsAnswerTo, IsNo, IsTroubleOf, Leaves};
+ghost use Rattle.guard_engine.specs.Answers.{CountsFailed, CountsTask, FillsTask, IsAbsence, IsAnswerTo, IsNo, IsTroubleOf, Leaves};
 ghost use Rattle.guard_engine.specs.Told.{answer_text, counts_text};
 
 use crate::counts::Counts;
 use crate::guard::{Fault, Found, Guard, Loaded, Put, Stop};
-use crate::kept::Kept;
 use crate::store::Store;
 use crate::task::Task;
+use guard_parts::Kept;
 use std::alloc::Global;
 use std::fmt;
 use std::io::Read;
@@ -124,6 +124,11 @@ pub fn carry_out<T: Store + Drop, K: Kept + Drop, R: Read + Drop>(
     ensures counts { IfOk result (CountsTask R.remaining guard.old.filter
         (T.is_known guard.new.store × K.is_known guard.new.kept) task.entry
         (T.sight guard.old.store).has guard.old.counts guard.new.counts) }
+    ensures count_err { IfErr result (CountsFailed R.remaining guard.old.filter
+        (T.is_known guard.new.store × K.is_known guard.new.kept) task.entry
+        (T.sight guard.old.store).has guard.old.counts guard.new.counts) }
+    // Just hashes of the keys that the task puts came into the filter.
+    ensures fills { FillsTask R.remaining task.entry guard.old.filter guard.new.filter }
     // Why a task isn't carried out, and what that leaves of the store.
     ensures refused { IfErr result (IsTroubleOf R.remaining task.entry) }
     ensures err { T.is_known guard.new.store → K.is_known guard.new.kept → IfErr result

@@ -1,8 +1,9 @@
 //! What a guard does in an open batch of its store.
-ghost use Rattle.std.specs.Prelude.{◌≡◌, ◌↔◌, true, false, string_bytes, Ok, IfOk, OnOk, OnErr};
+ghost use Rattle.std.specs.Prelude.{◌≡◌, ◌⊎◌, ◌↔◌, [], ◌∷◌, true, false, string_bytes, Ok, IfOk, OnOk, OnErr};
 ghost use Rattle.bloom_plain.specs.Filter.{contains};
 ghost use Rattle.guard_engine.specs.Puts.{IsPut};
-ghost use Rattle.guard_engine.specs.Counted.{CountsPuts, one_more};
+ghost use Rattle.guard_engine.specs.Counted.{CountsOnce, CountsPuts, asked_once, counts_after, one_more};
+ghost use Rattle.guard_engine.specs.Fills.{Fills};
 ghost use Rattle.guard_engine.specs.Guarded.{Lacks, Loses, Stays, key_hash};
 ghost use Rattle.guard_engine.specs.Guarding.{AllCover, IsGuarding, PutsInBatch, Watches};
 ghost use Rattle.guard_engine.specs.Puts.{added_by, taken_by};
@@ -10,11 +11,11 @@ ghost use Rattle.guard_engine.specs.Stores.{Adds, Commits, Fails, IsInBatch, IsR
 
 use crate::counts::Counts;
 use crate::guard::{Fault, Found, Put};
-use crate::kept::Kept;
 use crate::keys::hash_of;
 use crate::store::Store;
 use bloom_plain::laws::{contained_stays, insert_answers_contains};
 use bloom_plain::{BloomFilter, DefaultHasher};
+use guard_parts::Kept;
 
 /// Looks a key up by its hash, in the store only where the filter may have it.
 pub fn find<T: Store>(
@@ -45,6 +46,8 @@ pub fn find<T: Store>(
     } }
     ensures count_value { (value : _) → result ≡ Ok (Found.Value value)
         → counts.new ≡ record counts.old { asked = one_more counts.old.asked } }
+    ensures count { IfOk result (λ found. counts.new ≡ counts_after counts.old found) }
+    ensures count_err { OnErr result (counts.new ≡ asked_once counts.old) }
 {
     if !filter.contains_hash(hash) {
         counts.spare();
@@ -69,6 +72,7 @@ fn add<T: Store>(
     hash: u64,
 ) -> Result<(), T::Error>
     ensures here { contains filter.new hash ≡ true }
+    ensures fills { hash ≡ key_hash key.now → Fills (key.now ∷ []) filter.old filter.new }
     ensures kept { (other : _) → contains filter.old other ≡ true
         → contains filter.new other ≡ true }
     ensures known { T.is_known store.new → T.is_known store.old }
@@ -103,6 +107,11 @@ pub fn put<T: Store>(
     ensures known { T.is_known store.new → T.is_known store.old }
     ensures counts { IfOk result (λ put.
         CountsPuts counts.old (added_by put) (taken_by put) counts.new) }
+    // The key was looked up once, also before an error.
+    ensures once { CountsOnce counts.old counts.new }
+    // The hash of the key came into the filter, and no other; none where the key had a value.
+    ensures fills { Fills (key.now ∷ []) filter.old filter.new }
+    ensures same { result ≡ Ok Put.Taken → filter.new ≡ filter.old }
 {
     counts.fit();
     let hash = hash_of(key);
@@ -200,6 +209,10 @@ pub fn put_alone<T: Store, K: Kept>(
     ensures kept_known { K.is_known kept.new → K.is_known kept.old }
     ensures counts { IfOk result (λ put.
         CountsPuts counts.old (added_by put) (taken_by put) counts.new) }
+    ensures count_err { OnErr result ((counts.new ≡ counts.old)
+        ⊎ CountsOnce counts.old counts.new) }
+    ensures fills { Fills (key.now ∷ []) filter.old filter.new }
+    ensures same { result ≡ Ok Put.Taken → filter.new ≡ filter.old }
 {
     if let Err(error) = store.begin() {
         return Err(Fault::Store(error));

@@ -1,5 +1,5 @@
 //! The guard: a store, and a filter that has each of its keys.
-ghost use Rattle.std.specs.Prelude.{◌≡◌, ◌↔◌, false, true, string_bytes, Ok, IfOk, OnOk, OnErr, IsTrue};
+ghost use Rattle.std.specs.Prelude.{◌≡◌, ◌⊎◌, ◌↔◌, [], ◌∷◌, false, true, string_bytes, Ok, IfOk, OnOk, OnErr, IsTrue};
 
 mod asks;
 mod loads;
@@ -7,10 +7,10 @@ mod opening;
 
 use crate::counts::Counts;
 use crate::desk::{find, put_alone, remove_alone};
-use crate::kept::Kept;
 use crate::keys::hash_of;
 use crate::store::Store;
 use bloom_plain::{BloomFilter, FilterError};
+use guard_parts::Kept;
 pub use loads::{Loaded, Stop, Why};
 pub use opening::Origin;
 use std::marker::Model;
@@ -94,9 +94,12 @@ impl Put {
 }
 
 impl<T: Store + Drop, K: Kept + Drop> Guard<T, K> {
+    ghost use Rattle.bloom_plain.specs.Data.{AnswerAlike};
     ghost use Rattle.bloom_plain.specs.Filter.{contains};
     ghost use Rattle.guard_engine.specs.Puts.{IsPut};
-    ghost use Rattle.guard_engine.specs.Counted.{CountsPuts, one_more};
+    ghost use Rattle.guard_engine.specs.Counted.{CountsDelete, CountsOnce, CountsPuts, asked_once, counts_after, one_more};
+    ghost use Rattle.guard_engine.specs.Fills.{Fills};
+    ghost use Rattle.guard_engine.specs.Guarding.{IsGuarding};
     ghost use Rattle.guard_engine.specs.Guarded.{IsSingle, Lacks, Loses, Stays, key_hash};
     ghost use Rattle.guard_engine.specs.Puts.{added_by, taken_by};
 
@@ -138,6 +141,9 @@ impl<T: Store + Drop, K: Kept + Drop> Guard<T, K> {
             } }
         ensures count_value { (value : _) → result ≡ Ok (Found.Value value) → self.new.counts
             ≡ record self.old.counts { asked = one_more self.old.counts.asked } }
+        ensures count { IfOk result (λ found.
+            self.new.counts ≡ counts_after self.old.counts found) }
+        ensures count_err { OnErr result (self.new.counts ≡ asked_once self.old.counts) }
     {
         let hash = hash_of(key);
         find(&mut self.store, &self.filter, &mut self.counts, key, hash)
@@ -157,9 +163,14 @@ impl<T: Store + Drop, K: Kept + Drop> Guard<T, K> {
             → IsSingle (T.sight self.old.store).has → IsSingle (T.sight self.new.store).has }
         ensures known { T.is_known self.new.store → T.is_known self.old.store }
         ensures kept_known { K.is_known self.new.kept → K.is_known self.old.kept }
-        // The key is looked up once.
+        // The key is looked up once; after an error once, or not at all.
         ensures counts { IfOk result (λ put.
             CountsPuts self.old.counts (added_by put) (taken_by put) self.new.counts) }
+        ensures count_err { OnErr result ((self.new.counts ≡ self.old.counts)
+            ⊎ CountsOnce self.old.counts self.new.counts) }
+        // The hash of the key came into the filter, and no other; none where the key had a value.
+        ensures fills { Fills (key.now ∷ []) self.old.filter self.new.filter }
+        ensures same { result ≡ Ok Put.Taken → self.new.filter ≡ self.old.filter }
     {
         put_alone(
             &mut self.store,
@@ -197,6 +208,9 @@ impl<T: Store + Drop, K: Kept + Drop> Guard<T, K> {
             } }
         ensures count_value { result ≡ Ok true → self.new.counts
             ≡ record self.old.counts { asked = one_more self.old.counts.asked } }
+        ensures count { IfOk result (λ had.
+            CountsDelete self.old.filter key.now had self.old.counts self.new.counts) }
+        ensures count_err { OnErr result (self.new.counts ≡ asked_once self.old.counts) }
     {
         match self.get(key)? {
             Found::Spared => Ok(false),
@@ -214,7 +228,9 @@ impl<T: Store + Drop, K: Kept + Drop> Guard<T, K> {
     /// Where it can't be saved; the guard goes on.
     pub fn save(&mut self) -> Result<(), K::Error>
         ensures saved { K.is_known self.new.kept → OnOk result
-            ((other : _) → K.may_have self.new.kept other → other ≡ self.old.filter) }
+            ((other : _) → K.may_have self.new.kept other
+            → AnswerAlike self.old.filter other) }
+        ensures there { K.is_known self.new.kept → OnOk result (¬ K.may_lack self.new.kept) }
         ensures same { (self.new.store ≡ self.old.store) × (self.new.filter ≡ self.old.filter)
             × (self.new.counts ≡ self.old.counts) }
         ensures known { K.is_known self.new.kept → K.is_known self.old.kept }
@@ -222,9 +238,20 @@ impl<T: Store + Drop, K: Kept + Drop> Guard<T, K> {
         self.kept.save(&self.filter)
     }
 
+    /// What the guard keeps true: its store is ready, its filter has each key of the store, and so
+    /// has each filter that may be found of what is committed.
+    pub fn guarding(&self)
+        ensures { T.is_known self.now.store → K.is_known self.now.kept
+            → IsGuarding (T.sight self.now.store) (K.may_have self.now.kept) self.now.filter }
+    {
+        let _ = &self.store;
+    }
+
     /// Gives the store and the place of the filter back.
     pub fn into_parts(self) -> (T, K)
-        ensures { result ≡ (self.store, self.kept) }
+        ensures parts { result ≡ (self.store, self.kept) }
+        ensures guarding { T.is_known result.0 → K.is_known result.1
+            → IsGuarding (T.sight result.0) (K.may_have result.1) self.filter }
     {
         let Guard { store, kept, .. } = self;
         (store, kept)

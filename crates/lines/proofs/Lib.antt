@@ -2,6 +2,7 @@ mod EndFacts
 mod FillingFacts
 mod LineFacts
 pub mod LineLemmas
+mod LosingFacts
 mod ReadingFacts
 pub mod ReadingLemmas
 mod RoomLemmas

@@ -1,9 +1,10 @@
 -- What reading one line took.
 use Rattle.std.proofs.Common.{◌≡◌, ℕ, ◌<◌, ◌≤◌, Bool, true, false, not, ◌||◌, List, [], ◌∷◌, ◌++◌, length, length-append, Option, Some, None, refl, sym, ◌∙◌, ◌⊎◌, ap, subst, append_assoc, arith, inl, inr}
-use Rattle.std.specs.Prelude.{nat_lt}
+use Rattle.std.specs.Prelude.{nat_lt, Ok, Err, OnErr, Result}
 use Rattle.std.proofs.lemmas.Bool.{le-ltb, not-true, both_ways}
-use Rattle.std.specs.Io.KnownBytes.{Consumes, IsAtEnd, prepend_known}
+use Rattle.std.specs.Io.KnownBytes.{Consumes, IsAtEnd, Keeps, prepend_known}
 use Rattle.lines.specs.Lines.{has_no_end_by}
+use Rattle.lines.specs.Losing.{LosesPart}
 use Rattle.lines.specs.Pieces.{GrowsToEnd, GrowsByAll, GrowsTooLong}
 use Rattle.lines.specs.Reading.{HasTakenLineBy, TakesLineBy, TakesShortBy, TakesLongBy, is_told_by}
 use Rattle.lines.proofs.LineLemmas.{lines_by-nil, lines_by-ended, lines_by-last, has_no_end-append, IsEnded-line}
@@ -34,6 +35,26 @@ pub record IsHalfway (end longest : ℕ) (old now : Option (List ℕ)) (line : L
   pub inside : has_no_end_by end line ≡ true
   pub short : length line ≤ longest
 
+-- what holds holds of an error
+on-err : {X E P : Type 0} (result : Result X E) → P → OnErr result P
+on-err (Ok x) holds = tt
+on-err (Err error) holds = holds
+
+-- half-way through a line, its bytes so far are lost where reading it fails
+pub loses-half : {end longest : ℕ} {old : Option (List ℕ)} {block new line : List ℕ} {X E : Type 0}
+    (result : Result X E) (rest : Option (List ℕ))
+    → IsHalfway end longest old (prepend_known block rest) line → new ≡ block
+    → OnErr result (LosesPart end old (prepend_known new rest))
+loses-half {end = end} {old = old} {line = line} result rest half same =
+    on-err result (subst (λ b. LosesPart end old (prepend_known b rest)) (sym same)
+    (record { lost = line; taken = half.taken; inside = half.inside }))
+
+-- where bytes are kept none was taken
+pub kept-nothing : (old new : Option (List ℕ)) → Keeps old new → Consumes old new []
+kept-nothing None new same = tt
+kept-nothing (Some x) None same = absurd same
+kept-nothing (Some x) (Some y) same = sym same
+
 -- nothing is left of a block, and a new one was read
 refilled : (old rest left : Option (List ℕ)) (block more line : List ℕ)
     → Consumes old (prepend_known block rest) line → more ≡ line ++ block
@@ -57,6 +78,13 @@ module _ {end longest : ℕ} (old rest : Option (List ℕ)) {block line : List �
         ∙ has_no_end-append end line block so_far.inside all.grows.inside;
     short = all.grows.short;
   }
+
+  -- the line grew by the whole block, and no new one could be read
+  pub loses-more : {new more fresh : List ℕ} {X E : Type 0} (result : Result X E)
+      (left : Option (List ℕ)) → GrowsByAll end longest block new line more → Keeps rest left
+      → fresh ≡ [] → OnErr result (LosesPart end old (prepend_known fresh left))
+  loses-more result left all kept none =
+      loses-half result left (halfway-more all left [] (kept-nothing rest left kept)) none
 
   -- the line has its end
   pub takes-ended : {new more : List ℕ} → GrowsToEnd end longest block new line more

@@ -1,5 +1,5 @@
 //! Moves waiting bytes to a line.
-ghost use Rattle.std.specs.Prelude.{◌≡◌, ◌+◌, ◌<◌, ◌≤◌, true, false, not, ◌++◌, length, IfOk, MatchOption};
+ghost use Rattle.std.specs.Prelude.{◌≡◌, ◌+◌, ◌<◌, ◌≤◌, true, false, not, ◌++◌, length, IfOk, MatchOption, OnErr};
 ghost use Rattle.lines.specs.Lines.{has_no_end_by};
 ghost use Rattle.lines.specs.Pieces.{MovesPiece};
 ghost use Rattle.lines.specs.Reading.{HasEndAtBy};
@@ -25,8 +25,9 @@ pub fn move_piece<const END: u8>(
     longest: usize,
 ) -> io::Result<Piece>
     requires { length line.old.items ≤ longest }
-    ensures { IfOk result
+    ensures moved { IfOk result
         (MovesPiece END longest block.old block.new line.old.items line.new.items) }
+    ensures kept { OnErr result (block.new ≡ block.old) }
 {
     match first_end::<END>(block.as_slice()) {
         Some(count) => {

@@ -1,6 +1,7 @@
 //! Reading one line after the other.
-ghost use Rattle.std.specs.Prelude.{◌≡◌, false, true, [], IfOk, OnOk};
-ghost use Rattle.std.specs.Io.KnownBytes.{Consumes, prepend_known};
+ghost use Rattle.std.specs.Prelude.{◌≡◌, false, true, [], IfOk, OnErr, OnOk};
+ghost use Rattle.std.specs.Io.KnownBytes.{Consumes, Keeps, prepend_known};
+ghost use Rattle.lines.specs.Losing.{LosesPart};
 ghost use Rattle.lines.specs.Reading.{KnowsEnd, NextLineBy, has_next_by, is_told_by, left_of};
 
 use crate::block::Block;
@@ -98,6 +99,9 @@ impl<const END: u8> LineReaderBy<END> {
         ensures next { IfOk result (NextLineBy END self.old.longest
             (left_of self.old (R.remaining input.old))
             (left_of self.new (R.remaining input.new)) self.new.line) }
+        // After an error no byte behind the line was taken.
+        ensures lost { OnErr result (LosesPart END (left_of self.old (R.remaining input.old))
+            (left_of self.new (R.remaining input.new))) }
         ensures knows { KnowsEnd self.new.ended (R.remaining input.new) }
         ensures longest { self.new.longest ≡ self.old.longest }
         // The end stays told.
@@ -129,6 +133,8 @@ fn fill_line<const END: u8, R: Read>(
     ensures next { IfOk result (NextLineBy END longest
         (prepend_known block.old (R.remaining input.old))
         (prepend_known block.new (R.remaining input.new)) line.new.items) }
+    ensures lost { OnErr result (LosesPart END (prepend_known block.old (R.remaining input.old))
+        (prepend_known block.new (R.remaining input.new))) }
     ensures knows { KnowsEnd ended.new (R.remaining input.new) }
     ensures told { ended.old ≡ true → ended.new ≡ true }
     ensures quiet { is_told_by END ended.old longest block.old ≡ true → input.new ≡ input.old }
@@ -162,6 +168,8 @@ fn refill<R: Read>(block: &mut Block, ended: &mut bool, input: &mut R) -> io::Re
     ensures knows { KnowsEnd ended.new (R.remaining input.new) }
     ensures told { ended.old ≡ true → ended.new ≡ true }
     ensures quiet { ended.old ≡ true → input.new ≡ input.old }
+    ensures none { OnErr result (block.new ≡ []) }
+    ensures kept { OnErr result (Keeps (R.remaining input.old) (R.remaining input.new)) }
 {
     if !*ended {
         block.fill(input)?;

@@ -75,7 +75,29 @@ fn plain_for(builder: BuilderWithBits, size: &Size) -> BloomFilter {
     }
 }
 
-fn plain_at(alloc: Global, rate: Rate, seed: &u128, size: &Size) -> Result<BloomFilter, Refused> {
+fn plain_of_bits(alloc: Global, bits: usize, size: &Size) -> Result<BloomFilter, Refused> {
+    let builder = named("with_num_bits", BloomFilter::with_num_bits(alloc, bits))?;
+    Ok(plain_for(builder, size))
+}
+
+fn plain_of_words(
+    alloc: Global,
+    words: &[u64],
+    seed: &u128,
+    size: &Size,
+) -> Result<BloomFilter, Refused> {
+    let builder = named("from_vec", BloomFilter::from_vec(words_of(alloc, words)?))?;
+    Ok(plain_for(builder.seed(seed), size))
+}
+
+fn plain_at(
+    alloc: Global,
+    num: u64,
+    den: u64,
+    seed: &u128,
+    size: &Size,
+) -> Result<BloomFilter, Refused> {
+    let rate = named("Rate::new", Rate::new(num, den))?;
     let builder = BloomFilter::with_false_pos(rate).seed(seed);
     match size {
         Size::Hashes(_) => Err(NO_SUCH_CALL),
@@ -90,29 +112,24 @@ fn plain_at(alloc: Global, rate: Rate, seed: &u128, size: &Size) -> Result<Bloom
     }
 }
 
+fn plain_of_data(
+    alloc: Global,
+    words: &[u64],
+    num_hashes_minus_one: u32,
+    k0: u64,
+    k1: u64,
+) -> Result<BloomFilter, Refused> {
+    let form = data_of(alloc, words, num_hashes_minus_one, k0, k1)?;
+    named("from_data", BloomFilter::from_data(form))
+}
+
 /// The plain filter.
 pub(crate) fn plain_of(alloc: Global, make: &Make) -> Result<BloomFilter, Refused> {
     match make {
-        Make::Bits(bits, size) => {
-            let builder = named("with_num_bits", BloomFilter::with_num_bits(alloc, *bits))?;
-            Ok(plain_for(builder, size))
-        }
-        Make::Words(words, seed, size) => {
-            let builder = BloomFilter::from_vec(words_of(alloc, words)?);
-            Ok(plain_for(named("from_vec", builder)?.seed(seed), size))
-        }
-        Make::Rate(num, den, seed, size) => {
-            plain_at(
-                alloc,
-                named("Rate::new", Rate::new(*num, *den))?,
-                seed,
-                size,
-            )
-        }
-        Make::Data(words, less_one, k0, k1) => {
-            let form = data_of(alloc, words, *less_one, *k0, *k1)?;
-            named("from_data", BloomFilter::from_data(form))
-        }
+        Make::Bits(bits, size) => plain_of_bits(alloc, *bits, size),
+        Make::Words(words, seed, size) => plain_of_words(alloc, words, seed, size),
+        Make::Rate(num, den, seed, size) => plain_at(alloc, *num, *den, seed, size),
+        Make::Data(words, less_one, k0, k1) => { plain_of_data(alloc, words, *less_one, *k0, *k1) }
     }
 }
 

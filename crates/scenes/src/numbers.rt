@@ -1,7 +1,7 @@
 //! Numbers of hashes, sizes, rates and brackets at values from outside, and the refusals' texts.
 use fastbloom::{
-    BloomFilter, Bracket, FilterError, Rate, expected_density, expected_false_pos, optimal_hashes,
-    optimal_size,
+    BloomFilter, Bracket, FilterError, Rate, expected_density, expected_false_pos,
+    false_pos_bounds, false_pos_of_either, false_pos_of_ones, optimal_hashes, optimal_size,
 };
 use std::alloc::Global;
 
@@ -111,6 +111,56 @@ fn densities_and_their_powers_have_these_ends(rt: HostRuntime) {
         );
     }
     assert!(rt; powers_hold());
+}
+
+// Hashes, bits, items, and both ends of the mean rate of false positives, computed apart with
+// Python's whole numbers. Of two bits after two draws 10 of 16 pairs are a false positive, which is
+// 5764607523034234880 units.
+const MEAN_RATES: [(u32, usize, usize, u64, u64); 5] = [
+    (2, 2, 1, 5188146770730811392, 6088866696204910592),
+    (2, 64, 1, 8867011522199552, 13725461381120000),
+    (7, 1024, 100, 67513609598153215, 68936744759523058),
+    (3, 64, 0, 0, 0),
+    (0, 64, 5, 9223372036854775808, 9223372036854775808),
+];
+
+// Hashes, bits, set bits, and both ends of the rate: (1/64)^2, (1/3)^3, and (100/192)^7.
+const RATES_OF_ONES: [(u32, usize, usize, u64, u64); 4] = [
+    (2, 64, 1, 2251799813685248, 2251799813685248),
+    (3, 3, 1, 341606371735362066, 341606371735362068),
+    (7, 192, 100, 95891723822588019, 95891723822588021),
+    (7, 64, 0, 0, 0),
+];
+
+// Whether one of two tests holds of at least the greater lower end of both, and of at most the sum
+// of their upper ends, or of all.
+fn sums_hold() -> bool {
+    let (third, half) = (false_pos_of_ones(1, 3, 1), false_pos_of_ones(1, 64, 32));
+    let most = false_pos_of_ones(1, 64, 48);
+    let both = false_pos_of_either(third, half);
+    has_ends(both, 4611686018427387904, 7686143364045646507)
+        & has_ends(
+            false_pos_of_either(most, half),
+            6917529027641081856,
+            9223372036854775808,
+        )
+}
+
+#[test]
+fn rates_that_are_counts_have_these_ends(rt: HostRuntime) {
+    for (hashes, bits, items, low, high) in MEAN_RATES {
+        assert!(rt;
+            has_ends(false_pos_bounds(hashes, bits, items), low, high),
+            "{bits}"
+        );
+    }
+    for (hashes, bits, ones, low, high) in RATES_OF_ONES {
+        assert!(rt;
+            has_ends(false_pos_of_ones(hashes, bits, ones), low, high),
+            "{ones}"
+        );
+    }
+    assert!(rt; sums_hold());
 }
 
 const REFUSALS: [(FilterError, u8, &str); 8] = [

@@ -9,13 +9,19 @@ mod sets;
 
 pub(crate) use builders::REFUSALS;
 
-/// Every scene, by tables.
-pub(crate) fn all() -> [&'static [Scene]; 5] {
+/// Every scene, by tables. A check takes longer for one long table than for two of half its length,
+/// so each table is of one subject.
+pub(crate) fn all() -> [&'static [Scene]; 10] {
     [
-        by_hash::scenes(),
-        sets::scenes(),
+        by_hash::hashes(),
+        by_hash::calls(),
+        by_hash::estimates(),
+        sets::meetings(),
+        sets::copies(),
+        sets::comparisons(),
         builders::scenes(),
-        items::scenes(),
+        items::items(),
+        items::by_builders(),
         sessions::scenes(),
     ]
 }

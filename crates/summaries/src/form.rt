@@ -3,17 +3,19 @@ ghost use Rattle.std.specs.Prelude.{◌≤◌, IfErr, IfOk};
 ghost use Rattle.summaries_engine.specs.Answers.{IsKeyed};
 ghost use Rattle.summaries_engine.specs.Loaded.{IsUnloaded};
 
+use crate::key_files::STANDARD;
 use fastbloom::BloomFilter;
 use std::fs;
 use std::rt::Files;
 use summaries_engine::{Form, Shelf, Stop, load, unread};
 
-/// The filter of a file, which may have at most this many hashes, and its form.
+/// The filter of a file, or of standard input, by its name as it is told, and its form. It may have
+/// at most this many hashes.
 ///
 /// # Errors
 /// Out of memory, and where the file can't be read, or holds no filter, or one with more hashes;
 /// each but the first tells the name.
-pub fn load_named<R: Files + AllocGlobal>(
+pub fn load_named<R: Files + Input + AllocGlobal>(
     rt: &R,
     name: &str,
     most: u32,
@@ -22,13 +24,16 @@ pub fn load_named<R: Files + AllocGlobal>(
     ensures few { IfOk result (λ read. read.0.hashes ≤ most) }
     ensures failed { IfErr result (IsUnloaded name.now most) }
 {
+    if name == STANDARD {
+        return load(rt.alloc(), name, most, &mut rt.reader());
+    }
     match fs::open(rt, name) {
         Ok(mut file) => load(rt.alloc(), name, most, &mut file),
         Err(error) => Err(unread(name, error)),
     }
 }
 
-/// The files of a system, each with one filter.
+/// The files of a system, each with one filter, and standard input among them.
 #[derive(Drop)]
 pub struct Disk<'a, R> {
     pub rt: &'a R,
@@ -36,7 +41,7 @@ pub struct Disk<'a, R> {
     pub most: u32,
 }
 
-impl<'a, R: Files + AllocGlobal> Shelf for Disk<'a, R> {
+impl<'a, R: Files + Input + AllocGlobal> Shelf for Disk<'a, R> {
     // What files hold is known to no contract; but a filter that is loaded has few hashes.
     ghost has = { λ disk name filter. filter.hashes ≤ disk.most };
 

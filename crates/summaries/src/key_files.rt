@@ -1,4 +1,4 @@
-//! Files of keys, and standard input.
+//! Files by their names, and standard input.
 ghost use Rattle.std.specs.Prelude.{IfErr};
 ghost use Rattle.summaries_engine.specs.Stops.{IsUnreadable};
 
@@ -8,11 +8,11 @@ use std::fs;
 use std::rt::Files;
 use summaries_engine::{Inputs, Stop, unread};
 
-// The name of standard input, as it is told.
-const STANDARD: &str = "standard input";
+/// The name of standard input, as it is told.
+pub const STANDARD: &str = "standard input";
 
-// How an input is called. A file that has the name of standard input is called by its folder.
-fn called(name: &str) -> &str {
+/// How an input is called. A file that has the name of standard input is called by its folder.
+pub fn called(name: &str) -> &str {
     if name == "-" {
         STANDARD
     } else if name == STANDARD {

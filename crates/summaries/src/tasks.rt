@@ -4,7 +4,7 @@ use crate::command_line::{
     ABSENT, BITS, FILE, FILTER, HASHES, ITEMS, JSON, MOST_HASHES, OTHER, RATE, WORKERS, ZERO,
 };
 use crate::form::{Disk, load_named};
-use crate::key_files::{KeyFiles, called_inputs};
+use crate::key_files::{KeyFiles, STANDARD, called, called_inputs};
 use crate::rates::rate_of;
 use clap::ArgMatches;
 use fastbloom::{BloomFilter, FilterError, Shape};
@@ -12,8 +12,8 @@ use std::io::{BufWriter, Write};
 use std::rt::Files;
 use std::thread::Threads;
 use summaries_engine::{
-    Shelf, Stop, Told, ask, build, compare_named, facts_of, put, put_file, shape_for, unite_named,
-    unsaid, unshaped, written,
+    Shelf, Stop, Told, ask, build, compare_named, facts_of, put, put_file, shape_for, twice,
+    unite_named, unsaid, unshaped, written,
 };
 
 fn shape_by_rate(matches: &ArgMatches, items: u64) -> Result<Shape, Stop> {
@@ -97,7 +97,7 @@ fn run_build<R: Files + Input + Print + AllocGlobal + Threads>(
 }
 
 // The files with filters, of which none may have more hashes than the words allow.
-fn disk_of<'a, R: Files + AllocGlobal>(
+fn disk_of<'a, R: Files + Input + AllocGlobal>(
     rt: &'a R,
     matches: &ArgMatches,
 ) -> Result<Disk<'a, R>, Stop> {
@@ -107,12 +107,31 @@ fn disk_of<'a, R: Files + AllocGlobal>(
     }
 }
 
-fn run_unite<R: Files + Print + AllocGlobal>(rt: &R, matches: &ArgMatches) -> Result<(), Stop> {
-    let Some(names) = matches.get_strs(FILTER) else {
+// Refuses names of which more than one is standard input.
+fn check_once(names: &[&str]) -> Result<(), Stop> {
+    let mut is_named = false;
+    for name in names {
+        if *name == STANDARD {
+            if is_named {
+                return Err(twice(STANDARD));
+            }
+            is_named = true;
+        }
+    }
+    Ok(())
+}
+
+fn run_unite<R: Files + Input + Print + AllocGlobal>(
+    rt: &R,
+    matches: &ArgMatches,
+) -> Result<(), Stop> {
+    let Some(words) = matches.get_strs(FILTER) else {
         return Err(unsaid(FILTER));
     };
+    let names = called_inputs(rt.alloc(), words)?;
+    check_once(names.as_slice())?;
     let disk = disk_of(rt, matches)?;
-    let filter = unite_named(&disk, names)?;
+    let filter = unite_named(&disk, names.as_slice())?;
     write(rt, matches, &filter)
 }
 
@@ -125,6 +144,10 @@ fn ask_of<R: Files + Input + Print + AllocGlobal>(
     let Some(name) = matches.get_str(FILTER) else {
         return Err(unsaid(FILTER));
     };
+    let name = called(name);
+    if name == STANDARD && names.contains(&STANDARD) {
+        return Err(twice(STANDARD));
+    }
     let filter = disk_of(rt, matches)?.load(name)?;
     let told = if matches.get_flag(ABSENT) {
         Told::Absent
@@ -159,24 +182,32 @@ fn print_facts<R: Print>(rt: &R, facts: &str) -> Result<(), Stop> {
     written(print!(rt; "{facts}"), "the facts can't be written")
 }
 
-fn run_info<R: Files + Print + AllocGlobal>(rt: &R, matches: &ArgMatches) -> Result<(), Stop> {
+fn run_info<R: Files + Input + Print + AllocGlobal>(
+    rt: &R,
+    matches: &ArgMatches,
+) -> Result<(), Stop> {
     let Some(name) = matches.get_str(FILTER) else {
         return Err(unsaid(FILTER));
     };
-    let (filter, form) = load_named(rt, name, u32::MAX)?;
+    let (filter, form) = load_named(rt, called(name), u32::MAX)?;
     match facts_of(rt.alloc(), &filter, form) {
         Ok(facts) => print_facts(rt, facts.as_str()),
         Err(_) => Err(Stop::Memory),
     }
 }
 
-fn run_compare<R: Files + Print + AllocGlobal>(rt: &R, matches: &ArgMatches) -> Result<(), Stop> {
+fn run_compare<R: Files + Input + Print + AllocGlobal>(
+    rt: &R,
+    matches: &ArgMatches,
+) -> Result<(), Stop> {
     let Some(one) = matches.get_str(FILTER) else {
         return Err(unsaid(FILTER));
     };
     let Some(other) = matches.get_str(OTHER) else {
         return Err(unsaid(OTHER));
     };
+    let (one, other) = (called(one), called(other));
+    check_once(&[one, other])?;
     let most = u32::MAX;
     let facts = compare_named(rt.alloc(), &Disk { rt, most }, one, other)?;
     print_facts(rt, facts.as_str())

@@ -1,5 +1,6 @@
 -- Why the filters of two names aren't compared.
 use Rattle.std.proofs.Common.{◌≡◌, ℕ, List, [], ◌∷◌, inr, inl, refl}
+use Rattle.std.proofs.lemmas.List.Elements.{All-nil}
 use Rattle.std.specs.Prelude.{Err, Result}
 use Rattle.fastbloom.specs.Data.{DefaultFilter}
 use Rattle.fastbloom.specs.Filter.{SameShape}
@@ -8,16 +9,17 @@ use Rattle.summaries_engine.specs.declared.unions.Difference.{Difference}
 use Rattle.summaries_engine.specs.declared.unions.Difference.TheVariants.{Shape, Key}
 use Rattle.summaries_engine.specs.Comparing.{StopsComparing}
 use Rattle.summaries_engine.specs.Named.{Named, LoadedBefore, misfit_text}
-use Rattle.summaries_engine.specs.Refusals.{DiffersBy}
+use Rattle.summaries_engine.specs.Refusals.{DiffersBy, Fits}
 use Rattle.summaries_engine.specs.Stops.{IsBad, Says}
 use Rattle.summaries_engine.specs.Summaries.{HaveSameKey}
 
 -- what a test of two filters says of their difference
 pub differs-by : {T : Type 0} (f g : DefaultFilter) (how : Difference) {told : Result T Difference}
     → told ≡ Err how → (told ≡ Err Shape → SameShape f g → ⊥)
-    → (told ≡ Err Key → HaveSameKey f g → ⊥) → DiffersBy f g how
-differs-by f g Shape is shape key = shape is
-differs-by f g Key is shape key = key is
+    → (told ≡ Err Key → HaveSameKey f g → ⊥) → (told ≡ Err Key → SameShape f g)
+    → DiffersBy f g how
+differs-by f g Shape is shape key order = shape is
+differs-by f g Key is shape key order = (order is, key is)
 
 module _ (has : Named) (fails : List ℕ → Stop → Type 0) (one other : List ℕ) where
   -- the first filter couldn't be loaded
@@ -26,6 +28,7 @@ module _ (has : Named) (fails : List ℕ → Stop → Type 0) (one other : List 
     filters = [];
     name = one;
     reaches = record { before = []; after = other ∷ []; are = refl; loaded = tt };
+    fit = tt;
     failed = failed;
   })))
 
@@ -41,6 +44,7 @@ module _ (has : Named) (fails : List ℕ → Stop → Type 0) (one other : List 
       filters = first ∷ [];
       name = other;
       reaches = second-asked;
+      fit = All-nil (Fits first);
       failed = failed;
     })))
 
@@ -56,6 +60,7 @@ module _ (has : Named) (fails : List ℕ → Stop → Type 0) (one other : List 
       shard = second;
       how = how;
       reaches = second-asked;
+      fit = All-nil (Fits first);
       loaded = there;
       differs = differs;
       says = says;

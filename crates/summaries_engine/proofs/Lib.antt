@@ -7,6 +7,7 @@ mod CuttingLemmas
 mod InputFacts
 mod InputLemmas
 mod KeyLemmas
+mod KindFacts
 mod LoadedFacts
 mod LoadedLemmas
 mod MisfitLemmas
@@ -15,6 +16,7 @@ mod NamedLemmas
 mod NamingLemmas
 mod RefusalFacts
 mod RefusalLemmas
+mod SealLemmas
 mod ShardFacts
 mod ShardLemmas
 mod SizeFacts
@@ -28,4 +30,5 @@ mod UnionFacts
 mod UnionLemmas
 mod UnitingFacts
 mod UnitingLemmas
+mod UnloadedLemmas
 mod WritingFacts

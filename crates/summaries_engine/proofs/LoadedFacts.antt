@@ -1,16 +1,18 @@
 -- Filters in files of either form, and what is said where none is read: cases that hold, and some
 -- that nearly do.
-use Rattle.std.proofs.Common.{◌≡◌, ℕ, List, [], ◌∷◌, ◌++◌, codes, drop, get_or, Some, refl, ap, arith, inl, inr}
+use Rattle.std.proofs.Common.{◌≡◌, ℕ, List, [], ◌∷◌, ◌++◌, codes, drop, get_or, None, Some, refl, sym, subst, ap, ◌∙◌, arith, inl, inr}
 use Rattle.std.specs.Fmt.{digits}
 use Rattle.std.specs.Fmt.Cut.{EndsInDots}
 use Rattle.anyhow.specs.Error.{HasMessage, error_message}
 use Rattle.anyhow.specs.declared.error.Error.{Error}
 use Rattle.fastbloom.specs.Data.{DefaultFilter}
 use Rattle.fastbloom.specs.File.{IsFileOf}
-use Rattle.bloom_plain.specs.FileRefusals.{number_at}
+use Rattle.bloom_plain.specs.declared.file.error.FileError.TheVariants.{Seal}
+use Rattle.bloom_plain.specs.FileRefusals.{file_refusal, number_at}
+use Rattle.lines.specs.Writing.{Begins}
 use Rattle.summaries_engine.specs.declared.form.Form.TheVariants.{Sealed, Unsealed, Json}
 use Rattle.summaries_engine.specs.declared.stop.Stop.TheVariants.{Memory, Worker, Input, Bad, Output}
-use Rattle.summaries_engine.specs.Loaded.{HasManyHashes, IsInForm, IsUnloaded, IsUnread, file_form, hashes_text, mark_bytes}
+use Rattle.summaries_engine.specs.Loaded.{HasHashesOf, HasManyHashes, HoldsNone, IsInForm, IsRightOf, IsRightWith, IsUnloaded, IsUnread, file_form, hashes_text, mark_bytes}
 use Rattle.summaries_engine.proofs.StopFacts.{says-other}
 
 -- the mark is the name and a zero
@@ -121,3 +123,44 @@ unread-worker (inl (inl memory)) = memory
 unread-worker (inl (inr (inl failed))) = failed
 unread-worker (inl (inr (inr none))) = none
 unread-worker (inr many) = many
+
+-- a file with a wrong seal holds no filter
+holds-seal : (bytes : List ℕ) → file_refusal bytes ≡ Some Seal → HoldsNone bytes
+holds-seal bytes refused = λ begins. (Seal, refused)
+
+module _ (bytes : List ℕ) (begins : Begins bytes mark_bytes) (good : file_refusal bytes ≡ None)
+    (said : Error) where
+  -- a good file holds one
+  holds-good : HoldsNone bytes → ⊥
+  holds-good none =
+      let wrong : None ≡ Some (none begins).0 = sym good ∙ (none begins).1 in cc
+
+  -- that a good file holds none isn't right
+  right-good : IsRightOf bytes (codes "a") (Bad said) → ⊥
+  right-good (inl told) = told tt
+  right-good (inr told) = holds-good told.0
+
+-- memory may be out with whatever file
+right-room : (bytes : List ℕ) → IsRightOf bytes (codes "a") Memory
+right-room bytes = inl (λ bad. bad)
+
+module _ (bytes : List ℕ) (said : Error) where
+  -- a sealed file of a filter of 65 hashes
+  hashes-more : (f : DefaultFilter) → IsInForm Sealed f bytes → f.hashes ≡ 65
+      → HasMessage (Some (hashes_text (codes "a") 65 64)) said
+      → IsRightWith bytes (codes "a") 64 (Bad said)
+  hashes-more f is more says = inr (record {
+    filter = f;
+    form = Sealed;
+    is = is;
+    many = omega (arith, more);
+    says = subst (λ n. HasMessage (Some (hashes_text (codes "a") n 64)) said) (sym more) says;
+  })
+
+  -- the filter is that of the bytes, and its own hashes are told
+  hashes-own : (did : HasHashesOf bytes (codes "a") 64 said) → did.form ≡ Sealed
+      → IsFileOf bytes did.filter
+  hashes-own did sealed = (subst (λ form. IsInForm form did.filter bytes) sealed did.is).file
+
+  hashes-allowed : (did : HasHashesOf bytes (codes "a") 64 said) → did.filter.hashes ≡ 64 → ⊥
+  hashes-allowed did is = omega (arith, did.many, is)

@@ -101,7 +101,8 @@ in-file-form (Some all) (Some rest) buffer n f form read file is =
     all-is = read.taken ∙ ap (λ l. l ++ rest) front
 
 -- bytes whose first don't begin as those of a file don't begin so
-no-mark : (all rest : List ℕ) (buffer : List ℕ) (n : ℕ) → HasRead (Some all) (Some rest) buffer n
+pub no-mark : (all rest : List ℕ) (buffer : List ℕ) (n : ℕ)
+    → HasRead (Some all) (Some rest) buffer n
     → starts_with nat_eq (take n buffer) mark_bytes ≡ false → Begins all mark_bytes → ⊥
 no-mark all rest buffer n read other begins = wrong (cases_lt n 7)
   where

@@ -1,11 +1,12 @@
 -- The place of a name whose filter differs from the first.
 use Rattle.std.proofs.Common.{◌≡◌, ◌<◌, ◌+◌, ◌-◌, ◌^◌, ℕ, suc, Bor, min, List, [], ◌∷◌, ◌++◌, map, length, length-append, get_or, refl, sym, subst, ap, ◌∙◌, arith}
 use Rattle.std.proofs.lemmas.List.{get_or-map, length-map}
+use Rattle.std.specs.Prelude.{All}
 use Rattle.summaries_engine.specs.declared.stop.Stop.{Stop}
 use Rattle.fastbloom.specs.Data.{DefaultFilter}
 use Rattle.summaries_engine.specs.declared.unions.Difference.{Difference}
 use Rattle.summaries_engine.specs.Named.{Named, AreNamed, LoadedBefore, StopsAtMisfit, misfit_text}
-use Rattle.summaries_engine.specs.Refusals.{DiffersBy}
+use Rattle.summaries_engine.specs.Refusals.{DiffersBy, Fits}
 use Rattle.summaries_engine.specs.Stops.{IsBad, Says}
 
 -- as few texts as names
@@ -52,6 +53,7 @@ pub record MisfitAt (has : Named) (names : List (List ℕ)) (first : DefaultFilt
   pub name : List ℕ
   pub shard : DefaultFilter
   pub reaches : LoadedBefore has names (first ∷ filters) name
+  pub fit : All (Fits first) filters
   pub loaded : has name shard
   pub differs : DiffersBy first shard how
   pub within : number < length names
@@ -71,6 +73,7 @@ misfit-said has names first number how other name stop at within is_first says =
   shard = at.shard;
   how = how;
   reaches = at.reaches;
+  fit = at.fit;
   loaded = at.loaded;
   differs = at.differs;
   says = subst (λ n. IsBad (Says (misfit_text how at.name n)) stop) (sym is_first)

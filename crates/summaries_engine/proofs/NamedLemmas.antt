@@ -113,6 +113,7 @@ module _ {I S : Type 0} (E : Type 0) (has : S → Named) (fails : S → List ℕ
             filters = first ∷ others;
             name = up.0;
             reaches = reaches-behind others up.0 up.1;
+            fit = stop.refused.2;
             failed = subst (λ s. fails s up.0 error) there up.2;
           }
 
@@ -138,6 +139,7 @@ module _ {I S : Type 0} (E : Type 0) (has : S → Named) (fails : S → List ℕ
             name = up.0;
             shard = misfit.shard;
             reaches = reaches;
+            fit = misfit.fit;
             loaded = subst (λ s. has s up.0 misfit.shard) there up.2;
             differs = misfit.differs;
             within = at.1;

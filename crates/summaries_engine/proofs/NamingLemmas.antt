@@ -52,6 +52,7 @@ module _ {S : Type 0} (has : S → Named) (fails : S → List ℕ → Stop → T
       are = ap texts first-and-others;
       loaded = tt;
     };
+    fit = tt;
     failed = failed;
   }))
 

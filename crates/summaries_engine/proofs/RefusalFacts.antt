@@ -2,7 +2,8 @@
 use Rattle.std.proofs.Common.{◌≡◌, ℕ, ◌+◌, ◌-◌, ◌^◌, ◌≤◌, min, length, length-append, None, Option, List, [], ◌∷◌, ◌++◌, map, get_or, codes, decimal, refl, sym, subst, ap, ◌∙◌, arith}
 use Rattle.std.proofs.lemmas.Fmt.{decimal-digits_of}
 use Rattle.std.proofs.lemmas.List.{length-map}
-use Rattle.std.specs.Prelude.{Ok, Err, Result}
+use Rattle.std.proofs.lemmas.List.Elements.{All-from_recursion}
+use Rattle.std.specs.Prelude.{All, Ok, Err, Result}
 use Rattle.std.specs.Iterator.{Yields}
 use Rattle.fastbloom.specs.Data.{DefaultFilter}
 use Rattle.fastbloom.specs.Filter.{SameShape}
@@ -10,7 +11,7 @@ use Rattle.summaries_engine.specs.declared.unions.Difference.{Difference}
 use Rattle.summaries_engine.specs.declared.unions.Difference.TheVariants as difference
 use Rattle.summaries_engine.specs.declared.unions.Refusal.{Refusal}
 use Rattle.summaries_engine.specs.declared.unions.Refusal.TheVariants.{Unread, Differs}
-use Rattle.summaries_engine.specs.Refusals.{DiffersBy, IsMisfit, IsRefusedFor, RefusesGiven, too_long_text}
+use Rattle.summaries_engine.specs.Refusals.{DiffersBy, Fits, IsMisfit, IsRefusedFor, RefusesGiven, too_long_text}
 use Rattle.summaries_engine.proofs.SummaryFacts.{IsFilter}
 
 -- a filter of three hashes and one of two
@@ -26,13 +27,29 @@ differs-same f differs = differs (record { words = refl; hashes = refl })
 -- two keys
 differs-key : (f g : DefaultFilter) (word : ℕ) → IsFilter f word 0 → IsFilter g word 1
     → DiffersBy f g difference.Key
-differs-key f g word one other = λ same.
-    let wrong : 0 ≡ 1 = ap (λ pair. pair.0) (sym one.key ∙ same ∙ other.key) in
-    omega (arith, wrong)
+differs-key f g word one other = (
+  record {
+    words = ap length (one.words ∙ sym other.words);
+    hashes = one.hashes ∙ sym other.hashes;
+  },
+  λ same.
+      let wrong : 0 ≡ 1 = ap (λ pair. pair.0) (sym one.key ∙ same ∙ other.key) in
+      omega (arith, wrong),
+)
+
+-- a filter of another shape isn't told to differ in its key
+differs-first : (f g : DefaultFilter) → f.hashes ≡ 2 → g.hashes ≡ 3
+    → DiffersBy f g difference.Key → ⊥
+differs-first f g two three differs =
+    let wrong : 2 ≡ 3 = sym two ∙ differs.0.hashes ∙ three in omega (arith, wrong)
 
 -- a filter doesn't differ from itself in its key
 differs-alike : (f : DefaultFilter) → DiffersBy f f difference.Key → ⊥
-differs-alike f differs = differs refl
+differs-alike f differs = differs.1 refl
+
+-- a filter fits itself
+fits-itself : (f : DefaultFilter) → Fits f f
+fits-itself f = record { shape = record { words = refl; hashes = refl }; key = refl }
 
 -- the second behind the first has three hashes
 misfit : (f g : DefaultFilter) (word : ℕ) → IsFilter f word 0 → g.hashes ≡ 3
@@ -41,9 +58,18 @@ misfit f g word is more = record {
   others = f ∷ [];
   shard = g;
   came = refl;
+  fit = All-from_recursion (Fits f) (f ∷ []) (fits-itself f, tt);
   differs = differs-shape f g word is more;
   counted = refl;
 }
+
+-- a filter of another shape doesn't come before the one that is refused
+misfit-before : (f g : DefaultFilter) (given : List (Result DefaultFilter ℕ)) (number : ℕ)
+    (how : Difference) (did : IsMisfit f given number how) → did.others ≡ g ∷ [] → f.hashes ≡ 2
+    → g.hashes ≡ 3 → ⊥
+misfit-before f g given number how did is two three =
+    let fits : Fits f g = subst (All (Fits f)) is did.fit 0 g (omega arith) in
+    let wrong : 2 ≡ 3 = sym two ∙ fits.shape.hashes ∙ three in omega (arith, wrong)
 
 -- no list of filters that ends with one is empty
 some-given : (given : List (Result DefaultFilter ℕ)) (others : List DefaultFilter)

@@ -1,8 +1,8 @@
 -- Filters that aren't united, and keys that are too long.
 use Rattle.std.proofs.Common.{◌≡◌, ℕ, ◌+◌, ◌-◌, ◌^◌, min, codes, decimal, arith, length, length-append, List, [], ◌∷◌, ◌++◌, Option, Some, refl, sym, subst, ◌∙◌}
 use Rattle.std.proofs.lemmas.Fmt.{decimal-digits_of}
-use Rattle.std.proofs.lemmas.List.Elements.{All-head}
-use Rattle.std.specs.Prelude.{Err, Result}
+use Rattle.std.proofs.lemmas.List.Elements.{All-head, All-tail}
+use Rattle.std.specs.Prelude.{All, Err, Result}
 use Rattle.std.specs.Iterator.{Yields}
 use Rattle.anyhow.specs.Error.{HasMessage}
 use Rattle.anyhow.specs.declared.error.Error.{Error}
@@ -11,7 +11,7 @@ use Rattle.fastbloom.specs.Filter.{SameShape}
 use Rattle.summaries_engine.specs.declared.unions.Difference.{Difference}
 use Rattle.summaries_engine.specs.declared.unions.Difference.TheVariants as difference
 use Rattle.summaries_engine.specs.declared.unions.Refusal.{Refusal}
-use Rattle.summaries_engine.specs.Refusals.{DiffersBy, IsRefusedFor, RefusesGiven, too_long_text}
+use Rattle.summaries_engine.specs.Refusals.{DiffersBy, Fits, IsRefusedFor, RefusesGiven, too_long_text}
 use Rattle.summaries_engine.specs.Summaries.{HaveSameKey, IsUnionOf}
 
 -- one item more
@@ -36,25 +36,45 @@ stops steps start last end items item first refusal came next refused = record {
   refused = refused;
 }
 
+-- two filters of a third one's shape have one shape
+shape-of : (whole first f : DefaultFilter) → SameShape whole first → SameShape whole f
+    → SameShape first f
+shape-of whole first f fits has = record {
+  words = sym fits.words ∙ has.words;
+  hashes = sym fits.hashes ∙ has.hashes;
+}
+
+-- the filters of a union fit the first of them
+pub union-fits : (first whole : DefaultFilter) (others : List DefaultFilter)
+    → IsUnionOf (first ∷ others) whole → All (Fits first) others
+union-fits first whole others union = λ i d within. record {
+  shape = shape-of whole first _ (All-head (SameShape whole) first others union.shape)
+      (All-tail (SameShape whole) first others union.shape i d within);
+  key = sym (All-head (HaveSameKey whole) first others union.key)
+      ∙ All-tail (HaveSameKey whole) first others union.key i d within;
+}
+
 -- what differs from the union so far differs from the first
 differs-from : (first whole shard : DefaultFilter) (how : Difference)
     (answer : Result (Unit {0}) Difference) → answer ≡ Err how
     → (answer ≡ Err difference.Shape → SameShape whole shard → ⊥)
     → (answer ≡ Err difference.Key → HaveSameKey whole shard → ⊥)
+    → (answer ≡ Err difference.Key → SameShape whole shard)
     → SameShape whole first → HaveSameKey whole first → DiffersBy first shard how
-differs-from first whole shard difference.Shape answer is shape key fits same = λ has.
+differs-from first whole shard difference.Shape answer is shape key order fits same = λ has.
     shape is (record { words = fits.words ∙ has.words; hashes = fits.hashes ∙ has.hashes })
-differs-from first whole shard difference.Key answer is shape key fits same = λ has.
-    key is (same ∙ has)
+differs-from first whole shard difference.Key answer is shape key order fits same =
+    (shape-of whole first shard fits (order is), λ has. key is (same ∙ has))
 
 -- what differs from the union of the first and others differs from the first
 pub misfit-differs : (first whole shard : DefaultFilter) (others : List DefaultFilter)
     (how : Difference) (answer : Result (Unit {0}) Difference) → answer ≡ Err how
     → (answer ≡ Err difference.Shape → SameShape whole shard → ⊥)
     → (answer ≡ Err difference.Key → HaveSameKey whole shard → ⊥)
+    → (answer ≡ Err difference.Key → SameShape whole shard)
     → IsUnionOf (first ∷ others) whole → DiffersBy first shard how
-misfit-differs first whole shard others how answer is shape key union =
-    differs-from first whole shard how answer is shape key
+misfit-differs first whole shard others how answer is shape key order union =
+    differs-from first whole shard how answer is shape key order
     (All-head (SameShape whole) first others union.shape)
     (All-head (HaveSameKey whole) first others union.key)
 

@@ -1,13 +1,14 @@
 -- The shape for keys at a rate: a case that holds, and cases that nearly do. A thousand keys at one
 -- half take 1448 bits, so 23 words, and one hash suits these.
-use Rattle.std.proofs.Common.{◌≡◌, ℕ, ◌*◌, ap, subst, sym, ◌∙◌, arith}
+use Rattle.std.proofs.Common.{◌≡◌, ℕ, ◌*◌, None, Some, refl, ap, subst, sym, ◌∙◌, arith}
+use Rattle.bloom_parts.specs.declared.error.FilterError.TheVariants.{SizeOverflow}
 use Rattle.bloom_parts.specs.declared.math.rate.Rate.{Rate}
 use Rattle.bloom_parts.specs.Rates.{num_of, den_of}
 use Rattle.bloom_parts.specs.Sizing.{IsSizeFor, hashes_for}
-use Rattle.fastbloom.specs.Builders.{words_for}
+use Rattle.fastbloom.specs.Builders.{words_for, size_refusal}
 use Rattle.fastbloom.specs.Fill.{hashes_of, words_of}
 use Rattle.fastbloom.specs.declared.parallel.shape.Shape.{Shape}
-use Rattle.summaries_engine.specs.Sizes.{IsShapeFor}
+use Rattle.summaries_engine.specs.Sizes.{IsShapeFor, IsUnshapedFor}
 
 module _ (rate : Rate) (num : num_of rate ≡ 1) (den : den_of rate ≡ 2) (shape : Shape) where
   -- 23 words and one hash
@@ -39,3 +40,24 @@ module _ (rate : Rate) (num : num_of rate ≡ 1) (den : den_of rate ≡ 2) (shap
       let bits : is.bits ≡ 1448 = one is.bits size in
       let wrong : 24 ≡ 23 = sym words ∙ is.words ∙ ap words_for bits in
       omega (arith, wrong)
+
+  -- 1448 bits are refused for nothing
+  unshaped-none : IsSizeFor 1000 1 2 1448 → IsUnshapedFor 1000 rate None
+  unshaped-none size = record {
+    bits = 1448;
+    size =
+        subst (λ d. IsSizeFor 1000 (num_of rate) d 1448) (sym den)
+        (subst (λ n. IsSizeFor 1000 n 2 1448) (sym num) size);
+    refused = refl;
+  }
+
+  -- and so not for their number
+  unshaped-large : ((size : ℕ) → IsSizeFor 1000 1 2 size → size ≡ 1448)
+      → IsUnshapedFor 1000 rate (Some SizeOverflow) → ⊥
+  unshaped-large one is =
+      let size : IsSizeFor 1000 1 2 is.bits =
+      subst (λ d. IsSizeFor 1000 1 d is.bits) den
+      (subst (λ n. IsSizeFor 1000 n (den_of rate) is.bits) num is.size) in
+      let wrong : Some SizeOverflow ≡ None =
+      is.refused ∙ ap size_refusal (one is.bits size) in
+      cc

@@ -1,5 +1,5 @@
 -- What is told of a filter: values from outside.
-use Rattle.std.proofs.Common.{◌≡◌, ◌≤◌, ℕ, List, [], ◌∷◌, ◌++◌, Option, Some, None, codes, get_or, refl, sym, ap, subst, lit≤, arith}
+use Rattle.std.proofs.Common.{◌≡◌, ◌≤◌, ℕ, ◌^◌, ◌-◌, List, [], ◌∷◌, ◌++◌, Option, Some, None, codes, get_or, refl, sym, ap, subst, lit≤, arith}
 use Rattle.std.specs.Prelude.{IfSome}
 use Rattle.std.proofs.lemmas.Option.{none-some}
 use Rattle.std.specs.Fmt.{char_count, digits, padded_integral}
@@ -7,11 +7,12 @@ use Rattle.bloom_parts.specs.Content.{content}
 use Rattle.bloom_parts.specs.Counts.{count_on}
 use Rattle.bloom_parts.specs.Estimates.{EstimatesItems}
 use Rattle.bloom_parts.specs.Hashed.{SipState}
+use Rattle.bloom_parts.specs.Powers.{rounded_power}
 use Rattle.bloom_parts.specs.Sip.{start}
 use Rattle.bloom_parts.specs.declared.math.estimate.Estimate.{Estimate}
 use Rattle.fastbloom.specs.Data.{DefaultFilter}
 use Rattle.summaries_engine.specs.declared.form.Form.TheVariants.{Sealed, Unsealed, Json}
-use Rattle.summaries_engine.specs.Facts.{TellsFilter, bytes_text, facts_text, form_text, items_text, key_text, set_text, share_of}
+use Rattle.summaries_engine.specs.Facts.{TellsFilter, bytes_text, facts_text, form_text, items_text, key_text, lines_text, rate_of_text, rate_text, set_text, share_of}
 
 -- what the forms are called
 forms : (form_text Sealed ≡ codes "file, sealed") × (form_text Unsealed ≡ codes "file, no seal")
@@ -75,6 +76,47 @@ items-least : items_text (from 9) ≡ codes "9 or more"
 unfolding digits
 items-least = refl
 
+-- 1 / 1024 has half a billionth behind 976562 of them, and so two ends
+rate-both : rate_text (2 ^ 53) (2 ^ 53) ≡ codes "false positive rate: 0.000976562 to 0.000976563\n"
+unfolding padded_integral digits char_count
+rate-both = refl
+
+-- a whole number of billionths has one end, and one unit of 2^-63 above it counts as a billionth
+rate-whole : rate_text 720575940379279360 720575940379279360
+    ≡ codes "false positive rate: 0.078125000 to 0.078125000\n"
+unfolding padded_integral digits char_count
+rate-whole = refl
+
+rate-above : rate_text 720575940379279360 720575940379279361
+    ≡ codes "false positive rate: 0.078125000 to 0.078125001\n"
+unfolding padded_integral digits char_count
+rate-above = refl
+
+-- one unit below it counts as a billionth less
+rate-below : rate_text 720575940379279359 720575940379279360
+    ≡ codes "false positive rate: 0.078124999 to 0.078125000\n"
+unfolding padded_integral digits char_count
+rate-below = refl
+
+-- no bit, and all bits
+rate-none : rate_text 0 0 ≡ codes "false positive rate: 0.000000000 to 0.000000000\n"
+unfolding padded_integral digits char_count
+rate-none = refl
+
+rate-all : rate_text (2 ^ 63) (2 ^ 63) ≡ codes "false positive rate: 1.000000000 to 1.000000000\n"
+unfolding padded_integral digits char_count
+rate-all = refl
+
+-- the least rate above zero isn't told as none, nor is the greatest below one told as all
+rate-least : rate_text 0 1 ≡ codes "false positive rate: 0.000000000 to 0.000000001\n"
+unfolding padded_integral digits char_count
+rate-least = refl
+
+rate-most : rate_text (2 ^ 63 - 1) (2 ^ 63)
+    ≡ codes "false positive rate: 0.999999999 to 1.000000000\n"
+unfolding padded_integral digits char_count
+rate-most = refl
+
 -- the hasher of the zero key, which has taken in nothing
 abbrev fresh : SipState
 fresh = record { low = 0; high = 0; words = start 0 0; held = []; count = 0 }
@@ -83,20 +125,21 @@ fresh = record { low = 0; high = 0; words = start 0 0; held = []; count = 0 }
 abbrev pub filter : ℕ → DefaultFilter
 filter word = record { words = word ∷ []; hashes = 2; hasher = record { hasher = fresh } }
 
--- what is told where two bits are set
+-- what is told where two of 64 bits are set: (2 / 64)^2 is 1 / 1024
 abbrev text_of_two : List ℕ
 text_of_two =
     codes "form: file, sealed\nbits: 64\nhashes: 2\nkey: 00000000000000000000000000000000\n"
-    ++ codes "bits set: 2 (3.13 %)\nitems: 1 to 2\n"
+    ++ (codes "bits set: 2 (3.13 %)\nitems: 1 to 2\n"
+    ++ codes "false positive rate: 0.000976562 to 0.000976563\n")
 
 facts-two : facts_text (filter 5) Sealed (from_to 1 2 (lit≤ tt)) ≡ text_of_two
-unfolding padded_integral digits char_count content count_on
+unfolding padded_integral digits char_count content count_on lines_text rate_of_text rounded_power
 facts-two = refl
 
 -- the text tells the filter, if these are the bounds of its items
 tells-two : EstimatesItems 64 2 2 (from_to 1 2 (lit≤ tt))
     → TellsFilter (filter 5) Sealed text_of_two
-unfolding content count_on
+unfolding content count_on lines_text rate_of_text rounded_power
 tells-two estimates = record {
   items = from_to 1 2 (lit≤ tt);
   estimates = estimates;
@@ -105,6 +148,7 @@ tells-two estimates = record {
 
 -- the text of a file tells no filter that came as JSON
 tells-form : TellsFilter (filter 5) Json text_of_two → ⊥
+unfolding lines_text
 tells-form told =
     let letter : ◌≡◌ {A = ℕ} 102 74 = ap (λ t. get_or t 6 0) told.is in
     absurd (omega (arith, letter))

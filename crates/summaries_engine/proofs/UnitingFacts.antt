@@ -1,5 +1,6 @@
 -- Why named filters aren't united: cases that hold, and some that nearly do.
 use Rattle.std.proofs.Common.{◌≡◌, ℕ, ◌+◌, inl, inr, List, [], ◌∷◌, ◌++◌, codes, length, length-append, get_or, refl, sym, subst, ap, ◌∙◌, arith}
+use Rattle.std.proofs.lemmas.List.Elements.{All-nil}
 use Rattle.anyhow.specs.Error.{error_message}
 use Rattle.anyhow.specs.declared.error.Error.{Error}
 use Rattle.fastbloom.specs.Data.{DefaultFilter}
@@ -8,8 +9,8 @@ use Rattle.summaries_engine.specs.declared.stop.Stop.{Stop}
 use Rattle.summaries_engine.specs.declared.stop.Stop.TheVariants.{Bad}
 use Rattle.summaries_engine.specs.declared.unions.Difference.{Difference}
 use Rattle.summaries_engine.specs.declared.unions.Difference.TheVariants as difference
-use Rattle.summaries_engine.specs.Named.{AreNamed, StopsAtMisfit, StopsUniting, StopsUnloaded, misfit_text}
-use Rattle.summaries_engine.specs.Refusals.{DiffersBy}
+use Rattle.summaries_engine.specs.Named.{AreNamed, FitFirst, StopsAtMisfit, StopsUniting, StopsUnloaded, misfit_text}
+use Rattle.summaries_engine.specs.Refusals.{DiffersBy, Fits}
 use Rattle.summaries_engine.specs.Stops.{Says}
 use Rattle.summaries_engine.proofs.NamedFacts.{counted}
 use Rattle.summaries_engine.proofs.StopFacts.{no-whole, says-other}
@@ -54,8 +55,17 @@ unloaded-second fails f said two failed = record {
     are = refl;
     loaded = (ap (λ n. n ∷ []) (sym two), tt);
   };
+  fit = All-nil (Fits f);
   failed = failed;
 }
+
+-- the second filter fits the first where the third couldn't be loaded
+unloaded-before : (fails : List ℕ → Error → Type 0) (f g : DefaultFilter) (names : List (List ℕ))
+    (said : Error) (stop : StopsUnloaded counted fails names said) → stop.filters ≡ f ∷ g ∷ []
+    → f.hashes ≡ 2 → g.hashes ≡ 3 → ⊥
+unloaded-before fails f g names said stop is two three =
+    let fits : Fits f g = subst FitFirst is stop.fit 0 g (omega arith) in
+    let wrong : 2 ≡ 3 = sym two ∙ fits.shape.hashes ∙ three in omega (arith, wrong)
 
 -- the error is of no other name
 unloaded-other : (f : DefaultFilter) (said : Error)
@@ -92,6 +102,7 @@ misfit-second f g said two three differs says = record {
     are = refl;
     loaded = (ap (λ n. n ∷ []) (sym two), tt);
   };
+  fit = All-nil (Fits f);
   loaded = ap (λ n. n ∷ []) (sym three);
   differs = differs;
   says = says;

@@ -14,7 +14,7 @@ use Rattle.summaries_engine.specs.declared.unions.Difference.TheVariants as diff
 use Rattle.summaries_engine.specs.declared.unions.Refusal.TheVariants.{Unread, Differs}
 use Rattle.summaries_engine.specs.Refusals.{RefusesGiven}
 use Rattle.summaries_engine.specs.Summaries.{HaveSameKey, IsUnionOf, UnitesGiven}
-use Rattle.summaries_engine.proofs.RefusalLemmas.{stops, misfit-differs, counted-more}
+use Rattle.summaries_engine.proofs.RefusalLemmas.{stops, misfit-differs, counted-more, union-fits}
 use Rattle.summaries_engine.proofs.ShardLemmas.{Builder, unites-shards, unites-whole}
 use Rattle.summaries_engine.proofs.UnionLemmas.{union-first, union-next}
 
@@ -82,8 +82,11 @@ module _ {E : Type 0} {first : DefaultFilter} {given : List (Result DefaultFilte
     uniting-unread {item = item} {error = error} next is = (
       start,
       begins,
-      stops steps start last end given item first (Unread error) came next
-          (so_far.others, came-behind item (Err error) is),
+      stops steps start last end given item first (Unread error) came next (
+        so_far.others,
+        came-behind item (Err error) is,
+        union-fits first whole so_far.others so_far.union,
+      ),
     )
 
     -- the iterator gave a filter that differs from the first
@@ -92,17 +95,19 @@ module _ {E : Type 0} {first : DefaultFilter} {given : List (Result DefaultFilte
         → item ≡ Ok shard → answer ≡ Err how
         → (answer ≡ Err difference.Shape → SameShape whole shard → ⊥)
         → (answer ≡ Err difference.Key → HaveSameKey whole shard → ⊥)
+        → (answer ≡ Err difference.Key → SameShape whole shard)
         → (it : J) × From it × RefusesGiven steps it first (Differs number how)
     uniting-misfit {item = item} {shard = shard} {how = how} {answer = answer} next is told shape
-        key = (
+        key order = (
           start,
           begins,
           stops steps start last end given item first (Differs number how) came next (record {
             others = so_far.others;
             shard = shard;
             came = came-behind item (Ok shard) is;
+            fit = union-fits first whole so_far.others so_far.union;
             differs =
-                misfit-differs first whole shard so_far.others how answer told shape key
+                misfit-differs first whole shard so_far.others how answer told shape key order
                 so_far.union;
             counted = so_far.counted;
           }),

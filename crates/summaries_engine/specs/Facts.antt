@@ -1,8 +1,9 @@
 -- What is told of a filter, in lines of text. The text is this project's own.
 use Rattle.std.specs.Prelude.{◌≡◌, ℕ, ◌+◌, ◌-◌, ◌*◌, ◌/◌, ◌%◌, ◌^◌, false, codes, decimal, List, [], ◌++◌, Option, None, Some}
 use Rattle.std.specs.Fmt.{digits, format_spec, padded_integral, styled_decimal}
-use Rattle.std.specs.Int.{w64, swap_bytes}
+use Rattle.std.specs.Int.{w64, div_ceil, swap_bytes}
 use Rattle.bloom_parts.specs.Estimates.{EstimatesItems, least_of, most_of}
+use Rattle.bloom_parts.specs.FalsePositives.{positives_low, positives_high}
 use Rattle.bloom_parts.specs.Keys.{key_of}
 use Rattle.bloom_parts.specs.declared.math.estimate.Estimate.{Estimate}
 use Rattle.fastbloom.specs.Data.{DefaultFilter}
@@ -46,15 +47,38 @@ bounds_text low None = decimal low ++ codes " or more"
 abbrev pub items_text : Estimate → List ℕ
 items_text items = bounds_text (least_of items) (most_of items)
 
--- the lines that tell a filter in a form, with an estimate of its items
-abbrev pub facts_text : DefaultFilter → Form → Estimate → List ℕ
-facts_text f form items =
+-- a fraction in billionths, with nine digits behind the point
+abbrev pub billionths_text : ℕ → List ℕ
+billionths_text part =
+    decimal (part / 10 ^ 9) ++ (codes "."
+    ++ styled_decimal (format_spec 32 0 4 9 (2 ^ 64 - 1)) (part % 10 ^ 9))
+
+-- the line of a rate of false positives, by two bounds in units of 2^-63: the lower one is rounded
+-- down to billionths, and the upper one up, so that the rate lies between what is told
+abbrev pub rate_text : ℕ → ℕ → List ℕ
+rate_text low high =
+    codes "false positive rate: " ++ (billionths_text (low * 10 ^ 9 / 2 ^ 63)
+    ++ (codes " to " ++ (billionths_text (div_ceil (high * 10 ^ 9) (2 ^ 63)) ++ codes "\n")))
+
+-- the line of the rate of a filter as it is
+unfoldable pub rate_of_text : DefaultFilter → List ℕ
+rate_of_text f =
+    rate_text (positives_low (num_bits_of f) f.hashes (ones_of f))
+    (positives_high (num_bits_of f) f.hashes (ones_of f))
+
+-- the lines of a filter in a form, up to an estimate of its items
+unfoldable pub lines_text : DefaultFilter → Form → Estimate → List ℕ
+lines_text f form items =
     codes "form: " ++ (form_text form
     ++ (codes "\nbits: " ++ (decimal (num_bits_of f)
     ++ (codes "\nhashes: " ++ (decimal f.hashes
     ++ (codes "\n" ++ (key_text (key_of f.hasher).0 (key_of f.hasher).1
     ++ (set_text (ones_of f) (share_of (ones_of f) (num_bits_of f))
     ++ (codes "items: " ++ (items_text items ++ codes "\n"))))))))))
+
+-- the lines that tell a filter in a form, with an estimate of its items
+abbrev pub facts_text : DefaultFilter → Form → Estimate → List ℕ
+facts_text f form items = lines_text f form items ++ rate_of_text f
 
 -- a text tells a filter in a form, with an estimate of its items
 pub record TellsFilter (f : DefaultFilter) (form : Form) (text : List ℕ) : Type 0 where

@@ -5,12 +5,14 @@ use Rattle.anyhow.specs.Error.{HasMessage}
 use Rattle.anyhow.specs.declared.error.Error.{Error}
 use Rattle.fastbloom.specs.Data.{DefaultFilter}
 use Rattle.fastbloom.specs.File.{IsFileOf}
-use Rattle.bloom_plain.specs.FileRefusals.{number_at}
+use Rattle.bloom_plain.specs.declared.file.error.FileError.{FileError}
+use Rattle.bloom_plain.specs.declared.file.error.FileError.TheVariants as file_error
+use Rattle.bloom_plain.specs.FileRefusals.{file_refusal, number_at}
 use Rattle.lines.specs.Writing.{Begins}
 use Rattle.summaries_engine.specs.declared.form.Form.{Form}
 use Rattle.summaries_engine.specs.declared.form.Form.TheVariants.{Sealed, Unsealed, Json}
 use Rattle.summaries_engine.specs.declared.stop.Stop.{Stop}
-use Rattle.summaries_engine.specs.Stops.{IsBad, IsInput, IsMemory}
+use Rattle.summaries_engine.specs.Stops.{IsBad, IsInput, IsMemory, IsUnreadAs}
 
 -- the bytes with which each file of the form begins, whatever its version: `fbloom` and 0
 abbrev pub mark_bytes : List ℕ
@@ -36,12 +38,31 @@ IsInForm Json f bytes = Begins bytes mark_bytes → ⊥
 abbrev pub file_form : ℕ → Form
 file_form seal = if nat_eq seal 0 then Unsealed else Sealed
 
+-- it is said that what was read is no filter
+abbrev pub SaysNone : List ℕ → Stop → Type 0
+SaysNone name stop = IsBad (HasMessage (Some (name ++ codes ": it holds no filter"))) stop
+
 -- no filter is read: memory was out, or a read failed, or what was read is none; and the name is
 -- said
 abbrev pub IsUnread : List ℕ → Stop → Type 0
 IsUnread name stop = IsMemory stop
     ⊎ IsInput (HasMessage (Some (name ++ codes ": it can't be read"))) stop
-    ⊎ IsBad (HasMessage (Some (name ++ codes ": it holds no filter"))) stop
+    ⊎ SaysNone name stop
+
+-- what is told where a file isn't read for this error
+abbrev pub IsToldOf : List ℕ → FileError → Stop → Type 0
+IsToldOf name file_error.Memory stop = IsMemory stop
+IsToldOf name (file_error.Input kind) stop = IsUnreadAs kind name stop
+IsToldOf name _ stop = SaysNone name stop
+
+-- bytes hold no filter: a file of the form is refused. Of text nothing is said
+abbrev pub HoldsNone : List ℕ → Type 0
+HoldsNone bytes = Begins bytes mark_bytes → (error : FileError) × (file_refusal bytes ≡ Some error)
+
+-- that these bytes hold no filter is said only where it is so
+abbrev pub IsRightOf : List ℕ → List ℕ → Stop → Type 0
+IsRightOf bytes name stop =
+    (IsBad (λ said. Unit {0}) stop → ⊥) ⊎ (HoldsNone bytes × SaysNone name stop)
 
 -- what is said of a filter with more hashes than are allowed
 abbrev pub hashes_text : List ℕ → ℕ → ℕ → List ℕ
@@ -58,3 +79,17 @@ pub record HasManyHashes (name : List ℕ) (most : ℕ) (said : Error) : Type 0 
 -- no filter with few enough hashes is read, and why
 abbrev pub IsUnloaded : List ℕ → ℕ → Stop → Type 0
 IsUnloaded name most stop = IsUnread name stop ⊎ IsBad (HasManyHashes name most) stop
+
+-- the error tells the name and how many hashes the filter of these bytes has: more than are allowed
+pub record HasHashesOf (bytes name : List ℕ) (most : ℕ) (said : Error) : Type 0 where
+  pub filter : DefaultFilter
+  pub form : Form
+  pub is : IsInForm form filter bytes
+  pub many : most < filter.hashes
+  pub says : HasMessage (Some (hashes_text name filter.hashes most)) said
+
+-- that these bytes hold no filter, or one with more hashes than are allowed, is said only where it
+-- is so, and by the number of hashes of that filter
+abbrev pub IsRightWith : List ℕ → List ℕ → ℕ → Stop → Type 0
+IsRightWith bytes name most stop =
+    IsRightOf bytes name stop ⊎ IsBad (HasHashesOf bytes name most) stop

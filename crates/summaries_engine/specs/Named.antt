@@ -1,10 +1,10 @@
 -- Filters that have names, and what an iterator over names gives. A name is its list of bytes.
-use Rattle.std.specs.Prelude.{◌≡◌, ◌⊎◌, ℕ, codes, List, [], ◌∷◌, ◌++◌, get_or, Option, Result, MatchOption, MatchResult, ⊤}
+use Rattle.std.specs.Prelude.{◌≡◌, ◌⊎◌, ℕ, codes, List, [], ◌∷◌, ◌++◌, get_or, All, Option, Result, MatchOption, MatchResult, ⊤}
 use Rattle.fastbloom.specs.Data.{DefaultFilter}
 use Rattle.summaries_engine.specs.declared.stop.Stop.{Stop}
 use Rattle.summaries_engine.specs.declared.unions.Difference.{Difference}
 use Rattle.summaries_engine.specs.declared.unions.Difference.TheVariants as difference
-use Rattle.summaries_engine.specs.Refusals.{DiffersBy}
+use Rattle.summaries_engine.specs.Refusals.{DiffersBy, Fits}
 use Rattle.summaries_engine.specs.Stops.{IsBad, Says}
 
 -- which filters lie under which names
@@ -35,12 +35,18 @@ pub record LoadedBefore (has : Named) (names : List (List ℕ)) (filters : List 
   pub are : names ≡ before ++ name ∷ after
   pub loaded : AreNamed has before filters
 
--- filters lie under the names before one, and that one's error is said
+-- the filters behind the first fit it
+abbrev pub FitFirst : List DefaultFilter → Type 0
+FitFirst [] = ⊤
+FitFirst (first ∷ others) = All (Fits first) others
+
+-- filters that fit the first lie under the names before one, and that one's error is said
 pub record StopsUnloaded {E : Type 0} (has : Named) (fails : List ℕ → E → Type 0)
     (names : List (List ℕ)) (said : E) : Type 0 where
   pub filters : List DefaultFilter
   pub name : List ℕ
   pub reaches : LoadedBefore has names filters name
+  pub fit : FitFirst filters
   pub failed : fails name said
 
 -- what is said of a filter that differs from the first, by both names
@@ -49,7 +55,8 @@ misfit_text difference.Shape name first =
     name ++ (codes ": its shape isn't that of " ++ first)
 misfit_text difference.Key name first = name ++ (codes ": its key isn't that of " ++ first)
 
--- the filter of a name differs from that of the first, and both names are said
+-- the filter of a name differs from that of the first, which those before it fit, and both names
+-- are said
 pub record StopsAtMisfit (has : Named) (names : List (List ℕ)) (stop : Stop) : Type 0 where
   pub first : DefaultFilter
   pub filters : List DefaultFilter
@@ -57,6 +64,7 @@ pub record StopsAtMisfit (has : Named) (names : List (List ℕ)) (stop : Stop) :
   pub shard : DefaultFilter
   pub how : Difference
   pub reaches : LoadedBefore has names (first ∷ filters) name
+  pub fit : All (Fits first) filters
   pub loaded : has name shard
   pub differs : DiffersBy first shard how
   pub says : IsBad (Says (misfit_text how name (get_or names 0 []))) stop

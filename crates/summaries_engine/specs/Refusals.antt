@@ -1,7 +1,7 @@
 -- Why filters weren't united, and what is said of a key that is too long. The number of a filter is
 -- its place behind the first, that of a key its place from 1; both stay at 2^64 - 1. This project's
 -- own.
-use Rattle.std.specs.Prelude.{◌≡◌, ℕ, ◌+◌, ◌-◌, ◌^◌, min, codes, decimal, List, [], ◌∷◌, ◌++◌, length, map, Ok, Err, Result, Option}
+use Rattle.std.specs.Prelude.{◌≡◌, ℕ, ◌+◌, ◌-◌, ◌^◌, min, codes, decimal, List, [], ◌∷◌, ◌++◌, length, map, All, Ok, Err, Result, Option}
 use Rattle.std.specs.Iterator.{Yields}
 use Rattle.fastbloom.specs.Data.{DefaultFilter}
 use Rattle.fastbloom.specs.Filter.{SameShape}
@@ -11,25 +11,33 @@ use Rattle.summaries_engine.specs.declared.unions.Refusal.{Refusal}
 use Rattle.summaries_engine.specs.declared.unions.Refusal.TheVariants.{Unread, Differs}
 use Rattle.summaries_engine.specs.Summaries.{HaveSameKey}
 
--- a filter differs from the first in this
+-- a filter has the shape and the key of the first
+pub record Fits (first f : DefaultFilter) : Type 0 where
+  pub shape : SameShape first f
+  pub key : HaveSameKey first f
+
+-- a filter differs from the first in its shape, or else in its key
 abbrev pub DiffersBy : DefaultFilter → DefaultFilter → Difference → Type 0
 DiffersBy first f difference.Shape = SameShape first f → ⊥
-DiffersBy first f difference.Key = HaveSameKey first f → ⊥
+DiffersBy first f difference.Key = SameShape first f × (HaveSameKey first f → ⊥)
 
--- the last of what was given is the filter of this number, and differs from the first
+-- the last of what was given is the filter of this number, and differs from the first; those before
+-- it fit the first
 pub record IsMisfit {E : Type 0} (first : DefaultFilter) (given : List (Result DefaultFilter E))
     (number : ℕ) (how : Difference) : Type 0 where
   pub others : List DefaultFilter
   pub shard : DefaultFilter
   pub came : given ≡ map Ok others ++ Ok shard ∷ []
+  pub fit : All (Fits first) others
   pub differs : DiffersBy first shard how
   pub counted : number ≡ min (length others + 1) (2 ^ 64 - 1)
 
--- the last of what was given is the error, or the filter that differs
+-- the last of what was given is the error, or the filter that differs; those before fit the first
 abbrev pub IsRefusedFor : {E : Type 0} → DefaultFilter → List (Result DefaultFilter E)
     → Refusal E → Type 0
 IsRefusedFor first given (Unread error) =
     (others : List DefaultFilter) × (given ≡ map Ok others ++ Err error ∷ [])
+    × All (Fits first) others
 IsRefusedFor first given (Differs number how) = IsMisfit first given number how
 
 -- an iterator gave such a list, and was asked for no more; its last item is refused

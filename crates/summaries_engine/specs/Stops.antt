@@ -5,6 +5,10 @@ use Rattle.std.specs.Prelude.{◌≡◌, ◌⊎◌, ℕ, ◌-◌, ◌^◌, codes
 use Rattle.std.specs.Io.KnownBytes.{Appends}
 use Rattle.anyhow.specs.Error.{IsContextOn, IsMadeOf}
 use Rattle.anyhow.specs.declared.error.Error.{Error}
+use Rattle.std.specs.declared.io.ErrorKind.{ErrorKind}
+use Rattle.std.specs.declared.io.ErrorKind.TheVariants.{OutOfMemory}
+use Rattle.bloom_parts.specs.declared.error.FilterError.{FilterError}
+use Rattle.bloom_parts.specs.declared.error.FilterError.TheVariants as filter_error
 use Rattle.fastbloom.specs.Data.{DefaultFilter}
 use Rattle.lines.specs.Reading.{AreShort, IsReadFromBy, IsReadToLongBy}
 use Rattle.lines.specs.Writing.{AppendsPart}
@@ -54,18 +58,37 @@ IsBad P (Input said) = ⊥
 IsBad P (Bad said) = P said
 IsBad P (Output said) = ⊥
 
+-- a write failed, and of what is said this holds
+abbrev pub IsOutput : (Error → Type 0) → Stop → Type 0
+IsOutput P Memory = ⊥
+IsOutput P Worker = ⊥
+IsOutput P (Input said) = ⊥
+IsOutput P (Bad said) = ⊥
+IsOutput P (Output said) = P said
+
 -- a write failed, and that the keys can't be written is said
 abbrev pub IsUnwritten : Stop → Type 0
-IsUnwritten Memory = ⊥
-IsUnwritten Worker = ⊥
-IsUnwritten (Input said) = ⊥
-IsUnwritten (Bad said) = ⊥
-IsUnwritten (Output said) = SaysOver (codes "the keys can't be written") said
+IsUnwritten stop = IsOutput (SaysOver (codes "the keys can't be written")) stop
+
+-- there is no memory for the text of a filter, or a write of it failed
+abbrev pub IsUnput : Stop → Type 0
+IsUnput stop = IsMemory stop ⊎ IsOutput (SaysOver (codes "the filter can't be written")) stop
 
 -- a read failed for want of memory, or for another reason, and its input is named
 abbrev pub IsUnreadable : List ℕ → Stop → Type 0
 IsUnreadable name stop =
     IsMemory stop ⊎ IsInput (SaysOver (name ++ codes ": it can't be read")) stop
+
+-- what is told of a read that failed by an error of this kind: exactly that of memory is memory
+pub record IsUnreadAs (kind : ErrorKind) (name : List ℕ) (stop : Stop) : Type 0 where
+  pub memory : kind ≡ OutOfMemory → IsMemory stop
+  pub other : (kind ≡ OutOfMemory → ⊥)
+      → IsInput (SaysOver (name ++ codes ": it can't be read")) stop
+
+-- what is told where workers fill no filter: a thread that couldn't be started, or else memory
+pub record IsUnfilled (error : FilterError) (stop : Stop) : Type 0 where
+  pub worker : error ≡ filter_error.Worker → IsWorker stop
+  pub memory : error ≡ filter_error.Memory → IsMemory stop
 
 -- behind these keys memory was out, or a read failed, or the next key is too long, or no number is
 -- left for it

@@ -8,8 +8,7 @@ ghost use Rattle.summaries_engine.specs.Stops.{IsUnwritten, StopsAnswers};
 
 use crate::inputs::Inputs;
 use crate::keys::{LONGEST, hash_of, too_long, too_many, unread};
-use crate::stop::Stop;
-use anyhow::Context;
+use crate::stop::{Stop, cause};
 use fastbloom::BloomFilter;
 use lines::{LineReaderBy, Next, put_line_by};
 use std::alloc::Global;
@@ -51,9 +50,9 @@ fn answer_key<const END: u8, O: Write>(
     if !is_told(told, filter.contains_hash(hash_of(filter.hasher(), key))) {
         return Ok(());
     }
-    match put_line_by(output, key, END).context("the keys can't be written") {
+    match put_line_by(output, key, END) {
         Ok(()) => Ok(()),
-        Err(error) => Err(Stop::Output(error)),
+        Err(error) => Err(Stop::Output(cause(&error).context("the keys can't be written"))),
     }
 }
 

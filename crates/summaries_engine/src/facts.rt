@@ -1,6 +1,7 @@
 //! What is told of a filter.
-ghost use Rattle.std.specs.Prelude.{◌≡◌, ◌≤◌, ◌<◌, IfOk, string_bytes};
-ghost use Rattle.summaries_engine.specs.Facts.{TellsFilter, facts_text, form_text, items_text, key_text, set_text, share_of};
+ghost use Rattle.std.specs.Prelude.{◌≡◌, ◌≤◌, ◌<◌, ◌*◌, ◌/◌, ◌^◌, IfOk, string_bytes};
+ghost use Rattle.std.specs.Int.{div_ceil};
+ghost use Rattle.summaries_engine.specs.Facts.{TellsFilter, billionths_text, facts_text, form_text, items_text, key_text, lines_text, rate_of_text, set_text, share_of};
 
 use crate::form::Form;
 use fastbloom::{BloomFilter, Estimate};
@@ -57,14 +58,52 @@ pub fn items_of(alloc: Global, items: Estimate) -> Result<String, AllocError>
     }
 }
 
-// The lines that tell a filter, with the bounds of its items.
+// A fraction in units of 2^-63, in billionths rounded down.
+fn billionths_below(part: u64) -> u64
+    requires { part ≤ 2 ^ 63 }
+    ensures { result ≡ part * 10 ^ 9 / 2 ^ 63 }
+{
+    let billionths = (part as u128 * 1_000_000_000) / (1 << 63);
+    billionths as u64
+}
+
+// A fraction in units of 2^-63, in billionths rounded up.
+fn billionths_above(part: u64) -> u64
+    requires { part ≤ 2 ^ 63 }
+    ensures { result ≡ div_ceil (part * 10 ^ 9) (2 ^ 63) }
+{
+    let billionths = (part as u128 * 1_000_000_000).div_ceil(1 << 63);
+    billionths as u64
+}
+
+// A fraction in billionths, with nine digits behind the point.
+fn fraction_of(alloc: Global, billionths: u64) -> Result<String, AllocError>
+    ensures { IfOk result (λ text. string_bytes text ≡ billionths_text billionths) }
+{
+    let (whole, part) = (billionths / 1_000_000_000, billionths % 1_000_000_000);
+    format!(in alloc; "{whole}.{part:09}")
+}
+
+// The line of a filter's rate of false positives as it is.
+#[tactic(auto, unfolding(crate::specs::Facts::rate_of_text))]
+fn rate_line(alloc: Global, filter: &BloomFilter) -> Result<String, AllocError>
+    ensures { IfOk result (λ text. string_bytes text ≡ rate_of_text filter.now) }
+{
+    let rate = filter.false_pos_now();
+    let (low, high) = (billionths_below(rate.low()), billionths_above(rate.high()));
+    let (low, high) = (fraction_of(alloc, low)?, fraction_of(alloc, high)?);
+    format!(in alloc; "false positive rate: {low} to {high}\n")
+}
+
+// The lines that tell a filter, up to the bounds of its items.
+#[tactic(auto, unfolding(crate::specs::Facts::lines_text))]
 fn lines_of(
     alloc: Global,
     filter: &BloomFilter,
     form: Form,
     items: Estimate,
 ) -> Result<String, AllocError>
-    ensures { IfOk result (λ text. string_bytes text ≡ facts_text filter.now form items) }
+    ensures { IfOk result (λ text. string_bytes text ≡ lines_text filter.now form items) }
 {
     let (bits, hashes) = (filter.num_bits(), filter.num_hashes());
     let (k0, k1) = filter.hasher().key();
@@ -76,13 +115,28 @@ fn lines_of(
     format!(in alloc; "form: {name}\nbits: {bits}\nhashes: {hashes}\n{key}{set}items: {items}\n")
 }
 
+// The lines that tell a filter, with the bounds of its items and of its rate.
+fn all_lines_of(
+    alloc: Global,
+    filter: &BloomFilter,
+    form: Form,
+    items: Estimate,
+) -> Result<String, AllocError>
+    ensures { IfOk result (λ text. string_bytes text ≡ facts_text filter.now form items) }
+{
+    let lines = lines_of(alloc, filter, form, items)?;
+    let rate = rate_line(alloc, filter)?;
+    format!(in alloc; "{lines}{rate}")
+}
+
 /// Lines that tell a filter's form, its numbers of bits and of hashes, the sixteen bytes of its
-/// key, how many bits are set, with their share in percent, and the bounds of its items.
+/// key, how many bits are set, with their share in percent, and the bounds of its items and of its
+/// rate of false positives as it is.
 ///
 /// # Errors
 /// Out of memory.
 pub fn facts_of(alloc: Global, filter: &BloomFilter, form: Form) -> Result<String, AllocError>
     ensures { IfOk result (λ text. TellsFilter filter.now form (string_bytes text)) }
 {
-    lines_of(alloc, filter, form, filter.estimated_items())
+    all_lines_of(alloc, filter, form, filter.estimated_items())
 }

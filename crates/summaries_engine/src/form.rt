@@ -3,10 +3,9 @@ ghost use Rattle.std.specs.Prelude.{codes, IfErr, OnOk, OnErr};
 ghost use Rattle.std.specs.Io.KnownBytes.{Appends};
 ghost use Rattle.lines.specs.Writing.{AppendsPart};
 ghost use Rattle.fastbloom.specs.File.{file_of};
-ghost use Rattle.summaries_engine.specs.Stops.{SaysOver};
+ghost use Rattle.summaries_engine.specs.Stops.{IsUnput, SaysOver};
 
-use crate::stop::{Stop, written};
-use anyhow::Context;
+use crate::stop::{Stop, cause, written};
 use fastbloom::BloomFilter;
 use std::alloc::Global;
 use std::io::Write;
@@ -33,7 +32,10 @@ pub fn put_file<W: Write>(filter: &BloomFilter, output: &mut W) -> anyhow::Resul
         (AppendsPart (file_of filter.now) (W.contents output.old) (W.contents output.new)) }
     ensures failed { IfErr result (SaysOver (codes "the filter can't be written")) }
 {
-    write_file(filter, output).context("the filter can't be written")
+    match write_file(filter, output) {
+        Ok(()) => Ok(()),
+        Err(error) => Err(cause(&error).context("the filter can't be written")),
+    }
 }
 
 fn write_file<W: Write>(filter: &BloomFilter, output: &mut W) -> std::io::Result<()>
@@ -50,7 +52,9 @@ fn write_file<W: Write>(filter: &BloomFilter, output: &mut W) -> std::io::Result
 ///
 /// # Errors
 /// Out of memory for the text, and where a write or the flush fails.
-pub fn put<W: Write>(alloc: Global, filter: &BloomFilter, output: &mut W) -> Result<(), Stop> {
+pub fn put<W: Write>(alloc: Global, filter: &BloomFilter, output: &mut W) -> Result<(), Stop>
+    ensures failed { IfErr result IsUnput }
+{
     let Ok(data) = filter.to_data(alloc) else {
         return Err(Stop::Memory);
     };

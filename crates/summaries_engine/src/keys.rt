@@ -1,14 +1,15 @@
 //! Keys: the lines of inputs, without their ends.
 ghost use Rattle.std.specs.Prelude.{◌≡◌, ℕ, Some, codes, ◌++◌, map, IfErr, IfOk, OnOk};
+ghost use Rattle.std.specs.IoError.{error_kind};
 ghost use Rattle.bloom_parts.specs.Keys.{HasKey};
 ghost use Rattle.bloom_parts.specs.Sip.{sip};
 ghost use Rattle.summaries_engine.specs.Answers.{HashesAll};
 ghost use Rattle.summaries_engine.specs.Inputs.{HashesInputs, StopsHashes};
 ghost use Rattle.summaries_engine.specs.Refusals.{too_long_text};
-ghost use Rattle.summaries_engine.specs.Stops.{IsBad, IsUnreadable, Says, StopsHashing};
+ghost use Rattle.summaries_engine.specs.Stops.{IsBad, IsUnreadAs, IsUnreadable, Says, StopsHashing};
 
 use crate::inputs::Inputs;
-use crate::stop::Stop;
+use crate::stop::{Stop, cause};
 use anyhow::anyhow;
 use fastbloom::laws::source_hash_by_default;
 use fastbloom::{DefaultHasher, Text};
@@ -33,13 +34,13 @@ pub fn hash_of(builder: &DefaultHasher, key: &[u8]) -> u64
 
 /// Why an input isn't read on where a read failed.
 pub fn unread(name: &str, error: io::Error) -> Stop
-    ensures { IsUnreadable name.now result }
+    ensures told { IsUnreadAs (error_kind error) name.now result }
+    ensures failed { IsUnreadable name.now result }
 {
     if error.kind() == ErrorKind::OutOfMemory {
         return Stop::Memory;
     }
-    let error = anyhow::Error::from(error);
-    Stop::Input(error.context(format_args!("{name}: it can't be read")))
+    Stop::Input(cause(&error).context(format_args!("{name}: it can't be read")))
 }
 
 /// Why an input isn't read on where its key is too long that comes after this many others.

@@ -24,6 +24,6 @@ pub use keys::{LONGEST, hash_of, hashes_of, unread};
 pub use loading::load;
 pub use shards::{Shelf, unite_named};
 pub use sizes::shape_for;
-pub use stop::{Stop, unsaid, unshaped, written};
+pub use stop::{Stop, twice, unsaid, unshaped, written};
 pub use summary::{build, cut};
 pub use unions::{Difference, Refusal, add, unite};

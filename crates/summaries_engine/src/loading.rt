@@ -4,14 +4,13 @@ ghost use Rattle.anyhow.specs.Error.{HasMessage};
 ghost use Rattle.fastbloom.specs.File.{IsFileOf};
 ghost use Rattle.bloom_plain.specs.FileRefusals.{number_at};
 ghost use Rattle.summaries_engine.specs.Answers.{IsKeyed};
-ghost use Rattle.summaries_engine.specs.Loaded.{HasManyHashes, IsInForm, IsUnloaded, IsUnread, file_form};
+ghost use Rattle.summaries_engine.specs.Loaded.{IsInForm, IsRightOf, IsRightWith, IsToldOf, IsUnloaded, IsUnread, SaysNone, file_form, hashes_text};
 ghost use Rattle.summaries_engine.specs.Stops.{IsBad};
 
 use crate::form::Form;
 use crate::keys::unread;
 use crate::stop::Stop;
 use anyhow::anyhow;
-use fastbloom::file::read_head;
 use fastbloom::{BloomFilter, FileError, FilterData};
 use lines::read_full;
 use std::alloc::Global;
@@ -20,14 +19,15 @@ use std::io::{ErrorKind, Read};
 
 // What is told where what was read is no filter.
 fn no_filter(name: &str, error: anyhow::Error) -> Stop
-    ensures { IsBad (HasMessage (Some (name.now ++ codes ": it holds no filter"))) result }
+    ensures { SaysNone name.now result }
 {
     Stop::Bad(error.context(format_args!("{name}: it holds no filter")))
 }
 
 // What is told where a file of the form isn't loaded.
 fn unloaded(name: &str, error: FileError) -> Stop
-    ensures { IsUnread name.now result }
+    ensures told { IsToldOf name.now error result }
+    ensures failed { IsUnread name.now result }
 {
     match error {
         FileError::Memory => Stop::Memory,
@@ -58,6 +58,8 @@ fn load_file<R: Read>(
     ensures file { IfOk result (λ filter. IfSome (R.remaining input.old)
         (λ rest. IsFileOf (start.now ++ rest) filter)) }
     ensures failed { IfErr result (IsUnread name.now) }
+    ensures right { IfErr result (λ stop. IfSome (R.remaining input.old)
+        (λ rest. IsRightOf (start.now ++ rest) name.now stop)) }
 {
     match BloomFilter::read_file(alloc, &mut start.chain(input)) {
         Ok(filter) => Ok(filter),
@@ -100,15 +102,25 @@ fn load_text<R: Read>(
     }
 }
 
-// The form of a file, by its head.
-fn form_of(name: &str, head: &[u8; 64]) -> Result<Form, Stop>
-    ensures form { IfOk result (λ form. form ≡ file_form (number_at head.now 5)) }
-    ensures failed { IfErr result (IsUnread name.now) }
+// The seal in the head of a file, which is 0 where it has none.
+fn seal_of(head: &[u8; 64]) -> u64
+    ensures { result ≡ number_at head.now 5 }
 {
-    match read_head(head) {
-        Ok((_, 0)) => Ok(Form::Unsealed),
-        Ok((_, _)) => Ok(Form::Sealed),
-        Err(error) => Err(unloaded(name, error)),
+    let (numbers, _rest) = head.as_chunks::<8>();
+    match numbers.get(5) {
+        Some(number) => u64::from_le_bytes(*number),
+        None => 0,
+    }
+}
+
+// The form of a file, by its head.
+fn form_of(head: &[u8; 64]) -> Form
+    ensures { result ≡ file_form (number_at head.now 5) }
+{
+    if seal_of(head) == 0 {
+        Form::Unsealed
+    } else {
+        Form::Sealed
     }
 }
 
@@ -117,6 +129,8 @@ fn load_any<R: Read>(alloc: Global, name: &str, input: &mut R) -> Result<(BloomF
     ensures keyed { IfOk result (λ read. IsKeyed read.0) }
     ensures form { IfOk result (λ read. IfSome (R.remaining input.old) (IsInForm read.1 read.0)) }
     ensures failed { IfErr result (IsUnread name.now) }
+    ensures right { IfErr result (λ stop.
+        IfSome (R.remaining input.old) (λ bytes. IsRightOf bytes name.now stop)) }
 {
     let mut start = [0u8; 64];
     let count = match read_full(input, &mut start) {
@@ -125,8 +139,7 @@ fn load_any<R: Read>(alloc: Global, name: &str, input: &mut R) -> Result<(BloomF
     };
     if start[..count].starts_with(b"fbloom\0") {
         let filter = load_file(alloc, name, &start[..count], input)?;
-        let form = form_of(name, &start)?;
-        Ok((filter, form))
+        Ok((filter, form_of(&start)))
     } else {
         let filter = load_text(alloc, name, &start[..count], input)?;
         Ok((filter, Form::Json))
@@ -135,8 +148,7 @@ fn load_any<R: Read>(alloc: Global, name: &str, input: &mut R) -> Result<(BloomF
 
 // What is told of a filter with more hashes than are allowed.
 fn too_many_hashes(name: &str, hashes: u32, most: u32) -> Stop
-    requires { most < hashes }
-    ensures { IsBad (HasManyHashes name.now most) result }
+    ensures { IsBad (HasMessage (Some (hashes_text name.now hashes most))) result }
 {
     Stop::Bad(anyhow!("{name}: it has {hashes} hashes, and --hashes-up-to allows {most}"))
 }
@@ -160,6 +172,9 @@ pub fn load<R: Read>(
     ensures few { IfOk result (λ read. read.0.hashes ≤ most) }
     ensures form { IfOk result (λ read. IfSome (R.remaining input.old) (IsInForm read.1 read.0)) }
     ensures failed { IfErr result (IsUnloaded name.now most) }
+    // It is told only of bytes that are refused, or whose filter has that many hashes.
+    ensures right { IfErr result (λ stop.
+        IfSome (R.remaining input.old) (λ bytes. IsRightWith bytes name.now most stop)) }
 {
     let (filter, form) = load_any(alloc, name, input)?;
     let hashes = filter.num_hashes();

@@ -1,6 +1,7 @@
 //! The shape of a filter for some keys, at a rate of mistakes.
 ghost use Rattle.std.specs.Prelude.{IfOk};
-ghost use Rattle.summaries_engine.specs.Sizes.{IsShapeFor};
+ghost use Rattle.std.specs.Result.{result_err};
+ghost use Rattle.summaries_engine.specs.Sizes.{IsShapeFor, IsUnshapedFor};
 
 use bloom_plain::builder::{num_hashes_for, num_words_for};
 use fastbloom::{FilterError, Rate, Shape, optimal_size};
@@ -11,7 +12,8 @@ use fastbloom::{FilterError, Rate, Shape, optimal_size};
 /// # Errors
 /// `SizeOverflow` for 2^64 bits or more, and `TooManyWords` for more than 2^58 - 1 words.
 pub fn shape_for(keys: usize, rate: Rate) -> Result<Shape, FilterError>
-    ensures { IfOk result (IsShapeFor keys rate) }
+    ensures shape { IfOk result (IsShapeFor keys rate) }
+    ensures refused { IsUnshapedFor keys rate (result_err result) }
 {
     let bits = optimal_size(keys.max(1), rate)?;
     let words = num_words_for(bits)?;

@@ -1,6 +1,11 @@
 //! Why a run stopped.
-use anyhow::{Context, anyhow};
+ghost use Rattle.std.specs.Prelude.{◌≡◌, ◌++◌, codes, IfErr, None, OnErr, OnOk};
+ghost use Rattle.anyhow.specs.Error.{IsMadeOf};
+ghost use Rattle.summaries_engine.specs.Stops.{IsBad, IsMemory, IsOutput, Says, SaysOver};
+
+use anyhow::anyhow;
 use fastbloom::FilterError;
+use lines::Reason;
 use std::fmt::Display;
 use std::{fmt, io};
 
@@ -33,12 +38,24 @@ impl Display for Stop {
 }
 
 /// That the words of a program leave this out, which they can only by a mistake of the program.
-pub fn unsaid(what: &str) -> Stop {
+pub fn unsaid(what: &str) -> Stop
+    ensures { IsBad (Says (codes "which " ++ (what.now ++ codes "?"))) result }
+{
     Stop::Bad(anyhow!("which {what}?"))
 }
 
+/// That the words of a program name this more than once, which can be read only once.
+pub fn twice(name: &str) -> Stop
+    ensures { IsBad (Says (name.now ++ codes ": it can be read only once")) result }
+{
+    Stop::Bad(anyhow!("{name}: it can be read only once"))
+}
+
 /// Why there is no shape.
-pub fn unshaped(error: FilterError) -> Stop {
+pub fn unshaped(error: FilterError) -> Stop
+    ensures memory { error ≡ FilterError.Memory → IsMemory result }
+    ensures other { ¬ (error ≡ FilterError.Memory) → IsBad (λ said. Unit {0}) result }
+{
     match error {
         FilterError::Memory => Stop::Memory,
         error => Stop::Bad(anyhow::Error::from(error)),
@@ -49,9 +66,20 @@ pub fn unshaped(error: FilterError) -> Stop {
 ///
 /// # Errors
 /// Where it failed.
-pub fn written(done: io::Result<()>, said: &'static str) -> Result<(), Stop> {
-    match done.context(said) {
+pub fn written(done: io::Result<()>, said: &'static str) -> Result<(), Stop>
+    ensures done { OnOk done (OnErr result ⊥) }
+    ensures fails { OnErr done (OnOk result ⊥) }
+    ensures said { IfErr result (IsOutput (SaysOver said.now)) }
+{
+    match done {
         Ok(()) => Ok(()),
-        Err(error) => Err(Stop::Output(error)),
+        Err(error) => Err(Stop::Output(cause(&error).context(said))),
     }
+}
+
+/// Why a read or a write failed, in the words that all programs have for it.
+pub fn cause(error: &io::Error) -> anyhow::Error
+    ensures { IsMadeOf None result }
+{
+    anyhow!("{}", Reason(error.kind()))
 }

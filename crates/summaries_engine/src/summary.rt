@@ -1,10 +1,10 @@
 //! The filter of all keys of inputs, filled by workers.
-ghost use Rattle.std.specs.Prelude.{◌≡◌, ◌<◌, ◌≤◌, ◌⊎◌, All, IfErr, IfOk, length, map};
+ghost use Rattle.std.specs.Prelude.{◌≡◌, ◌<◌, ◌≤◌, ◌⊎◌, All, IfErr, IfOk, IsOkUnless, length, map};
 ghost use Rattle.std.specs.List.{concat};
 ghost use Rattle.bloom_parts.specs.Keys.{HasKey};
 ghost use Rattle.summaries_engine.specs.Answers.{IsKeyed};
 ghost use Rattle.summaries_engine.specs.Inputs.{StopsBuilding, SummarizesInputs};
-ghost use Rattle.summaries_engine.specs.Stops.{IsMemory, IsWorker};
+ghost use Rattle.summaries_engine.specs.Stops.{IsUnfilled};
 
 use crate::inputs::Inputs;
 use crate::keys::hashes_of;
@@ -32,6 +32,7 @@ pub fn cut(alloc: Global, hashes: &[u64], workers: usize) -> Result<Vec<Vec<u64>
         (λ parts. concat (map (λ part. part.items) parts.items) ≡ hashes.now) }
     ensures few { IfOk result (λ parts. length parts.items ≤ workers) }
     ensures some { IfOk result (λ parts. All (λ part. 0 < length part.items) parts.items) }
+    ensures refused { IsOkUnless result FilterError.Memory }
 {
     let most = hashes.len().div_ceil(workers).max(1);
     let mut parts = Vec::new(alloc);
@@ -43,7 +44,8 @@ pub fn cut(alloc: Global, hashes: &[u64], workers: usize) -> Result<Vec<Vec<u64>
 
 // Why hashes make no filter.
 fn unfilled(error: FilterError) -> Stop
-    ensures { IsMemory result ⊎ IsWorker result }
+    requires { (error ≡ FilterError.Memory) ⊎ (error ≡ FilterError.Worker) }
+    ensures { IsUnfilled error result }
 {
     if error == FilterError::Worker {
         Stop::Worker

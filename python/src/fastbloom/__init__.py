@@ -7,11 +7,13 @@
     Filter.load("seen.bloom")  # or `mapped=True`, by which processes share its pages
 
 Items are texts, which count as their UTF-8 bytes, and bytes-like objects. Threads may use one
-filter at once. The work is done by the shared library fastbloom_c; importing the package raises
-ImportError where that isn't found.
+filter at once. Where many add at once, or several processes do, take a SharedFilter. The work is
+done by the shared library fastbloom_c; importing the package raises ImportError where that isn't
+found.
 """
 
 from ._filter import Estimate, Filter, Refusal
+from ._shared import SharedFilter
 
 __version__ = "0.17.0"
-__all__ = ["Estimate", "Filter", "Refusal", "__version__"]
+__all__ = ["Estimate", "Filter", "Refusal", "SharedFilter", "__version__"]

@@ -18,6 +18,7 @@ from . import _library as library
 from ._files import Path, map_file, read_whole, write_file
 from ._items import Buffer, Item, Rate, bytes_of, check_many, plain_bytes
 from ._locks import alone, alone_with, new_lock
+from ._rates import rounded_outward
 
 if TYPE_CHECKING:
     from typing_extensions import Self
@@ -101,6 +102,8 @@ def _parts(rate: Rate) -> Tuple[int, int]:
         raise Refusal(_ZERO_RATE) from None
     if not 0 <= fraction.numerator < 2**64 or fraction.denominator >= 2**64:
         raise ValueError("the parts of a rate are from 0 to 2^64 - 1")
+    if fraction >= 1:
+        raise ValueError("a rate of false positives is below 1")
     return fraction.numerator, fraction.denominator
 
 
@@ -180,10 +183,10 @@ class Filter:
     def __init__(self, items: int, rate: Rate, key: Buffer = bytes(16)) -> None:
         """The empty filter for this many items, at a rate of false positives.
 
-        `rate` is a text such as "1/1000", a Fraction or another number. `key` is sixteen bytes:
-        where others choose the items, draw it (`os.urandom(16)`). A refused number raises
-        ValueError (`Refusal` where the library refuses it), another type TypeError, and too large
-        a filter MemoryError.
+        `rate` is a text such as "1/1000", a Fraction or another number, above 0 and below 1. `key`
+        is sixteen bytes: where others choose the items, draw it (`os.urandom(16)`). A refused
+        number raises ValueError (`Refusal` where the library refuses it), another type TypeError,
+        and too large a filter MemoryError.
         """
         items = _number_of_items(items)
         num, den = _parts(rate)
@@ -325,15 +328,47 @@ class Filter:
         return library.count_ones(self._at, self._num_words)
 
     def expected_rate(self, items: int) -> Tuple[Fraction, Fraction]:
-        """Two bounds of the rate of false positives to expect once it has this many items.
+        """Two bounds of the classical formula of the rate, once it has this many items.
 
-        The bounds are proved, and are fractions of 2^63. A number of items below 0, or of 2^64 and
+        The formula is a little below the mean rate: see `exact_expected_false_positive_rate`. The
+        bounds are proved, and are fractions of 2^63. A number of items below 0, or of 2^64 and
         more, raises ValueError, and another type TypeError.
         """
         items = _number_of_items(items)
         low, high = ctypes.c_uint64(), ctypes.c_uint64()
         _check(library.expected_rate(self._num_words, self._num_hashes, items, low, high))
         return Fraction(low.value, 2**63), Fraction(high.value, 2**63)
+
+    def exact_expected_false_positive_rate(self, items: int) -> Tuple[Fraction, Fraction]:
+        """Two bounds of the mean rate of false positives once it has this many items.
+
+        The rate is the part of all draws of positions, those of the items and of a look-up, by
+        which each position of the look-up was drawn for an item. The bounds are proved, and are
+        fractions of 2^63. It raises as `expected_rate`.
+        """
+        items = _number_of_items(items)
+        low, high = ctypes.c_uint64(), ctypes.c_uint64()
+        _check(library.rate_bounds(self._num_words, self._num_hashes, items, low, high))
+        return Fraction(low.value, 2**63), Fraction(high.value, 2**63)
+
+    def expected_false_positive_rate(self, items: int) -> Tuple[float, float]:
+        """`exact_expected_false_positive_rate` as two floats, rounded outward."""
+        return rounded_outward(self.exact_expected_false_positive_rate(items))
+
+    @alone
+    def exact_false_positive_rate(self) -> Tuple[Fraction, Fraction]:
+        """Two bounds of the rate of false positives of the filter as it is.
+
+        It is the part of all look-ups, where each position is drawn alike, that it answers with
+        True. The bounds are proved, and are fractions of 2^63.
+        """
+        low, high = ctypes.c_uint64(), ctypes.c_uint64()
+        library.rate_now(self._at, self._num_words, self._num_hashes, low, high)
+        return Fraction(low.value, 2**63), Fraction(high.value, 2**63)
+
+    def false_positive_rate(self) -> Tuple[float, float]:
+        """`exact_false_positive_rate` as two floats, rounded outward."""
+        return rounded_outward(self.exact_false_positive_rate())
 
     @alone
     def estimate(self) -> Estimate:

@@ -74,6 +74,9 @@ equal: Callable[..., bool] = _call("equal", _BOOL, _WORDS, _SIZE, _WORDS, _SIZE)
 count_ones: Callable[..., int] = _call("count_ones", _SIZE, _WORDS, _SIZE)
 expected_rate: Callable[..., int] = _call(
     "expected_rate", _CODE, _SIZE, _HASHES, _SIZE, _MANY, _MANY)
+rate_bounds: Callable[..., int] = _call(
+    "rate_bounds", _CODE, _SIZE, _HASHES, _SIZE, _MANY, _MANY)
+rate_now: Callable[..., bool] = _call("rate_now", _BOOL, _WORDS, _SIZE, _HASHES, _MANY, _MANY)
 estimate: Callable[..., bool] = _call(
     "estimate", _BOOL, _WORDS, _SIZE, _HASHES, _TO_SIZE, _TO_SIZE)
 estimate_union: Callable[..., bool] = _call(
@@ -87,3 +90,32 @@ head_read: Callable[..., int] = _call(
     "head_read", _CODE, _BYTES, _TO_SIZE, _TO_HASHES, _BYTES, _MANY)
 # The words that a seal is asked for are no filter's yet, so other threads may go on meanwhile.
 seal: Callable[..., int] = _call("seal", _HASH, _WORDS, _SIZE, _HASHES, _BYTES, library=_LETTING_GO)
+
+
+class SharedWords(ctypes.Structure):
+    """Words that threads and processes share, as the calls on them take them."""
+
+    _fields_ = [("words", ctypes.c_void_p), ("num_words", ctypes.c_size_t)]
+
+
+def _shared(name: str, answer: Any, *kinds: Any) -> Any:
+    """A call on words that are shared, which needs no lock."""
+    return _call("shared_" + name, answer, SharedWords, *kinds, library=_LETTING_GO)
+
+
+shared_insert_hash: Callable[..., bool] = _shared("insert_hash", _BOOL, _HASHES, _HASH)
+shared_contains_hash: Callable[..., bool] = _shared("contains_hash", _BOOL, _HASHES, _HASH)
+shared_insert: Callable[..., bool] = _shared("insert", _BOOL, _HASHES, _BYTES, _BYTES, _SIZE)
+shared_contains: Callable[..., bool] = _shared("contains", _BOOL, _HASHES, _BYTES, _BYTES, _SIZE)
+shared_insert_hashes: Callable[..., bool] = _shared(
+    "insert_hashes", _BOOL, _HASHES, _MANY, _SIZE)
+shared_contains_hashes: Callable[..., bool] = _shared(
+    "contains_hashes", _BOOL, _HASHES, _MANY, _SIZE, _MANY, _SIZE)
+shared_insert_hashes_tell_new: Callable[..., bool] = _shared(
+    "insert_hashes_tell_new", _BOOL, _HASHES, _MANY, _SIZE, _MANY, _SIZE)
+shared_clear: Callable[..., bool] = _shared("clear", _BOOL)
+shared_union: Callable[..., bool] = _shared("union", _BOOL, SharedWords)
+shared_intersect: Callable[..., bool] = _shared("intersect", _BOOL, SharedWords)
+shared_take: Callable[..., bool] = _shared("take", _BOOL, _WORDS, _SIZE)
+shared_load: Callable[..., bool] = _shared("load", _BOOL, _WORDS, _SIZE)
+shared_count_ones: Callable[..., int] = _shared("count_ones", _SIZE)

@@ -18,6 +18,10 @@
 //!   call is given.
 //! - While a call runs that may write words, no other thread or process touches them. While a call
 //!   runs that reads words, none writes them. Calls that read may run at once.
+//! - The calls on a [`fastbloom_shared`] have a rule of their own for its words: threads and
+//!   processes may make them on the same words at once. The words are aligned to 8, stay where they
+//!   are until the last of these calls has returned, and are touched by atomic operations alone
+//!   meanwhile. They may be null where their number is 0.
 //! - The processor has SSE4.2 (x86-64-v2).
 #![no_std]
 #![deny(missing_docs)]
@@ -68,6 +72,17 @@ pub struct fastbloom_hasher {
     pub words: [u64; 8],
 }
 
+/// Words that threads and processes share, as the calls on them take them.
+#[repr(C)]
+#[derive(Clone, Copy)]
+#[allow(non_camel_case_types)]
+pub struct fastbloom_shared {
+    /// The first word.
+    pub words: *mut u64,
+    /// How many there are.
+    pub num_words: usize,
+}
+
 extern "C" {
     /// The numbers of words and of hashes for this many items at the rate `num / den`. It answers
     /// [`FASTBLOOM_OK`]; or [`FASTBLOOM_ZERO_RATE`], [`FASTBLOOM_SIZE_OVERFLOW`] or
@@ -89,6 +104,17 @@ extern "C" {
     /// [`FASTBLOOM_TOO_MANY_WORDS`], and then the bounds are 0 and 2^63.
     #[must_use]
     pub fn fastbloom_expected_rate(
+        num_words: usize,
+        num_hashes: u32,
+        items: usize,
+        low: *mut u64,
+        high: *mut u64,
+    ) -> u8;
+
+    /// As [`fastbloom_expected_rate`], of the mean rate itself, of which the classical formula is a
+    /// lower bound.
+    #[must_use]
+    pub fn fastbloom_rate_bounds(
         num_words: usize,
         num_hashes: u32,
         items: usize,
@@ -267,6 +293,116 @@ extern "C" {
         low: *mut u64,
         high: *mut u64,
     ) -> bool;
+
+    /// Two bounds of the rate of false positives of the filter as it is, as fractions of 2^63. Where
+    /// `num_words` is 0 or more than 2^58 - 1, it answers false, and both bounds are 0.
+    #[must_use]
+    pub fn fastbloom_rate_now(
+        words: *const u64,
+        num_words: usize,
+        num_hashes: u32,
+        low: *mut u64,
+        high: *mut u64,
+    ) -> bool;
+
+    /// Sets all positions of a hash, each by one operation, and returns whether these operations
+    /// found all of them set already.
+    pub fn fastbloom_shared_insert_hash(
+        words: fastbloom_shared,
+        num_hashes: u32,
+        hash: u64,
+    ) -> bool;
+
+    /// Whether all positions of a hash were found set, one after the other.
+    pub fn fastbloom_shared_contains_hash(
+        words: fastbloom_shared,
+        num_hashes: u32,
+        hash: u64,
+    ) -> bool;
+
+    /// [`fastbloom_shared_insert_hash`] at the hash of the bytes.
+    pub fn fastbloom_shared_insert(
+        words: fastbloom_shared,
+        num_hashes: u32,
+        key: *const u8,
+        bytes: *const u8,
+        len: usize,
+    ) -> bool;
+
+    /// [`fastbloom_shared_contains_hash`] at the hash of the bytes.
+    pub fn fastbloom_shared_contains(
+        words: fastbloom_shared,
+        num_hashes: u32,
+        key: *const u8,
+        bytes: *const u8,
+        len: usize,
+    ) -> bool;
+
+    /// Inserts each of `count` hashes, and returns true.
+    pub fn fastbloom_shared_insert_hashes(
+        words: fastbloom_shared,
+        num_hashes: u32,
+        hashes: *const u64,
+        count: usize,
+    ) -> bool;
+
+    /// As [`fastbloom_contains_hashes`]: bit `i % 64` of word `i / 64` of `found` is what the
+    /// look-up of hash `i` returned.
+    #[must_use]
+    pub fn fastbloom_shared_contains_hashes(
+        words: fastbloom_shared,
+        num_hashes: u32,
+        hashes: *const u64,
+        count: usize,
+        found: *mut u64,
+        num_found: usize,
+    ) -> bool;
+
+    /// As [`fastbloom_insert_hashes_tell_new`]: bit `i % 64` of word `i / 64` of `fresh` is set
+    /// where the insert of hash `i` returned false.
+    #[must_use]
+    pub fn fastbloom_shared_insert_hashes_tell_new(
+        words: fastbloom_shared,
+        num_hashes: u32,
+        hashes: *const u64,
+        count: usize,
+        fresh: *mut u64,
+        num_fresh: usize,
+    ) -> bool;
+
+    /// Clears every position, one word after the other.
+    pub fn fastbloom_shared_clear(words: fastbloom_shared) -> bool;
+
+    /// Sets what is found set in the other words, and returns true. Where the numbers of words
+    /// differ, it returns false and changes nothing.
+    #[must_use]
+    pub fn fastbloom_shared_union(words: fastbloom_shared, other: fastbloom_shared) -> bool;
+
+    /// Clears what is found clear in the other words, and returns true. Where the numbers of words
+    /// differ, it returns false and changes nothing.
+    #[must_use]
+    pub fn fastbloom_shared_intersect(words: fastbloom_shared, other: fastbloom_shared) -> bool;
+
+    /// Takes the words out into plain ones, each read and cleared by one operation, and returns
+    /// true. Where there isn't room for just as many, it returns false and takes nothing.
+    #[must_use]
+    pub fn fastbloom_shared_take(
+        words: fastbloom_shared,
+        taken: *mut u64,
+        num_taken: usize,
+    ) -> bool;
+
+    /// Loads the words into plain ones, one after the other, and returns true. Where there isn't
+    /// room for just as many, it returns false and writes nothing.
+    #[must_use]
+    pub fn fastbloom_shared_load(
+        words: fastbloom_shared,
+        loaded: *mut u64,
+        num_loaded: usize,
+    ) -> bool;
+
+    /// The number of positions that are set in the words as they are loaded.
+    pub fn fastbloom_shared_count_ones(words: fastbloom_shared) -> usize;
 
     /// The seal of the file of these words.
     pub fn fastbloom_seal(

@@ -175,6 +175,19 @@ fn a_hasher_is_eight_words() {
     assert_eq!(align_of_val(&hasher), align_of_val(&hasher.words));
 }
 
+#[test]
+fn shared_words_are_a_pointer_and_a_number() {
+    let wanted = "typedef struct fastbloom_shared {\n    uint64_t *words;\n    size_t num_words;\n\
+                  } fastbloom_shared;";
+    assert!(HEADER.contains(wanted));
+    let shared = fastbloom_c_sys::fastbloom_shared {
+        words: std::ptr::null_mut(),
+        num_words: 0,
+    };
+    assert_eq!(size_of_val(&shared), 16);
+    assert_eq!(align_of_val(&shared), 8);
+}
+
 /// Takes the addresses of these calls, so that the linker looks for each.
 macro_rules! linked {
     ($($name:ident)*) => {
@@ -192,7 +205,13 @@ fn the_library_has_each_symbol() {
         fastbloom_hasher_update fastbloom_head_read fastbloom_head_write fastbloom_insert
         fastbloom_insert_hash fastbloom_insert_hashes fastbloom_insert_hashes_tell_new
         fastbloom_intersect fastbloom_jaccard fastbloom_num_bits fastbloom_plan
-        fastbloom_seal fastbloom_union
+        fastbloom_rate_bounds fastbloom_rate_now
+        fastbloom_seal fastbloom_shared_clear fastbloom_shared_contains
+        fastbloom_shared_contains_hash fastbloom_shared_contains_hashes
+        fastbloom_shared_count_ones fastbloom_shared_insert fastbloom_shared_insert_hash
+        fastbloom_shared_insert_hashes fastbloom_shared_insert_hashes_tell_new
+        fastbloom_shared_intersect fastbloom_shared_load fastbloom_shared_take
+        fastbloom_shared_union fastbloom_union
     };
     assert_eq!(
         linked.map(|(name, _)| name).as_slice(),

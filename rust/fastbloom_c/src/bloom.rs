@@ -252,7 +252,8 @@ impl BloomFilter {
         raw::count_ones(&self.words)
     }
 
-    /// Two bounds of the rate of false positives to expect once this many items are in the filter.
+    /// Two bounds of the classical formula of the rate of false positives, once this many items are
+    /// in the filter. The formula is a little below the mean rate: see `false_pos_bounds`.
     ///
     /// ```
     /// # use fastbloom_c::{BloomFilter, Rate};
@@ -266,6 +267,40 @@ impl BloomFilter {
         match raw::expected_rate(self.words.len(), self.num_hashes, num_items) {
             Ok((low, high)) => Bracket { low, high },
             Err(_) => unreachable!("a filter has from 1 to 2^58 - 1 words"),
+        }
+    }
+
+    /// Two bounds of the mean rate of false positives, once this many items are in the filter.
+    ///
+    /// ```
+    /// # use fastbloom_c::BloomFilter;
+    /// let seen = BloomFilter::with_num_bits(64)?.hashes(2);
+    /// assert_eq!(seen.false_pos_bounds(1).low(), 8_867_011_522_199_552);
+    /// assert_eq!(seen.false_pos_bounds(1).high(), 13_725_461_381_120_000);
+    /// # Ok::<(), fastbloom_c::Error>(())
+    /// ```
+    #[must_use]
+    pub fn false_pos_bounds(&self, num_items: usize) -> Bracket {
+        match raw::rate_bounds(self.words.len(), self.num_hashes, num_items) {
+            Ok((low, high)) => Bracket { low, high },
+            Err(_) => unreachable!("a filter has from 1 to 2^58 - 1 words"),
+        }
+    }
+
+    /// Two bounds of the rate of false positives of the filter as it is: the part of all look-ups,
+    /// where each position is drawn alike, that it answers with true.
+    ///
+    /// ```
+    /// # use fastbloom_c::BloomFilter;
+    /// let seen = BloomFilter::from_vec(vec![4])?.hashes(1);
+    /// assert_eq!(seen.false_pos_now().to_f64(), 1.0 / 64.0);
+    /// # Ok::<(), fastbloom_c::Error>(())
+    /// ```
+    #[must_use]
+    pub fn false_pos_now(&self) -> Bracket {
+        match raw::rate_now(&self.words, self.num_hashes) {
+            Some((low, high)) => Bracket { low, high },
+            None => unreachable!("a filter has from 1 to 2^58 - 1 words"),
         }
     }
 }

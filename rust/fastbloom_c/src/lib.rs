@@ -39,7 +39,9 @@
 //! # Threads
 //!
 //! A [`BloomFilter`] is `Send` and `Sync`: a call that changes it takes `&mut self`, and threads
-//! look up at once through `&self`.
+//! look up at once through `&self`. An [`AtomicBloomFilter`] is for threads that insert at once: each
+//! call takes `&self`, and none waits for another. Where one thread inserts, take the first, whose
+//! inserts are quicker.
 //!
 //! # Panics
 //!
@@ -62,6 +64,9 @@ mod pieces;
 mod rate;
 #[allow(unsafe_code)]
 mod raw;
+#[allow(unsafe_code)]
+mod raw_shared;
+mod shared;
 
 pub use bloom::{hash, BloomFilter};
 pub use builder::{BuilderWithBits, BuilderWithFalsePositiveRate};
@@ -69,3 +74,4 @@ pub use error::Error;
 pub use estimates::Estimate;
 pub use pieces::Hasher;
 pub use rate::{Bracket, Rate};
+pub use shared::AtomicBloomFilter;

@@ -5,10 +5,10 @@ use crate::{raw, BloomFilter};
 /// This many hashes are handed to one call of the library.
 pub(crate) const AT_ONCE: usize = 1024;
 
-type Bits = [u64; AT_ONCE / 64];
+pub(crate) type Bits = [u64; AT_ONCE / 64];
 
 /// Puts the first bits, as many as told, behind the others.
-fn push_bits(told: &mut Vec<bool>, bits: &Bits, count: usize) {
+pub(crate) fn push_bits(told: &mut Vec<bool>, bits: &Bits, count: usize) {
     told.extend((0..count).map(|place| bits[place / 64] >> (place % 64) & 1 == 1));
 }
 

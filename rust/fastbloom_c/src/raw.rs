@@ -1,4 +1,4 @@
-//! The calls of the library over slices: the only module with unsafe blocks.
+//! The calls of the library over slices. This module and `raw_shared` alone have unsafe blocks.
 //!
 //! The library asks for pointers that aren't null and are aligned, to initialized memory of the
 //! length that is given. A reference and a slice of Rust are that, also where there are no
@@ -79,6 +79,27 @@ pub fn expected_rate(num_words: usize, num_hashes: u32, items: usize) -> Result<
         sys::fastbloom_expected_rate(num_words, num_hashes, items, &mut low, &mut high)
     })?;
     Ok((low, high))
+}
+
+/// Two bounds of the mean rate, in units of 2^-63.
+pub fn rate_bounds(num_words: usize, num_hashes: u32, items: usize) -> Result<(u64, u64), Error> {
+    let (mut low, mut high) = (0, 0);
+    // SAFETY: the pointers are to two locals of the type that the call writes.
+    Error::check(unsafe {
+        sys::fastbloom_rate_bounds(num_words, num_hashes, items, &mut low, &mut high)
+    })?;
+    Ok((low, high))
+}
+
+/// Two bounds of the rate of a filter as it is, in units of 2^-63. None: there are no words.
+pub fn rate_now(words: &[u64], num_hashes: u32) -> Option<(u64, u64)> {
+    let (mut low, mut high) = (0, 0);
+    // SAFETY: the words are a slice of this length, which the call reads. The other pointers are to
+    // two locals of the type that it writes.
+    let told = unsafe {
+        sys::fastbloom_rate_now(words.as_ptr(), words.len(), num_hashes, &mut low, &mut high)
+    };
+    told.then_some((low, high))
 }
 
 /// SipHash-1-3 of exactly these bytes.

@@ -12,7 +12,7 @@ use lines::LineReader;
 use std::io::{Read, Write};
 
 /// What the next line comes to.
-#[derive(Clone, Copy, Debug, PartialEq, Eq)]
+#[derive(Clone, Copy)]
 pub enum Next {
     /// The input has ended.
     End,

@@ -8,7 +8,7 @@ use crate::number::number;
 pub const LONGEST: usize = 22;
 
 /// What a good line asks for.
-#[derive(Clone, Copy, Debug, PartialEq, Eq)]
+#[derive(Clone, Copy)]
 pub enum Line {
     /// To insert a hash.
     Insert(u64),

@@ -35,7 +35,7 @@ impl Turn {
 
     // The turn of the next step. Its name is another to every caller, since no clause tells it.
     #[inline(always)]
-    fn pass(&mut self) {
+    pub fn pass(&mut self) {
         self.name = Snapshot::of(&0);
     }
 }

@@ -43,6 +43,9 @@ pub fn expected_density(hashes: u32, bits: usize, items: usize) -> Bracket
 }
 
 /// The chance that `hashes` positions, each of which is on with the chance `density`, are all on.
+///
+/// Of the expected density it is the classical formula of the rate of false positives, which is a
+/// lower bound of the mean rate: `laws::rate_by_formula`. `false_pos_bounds` has both bounds.
 pub fn expected_false_pos(hashes: u32, density: Bracket) -> Bracket
     ensures holds { (p q : ℕ) → 0 < q → Holds density p q → Holds result (p ^ hashes) (q ^ hashes) }
     // The ends are exact.

@@ -30,9 +30,10 @@ impl<S> BloomFilter<S> {
     }
 
     // The number of bits that are set in either filter.
-    fn count_either(&self, other: &Self) -> usize
+    pub(super) fn count_either(&self, other: &Self) -> usize
         requires { SameShape self.now other.now }
-        ensures { result ≡ ones_of_either self.now other.now }
+        ensures count { result ≡ ones_of_either self.now other.now }
+        ensures most { result ≤ num_bits_of self.now }
     {
         slices::count_either(self.bits.as_slice(), other.bits.as_slice())
     }

@@ -23,6 +23,8 @@ impl<'a> Inputs for Sources<'a> {
 
     ghost coming = { λ _. None };
 
+    ghost fails = { λ _ _ _. Unit {0} };
+
     fn open_next(&mut self) -> io::Result<Option<Source<'a>>> {
         if self.seen.waiting.get() > 0 {
             self.seen.early.set(self.seen.early.get().saturating_add(1));
@@ -50,6 +52,9 @@ impl<V: Sieve + Drop> Sieve for Limited<V> {
     ghost has = { λ limited. V.has limited.sieve };
 
     ghost sifts = { λ old line reply new. V.sifts old.sieve line reply new.sieve };
+
+    // Any line may be refused.
+    ghost refuses = { λ _ _ _. Unit {0} };
 
     fn sift(&mut self, alloc: Global, line: &[u8]) -> Result<bool, GrowingError> {
         if self.lines == 0 {

@@ -3,7 +3,7 @@ use crate::faulty::{
     FLUSHED_ONCE, FULL, NARROW, ROOMY, Reading, SLOW, STUCK, UNFLUSHED, WHOLE, Writing,
 };
 use bloom_plain::{FilterError, GrowingError};
-use duplicates_engine::{Fault, Tally, Written};
+use duplicates_engine::{Fault, Tally, Total, Written};
 use std::io::ErrorKind;
 
 /// What a run is to be.
@@ -13,6 +13,7 @@ pub(super) struct Run {
     /// The number of the input whose open fails.
     pub(super) broken: usize,
     pub(super) longest: usize,
+    pub(super) skips_longer: bool,
     pub(super) written: Written,
     pub(super) reading: Reading,
     pub(super) writing: Writing,
@@ -26,6 +27,7 @@ pub(super) const PLAIN: Run = Run {
     inputs: &["ab\nc\nab\n\nd"],
     broken: 99,
     longest: 9,
+    skips_longer: false,
     written: Written::New,
     reading: WHOLE,
     writing: ROOMY,
@@ -35,9 +37,24 @@ pub(super) const PLAIN: Run = Run {
 
 const OUTPUT: &str = "ab\nc\n\nd\n";
 
-const ALL: Result<Tally, Fault> = Ok(Tally { read: 5, held: 1 });
+const ALL: Result<Total, Fault> = Ok(Total {
+    tally: Tally { read: 5, held: 1 },
+    longer: 0,
+});
 
 const SEVERAL: &'static [&'static str] = &["ab\nc", "", "c\nd\n", "ab\n\n"];
+
+const PASSING: Run = Run {
+    inputs: &["abc\nab\n", "abc\nab\nd"],
+    longest: 2,
+    skips_longer: true,
+    ..PLAIN
+};
+
+const PASSED: Total = Total {
+    tally: Tally { read: 5, held: 3 },
+    longer: 2,
+};
 
 const LATE: Run = Run {
     written: Written::HeldBack,
@@ -46,7 +63,7 @@ const LATE: Run = Run {
 };
 
 /// A run, what it writes, and how it ends.
-pub(super) const RUNS: [(Run, &str, Result<Tally, Fault>); 17] = [
+pub(super) const RUNS: [(Run, &str, Result<Total, Fault>); 21] = [
     (PLAIN, OUTPUT, ALL),
     (
         Run {
@@ -79,7 +96,10 @@ pub(super) const RUNS: [(Run, &str, Result<Tally, Fault>); 17] = [
             ..PLAIN
         },
         "ab\nc\nd\n\n",
-        Ok(Tally { read: 6, held: 2 }),
+        Ok(Total {
+            tally: Tally { read: 6, held: 2 },
+            longer: 0,
+        }),
     ),
     (
         Run {
@@ -96,7 +116,10 @@ pub(super) const RUNS: [(Run, &str, Result<Tally, Fault>); 17] = [
             ..PLAIN
         },
         "",
-        Ok(Tally { read: 0, held: 0 }),
+        Ok(Total {
+            tally: Tally { read: 0, held: 0 },
+            longer: 0,
+        }),
     ),
     // The number is that of the line in its own input.
     (
@@ -133,6 +156,16 @@ pub(super) const RUNS: [(Run, &str, Result<Tally, Fault>); 17] = [
         "",
         Err(Fault::Output(ErrorKind::BrokenPipe)),
     ),
+    // Without inputs the last flush is the only one.
+    (
+        Run {
+            inputs: &[],
+            writing: UNFLUSHED,
+            ..PLAIN
+        },
+        "",
+        Err(Fault::Output(ErrorKind::BrokenPipe)),
+    ),
     // The last line may still be read on.
     (
         Run {
@@ -150,6 +183,34 @@ pub(super) const RUNS: [(Run, &str, Result<Tally, Fault>); 17] = [
         },
         "",
         Err(Fault::Output(ErrorKind::BrokenPipe)),
+    ),
+    // Longer lines are passed on with the new ones, as often as they come. The sieve would refuse
+    // them.
+    (
+        Run {
+            lines: 3,
+            ..PASSING
+        },
+        "abc\nab\nabc\nd\n",
+        Ok(PASSED),
+    ),
+    (
+        Run {
+            written: Written::HeldBack,
+            reading: SLOW,
+            writing: NARROW,
+            ..PASSING
+        },
+        "ab\n",
+        Ok(PASSED),
+    ),
+    (
+        Run {
+            lines: 2,
+            ..PASSING
+        },
+        "abc\nab\nabc\n",
+        Err(Fault::Full),
     ),
     (LATE, "ab\n", Err(Fault::Full)),
     (

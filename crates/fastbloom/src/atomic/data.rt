@@ -5,7 +5,7 @@ ghost use Rattle.bloom_parts.specs.Keys.{HasKey, key_of};
 ghost use Rattle.bloom_parts.specs.Made.{BeganWith};
 ghost use Rattle.bloom_plain.specs.Builders.{RefusesAs};
 ghost use Rattle.bloom_plain.specs.Data.{data_refusal};
-ghost use Rattle.fastbloom.specs.Shared.{WereLoaded};
+ghost use Rattle.bloom_steps.specs.Loaded.{WereLoaded};
 
 use super::AtomicBloomFilter;
 use bloom_parts::bit_vector::{AtomicBitVec, gather};

@@ -1,5 +1,5 @@
 //! The words of filters that threads share, as a store of steps.
-ghost use Rattle.fastbloom.specs.LiveStore.{MakesStep};
+ghost use Rattle.bloom_steps.specs.LiveSteps.{MakesStep};
 
 use bloom_parts::bit_vector::{AtomicBitVec, LentWords, Turn};
 use bloom_steps::{Step, WordStore};
@@ -16,7 +16,7 @@ pub(super) struct LiveStore<'a> {
 
 impl<'a> Model for LiveStore<'a> {
     ghost use Rattle.std.specs.Prelude.{◌≡◌};
-    ghost use Rattle.fastbloom.specs.LiveStore.{Lent};
+    ghost use Rattle.bloom_steps.specs.LiveSteps.{Lent};
 
     ghost Value = { Lent };
 

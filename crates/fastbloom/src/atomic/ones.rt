@@ -1,5 +1,6 @@
 //! How many bits of a shared filter are set, and how many items that makes.
-ghost use Rattle.fastbloom.specs.LoadedOnes.{CountsLoaded, EstimatesLoaded};
+ghost use Rattle.bloom_steps.specs.Loaded.{CountsLoaded};
+ghost use Rattle.fastbloom.specs.LoadedOnes.{EstimatesLoaded};
 
 use super::AtomicBloomFilter;
 use bloom_parts::math::{Estimate, estimated_items};

@@ -72,7 +72,12 @@ impl<S> AtomicBloomFilter<S> {
         store.into_kept()
     }
 
-    /// The rate of false positives to expect once `num_items` items are in the filter.
+    /// The rate of false positives to expect once `num_items` items are in the filter, by the
+    /// classical formula.
+    ///
+    /// The formula is a lower bound of the mean rate, by Chebyshev's sum inequality: law `lower` of
+    /// `bloom_parts::laws::rate_by_formula`. `false_pos_bounds` has both bounds of that mean, and
+    /// docs/RATES.md says how far they are apart.
     pub fn expected_false_pos(&self, num_items: usize) -> Bracket
         ensures holds { let k = self.now.hashes in
             HoldsRate result (64 * self.now.words.count) (k * num_items) k }

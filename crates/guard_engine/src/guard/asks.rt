@@ -3,17 +3,19 @@ ghost use Rattle.std.specs.Prelude.{◌≡◌, ◌+◌, [], false, IfErr, IfOk};
 ghost use Rattle.guard_engine.specs.Counted.{TalliesAll, TalliesFirst};
 ghost use Rattle.guard_engine.specs.Guarded.{Stays};
 ghost use Rattle.guard_engine.specs.Loaded.{IsBadAt, IsKey};
+ghost use Rattle.guard_engine.specs.Stops.{ComesNext, TalliesStop};
 
 use super::Guard;
 use super::loads::{LONGEST, MOST, Stop, Why, stopped};
-use crate::kept::Kept;
 use crate::line::{BadLine, text_of};
 use crate::store::Store;
+use guard_parts::Kept;
 use lines::{LineReader, Next};
 use std::alloc::Global;
 use std::io::{ErrorKind, Read};
 
 // Looks up each line of a reader of which nothing was read yet.
+#[tactic(auto, using(crate::proofs::AskingLemmas::asking_next))]
 fn ask_lines<T: Store + Drop, K: Kept + Drop, R: Read>(
     guard: &mut Guard<T, K>,
     lines: &mut LineReader,
@@ -36,6 +38,11 @@ fn ask_lines<T: Store + Drop, K: Kept + Drop, R: Read>(
         (T.sight guard.old.store).has (R.remaining input.old) stop.done guard.old.counts
         guard.new.counts) }
     ensures number { IfErr result (λ stop. stop.number ≡ stop.done + 1) }
+    ensures next { IfErr result (λ stop.
+        ComesNext IsKey 1048576 (R.remaining input.old) stop.number) }
+    ensures count_err { IfErr result (TalliesStop guard.old.filter
+        (T.is_known guard.new.store × K.is_known guard.new.kept) (T.sight guard.old.store).has
+        (R.remaining input.old) guard.old.counts guard.new.counts) }
     ensures known { T.is_known guard.new.store → T.is_known guard.old.store }
 {
     guard.counts().fit();
@@ -86,8 +93,15 @@ impl<T: Store + Drop, K: Kept + Drop> Guard<T, K> {
             (T.sight self.old.store).has (R.remaining input.old) stop.done self.old.counts
             self.new.counts) }
         ensures number { IfErr result (λ stop. stop.number ≡ stop.done + 1) }
+        // The line at which it stopped comes after keys, each of which was counted once.
+        ensures next { IfErr result (λ stop.
+            ComesNext IsKey 1048576 (R.remaining input.old) stop.number) }
+        ensures count_err { IfErr result (TalliesStop self.old.filter
+            (T.is_known self.new.store × K.is_known self.new.kept) (T.sight self.old.store).has
+            (R.remaining input.old) self.old.counts self.new.counts) }
         ensures known { T.is_known self.new.store → T.is_known self.old.store }
     {
+        self.counts().fit();
         let Ok(mut lines) = LineReader::new(alloc, LONGEST) else {
             return Err(stopped(Why::Memory, 1, 0));
         };

@@ -1,19 +1,23 @@
 //! Many entries at once, in batches.
+ghost use Rattle.std.specs.IoError.{error_kind};
 ghost use Rattle.std.specs.Prelude.{◌≡◌, ◌≤◌, ◌<◌, ◌^◌, ◌+◌, max, false, [], IfErr, IfOk};
 ghost use Rattle.guard_engine.specs.Counted.{CountsPuts};
+ghost use Rattle.guard_engine.specs.Fills.{FillsFrom};
 ghost use Rattle.guard_engine.specs.Guarding.{IsGuarding};
 ghost use Rattle.guard_engine.specs.Loaded.{HasEntry, IsBadAt, LoadsAll, LoadsFirst};
 ghost use Rattle.guard_engine.specs.Puts.{added_by, taken_by};
+ghost use Rattle.guard_engine.specs.Stops.{ComesNext, CountsStop, IsUnreadFor, why_of};
 
 mod batches;
 
 use super::{Fault, Guard, Put};
 use crate::counts::Counts;
-use crate::kept::Kept;
 use crate::line::BadLine;
 use crate::store::Store;
 use batches::load_batch;
-use bloom_plain::BloomFilter;
+use bloom_plain::laws::lists_join;
+use bloom_plain::{BloomFilter, DefaultHasher};
+use guard_parts::Kept;
 use lines::LineReader;
 use std::alloc::Global;
 use std::io;
@@ -90,7 +94,7 @@ impl Loaded {
 impl<E, F> Why<E, F> {
     // Why a change wasn't made.
     fn of(fault: Fault<E, F>) -> Self
-        ensures { (bad : BadLine) → ¬ (result ≡ Why.Line bad) }
+        ensures { result ≡ why_of fault }
     {
         match fault {
             Fault::Store(error) => Why::Store(error),
@@ -100,7 +104,7 @@ impl<E, F> Why<E, F> {
 
     // Why the next line wasn't read: there was no memory for it, or a read failed.
     pub(crate) fn of_read(error: io::Error) -> Self
-        ensures { (bad : BadLine) → ¬ (result ≡ Why.Line bad) }
+        ensures { IsUnreadFor (error_kind error) result }
     {
         match error.kind() {
             ErrorKind::OutOfMemory => Why::Memory,
@@ -147,7 +151,12 @@ fn load_all<T: Store, K: Kept, R: Read>(
     ensures kept_known { K.is_known kept.new → K.is_known kept.old }
     ensures counts { IfOk result (λ loaded.
         CountsPuts counts.old loaded.added loaded.taken counts.new) }
+    ensures count_err { IfErr result (CountsStop batch 0 counts.old counts.new) }
+    ensures next { IfErr result (λ stop.
+        ComesNext HasEntry 1048576 (R.remaining input.old) stop.number) }
+    ensures fills { FillsFrom (R.remaining input.old) filter.old filter.new }
 {
+    lists_join::<DefaultHasher>();
     counts.fit();
     let mut loaded = Loaded { added: 0, taken: 0 };
     let mut done = 0u64;
@@ -189,10 +198,18 @@ impl<T: Store + Drop, K: Kept + Drop> Guard<T, K> {
             → IsBadAt HasEntry 1048576 (R.remaining input.old) stop.number bad) }
         ensures known { T.is_known self.new.store → T.is_known self.old.store }
         ensures kept_known { K.is_known self.new.kept → K.is_known self.old.kept }
-        // Each key was looked up once.
+        // Each key was looked up once, also those before an error.
         ensures counts { IfOk result (λ loaded.
             CountsPuts self.old.counts loaded.added loaded.taken self.new.counts) }
+        ensures count_err { IfErr result
+            (CountsStop (max 1 batch) 0 self.old.counts self.new.counts) }
+        // The line at which it stopped comes after good ones.
+        ensures next { IfErr result (λ stop.
+            ComesNext HasEntry 1048576 (R.remaining input.old) stop.number) }
+        // Just hashes of keys that were read came into the filter.
+        ensures fills { FillsFrom (R.remaining input.old) self.old.filter self.new.filter }
     {
+        self.counts().fit();
         let Ok(mut lines) = LineReader::new(alloc, LONGEST) else {
             return Err(stopped(Why::Memory, 1, 0));
         };

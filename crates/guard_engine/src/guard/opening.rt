@@ -6,12 +6,12 @@ ghost use Rattle.guard_engine.specs.Stores.{IsReady, TakesBack};
 
 use super::{Guard, Refusal};
 use crate::counts::Counts;
-use crate::kept::Kept;
 use crate::keys::insert_keys;
 use crate::store::Store;
 use bloom_parts::laws::size_of_rate;
 use bloom_parts::math::optimal_size;
 use bloom_plain::{BloomFilter, FilterError, Rate};
+use guard_parts::Kept;
 use std::alloc::Global;
 
 /// Where the filter of a guard comes from.
@@ -27,8 +27,8 @@ pub enum Origin<F> {
     Full,
 }
 
-// Whether a filter has room for this many more keys: as many bits as one made for them, of which
-// fewer than half are set.
+// Whether a filter has room for this many more keys: the size for them, and twice the bits that are
+// set, fit into its bits.
 fn has_room(filter: &BloomFilter, rate: Rate, room: usize) -> bool
     ensures { IsTrue result ↔ HasRoom rate room filter.now }
 {
@@ -43,10 +43,11 @@ fn has_room(filter: &BloomFilter, rate: Rate, room: usize) -> bool
     if bits > wide {
         return false;
     }
-    filter.count_ones() < wide / 2
+    filter.count_ones() <= (wide - bits) / 2
 }
 
-// A filter of all keys of a store, with room for more.
+// A filter of all keys of a store, with room for more. It is made for twice as many, so that it
+// isn't made anew again before about as many keys came as it has.
 fn make_filter<T: Store>(
     alloc: Global,
     store: &mut T,
@@ -68,8 +69,9 @@ fn make_filter<T: Store>(
         Ok(keys) => keys,
         Err(error) => return Err(Refusal::Store(error)),
     };
-    let room = keys.len().saturating_add(room);
-    let mut filter = match BloomFilter::with_false_pos(rate).expected_items(alloc, room) {
+    let half = keys.len().saturating_add(room);
+    let items = half.saturating_add(half);
+    let mut filter = match BloomFilter::with_false_pos(rate).expected_items(alloc, items) {
         Ok(filter) => filter,
         Err(error) => return Err(Refusal::Filter(error)),
     };
@@ -112,6 +114,9 @@ impl<T: Store + Drop, K: Kept + Drop> Guard<T, K> {
         ensures roomy { IfOk result (λ it. it.1 ≡ Origin.Kept → HasRoom rate room it.0.filter) }
         ensures full { IfOk result (λ it. it.1 ≡ Origin.Full → (filter : _)
             × (K.is_known it.0.kept → K.may_have kept filter) × ¬ HasRoom rate room filter) }
+        // It is called missing only where there may be none.
+        ensures missing { IfOk result (λ it. it.1 ≡ Origin.Missing → K.is_known it.0.kept
+            → K.may_lack kept) }
         ensures made { IfOk result (λ it. it.1 ≢ Origin.Kept → T.is_known it.0.store
             → IsMadeOf rate room (T.sight store).has it.0.filter) }
         // Nothing is saved.

@@ -36,7 +36,7 @@ macro_rules! estimate {
 // The second word of the key of seed 42. The first is 0.
 const KEY: u64 = 3026418949592973312;
 
-const SCENES: &'static [Scene] = &[
+const HASHES: &'static [Scene] = &[
     goes_in!(u64::MAX, &[0], 2, &[9223380832947798016]),
     goes_in!(1, &[0], 2, &[1048577]),
     goes_in!(1, &[0], 3, &[4296015873]),
@@ -44,6 +44,14 @@ const SCENES: &'static [Scene] = &[
     goes_in!(0xabac_0158_050f_c4dc, &[0], 1, &[4398046511104]),
     goes_in!(0x8000_0000_0000_0000, &[0, 0, 0], 1, &[0, 4294967296, 0]),
     goes_in!(1, &[4, 8], 2, &[5 + (1 << 40), 8]),
+];
+
+/// Hashes that go in.
+pub(super) fn hashes() -> &'static [Scene] {
+    HASHES
+}
+
+const CALLS: &'static [Scene] = &[
     scene!(
         "words are kept, and 0 hashes count as 1",
         Make::Words(&[5, 6], 0, Hashes(0)),
@@ -107,6 +115,14 @@ const SCENES: &'static [Scene] = &[
         (Contains(1), false),
         (IsEmpty, true),
     ),
+];
+
+/// Calls, one after the other.
+pub(super) fn calls() -> &'static [Scene] {
+    CALLS
+}
+
+const ESTIMATES: &'static [Scene] = &[
     // One of 64 bits is 1/64 of 2^63. Two hashes square what two inserts leave.
     scene!(
         "one hash, one item",
@@ -148,6 +164,7 @@ const SCENES: &'static [Scene] = &[
     ),
 ];
 
-pub(super) fn scenes() -> &'static [Scene] {
-    SCENES
+/// Rates, and numbers of items.
+pub(super) fn estimates() -> &'static [Scene] {
+    ESTIMATES
 }

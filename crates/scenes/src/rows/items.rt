@@ -51,7 +51,7 @@ macro_rules! is_large {
 // The words of the items 1, 2 and 3 among 128 bits, where there are four hashes.
 const THREE: &'static [u64] = &[90072061271121920, 4755818802984517632];
 
-const SCENES: &'static [Scene] = &[
+const ITEMS: &'static [Scene] = &[
     goes_in!(Item::Number(42), 0x7b3e_724b_36eb_df51),
     goes_in!(Item::Text("🦀"), 0x75e3_0e0e_d52f_68a3),
     scene!(
@@ -86,6 +86,14 @@ const SCENES: &'static [Scene] = &[
         (Extend(1, 4), true),
         (Words(THREE), true),
     ),
+];
+
+/// Items that go in.
+pub(super) fn items() -> &'static [Scene] {
+    ITEMS
+}
+
+const BUILDERS: &'static [Scene] = &[
     has_texts!(Make::Rate(1, 1000, 0, Texts(&["42", "🦀"]))),
     has_texts!(Make::Bits(64, Texts(&["42", "🦀"]))),
     scene!(
@@ -121,6 +129,7 @@ const SCENES: &'static [Scene] = &[
     is_large!(40),
 ];
 
-pub(super) fn scenes() -> &'static [Scene] {
-    SCENES
+/// Items that size a filter, or go in beside many others.
+pub(super) fn by_builders() -> &'static [Scene] {
+    BUILDERS
 }

@@ -50,7 +50,7 @@ const DOWN: &'static [u64] = &[8, 7, 6, 5, 4, 3, 2, 1, 0];
 // The words of the hashes 2 and 3 among 256 bits, where there are four hashes.
 const TWO_AND_THREE: &'static [u64] = &[5, 268435456, 17179869192, 4504699138998272];
 
-const SCENES: &'static [Scene] = &[
+const MEETINGS: &'static [Scene] = &[
     // 5 or 6 is 7, and 5 and 6 is 4.
     meets!(&[5], Meet(&[6], true), &[7]),
     meets!(&[5], Meet(&[6], false), &[4]),
@@ -92,6 +92,14 @@ const SCENES: &'static [Scene] = &[
         (Contains(2), true),
         (Contains(3), false),
     ),
+];
+
+/// Unions and intersections.
+pub(super) fn meetings() -> &'static [Scene] {
+    MEETINGS
+}
+
+const COPIES: &'static [Scene] = &[
     is_cleared!(1),
     is_cleared!(7),
     is_cleared!(8),
@@ -110,6 +118,14 @@ const SCENES: &'static [Scene] = &[
         (Clone, true),
         (IsEmpty, true),
     ),
+];
+
+/// Clears and copies.
+pub(super) fn copies() -> &'static [Scene] {
+    COPIES
+}
+
+const COMPARISONS: &'static [Scene] = &[
     // The eighth word is the last of a group, and the ninth the rest.
     scene!(
         "nine words are compared",
@@ -140,6 +156,7 @@ const SCENES: &'static [Scene] = &[
     ),
 ];
 
-pub(super) fn scenes() -> &'static [Scene] {
-    SCENES
+/// Comparisons.
+pub(super) fn comparisons() -> &'static [Scene] {
+    COMPARISONS
 }

@@ -53,7 +53,7 @@ const MOST_HASHES_ROW: Row = (
 const FILTER_ROW: Row = (
     FILTER,
     WORD,
-    "A file with a filter, in the file form or as JSON",
+    "A file with a filter, in the file form or as JSON; - is standard input",
     &[],
     &[],
 );
@@ -121,7 +121,7 @@ const UNITE: &'static [Row] = &[
     (
         FILTER,
         Kind::Words(ArgAction::Append, 1, usize::MAX),
-        "Files with filters of one shape and key, in the file form or as JSON",
+        "Files with filters of one shape and key; - is standard input",
         &[],
         &[],
     ),
@@ -146,7 +146,7 @@ const COMPARE: &'static [Row] = &[
     (
         OTHER,
         WORD,
-        "A file with another filter of the same shape and key",
+        "A file with another filter of the same shape and key; - is standard input",
         &[],
         &[],
     ),

@@ -26,8 +26,8 @@ steps-preserved-in-Opened = next-opened
 pub returns-in-TooLong-clause-fault : goal.returns-in-TooLong-clause-fault
 returns-in-TooLong-clause-fault = error-long
 
-pub returns-in-Err-clause-fault : goal.returns-in-Err-clause-fault
-returns-in-Err-clause-fault = error-sieve
+pub returns-in_err-is_held-clause-fault : goal.returns-in_err-is_held-clause-fault
+returns-in_err-is_held-clause-fault = error-sieve
 
 pub returns-in_err-put_chosen-clause-fault : goal.returns-in_err-put_chosen-clause-fault
 returns-in_err-put_chosen-clause-fault = error-output

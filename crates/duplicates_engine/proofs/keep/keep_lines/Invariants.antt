@@ -10,4 +10,4 @@ invariant-steps g l =
     (g.P.Progress.warnings l.fn.progress) l.opened.lines
     (g.I.Input.Read.remaining l.input) (g.I.Inputs.coming l.inputs) l.opened.number
     l.sieve (g.W.Write.contents l.output) (g.P.Progress.tells l.progress)
-    (g.P.Progress.warnings l.progress) l.counted.tally l.counted.room
+    (g.P.Progress.warnings l.progress) l.counted.tally l.counted.longer l.counted.room

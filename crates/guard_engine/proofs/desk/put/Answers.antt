@@ -1,6 +1,8 @@
+mod Once
 use Rattle.std.proofs.Common.{Ok, ap, ◌∙◌}
 use Rattle.guard_engine.proofs.CountLemmas.{puts-alarm, puts-spared, puts-value}
 use Rattle.guard_engine.proofs.desk.put.Goals as goal
+use Rattle.guard_engine.proofs.desk.put.Answers.Once as once
 use Rattle.guard_engine.proofs.desk.put.Goals.{in-Value, in-Spared+in_ok-add-in-Spared, in-FalseAlarm+in_ok-add-in-FalseAlarm}
 
 -- each answer of the look-up counts once
@@ -19,3 +21,9 @@ returns-clause-counts g c =
           c.find.new.counts fits.spared fits.asked fits.false_alarms
           (found.count_alarm (c.in_ok-find.was ∙ ap Ok w.in-FalseAlarm.is)))
     ]
+
+pub returns-clause-fills : goal.returns-clause-fills
+returns-clause-fills = once.returns-clause-fills
+
+pub returns-clause-once : goal.returns-clause-once
+returns-clause-once = once.returns-clause-once

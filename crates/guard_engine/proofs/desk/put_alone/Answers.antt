@@ -1,6 +1,8 @@
+mod Back
 use Rattle.std.proofs.Common.{sym, ◌∙◌}
 use Rattle.guard_engine.proofs.EntryLemmas.{guards-ended, none-added, put-ended, saved-before, watches-begun}
 use Rattle.guard_engine.proofs.desk.put_alone.Goals as goal
+use Rattle.guard_engine.proofs.desk.put_alone.Answers.Back as back
 
 -- the entry was put in a batch, which was committed
 pub returns-in_ok-end_batch-in-Ok-clause-put : goal.returns-in_ok-end_batch-in-Ok-clause-put
@@ -28,3 +30,6 @@ returns-in_ok-end_batch-in-Ok-clause-guards g c = λ was known kept_known.
     let saved = c.end_batch.ensures.saved puts.batch after
     (saved-before _ _ _ _ _ _ _ _ was begins puts) known kept_known in
     guards-ended _ _ _ _ _ _ _ _ was begins puts _ commits _ _ after saved
+
+pub returns-in-Err-put-clause-guards : goal.returns-in-Err-put-clause-guards
+returns-in-Err-put-clause-guards = back.returns-in-Err-put-clause-guards

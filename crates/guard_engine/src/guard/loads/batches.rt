@@ -1,22 +1,25 @@
 //! One batch of entries.
-ghost use Rattle.std.specs.Prelude.{◌≡◌, ◌≤◌, ◌<◌, ◌^◌, ◌-◌, ◌+◌, ℕ, [], ◌∷◌, Err, IfErr, IfOk, OnErr, IsUtf8};
+ghost use Rattle.std.specs.Prelude.{◌≡◌, ◌≤◌, ◌<◌, ◌^◌, ◌-◌, ◌+◌, ℕ, [], ◌∷◌, Err, IfErr, IfOk, OnErr, OnOk, IsUtf8};
 ghost use Rattle.lines.specs.Reading.{left_of};
 ghost use Rattle.guard_engine.specs.Batches.{Breaks, IsReading, IsWithin, LoadsMany, PutsLines, ReadsPart};
 ghost use Rattle.guard_engine.specs.Counted.{CountsPuts};
+ghost use Rattle.guard_engine.specs.Fills.{Fills, FillsFrom, FillsRead};
 ghost use Rattle.guard_engine.specs.Guarded.{Stays};
 ghost use Rattle.guard_engine.specs.Guarding.{IsGuarding, Watches};
-ghost use Rattle.guard_engine.specs.Loaded.{HasEntry, HasTab, IsBad, IsBadAt};
+ghost use Rattle.guard_engine.specs.Loaded.{HasEntry, HasTab, IsBad, IsBadAt, key_in};
 ghost use Rattle.guard_engine.specs.Puts.{added_by, taken_by};
+ghost use Rattle.guard_engine.specs.Stops.{ComesNext, CountsStop, LeavesLine};
 ghost use Rattle.guard_engine.specs.Stores.{Fails, IsInBatch};
 
 use super::{Loaded, MOST, Stop, Why, stopped};
 use crate::counts::Counts;
 use crate::desk::{end_batch, put};
 use crate::guard::Put;
-use crate::kept::Kept;
 use crate::line::{BadLine, entry_of};
 use crate::store::Store;
-use bloom_plain::BloomFilter;
+use bloom_plain::laws::lists_join;
+use bloom_plain::{BloomFilter, DefaultHasher};
+use guard_parts::Kept;
 use lines::{LineReader, Next};
 use std::io::{ErrorKind, Read};
 
@@ -47,6 +50,8 @@ fn put_line<T: Store, F>(
     ensures known { T.is_known store.new → T.is_known store.old }
     ensures counts { IfOk result (λ put.
         CountsPuts counts.old (added_by put) (taken_by put) counts.new) }
+    ensures count_err { IfErr result (λ why. LeavesLine why counts.old counts.new) }
+    ensures fills { Fills (key_in line.now ∷ []) filter.old filter.new }
 {
     let (key, value) = match entry_of(line) {
         Ok(entry) => entry,
@@ -60,6 +65,7 @@ fn put_line<T: Store, F>(
 
 // Puts the next lines of a reader in the open batch, after this many that are done: as many as a
 // batch may have, or all that are left.
+#[tactic(auto, using(crate::proofs::PutStopLemmas::put_steps))]
 fn put_lines<T: Store, F, R: Read>(
     store: &mut T,
     filter: &mut BloomFilter,
@@ -80,16 +86,27 @@ fn put_lines<T: Store, F, R: Read>(
     ensures err { IsInBatch (T.sight store.old) → Watches filter.old (T.sight store.old)
         → T.is_known store.new → OnErr result (Breaks (T.sight store.old) (T.sight store.new)) }
     ensures stops { IfErr result (λ stop. IsWithin batch done stop.done stop.number) }
-    ensures bad { IfErr result (λ stop. (bad : _) → stop.why ≡ Why.Line bad
-        → IsBadAt HasEntry 1048576 (left_of lines.old (R.remaining input.old))
-        (stop.number - done) bad) }
     ensures reading { IsReading lines.new (R.remaining input.new) }
     ensures watches { IsInBatch (T.sight store.old) → Watches filter.old (T.sight store.old)
         → T.is_known store.new → Watches filter.new (T.sight store.new) }
     ensures known { T.is_known store.new → T.is_known store.old }
     ensures counts { IfOk result (λ part.
         CountsPuts counts.old part.loaded.added part.loaded.taken counts.new) }
+    // Each look-up was counted, and a line that is told is the first that has no entry.
+    ensures told { IfErr result (λ stop. CountsStop batch done counts.old counts.new stop
+        × ((bad : _) → stop.why ≡ Why.Line bad
+        → IsBadAt HasEntry 1048576 (left_of lines.old (R.remaining input.old))
+        (stop.number - done) bad)) }
+    // The line at which it stopped comes after good ones.
+    ensures next { IfErr result (λ stop. ComesNext HasEntry 1048576
+        (left_of lines.old (R.remaining input.old)) (stop.number - done)) }
+    // Just hashes of keys that were read came into the filter.
+    ensures fills { OnOk result (FillsRead (left_of lines.old (R.remaining input.old))
+        (left_of lines.new (R.remaining input.new)) filter.old filter.new) }
+    ensures fills_err { OnErr result
+        (FillsFrom (left_of lines.old (R.remaining input.old)) filter.old filter.new) }
 {
+    lists_join::<DefaultHasher>();
     counts.fit();
     let mut loaded = Loaded { added: 0, taken: 0 };
     'lines: for number in done..MOST {
@@ -151,7 +168,17 @@ pub fn load_batch<T: Store, K: Kept, R: Read>(
     ensures kept_known { K.is_known kept.new → K.is_known kept.old }
     ensures counts { IfOk result (λ part.
         CountsPuts counts.old part.loaded.added part.loaded.taken counts.new) }
+    ensures count_err { IfErr result (CountsStop batch done counts.old counts.new) }
+    // The line at which it stopped comes after good ones.
+    ensures next { IfErr result (λ stop. ComesNext HasEntry 1048576
+        (left_of lines.old (R.remaining input.old)) (stop.number - done)) }
+    // Just hashes of keys that were read came into the filter.
+    ensures fills { OnOk result (FillsRead (left_of lines.old (R.remaining input.old))
+        (left_of lines.new (R.remaining input.new)) filter.old filter.new) }
+    ensures fills_err { OnErr result
+        (FillsFrom (left_of lines.old (R.remaining input.old)) filter.old filter.new) }
 {
+    counts.fit();
     if let Err(error) = store.begin() {
         return Err(stopped(Why::Store(error), done + 1, done));
     }

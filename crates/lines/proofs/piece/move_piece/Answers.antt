@@ -9,13 +9,17 @@ returns-then-not-branch g c =
     let end =
     subst (λ bytes. HasEndAtBy g.row.END bytes count) c.as_slice.ensures c.in-Some.ensures in
     record {
-      part = take count block;
-      cut =
-          sym (take-append-drop count block)
-          ∙ ap (λ rest. take count block ++ rest) (sym c.skip.ensures);
-      inside = end.inside;
-      long =
-          subst (λ bytes. c.args.longest < length c.args.line.now.items + length (take count bytes))
-          c.as_slice-in-Some.ensures
-          (c.in_ok-append-in-Some.ensures.long c.if-not-branch.true);
+      moved = record {
+        part = take count block;
+        cut =
+            sym (take-append-drop count block)
+            ∙ ap (λ rest. take count block ++ rest) (sym c.skip.ensures);
+        inside = end.inside;
+        long =
+            subst (λ bytes.
+            c.args.longest < length c.args.line.now.items + length (take count bytes))
+            c.as_slice-in-Some.ensures
+            (c.in_ok-append-in-Some.ensures.long c.if-not-branch.true);
+      };
+      kept = tt;
     }

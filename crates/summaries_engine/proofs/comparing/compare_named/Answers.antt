@@ -24,5 +24,6 @@ pub returns-in-Err-clause-stops : goal.returns-in-Err-clause-stops
 returns-in-Err-clause-stops g c =
     differs-second (g.S.Shelf.has c.args.shelf.now) (g.S.Shelf.fails c.args.shelf.now)
     c.args.one.now c.args.other.now _ c.in_ok-first.ensures.named _ _ c.in_ok-second.ensures.named
-    (differs-by _ _ _ c.in-Err.is c.check_fit.ensures.shape c.check_fit.ensures.other)
+    (differs-by _ _ _ c.in-Err.is c.check_fit.ensures.shape c.check_fit.ensures.other
+    c.check_fit.ensures.order)
     c.misfit.ensures

@@ -11,4 +11,4 @@ returns c =
       items = c.estimated_items.result;
       estimates = c.estimated_items.ensures;
       is = is;
-    }) c.lines_of.ensures
+    }) c.all_lines_of.ensures

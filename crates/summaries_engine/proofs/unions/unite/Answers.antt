@@ -31,4 +31,4 @@ pub returns-in-Err-add-clause-refused : goal.returns-in-Err-add-clause-refused
 returns-in-Err-add-clause-refused g c =
     uniting-misfit c.shards.invariant g.I.IntoIter.Iterator.next_gives _
     c.into_iter-shard-iterator.ensures.into_iter_gives c.shards.yielded_by c.in-Some.ensures.steps
-    c.in-Ok.is c.in-Err-add.is c.add.ensures.shape c.add.ensures.other
+    c.in-Ok.is c.in-Err-add.is c.add.ensures.shape c.add.ensures.other c.add.ensures.order

@@ -2,50 +2,78 @@
 use Rattle.std.proofs.Common.{◌≡◌, refl, rules, Err}
 use Rattle.std.proofs.KnownBytes.{Keeps-refl}
 use Rattle.lines.specs.Reading.{left_of}
+use Rattle.duplicates_engine.specs.Causes.{FailsBehind}
+use Rattle.duplicates_engine.proofs.CauseLemmas.{opening-system, step-system, refusal-system, caused-first, caused-step, caused-line, caused-writer}
+use Rattle.duplicates_engine.proofs.EndLemmas.{behind-read}
 use Rattle.duplicates_engine.proofs.HalfwayLemmas.{keeping-first}
 use Rattle.duplicates_engine.proofs.KeepingLemmas.{keeps-none, until-none, keeps-all, until-fault, until-long, keeping-next}
-use Rattle.duplicates_engine.proofs.LineStepLemmas.{keeping-more, until-writer}
-use Rattle.duplicates_engine.proofs.WriteLemmas.{open-system}
+use Rattle.duplicates_engine.proofs.LineStepLemmas.{keeping-more, until-writer, next-first}
 use Rattle.duplicates_engine.proofs.keep.keep_lines.Goals as goal
 
 pub error-input : goal.returns-in_err-input-clause-fault
+unfolding until-none
 error-input g c =
     let same : c.from_residual.result ≡ Err c.in_err-input.field-0.0 = search rules in
     rw same
-    (until-none g.V.Sieve.has g.V.Sieve.sifts g.row.END c.args.options _ _ _ _ _ _
-    (open-system _ c.in_err-input.ensures.fault))
+    (record {
+      until =
+          until-none g.V.Sieve.has g.V.Sieve.sifts g.row.END c.args.options _ _ _ _ _ _
+          (opening-system g.I.Inputs.fails _ _ _ c.in_err-input.ensures.fault);
+      caused =
+          caused-first g.V.Sieve.refuses g.I.Inputs.fails g.row.END c.args.options.longest _ _ _ _ _
+          c.in_err-input.ensures.fault;
+    })
 
 pub error-opened : goal.returns-in_err-opened-clause-fault
 error-opened g c =
     let same : c.from_residual-in_err-opened.result ≡ Err c.in_err-opened.field-0.0 =
     search rules in
     rw same
-    (until-none g.V.Sieve.has g.V.Sieve.sifts g.row.END c.args.options _ _ _ _ _ _
-    (open-system _ c.in_err-opened.ensures.fault))
+    (rw c.in_err-opened.ensures.fault
+    (record {
+      until =
+          until-none g.V.Sieve.has g.V.Sieve.sifts g.row.END c.args.options _ _ _ _ _ _ tt;
+      caused = tt;
+    }))
 
 pub none-comes : goal.returns-in_default-clause-all
 none-comes g c =
     keeps-none g.V.Sieve.has g.V.Sieve.sifts g.row.END c.args.options _ _ _ _ _ _ _
-    (rw c.in_default.is at c.in_ok-input.ensures.opened) refl refl
+    (rw c.in_default.is at c.in_ok-input.ensures.opened)
+    (rw c.total.ensures.tally refl) (rw c.total.ensures.tally refl) c.total.ensures.longer
 
 pub first-opened : goal.steps-init
 first-opened g c =
     keeping-first g.V.Sieve.has g.V.Sieve.sifts g.row.END c.args.options _ _ _ _ _ _ _ _ _ _
-    (rw c.in-Some.is at c.in_ok-input.ensures.opened) c.in_ok-opened.ensures.fresh refl refl
+    (rw c.in-Some.is at c.in_ok-input.ensures.opened)
+    c.in_ok-opened.ensures.fresh refl refl
 
 pub error-step : goal.returns-in_err-next_step-clause-fault
+unfolding until-fault
 error-step g c =
     let same : c.from_residual-in_err-next_step.result ≡ Err c.in_err-next_step.field-0.0 =
     search rules in
+    let is = c.in_err-next_step.ensures.fault in
     rw same
-    (until-fault g.V.Sieve.has g.V.Sieve.sifts g.row.END c.args.options _ _ _ _ _ c.steps.invariant
-    _
-    c.next_step.ensures.kept _ c.in_err-next_step.ensures.fault)
+    (record {
+      until =
+          until-fault g.V.Sieve.has g.V.Sieve.sifts g.row.END c.args.options _ _ _ _ _
+          c.steps.invariant _ c.next_step.ensures.kept _
+          (step-system
+          (FailsBehind g.I.Inputs.fails
+          (left_of c.steps.opened.lines (g.I.Input.Read.remaining c.steps.input))
+          c.steps.inputs c.next_step.new.inputs) _ is);
+      caused =
+          caused-step g.V.Sieve.refuses g.I.Inputs.fails g.row.END c.args.options.longest _ _ _ _ _
+          _ _ is
+          (λ last ends. behind-read g.row.END _ _ _ _ _ _ c.steps.invariant.reading ends);
+    })
 
 pub all-ended : goal.returns-in-End-clause-all
 all-ended g c =
     keeps-all g.V.Sieve.has g.V.Sieve.sifts g.row.END c.args.options _ _ _ _ _ c.steps.invariant _
-    c.next_step.ensures.kept _ (rw c.in-End.is at c.in_ok-next_step.ensures.step)
+    c.next_step.ensures.kept _ _ (rw c.in-End.is at c.in_ok-next_step.ensures.step)
+    c.total-in-End.ensures.tally c.total-in-End.ensures.longer
 
 pub next-opened : goal.steps-preserved-in-Opened
 next-opened g c =
@@ -56,35 +84,64 @@ next-opened g c =
 
 pub error-long : goal.returns-in-TooLong-clause-fault
 error-long g c =
-    until-long g.V.Sieve.has g.V.Sieve.sifts g.row.END c.args.options _ _ _ _ _ c.steps.invariant _
-    c.next_step.ensures.kept
-    (left_of c.next_step.new.opened.lines
-    (g.I.Input.Read.remaining c.next_step.new.input)) _ _
-    (rw c.in-TooLong.is at c.in_ok-next_step.ensures.step) c.saturating_add.ensures
+    record {
+      until =
+          until-long g.V.Sieve.has g.V.Sieve.sifts g.row.END c.args.options _ _ _ _ _
+          c.steps.invariant _ c.next_step.ensures.kept
+          (left_of c.next_step.new.opened.lines
+          (g.I.Input.Read.remaining c.next_step.new.input)) _ _
+          (rw c.in-TooLong.is at c.in_ok-next_step.ensures.step) c.saturating_add.ensures;
+      caused = tt;
+    }
 
 pub error-timed : goal.returns-clause-fault
 error-timed g c =
-    until-fault g.V.Sieve.has g.V.Sieve.sifts g.row.END c.args.options _ _ _ _ _ c.steps.invariant _
-    (Keeps-refl (g.W.Write.contents c.steps.output)) _ tt
+    record {
+      until =
+          until-fault g.V.Sieve.has g.V.Sieve.sifts g.row.END c.args.options _ _ _ _ _
+          c.steps.invariant _ (Keeps-refl (g.W.Write.contents c.steps.output)) _ tt;
+      caused = λ same. cc;
+    }
 
-pub error-sieve : goal.returns-in-Err-clause-fault
+pub error-sieve : goal.returns-in_err-is_held-clause-fault
+unfolding until-fault
 error-sieve g c =
-    rw c.in-Err.ensures.same
-    (until-fault g.V.Sieve.has g.V.Sieve.sifts g.row.END c.args.options _ _ _ _ _ c.steps.invariant
-    _
-    c.next_step.ensures.kept _ c.of_sieve.ensures.kind)
+    let same : c.from_residual-in_err-is_held.result ≡ Err c.in_err-is_held.field-0.0 =
+    search rules in
+    let is = c.in_err-is_held.ensures.refused in
+    rw (same, c.in_err-is_held.ensures.same)
+    (record {
+      until =
+          until-fault g.V.Sieve.has g.V.Sieve.sifts g.row.END c.args.options _ _ _ _ _
+          c.steps.invariant _ c.next_step.ensures.kept _
+          (refusal-system g.V.Sieve.refuses _ _ _ is);
+      caused =
+          caused-line g.V.Sieve.refuses g.I.Inputs.fails g.row.END c.args.options.longest _ _ _ _
+          _ _ (next-first g.V.Sieve.has g.V.Sieve.sifts g.row.END c.args.options _ _ _ _ _
+          c.steps.invariant _ c.next_step.ensures.kept c.next_step.new.opened.lines _ _ _
+          (rw c.in-Line.is at c.in_ok-next_step.ensures.step) c.line-line.ensures)
+          c.in_err-is_held.ensures.short is;
+    })
 
 pub error-output : goal.returns-in_err-put_chosen-clause-fault
+unfolding until-writer
 error-output g c =
     let same : c.from_residual-in_err-put_chosen.result ≡ Err c.in_err-put_chosen.field-0.0 =
     search rules in
+    let wrote = rw c.in_err-put_chosen.was at c.put_chosen.ensures in
     rw same
-    (until-writer g.V.Sieve.has g.V.Sieve.sifts g.row.END c.args.options _ _ _ _ _ c.steps.invariant
-    _
-    c.next_step.ensures.kept c.next_step.new.opened.lines _ _ _
-    (rw c.in-Line.is at c.in_ok-next_step.ensures.step) c.line-line.ensures
-    c.in-Ok.ensures.sifted c.in-Ok.ensures.seen c.in-Ok.ensures.taken c.in-Ok.ensures.stays
-    c.count_line.ensures _ _ (rw c.in_err-put_chosen.was at c.put_chosen.ensures))
+    (record {
+      until =
+          until-writer g.V.Sieve.has g.V.Sieve.sifts g.row.END c.args.options _ _ _ _ _
+          c.steps.invariant _ c.next_step.ensures.kept c.next_step.new.opened.lines _ _ _
+          (rw c.in-Line.is at c.in_ok-next_step.ensures.step) c.line-line.ensures
+          c.in_ok-is_held.ensures.sifted c.in_ok-is_held.ensures.seen c.in_ok-is_held.ensures.taken
+          c.in_ok-is_held.ensures.stays c.count_line.ensures.told
+          (rw c.is_longer.ensures at c.count_line.ensures.longer) _ _ wrote;
+      caused =
+          caused-writer g.V.Sieve.refuses g.I.Inputs.fails g.row.END c.args.options.longest _ _ _ _
+          _ wrote.told.0;
+    })
 
 pub line-kept : goal.steps-preserved
 line-kept g c =
@@ -92,6 +149,8 @@ line-kept g c =
     _
     c.next_step.ensures.kept c.next_step.new.opened.lines _ _ _
     (rw c.in-Line.is at c.in_ok-next_step.ensures.step) c.line-line.ensures
-    c.in-Ok.ensures.sifted c.in-Ok.ensures.seen c.in-Ok.ensures.taken c.in-Ok.ensures.stays
-    c.count_line.ensures _ c.in_ok-next_step.ensures.knows c.in_ok-next_step.ensures.limit
+    c.in_ok-is_held.ensures.sifted c.in_ok-is_held.ensures.seen c.in_ok-is_held.ensures.taken
+    c.in_ok-is_held.ensures.stays c.count_line.ensures.told
+    (rw c.is_longer.ensures at c.count_line.ensures.longer)
+    _ c.in_ok-next_step.ensures.knows c.in_ok-next_step.ensures.limit
     (rw c.in_ok-put_chosen.was at c.put_chosen.ensures)

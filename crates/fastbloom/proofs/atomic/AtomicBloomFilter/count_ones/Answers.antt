@@ -1,6 +1,6 @@
 use Rattle.std.proofs.Common.{[], refl, arith, rules}
 use Rattle.bloom_parts.specs.Counts.{count_on}
-use Rattle.fastbloom.proofs.OnesLemmas.{counted-next}
+use Rattle.bloom_steps.proofs.LoadedLemmas.{counted-next}
 use Rattle.fastbloom.proofs.ReadingLemmas.{loaded-of}
 use Rattle.fastbloom.proofs.atomic.AtomicBloomFilter.count_ones.Goals as goal
 

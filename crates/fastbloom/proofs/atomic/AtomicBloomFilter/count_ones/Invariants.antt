@@ -1,4 +1,4 @@
-use Rattle.fastbloom.proofs.OnesLemmas.{CountedFirst}
+use Rattle.bloom_steps.proofs.LoadedLemmas.{CountedFirst}
 use Rattle.fastbloom.proofs.atomic.AtomicBloomFilter.count_ones.Given as goal
 
 -- the words so far were loaded, and their bits were counted

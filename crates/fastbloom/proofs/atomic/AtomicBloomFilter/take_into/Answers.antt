@@ -9,5 +9,5 @@ returns g c =
     let room = rw (← c.self.view_is) at c.requires in
     subst (TakesWords c.args.self.now) (sym c.into_kept.ensures)
     (rw (← c.self.view_is)
-    (drives-take _ _ _ _ store.words store.other (omega (arith, ap length store.kept, room))
+    (drives-take _ _ _ _ _ store.words store.other (omega (arith, ap length store.kept, room))
     c.drive.ensures.script))

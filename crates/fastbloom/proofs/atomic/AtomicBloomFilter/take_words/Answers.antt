@@ -2,4 +2,4 @@ use Rattle.fastbloom.proofs.TakenLemmas.{taken-count}
 use Rattle.fastbloom.proofs.atomic.AtomicBloomFilter.take_words.Goals as goal
 
 pub returns-clause-count : goal.returns-clause-count
-returns-clause-count g c = taken-count c.args.self.now _ c.take_into.ensures
+returns-clause-count g c = taken-count _ _ _ c.take_into.ensures

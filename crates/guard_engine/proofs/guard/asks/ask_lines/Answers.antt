@@ -1,38 +1,34 @@
-use Rattle.guard_engine.proofs.AskLemmas.{asking-nil}
-use Rattle.guard_engine.proofs.AskingLemmas.{asked-all, asking-more, bad-next, next-bad, next-long}
+mod Steps
+mod Bad
+mod Stops
 use Rattle.guard_engine.proofs.guard.asks.ask_lines.Goals as goal
+use Rattle.guard_engine.proofs.guard.asks.ask_lines.Answers.Steps as steps
+use Rattle.guard_engine.proofs.guard.asks.ask_lines.Answers.Bad as bad
+use Rattle.guard_engine.proofs.guard.asks.ask_lines.Answers.Stops as stops
 
 pub keys-init : goal.keys-init
-keys-init g c =
-    let now = c.requires in
-    let fit = c.fit.ensures in
-    asking-nil c.args.lines.now (g.R.Read.remaining c.args.input.now) now.empty now.«open»
-    now.longest c.counts.ensures fit.spared fit.asked fit.false_alarms
+keys-init = steps.keys-init
 
--- nothing is left
 pub returns-in-Ok-End-clause-counts : goal.returns-in-Ok-End-clause-counts
-returns-in-Ok-End-clause-counts g c =
-    asked-all c.keys.invariant c.next_line.new.self _
-    (rw c.in-Ok-End.field-0-is at c.in-Ok-End.ensures.next)
+returns-in-Ok-End-clause-counts = steps.returns-in-Ok-End-clause-counts
+
+pub keys-preserved : goal.keys-preserved
+keys-preserved = steps.keys-preserved
 
 pub returns-in-Ok-TooLong-clause-bad : goal.returns-in-Ok-TooLong-clause-bad
-returns-in-Ok-TooLong-clause-bad g c =
-    bad-next c.keys.invariant c.stopped.ensures
-    (next-long c.keys.invariant _ (rw c.in-Ok-TooLong.field-0-is at c.in-Ok-TooLong.ensures.next))
+returns-in-Ok-TooLong-clause-bad = bad.returns-in-Ok-TooLong-clause-bad
 
 pub returns-in-Err-text_of-clause-bad : goal.returns-in-Err-text_of-clause-bad
-returns-in-Err-text_of-clause-bad g c =
-    bad-next c.keys.invariant c.stopped-in-Err-text_of.ensures
-    (next-bad c.keys.invariant c.next_line.new.self _
-    (rw c.in-Ok-Line.field-0-is at c.in-Ok-Line.ensures.next) c.line.ensures
-    c.in-Err-text_of.ensures.why (c.in-Err-text_of.ensures.bad 1048576))
+returns-in-Err-text_of-clause-bad = bad.returns-in-Err-text_of-clause-bad
 
--- one key more was looked up
-pub keys-preserved : goal.keys-preserved
-keys-preserved g c =
-    let now = c.in-Ok-get.ensures in
-    asking-more c.keys.invariant c.next_line.new.self _
-    (rw c.in-Ok-Line.field-0-is at c.in-Ok-Line.ensures.next) c.line.ensures c.in-Ok.ensures.utf8
-    c.in-Ok.ensures.text now.filter now.kept now.known now.stays now.asked now.alarm now.value
-    now.count_spared now.count_alarm now.count_value c.in-Ok-Line.ensures.knows
-    c.in-Ok-Line.ensures.longest
+pub returns-in-Ok-TooLong-clause-count_err : goal.returns-in-Ok-TooLong-clause-count_err
+returns-in-Ok-TooLong-clause-count_err = stops.returns-in-Ok-TooLong-clause-count_err
+
+pub returns-in-Err-text_of-clause-count_err : goal.returns-in-Err-text_of-clause-count_err
+returns-in-Err-text_of-clause-count_err = stops.returns-in-Err-text_of-clause-count_err
+
+pub returns-in-Err-clause-count_err : goal.returns-in-Err-clause-count_err
+returns-in-Err-clause-count_err = stops.returns-in-Err-clause-count_err
+
+pub returns-in-Err-get-clause-count_err : goal.returns-in-Err-get-clause-count_err
+returns-in-Err-get-clause-count_err = stops.returns-in-Err-get-clause-count_err

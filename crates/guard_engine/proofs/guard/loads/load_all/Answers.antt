@@ -1,39 +1,37 @@
-mod Errors
 mod More
-use Rattle.std.proofs.Common.{rules, ◌≡◌, Err}
-use Rattle.guard_engine.proofs.LoadedLemmas.{loading-nil}
-use Rattle.guard_engine.proofs.LoadingLemmas.{bad-later, counts-joined, first-put, loaded-all, loading-more}
+mod Errors
+mod Stops
 use Rattle.guard_engine.proofs.guard.loads.load_all.Goals as goal
-use Rattle.guard_engine.proofs.guard.loads.load_all.Answers.Errors.{error-bad, error-stops}
-use Rattle.guard_engine.proofs.guard.loads.load_all.Answers.More.{more-preserved}
+use Rattle.guard_engine.proofs.guard.loads.load_all.Answers.More as more
+use Rattle.guard_engine.proofs.guard.loads.load_all.Answers.Errors as errors
+use Rattle.guard_engine.proofs.guard.loads.load_all.Answers.Stops as stops
 
 pub batches-init : goal.batches-init
-batches-init g c =
-    let now = c.requires in
-    let fit = c.fit.ensures in
-    loading-nil c.args.lines.now (g.R.Read.remaining c.args.input.now) now.empty now.«open»
-    now.longest fit.spared fit.asked fit.false_alarms
-
-pub returns-in_err-part-clause-stops : goal.returns-in_err-part-clause-stops
-returns-in_err-part-clause-stops = error-stops
-
-pub returns-in_err-part-clause-bad : goal.returns-in_err-part-clause-bad
-returns-in_err-part-clause-bad = error-bad
-
--- all batches are put
-pub returns-then-part-clause-loads : goal.returns-then-part-clause-loads
-returns-then-part-clause-loads g c =
-    let now = c.in_ok-part.ensures in
-    let sum = c.join-loaded.ensures in
-    loaded-all c.batches.invariant c.load_batch.new.lines _ c.in_ok-part.part now.ok now.known
-    now.kept_known now.counts sum.added sum.taken c.if-part.true
-
-pub returns-then-part-clause-counts : goal.returns-then-part-clause-counts
-returns-then-part-clause-counts g c =
-    let now = c.in_ok-part.ensures in
-    let sum = c.join-loaded.ensures in
-    counts-joined c.batches.invariant c.load_batch.new.lines _ c.in_ok-part.part now.ok now.known
-    now.kept_known now.counts sum.added sum.taken
+batches-init = more.batches-init
 
 pub batches-preserved : goal.batches-preserved
-batches-preserved = more-preserved
+batches-preserved = more.batches-preserved
+
+pub returns-then-part-clause-loads : goal.returns-then-part-clause-loads
+returns-then-part-clause-loads = more.returns-then-part-clause-loads
+
+pub returns-then-part-clause-counts : goal.returns-then-part-clause-counts
+returns-then-part-clause-counts = more.returns-then-part-clause-counts
+
+pub returns-then-part-clause-fills : goal.returns-then-part-clause-fills
+returns-then-part-clause-fills = more.returns-then-part-clause-fills
+
+pub returns-in_err-part-clause-stops : goal.returns-in_err-part-clause-stops
+returns-in_err-part-clause-stops = errors.returns-in_err-part-clause-stops
+
+pub returns-in_err-part-clause-bad : goal.returns-in_err-part-clause-bad
+returns-in_err-part-clause-bad = errors.returns-in_err-part-clause-bad
+
+pub returns-in_err-part-clause-count_err : goal.returns-in_err-part-clause-count_err
+returns-in_err-part-clause-count_err = stops.returns-in_err-part-clause-count_err
+
+pub returns-in_err-part-clause-next : goal.returns-in_err-part-clause-next
+returns-in_err-part-clause-next = stops.returns-in_err-part-clause-next
+
+pub returns-in_err-part-clause-fills : goal.returns-in_err-part-clause-fills
+returns-in_err-part-clause-fills = stops.returns-in_err-part-clause-fills

@@ -1,4 +1,5 @@
 use Rattle.std.proofs.Common.{◌≡◌, ◌<◌, ◌≤◌, ◌^◌, arith}
+use Rattle.std.proofs.lemmas.Bool.{le-leb, leb-true}
 use Rattle.bloom_plain.specs.Filter.{num_bits_of}
 use Rattle.guard_engine.proofs.RoomLemmas.{no-room-large, no-room-narrow, room-half}
 use Rattle.guard_engine.proofs.guard.opening.has_room.Goals as goal
@@ -31,5 +32,9 @@ returns c =
     let some : ¬ (c.args.room ≡ 0) = λ none. omega (arith, none, c.if-room-eq0.false) in
     let wide : c.in-Ok.bits ≤ num_bits_of c.args.filter.now =
     omega (arith, c.if-bits-wide.false, c.num_bits-wide.ensures.value) in
-    rw c.num_bits-wide.ensures.value (room-half _ _ _ c.size_of_rate.ensures some _ _
-    c.in-Ok.ensures.value wide c.count_ones.ensures.count)
+    let half = room-half c.args.rate c.args.room c.args.filter.now c.size_of_rate.ensures some
+    c.in-Ok.bits _ c.in-Ok.ensures.value wide c.count_ones.ensures.count in
+    rw c.num_bits-wide.ensures.value (
+      λ is. half.0 (leb-true _ _ is),
+      λ has. le-leb _ _ (half.1 has),
+    )

@@ -11,9 +11,9 @@ returns-in-Err-expected_items-clause-refused g c = λ ready error is.
     let many : c.len.result ≡ length (vec_items c.in-Ok.keys) = search rules in
     subst (LacksFilter _ _ _ _) (filter-injective _ error is)
     (lacks-filter string_bytes (vec_items c.in-Ok.keys) (vec_items c.in-Ok.keys) refl c.args.rate
-    c.args.room _ _ _ c.with_false_pos.result c.with_false_pos.ensures.rate many
-    c.saturating_add-room.ensures g.T.Store.is_known c.keys.new.self _
-    (λ known. c.in-Ok.ensures.keys (ready (c.keys.ensures.known known)).fit known)
+    c.args.room _ _ _ _ c.with_false_pos.result c.with_false_pos.ensures.rate many
+    c.saturating_add-half.ensures c.saturating_add-items.ensures g.T.Store.is_known c.keys.new.self
+    _ (λ known. c.in-Ok.ensures.keys (ready (c.keys.ensures.known known)).fit known)
     c.in-Err-expected_items.ensures.refused)
 
 -- the filter holds each key that the store listed
@@ -29,9 +29,10 @@ pub returns-clause-made : goal.returns-clause-made
 returns-clause-made g c = λ ready known.
     let many : c.len.result ≡ length (vec_items c.in-Ok.keys) = search rules in
     made-of string_bytes (vec_items c.in-Ok.keys) _ c.deref.ensures.value c.args.rate c.args.room
-    _ _ _ c.with_false_pos.result c.with_false_pos.ensures.rate many c.saturating_add-room.ensures
-    _ _ c.with_false_pos.ensures.key (c.in-Ok.ensures.keys ready.fit known)
-    c.in-Ok-expected_items.ensures.made c.insert_keys.ensures.inserts
+    _ _ _ _ c.with_false_pos.result c.with_false_pos.ensures.rate many
+    c.saturating_add-half.ensures c.saturating_add-items.ensures _ _ c.with_false_pos.ensures.key
+    (c.in-Ok.ensures.keys ready.fit known) c.in-Ok-expected_items.ensures.made
+    c.insert_keys.ensures.inserts
 
 -- the store stays ready
 pub returns-clause-ready : goal.returns-clause-ready

@@ -1,35 +1,40 @@
+mod Committed
 mod Errors
-use Rattle.std.proofs.Common.{inl, inr}
-use Rattle.guard_engine.specs.Stores.{TakesBack}
-use Rattle.guard_engine.proofs.BatchLemmas.{ReadsPart-map, Watches-begun, guards-back, guards-committed, loads-committed, none-added, saved-begun}
+mod Stops
 use Rattle.guard_engine.proofs.guard.loads.batches.load_batch.Goals as goal
-use Rattle.guard_engine.proofs.guard.loads.batches.load_batch.Answers.Errors.{error-guards}
+use Rattle.guard_engine.proofs.guard.loads.batches.load_batch.Answers.Committed as committed
+use Rattle.guard_engine.proofs.guard.loads.batches.load_batch.Answers.Errors as errors
+use Rattle.guard_engine.proofs.guard.loads.batches.load_batch.Answers.Stops as stops
 
--- the lines that were put are committed
 pub returns-in-Ok-end_batch-clause-ok : goal.returns-in-Ok-end_batch-clause-ok
-returns-in-Ok-end_batch-clause-ok g c =
-    ReadsPart-map c.in-Ok.ensures.ok
-    (λ lines puts guards known kept_known.
-    let told = c.end_batch.ensures.known known in
-    let begins = c.in_default.ensures.ok guards.ready (c.put_lines.ensures.known told) in
-    let so = puts begins.batch (Watches-begun _ _ _ _ guards begins) told in
-    loads-committed _ _ _ _ guards begins lines _ _ _ so
-    (c.in-Ok-end_batch.ensures.ok so.batch (none-added _ _ _ _ guards begins _ lines _ so) known))
+returns-in-Ok-end_batch-clause-ok = committed.returns-in-Ok-end_batch-clause-ok
 
 pub returns-in-Ok-end_batch-clause-guards : goal.returns-in-Ok-end_batch-clause-guards
-returns-in-Ok-end_batch-clause-guards g c guards known kept_known =
-    let told = c.end_batch.ensures.known known in
-    let begins = c.in_default.ensures.ok guards.ready (c.put_lines.ensures.known told) in
-    let watches = Watches-begun _ _ _ _ guards begins in
-    let entries = c.in-Ok.ensures.ok.entries in
-    let so = entries.puts begins.batch watches told in
-    let watched = c.put_lines.ensures.watches begins.batch watches told in
-    guards-committed _ _ _ _ guards begins _ _ _ _
-    (c.in-Ok-end_batch.ensures.ok so.batch
-    (none-added _ _ _ _ guards begins _ entries.lines _ so) known) watched
-    (c.end_batch.ensures.saved so.batch watched
-    (saved-begun _ _ _ _ guards begins (g.T.Store.sight c.put_lines.new.store) so.kept)
-    known kept_known)
+returns-in-Ok-end_batch-clause-guards = committed.returns-in-Ok-end_batch-clause-guards
 
 pub returns-in-Err-put_lines-clause-guards : goal.returns-in-Err-put_lines-clause-guards
-returns-in-Err-put_lines-clause-guards = error-guards
+returns-in-Err-put_lines-clause-guards = errors.returns-in-Err-put_lines-clause-guards
+
+pub returns-in-Err-clause-count_err : goal.returns-in-Err-clause-count_err
+returns-in-Err-clause-count_err = stops.returns-in-Err-clause-count_err
+
+pub returns-in-Err-clause-next : goal.returns-in-Err-clause-next
+returns-in-Err-clause-next = stops.returns-in-Err-clause-next
+
+pub returns-in-Err-clause-fills_err : goal.returns-in-Err-clause-fills_err
+returns-in-Err-clause-fills_err = stops.returns-in-Err-clause-fills_err
+
+pub returns-in-Err-end_batch-clause-count_err : goal.returns-in-Err-end_batch-clause-count_err
+returns-in-Err-end_batch-clause-count_err = stops.returns-in-Err-end_batch-clause-count_err
+
+pub returns-in-Err-end_batch-clause-next : goal.returns-in-Err-end_batch-clause-next
+returns-in-Err-end_batch-clause-next = stops.returns-in-Err-end_batch-clause-next
+
+pub returns-in-Err-end_batch-clause-fills_err : goal.returns-in-Err-end_batch-clause-fills_err
+returns-in-Err-end_batch-clause-fills_err = stops.returns-in-Err-end_batch-clause-fills_err
+
+pub returns-in-Err-put_lines-clause-bad : goal.returns-in-Err-put_lines-clause-bad
+returns-in-Err-put_lines-clause-bad = errors.returns-in-Err-put_lines-clause-bad
+
+pub returns-in-Err-put_lines-clause-count_err : goal.returns-in-Err-put_lines-clause-count_err
+returns-in-Err-put_lines-clause-count_err = errors.returns-in-Err-put_lines-clause-count_err

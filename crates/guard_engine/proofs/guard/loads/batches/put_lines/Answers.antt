@@ -1,39 +1,38 @@
-mod Whole
-mod Errors
-use Rattle.std.proofs.Common.{ap, Err, arith}
-use Rattle.guard_engine.proofs.PutNextLemmas.{counts-more, next-bad, part-whole, putting-more}
-use Rattle.guard_engine.proofs.PuttingLemmas.{bad-next, next-long, part-last, putting-nil}
+mod Steps
+mod Stops
 use Rattle.guard_engine.proofs.guard.loads.batches.put_lines.Goals as goal
-use Rattle.guard_engine.proofs.guard.loads.batches.put_lines.Answers.Errors.{error-line, error-long, error-read}
-use Rattle.guard_engine.proofs.guard.loads.batches.put_lines.Answers.Whole.{more-preserved, whole-counts, whole-ok}
+use Rattle.guard_engine.proofs.guard.loads.batches.put_lines.Answers.Steps as steps
+use Rattle.guard_engine.proofs.guard.loads.batches.put_lines.Answers.Stops as stops
 
-pub lines-init : goal.lines-init
-lines-init g c =
-    let fit = c.fit.ensures in
-    putting-nil c.args.lines.now (g.R.Read.remaining c.args.input.now) c.requires.reading
-    c.requires.some fit.spared fit.asked fit.false_alarms
-
--- nothing is left
 pub returns-in-Ok-End-clause-ok : goal.returns-in-Ok-End-clause-ok
-returns-in-Ok-End-clause-ok g c =
-    part-last c.lines.invariant _ (omega arith)
-    (rw c.in-Ok-End.field-0-is at c.in-Ok-End.ensures.next)
+returns-in-Ok-End-clause-ok = steps.returns-in-Ok-End-clause-ok
 
-pub returns-in-Ok-TooLong-clause-bad : goal.returns-in-Ok-TooLong-clause-bad
-returns-in-Ok-TooLong-clause-bad = error-long
-
-pub returns-in-Err-clause-bad : goal.returns-in-Err-clause-bad
-returns-in-Err-clause-bad = error-read
-
-pub returns-in-Err-put_line-clause-bad : goal.returns-in-Err-put_line-clause-bad
-returns-in-Err-put_line-clause-bad = error-line
+pub returns-in-Ok-End-clause-fills : goal.returns-in-Ok-End-clause-fills
+returns-in-Ok-End-clause-fills = steps.returns-in-Ok-End-clause-fills
 
 pub returns-then-at-done-clause-ok : goal.returns-then-at-done-clause-ok
-returns-then-at-done-clause-ok = whole-ok
+returns-then-at-done-clause-ok = steps.returns-then-at-done-clause-ok
 
 pub returns-then-at-done-clause-counts : goal.returns-then-at-done-clause-counts
-returns-then-at-done-clause-counts = whole-counts
+returns-then-at-done-clause-counts = steps.returns-then-at-done-clause-counts
 
--- the batch goes on
+pub returns-then-at-done-clause-fills : goal.returns-then-at-done-clause-fills
+returns-then-at-done-clause-fills = steps.returns-then-at-done-clause-fills
+
 pub lines-preserved : goal.lines-preserved
-lines-preserved = more-preserved
+lines-preserved = steps.lines-preserved
+
+pub returns-in-Ok-TooLong-clause-told : goal.returns-in-Ok-TooLong-clause-told
+returns-in-Ok-TooLong-clause-told = stops.returns-in-Ok-TooLong-clause-told
+
+pub returns-in-Err-clause-told : goal.returns-in-Err-clause-told
+returns-in-Err-clause-told = stops.returns-in-Err-clause-told
+
+pub returns-in-Err-put_line-clause-told : goal.returns-in-Err-put_line-clause-told
+returns-in-Err-put_line-clause-told = stops.returns-in-Err-put_line-clause-told
+
+pub returns-clause-told : goal.returns-clause-told
+returns-clause-told = stops.returns-clause-told
+
+pub returns-in-Err-put_line-clause-fills_err : goal.returns-in-Err-put_line-clause-fills_err
+returns-in-Err-put_line-clause-fills_err = stops.returns-in-Err-put_line-clause-fills_err

@@ -4,8 +4,8 @@ use Rattle.guard_engine.proofs.LoadingLemmas.{bad-later, first-put}
 use Rattle.guard_engine.proofs.guard.loads.load_all.Goals as goal
 
 -- the batches before are put
-pub error-stops : goal.returns-in_err-part-clause-stops
-error-stops g c guards known kept_known =
+pub returns-in_err-part-clause-stops : goal.returns-in_err-part-clause-stops
+returns-in_err-part-clause-stops g c guards known kept_known =
     let is : c.from_residual.result ≡ Err c.in_err-part.field-0.0 = search rules in
     let now = c.in_err-part.ensures in
     let was = c.batches.invariant in
@@ -16,8 +16,8 @@ error-stops g c guards known kept_known =
     (now.err (was.guards guards mid_known mid_kept) known kept_known)
     (was.entries.puts guards mid_known mid_kept))
 
-pub error-bad : goal.returns-in_err-part-clause-bad
-error-bad g c =
+pub returns-in_err-part-clause-bad : goal.returns-in_err-part-clause-bad
+returns-in_err-part-clause-bad g c =
     let is : c.from_residual.result ≡ Err c.in_err-part.field-0.0 = search rules in
     let now = c.in_err-part.ensures in
     rw is (λ bad told. bad-later c.batches.invariant _ bad now.stops.before (now.bad bad told))

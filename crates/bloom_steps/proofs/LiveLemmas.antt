@@ -1,0 +1,122 @@
+-- From the steps of a store that lends shared words to the calls on them.
+use Rattle.std.proofs.Common.{◌≡◌, ◌∙◌, ℕ, zero, suc, ◌+◌, ◌≤◌, Bool, List, [], ◌∷◌, length, Option, Some, None, ap, refl, subst, sym, arith, slice_get}
+use Rattle.std.proofs.lemmas.Option.{none-some, same_Some}
+use Rattle.bloom_parts.specs.Made.{SharedWords}
+use Rattle.bloom_steps.specs.declared.steps.vocabulary.Call.TheVariants.{Contains, Insert}
+use Rattle.bloom_steps.specs.declared.steps.vocabulary.End.TheVariants.{Done}
+use Rattle.bloom_steps.specs.declared.steps.vocabulary.Call.{Call}
+use Rattle.bloom_steps.specs.LiveSteps.{IsMade, Lent, MakesCallOn, MakesStep}
+use Rattle.bloom_steps.specs.Plans.{plan_of}
+use Rattle.bloom_steps.specs.Scripts.{Taken, Each, Linked, IsScript, IsLastEnd, Drives, answer_of, answer_of_end}
+
+-- linked steps of a store were made, from turn to turn, on the words that it lends
+pub steps-made : (words other : SharedWords) (taken : List Taken) (before after : Lent)
+    → before.words ≡ words → before.other ≡ other → Linked MakesStep before taken after
+    → Linked (IsMade words other) before.turn taken after.turn
+steps-made words other [] before after is_words is_other linked =
+    ap (λ (l : Lent). l.turn) linked
+steps-made words other (t ∷ ts) before after is_words is_other linked =
+    let mid = linked.0 in
+    let step = linked.1 in (
+      mid.turn,
+      subst (λ o. IsMade words o before.turn t.step t.found mid.turn) is_other
+          (subst (λ w. IsMade w before.other before.turn t.step t.found mid.turn) is_words step.0),
+      steps-made words other ts mid after (step.1 ∙ is_words) (step.2 ∙ is_other) linked.2,
+    )
+
+-- one of the steps that were made, with its turn and the next one
+pub made-at : (words other : SharedWords) (first last : ℕ) (taken : List Taken)
+    → Linked (IsMade words other) first taken last → (i : ℕ) (t : Taken)
+    → slice_get taken i ≡ Some t
+    → (before : ℕ) × (after : ℕ) × IsMade words other before t.step t.found after
+made-at words other first last [] made i t got = absurd (none-some t got)
+made-at words other first last (u ∷ us) made zero t got = (
+  first,
+  made.0,
+  subst (λ (v : Taken). IsMade words other first v.step v.found made.0) (same_Some u t got) made.1,
+)
+made-at words other first last (u ∷ us) made (suc i) t got =
+    made-at words other made.0 last us made.2 i t got
+
+-- a whole script that a store was driven through is a call on the vectors that it lends
+pub drives-call : (words other : SharedWords) (hashes : ℕ) (call : Call) (reply : Option Bool)
+    (store after : Lent) → store.words ≡ words → store.other ≡ other
+    → Drives MakesStep store.words.count hashes call store after reply
+    → MakesCallOn words other hashes call reply
+drives-call words other hashes call reply store after is_words is_other drives = record {
+  taken = drives.taken;
+  script =
+      subst (λ (v : SharedWords). IsScript v.count hashes call drives.taken) is_words
+      drives.script;
+  first = store.turn;
+  last = after.turn;
+  made = steps-made words other drives.taken store after is_words is_other drives.linked;
+  answers = drives.answers;
+}
+
+-- the last of some steps
+pub record LastOf (s : List Taken) : Type 0 where
+  pub index : ℕ
+  pub step : Taken
+  pub is_last : index + 1 ≡ length s
+  pub stands : slice_get s index ≡ Some step
+  pub answers : answer_of s ≡ answer_of_end step.ended
+
+-- some steps have a last one, which gives their answer
+pub last-of : (s : List Taken) → 1 ≤ length s → LastOf s
+last-of [] some = absurd (omega (arith, some))
+last-of (t ∷ []) some =
+    record { index = 0; step = t; is_last = refl; stands = refl; answers = refl }
+last-of (t ∷ (u ∷ rest)) some =
+    let last = last-of (u ∷ rest) (omega arith) in
+    record {
+      index = suc last.index;
+      step = last.step;
+      is_last = omega (arith, last.is_last);
+      stands = last.stands;
+      answers = last.answers;
+    }
+
+-- steps that end with `Done` have no answer
+pub silent : (s : List Taken) → Each s (λ i t. i + 1 ≡ length s → t.ended ≡ Done)
+    → answer_of s ≡ None
+silent [] ends = refl
+silent (t ∷ rest) ends =
+    let last = last-of (t ∷ rest) (omega arith) in
+    last.answers ∙ ap answer_of_end (ends last.index last.step last.stands last.is_last)
+
+-- a script of an insert has an answer
+pub insert-answers : (w k hash : ℕ) (s : List Taken) → 1 ≤ k → IsScript w k (Insert hash) s
+    → (reply : Bool) × (answer_of s ≡ Some reply)
+insert-answers w k hash s some script =
+    let last = last-of s (omega (arith, some, script.count)) in
+    let end = script.last last.index last.step last.stands last.is_last in
+    (end.0, last.answers ∙ ap answer_of_end end.1)
+
+-- a script of a look-up has an answer
+pub contains-answers : (w k hash : ℕ) (s : List Taken) → IsScript w k (Contains hash) s
+    → (reply : Bool) × (answer_of s ≡ Some reply)
+contains-answers w k hash s script =
+    let last = last-of s script.count.0 in
+    let end = script.last last.index last.step last.stands last.is_last in
+    (_, last.answers ∙ ap answer_of_end (end last.index last.step last.stands last.is_last))
+
+-- a call whose script has an answer replies something
+pub call-replies : (words other : SharedWords) (hashes : ℕ) (call : Call)
+    → (calls : MakesCallOn words other hashes call None)
+    → (reply : Bool) × (answer_of calls.taken ≡ Some reply) → ⊥
+call-replies words other hashes call calls answer = none-some answer.0 (calls.answers ∙ answer.1)
+
+-- a call whose script ends with `Done` replies nothing
+pub call-silent : (words other : SharedWords) (hashes : ℕ) (call : Call) (reply : Option Bool)
+    → (calls : MakesCallOn words other hashes call reply)
+    → ((t : Taken) → IsLastEnd words.count (plan_of call) calls.taken t.ended → t.ended ≡ Done)
+    → MakesCallOn words other hashes call None
+call-silent words other hashes call reply calls ends = record {
+  taken = calls.taken;
+  script = calls.script;
+  first = calls.first;
+  last = calls.last;
+  made = calls.made;
+  answers = sym (silent calls.taken (λ i t got last. ends t (calls.script.last i t got last)));
+}

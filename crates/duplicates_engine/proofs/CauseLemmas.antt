@@ -1,0 +1,138 @@
+-- Why a run ended, from the call that failed on.
+use Rattle.std.proofs.Common.{◌≡◌, ◌≢◌, ◌≤◌, ℕ, List, [], ◌∷◌, ◌++◌, length, Option, None, Some, refl, sym, ◌∙◌}
+use Rattle.std.specs.Prelude.{IfSome}
+use Rattle.std.specs.declared.io.ErrorKind.{ErrorKind}
+use Rattle.bloom_plain.specs.declared.growing.error.GrowingError.{GrowingError}
+use Rattle.lines.specs.Reading.{Ends}
+use Rattle.duplicates_engine.specs.declared.fault.Fault.{Fault}
+use Rattle.duplicates_engine.specs.declared.fault.Fault.TheVariants.{TooLong, Memory, Full, Open, Input, Output}
+use Rattle.duplicates_engine.specs.Causes.{TellsRead, FailsToOpen, FailsBehind, IsOfStep, AreOfFirst, StopsAtOpen, StopsAtLine, RefusesLine, IsCaused}
+use Rattle.duplicates_engine.specs.Faults.{IsOfSystem, IsOfWriter}
+use Rattle.duplicates_engine.specs.Inputs.{AreFirstRead}
+
+-- the fault of a writer comes before a next line, whatever opens do
+pub writer-step : (opens : Fault → Type 0) (fault : Fault) → IsOfWriter fault
+    → IsOfStep opens fault
+writer-step opens (TooLong number) is = absurd is
+writer-step opens Memory is = absurd is
+writer-step opens Full is = absurd is
+writer-step opens (Open kind) is = absurd is
+writer-step opens (Input kind) is = absurd is
+writer-step opens (Output kind) is = tt
+
+-- so does the fault of a read
+pub read-step : (opens : Fault → Type 0) (kind : ErrorKind) (fault : Fault)
+    → TellsRead kind fault → IsOfStep opens fault
+read-step opens kind (TooLong number) is = absurd is
+read-step opens kind Memory is = tt
+read-step opens kind Full is = absurd is
+read-step opens kind (Open told) is = absurd is
+read-step opens kind (Input told) is = λ same. is.1 (sym is.0 ∙ same)
+read-step opens kind (Output told) is = absurd is
+
+module _ {I : Type 0} (fails : I → I → ErrorKind → Type 0) where
+  -- an open that failed is memory or an open
+  pub open-step : (old new : I) (fault : Fault) → FailsToOpen fails old new fault
+      → IsOfStep (FailsToOpen fails old new) fault
+  open-step old new (TooLong number) is = absurd is.told
+  open-step old new Memory is = tt
+  open-step old new Full is = absurd is.told
+  open-step old new (Open kind) is = is
+  open-step old new (Input kind) is = absurd is.told
+  open-step old new (Output kind) is = absurd is.told
+
+  -- it is no long line
+  pub opening-system : (old new : I) (fault : Fault) → FailsToOpen fails old new fault
+      → IsOfSystem fault
+  opening-system old new (TooLong number) is = absurd is.told
+  opening-system old new Memory is = tt
+  opening-system old new Full is = absurd is.told
+  opening-system old new (Open kind) is = tt
+  opening-system old new (Input kind) is = absurd is.told
+  opening-system old new (Output kind) is = absurd is.told
+
+  -- behind an input that has ended
+  pub behind-step : (left last : Option (List ℕ)) (old new : I) (fault : Fault) → Ends left last
+      → IsOfStep (FailsToOpen fails old new) fault → IsOfStep (FailsBehind fails left old new) fault
+  behind-step left last old new (TooLong number) ends is = absurd is
+  behind-step left last old new Memory ends is = tt
+  behind-step left last old new Full ends is = absurd is
+  behind-step left last old new (Open kind) ends is =
+      record { last = last; ends = ends; opening = is }
+  behind-step left last old new (Input kind) ends is = is
+  behind-step left last old new (Output kind) ends is = tt
+
+-- a fault before the next line is no long line
+pub step-system : (opens : Fault → Type 0) (fault : Fault) → IsOfStep opens fault
+    → IsOfSystem fault
+step-system opens (TooLong number) is = absurd is
+step-system opens Memory is = tt
+step-system opens Full is = absurd is
+step-system opens (Open kind) is = tt
+step-system opens (Input kind) is = tt
+step-system opens (Output kind) is = tt
+
+-- nor is the refusal of a line
+pub refusal-system : {V : Type 0} (refuses : V → List ℕ → GrowingError → Type 0) (sieve : V)
+    (line : List ℕ) (fault : Fault) → RefusesLine refuses sieve line fault → IsOfSystem fault
+refusal-system refuses sieve line (TooLong number) is = absurd is.told
+refusal-system refuses sieve line Memory is = tt
+refusal-system refuses sieve line Full is = tt
+refusal-system refuses sieve line (Open kind) is = absurd is.told
+refusal-system refuses sieve line (Input kind) is = absurd is.told
+refusal-system refuses sieve line (Output kind) is = absurd is.told
+
+module _ {V I : Type 0} (refuses : V → List ℕ → GrowingError → Type 0)
+    (fails : I → I → ErrorKind → Type 0) (end longest : ℕ) (come : Option (List (List ℕ)))
+    (sieve : V) where
+  -- before any line an open may fail
+  pub caused-first : (old new : I) (fault : Fault) → FailsToOpen fails old new fault
+      → IsCaused refuses fails end longest come [] sieve new fault
+  caused-first old new (TooLong number) is = absurd is.told
+  caused-first old new Memory is = tt
+  caused-first old new Full is = absurd is.told
+  caused-first old new (Open kind) is = record { old = old; opening = is; behind = none come }
+    where
+      none : (come : Option (List (List ℕ))) → IfSome come (λ inputs. AreOfFirst end inputs [])
+      none None = tt
+      none (Some inputs) = record { done = []; rest = inputs; cut = refl; are_lines = refl }
+  caused-first old new (Input kind) is = absurd is.told
+  caused-first old new (Output kind) is = absurd is.told
+
+  module _ (lines : List (List ℕ)) where
+    -- before the next line, where an open comes only behind an input that has ended
+    pub caused-step : (left : Option (List ℕ)) (old new : I) (fault : Fault)
+        → IsOfStep (FailsBehind fails left old new) fault
+        → ((last : Option (List ℕ)) → Ends left last
+        → IfSome come (λ inputs. AreOfFirst end inputs lines))
+        → IsCaused refuses fails end longest come lines sieve new fault
+    caused-step left old new (TooLong number) is behind = absurd is
+    caused-step left old new Memory is behind = tt
+    caused-step left old new Full is behind = absurd is
+    caused-step left old new (Open kind) is behind =
+        record { old = old; opening = is.opening; behind = behind is.last is.ends }
+    caused-step left old new (Input kind) is behind = is
+    caused-step left old new (Output kind) is behind = tt
+
+    -- at a line that the sieve refused
+    pub caused-line : (inputs : I) (line : List ℕ) (fault : Fault)
+        → AreFirstRead end come (lines ++ line ∷ []) → length line ≤ longest
+        → RefusesLine refuses sieve line fault
+        → IsCaused refuses fails end longest come lines sieve inputs fault
+    caused-line inputs line (TooLong number) next short is = absurd is.told
+    caused-line inputs line Memory next short is = tt
+    caused-line inputs line Full next short is =
+        record { line = line; next = next; short = short; refusal = is }
+    caused-line inputs line (Open kind) next short is = absurd is.told
+    caused-line inputs line (Input kind) next short is = absurd is.told
+    caused-line inputs line (Output kind) next short is = absurd is.told
+
+    -- a writer may fail at any line
+    pub caused-writer : (inputs : I) (fault : Fault) → IsOfWriter fault
+        → IsCaused refuses fails end longest come lines sieve inputs fault
+    caused-writer inputs (TooLong number) is = absurd is
+    caused-writer inputs Memory is = absurd is
+    caused-writer inputs Full is = absurd is
+    caused-writer inputs (Open kind) is = absurd is
+    caused-writer inputs (Input kind) is = absurd is
+    caused-writer inputs (Output kind) is = tt

@@ -1,0 +1,44 @@
+-- Longer lines, counted one after the other.
+use Rattle.std.proofs.Common.{◌≡◌, ℕ, ◌+◌, ◌-◌, ◌^◌, min, Bool, true, false, cond, List, [], ◌∷◌, ◌++◌, length, ◌<◌, ◌≤◌, refl, ◌∙◌, arith}
+use Rattle.std.proofs.lemmas.Bool.{lt-ltb, le-ltb}
+use Rattle.duplicates_engine.specs.Longer.{is_longer, longer_lines}
+
+-- one more in front of a sum
+in-front : (b : Bool) (first last all : ℕ) → all ≡ first + last
+    → cond b (all + 1) all ≡ cond b (first + 1) first + last
+in-front true first last all is = omega (arith, is)
+in-front false first last all is = is
+
+-- how many more one line is
+longer-join : (longest : ℕ) (lines : List (List ℕ)) (line : List ℕ)
+    → longer_lines longest (lines ++ line ∷ [])
+    ≡ longer_lines longest lines + longer_lines longest (line ∷ [])
+longer-join longest [] line = omega arith
+longer-join longest (l ∷ lines) line =
+    in-front (is_longer longest l) (longer_lines longest lines)
+    (longer_lines longest (line ∷ [])) (longer_lines longest (lines ++ line ∷ []))
+    (longer-join longest lines line)
+
+-- the count stays at 2^64 - 1
+counted : (b : Bool) (lines longer most : ℕ) → longer ≡ min lines (2 ^ 64 - 1)
+    → most ≡ cond b (min (longer + 1) (2 ^ 64 - 1)) longer
+    → most ≡ min (lines + cond b 1 0) (2 ^ 64 - 1)
+counted true lines longer most is now = omega (arith, is, now)
+counted false lines longer most is now = omega (arith, is, now)
+
+pub longer-more : (longest : ℕ) (lines : List (List ℕ)) (line : List ℕ) (longer most : ℕ)
+    → longer ≡ min (longer_lines longest lines) (2 ^ 64 - 1)
+    → most ≡ cond (is_longer longest line) (min (longer + 1) (2 ^ 64 - 1)) longer
+    → most ≡ min (longer_lines longest (lines ++ line ∷ [])) (2 ^ 64 - 1)
+longer-more longest lines line longer most is now =
+    rw (longer-join longest lines line)
+    (counted (is_longer longest line) (longer_lines longest lines) longer most is now)
+
+-- a line is longer where it has more bytes, and only there
+pub longer-is : (longest : ℕ) (line : List ℕ) → longest < length line
+    → is_longer longest line ≡ true
+longer-is longest line long = lt-ltb longest (length line) long
+
+pub not-longer : (longest : ℕ) (line : List ℕ) → length line ≤ longest
+    → is_longer longest line ≡ false
+not-longer longest line short = le-ltb longest (length line) short

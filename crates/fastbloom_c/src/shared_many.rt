@@ -1,0 +1,176 @@
+//! Calls on many hashes, on words that threads share.
+ghost use Rattle.std.specs.Prelude.{◌≡◌, ◌↔◌, ◌*◌, ◌≤◌, ◌<◌, false, IsTrue, length, max};
+ghost use Rattle.fastbloom_c.specs.Shared.{MakesInserts, TellsInserts, TellsLooks};
+ghost use Rattle.passed_words.specs.Passed.{MakeFilter, vector_of};
+
+use crate::many::{have_room, turn_on_where};
+use crate::shared::make_filter;
+use bloom_parts::bit_vector::word_and_bit_of_hash;
+use bloom_parts::hasher::DoubleHasher;
+use bloom_parts::slices::{GROUP, MANY_WORDS, clear};
+use passed_words::calls::{contains_hash, insert_hash};
+use passed_words::words::{PassedWords, RawWords};
+
+// Loads the words of a hash. Nothing depends on what they hold, so no load waits for another.
+#[inline(always)]
+fn touch(words: &RawWords, num_hashes: u32, hash: u64)
+    requires { MakeFilter words.now.len }
+{
+    let num_words = words.len();
+    let mut chain = DoubleHasher::new(hash);
+    'places: for _place in 0..num_hashes {
+        let (word, _bit) = word_and_bit_of_hash(num_words, chain.next());
+        words.load(word);
+    }
+}
+
+// Loads the words of each of these hashes.
+fn touch_each(words: &RawWords, num_hashes: u32, hashes: &[u64])
+    requires { MakeFilter words.now.len }
+{
+    'touches: for hash in hashes {
+        touch(words, num_hashes, *hash);
+    }
+}
+
+// Inserts each of these hashes, in order.
+fn insert_each(words: &RawWords, num_hashes: u32, hashes: &[u64])
+    requires filter { MakeFilter words.now.len }
+    requires hashes { 1 ≤ num_hashes }
+    ensures { MakesInserts (vector_of words.now.at words.now.len) num_hashes hashes.now }
+{
+    'hashes: for hash in hashes {
+        insert_hash(words, num_hashes, *hash);
+    }
+}
+
+// Inserts each of these hashes, sixteen at a time: their words are loaded first, so that memory
+// fetches them side by side.
+fn insert_together(words: &RawWords, num_hashes: u32, hashes: &[u64])
+    requires filter { MakeFilter words.now.len }
+    requires hashes { 1 ≤ num_hashes }
+    ensures { MakesInserts (vector_of words.now.at words.now.len) num_hashes hashes.now }
+{
+    let turns = hashes.len() / GROUP;
+    'turns: for turn in 0..turns {
+        let at = GROUP * turn;
+        touch_each(words, num_hashes, &hashes[at..at + GROUP]);
+        insert_each(words, num_hashes, &hashes[at..at + GROUP]);
+    }
+    insert_each(words, num_hashes, &hashes[GROUP * turns..]);
+}
+
+/// Inserts each of these hashes, and returns whether there are words.
+///
+/// Where the words are larger than a cache, those of sixteen hashes are loaded before the first is
+/// inserted.
+#[unsafe(no_mangle)]
+pub extern "C" fn fastbloom_shared_insert_hashes(
+    words: PassedWords,
+    num_hashes: u32,
+    hashes: &[u64],
+) -> bool
+    ensures done { IsTrue result ↔ MakeFilter words.len }
+    ensures made { IsTrue result
+        → MakesInserts (vector_of words.at words.len) (max 1 num_hashes) hashes.now }
+{
+    let words = words.shared();
+    if !make_filter(&words) {
+        return false;
+    }
+    if words.len() >= MANY_WORDS {
+        insert_together(&words, num_hashes.max(1), hashes);
+    } else {
+        insert_each(&words, num_hashes.max(1), hashes);
+    }
+    true
+}
+
+// Looks up each of these hashes, and sets bit i where hash i was found, and no other.
+fn find_each(words: &RawWords, num_hashes: u32, hashes: &[u64], found: &mut [u64])
+    requires filter { MakeFilter words.now.len }
+    requires hashes { 1 ≤ num_hashes }
+    requires room { length hashes.now ≤ 64 * length found.old }
+    ensures found { TellsLooks (vector_of words.now.at words.now.len) num_hashes hashes.now
+        found.new }
+    ensures shape { length found.new ≡ length found.old }
+{
+    clear(found);
+    let mut i: usize = 0;
+    'looks: for hash in hashes {
+        turn_on_where(contains_hash(words, num_hashes, *hash), found, i);
+        i += 1;
+    }
+}
+
+/// Looks up each of these hashes, and returns whether it did: whether there are words, and 64
+/// hashes or fewer for each word of `found`.
+///
+/// Bit i of `found` is set where all positions of hash i were found set. Every other bit is
+/// cleared.
+#[unsafe(no_mangle)]
+pub extern "C" fn fastbloom_shared_contains_hashes(
+    words: PassedWords,
+    num_hashes: u32,
+    hashes: &[u64],
+    found: &mut [u64],
+) -> bool
+    ensures done { IsTrue result
+        ↔ (MakeFilter words.len × (length hashes.now ≤ 64 * length found.old)) }
+    ensures found { IsTrue result → TellsLooks (vector_of words.at words.len) (max 1 num_hashes)
+        hashes.now found.new }
+    ensures stays { result ≡ false → found.new ≡ found.old }
+    ensures shape { length found.new ≡ length found.old }
+{
+    let words = words.shared();
+    if !make_filter(&words) || !have_room(words.len(), hashes.len(), found.len()) {
+        return false;
+    }
+    find_each(&words, num_hashes.max(1), hashes, found);
+    true
+}
+
+// Inserts each of these hashes, and sets bit i where the insert of hash i found a bit clear, and no
+// other.
+fn insert_each_telling(words: &RawWords, num_hashes: u32, hashes: &[u64], fresh: &mut [u64])
+    requires filter { MakeFilter words.now.len }
+    requires hashes { 1 ≤ num_hashes }
+    requires room { length hashes.now ≤ 64 * length fresh.old }
+    ensures fresh { TellsInserts (vector_of words.now.at words.now.len) num_hashes hashes.now
+        fresh.new }
+    ensures shape { length fresh.new ≡ length fresh.old }
+{
+    clear(fresh);
+    let mut i: usize = 0;
+    'hashes: for hash in hashes {
+        let was_on = insert_hash(words, num_hashes, *hash);
+        turn_on_where(!was_on, fresh, i);
+        i += 1;
+    }
+}
+
+/// Inserts each of these hashes, in order, and returns whether it did: whether there are words, and
+/// 64 hashes or fewer for each word of `fresh`.
+///
+/// Bit i of `fresh` is set where the insert of hash i set a bit itself. Every other bit is cleared.
+#[unsafe(no_mangle)]
+pub extern "C" fn fastbloom_shared_insert_hashes_tell_new(
+    words: PassedWords,
+    num_hashes: u32,
+    hashes: &[u64],
+    fresh: &mut [u64],
+) -> bool
+    ensures done { IsTrue result
+        ↔ (MakeFilter words.len × (length hashes.now ≤ 64 * length fresh.old)) }
+    ensures fresh { IsTrue result → TellsInserts (vector_of words.at words.len)
+        (max 1 num_hashes) hashes.now fresh.new }
+    ensures stays { result ≡ false → fresh.new ≡ fresh.old }
+    ensures shape { length fresh.new ≡ length fresh.old }
+{
+    let words = words.shared();
+    if !make_filter(&words) || !have_room(words.len(), hashes.len(), fresh.len()) {
+        return false;
+    }
+    insert_each_telling(&words, num_hashes.max(1), hashes, fresh);
+    true
+}

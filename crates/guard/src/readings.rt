@@ -1,0 +1,116 @@
+//! What is read of a store, and nothing changed.
+
+use crate::command_line::Options;
+use crate::guards::Reader;
+use crate::medium::{Medium, StoreFile};
+use crate::names::Names;
+use crate::telling::{FAILED, Input, NO_INPUT, tell, tell_refusal, tell_store};
+use crate::{guards, tasks};
+use guard_engine::Task;
+
+/// What a request that changes nothing reads.
+#[derive(Clone, Copy)]
+pub enum Reading<'a> {
+    /// The value of a key.
+    Get(&'a str),
+    /// All entries.
+    List,
+    /// The keys of standard input, each looked up.
+    Stats,
+}
+
+/// Opens the filter of a store that is there. Where it is made anew, that is told.
+pub fn open_reader<'a, M: Medium>(
+    rt: &'a HostRuntime,
+    names: &'a Names,
+    world: M::World,
+    options: Options,
+) -> Result<Reader<'a, StoreFile<'a, M>, M::World>, u8> {
+    if !names.has_store(rt) {
+        tell(rt, names.store.as_str(), "there is no such store");
+        return Err(FAILED);
+    }
+    match guards::over_file(
+        rt,
+        names,
+        StoreFile::<M>::new(rt, names, options.wait),
+        world,
+        options.rate,
+    ) {
+        Ok((mut guard, origin)) => {
+            tasks::save_made(rt, names, &mut guard, origin);
+            Ok(guard)
+        }
+        Err(refusal) => Err(tell_refusal(rt, names, &refusal)),
+    }
+}
+
+fn get<'a, M: Medium>(
+    rt: &'a HostRuntime,
+    names: &'a Names,
+    world: M::World,
+    options: Options,
+    key: &str,
+) -> u8 {
+    match open_reader::<M>(rt, names, world, options) {
+        Ok(mut guard) => {
+            let task: Task<&[u8]> = Task::Get(key);
+            let status = tasks::serve(rt, names, &mut guard, task, NO_INPUT);
+            drop(guard);
+            status
+        }
+        Err(status) => status,
+    }
+}
+
+fn stats<'a, M: Medium>(
+    rt: &'a HostRuntime,
+    names: &'a Names,
+    world: M::World,
+    options: Options,
+) -> u8 {
+    let input = Input {
+        place: "standard input",
+        is_put: false,
+    };
+    match open_reader::<M>(rt, names, world, options) {
+        Ok(mut guard) => {
+            let status = tasks::count(rt, names, &mut guard, &mut rt.reader(), input);
+            drop(guard);
+            status
+        }
+        Err(status) => status,
+    }
+}
+
+fn list<M: Medium>(rt: &HostRuntime, names: &Names, options: Options) -> u8 {
+    if !names.has_store(rt) {
+        tell(rt, names.store.as_str(), "there is no such store");
+        return FAILED;
+    }
+    let mut table = match M::found(rt, names, options.wait) {
+        Ok(table) => table,
+        Err(fault) => return tell_store(rt, names, &fault),
+    };
+    let status = match M::entries(&mut table) {
+        Ok(entries) => tasks::print_entries(rt, names, &entries),
+        Err(fault) => tell_store(rt, names, &fault),
+    };
+    drop(table);
+    status
+}
+
+/// Reads what is asked for, wherever the store lies.
+pub fn read_in<M: Medium>(
+    rt: &HostRuntime,
+    names: &Names,
+    world: M::World,
+    options: Options,
+    reading: Reading,
+) -> u8 {
+    match reading {
+        Reading::Get(key) => get::<M>(rt, names, world, options, key),
+        Reading::List => list::<M>(rt, names, options),
+        Reading::Stats => stats::<M>(rt, names, world, options),
+    }
+}

@@ -1,0 +1,63 @@
+-- Which filters may be found in a file that was read or replaced.
+use Rattle.std.proofs.Common.{◌≡◌, ◌⊎◌, ◌≤◌, ℕ, List, Some, inl, inr, ⊎_elim, subst}
+use Rattle.bloom_plain.specs.Data.{AnswerAlike, DefaultFilter}
+use Rattle.bloom_plain.specs.File.{FileLaw, IsFileOf}
+use Rattle.guard_parts.specs.Filters.{HadSince, MayHave, Passes, Replaces}
+use Rattle.guard_parts.specs.Folders.{Content, Sight}
+use Rattle.guard_parts.specs.declared.folder.Name.TheVariants.{Standing}
+
+-- a filter of a file whose content is that of another filter
+alike-content : FileLaw → (bytes other_bytes : List ℕ) (filter other : DefaultFilter)
+    → IsFileOf bytes filter → IsFileOf other_bytes other → Some other_bytes ≡ Some bytes
+    → AnswerAlike filter other
+alike-content law bytes other_bytes filter other is_file other_is same =
+    let e : other_bytes ≡ bytes = cc in
+    let P : List ℕ → Type 0 = λ b. IsFileOf b other in
+    law bytes filter other is_file (subst P e other_is)
+
+module _ (law : FileLaw) (bytes : List ℕ) (filter : DefaultFilter) (is_file : IsFileOf bytes filter)
+  where
+    -- what may be found after the file may have been replaced
+    pub saved-now : (old new : Sight) (other : DefaultFilter) → Replaces old new (Some bytes)
+        → MayHave new other → AnswerAlike filter other ⊎ MayHave old other
+    saved-now old new other replaces has =
+        ⊎_elim
+        (λ before. inr (record { bytes = has.bytes; found = before; is_file = has.is_file }))
+        (λ is. inl (alike-content law bytes has.bytes filter other is_file has.is_file.is_file is))
+        (replaces.now (Some has.bytes) has.found)
+
+    -- what a crash at any moment of that leaves
+    pub saved-since : (old new : Sight) (other : DefaultFilter) (since : ℕ)
+        → Replaces old new (Some bytes) → since ≤ old.moment → HadSince new since other
+        → AnswerAlike filter other ⊎ HadSince old since other
+    saved-since old new other since replaces le had =
+        ⊎_elim
+        (λ before. inr (record { bytes = had.bytes; found = before; is_file = had.is_file }))
+        (λ is. inl (alike-content law bytes had.bytes filter other is_file had.is_file.is_file is))
+        (replaces.each since (Some had.bytes) le had.found)
+
+    -- after the file was replaced
+    pub saved-alone : (new : Sight) (other : DefaultFilter)
+        → ((c : Content) → new.may_find Standing c → c ≡ Some bytes) → MayHave new other
+        → AnswerAlike filter other
+    saved-alone new other only has =
+        alike-content law bytes has.bytes filter other is_file has.is_file.is_file
+        (only (Some has.bytes) has.found)
+
+-- what may be found after the file stayed
+pub read-now : (old new : Sight) (filter : DefaultFilter) → Passes old new → MayHave new filter
+    → MayHave old filter
+read-now old new filter passes has = record {
+  bytes = has.bytes;
+  found = passes.now (Some has.bytes) has.found;
+  is_file = has.is_file;
+}
+
+-- what a crash at any moment of that leaves
+pub read-since : (old new : Sight) (since : ℕ) (filter : DefaultFilter) → Passes old new
+    → since ≤ old.moment → HadSince new since filter → HadSince old since filter
+read-since old new since filter passes le had = record {
+  bytes = had.bytes;
+  found = passes.each since (Some had.bytes) le had.found;
+  is_file = had.is_file;
+}

@@ -1,0 +1,7 @@
+mod FileLemmas
+mod FormFacts
+mod FormLemmas
+mod MoveLemmas
+mod ReplaceFacts
+mod ReplaceLemmas
+mod RunFacts

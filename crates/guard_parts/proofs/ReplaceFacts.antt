@@ -1,0 +1,128 @@
+-- What becomes of a file while it is replaced: cases that hold, and ones that differ in one thing.
+use Rattle.std.proofs.Common.{◌≡◌, ℕ, List, [], ◌∷◌, Some, None, inl, inr, ⊎_elim, refl, arith}
+use Rattle.std.specs.Prelude.{⊤}
+use Rattle.guard_parts.specs.Filters.{MayLack, Passes, Replaces}
+use Rattle.guard_parts.specs.Folders.{Content, Elapses, Keeps, Sight}
+use Rattle.guard_parts.specs.declared.folder.Name.TheVariants.{Standing, New}
+use Rattle.guard_parts.proofs.ReplaceLemmas.{passes-call}
+
+-- a folder whose names have had this content since they were there
+abbrev shows : Content → ℕ → Sight
+shows content moment = record {
+  now = λ name. content;
+  is_synced = λ name. ⊤;
+  may_find = λ name c. c ≡ content;
+  moment = moment;
+  found_since = λ since name c. c ≡ content;
+}
+
+-- two files
+abbrev old : Content
+old = Some (1 ∷ [])
+
+abbrev new : Content
+new = Some (2 ∷ [])
+
+-- ---- a file that is replaced
+
+-- the new file is found alone, whatever might be found within the call
+replaces : Replaces (shows old 0) (shows new 1) new
+replaces = record {
+  later = omega arith;
+  each = λ since c le found. inr found;
+  now = λ c found. inr found;
+}
+
+-- the old file is found still
+replaces-not : Replaces (shows old 0) (shows old 1) new
+replaces-not = record {
+  later = omega arith;
+  each = λ since c le found. inl found;
+  now = λ c found. inl found;
+}
+
+-- no file is found
+replaces-lost : Replaces (shows old 0) (shows None 1) new → ⊥
+replaces-lost is = ⊎_elim (λ e. cc) (λ e. cc) (is.now None refl)
+
+-- a part of the file is found
+replaces-part : Replaces (shows old 0) (shows (Some []) 1) new → ⊥
+replaces-part is = ⊎_elim (λ e. cc) (λ e. cc) (is.now (Some []) refl)
+
+-- a part was found within the call alone
+replaces-within : Replaces (shows old 0)
+    (record (shows new 1) { found_since = λ since name c. c ≡ Some [] }) new → ⊥
+replaces-within is = ⊎_elim (λ e. cc) (λ e. cc) (is.each 0 (Some []) (omega arith) refl)
+
+-- time goes back
+replaces-before : Replaces (shows old 1) (shows new 0) new → ⊥
+replaces-before is = let no = is.later in omega (arith, no)
+
+-- ---- a file that stays
+
+-- nothing changes
+passes : Passes (shows old 0) (shows old 1)
+passes = record {
+  later = omega arith;
+  each = λ since c le found. found;
+  now = λ c found. found;
+}
+
+-- another file is found
+passes-other : Passes (shows old 0) (shows new 1) → ⊥
+passes-other is = let e = is.now new refl in cc
+
+-- another file was found within the call alone
+passes-within : Passes (shows old 0)
+    (record (shows old 1) { found_since = λ since name c. c ≡ new }) → ⊥
+passes-within is = let e = is.each 0 new (omega arith) refl in cc
+
+-- time goes back
+passes-before : Passes (shows old 1) (shows old 0) → ⊥
+passes-before is = let no = is.later in omega (arith, no)
+
+-- ---- a name
+
+-- nothing happens to it
+keeps : Keeps (shows old 0) (shows old 1) New
+keeps = record { now = refl; synced = λ was. was; found = λ c found. found }
+
+-- it has another file
+keeps-other : Keeps (shows old 0) (shows new 1) New → ⊥
+keeps-other is = let e = is.now in cc
+
+-- its bytes aren't on the disk any more
+keeps-unsynced : Keeps (shows old 0) (record (shows old 1) { is_synced = λ name. ⊥ }) New → ⊥
+keeps-unsynced is = is.synced tt
+
+-- another file may be found by it
+keeps-found : Keeps (shows old 0) (record (shows old 1) { may_find = λ name c. ⊤ }) New → ⊥
+keeps-found is = let e = is.found None tt in cc
+
+-- ---- time
+
+-- what might be found before may count as found since
+elapses : Elapses (shows old 0) (shows old 1)
+elapses = record {
+  later = omega arith;
+  each = λ since name c le found. inl found;
+  stays = λ since name c le found. found;
+}
+
+-- what was found before is forgotten
+elapses-forgets : Elapses (shows old 0) (shows new 1) → ⊥
+elapses-forgets is = let e = is.stays 0 Standing old (omega arith) refl in cc
+
+-- something is found that wasn't, and isn't
+elapses-more : Elapses (shows old 0) (record (shows old 1) { found_since = λ since name c. ⊤ }) → ⊥
+elapses-more is = ⊎_elim (λ e. cc) (λ e. cc) (is.each 0 Standing None (omega arith) tt)
+
+-- ---- whether there is a file
+
+-- none may be found
+lacks : MayLack (shows None 0)
+lacks = refl
+
+-- one is found
+lacks-not : MayLack (shows old 0) → ⊥
+lacks-not is = cc

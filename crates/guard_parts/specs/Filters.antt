@@ -1,0 +1,75 @@
+-- The filters that may be found in a file, and what becomes of them while the file is replaced.
+use Rattle.std.specs.Prelude.{◌≡◌, ◌≢◌, ◌⊎◌, ◌≤◌, ℕ, ◌/◌, List, length, map, slice_index, Option, Some, None, not, ◌&&◌, nat_eq, nat_lt, if◌then◌else◌}
+use Rattle.std.specs.Int.{w64, from_le_bytes}
+use Rattle.std.specs.Simd.{first_chunks}
+use Rattle.bloom_plain.specs.declared.file.error.FileError.{FileError}
+use Rattle.bloom_plain.specs.declared.file.error.FileError.TheVariants.{Memory}
+use Rattle.bloom_plain.specs.Data.{DefaultFilter}
+use Rattle.bloom_plain.specs.File.{IsFileOf}
+use Rattle.bloom_plain.specs.FileRefusals.{file_refusal}
+use Rattle.guard_parts.specs.declared.filter_file.FormFault.{FormFault}
+use Rattle.guard_parts.specs.declared.filter_file.FormFault.TheVariants.{Form, NoSeal, OtherKey, ManyHashes}
+use Rattle.guard_parts.specs.declared.folder.Name.TheVariants.{Standing}
+use Rattle.guard_parts.specs.Folders.{Content, Sight}
+
+-- the number of 64 bits at a place of a file, counted from 0, the lowest byte first; it is 0 where
+-- the file ends before
+abbrev pub number_in : List ℕ → ℕ → ℕ
+number_in bytes place =
+    slice_index (map (from_le_bytes w64) (first_chunks 8 (length bytes / 8) bytes)) place
+
+-- the bytes are a file of the filter that has a seal
+pub record IsSealedFile (bytes : List ℕ) (filter : DefaultFilter) : Type 0 where
+  pub is_file : IsFileOf bytes filter
+  pub sealed : number_in bytes 5 ≢ 0
+
+-- why a guard takes no file of a filter that has these bytes, if there is a reason; of several the
+-- first counts
+abbrev pub left_refusal : List ℕ → Option FormFault
+left_refusal bytes =
+    if nat_eq (number_in bytes 5) 0 then Some NoSeal
+    else if not (nat_eq (number_in bytes 3) 0 && nat_eq (number_in bytes 4) 0) then Some OtherKey
+    else if nat_lt 64 (number_in bytes 1) then Some ManyHashes
+    else None
+
+-- the same, where the bytes are refused as a file already, or aren't
+abbrev pub form_refusal : List ℕ → Option FileError → Option FormFault
+form_refusal bytes None = left_refusal bytes
+form_refusal bytes (Some error) = Some (Form error)
+
+-- the fault, if there is one, is why the bytes aren't taken, or out of memory where they are a file
+abbrev pub IsRefusedFor : List ℕ → Option FormFault → Type 0
+IsRefusedFor bytes fault =
+    (fault ≡ form_refusal bytes (file_refusal bytes))
+    ⊎ ((fault ≡ Some (Form Memory)) × (file_refusal bytes ≡ None))
+
+-- bytes may be found by the file's name that are a sealed file of the filter
+pub record MayHave (s : Sight) (filter : DefaultFilter) : Type 0 where
+  pub bytes : List ℕ
+  pub found : s.may_find Standing (Some bytes)
+  pub is_file : IsSealedFile bytes filter
+
+-- the same, had a crash come at some moment from that one on
+pub record HadSince (s : Sight) (since : ℕ) (filter : DefaultFilter) : Type 0 where
+  pub bytes : List ℕ
+  pub found : s.found_since since Standing (Some bytes)
+  pub is_file : IsSealedFile bytes filter
+
+-- the name may lead to no file
+abbrev pub MayLack : Sight → Type 0
+MayLack s = s.may_find Standing None
+
+-- from old to new the file stayed: a crash at any moment leaves what might be found before
+pub record Passes (old new : Sight) : Type 0 where
+  pub later : old.moment ≤ new.moment
+  pub each : (since : ℕ) (c : Content) → since ≤ old.moment → new.found_since since Standing c
+      → old.found_since since Standing c
+  pub now : (c : Content) → new.may_find Standing c → old.may_find Standing c
+
+-- from old to new the file may have been replaced by one with this content: a crash at any moment
+-- leaves what might be found before, or this one
+pub record Replaces (old new : Sight) (content : Content) : Type 0 where
+  pub later : old.moment ≤ new.moment
+  pub each : (since : ℕ) (c : Content) → since ≤ old.moment → new.found_since since Standing c
+      → old.found_since since Standing c ⊎ (c ≡ content)
+  pub now : (c : Content) → new.may_find Standing c → old.may_find Standing c ⊎ (c ≡ content)

@@ -1,0 +1,46 @@
+-- A folder in which one file is replaced: what its names hold now, and what may be found by them
+-- after a crash.
+use Rattle.std.specs.Prelude.{◌≡◌, ◌⊎◌, ◌≤◌, ℕ, List, Option, Vec}
+use Rattle.std.specs.Option.{option_map}
+use Rattle.std.specs.declared.alloc.Global.{Global}
+use Rattle.guard_parts.specs.declared.folder.Name.{Name}
+
+-- the bytes of a file, or that there is none
+abbrev pub Content : Type 0
+Content = Option (List ℕ)
+
+-- what clauses see of a folder
+pub record Sight : Type 1 where
+  -- what a read of the name finds
+  pub now : Name → Content
+  -- the bytes of the file that has the name now are on the disk
+  pub is_synced : Name → Type 0
+  -- what may be found by the name, now or after a crash at this moment
+  pub may_find : Name → Content → Type 0
+  -- the moment, as a number that doesn't fall
+  pub moment : ℕ
+  -- what might have been found by the name, had a crash come at some moment from that one on
+  pub found_since : ℕ → Name → Content → Type 0
+
+-- from old to new nothing happened to a name
+pub record Keeps (old new : Sight) (name : Name) : Type 0 where
+  pub now : new.now name ≡ old.now name
+  pub synced : old.is_synced name → new.is_synced name
+  pub found : (c : Content) → new.may_find name c → old.may_find name c
+
+-- from old to new nothing happened to any name
+abbrev pub KeepsAll : Sight → Sight → Type 0
+KeepsAll old new = (name : Name) → Keeps old new name
+
+-- time goes on from old to new: a crash on the way leaves what it might have left before, or what
+-- it may leave at the end
+pub record Elapses (old new : Sight) : Type 0 where
+  pub later : old.moment ≤ new.moment
+  pub each : (since : ℕ) (name : Name) (c : Content) → since ≤ old.moment
+      → new.found_since since name c → old.found_since since name c ⊎ new.may_find name c
+  pub stays : (since : ℕ) (name : Name) (c : Content) → since ≤ old.moment
+      → old.found_since since name c → new.found_since since name c
+
+-- the bytes that a read answered
+abbrev pub bytes_in : Option (Vec ℕ Global) → Content
+bytes_in found = option_map (λ bytes. bytes.items) found

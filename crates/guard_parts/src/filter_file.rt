@@ -1,0 +1,232 @@
+//! A filter that is kept in a file.
+ghost use Rattle.std.specs.Prelude.{◌≡◌, ◌⊎◌, Some, IfOk, OnOk};
+ghost use Rattle.std.specs.Result.{result_err};
+ghost use Rattle.guard_parts.specs.Filters.{IsRefusedFor, IsSealedFile, Passes, Replaces, number_in};
+ghost use Rattle.guard_parts.specs.Folders.{Content};
+ghost use Rattle.guard_parts.specs.declared.folder.Name.TheVariants.{Standing, New};
+
+use crate::folder::{Folder, Name};
+use crate::kept::Kept;
+use bloom_plain::BloomFilter;
+use bloom_plain::file::FileError;
+use bloom_plain::laws::file_reads_back;
+use std::alloc::Global;
+use std::fmt;
+use std::fmt::Display;
+
+// The most hashes that a filter may have: each costs time at every look-up.
+const MOST_HASHES: u64 = 64;
+
+/// Why the bytes of a file aren't taken for a guard's filter.
+#[derive(Clone, Copy, Debug, PartialEq, Eq, Drop)]
+pub enum FormFault {
+    /// They are no file of a filter, or there is no memory for it.
+    Form(FileError),
+    /// They have no seal, so that it can't be told whether they were changed.
+    NoSeal,
+    /// The filter's key isn't zero.
+    OtherKey,
+    /// A look-up in the filter would take too long.
+    ManyHashes,
+}
+
+/// Why a filter isn't found, or isn't saved.
+#[derive(Clone, Copy, Debug, PartialEq, Eq, Drop)]
+pub enum FilterFault<E> {
+    /// The file can't be read.
+    Unread(E),
+    /// The file is that of another store.
+    OtherStore,
+    /// What the file has isn't taken.
+    Refused(FormFault),
+    /// The file can't be written, or made durable.
+    Unsaved(E),
+    /// There is no memory for the bytes of the file.
+    Memory,
+}
+
+/// The file that keeps a filter, in any folder.
+#[derive(Drop)]
+pub struct FilterFile<D: Folder + Drop> {
+    alloc: Global,
+    folder: D,
+    // The file that is there, if there is one, isn't this store's.
+    is_of_another: bool,
+}
+
+impl Display for FormFault {
+    fn fmt<W: fmt::Write>(&self, f: &mut fmt::Formatter<W>) -> fmt::Result {
+        match self {
+            FormFault::Form(error) => write!(f, "{error}"),
+            FormFault::NoSeal => f.write_str("it has no seal"),
+            FormFault::OtherKey => f.write_str("it has another key"),
+            FormFault::ManyHashes => f.write_str("it has more than 64 hashes"),
+        }
+    }
+}
+
+impl<E: Display> Display for FilterFault<E> {
+    fn fmt<W: fmt::Write>(&self, f: &mut fmt::Formatter<W>) -> fmt::Result {
+        match self {
+            FilterFault::Unread(error) => write!(f, "it can't be read: {error}"),
+            FilterFault::OtherStore => f.write_str("it is another store's"),
+            FilterFault::Refused(fault) => write!(f, "{fault}"),
+            FilterFault::Unsaved(error) => write!(f, "it can't be saved: {error}"),
+            FilterFault::Memory => f.write_str("it can't be saved: out of memory"),
+        }
+    }
+}
+
+impl<D: Folder + Drop> FilterFile<D> {
+    /// The file of a folder. A file that is there is refused if it is that of another store.
+    pub fn new(alloc: Global, folder: D, is_of_another: bool) -> Self
+        ensures { result.folder ≡ folder }
+    {
+        FilterFile {
+            alloc,
+            folder,
+            is_of_another,
+        }
+    }
+
+    /// Gives the folder back.
+    pub fn into_folder(self) -> D
+        ensures { result ≡ self.folder }
+    {
+        let FilterFile { folder, .. } = self;
+        folder
+    }
+}
+
+// The number at a place of a file, counted from 0, or 0 where there are fewer bytes.
+fn number_in(bytes: &[u8], place: usize) -> u64
+    ensures { result ≡ number_in bytes.now place }
+{
+    let (numbers, _rest) = bytes.as_chunks::<8>();
+    match numbers.get(place) {
+        Some(number) => u64::from_le_bytes(*number),
+        None => 0,
+    }
+}
+
+// The filter of a file, if a guard may have left it.
+fn filter_of(alloc: Global, bytes: &[u8]) -> Result<BloomFilter, FormFault>
+    ensures file { IfOk result (IsSealedFile bytes.now) }
+    ensures refused { IsRefusedFor bytes.now (result_err result) }
+{
+    let filter = match BloomFilter::from_bytes(alloc, bytes) {
+        Ok(filter) => filter,
+        Err(error) => return Err(FormFault::Form(error)),
+    };
+    if number_in(bytes, 5) == 0 {
+        Err(FormFault::NoSeal)
+    } else if number_in(bytes, 3) != 0 || number_in(bytes, 4) != 0 {
+        Err(FormFault::OtherKey)
+    } else if number_in(bytes, 1) > MOST_HASHES {
+        Err(FormFault::ManyHashes)
+    } else {
+        Ok(filter)
+    }
+}
+
+// Writes a new file whole to the disk, beside the one that stands.
+fn write_synced<D: Folder>(folder: &mut D, bytes: &[u8]) -> Result<(), D::Error>
+    ensures known { D.is_known folder.new → D.is_known folder.old }
+    ensures passes { D.is_known folder.new → Passes (D.sight folder.old) (D.sight folder.new) }
+    ensures written { D.is_known folder.new
+        → OnOk result ((D.sight folder.new).now New ≡ Some bytes.now) }
+    ensures synced { D.is_known folder.new → OnOk result ((D.sight folder.new).is_synced New) }
+{
+    // What a run that was killed left.
+    let _ = folder.remove(Name::New);
+    folder.write_new(Name::New, bytes)?;
+    folder.sync_file(Name::New)
+}
+
+// Writes a new file whole to the disk, and puts it in place of the old one.
+fn replace<D: Folder>(folder: &mut D, bytes: &[u8]) -> Result<(), D::Error>
+    ensures known { D.is_known folder.new → D.is_known folder.old }
+    ensures ok { D.is_known folder.new → OnOk result
+        ((c : Content) → (D.sight folder.new).may_find Standing c → c ≡ Some bytes.now) }
+    // A crash at any moment leaves what might be found before, or the new file whole.
+    ensures crash { D.is_known folder.new → Replaces
+        (D.sight folder.old) (D.sight folder.new) (Some bytes.now) }
+{
+    write_synced(folder, bytes)?;
+    folder.rename(Name::New, Name::Standing)?;
+    folder.sync_folder()
+}
+
+// The same, and takes the new file away where that fails.
+fn replace_or_clear<D: Folder>(folder: &mut D, bytes: &[u8]) -> Result<(), D::Error>
+    ensures known { D.is_known folder.new → D.is_known folder.old }
+    ensures ok { D.is_known folder.new → OnOk result
+        ((c : Content) → (D.sight folder.new).may_find Standing c → c ≡ Some bytes.now) }
+    ensures crash { D.is_known folder.new → Replaces
+        (D.sight folder.old) (D.sight folder.new) (Some bytes.now) }
+{
+    match replace(folder, bytes) {
+        Ok(()) => Ok(()),
+        Err(error) => {
+            let _ = folder.remove(Name::New);
+            Err(error)
+        }
+    }
+}
+
+impl<D: Folder + Drop> Kept for FilterFile<D> {
+    ghost use Rattle.guard_parts.specs.Filters.{HadSince, MayHave, MayLack};
+
+    ghost may_have = { λ it. MayHave (D.Folder.sight it.folder) };
+
+    ghost may_lack = { λ it. MayLack (D.Folder.sight it.folder) };
+
+    ghost moment = { λ it. (D.Folder.sight it.folder).moment };
+
+    ghost found_since = { λ it. HadSince (D.Folder.sight it.folder) };
+
+    ghost is_known = { λ it. D.Folder.is_known it.folder };
+
+    ghost only_now = { λ it filter had. record {
+      bytes = had.bytes;
+      found = D.Folder.only_now it.folder Standing (Some had.bytes) had.found;
+      is_file = had.is_file;
+    } };
+
+    ghost counts_now = { λ it since filter le has. record {
+      bytes = has.bytes;
+      found = D.Folder.counts_now it.folder since Standing (Some has.bytes) le has.found;
+      is_file = has.is_file;
+    } };
+
+    type Error = FilterFault<D::Error>;
+
+    fn load(&mut self) -> Result<Option<BloomFilter>, FilterFault<D::Error>> {
+        if self.is_of_another {
+            return Err(FilterFault::OtherStore);
+        }
+        match self.folder.read(Name::Standing) {
+            Ok(None) => Ok(None),
+            Ok(Some(bytes)) => match filter_of(self.alloc, &bytes) {
+                Ok(filter) => Ok(Some(filter)),
+                Err(fault) => Err(FilterFault::Refused(fault)),
+            },
+            Err(error) => Err(FilterFault::Unread(error)),
+        }
+    }
+
+    fn save(&mut self, filter: &BloomFilter) -> Result<(), FilterFault<D::Error>> {
+        file_reads_back::<u64>();
+        let bytes = match filter.to_bytes(self.alloc) {
+            Ok(bytes) => bytes,
+            Err(_) => return Err(FilterFault::Memory),
+        };
+        match replace_or_clear(&mut self.folder, &bytes) {
+            Ok(()) => {
+                self.is_of_another = false;
+                Ok(())
+            }
+            Err(error) => Err(FilterFault::Unsaved(error)),
+        }
+    }
+}

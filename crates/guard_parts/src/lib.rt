@@ -1,0 +1,20 @@
+//! Where a guard keeps its filter: a file that is replaced safely, in any folder.
+#![tactic(auto)]
+
+mod filter_file;
+mod folder;
+mod host_folder;
+mod kept;
+mod memory_folder;
+mod memory_slot;
+mod noted;
+mod world;
+
+pub use filter_file::{FilterFault, FilterFile, FormFault};
+pub use folder::{Folder, Name};
+pub use host_folder::{HostFault, HostFolder, Paths};
+pub use kept::Kept;
+pub use memory_folder::{MemoryFault, MemoryFolder};
+pub use memory_slot::MemorySlot;
+pub use noted::Record;
+pub use world::{Unknown, World};

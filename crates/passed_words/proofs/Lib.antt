@@ -1,0 +1,4 @@
+pub mod Fields
+pub mod Steps
+mod ReadLemmas
+mod TakenLemmas

@@ -1,0 +1,88 @@
+-- What is told of errors, by their kinds: cases that hold, and some that nearly do.
+use Rattle.std.proofs.Common.{◌≡◌, ℕ, Some, codes, get_or, inl, inr, refl, ap, arith}
+use Rattle.std.specs.Fmt.Cut.{EndsInDots}
+use Rattle.std.specs.declared.io.ErrorKind.TheVariants as kind
+use Rattle.anyhow.specs.Error.{HasMessage, error_message}
+use Rattle.anyhow.specs.declared.error.Error.{Error}
+use Rattle.bloom_parts.specs.declared.error.FilterError.TheVariants as filter_error
+use Rattle.bloom_plain.specs.declared.file.error.FileError.TheVariants as file_error
+use Rattle.summaries_engine.specs.declared.stop.Stop.TheVariants.{Memory, Worker, Input, Bad, Output}
+use Rattle.summaries_engine.specs.Loaded.{IsToldOf}
+use Rattle.summaries_engine.specs.Stops.{IsUnfilled, IsUnput, IsUnreadAs, SaysOver}
+use Rattle.summaries_engine.proofs.StopFacts.{says-other}
+
+-- a read for which there was no memory
+kind-memory : IsUnreadAs kind.OutOfMemory (codes "k") Memory
+kind-memory = record { memory = λ is. tt; other = λ no. absurd (no refl) }
+
+-- a broken pipe isn't told as memory
+kind-pipe : IsUnreadAs kind.BrokenPipe (codes "k") Memory → ⊥
+kind-pipe told = told.other (λ is. cc)
+
+-- a thread that can't be started
+unfilled-worker : IsUnfilled filter_error.Worker Worker
+unfilled-worker = record { worker = λ is. tt; memory = λ is. cc }
+
+-- memory isn't told as a thread, nor a thread as memory
+unfilled-memory : IsUnfilled filter_error.Memory Worker → ⊥
+unfilled-memory told = told.memory refl
+
+unfilled-thread : IsUnfilled filter_error.Worker Memory → ⊥
+unfilled-thread told = told.worker refl
+
+-- there was no memory for a text
+unput-memory : IsUnput Memory
+unput-memory = inl tt
+
+-- memory isn't told of a file whose read failed
+told-input : IsToldOf (codes "a") (file_error.Input kind.BrokenPipe) Memory → ⊥
+told-input told = told.other (λ is. cc)
+
+module _ (said : Error) where
+  -- a broken pipe is told by its input
+  kind-said : SaysOver (codes "k: it can't be read") said
+      → IsUnreadAs kind.BrokenPipe (codes "k") (Input said)
+  kind-said says = record { memory = λ is. cc; other = λ no. says }
+
+  -- memory isn't told as a failed read
+  kind-input : IsUnreadAs kind.OutOfMemory (codes "k") (Input said) → ⊥
+  kind-input told = told.memory refl
+
+  -- a failed read isn't told as a bad input
+  kind-bad : IsUnreadAs kind.BrokenPipe (codes "k") (Bad said) → ⊥
+  kind-bad told = told.other (λ is. cc)
+
+  -- a file that is cut holds no filter
+  told-cut : HasMessage (Some (codes "a: it holds no filter")) said
+      → IsToldOf (codes "a") file_error.Cut (Bad said)
+  told-cut says = says
+
+  -- it isn't a failed read, and neither is a wrong seal
+  told-cut_input : IsToldOf (codes "a") file_error.Cut (Input said) → ⊥
+  told-cut_input told = told
+
+  told-seal_input : IsToldOf (codes "a") file_error.Seal (Input said) → ⊥
+  told-seal_input told = told
+
+  -- no memory isn't told as no filter
+  told-memory : IsToldOf (codes "a") file_error.Memory (Bad said) → ⊥
+  told-memory told = told
+
+  -- a filter that can't be written isn't told as keys, nor as a failed read
+  unput-keys : error_message said ≡ codes "the keys can't be written" → IsUnput (Output said) → ⊥
+  unput-keys told (inl memory) = memory
+  unput-keys told (inr over) =
+      says-other (codes "the keys can't be written") (codes "the filter can't be written") said
+      told (λ same. byte-4 (ap (λ t. get_or t 4 0) same)) whole over.0
+    where
+      byte-4 : ◌≡◌ {A = ℕ} 107 102 → ⊥
+      byte-4 is = absurd (omega (arith, is))
+
+      whole : EndsInDots 120 (codes "the keys can't be written") → ⊥
+      whole ends =
+          let byte : ◌≡◌ {A = ℕ} 116 46 = ap (λ t. get_or t 0 0) ends in
+          absurd (omega (arith, byte))
+
+  unput-read : IsUnput (Input said) → ⊥
+  unput-read (inl memory) = memory
+  unput-read (inr over) = over

@@ -1,0 +1,280 @@
+"""The class of filters that threads and processes share."""
+
+from __future__ import annotations
+
+import ctypes
+import mmap
+import os
+from typing import Any, Callable, Iterable, List, NoReturn, Tuple
+
+from . import _library as library
+from ._files import Path
+from ._filter import (
+    _AT_ONCE, _BITS, _HEAD, Filter, Refusal, _check, _check_file, _hash_value, _number_of_items,
+    _parts)
+from ._items import Buffer, Item, Rate, bytes_of, check_many, plain_bytes
+
+_EMPTY_WORDS, _TOO_MANY_WORDS = 2, 3
+
+
+class SharedFilter:
+    """A set of texts or bytes that threads and processes fill at once, and that loses nothing.
+
+    Each call is made of atomic operations on single words. So none waits for another, and the
+    interpreter's lock is let go while one runs. The words are memory of the filter's own; or a
+    buffer, as of `multiprocessing.shared_memory`, by `over`; or a file, by `map`. While any process
+    uses such words, nothing but shared filters touches them.
+
+    Items are those of `Filter`, which is quicker where one thread adds at a time.
+    """
+
+    __slots__ = ("_owner", "_view", "_words", "_num_hashes", "_key", "__weakref__")
+
+    def __init__(self, items: int, rate: Rate, key: Buffer = bytes(16)) -> None:
+        """The empty filter for this many items, at a rate of false positives: as `Filter`."""
+        items = _number_of_items(items)
+        num, den = _parts(rate)
+        words, hashes = ctypes.c_size_t(), ctypes.c_uint32()
+        _check(library.plan(num, den, items, words, hashes))
+        self._set(bytearray(8 * words.value), 0, hashes.value, key)
+
+    @classmethod
+    def over(cls, buffer: Buffer, num_hashes: int, key: Buffer = bytes(16)) -> SharedFilter:
+        """The filter over the words of a buffer that can be written, with what they contain.
+
+        A process that has the same memory mapped fills the same filter. The buffer stays in use
+        until `release`. ValueError: its bytes aren't words of 64 bits, or aren't aligned to 8, or a
+        number is out of range. TypeError: it can't be written.
+        """
+        if not 1 <= num_hashes < 2**32:
+            raise ValueError("hashes are from 1 to 2^32 - 1")
+        made = cls.__new__(cls)
+        made._set(buffer, 0, num_hashes, key)
+        return made
+
+    @classmethod
+    def map(cls, path: Path, *, max_hashes: int = 64) -> SharedFilter:
+        """The filter of a file, whose words all processes fill that map it.
+
+        What is added goes into the file. It must have no seal, which adds would make wrong: make it
+        by `Filter.save(path, sealed=False)`. A seal raises ValueError; else it raises as
+        `Filter.load`.
+        """
+        with open(path, "r+b") as file:
+            head, size = file.read(_HEAD), os.fstat(file.fileno()).st_size
+            _, num_hashes, key, seal = _check_file(head, size, max_hashes)
+            if seal:
+                raise ValueError("the file has a seal, which adds would make wrong")
+            memory = mmap.mmap(file.fileno(), size, access=mmap.ACCESS_WRITE)
+        made = cls.__new__(cls)
+        made._set(memory, _HEAD, num_hashes, key)
+        return made
+
+    def _set(self, memory: Any, offset: int, num_hashes: int, key: Buffer) -> None:
+        if hasattr(self, "_view"):
+            raise TypeError("a filter is made once")
+        key = plain_bytes(key, "a key is a bytes-like object")
+        if len(key) != 16:
+            raise ValueError("a key is sixteen bytes")
+        # The view keeps the memory where it is.
+        view = memoryview(memory).cast("B")[offset:]
+        if view.nbytes == 0:
+            raise Refusal(_EMPTY_WORDS)
+        if view.nbytes // 8 >= 2**58:
+            raise Refusal(_TOO_MANY_WORDS)
+        at = ctypes.addressof(ctypes.c_char.from_buffer(view))
+        if view.nbytes % 8 or at % 8:
+            raise ValueError("words are of eight bytes, and aligned to eight")
+        self._owner, self._view = memory, view
+        self._words = library.SharedWords(at, view.nbytes // 8)
+        self._num_hashes, self._key = num_hashes, key
+
+    def release(self) -> None:
+        """Lets go of the buffer, once no other thread uses the filter. It then has no words."""
+        self._words = library.SharedWords(None, 0)
+        self._view.release()
+        self._owner = None
+
+    @property
+    def num_words(self) -> int:
+        """The number of words of 64 bits."""
+        return int(self._words.num_words)
+
+    @property
+    def num_bits(self) -> int:
+        """The number of bits."""
+        return 64 * self.num_words
+
+    @property
+    def num_hashes(self) -> int:
+        """The number of positions that an item has."""
+        return self._num_hashes
+
+    @property
+    def key(self) -> bytes:
+        """The sixteen bytes of the key."""
+        return self._key
+
+    # One item
+
+    def add(self, item: Item) -> bool:
+        """Adds an item, and returns whether all its bits were found set.
+
+        So it returns False exactly if this call set a bit itself.
+        """
+        data = bytes_of(item)
+        return library.shared_insert(self._words, self._num_hashes, self._key, data, len(data))
+
+    def __contains__(self, item: Item) -> bool:
+        """Whether an item is contained, maybe by mistake.
+
+        While no call clears bits, False means that no add of it had returned when this call began.
+        """
+        data = bytes_of(item)
+        return library.shared_contains(self._words, self._num_hashes, self._key, data, len(data))
+
+    def hash(self, item: Item) -> int:
+        """The hash of an item: SipHash-1-3 of its bytes under the key."""
+        data = bytes_of(item)
+        return library.hash_of(self._key, data, len(data))
+
+    def add_hash(self, value: int) -> bool:
+        """As `add`, by the hash. One out of range raises ValueError."""
+        return library.shared_insert_hash(self._words, self._num_hashes, _hash_value(value))
+
+    def contains_hash(self, value: int) -> bool:
+        """As `in`, by the hash. One out of range raises ValueError."""
+        return library.shared_contains_hash(self._words, self._num_hashes, _hash_value(value))
+
+    # Many items
+
+    def update(self, items: Iterable[Item]) -> None:
+        """Adds each item of an iterable, many by one call. It raises as `Filter.update`."""
+        check_many(items, "add")
+        hash_of, key = library.hash_of, self._key
+        hashes, count = (ctypes.c_uint64 * _AT_ONCE)(), 0
+        try:
+            for item in items:
+                data = bytes_of(item)
+                hashes[count] = hash_of(key, data, len(data))
+                count += 1
+                if count == _AT_ONCE:
+                    library.shared_insert_hashes(self._words, self._num_hashes, hashes, count)
+                    count = 0
+        finally:
+            library.shared_insert_hashes(self._words, self._num_hashes, hashes, count)
+
+    def contains_many(self, items: Iterable[Item]) -> List[bool]:
+        """Whether each item of an iterable is contained, in their order, many by one call."""
+        check_many(items, "in")
+        hash_of, key = library.hash_of, self._key
+        hashes, count = (ctypes.c_uint64 * _AT_ONCE)(), 0
+        answers: List[bool] = []
+        for item in items:
+            data = bytes_of(item)
+            hashes[count] = hash_of(key, data, len(data))
+            count += 1
+            if count == _AT_ONCE:
+                answers += self._tell(library.shared_contains_hashes, hashes, count)
+                count = 0
+        return answers + self._tell(library.shared_contains_hashes, hashes, count)
+
+    def add_hashes(self, hashes: Buffer) -> None:
+        """Adds each hash of a buffer of words of 64 bits, as of an array, by one call.
+
+        Threads that call it with buffers of their own run side by side. No thread changes the
+        buffer meanwhile.
+        """
+        data, count = _words_of(hashes)
+        library.shared_insert_hashes(self._words, self._num_hashes, data, count)
+
+    def contains_hashes(self, hashes: Buffer) -> List[bool]:
+        """Whether each hash of a buffer of words of 64 bits is contained, by one call."""
+        return self._tell(library.shared_contains_hashes, *_words_of(hashes))
+
+    def add_hashes_tell_new(self, hashes: Buffer) -> List[bool]:
+        """Adds each hash of a buffer of words of 64 bits, and tells which of the adds set a bit."""
+        return self._tell(library.shared_insert_hashes_tell_new, *_words_of(hashes))
+
+    def _tell(self, call: Callable[..., bool], hashes: Any, count: int) -> List[bool]:
+        """Makes a call on hashes that tells of each by a bit."""
+        bits = (ctypes.c_uint64 * ((count + 63) // 64))()
+        call(self._words, self._num_hashes, hashes, count, bits, len(bits))
+        answers = [bit for byte in bytes(bits) for bit in _BITS[byte]]
+        del answers[count:]
+        return answers
+
+    # All words
+
+    def clear(self) -> None:
+        """Removes every item, one word after the other."""
+        library.shared_clear(self._words)
+
+    def count_ones(self) -> int:
+        """How many bits are set, of the words as they are loaded, one after the other."""
+        return library.shared_count_ones(self._words)
+
+    def take(self) -> Filter:
+        """Takes the items out into a plain filter.
+
+        Each word is read and cleared by one operation, so no bit that another thread or process
+        sets meanwhile is lost: it is either taken or still there.
+        """
+        return self._plain(library.shared_take)
+
+    def load(self) -> Filter:
+        """A plain filter with the words as they are loaded, one after the other, as for a file."""
+        return self._plain(library.shared_load)
+
+    def _plain(self, call: Callable[..., bool]) -> Filter:
+        count = self.num_words
+        if count == 0:  # it was released
+            raise Refusal(_EMPTY_WORDS)
+        plain = Filter.__new__(Filter)
+        plain._set(bytearray(8 * count), 0, count, self._num_hashes, self._key)
+        call(self._words, plain._at, count)
+        return plain
+
+    def _change(self, other: SharedFilter, call: Callable[..., bool]) -> None:
+        for name in ("num_words", "num_hashes", "key"):
+            if getattr(self, name) != getattr(other, name):
+                raise ValueError(f"the filters differ in {name}")
+        call(self._words, other._words)
+
+    def __ior__(self, other: SharedFilter) -> SharedFilter:
+        """Takes in what is found in the other, one word after the other.
+
+        A filter of another size, number of hashes or key raises ValueError.
+        """
+        if not isinstance(other, SharedFilter):
+            return NotImplemented
+        self._change(other, library.shared_union)
+        return self
+
+    def __iand__(self, other: SharedFilter) -> SharedFilter:
+        """Keeps what is found in the other, one word after the other. It raises as `|=`."""
+        if not isinstance(other, SharedFilter):
+            return NotImplemented
+        self._change(other, library.shared_intersect)
+        return self
+
+    def __reduce__(self) -> NoReturn:
+        raise TypeError("a shared filter isn't pickled: hand its memory or its file on, or `load()`")
+
+    def __repr__(self) -> str:
+        """The size, and whether there is a key. The key itself isn't shown: it may be secret."""
+        key = "a key" if any(self._key) else "the zero key"
+        return f"<{type(self).__name__}: {self.num_bits} bits, {self._num_hashes} hashes, {key}>"
+
+
+def _words_of(hashes: Buffer) -> Tuple[Any, int]:
+    """The words of 64 bits of a buffer, and how many. Others raise TypeError."""
+    with memoryview(hashes) as view:
+        if view.itemsize != 8 or view.format not in ("Q", "L", "<Q", "<L", "=Q", "=L"):
+            raise TypeError("hashes are a buffer of words of 64 bits")
+        if not view.contiguous:
+            raise TypeError("hashes lie one behind the other")
+        count = view.nbytes // 8
+        if view.readonly:
+            return (ctypes.c_uint64 * count).from_buffer_copy(view), count
+        return (ctypes.c_uint64 * count).from_buffer(view), count

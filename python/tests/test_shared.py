@@ -1,0 +1,236 @@
+"""Threads and processes that fill one filter at once lose nothing."""
+
+import array
+import mmap
+import multiprocessing
+import os
+import pickle
+import tempfile
+import threading
+import unittest
+from multiprocessing import shared_memory
+from pathlib import Path
+
+from fastbloom import Filter, Refusal, SharedFilter
+
+RUNS = int(os.environ.get("FASTBLOOM_RUNS", "20"))
+HASHES, THREADS, WORKERS, WORDS = 1_000_000, 8, 4, 30_011
+
+
+def hashes_of(count):
+    """The hashes of numbers, spread evenly: the states of splitmix64's finish, by its odd step."""
+    mask = 2**64 - 1
+    return array.array("Q", ((number * 0x9e3779b97f4a7c15) & mask for number in range(1, count + 1)))
+
+
+def zeros(words=WORDS, hashes=1):
+    return SharedFilter.over(bytearray(8 * words), hashes)
+
+
+def fill_memory(name, words, part):
+    """A process that adds part of the items to a filter in memory that processes share."""
+    memory = shared_memory.SharedMemory(name)
+    seen = SharedFilter.over(memory.buf[:8 * words], 3)
+    seen.update(b"%d" % number for number in range(part, 20_000, WORKERS))
+    seen.release()
+    memory.close()
+
+
+def fill_file(path, part):
+    """A process that adds part of the items to a filter in a mapped file."""
+    seen = SharedFilter.map(path)
+    for number in range(part, 20_000, WORKERS):
+        seen.add(b"%d" % number)
+
+
+def run_workers(task, *arguments):
+    context = multiprocessing.get_context("spawn")
+    workers = [context.Process(target=task, args=(*arguments, part)) for part in range(WORKERS)]
+    for worker in workers:
+        worker.start()
+    for worker in workers:
+        worker.join(120)
+    return [worker.exitcode for worker in workers]
+
+
+class Threads(unittest.TestCase):
+    @classmethod
+    def setUpClass(cls):
+        cls.hashes = hashes_of(HASHES)
+        cls.plain = Filter.__new__(Filter)
+        cls.plain._set(bytearray(8 * WORDS), 0, WORDS, 1, bytes(16))
+        for value in cls.hashes:
+            cls.plain.add_hash(value)
+
+    def run_threads(self, work):
+        """What each thread counts, of hashes each of which another thread adds too."""
+        part, step = HASHES // (THREADS // 2), HASHES // THREADS
+        twice = self.hashes + self.hashes
+        parts = [twice[step * me:step * me + part] for me in range(THREADS)]
+        begin, counts = threading.Barrier(THREADS), []
+
+        def run(hashes):
+            begin.wait()
+            counts.append(work(hashes))
+
+        threads = [threading.Thread(target=run, args=(hashes,)) for hashes in parts]
+        for thread in threads:
+            thread.start()
+        for thread in threads:
+            thread.join()
+        self.assertEqual(len(counts), THREADS)
+        return sum(counts)
+
+    def test_threads_add_at_once_and_lose_no_bit(self):
+        for run in range(RUNS):
+            seen = zeros()
+            if run % 2:
+                self.run_threads(lambda hashes: seen.add_hashes(hashes) or 0)
+            else:
+                news = self.run_threads(lambda hashes: seen.add_hashes_tell_new(hashes).count(True))
+                self.assertEqual(news, self.plain.count_ones())
+            self.assertEqual(seen.load(), self.plain)
+            self.assertEqual(seen.count_ones(), self.plain.count_ones())
+
+    def test_threads_add_one_by_one_and_lose_no_bit(self):
+        seen = zeros()
+
+        def add(hashes):
+            return sum(not seen.add_hash(value) for value in hashes[::5])
+
+        news = self.run_threads(add)
+        self.assertEqual(news, seen.count_ones())
+        part = self.hashes[:HASHES // THREADS:5]
+        self.assertEqual(seen.contains_hashes(part), [True] * len(part))
+
+    def test_what_is_taken_and_what_is_left_is_all(self):
+        seen, ended, taken = zeros(), threading.Event(), Filter(1, "1/2")
+        taken = seen.load()
+
+        def take():
+            nonlocal taken
+            while not ended.is_set():
+                taken |= seen.take()
+
+        taker = threading.Thread(target=take)
+        taker.start()
+        self.run_threads(lambda hashes: [seen.add_hashes(hashes[at:at + 1000])
+                                         for at in range(0, len(hashes), 1000)].count(1))
+        ended.set()
+        taker.join()
+        taken |= seen.load()
+        self.assertEqual(taken, self.plain)
+
+
+class Processes(unittest.TestCase):
+    def setUp(self):
+        self.wanted = Filter(20_000, "1/100")
+        self.wanted.update(b"%d" % number for number in range(20_000))
+
+    def test_processes_fill_memory_that_they_share(self):
+        words = 5000
+        memory = shared_memory.SharedMemory(create=True, size=8 * words)
+        try:
+            self.assertEqual(run_workers(fill_memory, memory.name, words), [0] * WORKERS)
+            seen = SharedFilter.over(memory.buf[:8 * words], 3)
+            plain = Filter.__new__(Filter)
+            plain._set(bytearray(8 * words), 0, words, 3, bytes(16))
+            plain.update(b"%d" % number for number in range(20_000))
+            self.assertEqual(seen.load(), plain)
+            seen.release()
+        finally:
+            memory.close()
+            memory.unlink()
+
+    def test_processes_fill_a_mapped_file(self):
+        with tempfile.TemporaryDirectory() as folder:
+            path = str(Path(folder) / "seen.bloom")
+            Filter(20_000, "1/100").save(path, sealed=False)
+            self.assertEqual(run_workers(fill_file, path), [0] * WORKERS)
+            self.assertEqual(Filter.load(path), self.wanted)
+            self.wanted.save(path)
+            with self.assertRaisesRegex(ValueError, "has a seal"):
+                SharedFilter.map(path)
+
+
+class Calls(unittest.TestCase):
+    def test_one_thread_gets_what_a_plain_filter_gives(self):
+        key = bytes(range(16))
+        seen, plain = SharedFilter(100, "1/100", key), Filter(100, "1/100", key)
+        self.assertEqual((seen.num_bits, seen.num_hashes, seen.key),
+                         (plain.num_bits, plain.num_hashes, plain.key))
+        for number in range(150):
+            item = f"item{number}"
+            self.assertEqual(item in seen, item in plain)
+            self.assertEqual(seen.add(item), plain.add(item))
+            self.assertEqual(seen.hash(item), plain.hash(item))
+            self.assertEqual(seen.contains_hash(number), plain.contains_hash(number))
+            self.assertEqual(seen.add_hash(number), plain.add_hash(number))
+        items = [f"item{number}" for number in range(100, 10_000)]
+        self.assertEqual(seen.contains_many(items), plain.contains_many(items))
+        seen.update(items)
+        plain.update(items)
+        self.assertEqual(seen.load(), plain)
+        self.assertEqual(seen.take(), plain)
+        self.assertEqual(seen.count_ones(), 0)
+
+    def test_unions_and_intersections(self):
+        one, other = zeros(5, 2), zeros(5, 2)
+        one.update(["crab", "lobster"])
+        other.update(["lobster", "whale"])
+        both = one.load() | other.load()
+        one |= other
+        self.assertEqual(one.load(), both)
+        one &= other
+        self.assertEqual(one.load(), other.load())
+        one.clear()
+        self.assertEqual(one.count_ones(), 0)
+        with self.assertRaisesRegex(ValueError, "differ in num_words"):
+            one |= zeros(6, 2)
+        with self.assertRaisesRegex(ValueError, "differ in num_hashes"):
+            one &= zeros(5, 3)
+        with self.assertRaises(TypeError):
+            one |= Filter(1, "1/2")
+
+    def test_hashes_of_buffers(self):
+        seen = zeros(5, 1)
+        self.assertEqual(seen.add_hashes_tell_new(array.array("Q", [5, 5])), [True, False])
+        self.assertEqual(seen.contains_hashes(memoryview(bytes(16)).cast("Q")), [True, True])
+        self.assertEqual(seen.contains_hashes(array.array("Q")), [])
+        for refused in (b"12345678", array.array("q", [1]), array.array("d", [1]),
+                        memoryview(array.array("Q", [1, 2, 3]))[::2]):
+            with self.assertRaises(TypeError):
+                seen.add_hashes(refused)
+
+    def test_what_is_refused(self):
+        with self.assertRaises(Refusal) as refused:
+            SharedFilter.over(bytearray(), 1)
+        self.assertEqual(refused.exception.code, 2)
+        with self.assertRaises(TypeError):
+            SharedFilter.over(bytes(8), 1)
+        for buffer in (bytearray(9), memoryview(bytearray(24))[4:12]):
+            with self.assertRaisesRegex(ValueError, "eight bytes"):
+                SharedFilter.over(buffer, 1)
+        for hashes in (0, 2**32):
+            with self.assertRaises(ValueError):
+                SharedFilter.over(bytearray(8), hashes)
+        with self.assertRaisesRegex(TypeError, "isn't pickled"):
+            pickle.dumps(zeros(1))
+        with self.assertRaisesRegex(TypeError, "made once"):
+            zeros(1).__init__(1, "1/2")
+
+    def test_a_filter_that_was_released_has_no_words(self):
+        memory = mmap.mmap(-1, 4096)
+        seen = SharedFilter.over(memory, 1)
+        seen.add("crab")
+        with self.assertRaises(BufferError):
+            memory.close()
+        seen.release()
+        self.assertFalse(seen.add("crab") or "crab" in seen or seen.count_ones())
+        with self.assertRaises(Refusal):
+            seen.load()
+        memory.close()
+
+
+if __name__ == "__main__":
+    unittest.main()
