@@ -1,5 +1,5 @@
 //! Runs, what each writes, and how it ends; and what each fault tells.
-use crate::faulty::{
+use crate::engines::faulty::{
     FLUSHED_ONCE, FULL, NARROW, ROOMY, Reading, SLOW, STUCK, UNFLUSHED, WHOLE, Writing,
 };
 use bloom_plain::{FilterError, GrowingError};

@@ -1,6 +1,6 @@
 //! A run whose own request for memory may be refused. Its reader and writer take none.
-use crate::bloom::filter_of;
-use crate::faulty::{ROOMY, Seen, Sink, Source, WHOLE};
+use super::bloom::filter_of;
+use super::faulty::{ROOMY, Seen, Sink, Source, WHOLE};
 use bloom_engine::{Fault, serve};
 use std::test::Fail;
 

@@ -2,7 +2,7 @@
 mod odd;
 mod rows;
 
-use crate::faulty::{FAILING, Seen, Sink};
+use super::faulty::{FAILING, Seen, Sink};
 use bloom_plain::{BloomFilter, Rate};
 use duplicates_engine::{Fault, Options, Total, keep_new};
 use odd::{Limited, Quiet, Sources};

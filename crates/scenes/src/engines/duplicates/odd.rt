@@ -1,5 +1,5 @@
 //! Inputs that are lists of texts, a sieve that refuses a line, and a progress that tells nothing.
-use crate::faulty::{Reading, Seen, Source};
+use crate::engines::faulty::{Reading, Seen, Source};
 use bloom_plain::GrowingError;
 use duplicates_engine::{Inputs, Progress, Sieve, Tally};
 use std::alloc::Global;

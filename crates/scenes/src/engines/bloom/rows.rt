@@ -1,5 +1,5 @@
 //! The runs of the program, and what each fault tells.
-use crate::faulty::{
+use crate::engines::faulty::{
     FAILING, FLUSHED_ONCE, FULL, ROOMY, Reading, STUCK, UNFLUSHED, WHOLE, Writing,
 };
 use bloom_engine::Fault;

@@ -1,7 +1,7 @@
 //! Filters of keys over odd readers and writers.
 ghost use Rattle.summaries_engine.specs.Answers.{IsKeyed};
 
-use crate::faulty::{
+use super::faulty::{
     FAILING, FULL, NARROW, ROOMY, Reading, SLOW, STUCK, Seen, Sink, Source, UNFLUSHED, WHOLE,
     Writing,
 };

@@ -2,7 +2,7 @@
 //! text and the status of each fault.
 mod rows;
 
-use crate::faulty::{NARROW, ROOMY, Reading, Seen, Sink, Source, Writing};
+use super::faulty::{NARROW, ROOMY, Reading, Seen, Sink, Source, Writing};
 use bloom_engine::{Fault, arguments, serve};
 use bloom_plain::BloomFilter;
 use rows::{FAULTS, RUNS, TEXTS};

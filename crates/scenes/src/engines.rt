@@ -1,0 +1,7 @@
+//! Tests of the engines of the programs, over readers, writers and sieves that fail or behave oddly.
+mod bloom;
+mod duplicates;
+mod faulty;
+mod files;
+mod room;
+mod summaries;
