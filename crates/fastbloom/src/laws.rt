@@ -8,10 +8,10 @@ pub use bloom_plain::laws::{
     intersection_contains, intersection_of_contents, lists_join, rebuilt_answers_alike,
     source_hash_by_default, union_contains, union_of_contents, union_of_inserts,
 };
-pub use bloom_seated::laws::{
+pub use bloom_steps::laws::{at_most_one_course, steps_in_memory};
+pub use crate::seated::laws::{
     inserted_stays_known, met_is_found, passes_are_few, steps_of_words, sure_is_found,
 };
-pub use bloom_steps::laws::{at_most_one_course, steps_in_memory};
 
 /// Filters of one shape that `fill` answers for the same hashes are equal, however the hashes are
 /// cut into parts, and in whatever order and number they come.

@@ -1,4 +1,4 @@
-//! Tests of the engines of the programs, over readers, writers and sieves that fail or behave oddly.
+//! Tests of the engines of the programs, over readers, writers and sieves that fail or are odd.
 mod bloom;
 mod duplicates;
 mod faulty;
