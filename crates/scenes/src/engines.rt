@@ -3,5 +3,6 @@ mod bloom;
 mod duplicates;
 mod faulty;
 mod files;
+mod guards;
 mod room;
 mod summaries;
