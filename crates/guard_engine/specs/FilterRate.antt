@@ -1,6 +1,6 @@
 -- The rate of false positives of a guard's filter as it is, and how it is told: by two bounds, in
--- billionths. It is a count of draws of positions (`bloom_parts`, Draws). The text is this project's
--- own.
+-- billionths. It is a count of draws of positions (`bloom_parts`, Draws). The text is this
+-- project's own.
 use Rattle.std.specs.Prelude.{◌≡◌, ℕ, ◌*◌, ◌/◌, ◌%◌, ◌-◌, ◌^◌, codes, decimal, List, ◌++◌}
 use Rattle.std.specs.Fmt.{format_spec, styled_decimal}
 use Rattle.std.specs.Int.{div_ceil}
