@@ -1,0 +1,17 @@
+mod BitLemmas
+mod BlockedSizingFacts
+mod BuilderLemmas
+mod FilterLemmas
+mod LawLemmas
+mod LineFacts
+mod LineLemmas
+mod LineStepFacts
+mod LineStepLemmas
+mod ManyLemmas
+mod PositionLemmas
+mod SharedInsertLemmas
+mod SharedQueueLemmas
+mod SizingLemmas
+mod SpanLemmas
+mod TakenLemmas
+mod TellLemmas

@@ -1,0 +1,20 @@
+use Rattle.std.proofs.lemmas.Result.{err_from_is_err_and}
+use Rattle.bloom_blocked.proofs.BuilderLemmas.{refused-size, made_for-zeros}
+use Rattle.bloom_blocked.proofs.builder.rate.BlockedBuilderWithFalsePositiveRate.expected_items.Goals as goal
+
+pub returns-in_err-words-clause-refused : goal.returns-in_err-words-clause-refused
+returns-in_err-words-clause-refused g c =
+    let refusal = c.from_residual-in_err-words in
+    let refused = err_from_is_err_and refusal.result refusal.ensures.1 in
+    refused-size _ _ _ _ _ _ c.self.view_is c.max.ensures c.in_ok-size.ensures.value
+    (rw (refused.1, refused.2) c.in_err-words.ensures.refused)
+
+pub returns-clause-made : goal.returns-clause-made
+returns-clause-made g c =
+    made_for-zeros _ _ _ _ _ _ _ c.self.view_is c.max.ensures c.in_ok-size.ensures.value
+    c.in_ok-words.ensures.words c.expected_items.ensures
+
+pub returns-clause-refused : goal.returns-clause-refused
+returns-clause-refused g c =
+    refused-size _ _ _ _ _ _ c.self.view_is c.max.ensures c.in_ok-size.ensures.value
+    c.in_ok-words.ensures.refused
