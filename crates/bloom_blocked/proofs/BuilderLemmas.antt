@@ -1,13 +1,15 @@
 -- What builders of blocked filters make.
-use Rattle.std.proofs.Common.{◌≡◌, ℕ, max, List, replicate, Option, sym, ◌∙◌, ap, subst}
+use Rattle.std.proofs.Common.{◌≡◌, ℕ, ◌^◌, max, List, replicate, Option, Some, sym, ◌∙◌, ap, subst}
 use Rattle.std.proofs.Math.Nat.{max_comm}
+use Rattle.std.proofs.lemmas.Bool.{le-leb}
 use Rattle.std.specs.Iterator.Runs.{WholeRun}
 use Rattle.bloom_parts.specs.declared.error.FilterError.{FilterError}
+use Rattle.bloom_parts.specs.declared.error.FilterError.TheVariants.{SizeOverflow}
 use Rattle.bloom_parts.specs.Rates.{num_of, den_of}
 use Rattle.bloom_plain.specs.Builders.{RateStart, RefusesAs}
 use Rattle.bloom_plain.specs.Filter.{Filter}
 use Rattle.bloom_blocked.specs.Blocked.{InsertsItemsInLines}
-use Rattle.bloom_blocked.specs.BlockedSizing.{IsSizeInLines, IsSizeInLinesOf, IsMadeInLinesFor, line_size_refusal, line_words_for, sized_in_lines, zero_lines_start}
+use Rattle.bloom_blocked.specs.BlockedSizing.{IsSizeInLines, IsTooLargeInLines, IsSizeInLinesOf, IsMadeInLinesFor, line_size_refusal, line_words_for, sized_in_lines, zero_lines_start}
 
 -- what `insert_all` does with an iterator and a filter, it does with an iterator and a filter that
 -- are equal to them
@@ -55,3 +57,16 @@ pub refused-size : {S : Type 0} (inside start : RateStart S) (expected items bit
     × RefusesAs (line_size_refusal size) error
 refused-size inside start expected items bits error is_start is_items sized refused =
     (bits, size_of-rate inside start expected items bits is_start is_items sized, refused)
+
+-- a size that is too large is refused as such
+pub refused-large : {S : Type 0} (inside start : RateStart S) (expected items : ℕ)
+    (error : Option FilterError) → inside ≡ start → items ≡ max expected 1
+    → IsTooLargeInLines items (num_of inside.rate) (den_of inside.rate)
+    → error ≡ Some SizeOverflow
+    → (size : ℕ) × IsSizeInLinesOf start expected size
+    × RefusesAs (line_size_refusal size) error
+refused-large inside start expected items error is_start is_items (bits, sized, large) is = (
+  bits,
+  size_of-rate inside start expected items bits is_start is_items sized,
+  rw (le-leb (2 ^ 64) bits large) is,
+)

@@ -1,9 +1,9 @@
 -- What steps on a line say: cases that hold, and cases that differ from one of these in one thing
 -- and don't hold.
-use Rattle.std.proofs.Common.{◌≡◌, ℕ, zero, suc, ◌<◌, refl, arith, inl, inr, lit<}
+use Rattle.std.proofs.Common.{◌≡◌, ℕ, refl, arith, inl, inr, lit<}
 use Rattle.std.specs.Int.{bit_at}
 use Rattle.bloom_parts.specs.Made.{SharedWords}
-use Rattle.bloom_steps.specs.declared.steps.vocabulary.Step.TheVariants.{Load, Or, And, Zero, Other, Take}
+use Rattle.bloom_steps.specs.declared.steps.vocabulary.Step.TheVariants.{Load, Or, Other}
 use Rattle.bloom_blocked.specs.LineSteps.{HasAll, SetsMask, SetsMasks, start_of, step_from}
 
 -- a step of the words from word 8 on
@@ -21,14 +21,9 @@ start_of-greatest : (name : ℕ)
     → start_of (record { name = name; count = 24 }) 0xffff_ffff_ffff_ffff ≡ 16
 start_of-greatest name = refl
 
--- all bits of 1 are set in 3, and not in 2
-has_all-three : HasAll 3 1
-has_all-three zero below on = refl
-has_all-three (suc zero) below on = refl
-has_all-three (suc (suc b)) below on = absurd (clear b on)
-  where
-    clear : (b : ℕ) → bit_at 1 (suc (suc b)) ≡ 1 → ⊥
-    clear b on = omega (arith, on)
+-- a word has all bits of itself, and 2 lacks the bit of 1
+has_all-same : HasAll 5 5
+has_all-same b below on = on
 
 has_all-two : HasAll 2 1 → ⊥
 has_all-two all = let on : bit_at 2 0 ≡ 1 = all 0 (lit< tt) refl in omega (arith, on)

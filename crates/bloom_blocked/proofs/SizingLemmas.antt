@@ -15,14 +15,18 @@ no-less plain items =
 -- where the size of a Bloom filter is too large, that in lines is
 pub large-in_lines : (items num den : ℕ) → IsTooLarge items num den
     → IsTooLargeInLines items num den
-large-in_lines items num den (plain, sized, large) =
-    (bits_in_lines plain items, (plain, sized, refl),
-    omega (arith, large, no-less plain items))
+large-in_lines items num den (plain, sized, large) = (
+  bits_in_lines plain items,
+  (plain, sized, refl),
+  omega (arith, large, no-less plain items),
+)
 
 -- a size in lines that doesn't fit 64 bits is too large
 pub sized-in_lines : (items num den plain more size : ℕ) → IsSizeFor items num den plain
     → more ≡ hundredths_more plain items → size ≡ div_ceil (plain * (100 + more)) 100
     → 2 ^ 64 - 1 < size → IsTooLargeInLines items num den
-sized-in_lines items num den plain more size sized is_more is_size past =
-    (size, (plain, sized, is_size ∙ ap (λ m. div_ceil (plain * (100 + m)) 100) is_more),
-    omega (arith, past))
+sized-in_lines items num den plain more size sized is_more is_size past = (
+  size,
+  (plain, sized, is_size ∙ ap (λ m. div_ceil (plain * (100 + m)) 100) is_more),
+  omega (arith, past),
+)

@@ -82,17 +82,17 @@ pub span-look : (words : SharedWords) (k hash start : ℕ) (inner : ℕ) (reply 
     → LooksInLine words k hash reply
 span-look words k hash start inner reply store after is_words is_other is_start here eight is_inner
     drives = record {
-  taken = drives.taken;
-  script =
-      subst (λ h. IsScript 8 k (Contains h) drives.taken) is_inner
-      (subst (λ w. IsScript w k (Contains inner) drives.taken) eight drives.script);
-  first = store.lent.turn;
-  last = after.lent.turn;
-  made =
-      linked-line words (start_of words hash) drives.taken store after is_words is_other
-      (is_start ∙ here) drives.linked;
-  answers = drives.answers;
-}
+      taken = drives.taken;
+      script =
+          subst (λ h. IsScript 8 k (Contains h) drives.taken) is_inner
+          (subst (λ w. IsScript w k (Contains inner) drives.taken) eight drives.script);
+      first = store.lent.turn;
+      last = after.lent.turn;
+      made =
+          linked-line words (start_of words hash) drives.taken store after is_words is_other
+          (is_start ∙ here) drives.linked;
+      answers = drives.answers;
+    }
 
 -- a look-up has an answer
 pub look-replies : (k inner count : ℕ) (store after : Span)

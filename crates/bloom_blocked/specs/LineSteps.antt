@@ -62,10 +62,10 @@ HasAll word mask = (b : ℕ) → b < 64 → bit_at mask b ≡ 1 → bit_at word 
 
 -- a mask was set in a word, and the answer is whether all of its bits were found set
 pub record TellsMask (vector : SharedWords) (word mask before after : ℕ) (all : Bool) : Type 0
-    where
-  pub found : ℕ
-  pub step : SetsMask vector word mask found before after
-  pub answers : (all ≡ true) ↔ HasAll found mask
+  where
+    pub found : ℕ
+    pub step : SetsMask vector word mask found before after
+    pub answers : (all ≡ true) ↔ HasAll found mask
 
 -- whether what was found in each word of a line has all positions of a hash there
 abbrev pub HaveAll : ℕ → ℕ → (ℕ → ℕ) → Type 0

@@ -232,12 +232,7 @@ fn insert_word_telling(words: &mut [u64], num_hashes: u32, hashes: &[u64]) -> u6
 ///
 /// Sets bit i of `fresh` where not all positions of hash i were set just before its insert, and
 /// clears every other bit. So a hash that comes twice is new once at most.
-pub fn insert_hashes_tell_new(
-    words: &mut [u64],
-    num_hashes: u32,
-    hashes: &[u64],
-    fresh: &mut [u64],
-)
+pub fn insert_hashes_tell_new(words: &mut [u64], num_hashes: u32, hashes: &[u64], fresh: &mut [u64])
     requires words { 8 ≤ length words.old }
     requires room { length hashes.now ≤ 64 * length fresh.old }
     ensures fresh { TellsNew (length words.old / 8) num_hashes (content words.old) hashes.now

@@ -24,9 +24,9 @@ impl<'a> Model for SpanStore<'a> {
     ghost Value = { Span };
 
     ghost view = { λ s. record {
-        lent = record { words = s.words; other = s.other; turn = s.turn };
-        start = s.start;
-        count = s.count;
+      lent = record { words = s.words; other = s.other; turn = s.turn };
+      start = s.start;
+      count = s.count;
     } };
 
     ghost invariant = { λ s. (s.other.count ≡ s.words.count) × (1 ≤ s.count)
@@ -90,7 +90,9 @@ impl<'a> WordStore for SpanStore<'a> {
         match step {
             Step::Load(word) => self.words.load_in_turn(&mut self.turn, self.start + word),
             Step::Or(word, mask) => self.words.fetch_or(&mut self.turn, self.start + word, mask),
-            Step::And(word, mask) => self.words.fetch_and(&mut self.turn, self.start + word, mask),
+            Step::And(word, mask) => self
+                .words
+                .fetch_and(&mut self.turn, self.start + word, mask),
             Step::Zero(word) => {
                 self.words.store_zero(&mut self.turn, self.start + word);
                 0

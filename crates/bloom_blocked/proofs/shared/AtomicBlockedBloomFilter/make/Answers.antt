@@ -1,9 +1,11 @@
 use Rattle.bloom_blocked.proofs.SpanLemmas.{span-call}
 use Rattle.bloom_blocked.proofs.shared.AtomicBlockedBloomFilter.make.Goals as goal
 
-pub returns-clause-made : goal.returns-clause-made
-returns-clause-made g c =
+pub returns : goal.returns
+returns g c =
     let store = c.whole-store.ensures in
-    rw (← c.self.view_is, ← c.other.view_is)
-    (span-call _ _ _ _ _ _ _ store.words store.other store.start store.count
-    c.drive.ensures.script)
+    record {
+      made = rw (← c.self.view_is, ← c.other.view_is)
+          (span-call _ _ _ _ _ _ _ store.words store.other store.start store.count
+          c.drive.ensures.script);
+    }

@@ -7,5 +7,6 @@ unreachable-requires c = look-replies _ _ _ _ _ c.in-None.ensures.script
 pub returns : goal.returns
 returns c =
     let store = c.line-store.ensures in
-    span-look _ _ _ _ _ _ _ _ store.words store.other store.start c.line_start.ensures.start
-    store.count c.inner.ensures c.in-Some-all_set.ensures.script
+    let all = c.len.ensures.value in
+    span-look _ _ _ _ _ _ _ _ store.words store.other store.start
+    (rw (all) at c.line_start.ensures.start) store.count c.inner.ensures c.in-Some.ensures.script

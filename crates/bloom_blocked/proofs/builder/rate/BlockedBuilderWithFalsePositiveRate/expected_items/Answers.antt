@@ -1,6 +1,14 @@
+use Rattle.std.proofs.Common.{Some, ap}
 use Rattle.std.proofs.lemmas.Result.{err_from_is_err_and}
-use Rattle.bloom_blocked.proofs.BuilderLemmas.{refused-size, made_for-zeros}
+use Rattle.bloom_blocked.proofs.BuilderLemmas.{refused-size, refused-large, made_for-zeros}
 use Rattle.bloom_blocked.proofs.builder.rate.BlockedBuilderWithFalsePositiveRate.expected_items.Goals as goal
+
+pub returns-in_err-size-clause-refused : goal.returns-in_err-size-clause-refused
+returns-in_err-size-clause-refused g c =
+    let refusal = c.from_residual in
+    let refused = err_from_is_err_and refusal.result refusal.ensures.1 in
+    refused-large _ _ _ _ _ c.self.view_is c.max.ensures c.in_err-size.ensures.large
+    (rw (refused.1, refused.2) (ap Some c.in_err-size.ensures.refused))
 
 pub returns-in_err-words-clause-refused : goal.returns-in_err-words-clause-refused
 returns-in_err-words-clause-refused g c =
