@@ -1,5 +1,5 @@
 -- The laws of blocked filters.
-use Rattle.std.proofs.Common.{◌≡◌, ℕ, ◌/◌, Bool, true, false, ◌||◌, ◌&&◌, List, [], ◌∷◌, length, refl, sym, ◌∙◌, ap, subst, inl, inr}
+use Rattle.std.proofs.Common.{◌≡◌, ℕ, ◌/◌, Bool, true, false, ◌||◌, ◌&&◌, List, [], ◌∷◌, length, refl, sym, ◌∙◌, ap, subst, inl, inr, arith}
 use Rattle.std.proofs.lemmas.Bool.{or_cases, or_left, or_right}
 use Rattle.std.proofs.Math.Bool.{or-false, or_assoc}
 use Rattle.bloom_parts.specs.Content.{content}
@@ -9,6 +9,7 @@ use Rattle.bloom_plain.specs.Filter.{Filter, SameShape}
 use Rattle.bloom_blocked.specs.Lines.{line_of, inner_of, in_line, line_positions, are_in_line}
 use Rattle.bloom_blocked.specs.Many.{positions_of_all}
 use Rattle.bloom_blocked.specs.Blocked.{num_lines_of, contains_in_line, InsertsInLine, InsertsAllInLines}
+use Rattle.bloom_blocked.specs.BlockedData.{LineDataLaw}
 use Rattle.bloom_blocked.specs.BlockedLaws.{InsertInLineLaw, KeptByInsertInLineLaw, KeptByInsertsInLinesLaw, KeptByUnionOfLinesLaw, UnionOfLinesLaw, IntersectionOfLinesLaw, ClearOfLinesLaw, InsertsOneByOne, OneByOneLaw}
 use Rattle.bloom_blocked.proofs.PositionLemmas.{line-greater, line-inserted, line-both}
 use Rattle.bloom_blocked.proofs.FilterLemmas.{inserts_all-none, inserts_all-join, inserts_all-one}
@@ -102,3 +103,17 @@ all-of-single old new (hash ∷ hashes) (mid, reply, first, later) =
 pub one_by_one_law : (S : Type 0) → OneByOneLaw S
 one_by_one_law S old one all hashes single many p =
     (all-of-single old one hashes single).bits p ∙ sym (many.bits p)
+
+-- filters of the same data have equal parts
+pub line_data_law : LineDataLaw
+line_data_law f g form of made =
+    let words = made.words ∙ sym of.words in
+    let hashes : g.hashes ≡ f.hashes = omega (arith, made.hashes, of.hashes) in
+    record {
+      words = words;
+      hashes = hashes;
+      key = made.key ∙ sym of.key;
+      found = λ hash.
+          ap (λ w. are_in_line (length w / 8) g.hashes hash (content w)) words
+          ∙ ap (λ k. are_in_line (length f.words / 8) k hash (content f.words)) hashes;
+    }

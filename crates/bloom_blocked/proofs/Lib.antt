@@ -1,4 +1,5 @@
 mod BitLemmas
+mod BlockedFacts
 mod BlockedSizingFacts
 mod BuilderLemmas
 mod FilterLemmas

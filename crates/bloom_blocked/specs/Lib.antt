@@ -1,4 +1,5 @@
 pub mod Blocked
+pub mod BlockedData
 pub mod BlockedLaws
 pub mod BlockedSizing
 pub mod Keeping

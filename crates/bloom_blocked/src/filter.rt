@@ -6,6 +6,7 @@ ghost use Rattle.bloom_plain.specs.Ones.{ones_of};
 ghost use Rattle.bloom_blocked.specs.Blocked.{HasBlockedShape, contains_in_line, InsertsInLine, InsertsAllInLines, num_lines_of};
 ghost use Rattle.bloom_blocked.specs.Many.{TellsFound, TellsNew};
 
+mod data;
 mod items;
 mod sets;
 
@@ -13,6 +14,7 @@ use crate::words::with_range;
 use crate::{many, words};
 use bloom_parts::hasher::DefaultHasher;
 use bloom_parts::slices;
+pub use data::BlockedFilterData;
 use std::marker::Model;
 
 /// A Bloom filter whose words lie in lines of 512 bits, and each hash in one of them: an insert or

@@ -1,4 +1,5 @@
 //! Laws of blocked filters. These functions do nothing: their contracts are the laws.
+ghost use Rattle.bloom_blocked.specs.BlockedData.{LineDataLaw};
 ghost use Rattle.bloom_blocked.specs.BlockedLaws.{InsertInLineLaw, KeptByInsertInLineLaw, KeptByInsertsInLinesLaw, KeptByUnionOfLinesLaw, UnionOfLinesLaw, IntersectionOfLinesLaw, ClearOfLinesLaw, OneByOneLaw};
 ghost use Rattle.bloom_blocked.specs.Lines.{LinePositionsLaw, LineSubsetLaw, LineRangeLaw, OneLineLaw};
 
@@ -44,4 +45,10 @@ pub fn clear_contains_nothing<S>()
 /// Many hashes inserted at once make the filter that inserts of each, one after the other, make.
 pub fn many_are_as_one_by_one<S>()
     ensures { OneByOneLaw S }
+{}
+
+/// A filter that is made of another's data has its words, number of hashes and key, and answers
+/// every hash alike.
+pub fn data_answer_alike()
+    ensures { LineDataLaw }
 {}

@@ -12,5 +12,5 @@ pub mod words;
 
 pub use builder::{BlockedBuilderWithBits, BlockedBuilderWithFalsePositiveRate};
 pub use error::LinesError;
-pub use filter::BlockedBloomFilter;
+pub use filter::{BlockedBloomFilter, BlockedFilterData};
 pub use shared::AtomicBlockedBloomFilter;
