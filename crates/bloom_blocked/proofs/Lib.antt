@@ -10,6 +10,7 @@ mod LineStepFacts
 mod LineStepLemmas
 mod ManyLemmas
 mod PositionLemmas
+mod SharedBlockedFacts
 mod SharedInsertLemmas
 mod SharedQueueLemmas
 mod SizingLemmas

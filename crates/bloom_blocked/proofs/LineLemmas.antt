@@ -75,7 +75,8 @@ line-test words at lines k hash start within =
 -- words with a line's words put back
 module _ (words ys : List ℕ) (at : ℕ) (eight : length ys ≡ 8) (within : at + 8 ≤ length words)
   where
-    put-before : (j : ℕ) → j < at → get_or (put_mid at (at + 8 - at) words ys) j 0 ≡ get_or words j 0
+    put-before : (j : ℕ) → j < at
+        → get_or (put_mid at (at + 8 - at) words ys) j 0 ≡ get_or words j 0
     put-before j before =
         let long : length (take at words) ≡ at = length-take-le at words (omega (arith, within)) in
         get_or_append_left (take at words) _ 0 j (omega (arith, long, before))

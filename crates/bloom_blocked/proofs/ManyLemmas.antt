@@ -20,10 +20,12 @@ pub many-contained : (n k : ℕ) (A : ℕ → Bool) (p : ℕ) (hashes : List ℕ
     → A p ≡ (A p || list_any (λ hash. line_positions n k hash p) hashes)
 many-contained n k A p [] all = sym (or-false (A p))
 many-contained n k A p (h ∷ hashes) all =
-    let parts = and_parts (are_in_line n k h A) (list_all (λ hash. are_in_line n k hash A) hashes) all in
+    let parts =
+    and_parts (are_in_line n k h A) (list_all (λ hash. are_in_line n k hash A) hashes) all in
     let any = list_any (λ hash. line_positions n k hash p) hashes in
     many-contained n k A p hashes parts.1
-    ∙ ap (λ b. b || any) (adds-nothing (A p) (line_positions n k h p) ((line_subset_law n k h A).0 parts.0 p))
+    ∙ ap (λ b. b || any)
+    (adds-nothing (A p) (line_positions n k h p) ((line_subset_law n k h A).0 parts.0 p))
     ∙ or_assoc (A p) (line_positions n k h p) any
 
 -- two lists of hashes, inserted one after the other, set what one list of both does

@@ -22,7 +22,8 @@ moved lines k hash q below is =
     let line = line_of lines hash in
     let word : (512 * line + q) / 512 ≡ line = omega (arith, below) in
     let rest : (512 * line + q) % 512 ≡ q = omega (arith, below) in
-    and_from (eqb ((512 * line + q) / 512) line) (positions 512 k (inner_of hash) ((512 * line + q) % 512))
+    and_from (eqb ((512 * line + q) / 512) line)
+    (positions 512 k (inner_of hash) ((512 * line + q) % 512))
     (eq-eqb ((512 * line + q) / 512) line word)
     (ap (positions 512 k (inner_of hash)) rest ∙ is)
 
@@ -40,7 +41,8 @@ line_positions_law lines k hash p = (
   (λ found.
       let q = place 512 (inner_of hash) found.index in
       sym (ap (λ r. line_positions lines k hash r) found.here)
-      ∙ moved lines k hash q (place-below 512 (inner_of hash) found.index (lit< tt) (inner-fits hash))
+      ∙ moved lines k hash q
+      (place-below 512 (inner_of hash) found.index (lit< tt) (inner-fits hash))
       (position-to 512 k (inner_of hash) q
       (place-position 512 k (inner_of hash) found.index found.below))),
 )
@@ -51,12 +53,13 @@ line_subset_law lines k hash A = (
   (λ all p is.
       let parts = parts-of lines k hash p is in
       let whole : 512 * line_of lines hash + p % 512 ≡ p = omega (arith, parts.0) in
-      sym (ap A whole) ∙ part-from 512 k (inner_of hash) (in_line A (line_of lines hash)) all (p % 512)
-      parts.1),
+      sym (ap A whole)
+      ∙ part-from 512 k (inner_of hash) (in_line A (line_of lines hash)) all (p % 512) parts.1),
   (λ part.
       part-to 512 k (inner_of hash) (in_line A (line_of lines hash))
       (λ q is. part (512 * line_of lines hash + q)
-      (moved lines k hash q (range_law 512 k (inner_of hash) q (lit< tt) (inner-fits hash) is) is))),
+      (moved lines k hash q (range_law 512 k (inner_of hash) q (lit< tt) (inner-fits hash) is)
+      is))),
 )
 
 -- the line of a hash is one of the lines

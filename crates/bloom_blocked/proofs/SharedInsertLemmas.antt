@@ -16,11 +16,13 @@ all-one P x holds (suc k) d within = absurd (omega (arith, within))
 
 module _ {S T : Type 0} (hash_of : S → T → ℕ) (f : SharedBlockedFilter S) where
   -- one more item
-  pub made_inserts-next : (items : List T) (item : T) (reply : Bool) → MakesInsertsInLines hash_of f items
-      → MakesInsertInLine f (hash_of f.hasher item) reply → MakesInsertsInLines hash_of f (items ++ item ∷ [])
+  pub made_inserts-next : (items : List T) (item : T) (reply : Bool)
+      → MakesInsertsInLines hash_of f items → MakesInsertInLine f (hash_of f.hasher item) reply
+      → MakesInsertsInLines hash_of f (items ++ item ∷ [])
   made_inserts-next items item reply did next =
       subst (All (WasInsertedInLine f)) (sym (map-append (hash_of f.hasher) items (item ∷ [])))
-      (All-append (WasInsertedInLine f) (map (hash_of f.hasher) items) (hash_of f.hasher item ∷ []) did
+      (All-append (WasInsertedInLine f) (map (hash_of f.hasher) items)
+      (hash_of f.hasher item ∷ []) did
       (all-one (WasInsertedInLine f) (hash_of f.hasher item) (reply, next)))
 
   -- when the iterator has ended, those were all its items
@@ -32,21 +34,6 @@ module _ {S T : Type 0} (hash_of : S → T → ℕ) (f : SharedBlockedFilter S) 
       let made = run_of_exit steps start items last came end ended in
       let all = subst (MakesInsertsInLines hash_of f) (sym made.3.0) did in
       (start, first, (made.0, made.1, made.2, all))
-
-  -- a filter has the form for as many items as an iterator has left, and the items of an equal
-  -- iterator were inserted into it
-  pub made_inserts-same : {I : Type 0} (comes : I → Type 0) (form : ℕ → Type 0) (left : I → ℕ)
-      (steps : I → Option T → I → Type 0) (it : I) (count : ℕ) → comes it → count ≡ left it
-      → form count
-      → (same : I) × (same ≡ it) × WholeRun steps same (λ run. MakesInsertsInLines hash_of f run.items)
-      → (from : I) × comes from × form (left from)
-      × WholeRun steps from (λ run. MakesInsertsInLines hash_of f run.items)
-  made_inserts-same comes form left steps it count first is made all = (
-    it,
-    first,
-    subst form is made,
-    subst (λ i. WholeRun steps i (λ run. MakesInsertsInLines hash_of f run.items)) all.1 all.2,
-  )
 
 -- what holds of the first numbers of a list, and of those up to another place, holds of all of them
 pub all-stretch : (P : ℕ → Type 0) (hashes : List ℕ) (at upto : ℕ) → at ≤ upto

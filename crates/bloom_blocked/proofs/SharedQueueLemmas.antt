@@ -6,10 +6,11 @@ use Rattle.std.proofs.lemmas.List.Elements.{All-nil, All-append}
 use Rattle.bloom_blocked.specs.SharedBlocked.{SharedBlockedFilter, WasInsertedInLine, QueuesInsertInLine}
 
 -- of some hashes those at the front were inserted, and the others wait
-pub record IsBehind {S : Type 0} (f : SharedBlockedFilter S) (hashes waiting : List ℕ) : Type 0 where
-  pub before : List ℕ
-  pub cut : hashes ≡ before ++ waiting
-  pub did : All (WasInsertedInLine f) before
+pub record IsBehind {S : Type 0} (f : SharedBlockedFilter S) (hashes waiting : List ℕ) : Type 0
+  where
+    pub before : List ℕ
+    pub cut : hashes ≡ before ++ waiting
+    pub did : All (WasInsertedInLine f) before
 
 -- of some hashes those at the front were inserted, and the others wait, fewer than 64
 abbrev pub AreQueued : {S : Type 0} → SharedBlockedFilter S → List ℕ → List ℕ → Type 0

@@ -1,5 +1,5 @@
 -- What bits tell of some of many hashes, and of those that stand at these places among all.
-use Rattle.std.proofs.Common.{◌≡◌, ◌≤◌, ◌<◌, ◌+◌, ◌-◌, ◌*◌, ℕ, zero, suc, Bool, true, false, ◌||◌, ◌&&◌, not, List, [], ◌∷◌, length, nat_lt, get_or, slice_index, take, drop, refl, sym, ◌∙◌, ap, arith, inl, inr, length-drop}
+use Rattle.std.proofs.Common.{◌≡◌, ◌≤◌, ◌<◌, ◌+◌, ◌-◌, ◌*◌, ◌^◌, ℕ, zero, suc, Bool, true, ◌||◌, ◌&&◌, ◌==◌, not, if◌then◌else◌, bit_or, min, set, List, [], ◌∷◌, length, nat_lt, get_or, slice_index, take, drop, refl, sym, ◌∙◌, ap, arith, inl, inr, length-drop}
 use Rattle.std.specs.List.{list_all, list_any}
 use Rattle.std.proofs.lemmas.Bool.{cases_lt, lt-ltb, le-ltb, and_parts, or_left}
 use Rattle.std.proofs.Math.Bool.{or-false, or_assoc}
@@ -9,6 +9,7 @@ use Rattle.bloom_parts.specs.Content.{content}
 use Rattle.bloom_parts.proofs.PublishedLemmas.{content-zeros}
 use Rattle.bloom_blocked.specs.Lines.{line_positions, are_in_line}
 use Rattle.bloom_blocked.specs.Many.{positions_of_all, all_are_in_lines, after_first, TellsFound, TellsNew}
+use Rattle.bloom_blocked.proofs.BitLemmas.{bits-next, bits-word, word-where}
 use Rattle.bloom_blocked.proofs.ManyLemmas.{many-stretch}
 use Rattle.bloom_blocked.proofs.PositionLemmas.{line-greater}
 
@@ -60,8 +61,8 @@ module _ (hashes : List ℕ) (at n v : ℕ) (fits : at + n ≤ length hashes) wh
       ≡ after_first lines k A hashes (at + q) p
   after-part lines k A B q within before =
       let upto : q ≡ at + q - at = omega arith in
-      many-stretch lines k A B (after_first lines k B (take n (drop at hashes)) q) hashes at (at + q)
-      (omega arith) before
+      many-stretch lines k A B (after_first lines k B (take n (drop at hashes)) q) hashes at
+      (at + q) (omega arith) before
       (λ p. ap (λ l. B p || positions_of_all lines k l p)
       (take-of-take q n (drop at hashes) within ∙ ap (λ j. take j (drop at hashes)) upto))
 
@@ -114,8 +115,56 @@ after-next lines k A B C hashes i within before step p =
     ∙ ap (λ b. A p || b)
     (sym (list_any-append on first last) ∙ ap (list_any on) (sym (take_more hashes i 0 within)))
 
--- whether a hash is contained in what the first of these hashes set
-pub after-contains : (lines k : ℕ) (A B : ℕ → Bool) (hashes : List ℕ) (i hash : ℕ)
+-- one more hash is told: its bit is whether it wasn't contained after those before it
+pub told-next : (lines k : ℕ) (A B : ℕ → Bool) (hashes : List ℕ) (i fresh mask : ℕ) (was : Bool)
+    → i < 64
+    → ((p : ℕ) → content (fresh ∷ []) p ≡ (nat_lt p i && not (are_in_line lines k
+    (slice_index hashes p) (after_first lines k A hashes p))))
     → ((p : ℕ) → B p ≡ after_first lines k A hashes i p)
-    → are_in_line lines k hash B ≡ are_in_line lines k hash (after_first lines k A hashes i)
-after-contains lines k A B hashes i hash same = ap (are_in_line lines k hash) (λ j. λ p. same p j)
+    → was ≡ are_in_line lines k (slice_index hashes i) B
+    → mask ≡ (if not was then 2 ^ i else 0)
+    → (p : ℕ) → content (bit_or fresh mask ∷ []) p ≡ (nat_lt p (i + 1) && not (are_in_line lines k
+    (slice_index hashes p) (after_first lines k A hashes p)))
+told-next lines k A B hashes i fresh mask was small before holds told is =
+    let F : ℕ → Bool =
+    λ p. not (are_in_line lines k (slice_index hashes p) (after_first lines k A hashes p)) in
+    let same : was ≡ are_in_line lines k (slice_index hashes i) (after_first lines k A hashes i) =
+    told ∙ ap (are_in_line lines k (slice_index hashes i)) (λ j. λ p. holds p j) in
+    bits-next F (content (fresh ∷ [])) _ i before
+    (λ p. word-where fresh i (not was) mask small is p
+    ∙ ap (λ b. content (fresh ∷ []) p || p == i && not b) same)
+
+module _ (hashes words : List ℕ) (turn end v lines k : ℕ) (A : ℕ → Bool)
+    (within : turn < length words) (ended : end ≡ min (length hashes) (64 * turn + 64))
+    (more : 64 * turn ≤ length hashes) where
+  -- one more word of bits, which tell of 64 look-ups or fewer
+  pub found-turn : ((p : ℕ) → content words p ≡ (nat_lt p (64 * turn) && (nat_lt p (length hashes)
+      && are_in_line lines k (slice_index hashes p) A)))
+      → TellsFound lines k A (take (end - 64 * turn) (drop (64 * turn) hashes)) (v ∷ [])
+      → (p : ℕ) → content (set words turn v) p
+      ≡ (nat_lt p (64 * (turn + 1)) && (nat_lt p (length hashes)
+      && are_in_line lines k (slice_index hashes p) A))
+  found-turn before told =
+      let n = end - 64 * turn in
+      let fits : 64 * turn + n ≤ length hashes = omega (arith, ended, more) in
+      bits-word (λ p. are_in_line lines k (slice_index hashes p) A) (length hashes) words turn n v
+      within fits (λ few. omega (arith, ended, more, few)) (omega (arith, ended)) before
+      (found-part hashes (64 * turn) n v fits lines k A told)
+
+  -- one more word of bits, which tell of 64 inserts or fewer
+  pub told-turn : (B : ℕ → Bool)
+      → ((p : ℕ) → content words p ≡ (nat_lt p (64 * turn) && (nat_lt p (length hashes)
+      && not (are_in_line lines k (slice_index hashes p) (after_first lines k A hashes p)))))
+      → ((p : ℕ) → B p ≡ after_first lines k A hashes (64 * turn) p)
+      → TellsNew lines k B (take (end - 64 * turn) (drop (64 * turn) hashes)) (v ∷ [])
+      → (p : ℕ) → content (set words turn v) p
+      ≡ (nat_lt p (64 * (turn + 1)) && (nat_lt p (length hashes)
+      && not (are_in_line lines k (slice_index hashes p) (after_first lines k A hashes p))))
+  told-turn B before first told =
+      let n = end - 64 * turn in
+      let fits : 64 * turn + n ≤ length hashes = omega (arith, ended, more) in
+      bits-word
+      (λ p. not (are_in_line lines k (slice_index hashes p) (after_first lines k A hashes p)))
+      (length hashes) words turn n v within fits (λ few. omega (arith, ended, more, few))
+      (omega (arith, ended)) before
+      (new-part hashes (64 * turn) n v fits lines k A B first told)

@@ -2,7 +2,7 @@ use Rattle.std.proofs.Common.{◌/◌, length, sym, ◌∙◌}
 use Rattle.bloom_parts.specs.Content.{content}
 use Rattle.bloom_blocked.proofs.ManyLemmas.{many-contained}
 use Rattle.bloom_blocked.proofs.TellLemmas.{none-new}
-use Rattle.bloom_blocked.proofs.many.insert_word_telling.Goals as goal
+use Rattle.bloom_blocked.proofs.many.telling.insert_word_telling.Goals as goal
 
 pub returns-then-all_are_set-clause-fresh : goal.returns-then-all_are_set-clause-fresh
 returns-then-all_are_set-clause-fresh c =

@@ -2,7 +2,7 @@ use Rattle.std.proofs.Common.{◌≡◌, ◌*◌, ◌/◌, ◌&&◌, ◌||◌, �
 use Rattle.bloom_parts.specs.Content.{content}
 use Rattle.bloom_blocked.specs.Lines.{are_in_line}
 use Rattle.bloom_blocked.specs.Many.{after_first}
-use Rattle.bloom_blocked.proofs.many.insert_hashes_tell_new.Given as goal
+use Rattle.bloom_blocked.proofs.many.telling.insert_hashes_tell_new.Given as goal
 
 -- the hashes of the turns so far were inserted, their bits tell which were new, and no other is set
 abbrev pub invariant-turns : goal.invariant-turns
