@@ -97,7 +97,7 @@ none-same = refl
 
 none-other : InsertsOneByOne (line 0 2 7) [] (line 1 2 7) → ⊥
 unfolding content
-none-other same = both_ways false refl (sym (ap (λ f. content f.words 0) same))
+none-other same = both_ways false refl (ap (λ f. content f.words 0) same)
 
 -- 512 bits have six hashes for 51 items, and sixteen for one or none
 abbrev start : Start ℕ
