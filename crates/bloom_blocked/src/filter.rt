@@ -17,9 +17,9 @@ use bloom_parts::slices;
 pub use data::BlockedFilterData;
 use std::marker::Model;
 
-/// A Bloom filter whose words lie in lines of 512 bits, and each hash in one of them: an insert or
-/// a look-up reads one line of the cache, and not one for each position. For it more hashes that
-/// were never inserted are taken for one that was.
+/// A Bloom filter in lines of 512 bits. All positions of a hash lie in one of them, so an insert or
+/// a look-up reads one line of the cache, and not one for each position. In return, more hashes that
+/// were never inserted count as contained.
 ///
 /// Contracts see its words, its number of hashes and its hasher. Words that begin at a multiple of
 /// 64 bytes are read quickest.
