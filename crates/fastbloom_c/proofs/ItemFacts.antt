@@ -1,5 +1,5 @@
--- What offsets tell of items, and hashes of them: cases that hold, and cases that differ from one of
--- these in one thing and don't hold. The items are two bytes, none, and one.
+-- What offsets tell of items, and hashes of them: cases that hold, and cases that differ from one
+-- of these in one thing and don't hold. The items are two bytes, none, and one.
 use Rattle.std.proofs.Common.{◌≡◌, ℕ, List, [], ◌∷◌, refl, sym, ◌∙◌, arith}
 use Rattle.bloom_parts.specs.Sip.{sip}
 use Rattle.fastbloom_c.specs.Items.{AreHashes, AreOffsets, item, num_items}
