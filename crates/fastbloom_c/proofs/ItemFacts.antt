@@ -1,6 +1,6 @@
 -- What offsets tell of items, and hashes of them: cases that hold, and cases that differ from one
 -- of these in one thing and don't hold. The items are two bytes, none, and one.
-use Rattle.std.proofs.Common.{◌≡◌, ℕ, List, [], ◌∷◌, refl, sym, ◌∙◌, arith}
+use Rattle.std.proofs.Common.{◌≡◌, ℕ, zero, suc, List, [], ◌∷◌, refl, arith}
 use Rattle.bloom_parts.specs.Sip.{sip}
 use Rattle.fastbloom_c.specs.Items.{AreHashes, AreOffsets, item, num_items}
 
@@ -33,9 +33,9 @@ item-last = refl
 
 -- offsets that don't fall, and end with the bytes, tell items
 offsets-three : AreOffsets 3 three_items
-offsets-three 0 within = (omega arith, omega arith)
-offsets-three 1 within = (omega arith, omega arith)
-offsets-three 2 within = (omega arith, omega arith)
+offsets-three zero within = (omega arith, omega arith)
+offsets-three (suc zero) within = (omega arith, omega arith)
+offsets-three (suc (suc zero)) within = (omega arith, omega arith)
 offsets-three (suc (suc (suc i))) within = absurd (omega (arith, within))
 
 -- no offsets tell no item
