@@ -256,16 +256,34 @@ static bool give_rights(int file, const struct stat *old) {
     return fchmod(file, mode) == 0;
 }
 
-/* Flushes the folder of a file, so that its new name outlasts a power cut. */
+/* Flushes the folder of a file, whose path is cut to it. So the file's new name outlasts a power
+ * cut. */
 static bool flush_folder(char *path) {
     char *slash = strrchr(path, '/');
-    if (slash != NULL) slash[slash == path] = '\0';
+    if (slash != NULL) slash[slash == path ? 1 : 0] = '\0';
     int folder = open(slash == NULL ? "." : path, O_RDONLY | O_DIRECTORY | O_CLOEXEC);
     if (folder < 0) return false;
     /* (some systems of files have no such call, and need none) */
     bool flushed = fsync(folder) == 0 || errno == EINVAL;
     close_quietly(folder);
     return flushed;
+}
+
+/* Writes a new file whole, with the rights of the old one where there is one, and flushes it. */
+static bool write_part(int file, const uint8_t head[HEAD], const fastbloom_filter *filter,
+                       const struct stat *old) {
+    return write_bytes(file, head, HEAD) &&
+           write_bytes(file, filter->words, 8 * filter->num_words) &&
+           (old == NULL || give_rights(file, old)) && fsync(file) == 0;
+}
+
+/* Gives a new file that is whole the name of the old one, and else removes it. */
+static bool put_in_place(char *part, const char *path, bool is_whole) {
+    if (is_whole && rename(part, path) == 0) return flush_folder(part);
+    int why = errno;
+    unlink(part);
+    errno = why;
+    return false;
 }
 
 /* Writes the head of a filter's file. No words have no seal to compute. */
@@ -283,23 +301,17 @@ uint8_t fastbloom_save(const char *path, const fastbloom_filter *filter, bool se
     size_t room = strlen(path) + sizeof "..part" + DRAWN;
     char *part = malloc(room);
     if (part == NULL) return FASTBLOOM_MEMORY;
-    struct stat old;
-    bool replaces = stat(path, &old) == 0;
-    int file = open_part(path, part, room, replaces);
-    bool whole = file >= 0 && write_bytes(file, head, sizeof head) &&
-                 write_bytes(file, filter->words, 8 * filter->num_words) &&
-                 (!replaces || give_rights(file, &old)) && fsync(file) == 0;
-    if (file >= 0) {
-        /* (a close that fails after a flush that didn't has lost nothing) */
-        close_quietly(file);
-        bool placed = whole && rename(part, path) == 0;
-        int why = errno;
-        if (!placed) unlink(part);
-        errno = why;
-        whole = placed && flush_folder(part);
+    struct stat about;
+    const struct stat *old = stat(path, &about) == 0 ? &about : NULL;
+    int file = open_part(path, part, room, old != NULL);
+    bool saved = file >= 0;
+    if (saved) {
+        bool is_whole = write_part(file, head, filter, old);
+        close_quietly(file); /* what was flushed is safe */
+        saved = put_in_place(part, path, is_whole);
     }
     int why = errno;
     free(part);
     errno = why;
-    return whole ? FASTBLOOM_OK : FASTBLOOM_OUTPUT;
+    return saved ? FASTBLOOM_OK : FASTBLOOM_OUTPUT;
 }
