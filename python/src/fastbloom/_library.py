@@ -57,12 +57,16 @@ def _call(name: str, answer: Any, *kinds: Any, library: ctypes.CDLL = _KEEPING) 
 
 plan: Callable[..., int] = _call("plan", _CODE, _HASH, _HASH, _SIZE, _TO_SIZE, _TO_HASHES)
 hash_of: Callable[..., int] = _call("hash", _HASH, _BYTES, _BYTES, _SIZE)
+hash_items: Callable[..., bool] = _call(
+    "hash_items", _BOOL, _BYTES, _BYTES, _SIZE, _WORDS, _SIZE, _MANY, _SIZE)
 insert_hash: Callable[..., bool] = _call("insert_hash", _BOOL, _WORDS, _SIZE, _HASHES, _HASH)
 insert_hashes: Callable[..., bool] = _call(
     "insert_hashes", _BOOL, _WORDS, _SIZE, _HASHES, _MANY, _SIZE)
 contains_hash: Callable[..., bool] = _call("contains_hash", _BOOL, _WORDS, _SIZE, _HASHES, _HASH)
 contains_hashes: Callable[..., bool] = _call(
     "contains_hashes", _BOOL, _WORDS, _SIZE, _HASHES, _MANY, _SIZE, _MANY, _SIZE)
+insert_hashes_tell_new: Callable[..., bool] = _call(
+    "insert_hashes_tell_new", _BOOL, _WORDS, _SIZE, _HASHES, _MANY, _SIZE, _MANY, _SIZE)
 insert: Callable[..., bool] = _call(
     "insert", _BOOL, _WORDS, _SIZE, _HASHES, _BYTES, _BYTES, _SIZE)
 contains: Callable[..., bool] = _call(
