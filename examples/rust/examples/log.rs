@@ -32,7 +32,8 @@ fn copy_new(
     let mut output = BufWriter::new(output);
     let mut line = Vec::new();
     while input.read_until(b'\n', &mut line)? > 0 {
-        if !seen.insert(message(line.trim_ascii_end())) {
+        let text = line.strip_suffix(b"\n").unwrap_or(&line);
+        if !seen.insert(message(text)) {
             output.write_all(&line)?;
         }
         line.clear();

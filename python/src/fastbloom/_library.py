@@ -57,8 +57,6 @@ def _call(name: str, answer: Any, *kinds: Any, library: ctypes.CDLL = _KEEPING) 
 
 plan: Callable[..., int] = _call("plan", _CODE, _HASH, _HASH, _SIZE, _TO_SIZE, _TO_HASHES)
 hash_of: Callable[..., int] = _call("hash", _HASH, _BYTES, _BYTES, _SIZE)
-hash_items: Callable[..., bool] = _call(
-    "hash_items", _BOOL, _BYTES, _BYTES, _SIZE, _WORDS, _SIZE, _MANY, _SIZE)
 insert_hash: Callable[..., bool] = _call("insert_hash", _BOOL, _WORDS, _SIZE, _HASHES, _HASH)
 insert_hashes: Callable[..., bool] = _call(
     "insert_hashes", _BOOL, _WORDS, _SIZE, _HASHES, _MANY, _SIZE)
@@ -92,7 +90,9 @@ jaccard: Callable[..., bool] = _call(
 head_write: Callable[..., int] = _call("head_write", _CODE, _SIZE, _HASHES, _BYTES, _HASH, _WORDS)
 head_read: Callable[..., int] = _call(
     "head_read", _CODE, _BYTES, _TO_SIZE, _TO_HASHES, _BYTES, _MANY)
-# The words that a seal is asked for are no filter's yet, so other threads may go on meanwhile.
+# These touch no filter's words, so other threads may go on meanwhile.
+hash_items: Callable[..., bool] = _call(
+    "hash_items", _BOOL, _BYTES, _BYTES, _SIZE, _WORDS, _SIZE, _MANY, _SIZE, library=_LETTING_GO)
 seal: Callable[..., int] = _call("seal", _HASH, _WORDS, _SIZE, _HASHES, _BYTES, library=_LETTING_GO)
 
 
