@@ -24,11 +24,7 @@ fn message(line: &[u8]) -> &[u8] {
 }
 
 /// Copies the lines whose messages are new.
-fn copy_new(
-    seen: &mut BloomFilter,
-    mut input: impl BufRead,
-    output: impl Write,
-) -> io::Result<()> {
+fn copy_new(seen: &mut BloomFilter, mut input: impl BufRead, output: impl Write) -> io::Result<()> {
     let mut output = BufWriter::new(output);
     let mut line = Vec::new();
     while input.read_until(b'\n', &mut line)? > 0 {

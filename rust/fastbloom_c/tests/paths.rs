@@ -33,7 +33,9 @@ impl Drop for Folder {
 }
 
 fn seen() -> BloomFilter {
-    BloomFilter::with_num_bits(4096).unwrap().items(["crab"])
+    let mut seen = BloomFilter::with_num_bits(4096).unwrap().hashes(4);
+    seen.insert("crab");
+    seen
 }
 
 #[test]
@@ -89,10 +91,7 @@ fn what_cannot_be_loaded_is_told() {
     let none = BloomFilter::load(folder.0.join("none")).unwrap_err();
     assert_eq!(none, Error::from(io::Error::from(io::ErrorKind::NotFound)));
     assert!(none.source().is_some_and(|it| it.is::<io::Error>()));
-    assert!(matches!(
-        BloomFilter::load(&folder.0),
-        Err(Error::Input(_))
-    ));
+    assert!(matches!(BloomFilter::load(&folder.0), Err(Error::Input(_))));
     let path = folder.0.join("text");
     fs::write(&path, "a text, and no filter").unwrap();
     assert_eq!(BloomFilter::load(&path), Err(Error::NotAFilter));
@@ -108,7 +107,10 @@ fn operators_are_the_calls_of_their_names() {
     let (mut united, mut common) = (one.clone(), one.clone());
     united.union(&other).unwrap();
     common.intersect(&other).unwrap();
-    assert_eq!((&one | &other, &one & &other), (united.clone(), common.clone()));
+    assert_eq!(
+        (&one | &other, &one & &other),
+        (united.clone(), common.clone())
+    );
     let mut changed = one.clone();
     changed |= &other;
     assert_eq!(changed, united);
@@ -127,14 +129,19 @@ fn a_filter_is_collected_of_any_iterator() {
     // (an iterator that doesn't know its length)
     let seen: BloomFilter = items().filter(|_| true).collect();
     let rate = Rate::new(1, 1000).unwrap();
-    assert_eq!(seen, BloomFilter::with_false_pos(rate).items(items().collect::<Vec<_>>()).unwrap());
+    assert_eq!(
+        seen,
+        BloomFilter::with_false_pos(rate)
+            .items(items().collect::<Vec<_>>())
+            .unwrap()
+    );
     let none: BloomFilter = Vec::<String>::new().into_iter().collect();
     assert_eq!(none.count_ones(), 0);
 }
 
 #[test]
 fn rates_are_read_from_texts_and_numbers() {
-    let largest = u64::MAX;
+    let most = u64::MAX;
     for (text, num, den) in [
         ("1/2", 1, 2),
         ("007/070", 1, 10),
@@ -145,26 +152,32 @@ fn rates_are_read_from_texts_and_numbers() {
         ("12.5e-3", 1, 80),
         ("0.250", 1, 4),
         ("500e-3", 1, 2),
-        ("18446744073709551614/18446744073709551615", largest - 1, largest),
+        ("18446744073709551614/18446744073709551615", most - 1, most),
         ("36893488147419103230/55340232221128654845", 2, 3),
     ] {
         let rate: Rate = text.parse().unwrap();
         assert_eq!((rate.num(), rate.den()), (num, den), "{text}");
     }
-    for text in [
-        "", " ", "/", "1/", "/2", "1/0", "0/1", "1/1", "3/2", "-1/2", "+1/2", "1/-2", "1 /2", "1//2",
-        "1/2/3", "1", "1.0", "0.0", "0", ".", "e", "e-3", "1e", "1e-", "1e99999", "1e-99999", "0x1",
-        "1e-20", "1/18446744073709551616", "nan", "inf", "1e--3", "0.5.1", "½",
-        "0.00000000000000000000000000000000000000000000000000000000000000000000000000000000001",
-    ] {
+    let wrong = "/ 1/ /2 1/0 0/1 1/1 3/2 -1/2 +1/2 1/-2 1//2 1/2/3 1 1.0 0.0 0 . e e-3 1e 1e- \
+                 1e99999 1e-99999 0x1 1e-20 1/18446744073709551616 nan inf 1e--3 0.5.1 ½ 0.5%";
+    let long = format!("0.{}1", "0".repeat(1_000_000));
+    for text in wrong.split(' ').chain(["", " ", "1 /2", &long]) {
         assert_eq!(text.parse::<Rate>(), Err(Error::NotARate), "{text}");
     }
-    for (number, num, den) in [(0.5, 1, 2), (0.001, 1, 1000), (1e-6, 1, 1_000_000), (0.3, 3, 10)] {
+    for (number, num, den) in [
+        (0.5, 1, 2),
+        (0.001, 1, 1000),
+        (1e-6, 1, 1_000_000),
+        (0.3, 3, 10),
+    ] {
         assert_eq!(Rate::try_from(number), Rate::new(num, den));
     }
     for number in [0.0, -0.0, 1.0, 2.0, -0.1, f64::NAN, f64::INFINITY, 5e-324] {
         assert_eq!(Rate::try_from(number), Err(Error::NotARate));
     }
     assert_eq!(Error::NotARate.code(), None);
-    assert_eq!(Error::NotARate.to_string(), "a rate is above 0 and below 1, with parts below 2^64");
+    assert_eq!(
+        Error::NotARate.to_string(),
+        "a rate is above 0 and below 1, with parts below 2^64"
+    );
 }
