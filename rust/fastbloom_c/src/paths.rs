@@ -77,7 +77,7 @@ impl BloomFilter {
     /// ```
     /// # use fastbloom_c::BloomFilter;
     /// # let path = std::env::temp_dir().join(format!("seen.{}.bloom", std::process::id()));
-    /// let seen = BloomFilter::with_num_bits(1024)?.items(["crab"]);
+    /// let seen = BloomFilter::with_num_bits(1024)?.hashes(4);
     /// seen.save(&path)?;
     /// assert_eq!(BloomFilter::load(&path)?, seen);
     /// # std::fs::remove_file(&path)?;
