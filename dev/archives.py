@@ -81,8 +81,11 @@ def ar(files, seconds):
     return b''.join(output)
 
 
-def deb(fields, members, seconds, triggers=''):
-    """The bytes of a package of Debian's with these fields, whose members are paths from the root."""
+def deb(fields, members, seconds, more):
+    """The bytes of a package of Debian's with these fields, whose members are paths from the root.
+
+    More are members beside its fields: what runs before its removal, and the like.
+    """
     sizes = sum(max(1, -(-len(it.data) // 1024)) for it in members.values() if not it.link)
     fields = {**fields, 'Installed-Size': str(sizes)}
     last = fields.pop('Description')
@@ -90,9 +93,7 @@ def deb(fields, members, seconds, triggers=''):
     sums = ''.join(f'{hashlib.md5(it.data).hexdigest()}  {name}\n'
                    for name, it in sorted(members.items()) if not it.link)
     told = {'control': Member(f'{control}Description: {last}\n'.encode()),
-            'md5sums': Member(sums.encode())}
-    if triggers:
-        told['triggers'] = Member(triggers.encode())
+            'md5sums': Member(sums.encode()), **more}
     return ar([('debian-binary', b'2.0\n'),
                ('control.tar.gz', compressed(tar(told, seconds, './'))),
                ('data.tar.gz', compressed(tar(members, seconds, './')))], seconds)
