@@ -12,7 +12,8 @@ mod MadeFacts
 mod OnesFacts
 mod ReadingLemmas
 mod ScriptLemmas
-mod SeatedStepFacts
+mod SeatedFacts
+mod SeatedLemmas
 mod SharedFacts
 mod SharedFormFacts
 mod TakenLemmas

@@ -1,8 +1,15 @@
 -- The definitions of this library, and those of the libraries below it that its contracts cite:
--- `bloom_plain` on plain filters, `bloom_steps` on word steps, `bloom_seated` on seated filters.
+-- `bloom_plain` on plain filters, `bloom_steps` on word steps.
 pub mod Fill
 pub mod LiveStore
 pub mod LoadedOnes
+pub mod Loads
+pub mod Passes
+pub mod Plays
+pub mod Rule
+pub mod SeatedLaws
+pub mod Seats
+pub mod Sets
 pub mod Shared
 pub use Rattle.bloom_plain.specs.Builders
 pub use Rattle.bloom_plain.specs.CommandOf
@@ -16,10 +23,10 @@ pub use Rattle.bloom_plain.specs.Replies
 pub use Rattle.bloom_plain.specs.SourceHash
 pub use Rattle.bloom_plain.specs.declared.bloom.command.Command
 pub use Rattle.bloom_plain.specs.declared.bloom.data.FilterData
-pub use Rattle.bloom_seated.specs.Passes
-pub use Rattle.bloom_seated.specs.Rule
-pub use Rattle.bloom_seated.specs.SeatedLaws
-pub use Rattle.bloom_seated.specs.Sets
+pub use Rattle.fastbloom.specs.Passes
+pub use Rattle.fastbloom.specs.Rule
+pub use Rattle.fastbloom.specs.SeatedLaws
+pub use Rattle.fastbloom.specs.Sets
 pub use Rattle.bloom_steps.specs.Courses
 pub use Rattle.bloom_steps.specs.Interleavings
 pub use Rattle.bloom_steps.specs.LiveSteps

@@ -5,6 +5,7 @@ mod atomic;
 mod builder;
 pub mod laws;
 mod parallel;
+mod seated;
 
 pub use atomic::AtomicBloomFilter;
 pub use bloom_parts::bit_vector::{AtomicWords, Words};
@@ -21,9 +22,9 @@ pub use bloom_plain::file::FileError;
 pub use bloom_plain::{
     BitsData, BloomFilter, Command, FilterData, GrowingError, GrowingFilter, file,
 };
-pub use bloom_seated::{Pass, SeatedBloomFilter, SeatedRule};
 pub use bloom_steps::{
     Call, End, Event, Machine, MemoryStore, Record, Step, Trace, WordStore, drive, run,
 };
 pub use builder::{AtomicBuilderWithBits, AtomicBuilderWithFalsePositiveRate};
 pub use parallel::{Gate, Shape, fill};
+pub use seated::{Pass, SeatedBloomFilter, SeatedRule};

@@ -2,6 +2,7 @@
 
 use crate::drawn::spread;
 use fastbloom::{BloomFilter, FilterError, GrowingError, GrowingFilter, Rate};
+use std::alloc::Global;
 use std::test::Fail;
 
 // How many new hashes came before each of the first four filters for a rate of 1/10 and 8 items,
@@ -78,16 +79,27 @@ fn a_filter_that_cannot_be_made_is_refused(rt: HostRuntime) -> Result<(), Fail> 
     Ok(())
 }
 
+// Whether a filter takes an item once, as new, and the builders' filter of its newest's shape comes
+// to the same words.
+fn take_alike(alloc: Global, grown: &mut GrowingFilter, other: &mut BloomFilter) -> bool {
+    let is_new = grown.insert(alloc, &"crab") == Ok(false);
+    let is_known = grown.insert(alloc, &"crab") == Ok(true);
+    is_new & is_known & !other.insert(&"crab") & (*grown.newest() == *other)
+}
+
+// Whether a filter hashes an item as another does, and contains that item alone.
+fn answers_alike(grown: &GrowingFilter, other: &BloomFilter) -> bool {
+    let is_hashed = grown.source_hash(&"crab") == other.source_hash(&"crab");
+    is_hashed & grown.contains(&"crab") & !grown.contains(&"ray")
+}
+
 // A filter under a seed takes an item as the builders' filter under that seed does.
 #[test]
 fn items_go_into_the_filter_that_the_builders_make(rt: HostRuntime) -> Result<(), Fail> {
     let builder = BloomFilter::with_false_pos(Rate::new(1, 20)?).seed(&42);
     let mut other = builder.expected_items(rt.alloc(), 8)?;
-    let mut filter = GrowingFilter::seeded(rt.alloc(), Rate::new(1, 10)?, 8, &42)?;
-    assert!(rt; filter.insert(rt.alloc(), &"crab") == Ok(false));
-    assert!(rt; filter.insert(rt.alloc(), &"crab") == Ok(true));
-    assert!(rt; !other.insert(&"crab") & (*filter.newest() == other));
-    assert!(rt; filter.source_hash(&"crab") == other.source_hash(&"crab"));
-    assert!(rt; filter.contains(&"crab") & !filter.contains(&"ray"));
+    let mut grown = GrowingFilter::seeded(rt.alloc(), Rate::new(1, 10)?, 8, &42)?;
+    let is_alike = take_alike(rt.alloc(), &mut grown, &mut other);
+    assert!(rt; is_alike & answers_alike(&grown, &other));
     Ok(())
 }

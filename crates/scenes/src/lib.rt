@@ -1,4 +1,4 @@
-//! Tests of the filters and their parts: what no contract says, at values from outside.
+//! Tests of the filters, of their parts, and of the programs' engines: what no contract says.
 #![tactic(auto)]
 
 // A scene of a name, how its filters are made, and its lines.
@@ -19,6 +19,8 @@ mod answers;
 mod concrete;
 #[cfg(test)]
 mod drawn;
+#[cfg(test)]
+mod engines;
 #[cfg(test)]
 mod estimates;
 #[cfg(test)]

@@ -1,5 +1,0 @@
-pub mod Cases
-pub mod Finding
-pub mod Inserting
-pub mod Knowing
-pub mod Meeting

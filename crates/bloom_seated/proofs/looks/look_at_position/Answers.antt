@@ -1,8 +1,0 @@
-use Rattle.bloom_seated.proofs.PassLemmas.Looking.{by-load}
-use Rattle.bloom_seated.proofs.looks.look_at_position.Goals as goal
-
--- the load tells of the one position of the mask
-pub returns-clause-looks : goal.returns-clause-looks
-returns-clause-looks c = let place = c.word_and_mask-word.ensures in
-    by-load c.args.seat.now c.load.new.seat c.args.position _ _ c.load.result place.word place.mask
-    c.load.ensures.table c.load.ensures.step

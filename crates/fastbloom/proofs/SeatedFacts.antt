@@ -1,0 +1,10 @@
+pub mod Breaking
+pub mod Cases
+pub mod Finding
+pub mod Inserting
+pub mod Keeping
+pub mod Knowing
+pub mod Laws
+pub mod Meeting
+pub mod Standings
+pub mod Steps

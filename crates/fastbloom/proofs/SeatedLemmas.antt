@@ -1,0 +1,11 @@
+pub mod Calls
+pub mod Fills
+pub mod Laws
+pub mod Meets
+pub mod Opening
+pub mod Passes
+pub mod Places
+pub mod Rules
+pub mod Sets
+pub mod Steps
+pub mod Words

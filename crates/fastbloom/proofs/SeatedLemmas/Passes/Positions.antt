@@ -1,0 +1,36 @@
+-- A view as a pass, and a position by its word and its mask.
+use Rattle.std.proofs.Common.{◌≡◌, ℕ, ◌/◌, ◌%◌, ◌^◌, eqb, ltb, bit_and, sym, ap, ◌∙◌}
+use Rattle.std.proofs.lemmas.Bool.{eqb-true}
+use Rattle.atomic_table.specs.Seated.{TableId}
+use Rattle.bloom_parts.specs.Content.{bit_is_on}
+use Rattle.bloom_parts.proofs.PublishedLemmas.{test-bit, bit_is_on-mask}
+use Rattle.fastbloom.specs.Sets.{set_of, on_in}
+use Rattle.fastbloom.specs.Passes.{Sight}
+use Rattle.fastbloom.specs.declared.seated.rule.Sets.{Sets}
+use Rattle.fastbloom.proofs.SeatedLemmas.Sets.{same-tests, on-from, on-to}
+
+-- a view at a table, as a pass
+abbrev pub seen : TableId → Sets → Sight
+seen table v = record { filter = table; start = v.start; known = v.known; gained = v.gained }
+
+-- a position by its word and its bit
+module _ (q found : ℕ) where
+  -- the mask of the position
+  abbrev pub mask_of : ℕ
+  mask_of = 2 ^ (q % 64)
+
+  -- the test that the code makes of the position
+  pub tested : ltb 0 (bit_and found mask_of) ≡ bit_is_on found q
+  tested = test-bit found (q % 64)
+
+  -- the position alone is on in its mask
+  pub mask-alone : (p : ℕ) → set_of (on_in (q / 64) mask_of) p ≡ eqb p q
+  mask-alone p =
+      same-tests (set_of (on_in (q / 64) mask_of) p) (eqb p q)
+      (λ is.
+      let there = on-from (q / 64) mask_of p is in
+      sym (bit_is_on-mask p q there.0) ∙ there.1)
+      (λ is.
+      let same : p ≡ q = eqb-true p q is in
+      on-to (q / 64) mask_of p (ap (λ j. j / 64) same)
+      (bit_is_on-mask p q (ap (λ j. j / 64) same) ∙ is))

@@ -1,0 +1,13 @@
+use Rattle.std.proofs.Common.{◌≡◌, ◌*◌}
+use Rattle.bloom_parts.specs.Chain.{IsAt}
+use Rattle.bloom_parts.specs.Places.{positions}
+use Rattle.fastbloom.specs.Passes.{InsertsAs, sight_of}
+use Rattle.fastbloom.specs.declared.seated.rule.Role.TheVariants.{Pass}
+use Rattle.fastbloom.proofs.seated.looks.insert_positions.Given as goal
+
+-- the places so far were turned on
+abbrev pub invariant-places : goal.invariant-places
+invariant-places l = IsAt l.fn.hash l.counter l.chain
+    × (l.seat.me.0.role ≡ Pass)
+    × InsertsAs (positions (64 * l.table.shared.table_id.words) l.counter l.fn.hash)
+    (sight_of l.initial.seat) (sight_of l.seat) l.all_on

@@ -1,0 +1,92 @@
+//! The loops of passes over the positions of a hash.
+ghost use Rattle.std.specs.Prelude.{◌≡◌, ◌*◌, ◌<◌, ◌==◌};
+ghost use Rattle.bloom_parts.specs.Places.{positions};
+ghost use Rattle.fastbloom.specs.Loads.{LooksAt};
+ghost use Rattle.fastbloom.specs.Passes.{Finds, InsertsAs, sight_of};
+ghost use Rattle.fastbloom.specs.Plays.{SitsAt};
+ghost use Rattle.fastbloom.specs.Seats.{IsStanding};
+ghost use Rattle.fastbloom.specs.declared.seated.rule.Role.TheVariants.{Pass};
+
+use super::rule::{SeatedRule, Sets, Size};
+use super::steps::{FilterSeat, SharedWords, load, turn_on};
+use atomic_table::Table;
+use bloom_parts::bit_vector::{index, word_and_mask};
+use bloom_parts::hasher::DoubleHasher;
+use std::alloc::Global;
+
+/// The table of a filter.
+pub(crate) type FilterTable = Table<(), Sets, Size, SeatedRule, Global>;
+
+// Turns a position on, and answers whether it was on before.
+fn turn_on_position(shared: &SharedWords, seat: &mut FilterSeat, position: usize) -> bool
+    requires at { SitsAt seat.old shared.now.table_id shared.now.key }
+    requires within { position < 64 * shared.now.table_id.words }
+    requires pass { seat.old.me.0.role ≡ Pass }
+    ensures role { seat.new.me.0.role ≡ Pass }
+    ensures inserts { InsertsAs (λ p. p == position)
+        (sight_of seat.old) (sight_of seat.new) result }
+{
+    let (word, mask) = word_and_mask(position);
+    turn_on(shared, seat, word, mask) & mask > 0
+}
+
+// Whether a position is on.
+fn look_at_position(shared: &SharedWords, seat: &mut FilterSeat, position: usize) -> bool
+    requires at { SitsAt seat.old shared.now.table_id shared.now.key }
+    requires within { position < 64 * shared.now.table_id.words }
+    requires pass { seat.old.me.0.role ≡ Pass }
+    ensures role { seat.new.me.0.role ≡ Pass }
+    ensures looks { LooksAt position (sight_of seat.old) (sight_of seat.new) result }
+{
+    let (word, mask) = word_and_mask(position);
+    load(shared, seat, word) & mask > 0
+}
+
+/// Turns on the positions of a hash, and answers whether each was found on.
+pub(crate) fn insert_positions(
+    table: &FilterTable,
+    seat: &mut FilterSeat,
+    num_hashes: u32,
+    hash: u64,
+) -> bool
+    requires standing { IsStanding table.now.shared.table_id table.now.shared.key num_hashes }
+    requires at { seat.old.table_id ≡ table.now.shared.table_id }
+    requires pass { seat.old.me.0.role ≡ Pass }
+    ensures role { seat.new.me.0.role ≡ Pass }
+    ensures inserts { InsertsAs (positions (64 * table.now.shared.table_id.words) num_hashes hash)
+        (sight_of seat.old) (sight_of seat.new) result }
+{
+    let num_bits = table.word_count() * 64;
+    let mut chain = DoubleHasher::new(hash);
+    let mut all_on = true;
+    'places: for _ in 0..num_hashes {
+        let position = index(num_bits, chain.next());
+        all_on &= turn_on_position(&table.shared, seat, position);
+    }
+    all_on
+}
+
+/// Looks at the positions of a hash up to the first that is off, and answers whether all are on.
+pub(crate) fn find_positions(
+    table: &FilterTable,
+    seat: &mut FilterSeat,
+    num_hashes: u32,
+    hash: u64,
+) -> bool
+    requires standing { IsStanding table.now.shared.table_id table.now.shared.key num_hashes }
+    requires at { seat.old.table_id ≡ table.now.shared.table_id }
+    requires pass { seat.old.me.0.role ≡ Pass }
+    ensures role { seat.new.me.0.role ≡ Pass }
+    ensures finds { Finds (64 * table.now.shared.table_id.words) num_hashes hash
+        (sight_of seat.old) (sight_of seat.new) result }
+{
+    let num_bits = table.word_count() * 64;
+    let mut chain = DoubleHasher::new(hash);
+    'places: for _ in 0..num_hashes {
+        let position = index(num_bits, chain.next());
+        if !look_at_position(&table.shared, seat, position) {
+            return false;
+        }
+    }
+    true
+}

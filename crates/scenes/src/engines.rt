@@ -1,0 +1,8 @@
+//! Tests of the engines of the programs, over readers, writers and sieves that fail or are odd.
+mod bloom;
+mod duplicates;
+mod faulty;
+mod files;
+mod guards;
+mod room;
+mod summaries;

@@ -1,0 +1,136 @@
+//! The runs of the program, and what each fault tells.
+use crate::engines::faulty::{
+    FAILING, FLUSHED_ONCE, FULL, ROOMY, Reading, STUCK, UNFLUSHED, WHOLE, Writing,
+};
+use bloom_engine::Fault;
+
+// How a run ends.
+type Ended = Result<(), Fault>;
+
+const WELL: Ended = Ok(());
+
+const USAGE: Ended = Err(Fault::Usage);
+
+const BAD: Ended = Err(Fault::Line(1));
+
+/// Arguments with a space between two, and input; what is written, and how the run ends. The end of
+/// the input ends a line without its own.
+pub(super) const RUNS: [(&str, &str, &str, Ended); 32] = [
+    (
+        "1 3",
+        "i 1\nc 1\nw\n",
+        "false\ntrue\n0000000100100001\n",
+        WELL,
+    ),
+    (
+        "1 2",
+        "i 18446744073709551615\nw\n",
+        "false\n8000080000000000\n",
+        WELL,
+    ),
+    ("1 3", "i 1\nx\n", "false\n", Err(Fault::Line(2))),
+    ("0 3", "", "", USAGE),
+    ("1", "", "", USAGE),
+    ("1048577 1", "", "", USAGE),
+    (
+        "2 3",
+        "i 1\nw\n",
+        "false\n0000010000000001\n0000000000000001\n",
+        WELL,
+    ),
+    ("1 1", "", "", WELL),
+    (
+        "1 3",
+        "i 1\nz\nc 1\nw\n",
+        "false\nfalse\n0000000000000000\n",
+        WELL,
+    ),
+    ("1 2", "i 18446744073709551616\n", "", BAD),
+    ("1 2", "c 00000000000000000001\n", "false\n", WELL),
+    ("1 2", "c 000000000000000000001\n", "", BAD),
+    ("1 2", "i  1\n", "", BAD),
+    ("1 2", "i 1\r\n", "", BAD),
+    ("1 2", "\n", "", BAD),
+    ("1 3", "i 1\nc 1", "false\ntrue\n", WELL),
+    ("", "", "", USAGE),
+    ("1 1 1", "", "", USAGE),
+    ("1 4294967296", "", "", USAGE),
+    ("x 3", "", "", USAGE),
+    (
+        "00000000000000000001 3",
+        "i 1\nw\n",
+        "false\n0000000100100001\n",
+        WELL,
+    ),
+    ("000000000000000000001 3", "", "", USAGE),
+    ("+1 3", "", "", USAGE),
+    ("1 0", "i 1\nw\n", "false\n0000000000000001\n", WELL),
+    (
+        "1 2",
+        "i 1\nc 1\ni 18446744073709551615\nw\nc 00000000000000000001\nw",
+        "false\ntrue\nfalse\n8000080000100001\ntrue\n8000080000100001\n",
+        WELL,
+    ),
+    (
+        "1 2",
+        "i 1\nc 1\nw\nz\nc 1\nx\n",
+        "false\ntrue\n0000000000100001\nfalse\n",
+        Err(Fault::Line(6)),
+    ),
+    ("1 2", "i 1\nc 1\nw\n", ALL, WELL),
+    ("1 2", "", "", WELL),
+    ("1 2", "i 1\n", ONE, WELL),
+    ("1 2", "i 1", ONE, WELL),
+    ("1 2", "i 1\nc 1", TWO, WELL),
+    ("1 2", "i 1\nc", ONE, Err(Fault::Line(2))),
+];
+
+// What the first lines of a session are answered, and all three.
+const ONE: &str = "false\n";
+
+const TWO: &str = "false\ntrue\n";
+
+const ALL: &str = "false\ntrue\n0000000000100001\n";
+
+const INPUT: Fault = Fault::Input;
+
+const OUTPUT: Fault = Fault::Output;
+
+// The filter's word with hash 1 in it, which has the positions 0 and 20.
+const WORD: u64 = 0x100001;
+
+/// Input, and how it is read and the output is taken; what is written of it, how the run ends, and
+/// the filter's word. The bytes before a read that fails are answered up to the last whole line.
+pub(super) const FAULTS: [(&str, Reading, Writing, &str, Fault, u64); 16] = [
+    ("", FAILING, ROOMY, "", INPUT, 0),
+    ("i", FAILING, ROOMY, "", INPUT, 0),
+    ("i ", FAILING, ROOMY, "", INPUT, 0),
+    ("i 1", FAILING, ROOMY, "", INPUT, 0),
+    ("i 1\n", FAILING, ROOMY, ONE, INPUT, WORD),
+    ("i 1\nc", FAILING, ROOMY, ONE, INPUT, WORD),
+    ("i 1\nc ", FAILING, ROOMY, ONE, INPUT, WORD),
+    ("i 1\nc 1", FAILING, ROOMY, ONE, INPUT, WORD),
+    ("i 1\nc 1\n", FAILING, ROOMY, TWO, INPUT, WORD),
+    ("i 1\nc 1\nw", FAILING, ROOMY, TWO, INPUT, WORD),
+    ("i 1\nc 1\nw\n", FAILING, ROOMY, ALL, INPUT, WORD),
+    ("c 1\n", WHOLE, FULL, "fal", OUTPUT, 0),
+    ("c 1\n", WHOLE, STUCK, "fal", OUTPUT, 0),
+    // The first flush comes before the first read.
+    ("i 1\n", WHOLE, UNFLUSHED, "", OUTPUT, 0),
+    ("x\n", WHOLE, UNFLUSHED, "", OUTPUT, 0),
+    ("x\n", WHOLE, FLUSHED_ONCE, "", OUTPUT, 0),
+];
+
+/// What each fault tells, and its status.
+pub(super) const TEXTS: [(Fault, &str, u8); 6] = [
+    (Fault::Usage, "usage: bloom WORDS HASHES", 2),
+    (Fault::Line(1), "line 1: bad command", 2),
+    (
+        Fault::Line(u64::MAX),
+        "line 18446744073709551615: bad command",
+        2,
+    ),
+    (Fault::Memory, "no memory", 3),
+    (INPUT, "input failed", 4),
+    (OUTPUT, "output failed", 4),
+];

@@ -1,0 +1,275 @@
+//! Runs, what each writes, and how it ends; and what each fault tells.
+use crate::engines::faulty::{
+    FLUSHED_ONCE, FULL, NARROW, ROOMY, Reading, SLOW, STUCK, UNFLUSHED, WHOLE, Writing,
+};
+use bloom_plain::{FilterError, GrowingError};
+use duplicates_engine::{Fault, Tally, Total, Written};
+use std::io::ErrorKind;
+
+/// What a run is to be.
+#[derive(Clone, Copy)]
+pub(super) struct Run {
+    pub(super) inputs: &'static [&'static str],
+    /// The number of the input whose open fails.
+    pub(super) broken: usize,
+    pub(super) longest: usize,
+    pub(super) skips_longer: bool,
+    pub(super) written: Written,
+    pub(super) reading: Reading,
+    pub(super) writing: Writing,
+    /// How many lines the sieve takes, and why it refuses the next.
+    pub(super) lines: u64,
+    pub(super) refusal: GrowingError,
+}
+
+/// Nothing is odd.
+pub(super) const PLAIN: Run = Run {
+    inputs: &["ab\nc\nab\n\nd"],
+    broken: 99,
+    longest: 9,
+    skips_longer: false,
+    written: Written::New,
+    reading: WHOLE,
+    writing: ROOMY,
+    lines: 99,
+    refusal: GrowingError::RateOverflow,
+};
+
+const OUTPUT: &str = "ab\nc\n\nd\n";
+
+const ALL: Result<Total, Fault> = Ok(Total {
+    tally: Tally { read: 5, held: 1 },
+    longer: 0,
+});
+
+const SEVERAL: &'static [&'static str] = &["ab\nc", "", "c\nd\n", "ab\n\n"];
+
+const PASSING: Run = Run {
+    inputs: &["abc\nab\n", "abc\nab\nd"],
+    longest: 2,
+    skips_longer: true,
+    ..PLAIN
+};
+
+const PASSED: Total = Total {
+    tally: Tally { read: 5, held: 3 },
+    longer: 2,
+};
+
+const LATE: Run = Run {
+    written: Written::HeldBack,
+    lines: 3,
+    ..PLAIN
+};
+
+/// A run, what it writes, and how it ends.
+pub(super) const RUNS: [(Run, &str, Result<Total, Fault>); 21] = [
+    (PLAIN, OUTPUT, ALL),
+    (
+        Run {
+            reading: SLOW,
+            writing: NARROW,
+            ..PLAIN
+        },
+        OUTPUT,
+        ALL,
+    ),
+    (
+        Run {
+            written: Written::HeldBack,
+            ..PLAIN
+        },
+        "ab\n",
+        ALL,
+    ),
+    (
+        Run {
+            written: Written::Nothing,
+            ..PLAIN
+        },
+        "",
+        ALL,
+    ),
+    (
+        Run {
+            inputs: SEVERAL,
+            ..PLAIN
+        },
+        "ab\nc\nd\n\n",
+        Ok(Total {
+            tally: Tally { read: 6, held: 2 },
+            longer: 0,
+        }),
+    ),
+    (
+        Run {
+            inputs: SEVERAL,
+            broken: 2,
+            ..PLAIN
+        },
+        "ab\nc\n",
+        Err(Fault::Open(ErrorKind::NotFound)),
+    ),
+    (
+        Run {
+            inputs: &[],
+            ..PLAIN
+        },
+        "",
+        Ok(Total {
+            tally: Tally { read: 0, held: 0 },
+            longer: 0,
+        }),
+    ),
+    // The number is that of the line in its own input.
+    (
+        Run {
+            inputs: &["a\nb\nc", "d\nee\nf"],
+            longest: 1,
+            ..PLAIN
+        },
+        "a\nb\nc\nd\n",
+        Err(Fault::TooLong(2)),
+    ),
+    (
+        Run {
+            writing: FULL,
+            ..PLAIN
+        },
+        "ab\n",
+        Err(Fault::Output(ErrorKind::StorageFull)),
+    ),
+    (
+        Run {
+            writing: STUCK,
+            ..PLAIN
+        },
+        "ab\n",
+        Err(Fault::Output(ErrorKind::WriteZero)),
+    ),
+    // The first flush comes before the first read.
+    (
+        Run {
+            writing: UNFLUSHED,
+            ..PLAIN
+        },
+        "",
+        Err(Fault::Output(ErrorKind::BrokenPipe)),
+    ),
+    // Without inputs the last flush is the only one.
+    (
+        Run {
+            inputs: &[],
+            writing: UNFLUSHED,
+            ..PLAIN
+        },
+        "",
+        Err(Fault::Output(ErrorKind::BrokenPipe)),
+    ),
+    // The last line may still be read on.
+    (
+        Run {
+            writing: FLUSHED_ONCE,
+            ..PLAIN
+        },
+        "ab\nc\n\n",
+        Err(Fault::Output(ErrorKind::BrokenPipe)),
+    ),
+    (
+        Run {
+            writing: FLUSHED_ONCE,
+            longest: 1,
+            ..PLAIN
+        },
+        "",
+        Err(Fault::Output(ErrorKind::BrokenPipe)),
+    ),
+    // Longer lines are passed on with the new ones, as often as they come. The sieve would refuse
+    // them.
+    (
+        Run {
+            lines: 3,
+            ..PASSING
+        },
+        "abc\nab\nabc\nd\n",
+        Ok(PASSED),
+    ),
+    (
+        Run {
+            written: Written::HeldBack,
+            reading: SLOW,
+            writing: NARROW,
+            ..PASSING
+        },
+        "ab\n",
+        Ok(PASSED),
+    ),
+    (
+        Run {
+            lines: 2,
+            ..PASSING
+        },
+        "abc\nab\nabc\n",
+        Err(Fault::Full),
+    ),
+    (LATE, "ab\n", Err(Fault::Full)),
+    (
+        Run {
+            refusal: GrowingError::TooManyItems,
+            ..LATE
+        },
+        "ab\n",
+        Err(Fault::Full),
+    ),
+    (
+        Run {
+            refusal: GrowingError::Filter(FilterError::SizeOverflow),
+            ..LATE
+        },
+        "ab\n",
+        Err(Fault::Full),
+    ),
+    (
+        Run {
+            refusal: GrowingError::Filter(FilterError::Memory),
+            ..LATE
+        },
+        "ab\n",
+        Err(Fault::Memory),
+    ),
+];
+
+/// The inputs of readers that fail at their end, and what is written: whole lines that are new.
+pub(super) const READS: [(&'static [&'static str], &str); 12] = [
+    (&[""], ""),
+    (&["a"], ""),
+    (&["ab"], ""),
+    (&["ab\n"], "ab\n"),
+    (&["ab\nc"], "ab\n"),
+    (&["ab\nc\n"], "ab\nc\n"),
+    (&["ab\nc\na"], "ab\nc\n"),
+    (&["ab\nc\nab"], "ab\nc\n"),
+    (&["ab\nc\nab\n"], "ab\nc\n"),
+    (&["ab\nc\nab\n\n"], "ab\nc\n\n"),
+    (&["ab\nc\nab\n\nd"], "ab\nc\n\n"),
+    (&["ab", "c\n"], ""),
+];
+
+/// What each fault tells.
+pub(super) const TEXTS: [(Fault, &str); 6] = [
+    (Fault::TooLong(7), "line 7 is too long"),
+    (Fault::Memory, "out of memory"),
+    (Fault::Full, "the filter can take no more lines"),
+    (
+        Fault::Open(ErrorKind::WriteZero),
+        "it can't be opened: write zero",
+    ),
+    (
+        Fault::Input(ErrorKind::WriteZero),
+        "it can't be read: write zero",
+    ),
+    (
+        Fault::Output(ErrorKind::WriteZero),
+        "the output can't be written: write zero",
+    ),
+];

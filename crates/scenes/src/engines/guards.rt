@@ -1,0 +1,131 @@
+//! How often a guard asks its store for a value. A clause says what the guard counts, and none what
+//! its store is asked.
+use bloom_plain::{FilterError, Rate};
+use guard_engine::{Guard, Store, Task, carry_out};
+use guard_parts::{FilterFile, MemoryFolder};
+use std::alloc::Global;
+use std::cell::Cell;
+use std::test::Fail;
+
+// A store that has the value "red" at the key "crab", or nothing. It counts the values that it is
+// asked for.
+#[derive(Drop)]
+struct Asked<'a> {
+    alloc: Global,
+    has_crab: bool,
+    look_ups: &'a Cell<u64>,
+}
+
+impl<'a> Store for Asked<'a> {
+    ghost use Rattle.std.specs.Prelude.{false};
+
+    type Error = FilterError;
+
+    ghost sight = { λ _. record {
+      has = λ _ _. Unit {0};
+      kept = λ _ _. Unit {0};
+      in_batch = false;
+      is_fit = Unit {0};
+    } };
+
+    // No clause speaks of its entries.
+    ghost is_known = { λ _. ⊥ };
+
+    fn keys(&mut self) -> Result<Vec<String>, FilterError> {
+        let mut keys = Vec::new(self.alloc);
+        if self.has_crab {
+            keys.push("crab".to_string(self.alloc)?)?;
+        }
+        Ok(keys)
+    }
+
+    fn value_of(&mut self, key: &str) -> Result<Option<String>, FilterError> {
+        self.look_ups.set(self.look_ups.get().saturating_add(1));
+        if self.has_crab && key == "crab" {
+            return Ok(Some("red".to_string(self.alloc)?));
+        }
+        Ok(None)
+    }
+
+    fn begin(&mut self) -> Result<(), FilterError> {
+        Ok(())
+    }
+
+    fn add(&mut self, _key: &str, _value: &str) -> Result<(), FilterError> {
+        self.has_crab = true;
+        Ok(())
+    }
+
+    fn remove(&mut self, _key: &str) -> Result<(), FilterError> {
+        self.has_crab = false;
+        Ok(())
+    }
+
+    fn commit(&mut self) -> Result<(), FilterError> {
+        Ok(())
+    }
+
+    fn roll_back(&mut self) -> Result<(), FilterError> {
+        Ok(())
+    }
+}
+
+// What a guard is asked to do, always with the key "crab".
+#[derive(Clone, Copy)]
+enum Act {
+    Put,
+    Get,
+    Delete,
+    Load,
+    Stats,
+}
+
+// Acts one after the other on an empty store, what each answers, and how many values the store is
+// asked for. A key that was deleted stays in the filter, so the store is asked for nothing.
+const ACTS: [(Act, &str, u64); 10] = [
+    (Act::Get, "absent: the store was spared", 0),
+    (Act::Delete, "absent: nothing was deleted", 0),
+    (Act::Put, "added", 0),
+    (Act::Get, "red", 1),
+    (Act::Put, "taken", 1),
+    (Act::Delete, "deleted", 1),
+    (Act::Get, "absent: the store was asked for nothing", 1),
+    (Act::Delete, "absent: nothing was deleted", 1),
+    (
+        Act::Load,
+        "1 added, 1 taken\n3 spared, 7 asked, 3 false alarms",
+        2,
+    ),
+    (Act::Stats, "4 spared, 9 asked, 3 false alarms", 2),
+];
+
+#[test]
+fn a_store_is_asked_once_for_each_key_that_the_filter_has(rt: HostRuntime) -> Result<(), Fail> {
+    let look_ups = Cell::new(0);
+    let store = Asked {
+        alloc: rt.alloc(),
+        has_crab: false,
+        look_ups: &look_ups,
+    };
+    let kept = FilterFile::new(rt.alloc(), MemoryFolder::new(rt.alloc()), false);
+    let opened = Guard::open(rt.alloc(), store, kept, Rate::new(1, 1000)?, 10);
+    let Ok((mut guard, _origin)) = opened else {
+        return Err(FilterError::Memory.into());
+    };
+    'acts: for (act, said, count) in ACTS {
+        look_ups.set(0);
+        let task: Task<&[u8]> = match act {
+            Act::Put => Task::Put("crab", "red"),
+            Act::Get => Task::Get("crab"),
+            Act::Delete => Task::Delete("crab"),
+            Act::Load => Task::Load(b"crab\tred\ncrab\tblue\n", 2),
+            Act::Stats => Task::Stats(b"crab\ncrab\nants\n"),
+        };
+        let Ok(answer) = carry_out(rt.alloc(), &mut guard, task) else {
+            return Err(FilterError::Memory.into());
+        };
+        assert!(rt; answer.to_string(rt.alloc())?.as_str() == said, "{said}");
+        assert!(rt; look_ups.get() == count, "{said}");
+    }
+    Ok(())
+}

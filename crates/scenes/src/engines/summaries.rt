@@ -1,0 +1,262 @@
+//! Filters of keys over odd readers and writers.
+ghost use Rattle.summaries_engine.specs.Answers.{IsKeyed};
+
+use super::faulty::{
+    FAILING, FULL, NARROW, ROOMY, Reading, SLOW, STUCK, Seen, Sink, Source, UNFLUSHED, WHOLE,
+    Writing,
+};
+use fastbloom::{BloomFilter, Shape};
+use std::test::Fail;
+use std::thread::Threads;
+use summaries_engine::{Inputs, Stop, Told, ask, build, load, put, put_file};
+
+// The files of filters of 64 bits and two hashes, of the key "a", and of "a" and "b". Their words
+// were worked out by another program, from the papers on SipHash and on the multiply and shift.
+// Their seals are what Python 3.11, whose hash of bytes is SipHash-1-3, answers under the key of
+// zeros.
+const A: &[u8] = b"fbloom\01\x02\0\0\0\0\0\0\0\
+    \x01\0\0\0\0\0\0\0\0\0\0\0\0\0\0\0\
+    \0\0\0\0\0\0\0\0>f\xd2\xf60\x19\xfb\xc8\
+    \0\0\0\0\0\0\0\0\0\0\0\0\0\0\0\0\
+    \0\0\x01\x10\0\0\0\0";
+
+const BOTH: &[u8] = b"fbloom\01\x02\0\0\0\0\0\0\0\
+    \x01\0\0\0\0\0\0\0\0\0\0\0\0\0\0\0\
+    \0\0\0\0\0\0\0\0~o\\\x05\x08\0{\x11\
+    \0\0\0\0\0\0\0\0\0\0\0\0\0\0\0\0\
+    \0\0\x01\x10\x04\0\x01\0";
+
+// The file of "a" without its last byte, with one more, and with another last byte.
+const CUT: &[u8] = b"fbloom\01\x02\0\0\0\0\0\0\0\
+    \x01\0\0\0\0\0\0\0\0\0\0\0\0\0\0\0\
+    \0\0\0\0\0\0\0\0>f\xd2\xf60\x19\xfb\xc8\
+    \0\0\0\0\0\0\0\0\0\0\0\0\0\0\0\0\
+    \0\0\x01\x10\0\0\0";
+
+const LONG: &[u8] = b"fbloom\01\x02\0\0\0\0\0\0\0\
+    \x01\0\0\0\0\0\0\0\0\0\0\0\0\0\0\0\
+    \0\0\0\0\0\0\0\0>f\xd2\xf60\x19\xfb\xc8\
+    \0\0\0\0\0\0\0\0\0\0\0\0\0\0\0\0\
+    \0\0\x01\x10\0\0\0\0\0";
+
+const CHANGED: &[u8] = b"fbloom\01\x02\0\0\0\0\0\0\0\
+    \x01\0\0\0\0\0\0\0\0\0\0\0\0\0\0\0\
+    \0\0\0\0\0\0\0\0>f\xd2\xf60\x19\xfb\xc8\
+    \0\0\0\0\0\0\0\0\0\0\0\0\0\0\0\0\
+    \0\0\x01\x10\0\0\0\x01";
+
+const TEXT: &[u8] =
+    b"{\"bits\":{\"bits\":[268500992]},\"num_hashes_minus_one\":1,\"k0\":0,\"k1\":0}\n";
+
+const UNREAD: &[u8] = b"odd: it can't be read: broken pipe";
+
+// Inputs, each of which gives its keys as told.
+#[derive(Drop)]
+struct Odd<'a> {
+    keys: &'a [u8],
+    reading: Reading,
+    seen: &'a Seen,
+}
+
+impl<'a> Inputs for Odd<'a> {
+    type Input = Source<'a>;
+
+    ghost has = { λ odd name read. Unit {0} };
+
+    ghost fails = { λ odd name stop. Unit {0} };
+
+    // The input `first` has the key "a", and is odd in nothing.
+    fn open(&self, name: &str) -> Result<Source<'a>, Stop> {
+        if name == "first" {
+            return Ok(Source::new(b"a\n", WHOLE, self.seen));
+        }
+        Ok(Source::new(self.keys, self.reading, self.seen))
+    }
+}
+
+// What is done over an input, and written.
+#[derive(Clone, Copy)]
+enum Act {
+    // The file of the filter of its keys, and of those of another input.
+    Build,
+    // Those of its keys that are "a".
+    Ask,
+    // The file that it is.
+    Load,
+    // The file of the filter of "a", and its text.
+    Put,
+    PutText,
+}
+
+// Carries an act out: why it stops early.
+fn carry_out<R: Threads + AllocGlobal>(
+    rt: &R,
+    act: Act,
+    odd: &Odd,
+    filter: &BloomFilter,
+    output: &mut Sink,
+) -> Result<(), Stop>
+    requires { IsKeyed filter.now }
+{
+    let alloc = rt.alloc();
+    match act {
+        Act::Build => {
+            let Ok(shape) = Shape::new(64, 2) else {
+                return Err(Stop::Memory);
+            };
+            let built = build::<10, _, _>(rt, alloc, shape, 2, odd, &["first", "odd"])?;
+            put_file(&built, output).map_err(Stop::Output)
+        }
+        Act::Ask => ask::<10, _, _>(alloc, filter, Told::Found, odd, &["odd"], output),
+        Act::Load => {
+            let (loaded, _form) = load(alloc, "odd", 64, &mut odd.open("odd")?)?;
+            put_file(&loaded, output).map_err(Stop::Output)
+        }
+        Act::Put => put_file(filter, output).map_err(Stop::Output),
+        Act::PutText => put(alloc, filter, output),
+    }
+}
+
+// An act, its input, and how that is read and the output is taken; what is written, and why the act
+// stops early.
+const ACTS: [(Act, &[u8], Reading, Writing, &[u8], &[u8]); 22] = [
+    (Act::Build, b"b\na", SLOW, NARROW, BOTH, b""),
+    (Act::Build, b"a\nb\n", FAILING, ROOMY, b"", UNREAD),
+    (Act::Ask, b"b\na\nc\na", SLOW, NARROW, b"a\na\n", b""),
+    (Act::Ask, b"a\na\na", FAILING, ROOMY, b"a\na\n", UNREAD),
+    (
+        Act::Ask,
+        b"a\na\n",
+        WHOLE,
+        FULL,
+        b"a\na",
+        b"the keys can't be written: no space is left",
+    ),
+    (
+        Act::Ask,
+        b"a\na\n",
+        WHOLE,
+        STUCK,
+        b"a\na",
+        b"the keys can't be written: write zero",
+    ),
+    (Act::Load, A, SLOW, NARROW, A, b""),
+    (Act::Load, A, FAILING, ROOMY, b"", UNREAD),
+    (Act::Load, BOTH, WHOLE, ROOMY, BOTH, b""),
+    (Act::Load, TEXT, SLOW, NARROW, A, b""),
+    (
+        Act::Load,
+        CUT,
+        WHOLE,
+        ROOMY,
+        b"",
+        b"odd: it holds no filter: the file is cut",
+    ),
+    (
+        Act::Load,
+        LONG,
+        WHOLE,
+        ROOMY,
+        b"",
+        b"odd: it holds no filter: the file goes on after its last word",
+    ),
+    (
+        Act::Load,
+        CHANGED,
+        SLOW,
+        ROOMY,
+        b"",
+        b"odd: it holds no filter: the seal is wrong: the file was changed",
+    ),
+    (
+        Act::Load,
+        b"fbloom\02",
+        SLOW,
+        ROOMY,
+        b"",
+        b"odd: it holds no filter: a version of the file that isn't known",
+    ),
+    (Act::Put, b"", WHOLE, NARROW, A, b""),
+    (
+        Act::Put,
+        b"",
+        WHOLE,
+        FULL,
+        b"fbl",
+        b"the filter can't be written: no space is left",
+    ),
+    (
+        Act::Put,
+        b"",
+        WHOLE,
+        STUCK,
+        b"fbl",
+        b"the filter can't be written: write zero",
+    ),
+    (
+        Act::Put,
+        b"",
+        WHOLE,
+        UNFLUSHED,
+        A,
+        b"the filter can't be written: broken pipe",
+    ),
+    (Act::PutText, b"", WHOLE, NARROW, TEXT, b""),
+    (
+        Act::PutText,
+        b"",
+        WHOLE,
+        FULL,
+        b"{\"b",
+        b"the filter can't be written: no space is left",
+    ),
+    (
+        Act::PutText,
+        b"",
+        WHOLE,
+        STUCK,
+        b"{\"b",
+        b"the filter can't be written: write zero",
+    ),
+    (
+        Act::PutText,
+        b"",
+        WHOLE,
+        UNFLUSHED,
+        TEXT,
+        b"the filter can't be written: broken pipe",
+    ),
+];
+
+// A read that fails may do so behind any byte; that of keys that are asked for, behind all.
+#[test]
+fn acts_write_and_stop_as_they_are_to(rt: HostRuntime) -> Result<(), Fail> {
+    let loaded = load(rt.alloc(), "a", 64, &mut &A[..]);
+    assert!(rt; loaded.is_ok(), "a good filter isn't loaded");
+    let Ok((filter, _form)) = loaded else {
+        unreachable!()
+    };
+    for (act, input, reading, writing, output, text) in ACTS {
+        let first = if text == UNREAD && output.is_empty() {
+            0
+        } else {
+            input.len()
+        };
+        for end in first..input.len().saturating_add(1) {
+            let seen = Seen::new();
+            let odd = Odd {
+                keys: input.get(..end).unwrap_or(&[]),
+                reading,
+                seen: &seen,
+            };
+            let mut sink = Sink::new(rt.alloc(), writing, &seen);
+            let told = match carry_out(&rt, act, &odd, &filter, &mut sink) {
+                Ok(()) => String::new(rt.alloc()),
+                Err(stop) => stop.to_string(rt.alloc())?,
+            };
+            let is_right = (sink.written.as_slice() == output) & (told.as_bytes() == text);
+            assert!(rt; is_right, "{told}");
+        }
+    }
+    Ok(())
+}
