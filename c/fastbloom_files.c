@@ -2,7 +2,8 @@
  * filters in files. They are tested and not proved. What a file's head says, and its seal, are read
  * and written by the proved calls.
  *
- * It needs a system with POSIX files and mappings, and numbers that are little-endian. */
+ * It needs Linux, and glibc 2.28 or another C library that has statx and getrandom. (`stat` of a
+ * later glibc asks for that one.) */
 #define _GNU_SOURCE
 #define FASTBLOOM_NO_WRAPPERS
 #include "fastbloom.h"
@@ -67,19 +68,15 @@ static void close_quietly(int file) {
 static uint8_t open_to_read(const char *path, int flags, int *file, size_t *size) {
     *file = open(path, flags | O_CLOEXEC | O_NONBLOCK | O_NOCTTY);
     if (*file < 0) return FASTBLOOM_INPUT;
-    struct stat about;
-    uint8_t code = FASTBLOOM_OK;
-    if (fstat(*file, &about) != 0) {
-        code = FASTBLOOM_INPUT;
-    } else if (!S_ISREG(about.st_mode)) {
-        errno = S_ISDIR(about.st_mode) ? EISDIR : EINVAL;
-        code = FASTBLOOM_INPUT;
+    struct statx about;
+    bool is_known = statx(*file, "", AT_EMPTY_PATH, STATX_TYPE | STATX_SIZE, &about) == 0;
+    if (is_known && S_ISREG(about.stx_mode)) {
+        *size = (size_t)about.stx_size;
+        return FASTBLOOM_OK;
     }
-    if (code != FASTBLOOM_OK)
-        close_quietly(*file);
-    else
-        *size = (size_t)about.st_size;
-    return code;
+    if (is_known) errno = S_ISDIR(about.stx_mode) ? EISDIR : EINVAL;
+    close_quietly(*file);
+    return FASTBLOOM_INPUT;
 }
 
 /* Reads as many bytes as there are, and at most these. */
@@ -249,23 +246,42 @@ static int open_part(const char *path, char *part, size_t room, bool replaces) {
 }
 
 /* Gives a file the owner, group and mode of another one, as far as this is allowed. */
-static bool give_rights(int file, const struct stat *old) {
-    mode_t mode = old->st_mode & 0777;
-    if (fchown(file, old->st_uid, old->st_gid) != 0 && fchown(file, (uid_t)-1, old->st_gid) != 0)
+static bool give_rights(int file, const struct statx *old) {
+    mode_t mode = old->stx_mode & 0777;
+    if (fchown(file, old->stx_uid, old->stx_gid) != 0 &&
+        fchown(file, (uid_t)-1, old->stx_gid) != 0)
         mode &= 0707; /* not to the members of another group */
     return fchmod(file, mode) == 0;
 }
 
-/* Flushes the folder of a file, so that its new name outlasts a power cut. */
+/* Flushes the folder of a file, whose path is cut to it. So the file's new name outlasts a power
+ * cut. */
 static bool flush_folder(char *path) {
     char *slash = strrchr(path, '/');
-    if (slash != NULL) slash[slash == path] = '\0';
+    if (slash != NULL) slash[slash == path ? 1 : 0] = '\0';
     int folder = open(slash == NULL ? "." : path, O_RDONLY | O_DIRECTORY | O_CLOEXEC);
     if (folder < 0) return false;
     /* (some systems of files have no such call, and need none) */
     bool flushed = fsync(folder) == 0 || errno == EINVAL;
     close_quietly(folder);
     return flushed;
+}
+
+/* Writes a new file whole, with the rights of the old one where there is one, and flushes it. */
+static bool write_part(int file, const uint8_t head[HEAD], const fastbloom_filter *filter,
+                       const struct statx *old) {
+    return write_bytes(file, head, HEAD) &&
+           write_bytes(file, filter->words, 8 * filter->num_words) &&
+           (old == NULL || give_rights(file, old)) && fsync(file) == 0;
+}
+
+/* Gives a new file that is whole the name of the old one, and else removes it. */
+static bool put_in_place(char *part, const char *path, bool is_whole) {
+    if (is_whole && rename(part, path) == 0) return flush_folder(part);
+    int why = errno;
+    unlink(part);
+    errno = why;
+    return false;
 }
 
 /* Writes the head of a filter's file. No words have no seal to compute. */
@@ -283,23 +299,18 @@ uint8_t fastbloom_save(const char *path, const fastbloom_filter *filter, bool se
     size_t room = strlen(path) + sizeof "..part" + DRAWN;
     char *part = malloc(room);
     if (part == NULL) return FASTBLOOM_MEMORY;
-    struct stat old;
-    bool replaces = stat(path, &old) == 0;
-    int file = open_part(path, part, room, replaces);
-    bool whole = file >= 0 && write_bytes(file, head, sizeof head) &&
-                 write_bytes(file, filter->words, 8 * filter->num_words) &&
-                 (!replaces || give_rights(file, &old)) && fsync(file) == 0;
-    if (file >= 0) {
-        /* (a close that fails after a flush that didn't has lost nothing) */
-        close_quietly(file);
-        bool placed = whole && rename(part, path) == 0;
-        int why = errno;
-        if (!placed) unlink(part);
-        errno = why;
-        whole = placed && flush_folder(part);
+    struct statx about;
+    unsigned wanted = STATX_MODE | STATX_UID | STATX_GID;
+    const struct statx *old = statx(AT_FDCWD, path, 0, wanted, &about) == 0 ? &about : NULL;
+    int file = open_part(path, part, room, old != NULL);
+    bool saved = file >= 0;
+    if (saved) {
+        bool is_whole = write_part(file, head, filter, old);
+        close_quietly(file); /* what was flushed is safe */
+        saved = put_in_place(part, path, is_whole);
     }
     int why = errno;
     free(part);
     errno = why;
-    return whole ? FASTBLOOM_OK : FASTBLOOM_OUTPUT;
+    return saved ? FASTBLOOM_OK : FASTBLOOM_OUTPUT;
 }

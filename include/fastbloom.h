@@ -326,9 +326,9 @@ FASTBLOOM_MUST_USE uint8_t fastbloom_head_read(const uint8_t head[64], size_t *n
                                                uint32_t *num_hashes, uint8_t key[16],
                                                uint64_t *seal);
 
-/* Files of filters. These calls are written in C, tested and not proved. They are for systems with
- * POSIX files and mappings, and threads may make them at once. Where they answer FASTBLOOM_INPUT or
- * FASTBLOOM_OUTPUT, errno says why. */
+/* Files of filters. These calls are written in C, for Linux. They are tested and not proved.
+ * Threads may make them at once. Where they answer FASTBLOOM_INPUT or FASTBLOOM_OUTPUT, errno says
+ * why. */
 
 /* A filter that a call on files reads, maps or writes. */
 typedef struct fastbloom_filter {

@@ -32,7 +32,7 @@ def links_of(folder, page):
     except (FileNotFoundError, UnicodeDecodeError):
         return []
     found = (os.path.normpath(os.path.join(os.path.dirname(page), link))
-             for link in re.findall(r'href="([^"#:]+)"', text))
+             for link in re.findall(r'href="([^"#:]+)["#]', text))
     return [link for link in found if not link.startswith(("..", "/"))]
 
 

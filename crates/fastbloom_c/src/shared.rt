@@ -46,12 +46,26 @@ pub extern "C" fn fastbloom_shared_insert_hash(
 // 0. It is a number, and made in a function of its own: a loop that answers the call itself keeps
 // each position's bit as a byte, which takes half as long again.
 #[inline(never)]
-fn found_hashes(words: &RawWords, num_hashes: u32, hash: u64) -> u32
+pub(crate) fn found_hashes(words: &RawWords, num_hashes: u32, hash: u64) -> u32
     requires filter { MakeFilter words.now.len }
     requires hashes { 1 ≤ num_hashes }
     ensures { MakesLook (vector_of words.now.at words.now.len) num_hashes hash (nat_lt 0 result) }
 {
     if contains_hash(words, num_hashes, hash) {
+        num_hashes
+    } else {
+        0
+    }
+}
+
+// The same, of words that it is given, so that they stay in registers.
+#[inline(never)]
+fn found_hashes_of(words: RawWords, num_hashes: u32, hash: u64) -> u32
+    requires filter { MakeFilter words.len }
+    requires hashes { 1 ≤ num_hashes }
+    ensures { MakesLook (vector_of words.at words.len) num_hashes hash (nat_lt 0 result) }
+{
+    if contains_hash(&words, num_hashes, hash) {
         num_hashes
     } else {
         0
@@ -73,7 +87,7 @@ pub extern "C" fn fastbloom_shared_contains_hash(
     if !make_filter(&words) {
         return false;
     }
-    found_hashes(&words, num_hashes.max(1), hash) > 0
+    found_hashes_of(words, num_hashes.max(1), hash) > 0
 }
 
 /// Inserts the hash of bytes, and returns whether its own steps found all positions set already.

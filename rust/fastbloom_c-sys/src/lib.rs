@@ -529,9 +529,6 @@ extern "C" {
     /// [`FASTBLOOM_OK`]; or [`FASTBLOOM_EMPTY_WORDS`], [`FASTBLOOM_TOO_MANY_WORDS`],
     /// [`FASTBLOOM_MEMORY`] or [`FASTBLOOM_OUTPUT`], and then the old file is as it was.
     #[must_use]
-    pub fn fastbloom_save(
-        path: *const c_char,
-        filter: *const fastbloom_filter,
-        sealed: bool,
-    ) -> u8;
+    pub fn fastbloom_save(path: *const c_char, filter: *const fastbloom_filter, sealed: bool)
+        -> u8;
 }

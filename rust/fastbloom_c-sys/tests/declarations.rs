@@ -198,7 +198,8 @@ fn shared_words_are_a_pointer_and_a_number() {
 
 #[test]
 fn a_filter_of_a_file_lies_as_in_the_header() {
-    let wanted = "typedef struct fastbloom_filter {\n    uint64_t *words;\n    size_t num_words;\n    \
+    let wanted =
+        "typedef struct fastbloom_filter {\n    uint64_t *words;\n    size_t num_words;\n    \
                   uint32_t num_hashes;\n    uint8_t key[16];\n} fastbloom_filter;";
     assert!(HEADER.contains(wanted));
     let wanted = "typedef struct fastbloom_limits {\n    size_t max_words;\n    \
