@@ -529,7 +529,7 @@ class Filter:
         return common
 
     def intersection_update(self, *others: Union[Filter, Iterable[Item]]) -> None:
-        """Keeps what each of the others may contain. It raises as `update`, and then keeps all."""
+        """Keeps what each of the others may contain. Where it raises, as `update`, all is kept."""
         for other in others:
             self._check_other(other, "add")
         for fitting in list(map(self._as_filter, others)):
