@@ -79,7 +79,7 @@ where
     R: Read,
 {
     match guard.ask(rt.alloc(), lines) {
-        Ok(()) => print_answer(rt, &Answer::Counted(guard.counts())),
+        Ok(()) => print_answer(rt, &Answer::counted(guard)),
         Err(stop) => tell_trouble(rt, names, input, &Trouble::Lines(stop)),
     }
 }

@@ -32,6 +32,7 @@ mod PutNextLemmas
 mod PutStopLemmas
 mod PuttingLemmas
 mod ReadLemmas
+mod RateFacts
 mod RoomFacts
 mod RoomLemmas
 mod StoppedFacts

@@ -1,5 +1,5 @@
 -- What a task counts, and one that failed: cases that hold, and near ones that don't.
-use Rattle.std.proofs.Common.{◌≡◌, ℕ, inl, inr, true, false, [], ◌∷◌, Some, refl, ap, lit<, arith}
+use Rattle.std.proofs.Common.{◌≡◌, ℕ, inl, inr, true, false, [], ◌∷◌, Some, refl, ap, subst, lit<, arith}
 use Rattle.guard_engine.specs.declared.commands.Answer.{Answer}
 use Rattle.guard_engine.specs.declared.commands.Answer.TheVariants as answers
 use Rattle.guard_engine.specs.declared.commands.Trouble.TheVariants as troubles
@@ -12,6 +12,8 @@ use Rattle.guard_engine.specs.declared.guard.loads.Why.TheVariants as why
 use Rattle.guard_engine.specs.declared.line.BadLine.TheVariants.{NoTab}
 use Rattle.guard_engine.specs.declared.task.Task.TheVariants as tasks
 use Rattle.guard_engine.specs.Answers.{CountsFailed, CountsTask}
+use Rattle.guard_engine.specs.FilterRate.{IsRateOf}
+use Rattle.bloom_parts.specs.declared.math.bracket.Bracket.{Bracket}
 use Rattle.guard_engine.proofs.BadLineFacts.{bytes}
 use Rattle.guard_engine.proofs.CountLemmas.{puts-spared}
 use Rattle.guard_engine.specs.declared.guard.Put.TheVariants.{Added, Taken}
@@ -41,15 +43,26 @@ counts-put-twice : CountsTask left counted.both (Unit {0}) put none (counts 0 0 
 counts-put-twice (Added, same, is) = counts_puts-twice is
 counts-put-twice (Taken, same, is) = let e = same in cc
 
--- look-ups tell what was counted
-counts-stats : CountsTask left counted.both (Unit {0}) (tasks.Stats counted.read) one
-    (counts 0 0 0) (counts 1 2 1) (answers.Counted (counts 1 2 1))
-counts-stats = (refl, (Some [], counted.all))
+-- look-ups tell what was counted, and the rate of the filter
+counts-stats : (rate : Bracket) → IsRateOf counted.both rate
+    → CountsTask left counted.both (Unit {0}) (tasks.Stats counted.read) one
+    (counts 0 0 0) (counts 1 2 1) (answers.Counted (counts 1 2 1) rate)
+counts-stats rate is_rate = ((rate, refl, is_rate), (Some [], counted.all))
 
 -- look-ups don't tell the counts of before
-counts-before : CountsTask left counted.both (Unit {0}) (tasks.Stats counted.read) one
-    (counts 0 0 0) (counts 1 2 1) (answers.Counted (counts 0 0 0)) → ⊥
-counts-before is = let asked = ap (λ answer. answer) is.0 in cc
+counts-before : (rate : Bracket)
+    → CountsTask left counted.both (Unit {0}) (tasks.Stats counted.read) one
+    (counts 0 0 0) (counts 1 2 1) (answers.Counted (counts 0 0 0) rate) → ⊥
+counts-before rate is = let same = is.0.1 in cc
+
+-- look-ups don't tell a rate that isn't the filter's
+counts-rate : (rate : Bracket) → ¬ IsRateOf counted.both rate
+    → CountsTask left counted.both (Unit {0}) (tasks.Stats counted.read) one
+    (counts 0 0 0) (counts 1 2 1) (answers.Counted (counts 1 2 1) rate) → ⊥
+counts-rate rate other is = other (subst (IsRateOf counted.both) (told is.0.1) is.0.2)
+  where
+    told : {c d : Counts} {a b : Bracket} → answers.Counted c a ≡ answers.Counted d b → b ≡ a
+    told same = cc
 
 -- a look-up counts once
 counts-get : CountsTask left counted.both (Unit {0}) (tasks.Get (lent (1 ∷ []))) one

@@ -15,6 +15,7 @@ use Rattle.guard_engine.specs.declared.line.BadLine.TheVariants.{NoTab}
 use Rattle.guard_engine.specs.declared.task.Task.{Task}
 use Rattle.guard_engine.specs.declared.task.Task.TheVariants as tasks
 use Rattle.guard_engine.specs.Answers.{IsAnswerTo, IsTroubleOf, Leaves}
+use Rattle.bloom_parts.specs.declared.math.bracket.Bracket.{Bracket}
 use Rattle.guard_engine.specs.Loaded.{HasEntry, IsBadAt}
 use Rattle.guard_engine.proofs.AnswerFacts.{found-spared}
 use Rattle.guard_engine.proofs.BadLineFacts.{bad-first, bad-second, bytes}
@@ -93,17 +94,19 @@ answers-load : IsAnswerTo left load none one
 answers-load = (record { added = 1; taken = 0 }, counts 1 0 0, Some [], refl, stopped.all)
 
 -- a load isn't answered by the counts alone
-answers-load-counted : IsAnswerTo left load none one (answers.Counted (counts 1 0 0)) → ⊥
-answers-load-counted (loaded, told, rest, same, is) = let e = same in cc
+answers-load-counted : (rate : Bracket)
+    → IsAnswerTo left load none one (answers.Counted (counts 1 0 0) rate) → ⊥
+answers-load-counted rate (loaded, told, rest, same, is) = let e = same in cc
 
--- look-ups of many keys are answered by the counts
-answers-stats : IsAnswerTo left (tasks.Stats (Some [])) one one (answers.Counted (counts 0 0 0))
-answers-stats = (counts 0 0 0, refl, stays one)
+-- look-ups of many keys are answered by the counts and a rate
+answers-stats : (rate : Bracket)
+    → IsAnswerTo left (tasks.Stats (Some [])) one one (answers.Counted (counts 0 0 0) rate)
+answers-stats rate = (counts 0 0 0, rate, refl, stays one)
 
 -- look-ups change nothing
-answers-changed : IsAnswerTo left (tasks.Stats (Some [])) one none
-    (answers.Counted (counts 0 0 0)) → ⊥
-answers-changed (told, same, stay) = stays-less stay
+answers-changed : (rate : Bracket) → IsAnswerTo left (tasks.Stats (Some [])) one none
+    (answers.Counted (counts 0 0 0) rate) → ⊥
+answers-changed rate (told, other, same, stay) = stays-less stay
 
 -- ---- what an error leaves
 

@@ -17,9 +17,11 @@ use Rattle.guard_engine.specs.declared.guard.loads.Why.TheVariants.{Line}
 use Rattle.guard_engine.specs.declared.line.BadLine.{BadLine}
 use Rattle.guard_engine.specs.declared.task.Task.{Task}
 use Rattle.guard_engine.specs.declared.task.Task.TheVariants as tasks
+use Rattle.bloom_parts.specs.declared.math.bracket.Bracket.{Bracket}
 use Rattle.bloom_plain.specs.Data.{DefaultFilter}
 use Rattle.guard_engine.specs.Counted.{CountsDelete, CountsOnce, CountsPuts, TalliesAll, asked_once, counts_after}
 use Rattle.guard_engine.specs.Fills.{Fills, FillsFrom}
+use Rattle.guard_engine.specs.FilterRate.{IsRateOf}
 use Rattle.guard_engine.specs.Guarded.{Entries, Lacks, Loses, Stays}
 use Rattle.guard_engine.specs.Loaded.{HasEntry, IsBadAt, IsKey, LoadsAll, LoadsFirst}
 use Rattle.guard_engine.specs.Puts.{IsPut, added_by, taken_by}
@@ -53,7 +55,8 @@ module _ {R : Type 0} (remaining : R → Option (List ℕ)) where
       × (left : Option (List ℕ)) × (answer ≡ answers.Loaded loaded counts)
       × LoadsAll (remaining input) left old new loaded
   IsAnswerTo (tasks.Stats input) old new answer =
-      (counts : Counts) × (answer ≡ answers.Counted counts) × Stays old new
+      (counts : Counts) × (rate : Bracket) × (answer ≡ answers.Counted counts rate)
+      × Stays old new
 
   -- what an error leaves of a store: the first lines of a load were put, and else nothing changed
   abbrev pub Leaves : {E F : Type 0} → Task R → Entries → Entries → Trouble E F → Type 0
@@ -80,8 +83,9 @@ module _ {R : Type 0} (remaining : R → Option (List ℕ)) where
       → stop.why ≡ Line bad → IsBadAt IsKey 1048576 (remaining input) stop.number bad)
 
   -- from old to new the look-ups of the task were counted, and the answer tells the counts if it
-  -- tells any. What a filter lacks is spared, and where the store told what it has, the keys that
-  -- it was asked for and that have no value are the false alarms
+  -- tells any, and the rate of the filter as it is. What a filter lacks is spared, and where the
+  -- store told what it has, the keys that it was asked for and that have no value are the false
+  -- alarms
   abbrev pub CountsTask : DefaultFilter → Type 0 → Task R → Entries → Counts → Counts → Answer
       → Type 0
   CountsTask f is_told (tasks.Put key value) entries old new answer = (put : Put)
@@ -93,7 +97,8 @@ module _ {R : Type 0} (remaining : R → Option (List ℕ)) where
   CountsTask f is_told (tasks.Load input batch) entries old new answer = (loaded : Loaded)
       × (answer ≡ answers.Loaded loaded new) × CountsPuts old loaded.added loaded.taken new
   CountsTask f is_told (tasks.Stats input) entries old new answer =
-      (answer ≡ answers.Counted new) × ((left : Option (List ℕ))
+      ((rate : Bracket) × (answer ≡ answers.Counted new rate) × IsRateOf f rate)
+      × ((left : Option (List ℕ))
       × TalliesAll f is_told entries (remaining input) left old new)
 
   -- from old to new the look-ups of a task that failed were counted, up to where it failed

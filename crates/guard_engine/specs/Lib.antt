@@ -2,6 +2,7 @@ pub mod Answers
 pub mod Batches
 pub mod Counted
 pub mod Fills
+pub mod FilterRate
 pub mod Guarded
 pub mod Guarding
 pub mod Loaded

@@ -17,6 +17,8 @@ use Rattle.guard_engine.specs.declared.line.BadLine.{BadLine}
 use Rattle.guard_engine.specs.declared.line.BadLine.TheVariants.{NoTab, NotText, TooLong}
 use Rattle.guard_engine.specs.declared.told.Subject.{Subject}
 use Rattle.guard_engine.specs.declared.told.Subject.TheVariants as subjects
+use Rattle.bloom_parts.specs.Brackets.{low_of, high_of}
+use Rattle.guard_engine.specs.FilterRate.{rate_text}
 
 -- what look-ups came to
 abbrev pub counts_text : Counts → List ℕ
@@ -36,7 +38,8 @@ answer_text (answers.Deleted false) = codes "absent: nothing was deleted"
 answer_text (answers.Loaded loaded counts) =
     decimal loaded.added ++ (codes " added, " ++ (decimal loaded.taken ++ (codes " taken\n"
     ++ counts_text counts)))
-answer_text (answers.Counted counts) = counts_text counts
+answer_text (answers.Counted counts rate) =
+    counts_text counts ++ rate_text (low_of rate) (high_of rate)
 
 -- what is wrong with a line
 abbrev pub bad_text : BadLine → List ℕ

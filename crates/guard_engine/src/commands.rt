@@ -2,12 +2,16 @@
 ghost use Rattle.std.specs.Prelude.{◌≡◌, ◌↔◌, Ok, IfErr, IfOk, OnErr, IsTrue, Some};
 ghost use Rattle.std.specs.Fmt.{WritesOnOk};
 ghost use Rattle.guard_engine.specs.Answers.{CountsFailed, CountsTask, FillsTask, IsAbsence, IsAnswerTo, IsNo, IsTroubleOf, Leaves};
+ghost use Rattle.bloom_parts.specs.declared.math.bracket.Bracket.{Bracket};
+ghost use Rattle.guard_engine.specs.FilterRate.{IsRateOf};
 ghost use Rattle.guard_engine.specs.Told.{answer_text, counts_text};
 
 use crate::counts::Counts;
 use crate::guard::{Fault, Found, Guard, Loaded, Put, Stop};
+use crate::rates::write_rate;
 use crate::store::Store;
 use crate::task::Task;
+use bloom_parts::math::Bracket;
 use guard_parts::Kept;
 use std::alloc::Global;
 use std::fmt;
@@ -21,7 +25,8 @@ pub enum Answer {
     /// Whether the key had a value.
     Deleted(bool),
     Loaded(Loaded, Counts),
-    Counted(Counts),
+    /// What the look-ups came to, and the rate of false positives of the filter as it is.
+    Counted(Counts, Bracket),
 }
 
 /// Why a task wasn't carried out to its end.
@@ -47,7 +52,7 @@ impl Answer {
             Answer::Found(Found::FalseAlarm) => true,
             Answer::Deleted(had) => !*had,
             Answer::Loaded(_, _) => false,
-            Answer::Counted(_) => false,
+            Answer::Counted(_, _) => false,
         }
     }
 
@@ -61,8 +66,16 @@ impl Answer {
             Answer::Found(_) => self.is_absence(),
             Answer::Deleted(_) => self.is_absence(),
             Answer::Loaded(_, _) => false,
-            Answer::Counted(_) => false,
+            Answer::Counted(_, _) => false,
         }
+    }
+
+    /// What the look-ups of a guard came to so far, and the rate of its filter as it is.
+    pub fn counted<T: Store + Drop, K: Kept + Drop>(guard: &Guard<T, K>) -> Answer
+        ensures { (rate : Bracket) × (result ≡ Answer.Counted guard.now.counts rate)
+            × IsRateOf guard.now.filter rate }
+    {
+        Answer::Counted(guard.counts(), guard.rate())
     }
 }
 
@@ -99,7 +112,10 @@ impl fmt::Display for Answer {
                 write!(f, "{added} added, {taken} taken\n")?;
                 write_counts(counts, f)
             }
-            Answer::Counted(counts) => write_counts(counts, f),
+            Answer::Counted(counts, rate) => {
+                write_counts(counts, f)?;
+                write_rate(*rate, f)
+            }
         }
     }
 }
@@ -120,7 +136,7 @@ pub fn carry_out<T: Store + Drop, K: Kept + Drop, R: Read + Drop>(
         (T.sight guard.new.store).has) }
     // The store was asked nothing where it is told as spared.
     ensures spared { result ≡ Ok (Answer.Found Found.Spared) → guard.new.store ≡ guard.old.store }
-    // Each look-up counts once, and the counts that an answer tells are those of the guard.
+    // Each look-up counts once, and the counts and the rate that an answer tells are the guard's.
     ensures counts { IfOk result (CountsTask R.remaining guard.old.filter
         (T.is_known guard.new.store × K.is_known guard.new.kept) task.entry
         (T.sight guard.old.store).has guard.old.counts guard.new.counts) }
@@ -155,7 +171,7 @@ pub fn carry_out<T: Store + Drop, K: Kept + Drop, R: Read + Drop>(
             Err(stop) => Err(Trouble::Lines(stop)),
         },
         Task::Stats(mut input) => match guard.ask(alloc, &mut input) {
-            Ok(()) => Ok(Answer::Counted(guard.counts())),
+            Ok(()) => Ok(Answer::counted(guard)),
             Err(stop) => Err(Trouble::Lines(stop)),
         },
     }

@@ -9,6 +9,7 @@ use crate::counts::Counts;
 use crate::desk::{find, put_alone, remove_alone};
 use crate::keys::hash_of;
 use crate::store::Store;
+use bloom_parts::math::Bracket;
 use bloom_plain::{BloomFilter, FilterError};
 use guard_parts::Kept;
 pub use loads::{Loaded, Stop, Why};
@@ -94,11 +95,14 @@ impl Put {
 }
 
 impl<T: Store + Drop, K: Kept + Drop> Guard<T, K> {
+    ghost use Rattle.bloom_parts.specs.Content.{content};
+    ghost use Rattle.bloom_parts.specs.FalsePositives.{HoldsPositives};
     ghost use Rattle.bloom_plain.specs.Data.{AnswerAlike};
-    ghost use Rattle.bloom_plain.specs.Filter.{contains};
+    ghost use Rattle.bloom_plain.specs.Filter.{contains, num_bits_of};
     ghost use Rattle.guard_engine.specs.Puts.{IsPut};
     ghost use Rattle.guard_engine.specs.Counted.{CountsDelete, CountsOnce, CountsPuts, asked_once, counts_after, one_more};
     ghost use Rattle.guard_engine.specs.Fills.{Fills};
+    ghost use Rattle.guard_engine.specs.FilterRate.{IsRateOf};
     ghost use Rattle.guard_engine.specs.Guarding.{IsGuarding};
     ghost use Rattle.guard_engine.specs.Guarded.{IsSingle, Lacks, Loses, Stays, key_hash};
     ghost use Rattle.guard_engine.specs.Puts.{added_by, taken_by};
@@ -108,6 +112,16 @@ impl<T: Store + Drop, K: Kept + Drop> Guard<T, K> {
         ensures { result ≡ self.now.counts }
     {
         self.counts
+    }
+
+    /// Two bounds of the rate of false positives of the filter as it is: of the part of all
+    /// look-ups, each a draw of positions, that it answers with true.
+    pub fn rate(&self) -> Bracket
+        ensures holds { HoldsPositives result (num_bits_of self.now.filter)
+            self.now.filter.hashes (content self.now.filter.words) }
+        ensures ends { IsRateOf self.now.filter result }
+    {
+        self.filter.false_pos_now()
     }
 
     /// Looks a key up, in the store only where the filter may have it.

@@ -9,6 +9,7 @@ mod guard;
 mod keys;
 mod line;
 mod on_demand;
+mod rates;
 mod store;
 mod task;
 mod told;

@@ -1,4 +1,5 @@
 mod FileLemmas
+mod FindFacts
 mod FormFacts
 mod FormLemmas
 mod MoveLemmas

@@ -1,5 +1,5 @@
 -- The filters that may be found in a file, and what becomes of them while the file is replaced.
-use Rattle.std.specs.Prelude.{◌≡◌, ◌≢◌, ◌⊎◌, ◌≤◌, ℕ, ◌/◌, List, length, map, slice_index, Option, Some, None, not, ◌&&◌, nat_eq, nat_lt, if◌then◌else◌}
+use Rattle.std.specs.Prelude.{◌≡◌, ◌≢◌, ◌⊎◌, ◌≤◌, ℕ, ◌/◌, Bool, true, false, List, length, map, slice_index, Option, Some, None, not, ◌&&◌, nat_eq, nat_lt, if◌then◌else◌, ⊤}
 use Rattle.std.specs.Int.{w64, from_le_bytes}
 use Rattle.std.specs.Simd.{first_chunks}
 use Rattle.bloom_plain.specs.declared.file.error.FileError.{FileError}
@@ -7,6 +7,8 @@ use Rattle.bloom_plain.specs.declared.file.error.FileError.TheVariants.{Memory}
 use Rattle.bloom_plain.specs.Data.{DefaultFilter}
 use Rattle.bloom_plain.specs.File.{IsFileOf}
 use Rattle.bloom_plain.specs.FileRefusals.{file_refusal}
+use Rattle.guard_parts.specs.declared.filter_file.FilterFault.{FilterFault}
+use Rattle.guard_parts.specs.declared.filter_file.FilterFault.TheVariants as faults
 use Rattle.guard_parts.specs.declared.filter_file.FormFault.{FormFault}
 use Rattle.guard_parts.specs.declared.filter_file.FormFault.TheVariants.{Form, NoSeal, OtherKey, ManyHashes}
 use Rattle.guard_parts.specs.declared.folder.Name.TheVariants.{Standing}
@@ -42,6 +44,27 @@ abbrev pub IsRefusedFor : List ℕ → Option FormFault → Type 0
 IsRefusedFor bytes fault =
     (fault ≡ form_refusal bytes (file_refusal bytes))
     ⊎ ((fault ≡ Some (Form Memory)) × (file_refusal bytes ≡ None))
+
+-- what is found by a name with this content: no filter where there is no file, and that of a file
+-- that isn't another store's
+abbrev pub IsFoundIn : Bool → Content → Option DefaultFilter → Type 0
+IsFoundIn is_of_another None found = found ≡ None
+IsFoundIn is_of_another (Some bytes) None = ⊥
+IsFoundIn is_of_another (Some bytes) (Some filter) =
+    (is_of_another ≡ false) × IsSealedFile bytes filter
+
+-- why nothing is found by a name with this content. A read that failed says nothing of it. A file
+-- that is another store's is told as that, whatever its bytes are, and any other as why its bytes
+-- aren't taken; where there is no file, neither is told
+abbrev pub IsFaultIn : {E : Type 0} → Bool → Content → FilterFault E → Type 0
+IsFaultIn is_of_another content (faults.Unread error) = ⊤
+IsFaultIn is_of_another None faults.OtherStore = ⊥
+IsFaultIn is_of_another (Some bytes) faults.OtherStore = is_of_another ≡ true
+IsFaultIn is_of_another None (faults.Refused fault) = ⊥
+IsFaultIn is_of_another (Some bytes) (faults.Refused fault) =
+    (is_of_another ≡ false) × IsRefusedFor bytes (Some fault)
+IsFaultIn is_of_another content (faults.Unsaved error) = ⊥
+IsFaultIn is_of_another content faults.Memory = ⊥
 
 -- bytes may be found by the file's name that are a sealed file of the filter
 pub record MayHave (s : Sight) (filter : DefaultFilter) : Type 0 where

@@ -1,7 +1,8 @@
 //! A filter that is kept in a file.
-ghost use Rattle.std.specs.Prelude.{◌≡◌, ◌⊎◌, Some, IfOk, OnOk};
+ghost use Rattle.std.specs.Prelude.{◌≡◌, ◌⊎◌, ◌≤◌, ℕ, None, Some, IfErr, IfOk, IfSome, OnOk};
 ghost use Rattle.std.specs.Result.{result_err};
-ghost use Rattle.guard_parts.specs.Filters.{IsRefusedFor, IsSealedFile, Passes, Replaces, number_in};
+ghost use Rattle.bloom_plain.specs.Data.{DefaultFilter};
+ghost use Rattle.guard_parts.specs.Filters.{HadSince, IsFaultIn, IsFoundIn, IsRefusedFor, IsSealedFile, MayHave, MayLack, Passes, Replaces, number_in};
 ghost use Rattle.guard_parts.specs.Folders.{Content};
 ghost use Rattle.guard_parts.specs.declared.folder.Name.TheVariants.{Standing, New};
 
@@ -78,7 +79,7 @@ impl<E: Display> Display for FilterFault<E> {
 }
 
 impl<D: Folder + Drop> FilterFile<D> {
-    /// The file of a folder. A file that is there is refused if it is that of another store.
+    /// The file of a folder. If it is another store's, a file that is there is refused.
     pub fn new(alloc: Global, folder: D, is_of_another: bool) -> Self
         ensures { result.folder ≡ folder }
     {
@@ -175,8 +176,6 @@ fn replace_or_clear<D: Folder>(folder: &mut D, bytes: &[u8]) -> Result<(), D::Er
 }
 
 impl<D: Folder + Drop> Kept for FilterFile<D> {
-    ghost use Rattle.guard_parts.specs.Filters.{HadSince, MayHave, MayLack};
-
     ghost may_have = { λ it. MayHave (D.Folder.sight it.folder) };
 
     ghost may_lack = { λ it. MayLack (D.Folder.sight it.folder) };
@@ -201,16 +200,42 @@ impl<D: Folder + Drop> Kept for FilterFile<D> {
 
     type Error = FilterFault<D::Error>;
 
-    fn load(&mut self) -> Result<Option<BloomFilter>, FilterFault<D::Error>> {
-        if self.is_of_another {
-            return Err(FilterFault::OtherStore);
-        }
+    fn load(&mut self) -> Result<Option<BloomFilter>, FilterFault<D::Error>>
+        ensures known { D.is_known self.new.folder → D.is_known self.old.folder }
+        ensures found { D.is_known self.new.folder → IfOk result (λ found.
+            IfSome found (MayHave (D.sight self.old.folder))) }
+        ensures lacks { D.is_known self.new.folder → IfOk result (λ found.
+            found ≡ None → MayLack (D.sight self.old.folder)) }
+        ensures stays { D.is_known self.new.folder → (filter : DefaultFilter)
+            → MayHave (D.sight self.new.folder) filter
+            → MayHave (D.sight self.old.folder) filter }
+        ensures gone { D.is_known self.new.folder → MayLack (D.sight self.new.folder)
+            → MayLack (D.sight self.old.folder) }
+        ensures time { D.is_known self.new.folder
+            → (D.sight self.old.folder).moment ≤ (D.sight self.new.folder).moment }
+        ensures crash { D.is_known self.new.folder → (since : ℕ) (filter : DefaultFilter)
+            → since ≤ (D.sight self.old.folder).moment
+            → HadSince (D.sight self.new.folder) since filter
+            → HadSince (D.sight self.old.folder) since filter }
+        // No filter is found just where there is no file, also where a file that is there would be
+        // another store's.
+        ensures taken { D.is_known self.new.folder → IfOk result
+            (IsFoundIn self.old.is_of_another ((D.sight self.old.folder).now Standing)) }
+        ensures fault { D.is_known self.new.folder → IfErr result
+            (IsFaultIn self.old.is_of_another ((D.sight self.old.folder).now Standing)) }
+        ensures same { self.new.is_of_another ≡ self.old.is_of_another }
+    {
         match self.folder.read(Name::Standing) {
             Ok(None) => Ok(None),
-            Ok(Some(bytes)) => match filter_of(self.alloc, &bytes) {
-                Ok(filter) => Ok(Some(filter)),
-                Err(fault) => Err(FilterFault::Refused(fault)),
-            },
+            Ok(Some(bytes)) => {
+                if self.is_of_another {
+                    return Err(FilterFault::OtherStore);
+                }
+                match filter_of(self.alloc, &bytes) {
+                    Ok(filter) => Ok(Some(filter)),
+                    Err(fault) => Err(FilterFault::Refused(fault)),
+                }
+            }
             Err(error) => Err(FilterFault::Unread(error)),
         }
     }

@@ -16,6 +16,8 @@ macro_rules! scene {
 #[cfg(test)]
 mod answers;
 #[cfg(test)]
+mod blocked;
+#[cfg(test)]
 mod concrete;
 #[cfg(test)]
 mod drawn;

@@ -1,0 +1,111 @@
+-- Bit sets of one word, and of a word after the other.
+use Rattle.std.proofs.Common.{◌≢◌, eqb, length-drop, ◌≡◌, ◌<◌, ◌+◌, ◌*◌, ◌/◌, ◌%◌, ◌^◌, ℕ, Bool, true, false, ◌||◌, ◌&&◌, ◌==◌, if◌then◌else◌, List, length, set, get_or, bit_or, bit_and, nat_lt, take, drop, slice_index, [], ◌∷◌, ◌≤◌, refl, sym, ◌∙◌, ap, arith, inl, inr, lit<}
+use Rattle.std.proofs.lemmas.Bool.{cases_eq, cases_lt, lt-ltb, le-ltb, eq-eqb, ne_eqb}
+use Rattle.std.proofs.Math.Arith.{lt_of_le-ne}
+use Rattle.std.proofs.lemmas.List.{get_or-set_same, get_or-set_other, get_or-take, get_or-drop, length-take-le}
+use Rattle.std.proofs.Math.Bool.{or-false, and-true, and-false}
+use Rattle.std.specs.Int.Bits.{or_zero_r}
+use Rattle.std.specs.Int.{bit_at}
+use Rattle.bloom_parts.specs.Content.{bit_is_on, content}
+use Rattle.bloom_parts.proofs.PublishedLemmas.{content-set}
+
+-- a bit of a word that is set where it is to be, and the others
+pub word-where : (word i : ℕ) (on : Bool) (mask : ℕ) → i < 64
+    → mask ≡ (if on then 2 ^ i else 0) → (p : ℕ)
+    → content (bit_or word mask ∷ []) p ≡ (content (word ∷ []) p || p == i && on)
+word-where word i true mask within is p =
+    let small : i % 64 ≡ i = omega (arith, within) in
+    content-set (word ∷ []) (word ∷ []) refl 0 mask word i (omega (arith, within))
+    (is ∙ ap (λ j. 2 ^ j) (sym small)) refl (lit< tt) p
+    ∙ ap (λ b. content (word ∷ []) p || b) (sym (and-true (p == i)))
+word-where word i false mask within is p =
+    ap (λ w. content (w ∷ []) p) (ap (bit_or word) is ∙ or_zero_r word)
+    ∙ sym (or-false (content (word ∷ []) p))
+    ∙ ap (λ b. content (word ∷ []) p || b) (sym (and-false (p == i)))
+
+-- a set of bits below one number, with that number's own bit, is that below the next
+pub bits-next : (F : ℕ → Bool) (old new : ℕ → Bool) (i : ℕ)
+    → ((p : ℕ) → old p ≡ (nat_lt p i && F p))
+    → ((p : ℕ) → new p ≡ (old p || p == i && F i))
+    → (p : ℕ) → new p ≡ (nat_lt p (i + 1) && F p)
+bits-next F old new i before step p =
+    step p ∙ ap (λ b. b || p == i && F i) (before p) ∙ elim (cases_lt p i) [
+      | inl earlier ↦
+          rw (
+            lt-ltb p i earlier,
+            lt-ltb p (i + 1) (omega (arith, earlier)),
+            ne_eqb p i (λ e. omega (arith, e, earlier)),
+          ) (or-false (F p))
+      | inr late ↦ elim (cases_eq p i) [
+        | inl here ↦
+            rw (le-ltb p i late, lt-ltb p (i + 1) (omega (arith, here)), eq-eqb p i here)
+            (ap F (sym here))
+        | inr apart ↦
+            let past : i + 1 ≤ p = omega (arith, lt_of_le-ne late (λ e. apart (sym e))) in
+            rw (le-ltb p i late, le-ltb p (i + 1) past, ne_eqb p i apart) refl
+      ]
+    ]
+
+-- whether a bit is set in a word that stands in a bit set by itself
+word-alone : (v q : ℕ) → q < 64 → content (v ∷ []) q ≡ bit_is_on v q
+unfolding content
+word-alone v q small =
+    let first : q / 64 ≡ 0 = omega (arith, small) in
+    rw (first) refl
+
+-- the bits of a word that is set
+set-here : (words : List ℕ) (turn v p : ℕ) → turn < length words → p / 64 ≡ turn
+    → content (set words turn v) p ≡ content (v ∷ []) (p % 64)
+unfolding content
+set-here words turn v p within here =
+    let bit : p % 64 % 64 ≡ p % 64 = omega arith in
+    ap (λ w. bit_is_on w p)
+    (ap (λ j. get_or (set words turn v) j 0) here ∙ get_or-set_same words turn v 0 within)
+    ∙ ap (λ j. eqb (bit_at v j) 1) (sym bit)
+    ∙ sym (word-alone v (p % 64) (omega arith))
+
+-- the bits of the others
+set-others : (words : List ℕ) (turn v p : ℕ) → p / 64 ≢ turn
+    → content (set words turn v) p ≡ content words p
+unfolding content
+set-others words turn v p apart =
+    ap (λ w. bit_is_on w p) (get_or-set_other words turn (p / 64) v 0 apart)
+
+-- one more word of bits
+pub bits-word : (F : ℕ → Bool) (count : ℕ) (words : List ℕ) (turn n v : ℕ) → turn < length words
+    → 64 * turn + n ≤ count → (n < 64 → 64 * turn + n ≡ count) → n ≤ 64
+    → ((p : ℕ) → content words p ≡ (nat_lt p (64 * turn) && (nat_lt p count && F p)))
+    → ((q : ℕ) → content (v ∷ []) q ≡ (nat_lt q n && F (64 * turn + q)))
+    → (p : ℕ) → content (set words turn v) p
+    ≡ (nat_lt p (64 * (turn + 1)) && (nat_lt p count && F p))
+bits-word F count words turn n v within fits last most before word p =
+    let at = 64 * turn in
+    elim (cases_eq (p / 64) turn) [
+      | inl here ↦
+          let q = p % 64 in
+          set-here words turn v p within here ∙ word q ∙ elim (cases_lt q n) [
+            | inl small ↦
+                let same : at + q ≡ p = omega (arith, here) in
+                rw (
+                  lt-ltb q n small,
+                  lt-ltb p (64 * (turn + 1)) (omega (arith, here)),
+                  lt-ltb p count (omega (arith, here, small, fits)),
+                ) (ap F same)
+            | inr large ↦
+                let end : at + n ≡ count = last (omega (arith, large)) in
+                rw (
+                  le-ltb q n large,
+                  lt-ltb p (64 * (turn + 1)) (omega (arith, here)),
+                  le-ltb p count (omega (arith, here, large, end)),
+                ) refl
+          ]
+      | inr apart ↦
+          set-others words turn v p apart ∙ before p ∙ elim (cases_lt p at) [
+            | inl below ↦
+                rw (lt-ltb p at below, lt-ltb p (64 * (turn + 1)) (omega (arith, below))) refl
+            | inr past ↦
+                let beyond : turn + 1 ≤ p / 64 =
+                omega (arith, lt_of_le-ne (omega (arith, past)) (λ e. apart (sym e))) in
+                rw (le-ltb p at past, le-ltb p (64 * (turn + 1)) (omega (arith, beyond))) refl
+          ]
+    ]

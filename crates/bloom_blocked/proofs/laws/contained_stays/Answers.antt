@@ -1,0 +1,11 @@
+use Rattle.bloom_blocked.proofs.LawLemmas.{kept_by_insert_law, kept_by_inserts_law, kept_by_union_law}
+use Rattle.bloom_blocked.proofs.laws.contained_stays.Goals as goal
+
+pub returns-clause-insert : goal.returns-clause-insert
+returns-clause-insert g c = kept_by_insert_law _
+
+pub returns-clause-inserts : goal.returns-clause-inserts
+returns-clause-inserts g c = kept_by_inserts_law _
+
+pub returns-clause-union : goal.returns-clause-union
+returns-clause-union g c = kept_by_union_law _

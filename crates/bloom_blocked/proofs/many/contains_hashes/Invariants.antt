@@ -1,0 +1,13 @@
+use Rattle.std.proofs.Common.{◌≡◌, ◌*◌, ◌/◌, ◌&&◌, ℕ, length, nat_lt, slice_index}
+use Rattle.bloom_parts.specs.Content.{content}
+use Rattle.bloom_blocked.specs.Lines.{are_in_line}
+use Rattle.bloom_blocked.proofs.many.contains_hashes.Given as goal
+
+-- the words so far tell whether their hashes are contained, and no other bit is on
+abbrev pub invariant-turns : goal.invariant-turns
+invariant-turns l = record {
+  bits : (p : ℕ) → content l.found p ≡ (nat_lt p (64 * l.turn) && (nat_lt p (length l.hashes)
+      && are_in_line (length l.words / 8) l.num_hashes (slice_index l.hashes p)
+      (content l.words)));
+  shape : length l.found ≡ length l.fn.found;
+}

@@ -1,0 +1,12 @@
+use Rattle.std.proofs.Common.{◌≡◌, ◌/◌, ◌&&◌, ◌∷◌, [], ℕ, length, nat_lt, slice_index}
+use Rattle.bloom_parts.specs.Content.{content}
+use Rattle.bloom_blocked.specs.Lines.{are_in_line}
+use Rattle.bloom_blocked.proofs.many.found_bits.Given as goal
+
+-- the bits of the hashes so far tell whether these are contained, and no other is on
+abbrev pub invariant-looks : goal.invariant-looks
+invariant-looks l = record {
+  bits : (p : ℕ) → content (l.found ∷ []) p ≡ (nat_lt p l.hash-index
+      && are_in_line (length l.words / 8) l.num_hashes (slice_index l.hashes p) (content l.words));
+  at : l.i ≡ l.hash-index;
+}

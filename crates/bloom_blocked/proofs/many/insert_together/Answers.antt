@@ -1,0 +1,28 @@
+use Rattle.std.proofs.Common.{◌≡◌, ◌+◌, ◌*◌, ◌/◌, length, ◌∙◌, arith}
+use Rattle.std.proofs.Math.Seq.{take-length}
+use Rattle.bloom_parts.specs.Content.{content}
+use Rattle.bloom_blocked.proofs.ManyLemmas.{many-stretch}
+use Rattle.bloom_blocked.proofs.many.insert_together.Goals as goal
+
+pub turns-preserved : goal.turns-preserved
+turns-preserved c =
+    let at = 64 * c.turns.turn in
+    let next : 64 * (c.turns.turn + 1) ≡ at + 64 = omega arith in
+    record {
+      content = rw (next)
+          (many-stretch _ _ (content c.args.words.now) (content c.turns.words) _
+          c.args.hashes.now at (at + 64) (omega arith) c.turns.invariant.content
+          (rw (← c.turns.invariant.shape) c.insert_unless_full.ensures.content));
+      shape = c.insert_unless_full.ensures.shape ∙ c.turns.invariant.shape;
+    }
+
+pub returns-clause-content : goal.returns-clause-content
+returns-clause-content c =
+    let hashes = c.args.hashes.now in
+    let all : c.turns.turn ≡ length hashes / 64 = omega arith in
+    let whole = many-stretch (length c.args.words.now / 8) c.args.num_hashes
+    (content c.args.words.now) (content c.turns.words) _ hashes
+    (64 * (length hashes / 64)) (length hashes) (omega arith)
+    (rw (all) at c.turns.invariant.content)
+    (rw (c.turns.invariant.shape) at c.insert_unless_full-2.ensures.content) in
+    rw (take-length hashes) at whole

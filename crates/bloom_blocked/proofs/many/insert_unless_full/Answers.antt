@@ -1,0 +1,9 @@
+use Rattle.std.proofs.Common.{◌/◌, length, sym, ◌∙◌}
+use Rattle.bloom_parts.specs.Content.{content}
+use Rattle.bloom_blocked.proofs.ManyLemmas.{many-contained}
+use Rattle.bloom_blocked.proofs.many.insert_unless_full.Goals as goal
+
+pub returns-then-all_are_set-clause-content : goal.returns-then-all_are_set-clause-content
+returns-then-all_are_set-clause-content c = λ p.
+    many-contained (length c.args.words.now / 8) c.args.num_hashes (content c.args.words.now) p
+    c.args.hashes.now (sym c.all_are_set.ensures ∙ c.if-all_are_set.true)

@@ -1,0 +1,38 @@
+use Rattle.std.proofs.Common.{◌≡◌, ◌≤◌, ◌*◌, ◌/◌, ◌+◌, length, min, arith, rules}
+use Rattle.std.proofs.Math.Seq.{take-length}
+use Rattle.bloom_parts.specs.Content.{content}
+use Rattle.bloom_blocked.proofs.ManyLemmas.{many-stretch}
+use Rattle.bloom_blocked.proofs.TellLemmas.{told-turn}
+use Rattle.bloom_blocked.proofs.many.telling.insert_hashes_tell_new.Goals as goal
+
+pub turns-preserved : goal.turns-preserved
+turns-preserved c =
+    let hashes = c.args.hashes.now in
+    let at = 64 * c.turns.turn in
+    let end = c.min-end.result in
+    let turns = c.div_ceil-turns.ensures in
+    let early = c.turns-test.true in
+    let ended : end ≡ min (length hashes) (at + 64) = c.min-end.ensures in
+    let next : min (length hashes) (64 * (c.turns.turn + 1)) ≡ end = omega (arith, ended) in
+    let more : at ≤ length hashes = omega (arith, early, turns) in
+    let first : min (length hashes) at ≡ at = omega (arith, more) in
+    let before = rw (first) at c.turns.invariant.content in
+    let did = rw (c.turns.invariant.words_shape) at c.insert_word_telling.ensures in
+    let shape = c.turns.invariant.fresh_shape in
+    record {
+      bits = told-turn hashes c.turns.fresh c.turns.turn end _ _ _ _
+          (omega (arith, shape, c.requires.room, early, turns)) ended more
+          (content c.turns.words) c.turns.invariant.bits before did.fresh;
+      content = rw (next)
+          (many-stretch _ _ _ (content c.turns.words) _ hashes at end
+          (omega (arith, ended, more)) before did.content);
+      words_shape = did.shape;
+      fresh_shape = search rules;
+    }
+
+pub returns-clause-content : goal.returns-clause-content
+returns-clause-content c =
+    let hashes = c.args.hashes.now in
+    let all : min (length hashes) (64 * c.turns.turn) ≡ length hashes =
+    omega (arith, c.turns-test.false, c.div_ceil-turns.ensures) in
+    rw (take-length hashes) at (rw (all) at c.turns.invariant.content)

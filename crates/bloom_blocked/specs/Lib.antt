@@ -1,0 +1,10 @@
+pub mod Blocked
+pub mod BlockedData
+pub mod BlockedLaws
+pub mod BlockedSizing
+pub mod Keeping
+pub mod LineRefusals
+pub mod LineSteps
+pub mod Lines
+pub mod Many
+pub mod SharedBlocked

@@ -1,0 +1,132 @@
+//! The calls that take items. Each is the call of the item's source hash.
+ghost use Rattle.std.specs.Prelude.{◌≡◌, ◌<◌, ℕ, List, IsTrue};
+ghost use Rattle.arrayvec.specs.ArrayVec.{array_vec_len};
+ghost use Rattle.std.specs.Iterator.{IsFiniteIterable};
+ghost use Rattle.std.specs.Iterator.Runs.{WholeRun};
+ghost use Rattle.std.specs.List.{concat};
+ghost use Rattle.bloom_plain.specs.SourceHash.{source_hash_of, lent_hash_of, IsFunctionOfBytes};
+ghost use Rattle.bloom_blocked.specs.Blocked.{contains_in_line, InsertsInLine, InsertsItemsInLines, QueuesInLines};
+
+use super::BlockedBloomFilter;
+use crate::many::{MANY_WORDS, TOGETHER};
+use arrayvec::ArrayVec;
+use std::hash::{BuildHasher, Hash, Hasher};
+
+impl<S> BlockedBloomFilter<S> {
+    // Whether many hashes are taken together.
+    fn is_large(&self) -> bool {
+        self.words.len() >= MANY_WORDS
+    }
+
+    // Lets a hash wait, and inserts all that wait once they are 64.
+    #[inline(always)]
+    fn insert_later(&mut self, waiting: &mut ArrayVec<u64, TOGETHER>, hash: u64)
+        requires { array_vec_len waiting.old < 64 }
+        ensures queues { QueuesInLines self.old waiting.old.items hash
+            self.new waiting.new.items }
+        ensures room { array_vec_len waiting.new < 64 }
+    {
+        waiting.push(hash);
+        if waiting.is_full() {
+            self.insert_hashes(waiting);
+            waiting.clear();
+        }
+    }
+}
+
+impl<S: BuildHasher> BlockedBloomFilter<S> {
+    /// The source hash of an item: the answer of a fresh hasher to which the item was hashed.
+    #[inline]
+    pub fn source_hash<T: Hash>(&self, val: &T) -> u64
+        ensures hash { result
+            ≡ source_hash_of S.BuildHasher S.Hasher.Hasher T.hash_input self.now.hasher val.now }
+        // A hasher that answers by a function of the bytes gives that function of the item's bytes.
+        ensures bytes { (f : List ℕ → ℕ)
+            → IsFunctionOfBytes S.Hasher.Hasher (S.build_hasher self.now.hasher) f
+            → result ≡ f (concat (T.hash_input val.now)) }
+        // An equal item has the same source hash.
+        ensures alike { (other : T) → IsTrue (T.eq val.now other) → result
+            ≡ source_hash_of S.BuildHasher S.Hasher.Hasher T.hash_input self.now.hasher other }
+    {
+        let mut state = self.hasher.build_hasher();
+        val.hash(&mut state);
+        state.finish()
+    }
+
+    /// Sets all positions of an item's source hash, and returns whether all were set before.
+    #[inline]
+    pub fn insert<T: Hash>(&mut self, val: &T) -> bool
+        ensures inserts { let hash = source_hash_of S.BuildHasher S.Hasher.Hasher T.hash_input in
+            InsertsInLine self.old (hash self.old.hasher val.now) self.new result }
+        // An equal item would have been inserted alike.
+        ensures alike { let hash = source_hash_of S.BuildHasher S.Hasher.Hasher T.hash_input in
+            (other : T) → IsTrue (T.eq val.now other)
+            → InsertsInLine self.old (hash self.old.hasher other) self.new result }
+    {
+        let hash = self.source_hash(val);
+        self.insert_hash(hash)
+    }
+
+    /// Whether all positions of an item's source hash are set: false means that it was never
+    /// inserted.
+    #[inline]
+    pub fn contains<T: Hash>(&self, val: &T) -> bool
+        ensures found { let hash = source_hash_of S.BuildHasher S.Hasher.Hasher T.hash_input in
+            result ≡ contains_in_line self.now (hash self.now.hasher val.now) }
+        // An equal item is found alike.
+        ensures alike { let hash = source_hash_of S.BuildHasher S.Hasher.Hasher T.hash_input in
+            (other : T) → IsTrue (T.eq val.now other)
+            → result ≡ contains_in_line self.now (hash self.now.hasher other) }
+    {
+        self.contains_hash(self.source_hash(val))
+    }
+
+    /// Inserts every item that an iterator lends, in order.
+    pub fn insert_all<'a, T: Hash + 'a, I: IntoIterator<Item = &'a T>>(&mut self, iter: I)
+        // The iterator ends.
+        requires { IsFiniteIterable
+            I.into_iter_gives I.IntoIter.can_next I.IntoIter.remaining iter }
+        ensures { (it : I.IntoIter) × I.into_iter_gives iter it
+            × WholeRun I.IntoIter.next_gives it (λ run.
+            InsertsItemsInLines (lent_hash_of S.BuildHasher S.Hasher.Hasher T.hash_input)
+            self.old run.items self.new) }
+    {
+        self.extend(iter);
+    }
+
+    /// Inserts every item that an iterator gives, in order.
+    pub fn extend<T: Hash + Drop, I: IntoIterator<Item = T>>(&mut self, iter: I)
+        // The iterator ends.
+        requires { IsFiniteIterable
+            I.into_iter_gives I.IntoIter.can_next I.IntoIter.remaining iter }
+        ensures { (it : I.IntoIter) × I.into_iter_gives iter it
+            × WholeRun I.IntoIter.next_gives it (λ run.
+            InsertsItemsInLines (source_hash_of S.BuildHasher S.Hasher.Hasher T.hash_input)
+            self.old run.items self.new) }
+    {
+        if self.is_large() {
+            self.insert_items_together(iter);
+            return;
+        }
+        'given: for item in iter {
+            self.insert(&item);
+        }
+    }
+
+    // Inserts every item that an iterator gives, in order, 64 at a time.
+    fn insert_items_together<T: Hash + Drop, I: IntoIterator<Item = T>>(&mut self, iter: I)
+        requires { IsFiniteIterable
+            I.into_iter_gives I.IntoIter.can_next I.IntoIter.remaining iter }
+        ensures { (it : I.IntoIter) × I.into_iter_gives iter it
+            × WholeRun I.IntoIter.next_gives it (λ run.
+            InsertsItemsInLines (source_hash_of S.BuildHasher S.Hasher.Hasher T.hash_input)
+            self.old run.items self.new) }
+    {
+        let mut waiting = ArrayVec::<u64, TOGETHER>::new();
+        'given: for item in iter {
+            let hash = self.source_hash(&item);
+            self.insert_later(&mut waiting, hash);
+        }
+        self.insert_hashes(&waiting);
+    }
+}

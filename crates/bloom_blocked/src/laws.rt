@@ -1,0 +1,54 @@
+//! Laws of blocked filters. These functions do nothing: their contracts are the laws.
+ghost use Rattle.bloom_blocked.specs.BlockedData.{LineDataLaw};
+ghost use Rattle.bloom_blocked.specs.BlockedLaws.{InsertInLineLaw, KeptByInsertInLineLaw, KeptByInsertsInLinesLaw, KeptByUnionOfLinesLaw, UnionOfLinesLaw, IntersectionOfLinesLaw, ClearOfLinesLaw, OneByOneLaw};
+ghost use Rattle.bloom_blocked.specs.Lines.{LinePositionsLaw, LineSubsetLaw, LineRangeLaw, OneLineLaw};
+
+/// The positions of a hash are its places, all in one line, and within the lines.
+pub fn positions_of_hash()
+    ensures members { LinePositionsLaw }
+    ensures range { LineRangeLaw }
+    ensures line { OneLineLaw }
+{}
+
+/// The test of a hash is whether its positions are a part of the set.
+pub fn test_of_hash()
+    ensures { LineSubsetLaw }
+{}
+
+/// An insert answers what a look-up would have, and afterwards its hash is contained.
+pub fn insert_answers_contains<S>()
+    ensures { InsertInLineLaw S }
+{}
+
+/// A contained hash stays contained under inserts and unions.
+pub fn contained_stays<S>()
+    ensures insert { KeptByInsertInLineLaw S }
+    ensures inserts { KeptByInsertsInLinesLaw S }
+    ensures union { KeptByUnionOfLinesLaw S }
+{}
+
+/// After a union every hash is contained that either filter contained. Other hashes may be too.
+pub fn union_contains<S>()
+    ensures { UnionOfLinesLaw S }
+{}
+
+/// After an intersection exactly the hashes are contained that both filters contained.
+pub fn intersection_contains<S>()
+    ensures { IntersectionOfLinesLaw S }
+{}
+
+/// After a clear no hash is contained.
+pub fn clear_contains_nothing<S>()
+    ensures { ClearOfLinesLaw S }
+{}
+
+/// Many hashes inserted at once make the filter that inserts of each, one after the other, make.
+pub fn many_are_as_one_by_one<S>()
+    ensures { OneByOneLaw S }
+{}
+
+/// A filter that is made of another's data has its words, number of hashes and key, and answers
+/// every hash alike.
+pub fn data_answer_alike()
+    ensures { LineDataLaw }
+{}

@@ -1,0 +1,173 @@
+//! The blocked Bloom filter that threads share, and change without waiting for one another.
+ghost use Rattle.std.specs.Prelude.{◌≡◌, ◌%◌, ◌*◌, ◌^◌, ◌<◌, ◌≤◌, All, IfOk, IsOkUnless, length};
+ghost use Rattle.bloom_blocked.specs.SharedBlocked.{BeganAsLines, MakesCallOnLines, MakesInsertInLine, MakesLookUpInLine, WasInsertedInLine};
+
+mod items;
+mod keeping_store;
+mod line;
+mod sets;
+mod span_store;
+
+use crate::filter::BlockedBloomFilter;
+use crate::many::{MANY_WORDS, TOGETHER};
+use crate::words::{LINE, line_start};
+use bloom_parts::bit_vector::{AtomicBitVec, LentWords};
+use bloom_parts::error::FilterError;
+use bloom_parts::hasher::DefaultHasher;
+use bloom_steps::{Call, drive};
+use line::{looks_in_line, set_in_line};
+use span_store::SpanStore;
+use std::alloc::Global;
+use std::marker::Model;
+
+/// A blocked Bloom filter that threads share: each call takes `&self`, and none waits for another.
+///
+/// Contracts see the vector of its words, its number of hashes and its hasher. Each call is made of
+/// atomic operations on single words, so calls of several threads may come between one another's.
+#[derive(Debug, Drop)]
+pub struct AtomicBlockedBloomFilter<S = DefaultHasher> {
+    words: AtomicBitVec,
+    num_hashes: u32,
+    hasher: S,
+}
+
+impl<S> Model for AtomicBlockedBloomFilter<S> {
+    ghost use Rattle.std.specs.Prelude.{◌≡◌, ◌≤◌, ◌<◌, ◌^◌, ◌%◌};
+    ghost use Rattle.bloom_blocked.specs.SharedBlocked.{SharedBlockedFilter};
+
+    ghost Value = { SharedBlockedFilter S };
+
+    ghost view = { λ f. record { words = f.words; hashes = f.num_hashes; hasher = f.hasher } };
+
+    ghost invariant = { λ f. (8 ≤ f.words.count) × (f.words.count % 8 ≡ 0)
+        × (1 ≤ f.num_hashes) × (f.num_hashes < 2 ^ 32) };
+}
+
+// Loads the first and the last word of the line of each of these hashes. Nothing depends on what
+// they hold, so no load waits for another.
+#[inline(always)]
+fn touch_lines(words: &LentWords<'_>, hashes: &[u64])
+    requires { 8 ≤ words.now.count }
+{
+    'touches: for hash in hashes {
+        let at = line_start(words.len(), *hash);
+        words.load(at);
+        words.load(at + (LINE - 1));
+    }
+}
+
+impl<S: Drop> AtomicBlockedBloomFilter<S> {
+    /// The shared filter that begins with the words of a plain one, and has its number of hashes
+    /// and its hasher.
+    ///
+    /// # Errors
+    /// `Memory` where there is no room for the words that threads share.
+    pub fn from_plain(alloc: Global, plain: BlockedBloomFilter<S>) -> Result<Self, FilterError>
+        ensures form { IfOk result (λ filter. BeganAsLines filter plain) }
+        ensures refused { IsOkUnless result FilterError.Memory }
+    {
+        let words = AtomicBitVec::from_words(alloc, plain.as_slice().iter().copied())?;
+        let (num_hashes, hasher) = plain.into_hashes_and_hasher();
+        Ok(AtomicBlockedBloomFilter {
+            words,
+            num_hashes,
+            hasher,
+        })
+    }
+}
+
+impl<S> AtomicBlockedBloomFilter<S> {
+    /// The number of hashes, and so of positions of each hash, which may coincide.
+    pub fn num_hashes(&self) -> u32
+        ensures value { result ≡ self.now.hashes }
+        ensures least { 1 ≤ result }
+    {
+        self.num_hashes
+    }
+
+    /// The number of bits, 512 for each line.
+    pub fn num_bits(&self) -> usize
+        ensures value { result ≡ 64 * self.now.words.count }
+        ensures least { 512 ≤ result }
+    {
+        self.words.num_bits()
+    }
+
+    /// What builds the hashers of items, which no call changes.
+    pub fn hasher(&self) -> &S
+        ensures value { result.now ≡ self.now.hasher }
+    {
+        &self.hasher
+    }
+
+    // Makes all steps of a call on all words, in order.
+    #[inline(always)]
+    fn make(&self, other: &Self, call: Call) -> Option<bool>
+        requires { other.now.words.count ≡ self.now.words.count }
+        ensures made { MakesCallOnLines self.now other.now call result }
+    {
+        let mut store = SpanStore::whole(&self.words, &other.words);
+        drive(&mut store, call, self.num_hashes)
+    }
+
+    /// Sets all positions of a hash, and returns whether its own steps found all of them set
+    /// already. So it returns false exactly if it set a bit itself. It makes one step for each word
+    /// that has positions.
+    #[inline(always)]
+    pub fn insert_hash(&self, hash: u64) -> bool
+        ensures { MakesInsertInLine self.now hash result }
+    {
+        set_in_line(&self.words.lent(), self.num_hashes.max(1), hash)
+    }
+
+    /// Whether all positions of a hash were found set, one after the other.
+    ///
+    /// Its steps stop at the first that is clear. While other threads clear positions, those found
+    /// set may never have been set together.
+    #[inline(always)]
+    pub fn contains_hash(&self, hash: u64) -> bool
+        ensures { MakesLookUpInLine self.now hash result }
+    {
+        looks_in_line(&self.words, self.num_hashes, hash)
+    }
+
+    // Whether many hashes are taken together.
+    fn is_large(&self) -> bool {
+        self.words.len() >= MANY_WORDS
+    }
+
+    // Loads the ends of the lines of all these hashes, and then inserts the hashes, in order.
+    fn load_then_insert(&self, hashes: &[u64])
+        ensures { All (WasInsertedInLine self.now) hashes.now }
+    {
+        touch_lines(&self.words.lent(), hashes);
+        'inserts: for hash in hashes {
+            self.insert_hash(*hash);
+        }
+    }
+
+    /// Inserts hashes, in order.
+    pub fn insert_hashes(&self, hashes: &[u64])
+        ensures { All (WasInsertedInLine self.now) hashes.now }
+    {
+        if self.is_large() {
+            self.insert_hashes_together(hashes);
+            return;
+        }
+        'inserts: for hash in hashes {
+            self.insert_hash(*hash);
+        }
+    }
+
+    // Inserts hashes, in order, 64 at a time.
+    fn insert_hashes_together(&self, hashes: &[u64])
+        ensures { All (WasInsertedInLine self.now) hashes.now }
+    {
+        let turns = hashes.len() / TOGETHER;
+        'turns: for turn in 0..turns {
+            let at = TOGETHER * turn;
+            self.load_then_insert(&hashes[at..at + TOGETHER]);
+        }
+        self.load_then_insert(&hashes[TOGETHER * turns..]);
+    }
+}
