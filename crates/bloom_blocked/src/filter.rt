@@ -17,9 +17,9 @@ use bloom_parts::slices;
 pub use data::BlockedFilterData;
 use std::marker::Model;
 
-/// A Bloom filter in lines of 512 bits. All positions of a hash lie in one of them, so an insert or
-/// a look-up reads one line of the cache, and not one for each position. In return, more hashes
-/// count as contained that were never inserted.
+/// A Bloom filter in lines of 512 bits. All positions of a hash lie in one of them, so an insert
+/// or a look-up reads one line of the cache, and not one for each position. In return, more hashes
+/// that were never inserted count as contained.
 ///
 /// Contracts see its words, its number of hashes and its hasher. Words that begin at a multiple of
 /// 64 bytes are read quickest.
