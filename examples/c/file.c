@@ -35,7 +35,10 @@ static int ask(const char *path, char **texts) {
     /* example reading */
     fastbloom_filter filter;
     uint8_t code = fastbloom_map(path, FASTBLOOM_MAP_READ, NULL, &filter);
-    if (code != FASTBLOOM_OK) return printf("refused %d\n", code), refuse(path, code);
+    if (code != FASTBLOOM_OK) {
+        printf("refused %d\n", code);
+        return refuse(path, code);
+    }
     for (; *texts != NULL; texts++) {
         bool found = fastbloom_contains(filter.words, filter.num_words, filter.num_hashes,
                                         filter.key, (const uint8_t *)*texts, strlen(*texts));
