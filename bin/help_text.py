@@ -14,6 +14,8 @@ import subprocess
 
 TOP = os.path.dirname(os.path.dirname(os.path.realpath(__file__)))
 PROGRAMS = ("bloom", "duplicates", "summaries", "guard")
+# What the programs are installed as. Their own names are common words, and links beside these.
+INSTALLED = {name: f"fastbloom-{name}" for name in PROGRAMS}
 # The names of values that are files.
 FILES = {"FILE", "FILTER", "OTHER", "STORE"}
 
@@ -70,6 +72,13 @@ class Help:
 
     def name(self):
         return self.words[-1]
+
+    def call(self, name):
+        """Has the help of a program, and of its commands, call it by another name."""
+        for one in (self, *self.commands):
+            own, one.words = one.words[0], [name, *one.words[1:]]
+            if one.usage.split(" ")[0] == own:
+                one.usage = name + one.usage[len(own):]
 
 
 def entries_of(lines):

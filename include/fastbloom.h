@@ -3,8 +3,8 @@
  *
  * A filter is an array of num_words words of 64 bits, and a number of hashes from 1 to 2^32 - 1,
  * where 0 counts as 1. The caller makes the array, may map or store it, and frees it. An array of
- * zeros is the empty filter. No call allocates memory, waits, or keeps a pointer. A call fails only
- * as it says here.
+ * zeros is the empty filter. No call allocates memory, waits, or keeps a pointer, but for those on
+ * files at the end. A call fails only as it says here.
  *
  * No words are no filter: each call that answers a bool answers false for them, and changes
  * nothing. Those that hand out two bounds set both to 0.
@@ -56,9 +56,9 @@
 extern "C" {
 #endif
 
-/* Status codes. FASTBLOOM_OK is success, and each other number is the reason for a refusal. This
- * library answers 2 to 5, 7, 9, 10 and 13. The other numbers are those of the Rattle library, for
- * programs that read files. */
+/* Status codes. FASTBLOOM_OK is success, and each other number is the reason for a refusal. The
+ * proved calls answer 2 to 5, 7, 9, 10 and 13, and those on files 2, 3, 6, 7, 9 to 15 and 252, 253
+ * and 255. The other numbers are those of the Rattle library. */
 enum fastbloom_status {
     FASTBLOOM_OK = 0,
     FASTBLOOM_ZERO_BITS = 1,        /* zero bits */
@@ -77,6 +77,19 @@ enum fastbloom_status {
     FASTBLOOM_SEAL = 14,            /* the seal is wrong: the file was changed */
     FASTBLOOM_INPUT = 15            /* a read failed */
 };
+
+/* Status codes of calls in C and C++ alone. */
+enum fastbloom_file_status {
+    FASTBLOOM_SEALED = 252,          /* a file that is to be shared has a seal */
+    FASTBLOOM_OUTPUT = 253,          /* a write failed */
+    FASTBLOOM_RATE_TOO_LARGE = 254,  /* a rate of 1 or above, in C++ */
+    FASTBLOOM_TOO_MANY_HASHES = 255 /* more hashes than the caller allows */
+};
+
+/* The version of the library that runs, which FASTBLOOM_VERSION is of the header; and a status code
+ * in words, also one that this library doesn't know. Both texts stay where they are. */
+const char *fastbloom_version(void);
+const char *fastbloom_strerror(uint8_t code);
 
 /* The numbers of words and of hashes for this many items, where 0 counts as 1, at the rate
  * num / den of false positives. It answers FASTBLOOM_OK; or FASTBLOOM_ZERO_RATE,
@@ -101,6 +114,15 @@ FASTBLOOM_MUST_USE uint8_t fastbloom_rate_bounds(size_t num_words, uint32_t num_
 /* SipHash-1-3 of exactly these bytes under the key. The key's first eight bytes are the
  * little-endian word k0. The item `Text` of the Rattle library has the same hash. */
 uint64_t fastbloom_hash(const uint8_t key[16], const uint8_t *bytes, size_t len);
+
+/* The hashes of many items by one call, for the calls on many hashes. The bytes of the items lie
+ * one behind the other, and item i is those from offsets[i] up to offsets[i + 1]. So there is one
+ * offset more than there are hashes, but for no item there may be none. It answers true. Where the
+ * numbers differ otherwise, or an offset is less than the one before it or more than len, it
+ * answers false and writes nothing. */
+FASTBLOOM_MUST_USE bool fastbloom_hash_items(const uint8_t key[16], const uint8_t *bytes,
+                                             size_t len, const uint64_t *offsets,
+                                             size_t num_offsets, uint64_t *hashes, size_t count);
 
 /* The same hash of bytes that come in pieces. The caller owns the struct and may copy it. The key
  * is in it, and up to seven of the bytes. */
@@ -303,6 +325,65 @@ FASTBLOOM_MUST_USE uint8_t fastbloom_head_write(size_t num_words, uint32_t num_h
 FASTBLOOM_MUST_USE uint8_t fastbloom_head_read(const uint8_t head[64], size_t *num_words,
                                                uint32_t *num_hashes, uint8_t key[16],
                                                uint64_t *seal);
+
+/* Files of filters. These calls are written in C, for Linux. They are tested and not proved.
+ * Threads may make them at once. Where they answer FASTBLOOM_INPUT or FASTBLOOM_OUTPUT, errno says
+ * why. */
+
+/* A filter that a call on files reads, maps or writes. */
+typedef struct fastbloom_filter {
+    uint64_t *words;
+    size_t num_words;
+    uint32_t num_hashes;
+    uint8_t key[16];
+} fastbloom_filter;
+
+/* What a reader takes at most, of a file that others may have made. Where a call is given NULL, it
+ * takes any number of words that the file has, and at most 64 hashes. */
+typedef struct fastbloom_limits {
+    size_t max_words;
+    uint32_t max_hashes;
+} fastbloom_limits;
+
+#define FASTBLOOM_USUAL_HASHES 64
+
+/* Reads a file into words of its own, which fastbloom_unload frees. It answers FASTBLOOM_OK; or why
+ * the file is refused, and then the filter has no words: a reason of fastbloom_head_read,
+ * FASTBLOOM_CUT, FASTBLOOM_TOO_LONG, FASTBLOOM_SEAL, FASTBLOOM_TOO_MANY_WORDS or
+ * FASTBLOOM_TOO_MANY_HASHES for a limit, FASTBLOOM_MEMORY, or FASTBLOOM_INPUT. The size of the file
+ * is compared before memory is asked for. */
+FASTBLOOM_MUST_USE uint8_t fastbloom_load(const char *path, const fastbloom_limits *limits,
+                                          fastbloom_filter *filter);
+
+/* Frees what fastbloom_load read. The filter then has no words, and nothing is left to be freed. */
+void fastbloom_unload(fastbloom_filter *filter);
+
+/* How a file is mapped. Only a sealed file is read whole for it. */
+enum fastbloom_map_mode {
+    FASTBLOOM_MAP_READ = 0, /* the words are only read: a write ends the process by a signal */
+    FASTBLOOM_MAP_COPY = 1, /* what is written stays in the process */
+    FASTBLOOM_MAP_SHARE = 2 /* what is written goes into the file, and to all that map it so */
+};
+
+/* Maps a file, which fastbloom_unmap undoes. It answers as fastbloom_load does, and a file that has
+ * a seal isn't shared: FASTBLOOM_SEALED. While it is mapped nobody writes into the file in another
+ * way, or makes it shorter. A process that fills a shared file makes the calls for words that
+ * threads share. */
+FASTBLOOM_MUST_USE uint8_t fastbloom_map(const char *path, enum fastbloom_map_mode mode,
+                                         const fastbloom_limits *limits, fastbloom_filter *filter);
+
+/* Undoes fastbloom_map. The filter then has no words, and nothing is left to be undone. */
+void fastbloom_unmap(fastbloom_filter *filter);
+
+/* Writes a file, whole or not at all, with a seal or without one. The bytes go into a new file
+ * beside it, which is flushed to the disk and then takes the name, with the owner and mode of the
+ * file that had it. A link there is replaced. Last the folder is flushed.
+ *
+ * It answers FASTBLOOM_OK; or FASTBLOOM_EMPTY_WORDS, FASTBLOOM_TOO_MANY_WORDS, FASTBLOOM_MEMORY or
+ * FASTBLOOM_OUTPUT, and then the old file is as it was. Only where the flush of the folder failed,
+ * the new file is there. */
+FASTBLOOM_MUST_USE uint8_t fastbloom_save(const char *path, const fastbloom_filter *filter,
+                                          bool sealed);
 
 #ifdef __cplusplus
 }
@@ -516,6 +597,14 @@ FASTBLOOM_INLINE uint64_t fastbloom_hash_(const uint8_t key[16], const uint8_t *
     return fastbloom_hash(key, fastbloom_bytes_(bytes, len), len);
 }
 
+FASTBLOOM_MUST_USE FASTBLOOM_INLINE bool
+fastbloom_hash_items_(const uint8_t key[16], const uint8_t *bytes, size_t len,
+                      const uint64_t *offsets, size_t num_offsets, uint64_t *hashes, size_t count) {
+    return fastbloom_hash_items(key, fastbloom_bytes_(bytes, len), len,
+                                fastbloom_read_words_(offsets, num_offsets), num_offsets,
+                                fastbloom_words_(hashes, count), count);
+}
+
 FASTBLOOM_INLINE void fastbloom_hasher_update_(fastbloom_hasher *hasher, const uint8_t *bytes,
                                                size_t len) {
     fastbloom_hasher_update(hasher, fastbloom_bytes_(bytes, len), len);
@@ -547,6 +636,7 @@ FASTBLOOM_INLINE void fastbloom_hasher_update_(fastbloom_hasher *hasher, const u
 #define fastbloom_shared_load fastbloom_shared_load_
 #define fastbloom_seal fastbloom_seal_
 #define fastbloom_hash fastbloom_hash_
+#define fastbloom_hash_items fastbloom_hash_items_
 #define fastbloom_hasher_update fastbloom_hasher_update_
 
 #endif

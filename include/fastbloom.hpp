@@ -46,30 +46,16 @@ enum class status : std::uint8_t {
     too_long = FASTBLOOM_TOO_LONG,
     reserved = FASTBLOOM_RESERVED,
     seal = FASTBLOOM_SEAL,
-    rate_too_large = 254, // a rate of 1 or above
-    too_many_hashes = 255, // more hashes than the caller allows
+    input = FASTBLOOM_INPUT,
+    sealed = FASTBLOOM_SEALED,
+    output = FASTBLOOM_OUTPUT,
+    rate_too_large = FASTBLOOM_RATE_TOO_LARGE,
+    too_many_hashes = FASTBLOOM_TOO_MANY_HASHES,
 };
 
 // A status in words.
 inline const char *reason(status why) noexcept {
-    switch (why) {
-    case status::ok: return "no refusal";
-    case status::empty_words: return "no words";
-    case status::too_many_words: return "too many words";
-    case status::zero_rate: return "rate with a zero part";
-    case status::size_overflow: return "size too large";
-    case status::memory: return "no memory";
-    case status::hash_count: return "hash count out of range";
-    case status::not_a_filter: return "not a filter";
-    case status::unknown_version: return "a version of the file that isn't known";
-    case status::cut: return "the file is cut";
-    case status::too_long: return "the file goes on after its last word";
-    case status::reserved: return "a reserved byte isn't zero";
-    case status::seal: return "the seal is wrong: the file was changed";
-    case status::rate_too_large: return "rate of 1 or above";
-    case status::too_many_hashes: return "more hashes than are allowed";
-    }
-    return "an unknown refusal";
+    return fastbloom_strerror(static_cast<std::uint8_t>(why));
 }
 
 // A value, or why there is none. The value is read only where there is one.
@@ -136,6 +122,39 @@ inline std::uint64_t *not_null_words(std::uint64_t *words) noexcept {
     return words == nullptr ? &no_words : words;
 }
 
+// The limits of a reader of files.
+inline fastbloom_limits hashes_up_to(std::uint32_t max_hashes) noexcept {
+    return {SIZE_MAX, max_hashes};
+}
+
+inline key_bytes key_of(const fastbloom_filter &filter) noexcept {
+    key_bytes key{};
+    std::memcpy(key.data(), filter.key, key.size());
+    return key;
+}
+
+// A filter in a mapped file, or none. Its end undoes the mapping.
+class mapping {
+public:
+    mapping() noexcept = default;
+    mapping(mapping &&other) noexcept : file_(std::exchange(other.file_, fastbloom_filter{})) {}
+    mapping &operator=(mapping &&other) noexcept {
+        std::swap(file_, other.file_);
+        return *this;
+    }
+    ~mapping() { fastbloom_unmap(&file_); }
+
+    status map(const char *path, fastbloom_map_mode mode, std::uint32_t max_hashes) noexcept {
+        fastbloom_unmap(&file_);
+        const fastbloom_limits limits = hashes_up_to(max_hashes);
+        return static_cast<status>(fastbloom_map(path, mode, &limits, &file_));
+    }
+    const fastbloom_filter &filter() const noexcept { return file_; }
+
+private:
+    fastbloom_filter file_{};
+};
+
 } // namespace detail
 
 // The hash of bytes that come in pieces: SipHash-1-3 of all pieces, one behind the other. A copy
@@ -157,6 +176,9 @@ public:
     hasher &update(std::span<const std::byte> piece) noexcept {
         return update(piece.data(), piece.size());
     }
+    hasher &update(std::span<const std::uint8_t> piece) noexcept {
+        return update(piece.data(), piece.size());
+    }
 #endif
 
     // The hash of the pieces so far. More may follow.
@@ -167,6 +189,7 @@ private:
 };
 
 class shared_filter;
+class mapped_filter;
 
 // A set of byte strings that never misses a member, and now and then takes something else for one.
 class filter {
@@ -216,6 +239,29 @@ public:
         std::memcpy(made->words_, static_cast<const char *>(bytes) + 64, 8 * num_words);
         if (seal != 0 && seal != made->seal()) return status::seal;
         return made;
+    }
+
+    // The filter of a file, which is read whole. It is refused as by `from_bytes`, and where it
+    // can't be read: `status::input`, and errno says why.
+    static result<filter> load(const char *path, std::uint32_t max_hashes = 64) noexcept {
+        const fastbloom_limits limits = detail::hashes_up_to(max_hashes);
+        fastbloom_filter read;
+        const std::uint8_t code = fastbloom_load(path, &limits, &read);
+        if (code != FASTBLOOM_OK) return static_cast<fastbloom::status>(code);
+        filter made;
+        made.words_ = read.words;
+        made.num_words_ = read.num_words;
+        made.num_hashes_ = read.num_hashes;
+        made.key_ = detail::key_of(read);
+        return made;
+    }
+
+    // Writes the filter's file, whole or not at all, with a seal or without one. Where it can't be
+    // written, the old file stays: `status::output`, and errno says why.
+    [[nodiscard]] fastbloom::status save(const char *path, bool sealed = true) const noexcept {
+        fastbloom_filter written{words_, num_words_, num_hashes_, {}};
+        std::memcpy(written.key, key_.data(), key_.size());
+        return static_cast<fastbloom::status>(fastbloom_save(path, &written, sealed));
     }
 
     filter(filter &&other) noexcept { swap(other); }
@@ -282,9 +328,31 @@ public:
     // A hasher under the key of this filter, for the hash of an item that comes in pieces.
     fastbloom::hasher begin_hash() const noexcept { return fastbloom::hasher(key_); }
 
+    // The hashes of many items, whose bytes lie one behind the other: item i is those from
+    // offsets[i] up to offsets[i + 1]. It answers false, and writes nothing, where the offsets
+    // don't tell as many items within the bytes.
+    [[nodiscard]] bool hash_items(const void *bytes, std::size_t size,
+                                  const std::uint64_t *offsets, std::size_t num_offsets,
+                                  std::uint64_t *hashes, std::size_t count) const noexcept {
+        return fastbloom_hash_items(key_.data(), detail::not_null(bytes), size,
+                                    detail::not_null_words(offsets), num_offsets,
+                                    detail::not_null_words(hashes), count);
+    }
+
     // Inserts many hashes, which costs less than a call for each.
     void insert_hashes(const std::uint64_t *hashes, std::size_t count) noexcept {
         if (count != 0) fastbloom_insert_hashes(words_, num_words_, num_hashes_, hashes, count);
+    }
+
+    // Inserts each item of a range: a container or a view of what `insert` takes.
+    template <typename Items> void insert_range(Items &&items) {
+        std::uint64_t hashes[256];
+        std::size_t count = 0;
+        for (const auto &item : items) {
+            hashes[count++] = hash(item);
+            if (count == 256) insert_hashes(hashes, std::exchange(count, 0));
+        }
+        insert_hashes(hashes, count);
     }
 
     // Calls on many hashes that tell of each, in a bit set that the caller owns: `bit_of(found, i)`
@@ -316,6 +384,21 @@ public:
     }
     std::uint64_t hash(std::span<const std::byte> item) const noexcept {
         return hash(item.data(), item.size());
+    }
+    bool insert(std::span<const std::uint8_t> item) noexcept {
+        return insert(item.data(), item.size());
+    }
+    bool contains(std::span<const std::uint8_t> item) const noexcept {
+        return contains(item.data(), item.size());
+    }
+    std::uint64_t hash(std::span<const std::uint8_t> item) const noexcept {
+        return hash(item.data(), item.size());
+    }
+    [[nodiscard]] bool hash_items(std::span<const std::uint8_t> bytes,
+                                  std::span<const std::uint64_t> offsets,
+                                  std::span<std::uint64_t> hashes) const noexcept {
+        return hash_items(bytes.data(), bytes.size(), offsets.data(), offsets.size(),
+                          hashes.data(), hashes.size());
     }
     void insert_hashes(std::span<const std::uint64_t> hashes) noexcept {
         insert_hashes(hashes.data(), hashes.size());
@@ -353,6 +436,10 @@ public:
         return this == &other ||
                fastbloom_intersect(words_, num_words_, other.words_, other.num_words_);
     }
+
+    // The same as operators, which answer likewise.
+    [[nodiscard]] bool operator|=(const filter &other) noexcept { return unite(other); }
+    [[nodiscard]] bool operator&=(const filter &other) noexcept { return intersect(other); }
 
     // Whether shapes and words are equal.
     friend bool operator==(const filter &one, const filter &other) noexcept {
@@ -448,8 +535,9 @@ public:
     }
 
 private:
-    // It takes words over, or fills them.
+    // They take words over, or fill them.
     friend class shared_filter;
+    friend class mapped_filter;
 
     // The bounds that a call of the library hands out, unless it answers false.
     template <typename Call> static std::optional<item_bounds> items(Call call) noexcept {
@@ -487,6 +575,67 @@ private:
     std::size_t num_words_ = 0;
     std::uint32_t num_hashes_ = 1;
     key_bytes key_{};
+};
+
+// A filter in a mapped file, which is only read: processes that map one file share its pages. A
+// mapping moves with its owner. While it lasts nobody writes into the file.
+class mapped_filter {
+public:
+    // No words: it contains nothing.
+    mapped_filter() noexcept = default;
+
+    // Maps a file, which is refused as by `filter::load`. Only a sealed one is read whole for it.
+    static result<mapped_filter> map(const char *path, std::uint32_t max_hashes = 64) noexcept {
+        mapped_filter made;
+        const auto why = made.file_.map(path, FASTBLOOM_MAP_READ, max_hashes);
+        if (why != status::ok) return why;
+        return made;
+    }
+
+    // As those of a filter.
+    bool contains(std::string_view item) const noexcept {
+        return contains(item.data(), item.size());
+    }
+    bool contains(std::nullptr_t) const = delete;
+    bool contains(const void *bytes, std::size_t size) const noexcept {
+        return fastbloom_contains(words(), num_words(), num_hashes(), file_.filter().key,
+                                  detail::not_null(bytes), size);
+    }
+    bool contains_hash(std::uint64_t hash) const noexcept {
+        return fastbloom_contains_hash(words(), num_words(), num_hashes(), hash);
+    }
+    [[nodiscard]] bool contains_hashes(const std::uint64_t *hashes, std::size_t count,
+                                       std::uint64_t *found, std::size_t num_found) const noexcept {
+        return fastbloom_contains_hashes(words(), num_words(), num_hashes(),
+                                         detail::not_null_words(hashes), count,
+                                         detail::not_null_words(found), num_found);
+    }
+#ifdef __cpp_lib_span
+    bool contains(std::span<const std::byte> item) const noexcept {
+        return contains(item.data(), item.size());
+    }
+    bool contains(std::span<const std::uint8_t> item) const noexcept {
+        return contains(item.data(), item.size());
+    }
+#endif
+
+    // A filter with words of its own, which are equal to these.
+    result<filter> clone() const noexcept {
+        auto made = filter::with_shape(num_words(), num_hashes(), key());
+        if (made) std::memcpy(made->words_, words(), 8 * num_words());
+        return made;
+    }
+
+    std::size_t num_words() const noexcept { return file_.filter().num_words; }
+    std::size_t num_bits() const noexcept { return fastbloom_num_bits(num_words()); }
+    std::uint32_t num_hashes() const noexcept { return file_.filter().num_hashes; }
+    key_bytes key() const noexcept { return detail::key_of(file_.filter()); }
+    const std::uint64_t *data() const noexcept { return file_.filter().words; }
+
+private:
+    const std::uint64_t *words() const noexcept { return detail::not_null_words(data()); }
+
+    detail::mapping file_;
 };
 
 } // namespace fastbloom

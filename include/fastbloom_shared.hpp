@@ -11,10 +11,11 @@
 // waits for another. A move, a swap and the end of the filter are no such calls: no other thread
 // uses the filter meanwhile.
 //
-// A filter owns its words, or lies over words of the caller's: `over` takes them, in a mapped file
-// or in memory that processes share. Then the caller keeps what fastbloom.h asks for: the words are
-// aligned to 8, stay where they are, and are touched by shared filters alone until the last call on
-// them has returned. Where threads don't share a filter, `fastbloom::filter` inserts faster.
+// A filter owns its words, or maps them from a file, or lies over words of the caller's: `over`
+// takes them, in memory that processes share. Then the caller keeps what fastbloom.h asks for: the
+// words are aligned to 8, stay where they are, and are touched by shared filters alone until the
+// last call on them has returned. Where threads don't share a filter, `fastbloom::filter` inserts
+// faster.
 #ifndef FASTBLOOM_SHARED_HPP
 #define FASTBLOOM_SHARED_HPP
 
@@ -68,6 +69,19 @@ public:
     }
 #endif
 
+    // The filter of a file without a seal, whose words all processes fill that map it: what is
+    // inserted goes into the file. It is refused as by `filter::load`, and where it has a seal.
+    static result<shared_filter> map(const char *path, std::uint32_t max_hashes = 64) noexcept {
+        shared_filter made;
+        const auto why = made.mapped_.map(path, FASTBLOOM_MAP_SHARE, max_hashes);
+        if (why != status::ok) return why;
+        const fastbloom_filter &file = made.mapped_.filter();
+        made.words_ = {file.words, file.num_words};
+        made.num_hashes_ = file.num_hashes;
+        made.key_ = detail::key_of(file);
+        return made;
+    }
+
     shared_filter(shared_filter &&other) noexcept { swap(other); }
     shared_filter &operator=(shared_filter &&other) noexcept {
         shared_filter(std::move(other)).swap(*this);
@@ -79,6 +93,7 @@ public:
 
     void swap(shared_filter &other) noexcept {
         owned_.swap(other.owned_);
+        std::swap(mapped_, other.mapped_);
         std::swap(words_, other.words_);
         std::swap(num_hashes_, other.num_hashes_);
         std::swap(key_, other.key_);
@@ -121,6 +136,17 @@ public:
         return fastbloom_shared_contains_hash(words_, num_hashes_, hash);
     }
 
+    // Inserts each item of a range: a container or a view of what `insert` takes.
+    template <typename Items> void insert_range(Items &&items) const {
+        std::uint64_t hashes[256];
+        std::size_t count = 0;
+        for (const auto &item : items) {
+            hashes[count++] = hash(item);
+            if (count == 256) insert_hashes(hashes, std::exchange(count, 0));
+        }
+        insert_hashes(hashes, count);
+    }
+
     // Inserts many hashes, which costs less than a call for each.
     void insert_hashes(const std::uint64_t *hashes, std::size_t count) const noexcept {
         if (count != 0) fastbloom_shared_insert_hashes(words_, num_hashes_, hashes, count);
@@ -152,6 +178,18 @@ public:
     bool contains(std::span<const std::byte> item) const noexcept {
         return contains(item.data(), item.size());
     }
+    bool insert(std::span<const std::uint8_t> item) const noexcept {
+        return insert(item.data(), item.size());
+    }
+    bool contains(std::span<const std::uint8_t> item) const noexcept {
+        return contains(item.data(), item.size());
+    }
+    std::uint64_t hash(std::span<const std::byte> item) const noexcept {
+        return hash(item.data(), item.size());
+    }
+    std::uint64_t hash(std::span<const std::uint8_t> item) const noexcept {
+        return hash(item.data(), item.size());
+    }
     void insert_hashes(std::span<const std::uint64_t> hashes) const noexcept {
         insert_hashes(hashes.data(), hashes.size());
     }
@@ -181,6 +219,14 @@ public:
     }
     [[nodiscard]] bool intersect(const shared_filter &other) const noexcept {
         return same_shape(other) && fastbloom_shared_intersect(words_, other.words_);
+    }
+
+    // The same as operators, which answer likewise.
+    [[nodiscard]] bool operator|=(const shared_filter &other) const noexcept {
+        return unite(other);
+    }
+    [[nodiscard]] bool operator&=(const shared_filter &other) const noexcept {
+        return intersect(other);
     }
 
     // Takes the items out into a plain filter: each word is read and cleared by one operation, so
@@ -214,7 +260,9 @@ private:
         return shared_filter(*std::move(made));
     }
 
-    filter owned_; // no words, where they are the caller's
+    // At most one of these has words. Neither has, where they are the caller's.
+    filter owned_;
+    detail::mapping mapped_;
     fastbloom_shared words_{nullptr, 0};
     std::uint32_t num_hashes_ = 1;
     key_bytes key_{};

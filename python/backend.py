@@ -1,26 +1,31 @@
-"""Builds the wheel that pip installs: the package, and beside it the shared library.
+"""Builds what pip installs: the package, and beside it the shared library.
 
 The library is the one that FASTBLOOM_LIB names, a folder or a file, or that in out/c of the
-repository. With `--config-settings library=none` the wheel has none, for a library that lies in the
-system's path.
-No other package is needed. There are no source distributions: the library is proved and built in
-the repository.
+repository. With `--config-settings library=none` the wheel has none, for a library that lies where
+the system's loader looks; and so has one that is built of the sources by themselves, unless
+FASTBLOOM_LIB names one. `--config-settings platform=NAME` is the platform in the wheel's tag.
+No other package is needed.
 """
 
 import base64
+import gzip
 import hashlib
+import io
 import os
 import re
+import tarfile
 import zipfile
 from pathlib import Path
 
 HERE = Path(__file__).resolve().parent
 PACKAGE = HERE / "src" / "fastbloom"
 LIBRARY = "libfastbloom_c.so.0"
-
-
-class UnsupportedOperation(Exception):
-    """What there isn't."""
+# What is in the sources by themselves, and the file that tells that they are.
+SOURCES = ("pyproject.toml", "backend.py", "README.md", "src/fastbloom/*.py",
+           "src/fastbloom/py.typed", "tests/*.py")
+TOLD = "PKG-INFO"
+# The oldest time that a file in a wheel may have. One of its own would make each wheel another file.
+LONG_AGO = 315532800
 
 
 def field(path, pattern):
@@ -32,9 +37,23 @@ def project(name):
     return field(HERE / "pyproject.toml", f'^{name} = "(.*)"$')
 
 
-def library_file():
-    """The shared library, which is to be there."""
-    file = Path(os.environ.get("FASTBLOOM_LIB") or HERE.parent / "out" / "c")
+def version():
+    return field(PACKAGE / "__init__.py", '^__version__ = "(.*)"$')
+
+
+def license_text():
+    own = HERE / "LICENSE"
+    return (own if own.exists() else HERE.parent / "LICENSE").read_bytes()
+
+
+def library_file(settings):
+    """The shared library that goes into the wheel, if one does."""
+    if settings.get("library") == "none":
+        return None
+    chosen = os.environ.get("FASTBLOOM_LIB")
+    if not chosen and (HERE / TOLD).exists():
+        return None
+    file = Path(chosen or HERE.parent / "out" / "c")
     if file.is_dir():
         file = file / LIBRARY
     if not file.is_file():
@@ -43,12 +62,22 @@ def library_file():
     return file
 
 
-def metadata(version):
-    return (f"Metadata-Version: 2.1\nName: {project('name')}\nVersion: {version}\n"
-            f"Summary: {project('description')}\nLicense: {project('license')}\n"
+def keywords():
+    """The lists of pyproject.toml that are told, each a field and its values."""
+    text = (HERE / "pyproject.toml").read_text(encoding="utf-8")
+    for name, told in (("keywords", "Keywords"), ("classifiers", "Classifier")):
+        listed = re.search(rf"^{name} = \[(.*?)\]$", text, re.MULTILINE | re.DOTALL).group(1)
+        values = re.findall('"(.*?)"', listed)
+        yield from [(told, ",".join(values))] if name == "keywords" else [(told, it) for it in values]
+
+
+def metadata():
+    lists = "".join(f"{name}: {value}\n" for name, value in keywords())
+    return (f"Metadata-Version: 2.1\nName: {project('name')}\nVersion: {version()}\n"
+            f"Summary: {project('description')}\nLicense: {project('license')}\n{lists}"
             f"Requires-Python: {project('requires-python')}\n"
             "Description-Content-Type: text/markdown\n\n"
-            + (HERE / "README.md").read_text(encoding="utf-8"))
+            + (HERE / project("readme")).read_text(encoding="utf-8")).encode()
 
 
 def record(files, name):
@@ -60,25 +89,18 @@ def record(files, name):
     return "".join([*lines, f"{name},,\n"]).encode()
 
 
-def build_wheel(wheel_directory, config_settings=None, metadata_directory=None):
-    version = field(PACKAGE / "__init__.py", '^__version__ = "(.*)"$')
-    sources = sorted([*PACKAGE.glob("*.py"), PACKAGE / "py.typed"])
-    files = {f"fastbloom/{path.name}": path.read_bytes() for path in sources}
-    tag = "py3-none-any"
-    if (config_settings or {}).get("library") != "none":
-        files[f"fastbloom/{LIBRARY}"] = library_file().read_bytes()
-        tag = "py3-none-linux_x86_64"
-    info = f"fastbloom-{version}.dist-info"
+def write_wheel(folder, files, tag):
+    """Writes a wheel of these files, and gives its name."""
+    info = f"fastbloom-{version()}.dist-info"
     pure = "true" if tag.endswith("any") else "false"
-    files[f"{info}/METADATA"] = metadata(version).encode()
+    files[f"{info}/METADATA"] = metadata()
     files[f"{info}/WHEEL"] = (f"Wheel-Version: 1.0\nGenerator: backend.py\n"
                               f"Root-Is-Purelib: {pure}\nTag: {tag}\n").encode()
-    files[f"{info}/LICENSE"] = (HERE.parent / "LICENSE").read_bytes()
+    files[f"{info}/LICENSE"] = license_text()
     files[f"{info}/RECORD"] = record(files, f"{info}/RECORD")
-    name = f"fastbloom-{version}-{tag}.whl"
-    with zipfile.ZipFile(Path(wheel_directory) / name, "w", zipfile.ZIP_DEFLATED) as wheel:
+    name = f"fastbloom-{version()}-{tag}.whl"
+    with zipfile.ZipFile(Path(folder) / name, "w", zipfile.ZIP_DEFLATED) as wheel:
         for path, data in files.items():
-            # A time and a mode of its own would make each wheel another file.
             entry = zipfile.ZipInfo(path)
             entry.external_attr = 0o100644 << 16
             entry.compress_type = zipfile.ZIP_DEFLATED
@@ -86,5 +108,38 @@ def build_wheel(wheel_directory, config_settings=None, metadata_directory=None):
     return name
 
 
+def build_wheel(wheel_directory, config_settings=None, metadata_directory=None):
+    settings = config_settings or {}
+    files = {f"fastbloom/{path.name}": path.read_bytes()
+             for path in sorted([*PACKAGE.glob("*.py"), PACKAGE / "py.typed"])}
+    tag, library = "py3-none-any", library_file(settings)
+    if library:
+        files[f"fastbloom/{LIBRARY}"] = library.read_bytes()
+        tag = f"py3-none-{settings.get('platform', 'linux_x86_64')}"
+    return write_wheel(wheel_directory, files, tag)
+
+
+def build_editable(wheel_directory, config_settings=None, metadata_directory=None):
+    """A wheel by which Python reads the modules here. The library is found as elsewhere."""
+    path = f"{PACKAGE.parent}\n".encode()
+    return write_wheel(wheel_directory, {"fastbloom.pth": path}, "py3-none-any")
+
+
 def build_sdist(sdist_directory, config_settings=None):
-    raise UnsupportedOperation("install from the repository")
+    """The sources by themselves. The library isn't in them: it is proved in the repository."""
+    files = {str(path.relative_to(HERE)): path.read_bytes()
+             for pattern in SOURCES for path in sorted(HERE.glob(pattern))}
+    files.update({"LICENSE": license_text(), TOLD: metadata()})
+    name = f"fastbloom-{version()}"
+    output = io.BytesIO()
+    with tarfile.open(fileobj=output, mode="w", format=tarfile.GNU_FORMAT) as archive:
+        for path, data in sorted(files.items()):
+            entry = tarfile.TarInfo(f"{name}/{path}")
+            entry.size, entry.mode = len(data), 0o644
+            entry.mtime = int(os.environ.get("SOURCE_DATE_EPOCH", LONG_AGO))
+            archive.addfile(entry, io.BytesIO(data))
+    file = f"{name}.tar.gz"
+    with open(Path(sdist_directory) / file, "wb") as output_file:
+        with gzip.GzipFile(filename="", mode="wb", fileobj=output_file, mtime=0) as packed:
+            packed.write(output.getvalue())
+    return file

@@ -3,8 +3,8 @@
  * It prints how many inserts answered true and the nanoseconds of one, and then what a hash costs
  * where 1,000 are inserted at once: of all rounds the best, each into a filter with no bit on. The
  * lines behind are of the calls for a filter that threads share, by one thread: an insert, one of
- * 1,000 that are inserted at once, and a look-up that finds its hash, beside that of the plain
- * filter. */
+ * 1,000 that are inserted at once, and a look-up that finds its hash, alone and among 1,000 at
+ * once, beside those of the plain filter. The loops and hashes are those of the bench in Rattle. */
 #define _POSIX_C_SOURCE 199309L
 #include "fastbloom.h"
 
@@ -93,6 +93,30 @@ static uint64_t find_shared(struct filter filter, uint64_t keys) {
     return found;
 }
 
+/* The same, 1,000 a call. */
+static uint64_t find_at_once(struct filter filter, uint64_t keys) {
+    uint64_t hashes[1000], bits[16], found = 0;
+    for (uint64_t key = 0; key < keys;) {
+        size_t count = 0;
+        for (; count < 1000 && key < keys; key++) hashes[count++] = hash_of(key);
+        found += fastbloom_contains_hashes(filter.words, filter.num_words, filter.num_hashes,
+                                           hashes, count, bits, 16);
+    }
+    return found;
+}
+
+static uint64_t find_shared_at_once(struct filter filter, uint64_t keys) {
+    fastbloom_shared words = {filter.words, filter.num_words};
+    uint64_t hashes[1000], bits[16], found = 0;
+    for (uint64_t key = 0; key < keys;) {
+        size_t count = 0;
+        for (; count < 1000 && key < keys; key++) hashes[count++] = hash_of(key);
+        found += fastbloom_shared_contains_hashes(words, filter.num_hashes, hashes, count, bits,
+                                                  16);
+    }
+    return found;
+}
+
 /* Prints the nanoseconds of a key, of all rounds the best, and what the last round answered. */
 static void measure(const char *name, uint64_t (*call)(struct filter, uint64_t),
                     struct filter filter, uint64_t keys, uint64_t rounds, bool clears) {
@@ -135,6 +159,8 @@ int main(int argc, char **argv) {
     measure("shared, at once", insert_shared_at_once, filter, keys, rounds, true);
     measure("hit", find_plain, filter, keys, rounds, false);
     measure("shared hit", find_shared, filter, keys, rounds, false);
+    measure("hit, at once", find_at_once, filter, keys, rounds, false);
+    measure("shared hit, at once", find_shared_at_once, filter, keys, rounds, false);
     free(filter.words);
     return 0;
 }

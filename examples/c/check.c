@@ -4,11 +4,12 @@
  * of the original crate, fastbloom 0.17.0, in the sessions; its hashes those of the crate siphasher
  * 0.3.10. A model in Python, which uses no library, computed the file in HEX. The check writes that
  * file into FOLDER. */
-#define _DEFAULT_SOURCE
-#include "filter_file.h"
+#include "fastbloom.h"
 
 #include <inttypes.h>
+#include <stdio.h>
 #include <stdlib.h>
+#include <string.h>
 
 static unsigned checks;
 
@@ -120,6 +121,34 @@ static void hashes(void) {
     fastbloom_hasher_update(&outside, counting_key, 9);
     fastbloom_hasher_update(&outside, counting_key + 9, 6);
     CHECK(fastbloom_hasher_finish(&outside) == 0xd320d86d2a519956u);
+}
+
+/* The hashes of items that lie one behind the other, against those of each. Offsets that tell no
+ * items are refused, and then nothing is written. */
+static void items_together(void) {
+    static const uint64_t well[][4] = {{0, 2, 2, 17}, {17, 17, 17, 17}, {3, 4, 5, 6}};
+    static const uint64_t wrong[][4] = {{0, 2, 1, 17}, {1, 0, 2, 3}, {0, 2, 2, 18}};
+    uint8_t bytes[17];
+    uint64_t hashes[3];
+    for (size_t i = 0; i < sizeof bytes; i++) bytes[i] = (uint8_t)(3 + 7 * i);
+    for (size_t row = 0; row < sizeof well / sizeof *well; row++) {
+        const uint64_t *offsets = well[row];
+        CHECK(fastbloom_hash_items(counting_key, bytes, sizeof bytes, offsets, 4, hashes, 3));
+        for (size_t i = 0; i < 3; i++)
+            CHECK(hashes[i] == fastbloom_hash(counting_key, bytes + offsets[i],
+                                              offsets[i + 1] - offsets[i]));
+    }
+    /* The value of SipHash-1-3 of no bytes under the key bytes 0 to 15. */
+    CHECK(fastbloom_hash_items(counting_key, NULL, 0, (const uint64_t[]){0, 0}, 2, hashes, 1));
+    CHECK(hashes[0] == 12370263754033579228u);
+    CHECK(fastbloom_hash_items(counting_key, NULL, 0, NULL, 0, NULL, 0));
+    hashes[0] = hashes[1] = hashes[2] = 42;
+    for (size_t row = 0; row < sizeof wrong / sizeof *wrong; row++)
+        CHECK(!fastbloom_hash_items(counting_key, bytes, sizeof bytes, wrong[row], 4, hashes, 3));
+    CHECK(!fastbloom_hash_items(counting_key, bytes, sizeof bytes, well[0], 4, hashes, 2));
+    CHECK(!fastbloom_hash_items(counting_key, bytes, sizeof bytes, well[0], 3, hashes, 3));
+    CHECK(!fastbloom_hash_items(counting_key, bytes, sizeof bytes, NULL, 0, hashes, 1));
+    CHECK(hashes[0] == 42 && hashes[1] == 42 && hashes[2] == 42);
 }
 
 /* Bytes in pieces have the hash of the whole: three pieces of up to 24 bytes, cut anywhere, and
@@ -501,19 +530,21 @@ static void file(const char *hex, const char *folder) {
     read_hex(hex, bytes);
     heads(bytes);
     uint64_t word = 0;
-    struct filter made = {.words = &word, .num_words = 1, .num_hashes = 3}, read;
+    fastbloom_filter made = {.words = &word, .num_words = 1, .num_hashes = 3}, read;
     memcpy(made.key, counting_key, sizeof made.key);
     CHECK(!fastbloom_insert(&word, 1, 3, counting_key, (const uint8_t *)"crab", 4));
     CHECK(!fastbloom_insert(&word, 1, 3, counting_key, (const uint8_t *)"lobster", 7));
     CHECK((size_t)snprintf(path, sizeof path, "%s/worked.bloom", folder) < sizeof path);
-    CHECK(write_filter(path, &made));
+    CHECK(fastbloom_save(path, &made, true) == FASTBLOOM_OK);
     FILE *stream = fopen(path, "rb");
     CHECK(stream != NULL && fread(written, 1, sizeof written, stream) == sizeof bytes);
     fclose(stream);
     CHECK(memcmp(written, bytes, sizeof bytes) == 0);
-    CHECK(map_filter(path, &read) == 0 && read.num_words == 1 && read.num_hashes == 3);
+    CHECK(fastbloom_map(path, FASTBLOOM_MAP_READ, NULL, &read) == FASTBLOOM_OK);
+    CHECK(read.num_words == 1 && read.num_hashes == 3);
     CHECK(memcmp(read.key, counting_key, sizeof read.key) == 0);
     CHECK(fastbloom_equal(read.words, 1, &word, 1));
+    fastbloom_unmap(&read);
 }
 
 int main(int argc, char **argv) {
@@ -523,6 +554,7 @@ int main(int argc, char **argv) {
     }
     plans();
     hashes();
+    items_together();
     pieces();
     garbage();
     sessions(argv[1]);

@@ -2,13 +2,15 @@
  *
  * Each process looks item0, item1 and so on up. */
 #define _DEFAULT_SOURCE
-#include "filter_file.h"
+#include "fastbloom.h"
 
+#include <stdio.h>
 #include <stdlib.h>
 #include <sys/wait.h>
+#include <unistd.h>
 
 /* How many of so many items are contained. */
-static int found(const struct filter *filter, int items) {
+static int found(const fastbloom_filter *filter, int items) {
     int count = 0;
     for (int i = 0; i < items; i++) {
         char text[16];
@@ -23,10 +25,10 @@ int main(int argc, char **argv) {
     enum { READERS = 3 };
     if (argc != 3) return 2;
     int items = atoi(argv[2]);
-    struct filter filter;
-    uint8_t refusal = map_filter(argv[1], &filter);
-    if (refusal != 0) {
-        fprintf(stderr, "mapped: refused %d\n", refusal);
+    fastbloom_filter filter;
+    uint8_t refusal = fastbloom_map(argv[1], FASTBLOOM_MAP_READ, NULL, &filter);
+    if (refusal != FASTBLOOM_OK) {
+        fprintf(stderr, "mapped: %s\n", fastbloom_strerror(refusal));
         return 1;
     }
     for (int reader = 0; reader < READERS; reader++) {
@@ -36,6 +38,7 @@ int main(int argc, char **argv) {
     }
     int well = 0, status;
     for (int reader = 0; reader < READERS; reader++) well += wait(&status) > 0 && status == 0;
+    fastbloom_unmap(&filter);
     printf("%d of %d readers found %d items\n", well, READERS, items);
     return well == READERS ? 0 : 1;
 }

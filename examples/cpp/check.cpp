@@ -3,7 +3,7 @@
 // `check HEX FOLDER [FILE..]` leaves the file of the items in FOLDER/cpp.bloom. HEX is the file in
 // hexadecimal digits. Each FILE is to be one of the items too. One in a folder `refused` is to be
 // refused by the number with which its name begins.
-#include "fastbloom.hpp"
+#include "fastbloom_shared.hpp"
 
 #include <cstdio>
 #include <cstdlib>
@@ -13,6 +13,7 @@
 #include <vector>
 
 using fastbloom::filter;
+using fastbloom::shared_filter;
 using fastbloom::status;
 
 static void check(bool holds, int line, const char *text) {
@@ -26,6 +27,8 @@ static void check(bool holds, int line, const char *text) {
 static_assert(!std::is_copy_constructible_v<filter> && !std::is_copy_assignable_v<filter>);
 static_assert(std::is_nothrow_move_constructible_v<filter>);
 static_assert(std::is_nothrow_move_assignable_v<filter>);
+static_assert(std::is_nothrow_move_constructible_v<shared_filter>);
+static_assert(std::is_nothrow_move_assignable_v<fastbloom::mapped_filter>);
 
 static fastbloom::key_bytes counting_key() {
     fastbloom::key_bytes key{};
@@ -171,6 +174,7 @@ static void sets(const filter &seen) {
     for (int i = 0; i < 1000; i++) (i % 2 == 1 ? odd : even).insert(item(i));
     CHECK(odd != even && even.unite(odd) && even == seen && even.unite(even) && even == seen);
     CHECK(even.intersect(odd) && even == odd && even.intersect(even) && even == odd);
+    CHECK((even |= seen) && even == seen && (even &= odd) && even == odd && !(even |= other));
     CHECK(!other.unite(odd) && !other.intersect(odd) && other != empty() && !even.unite(other));
     even.clear();
     CHECK(even == empty() && !even.contains("item1"));
@@ -212,7 +216,61 @@ static void spans() {
     CHECK(seen.hash(crab) == seen.hash("crab") && seen.words().size() == seen.num_words());
     at_once.insert_hashes(std::vector{seen.hash(crab)});
     CHECK(at_once == seen);
+    const std::vector<std::uint8_t> prawn{'p', 'r', 'a', 'w', 'n'};
+    CHECK(!seen.insert(prawn) && seen.contains(prawn) && seen.hash(prawn) == seen.hash("prawn"));
+    CHECK(fastbloom::hasher{}.update(prawn).finish() == seen.hash("prawn"));
 #endif
+}
+
+// Ranges of items, and items that lie one behind the other.
+static void ranges() {
+    std::vector<std::string> names;
+    for (int i = 0; i < 1000; i++) names.push_back(item(i));
+    filter seen = empty(), at_once = empty();
+    for (const std::string &name : names) seen.insert(name);
+    at_once.insert_range(names);
+    CHECK(at_once == seen);
+    at_once.insert_range(std::vector<const char *>{"item1", "item2"});
+    CHECK(at_once == seen);
+    std::string bytes;
+    std::vector<std::uint64_t> offsets{0}, hashes(names.size());
+    for (const std::string &name : names) offsets.push_back((bytes += name).size());
+    CHECK(seen.hash_items(bytes.data(), bytes.size(), offsets.data(), offsets.size(),
+                          hashes.data(), hashes.size()));
+    for (std::size_t i = 0; i < names.size(); i++) CHECK(hashes[i] == seen.hash(names[i]));
+    CHECK(!seen.hash_items(bytes.data(), bytes.size() - 1, offsets.data(), offsets.size(),
+                           hashes.data(), hashes.size()));
+    CHECK(seen.hash_items(nullptr, 0, nullptr, 0, nullptr, 0));
+}
+
+// Files are saved, loaded, mapped and shared.
+static void files(const std::string &folder, const filter &seen) {
+    const std::string path = folder + "/kept.bloom";
+    CHECK(seen.save(path.c_str()) == status::ok);
+    const auto loaded = filter::load(path.c_str());
+    CHECK(loaded && *loaded == seen);
+    auto mapped = fastbloom::mapped_filter::map(path.c_str());
+    CHECK(mapped && mapped->contains("item1") && !mapped->contains("crab, lobster"));
+    CHECK(mapped->num_words() == seen.num_words() && mapped->key() == seen.key());
+    const fastbloom::mapped_filter moved = *std::move(mapped);
+    CHECK(moved.contains_hash(seen.hash("item2")) && *moved.clone() == seen);
+    CHECK(mapped->num_words() == 0 && !mapped->contains("item1") && !mapped->clone());
+    CHECK(filter::load(path.c_str(), 1).status() == status::too_many_hashes);
+    CHECK(filter::load(folder.c_str()).status() == status::input);
+    CHECK(seen.save(folder.c_str()) == status::output);
+    CHECK(filter{}.save(path.c_str()) == status::empty_words);
+    CHECK(shared_filter::map(path.c_str()).status() == status::sealed);
+    CHECK(seen.save(path.c_str(), false) == status::ok);
+    {
+        auto shared = shared_filter::map(path.c_str());
+        CHECK(shared && shared->contains("item1") && !shared->insert("crab, lobster"));
+        const shared_filter owner = *std::move(shared);
+        CHECK(owner.contains("crab, lobster") && shared->num_words() == 0);
+        owner.insert_range(std::vector<std::string>{"prawn", "krill"});
+    }
+    const auto grown = filter::load(path.c_str());
+    CHECK(grown && grown->contains("crab, lobster") && grown->contains("krill") && *grown != seen);
+    CHECK(std::remove(path.c_str()) == 0);
 }
 
 static void refused() {
@@ -294,6 +352,8 @@ int main(int argc, char **argv) {
     sets(seen);
     owners(seen);
     spans();
+    ranges();
+    files(argv[2], seen);
     refused();
     limits();
     worked(argv[1]);

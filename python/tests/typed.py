@@ -9,7 +9,7 @@ from fractions import Fraction
 from pathlib import Path
 from typing import List, Optional, Tuple
 
-from fastbloom import Filter, Refusal, SharedFilter
+from fastbloom import AnyFilter, Filter, Mask, Refusal, SharedFilter
 
 
 class Own(Filter):
@@ -33,7 +33,21 @@ def kept(path: str) -> Tuple[Filter, Own, Optional[int], List[bool]]:
     return mine, theirs.copy(), mine.estimate().high, mine.contains_many(iter(["a text"]))
 
 
-def shared(path: str, memory: bytearray) -> Tuple[Filter, List[bool]]:
+def fill(some: AnyFilter, names: List[str]) -> int:
+    some.update(names, iter([b"bytes"]))
+    fresh: Mask = some.add_hashes_tell_new(array("Q", [1, 2]))
+    return fresh.count() + sum(fresh[:1]) + some.count_ones()
+
+
+def sets(mine: Own, other: Filter) -> Tuple[Own, Own, bool, float, memoryview]:
+    fill(mine, ["a text"])
+    fill(SharedFilter(10, "1/2"), ["a text"])
+    mine.intersection_update(other, ["a text"])
+    united = mine.union(other, ["a text"])
+    return united, mine.intersection(other), mine <= other, mine.approx_items, mine.view()
+
+
+def shared(path: str, memory: bytearray) -> Tuple[Filter, Mask]:
     ours = SharedFilter.over(memory, 4)
     ours |= SharedFilter.map(Path(path))
     ours.update(["a text", b"bytes"])
@@ -47,5 +61,7 @@ def refused(mine: Filter, ours: SharedFilter) -> None:
     ours.add(5)  # type: ignore[arg-type]
     mine.add(5)  # type: ignore[arg-type]
     mine.update([5])  # type: ignore[list-item]
+    fill(set(), [])  # type: ignore[arg-type]
+    mine.issubset({"a text"})  # type: ignore[arg-type]
     Filter(1000, None)  # type: ignore[arg-type]
     mine.num_words = 3  # type: ignore[misc]

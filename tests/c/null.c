@@ -28,6 +28,7 @@ int main(void) {
     fastbloom_hasher_update(&hasher, NULL, 0);
     wants("finish", hash_of_nothing, fastbloom_hasher_finish(&hasher));
     wants("hash", hash_of_nothing, fastbloom_hash(key, NULL, 0));
+    wants("hash_items", 1, fastbloom_hash_items(key, NULL, 0, NULL, 0, NULL, 0));
     /* no words are no filter */
     wants("insert_hash", 0, fastbloom_insert_hash(NULL, 0, 1, 5));
     wants("insert_hashes", 0, fastbloom_insert_hashes(NULL, 0, 1, NULL, 0));

@@ -40,6 +40,17 @@ uint64_t fastbloom_hash(const uint8_t key[16], const uint8_t *bytes, size_t len)
     return hash_of_nothing;
 }
 
+bool fastbloom_hash_items(const uint8_t key[16], const uint8_t *bytes, size_t len,
+                          const uint64_t *offsets, size_t num_offsets, uint64_t *hashes,
+                          size_t count) {
+    (void)len, (void)num_offsets, (void)count;
+    some("key", key);
+    some("bytes", bytes);
+    some("offsets", offsets);
+    some("hashes", hashes);
+    return true;
+}
+
 bool fastbloom_insert_hash(uint64_t *words, size_t num_words, uint32_t num_hashes, uint64_t hash) {
     (void)num_words, (void)num_hashes, (void)hash;
     some("words", words);

@@ -2,6 +2,8 @@ mod BitLemmas
 mod EstimateFacts
 mod EstimateLemmas
 mod FileFacts
+mod ItemFacts
+mod ItemLemmas
 mod ManyFacts
 mod ManyLemmas
 mod NoWordLemmas

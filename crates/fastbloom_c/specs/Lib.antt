@@ -1,5 +1,6 @@
 pub mod Estimates
 pub mod Files
+pub mod Items
 pub mod Many
 pub mod Plans
 pub mod Rates

@@ -9,6 +9,7 @@ pub mod counted_rates;
 pub mod estimates;
 pub mod files;
 pub mod hashes;
+pub mod items;
 pub mod many;
 pub mod pieces;
 pub mod plans;

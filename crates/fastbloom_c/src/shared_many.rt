@@ -4,11 +4,11 @@ ghost use Rattle.fastbloom_c.specs.Shared.{MakesInserts, TellsInserts, TellsLook
 ghost use Rattle.passed_words.specs.Passed.{MakeFilter, vector_of};
 
 use crate::many::{have_room, turn_on_where};
-use crate::shared::make_filter;
+use crate::shared::{found_hashes, make_filter};
 use bloom_parts::bit_vector::word_and_bit_of_hash;
 use bloom_parts::hasher::DoubleHasher;
 use bloom_parts::slices::{GROUP, MANY_WORDS, clear};
-use passed_words::calls::{contains_hash, insert_hash};
+use passed_words::calls::insert_hash;
 use passed_words::words::{PassedWords, RawWords};
 
 // Loads the words of a hash. Nothing depends on what they hold, so no load waits for another.
@@ -98,7 +98,7 @@ fn find_each(words: &RawWords, num_hashes: u32, hashes: &[u64], found: &mut [u64
     clear(found);
     let mut i: usize = 0;
     'looks: for hash in hashes {
-        turn_on_where(contains_hash(words, num_hashes, *hash), found, i);
+        turn_on_where(found_hashes(words, num_hashes, *hash) > 0, found, i);
         i += 1;
     }
 }

@@ -2,22 +2,6 @@
 
 use fastbloom_c::{BloomFilter, Rate};
 use std::error::Error;
-use std::{fs, io, process};
-
-/// Writes a filter's file, whole or not at all. Until it is whole it is a new file beside the old
-/// one.
-fn save(seen: &BloomFilter, path: &str) -> io::Result<()> {
-    let part = format!("{path}.{}.part", process::id());
-    let mut file = fs::File::create_new(&part)?;
-    let written = seen
-        .write_file(&mut file)
-        .and_then(|()| file.sync_all())
-        .and_then(|()| fs::rename(&part, path));
-    if written.is_err() {
-        fs::remove_file(&part)?;
-    }
-    written
-}
 
 fn main() -> Result<(), Box<dyn Error>> {
     let path = std::env::args().nth(1).ok_or("usage: first FILE")?;
@@ -28,8 +12,8 @@ fn main() -> Result<(), Box<dyn Error>> {
         let before = seen.insert(name);
         println!("{name}: {}", if before { "seen before" } else { "new" });
     }
-    save(&seen, &path)?;
-    let read = BloomFilter::from_bytes(&fs::read(&path)?)?;
+    seen.save(&path)?;
+    let read = BloomFilter::load(&path)?;
     let kept = read.contains("crab") && read == seen;
     println!("{}", if kept { "read back" } else { "lost" });
     // end of example

@@ -13,7 +13,9 @@ found.
 """
 
 from ._filter import Estimate, Filter, Refusal
+from ._mask import Mask
+from ._protocols import AnyFilter
 from ._shared import SharedFilter
 
-__version__ = "0.17.0"
-__all__ = ["Estimate", "Filter", "Refusal", "SharedFilter", "__version__"]
+__version__ = "0.17.0+rattle.1"
+__all__ = ["AnyFilter", "Estimate", "Filter", "Mask", "Refusal", "SharedFilter", "__version__"]

@@ -4,20 +4,25 @@ from __future__ import annotations
 
 import copy
 import ctypes
+import math
 import operator
 import os
+import pickle
 import struct
 import typing
 from decimal import Decimal
 from fractions import Fraction
 from numbers import Real
 from typing import (
-    TYPE_CHECKING, Any, Callable, Dict, Iterable, List, NamedTuple, Optional, Tuple, Type, TypeVar)
+    TYPE_CHECKING, Any, Callable, Dict, Iterable, List, NamedTuple, Optional, Tuple, Type, TypeVar,
+    Union)
 
 from . import _library as library
 from ._files import Path, map_file, read_whole, write_file
 from ._items import Buffer, Item, Rate, bytes_of, check_many, plain_bytes
 from ._locks import alone, alone_with, new_lock
+from ._many import Hashes, each_part, told, words_of
+from ._mask import Mask
 from ._rates import rounded_outward
 
 if TYPE_CHECKING:
@@ -44,10 +49,7 @@ _REASONS = {
     15: "input failed",
 }
 _HEAD = 64  # bytes; the words of a file come next
-_AT_ONCE = 4096  # hashes that are inserted or looked up by one call
 _LONGEST_RATE, _LONGEST_EXPONENT = 2000, 4  # digits of a rate, and of its exponent
-# The bits of a byte, from the lowest one.
-_BITS = [[byte >> place & 1 == 1 for place in range(8)] for byte in range(256)]
 
 
 class Refusal(ValueError):
@@ -138,8 +140,20 @@ def _check_file(head: bytes, size: int, max_hashes: Optional[int]) -> Tuple[int,
 
 
 def _restored(cls: Type[Filter], data: bytes) -> Filter:
-    """The filter that was pickled."""
+    """The filter that was pickled as a file."""
     return cls.from_bytes(data, max_hashes=None)
+
+
+def _restored_words(cls: Type[Filter], num_hashes: int, key: bytes, words: Buffer) -> Filter:
+    """The filter that was pickled as words, which are copied: they may be another filter's."""
+    memory = bytearray(plain_bytes(words, "words are a bytes-like object"))
+    if not 1 <= num_hashes < 2**32:
+        raise ValueError("hashes are from 1 to 2^32 - 1")
+    if not memory or len(memory) % 8:
+        raise ValueError("words are of eight bytes")
+    made = cls.__new__(cls)
+    made._set(memory, 0, len(memory) // 8, num_hashes, key)
+    return made
 
 
 def _attributes_of(made: Filter) -> Tuple[Dict[str, Any], Dict[str, Any]]:
@@ -264,56 +278,62 @@ class Filter:
 
     # Many items
 
-    def update(self, items: Iterable[Item]) -> None:
-        """Adds each item of an iterable, many by one call.
+    def update(self, *others: Union[Filter, Iterable[Item]]) -> None:
+        """Adds each item of the iterables, many by one call. A filter among them is taken in.
 
-        Where the iterable raises, or an item is refused, those before it were added. A single `str`
-        or bytes-like object raises TypeError: it is an item.
+        Where an iterable raises, or an item is refused, those before it were added. A single `str`
+        or bytes-like object raises TypeError, since it is an item, and a filter that doesn't fit
+        ValueError; these are seen first.
         """
-        check_many(items, "add")
-        hash_of, key = library.hash_of, self._key
-        hashes, count = (ctypes.c_uint64 * _AT_ONCE)(), 0
-        try:
-            for item in items:
-                data = bytes_of(item)
-                hashes[count] = hash_of(key, data, len(data))
-                count += 1
-                if count == _AT_ONCE:
-                    self._add_hashes(hashes, count)
-                    count = 0
-        finally:
-            self._add_hashes(hashes, count)
+        for other in others:
+            self._check_other(other, "add")
+        for other in others:
+            if isinstance(other, Filter):
+                self._change(other, library.union)
+            else:
+                each_part(other, self._key, "add", self._add_hashed)
 
     @alone
-    def _add_hashes(self, hashes: ctypes.Array[ctypes.c_uint64], count: int) -> None:
-        library.insert_hashes(self._at, self._num_words, self._num_hashes, hashes, count)
+    def _add_hashed(self, hashes: Hashes) -> None:
+        library.insert_hashes(self._at, self._num_words, self._num_hashes, *hashes)
 
     def contains_many(self, items: Iterable[Item]) -> List[bool]:
         """Whether each item of an iterable is contained, in their order, many by one call.
 
         An item that is refused, and a single `str` or bytes-like object, raise as in `update`.
         """
-        check_many(items, "in")
-        hash_of, key = library.hash_of, self._key
-        hashes, count = (ctypes.c_uint64 * _AT_ONCE)(), 0
         answers: List[bool] = []
-        for item in items:
-            data = bytes_of(item)
-            hashes[count] = hash_of(key, data, len(data))
-            count += 1
-            if count == _AT_ONCE:
-                answers += self._contains_hashes(hashes, count)
-                count = 0
-        return answers + self._contains_hashes(hashes, count)
+        each_part(items, self._key, "in",
+                  lambda hashes: answers.extend(self._contains_hashed(hashes).tolist()))
+        return answers
+
+    def add_hashes(self, hashes: Buffer) -> None:
+        """Adds each hash of a buffer of words of 64 bits, as of an array, by one call.
+
+        Such a buffer is an `array("Q")`, an array of numpy of kind `uint64`, or a view of one. Any
+        other raises TypeError. What can't be written is copied first.
+        """
+        self._add_hashed(words_of(hashes))
+
+    def contains_hashes(self, hashes: Buffer) -> Mask:
+        """Whether each hash of a buffer of words of 64 bits is contained, by one call."""
+        return self._contains_hashed(words_of(hashes))
 
     @alone
-    def _contains_hashes(self, hashes: ctypes.Array[ctypes.c_uint64], count: int) -> List[bool]:
-        found = (ctypes.c_uint64 * (_AT_ONCE // 64))()
-        library.contains_hashes(
-            self._at, self._num_words, self._num_hashes, hashes, count, found, len(found))
-        answers = [bit for byte in bytes(found) for bit in _BITS[byte]]
-        del answers[count:]
-        return answers
+    def _contains_hashed(self, hashes: Hashes) -> Mask:
+        return told(library.contains_hashes, (self._at, self._num_words, self._num_hashes), hashes)
+
+    def add_hashes_tell_new(self, hashes: Buffer) -> Mask:
+        """Adds each hash of a buffer of words of 64 bits, and tells which of them were new.
+
+        They are added one after the other, so a hash that comes twice is new once at most.
+        """
+        return self._add_hashed_tell_new(words_of(hashes))
+
+    @alone
+    def _add_hashed_tell_new(self, hashes: Hashes) -> Mask:
+        return told(library.insert_hashes_tell_new,
+                    (self._at, self._num_words, self._num_hashes), hashes)
 
     @alone
     def clear(self) -> None:
@@ -381,7 +401,30 @@ class Filter:
         library.estimate(self._at, self._num_words, self._num_hashes, low, high)
         return _estimate(low, high)
 
+    @property
+    def approx_items(self) -> float:
+        """About how many items are in it: the middle of `estimate`, or infinity."""
+        low, high = self.estimate()
+        return math.inf if high is None else (low + high) / 2
+
     # Two filters
+
+    def _check_other(self, other: Any, call: str) -> None:
+        """Raises for what is neither a filter that fits nor many items."""
+        if isinstance(other, Filter):
+            self._check_shape(other)
+        else:
+            check_many(other, call)
+            iter(other)
+
+    def _as_filter(self, other: Union[Filter, Iterable[Item]]) -> Filter:
+        """A filter, or that of items, with as many words and hashes as this one, and its key."""
+        if isinstance(other, Filter):
+            return other
+        made = Filter.__new__(Filter)
+        made._set(bytearray(8 * self._num_words), 0, self._num_words, self._num_hashes, self._key)
+        made.update(other)
+        return made
 
     @alone_with
     def _with(self, other: Filter, call: Callable[..., bool], *more: Any) -> bool:
@@ -469,6 +512,66 @@ class Filter:
         common &= other
         return common
 
+    def union(self, *others: Union[Filter, Iterable[Item]]) -> Self:
+        """A filter of what this one or any of the others contains. It raises as `update`."""
+        for other in others:
+            self._check_other(other, "add")
+        united = self.copy()
+        united.update(*others)
+        return united
+
+    def intersection(self, *others: Union[Filter, Iterable[Item]]) -> Self:
+        """A filter of what this one and each of the others may contain. It raises as `update`."""
+        for other in others:
+            self._check_other(other, "add")
+        common = self.copy()
+        common.intersection_update(*others)
+        return common
+
+    def intersection_update(self, *others: Union[Filter, Iterable[Item]]) -> None:
+        """Keeps what each of the others may contain. Where it raises, as `update`, all is kept."""
+        for other in others:
+            self._check_other(other, "add")
+        for fitting in list(map(self._as_filter, others)):
+            self._change(fitting, library.intersect)
+
+    def issubset(self, other: Filter) -> bool:
+        """Whether the other has all set bits of this one, so that it contains all items of this.
+
+        A filter of another size, number of hashes or key raises ValueError, and what is no filter
+        TypeError.
+        """
+        if not isinstance(other, Filter):
+            raise TypeError(f"the other is a Filter, not {type(other).__name__}")
+        self._check_shape(other)
+        # Other threads may add to it meanwhile: both are made of what it was at one instant.
+        before = other._copy()
+        united = before._copy()
+        united._change(self, library.union)
+        return united == before
+
+    def issuperset(self, other: Filter) -> bool:
+        """Whether it has all set bits of the other. It raises as `issubset`."""
+        if not isinstance(other, Filter):
+            raise TypeError(f"the other is a Filter, not {type(other).__name__}")
+        return other.issubset(self)
+
+    def __le__(self, other: Filter) -> bool:
+        """As `issubset`."""
+        return self.issubset(other) if isinstance(other, Filter) else NotImplemented
+
+    def __ge__(self, other: Filter) -> bool:
+        """As `issuperset`."""
+        return other.issubset(self) if isinstance(other, Filter) else NotImplemented
+
+    def __lt__(self, other: Filter) -> bool:
+        """As `issubset`, of filters that aren't equal."""
+        return self <= other and self != other if isinstance(other, Filter) else NotImplemented
+
+    def __gt__(self, other: Filter) -> bool:
+        """As `issuperset`, of filters that aren't equal."""
+        return self >= other and self != other if isinstance(other, Filter) else NotImplemented
+
     def __eq__(self, other: object) -> bool:
         """Whether words, numbers of hashes and keys are equal."""
         if not isinstance(other, Filter):
@@ -507,9 +610,33 @@ class Filter:
 
     def __reduce__(self) -> Tuple[Any, ...]:
         """Pickles the bytes of the file, which have the key, and what a subclass adds."""
+        return _restored, (type(self), self.to_bytes()), self._state()
+
+    def __reduce_ex__(self, protocol: Any) -> Any:
+        """From protocol 5 on it hands out the words themselves, which `buffer_callback` may take.
+
+        No other thread adds meanwhile. The filter that is read has a copy of them.
+        """
+        if protocol < 5 or type(self).__reduce__ is not Filter.__reduce__:
+            return self.__reduce__()
+        words = pickle.PickleBuffer(self._view.toreadonly())
+        return _restored_words, (type(self), self._num_hashes, self._key, words), self._state()
+
+    def _state(self) -> Any:
+        """What a subclass adds, as pickle takes it."""
         attributes, slots = _attributes_of(self)
-        state = (attributes or None, slots) if slots else attributes or None
-        return _restored, (type(self), self.to_bytes()), state
+        return (attributes or None, slots) if slots else attributes or None
+
+    def __sizeof__(self) -> int:
+        """The bytes of memory, those of its words included."""
+        return int(object.__sizeof__(self)) + self._view.nbytes
+
+    def view(self) -> memoryview:
+        """The words as a memoryview of numbers of 64 bits, which can't be written.
+
+        Nothing is copied: it shows what is added later. `words` makes a copy.
+        """
+        return self._view.cast("Q").toreadonly()
 
     def words(self) -> List[int]:
         """The words, as a list of numbers."""

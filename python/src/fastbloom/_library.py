@@ -63,6 +63,8 @@ insert_hashes: Callable[..., bool] = _call(
 contains_hash: Callable[..., bool] = _call("contains_hash", _BOOL, _WORDS, _SIZE, _HASHES, _HASH)
 contains_hashes: Callable[..., bool] = _call(
     "contains_hashes", _BOOL, _WORDS, _SIZE, _HASHES, _MANY, _SIZE, _MANY, _SIZE)
+insert_hashes_tell_new: Callable[..., bool] = _call(
+    "insert_hashes_tell_new", _BOOL, _WORDS, _SIZE, _HASHES, _MANY, _SIZE, _MANY, _SIZE)
 insert: Callable[..., bool] = _call(
     "insert", _BOOL, _WORDS, _SIZE, _HASHES, _BYTES, _BYTES, _SIZE)
 contains: Callable[..., bool] = _call(
@@ -88,7 +90,9 @@ jaccard: Callable[..., bool] = _call(
 head_write: Callable[..., int] = _call("head_write", _CODE, _SIZE, _HASHES, _BYTES, _HASH, _WORDS)
 head_read: Callable[..., int] = _call(
     "head_read", _CODE, _BYTES, _TO_SIZE, _TO_HASHES, _BYTES, _MANY)
-# The words that a seal is asked for are no filter's yet, so other threads may go on meanwhile.
+# These touch no filter's words, so other threads may go on meanwhile.
+hash_items: Callable[..., bool] = _call(
+    "hash_items", _BOOL, _BYTES, _BYTES, _SIZE, _WORDS, _SIZE, _MANY, _SIZE, library=_LETTING_GO)
 seal: Callable[..., int] = _call("seal", _HASH, _WORDS, _SIZE, _HASHES, _BYTES, library=_LETTING_GO)
 
 

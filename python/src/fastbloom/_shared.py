@@ -5,14 +5,15 @@ from __future__ import annotations
 import ctypes
 import mmap
 import os
-from typing import Any, Callable, Iterable, List, NoReturn, Tuple
+from typing import Any, Callable, Iterable, List, NoReturn, Union
 
 from . import _library as library
 from ._files import Path
 from ._filter import (
-    _AT_ONCE, _BITS, _HEAD, Filter, Refusal, _check, _check_file, _hash_value, _number_of_items,
-    _parts)
+    _HEAD, Filter, Refusal, _check, _check_file, _hash_value, _number_of_items, _parts)
 from ._items import Buffer, Item, Rate, bytes_of, check_many, plain_bytes
+from ._many import Hashes, each_part, told, words_of
+from ._mask import Mask
 
 _EMPTY_WORDS, _TOO_MANY_WORDS = 2, 3
 
@@ -148,36 +149,32 @@ class SharedFilter:
 
     # Many items
 
-    def update(self, items: Iterable[Item]) -> None:
-        """Adds each item of an iterable, many by one call. It raises as `Filter.update`."""
-        check_many(items, "add")
-        hash_of, key = library.hash_of, self._key
-        hashes, count = (ctypes.c_uint64 * _AT_ONCE)(), 0
-        try:
-            for item in items:
-                data = bytes_of(item)
-                hashes[count] = hash_of(key, data, len(data))
-                count += 1
-                if count == _AT_ONCE:
-                    library.shared_insert_hashes(self._words, self._num_hashes, hashes, count)
-                    count = 0
-        finally:
-            library.shared_insert_hashes(self._words, self._num_hashes, hashes, count)
+    def update(self, *others: Union[SharedFilter, Iterable[Item]]) -> None:
+        """Adds each item of the iterables, many by one call. It takes and raises as `Filter.update`.
+
+        A shared filter among them is taken in, word by word.
+        """
+        for other in others:
+            if isinstance(other, SharedFilter):
+                self._check_shape(other)
+            else:
+                check_many(other, "add")
+                iter(other)
+        for other in others:
+            if isinstance(other, SharedFilter):
+                self._change(other, library.shared_union)
+            else:
+                each_part(other, self._key, "add", self._add_hashed)
+
+    def _add_hashed(self, hashes: Hashes) -> None:
+        library.shared_insert_hashes(self._words, self._num_hashes, *hashes)
 
     def contains_many(self, items: Iterable[Item]) -> List[bool]:
         """Whether each item of an iterable is contained, in their order, many by one call."""
-        check_many(items, "in")
-        hash_of, key = library.hash_of, self._key
-        hashes, count = (ctypes.c_uint64 * _AT_ONCE)(), 0
         answers: List[bool] = []
-        for item in items:
-            data = bytes_of(item)
-            hashes[count] = hash_of(key, data, len(data))
-            count += 1
-            if count == _AT_ONCE:
-                answers += self._tell(library.shared_contains_hashes, hashes, count)
-                count = 0
-        return answers + self._tell(library.shared_contains_hashes, hashes, count)
+        each_part(items, self._key, "in", lambda hashes: answers.extend(
+            self._tell(library.shared_contains_hashes, hashes).tolist()))
+        return answers
 
     def add_hashes(self, hashes: Buffer) -> None:
         """Adds each hash of a buffer of words of 64 bits, as of an array, by one call.
@@ -185,24 +182,19 @@ class SharedFilter:
         Threads that call it with buffers of their own run side by side. No thread changes the
         buffer meanwhile.
         """
-        data, count = _words_of(hashes)
-        library.shared_insert_hashes(self._words, self._num_hashes, data, count)
+        self._add_hashed(words_of(hashes))
 
-    def contains_hashes(self, hashes: Buffer) -> List[bool]:
+    def contains_hashes(self, hashes: Buffer) -> Mask:
         """Whether each hash of a buffer of words of 64 bits is contained, by one call."""
-        return self._tell(library.shared_contains_hashes, *_words_of(hashes))
+        return self._tell(library.shared_contains_hashes, words_of(hashes))
 
-    def add_hashes_tell_new(self, hashes: Buffer) -> List[bool]:
+    def add_hashes_tell_new(self, hashes: Buffer) -> Mask:
         """Adds each hash of a buffer of words of 64 bits, and tells which of the adds set a bit."""
-        return self._tell(library.shared_insert_hashes_tell_new, *_words_of(hashes))
+        return self._tell(library.shared_insert_hashes_tell_new, words_of(hashes))
 
-    def _tell(self, call: Callable[..., bool], hashes: Any, count: int) -> List[bool]:
+    def _tell(self, call: Callable[..., bool], hashes: Hashes) -> Mask:
         """Makes a call on hashes that tells of each by a bit."""
-        bits = (ctypes.c_uint64 * ((count + 63) // 64))()
-        call(self._words, self._num_hashes, hashes, count, bits, len(bits))
-        answers = [bit for byte in bytes(bits) for bit in _BITS[byte]]
-        del answers[count:]
-        return answers
+        return told(call, (self._words, self._num_hashes), hashes)
 
     # All words
 
@@ -235,10 +227,13 @@ class SharedFilter:
         call(self._words, plain._at, count)
         return plain
 
-    def _change(self, other: SharedFilter, call: Callable[..., bool]) -> None:
+    def _check_shape(self, other: SharedFilter) -> None:
         for name in ("num_words", "num_hashes", "key"):
             if getattr(self, name) != getattr(other, name):
                 raise ValueError(f"the filters differ in {name}")
+
+    def _change(self, other: SharedFilter, call: Callable[..., bool]) -> None:
+        self._check_shape(other)
         call(self._words, other._words)
 
     def __ior__(self, other: SharedFilter) -> SharedFilter:
@@ -266,15 +261,3 @@ class SharedFilter:
         key = "a key" if any(self._key) else "the zero key"
         return f"<{type(self).__name__}: {self.num_bits} bits, {self._num_hashes} hashes, {key}>"
 
-
-def _words_of(hashes: Buffer) -> Tuple[Any, int]:
-    """The words of 64 bits of a buffer, and how many. Others raise TypeError."""
-    with memoryview(hashes) as view:
-        if view.itemsize != 8 or view.format not in ("Q", "L", "<Q", "<L", "=Q", "=L"):
-            raise TypeError("hashes are a buffer of words of 64 bits")
-        if not view.contiguous:
-            raise TypeError("hashes lie one behind the other")
-        count = view.nbytes // 8
-        if view.readonly:
-            return (ctypes.c_uint64 * count).from_buffer_copy(view), count
-        return (ctypes.c_uint64 * count).from_buffer(view), count

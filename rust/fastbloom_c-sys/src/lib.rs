@@ -3,8 +3,8 @@
 //!
 //! A filter is an array of `num_words` words of 64 bits, and a number of hashes, where none counts
 //! as one. An array of zeros is the empty filter. No words are no filter: each call that answers a
-//! `bool` answers false for them, and changes nothing. No call allocates memory, waits, unwinds, or
-//! keeps a pointer.
+//! `bool` answers false for them, and changes nothing. No call unwinds, and none allocates memory,
+//! waits, or keeps a pointer, but for those on files.
 //!
 //! # Safety
 //!
@@ -25,6 +25,8 @@
 //! - The processor has SSE4.2 (x86-64-v2).
 #![no_std]
 #![deny(missing_docs)]
+
+use core::ffi::c_char;
 
 /// The version of the header that these declarations follow.
 pub const FASTBLOOM_VERSION: &str = "0.17.0";
@@ -61,6 +63,21 @@ pub const FASTBLOOM_RESERVED: u8 = 13;
 pub const FASTBLOOM_SEAL: u8 = 14;
 /// A read failed.
 pub const FASTBLOOM_INPUT: u8 = 15;
+/// A file that is to be shared has a seal.
+pub const FASTBLOOM_SEALED: u8 = 252;
+/// A write failed.
+pub const FASTBLOOM_OUTPUT: u8 = 253;
+/// A rate of 1 or above, in C++.
+pub const FASTBLOOM_RATE_TOO_LARGE: u8 = 254;
+/// More hashes than the caller allows.
+pub const FASTBLOOM_TOO_MANY_HASHES: u8 = 255;
+
+/// A file is mapped to be read alone.
+pub const FASTBLOOM_MAP_READ: u32 = 0;
+/// A file is mapped, and what is written stays in the process.
+pub const FASTBLOOM_MAP_COPY: u32 = 1;
+/// A file is mapped, and what is written goes into it.
+pub const FASTBLOOM_MAP_SHARE: u32 = 2;
 
 /// A hasher of bytes that come in pieces. The caller owns it and may copy it. The key is in it, and
 /// up to seven of the bytes.
@@ -83,7 +100,39 @@ pub struct fastbloom_shared {
     pub num_words: usize,
 }
 
+/// A filter that a call on files reads, maps or writes.
+#[repr(C)]
+#[derive(Clone, Copy)]
+#[allow(non_camel_case_types)]
+pub struct fastbloom_filter {
+    /// The first word, or null where there is none.
+    pub words: *mut u64,
+    /// How many there are.
+    pub num_words: usize,
+    /// The number of positions that an item has.
+    pub num_hashes: u32,
+    /// The sixteen bytes of the key.
+    pub key: [u8; 16],
+}
+
+/// What a reader takes at most, of a file that others may have made.
+#[repr(C)]
+#[derive(Clone, Copy)]
+#[allow(non_camel_case_types)]
+pub struct fastbloom_limits {
+    /// The number of words.
+    pub max_words: usize,
+    /// The number of hashes.
+    pub max_hashes: u32,
+}
+
 extern "C" {
+    /// The version of the library that runs. The text stays where it is.
+    pub fn fastbloom_version() -> *const c_char;
+
+    /// A status code in words, also one that the library doesn't know. The text stays where it is.
+    pub fn fastbloom_strerror(code: u8) -> *const c_char;
+
     /// The numbers of words and of hashes for this many items at the rate `num / den`. It answers
     /// [`FASTBLOOM_OK`]; or [`FASTBLOOM_ZERO_RATE`], [`FASTBLOOM_SIZE_OVERFLOW`] or
     /// [`FASTBLOOM_TOO_MANY_WORDS`], and then both numbers are 0.
@@ -124,6 +173,21 @@ extern "C" {
 
     /// SipHash-1-3 of exactly these bytes under the key.
     pub fn fastbloom_hash(key: *const u8, bytes: *const u8, len: usize) -> u64;
+
+    /// The hashes of many items, whose bytes lie one behind the other: item i is those from
+    /// `offsets[i]` up to `offsets[i + 1]`. It answers true. Where there isn't one offset more than
+    /// hashes (or none of both), or an offset is less than the one before it or more than `len`, it
+    /// answers false and writes nothing.
+    #[must_use]
+    pub fn fastbloom_hash_items(
+        key: *const u8,
+        bytes: *const u8,
+        len: usize,
+        offsets: *const u64,
+        num_offsets: usize,
+        hashes: *mut u64,
+        count: usize,
+    ) -> bool;
 
     /// Begins with no bytes, under the key.
     pub fn fastbloom_hasher_init(hasher: *mut fastbloom_hasher, key: *const u8);
@@ -433,4 +497,38 @@ extern "C" {
         key: *mut u8,
         seal: *mut u64,
     ) -> u8;
+
+    /// Reads a file into words of its own, which [`fastbloom_unload`] frees. Null limits allow any
+    /// number of words that the file has, and 64 hashes. It answers [`FASTBLOOM_OK`]; or why the
+    /// file is refused, and then the filter has no words. The path ends in a zero byte.
+    #[must_use]
+    pub fn fastbloom_load(
+        path: *const c_char,
+        limits: *const fastbloom_limits,
+        filter: *mut fastbloom_filter,
+    ) -> u8;
+
+    /// Frees what [`fastbloom_load`] read. The filter then has no words.
+    pub fn fastbloom_unload(filter: *mut fastbloom_filter);
+
+    /// Maps a file, which [`fastbloom_unmap`] undoes. It answers as [`fastbloom_load`], and
+    /// [`FASTBLOOM_SEALED`] where a file that is to be shared has a seal. While it is mapped nobody
+    /// writes into it in another way, or makes it shorter.
+    #[must_use]
+    pub fn fastbloom_map(
+        path: *const c_char,
+        mode: u32,
+        limits: *const fastbloom_limits,
+        filter: *mut fastbloom_filter,
+    ) -> u8;
+
+    /// Undoes [`fastbloom_map`]. The filter then has no words.
+    pub fn fastbloom_unmap(filter: *mut fastbloom_filter);
+
+    /// Writes a file, whole or not at all, with a seal or without one. It answers
+    /// [`FASTBLOOM_OK`]; or [`FASTBLOOM_EMPTY_WORDS`], [`FASTBLOOM_TOO_MANY_WORDS`],
+    /// [`FASTBLOOM_MEMORY`] or [`FASTBLOOM_OUTPUT`], and then the old file is as it was.
+    #[must_use]
+    pub fn fastbloom_save(path: *const c_char, filter: *const fastbloom_filter, sealed: bool)
+        -> u8;
 }

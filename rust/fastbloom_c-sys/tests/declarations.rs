@@ -47,6 +47,8 @@ fn type_of_c(words: &str) -> String {
         "uint32_t" => "u32",
         "uint8_t" => "u8",
         "bool" => "bool",
+        "char" => "c_char",
+        "enum fastbloom_map_mode" => "u32",
         // A struct has the same name in Rust.
         own if own.starts_with("fastbloom_") => own,
         other => panic!("the header has the type {other}"),
@@ -79,17 +81,18 @@ fn calls_of_header() -> BTreeMap<String, String> {
         .map(|text| {
             let words = text.split_whitespace().collect::<Vec<_>>().join(" ");
             let words = words.rsplit('{').next().expect("a declaration").trim();
+            let words = &words.replace("*fastbloom_", "* fastbloom_");
             let (mark, words) = match words.strip_prefix("FASTBLOOM_MUST_USE ") {
                 Some(words) => ("#[must_use] ", words),
-                None => ("", words),
+                None => ("", words.as_str()),
             };
             let (result, rest) = words
                 .split_once(" fastbloom_")
                 .expect("a result and a name");
             let (name, rest) = rest.split_once('(').expect("parameters");
             let list = rest.strip_suffix(')').expect("the end of the parameters");
-            let list: Vec<_> = list.split(", ").map(parameter_of_c).collect();
-            let list = list.join(", ");
+            let list = list.split(", ").filter(|one| *one != "void");
+            let list = list.map(parameter_of_c).collect::<Vec<_>>().join(", ");
             let result = match result {
                 "void" => String::new(),
                 result => format!(" -> {}", type_of_c(result)),
@@ -143,9 +146,11 @@ fn each_symbol_is_declared() {
 
 #[test]
 fn each_number_is_that_of_the_header() {
-    let block = between(HEADER, "enum fastbloom_status {", "};").expect("numbers");
-    let wanted: Vec<_> = plain_c(block)
-        .split(',')
+    let blocks = ["enum fastbloom_status {", "enum fastbloom_file_status {"];
+    let blocks = blocks.map(|first| plain_c(between(HEADER, first, "};").expect("numbers")));
+    let wanted: Vec<_> = blocks
+        .iter()
+        .flat_map(|block| block.split(','))
         .map(|text| text.split_whitespace().collect::<Vec<_>>().join(" "))
         .collect();
     let lines = DECLARATIONS.lines().filter(|line| line.contains(": u8 = "));
@@ -163,7 +168,10 @@ fn each_number_is_that_of_the_header() {
 fn the_version_is_that_of_the_header() {
     let wanted = between(HEADER, "#define FASTBLOOM_VERSION \"", "\"");
     assert_eq!(Some(fastbloom_c_sys::FASTBLOOM_VERSION), wanted);
-    assert_eq!(Some(env!("CARGO_PKG_VERSION")), wanted);
+    assert_eq!(
+        Some(env!("CARGO_PKG_VERSION").split('+').next().unwrap()),
+        wanted
+    );
 }
 
 #[test]
@@ -188,6 +196,28 @@ fn shared_words_are_a_pointer_and_a_number() {
     assert_eq!(align_of_val(&shared), 8);
 }
 
+#[test]
+fn a_filter_of_a_file_lies_as_in_the_header() {
+    let wanted =
+        "typedef struct fastbloom_filter {\n    uint64_t *words;\n    size_t num_words;\n    \
+                  uint32_t num_hashes;\n    uint8_t key[16];\n} fastbloom_filter;";
+    assert!(HEADER.contains(wanted));
+    let wanted = "typedef struct fastbloom_limits {\n    size_t max_words;\n    \
+                  uint32_t max_hashes;\n} fastbloom_limits;";
+    assert!(HEADER.contains(wanted));
+    let modes = between(HEADER, "enum fastbloom_map_mode {", "};").map(plain_c);
+    let modes = modes.expect("modes");
+    let modes: Vec<_> = modes.split_whitespace().collect();
+    let wanted = "FASTBLOOM_MAP_READ = 0, FASTBLOOM_MAP_COPY = 1, FASTBLOOM_MAP_SHARE = 2";
+    assert_eq!(modes.join(" "), wanted);
+    assert_eq!(fastbloom_c_sys::FASTBLOOM_MAP_SHARE, 2);
+    let limits = fastbloom_c_sys::fastbloom_limits {
+        max_words: 0,
+        max_hashes: 0,
+    };
+    assert_eq!(size_of_val(&limits), 16);
+}
+
 /// Takes the addresses of these calls, so that the linker looks for each.
 macro_rules! linked {
     ($($name:ident)*) => {
@@ -198,20 +228,20 @@ macro_rules! linked {
 #[test]
 fn the_library_has_each_symbol() {
     let linked = linked! {
-        fastbloom_clear fastbloom_contains fastbloom_contains_hash
-        fastbloom_contains_hashes fastbloom_count_ones fastbloom_equal fastbloom_estimate
-        fastbloom_estimate_common fastbloom_estimate_union fastbloom_expected_rate
-        fastbloom_hash fastbloom_hasher_finish fastbloom_hasher_init
-        fastbloom_hasher_update fastbloom_head_read fastbloom_head_write fastbloom_insert
-        fastbloom_insert_hash fastbloom_insert_hashes fastbloom_insert_hashes_tell_new
-        fastbloom_intersect fastbloom_jaccard fastbloom_num_bits fastbloom_plan
-        fastbloom_rate_bounds fastbloom_rate_now
-        fastbloom_seal fastbloom_shared_clear fastbloom_shared_contains
-        fastbloom_shared_contains_hash fastbloom_shared_contains_hashes
-        fastbloom_shared_count_ones fastbloom_shared_insert fastbloom_shared_insert_hash
-        fastbloom_shared_insert_hashes fastbloom_shared_insert_hashes_tell_new
-        fastbloom_shared_intersect fastbloom_shared_load fastbloom_shared_take
-        fastbloom_shared_union fastbloom_union
+        fastbloom_clear fastbloom_contains fastbloom_contains_hash fastbloom_contains_hashes
+        fastbloom_count_ones fastbloom_equal fastbloom_estimate fastbloom_estimate_common
+        fastbloom_estimate_union fastbloom_expected_rate fastbloom_hash fastbloom_hash_items
+        fastbloom_hasher_finish fastbloom_hasher_init fastbloom_hasher_update
+        fastbloom_head_read fastbloom_head_write fastbloom_insert fastbloom_insert_hash
+        fastbloom_insert_hashes fastbloom_insert_hashes_tell_new fastbloom_intersect
+        fastbloom_jaccard fastbloom_load fastbloom_map fastbloom_num_bits fastbloom_plan
+        fastbloom_rate_bounds fastbloom_rate_now fastbloom_save fastbloom_seal
+        fastbloom_shared_clear fastbloom_shared_contains fastbloom_shared_contains_hash
+        fastbloom_shared_contains_hashes fastbloom_shared_count_ones fastbloom_shared_insert
+        fastbloom_shared_insert_hash fastbloom_shared_insert_hashes
+        fastbloom_shared_insert_hashes_tell_new fastbloom_shared_intersect fastbloom_shared_load
+        fastbloom_shared_take fastbloom_shared_union fastbloom_strerror fastbloom_union
+        fastbloom_unload fastbloom_unmap fastbloom_version
     };
     assert_eq!(
         linked.map(|(name, _)| name).as_slice(),

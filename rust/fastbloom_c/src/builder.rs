@@ -102,7 +102,8 @@ impl BloomFilter {
         })
     }
 
-    /// A builder of a filter with this rate of false positives.
+    /// A builder of a filter with this rate of false positives. One of 1 and above gives the
+    /// smallest filter, which is the rule of the Rust crate.
     ///
     /// ```
     /// # use fastbloom_c::{BloomFilter, Error, Rate};

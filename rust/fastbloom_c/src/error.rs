@@ -51,10 +51,12 @@ pub enum Error {
     TooManyHashes,
     /// Two filters differ in their numbers of words or hashes, or in their keys.
     OtherShape,
+    /// A number or a text is no rate above 0 and below 1 whose parts are below 2^64.
+    NotARate,
 }
 
 impl Error {
-    /// The number that the header `fastbloom.h` names. The last two have none.
+    /// The number that the header `fastbloom.h` names. The last three have none.
     ///
     /// ```
     /// use fastbloom_c::Error;
@@ -78,7 +80,7 @@ impl Error {
             Error::Reserved => fastbloom_c_sys::FASTBLOOM_RESERVED,
             Error::Seal => fastbloom_c_sys::FASTBLOOM_SEAL,
             Error::Input(_) => fastbloom_c_sys::FASTBLOOM_INPUT,
-            Error::TooManyHashes | Error::OtherShape => return None,
+            Error::TooManyHashes | Error::OtherShape | Error::NotARate => return None,
         })
     }
 
@@ -118,6 +120,7 @@ impl fmt::Display for Error {
             Error::Input(error) => return write!(f, "input failed: {error}"),
             Error::TooManyHashes => "more hashes than are allowed",
             Error::OtherShape => "the filters differ in words, hashes or keys",
+            Error::NotARate => "a rate is above 0 and below 1, with parts below 2^64",
         })
     }
 }

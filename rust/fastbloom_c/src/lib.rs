@@ -16,8 +16,7 @@
 //! The work is done by the library fastbloom_c, each call of which is proved, through
 //! [`fastbloom_c_sys`]. This crate itself is tested, and not proved. The names are those of the
 //! Rust crate fastbloom 0.17.0 where it has them. Three things differ: rates are fractions; what
-//! that crate panics on is an [`Error`]; and an item is its bytes, so no `Hash` and no
-//! `BuildHasher` is asked for.
+//! that crate panics on is an [`Error`]; and an item is its bytes, so that other languages find it.
 //!
 //! # Items
 //!
@@ -28,6 +27,19 @@
 //! ```compile_fail,E0277
 //! let mut seen = fastbloom_c::BloomFilter::with_num_bits(64).unwrap().hashes(1);
 //! seen.insert(&5u32);
+//! ```
+//!
+//! What is [`Hash`](std::hash::Hash) is inserted by the hash of any
+//! [`BuildHasher`](std::hash::BuildHasher), which the caller keeps, since no file has it:
+//!
+//! ```
+//! use std::hash::{BuildHasher, RandomState};
+//!
+//! let state = RandomState::new();
+//! let mut seen = fastbloom_c::BloomFilter::with_num_bits(1024)?.hashes(4);
+//! seen.insert_hash(state.hash_one((5u32, "crab")));
+//! assert!(seen.contains_hash(state.hash_one((5u32, "crab"))));
+//! # Ok::<(), fastbloom_c::Error>(())
 //! ```
 //!
 //! # Keys
@@ -60,6 +72,8 @@ mod error;
 mod estimates;
 mod file;
 mod many;
+mod operators;
+mod paths;
 mod pieces;
 mod rate;
 #[allow(unsafe_code)]

@@ -1,6 +1,6 @@
 //! Many items by one call, which costs less than a call for each.
 
-use crate::{raw, BloomFilter};
+use crate::{hash, raw, BloomFilter, Rate};
 
 /// This many hashes are handed to one call of the library.
 pub(crate) const AT_ONCE: usize = 1024;
@@ -133,5 +133,28 @@ impl BloomFilter {
 impl<T: AsRef<[u8]>> Extend<T> for BloomFilter {
     fn extend<I: IntoIterator<Item = T>>(&mut self, items: I) {
         self.insert_all(items);
+    }
+}
+
+/// The filter of the items of any iterator, at one false positive in a thousand, under the zero key.
+/// For another rate or key, and a known number of items, take a builder's `items`.
+///
+/// ```
+/// # use fastbloom_c::BloomFilter;
+/// let seen: BloomFilter = "crab and lobster".split(' ').collect();
+/// assert!(seen.contains("lobster") && !seen.contains("whale"));
+/// ```
+///
+/// # Panics
+/// Where there is no memory, as other collections do.
+impl<T: AsRef<[u8]>> FromIterator<T> for BloomFilter {
+    fn from_iter<I: IntoIterator<Item = T>>(items: I) -> BloomFilter {
+        let key = [0; 16];
+        let hashes: Vec<u64> = items.into_iter().map(|item| hash(&key, &item)).collect();
+        let mut filter = Rate::new(1, 1000)
+            .and_then(|rate| BloomFilter::with_false_pos(rate).expected_items(hashes.len()))
+            .unwrap_or_else(|refused| panic!("a filter of {} items: {refused}", hashes.len()));
+        filter.insert_hashes(&hashes);
+        filter
     }
 }

@@ -1,10 +1,13 @@
 //! Rates of false positives.
 
 use crate::Error;
+use std::str::FromStr;
 
 /// A rate of false positives, as a fraction above zero.
 ///
-/// Two rates are equal where they are the same number.
+/// Two rates are equal where they are the same number. [`new`](Rate::new) takes one of 1 and above,
+/// as the Rust crate does: it gives the smallest filter. So where a user chooses the rate, read it by
+/// `parse` or `try_from`, which refuse such a one.
 ///
 /// ```
 /// use fastbloom_c::{Error, Rate};
@@ -22,7 +25,7 @@ pub struct Rate {
 }
 
 impl Rate {
-    /// The rate `num / den`, which may be above one.
+    /// The rate `num / den`. It may be 1 and above, which gives the smallest filter.
     ///
     /// # Errors
     /// [`Error::ZeroRate`] where a part is zero.
@@ -51,6 +54,89 @@ impl PartialEq for Rate {
 }
 
 impl Eq for Rate {}
+
+/// Reads a rate below 1: a fraction such as `1/1000`, or a decimal number such as `0.001` or `1e-3`.
+///
+/// ```
+/// use fastbloom_c::{Error, Rate};
+///
+/// for text in ["1/1000", "0.001", "1e-3", "10E-4", ".001"] {
+///     assert_eq!(text.parse(), Rate::new(1, 1000));
+/// }
+/// for text in ["1", "2/2", "0", "-0.1", "a tenth", "1e-30", ""] {
+///     assert_eq!(text.parse::<Rate>(), Err(Error::NotARate));
+/// }
+/// ```
+impl FromStr for Rate {
+    type Err = Error;
+
+    fn from_str(text: &str) -> Result<Rate, Error> {
+        let fraction = match text.split_once('/') {
+            Some((num, den)) => digits(num).zip(digits(den)),
+            None => decimal(text),
+        };
+        let (num, den) = fraction.ok_or(Error::NotARate)?;
+        if num == 0 || num >= den {
+            return Err(Error::NotARate);
+        }
+        let common = greatest_divisor(num, den);
+        match (u64::try_from(num / common), u64::try_from(den / common)) {
+            (Ok(num), Ok(den)) => Rate::new(num, den),
+            _ => Err(Error::NotARate),
+        }
+    }
+}
+
+/// The rate of the shortest decimal number that is this float.
+///
+/// ```
+/// use fastbloom_c::{Error, Rate};
+///
+/// assert_eq!(Rate::try_from(0.001), Rate::new(1, 1000));
+/// for number in [0.0, -0.5, 1.0, 1.5, f64::NAN, f64::INFINITY, 1e-30] {
+///     assert_eq!(Rate::try_from(number), Err(Error::NotARate));
+/// }
+/// ```
+impl TryFrom<f64> for Rate {
+    type Error = Error;
+
+    fn try_from(number: f64) -> Result<Rate, Error> {
+        format!("{number:e}").parse()
+    }
+}
+
+/// The longest number that is read, in digits. One of more has parts of 2^64 and above, unless it
+/// has needless zeros.
+const LONGEST: usize = 38;
+
+/// A number of nothing but decimal digits.
+fn digits(text: &str) -> Option<u128> {
+    let all = text.bytes().all(|byte| byte.is_ascii_digit());
+    (all && !text.is_empty() && text.len() <= LONGEST).then(|| text.parse().ok())?
+}
+
+/// The two parts of a decimal number.
+fn decimal(text: &str) -> Option<(u128, u128)> {
+    let (mantissa, exponent) = text.split_once(['e', 'E']).unwrap_or((text, "0"));
+    let (whole, rest) = mantissa.split_once('.').unwrap_or((mantissa, ""));
+    let num = digits(&format!("{whole}{rest}"))?;
+    // The number is `num`, by ten as often as this says.
+    let places = i64::from(exponent.parse::<i16>().ok()?) - i64::try_from(rest.len()).ok()?;
+    let power = 10u128.checked_pow(u32::try_from(places.unsigned_abs()).ok()?)?;
+    if places < 0 {
+        Some((num, power))
+    } else {
+        Some((num.checked_mul(power)?, 1))
+    }
+}
+
+/// The greatest common divisor of two numbers that aren't both zero.
+fn greatest_divisor(mut one: u128, mut other: u128) -> u128 {
+    while other != 0 {
+        (one, other) = (other, one % other);
+    }
+    one
+}
 
 /// Two bounds of a rate, or of a part, in units of 2^-63.
 ///

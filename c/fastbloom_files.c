@@ -1,0 +1,316 @@
+/* The calls of the library that are written in C: its version, the texts of its status codes, and
+ * filters in files. They are tested and not proved. What a file's head says, and its seal, are read
+ * and written by the proved calls.
+ *
+ * It needs Linux, and glibc 2.28 or another C library that has statx and getrandom. (`stat` of a
+ * later glibc asks for that one.) */
+#define _GNU_SOURCE
+#define FASTBLOOM_NO_WRAPPERS
+#include "fastbloom.h"
+
+#include <errno.h>
+#include <fcntl.h>
+#include <stdio.h>
+#include <stdlib.h>
+#include <string.h>
+#include <sys/mman.h>
+#include <sys/random.h>
+#include <sys/stat.h>
+#include <time.h>
+#include <unistd.h>
+
+enum {
+    HEAD = 64,             /* bytes; the words come next */
+    NUMBERS = 48,          /* bytes of the head before the reserved ones */
+    TRIES = 100,           /* names of a new file that are drawn at most */
+    DRAWN = 16,            /* digits of such a name */
+    MOST_AT_ONCE = 1 << 30 /* bytes that are read or written by one call of the system */
+};
+
+const char *fastbloom_version(void) {
+    return FASTBLOOM_VERSION;
+}
+
+const char *fastbloom_strerror(uint8_t code) {
+    switch (code) {
+    case FASTBLOOM_OK: return "no refusal";
+    case FASTBLOOM_ZERO_BITS: return "zero bits";
+    case FASTBLOOM_EMPTY_WORDS: return "no words";
+    case FASTBLOOM_TOO_MANY_WORDS: return "too many words";
+    case FASTBLOOM_ZERO_RATE: return "rate with a zero part";
+    case FASTBLOOM_SIZE_OVERFLOW: return "size too large";
+    case FASTBLOOM_MEMORY: return "no memory";
+    case FASTBLOOM_HASH_COUNT: return "hash count out of range";
+    case FASTBLOOM_WORKER: return "no worker";
+    case FASTBLOOM_NOT_A_FILTER: return "not a filter";
+    case FASTBLOOM_UNKNOWN_VERSION: return "a version of the file that isn't known";
+    case FASTBLOOM_CUT: return "the file is cut";
+    case FASTBLOOM_TOO_LONG: return "the file goes on after its last word";
+    case FASTBLOOM_RESERVED: return "a reserved byte isn't zero";
+    case FASTBLOOM_SEAL: return "the seal is wrong: the file was changed";
+    case FASTBLOOM_INPUT: return "input failed";
+    case FASTBLOOM_SEALED: return "the file has a seal, which inserts would make wrong";
+    case FASTBLOOM_OUTPUT: return "output failed";
+    case FASTBLOOM_RATE_TOO_LARGE: return "rate of 1 or above";
+    case FASTBLOOM_TOO_MANY_HASHES: return "more hashes than are allowed";
+    default: return "an unknown refusal";
+    }
+}
+
+/* Closes a file, and leaves the number of the last error as it is. */
+static void close_quietly(int file) {
+    int why = errno;
+    close(file);
+    errno = why;
+}
+
+/* Opens a file and tells its size. A folder, a device or a pipe is refused, and not waited for. */
+static uint8_t open_to_read(const char *path, int flags, int *file, size_t *size) {
+    *file = open(path, flags | O_CLOEXEC | O_NONBLOCK | O_NOCTTY);
+    if (*file < 0) return FASTBLOOM_INPUT;
+    struct statx about;
+    bool is_known = statx(*file, "", AT_EMPTY_PATH, STATX_TYPE | STATX_SIZE, &about) == 0;
+    if (is_known && S_ISREG(about.stx_mode)) {
+        *size = (size_t)about.stx_size;
+        return FASTBLOOM_OK;
+    }
+    if (is_known) errno = S_ISDIR(about.stx_mode) ? EISDIR : EINVAL;
+    close_quietly(*file);
+    return FASTBLOOM_INPUT;
+}
+
+/* Reads as many bytes as there are, and at most these. */
+static bool read_bytes(int file, void *bytes, size_t size, size_t *there) {
+    *there = 0;
+    while (*there < size) {
+        size_t left = size - *there;
+        ssize_t got = read(file, (char *)bytes + *there, left < MOST_AT_ONCE ? left : MOST_AT_ONCE);
+        if (got == 0) break;
+        if (got > 0)
+            *there += (size_t)got;
+        else if (errno != EINTR)
+            return false;
+    }
+    return true;
+}
+
+static bool write_bytes(int file, const void *bytes, size_t size) {
+    for (size_t done = 0; done < size;) {
+        size_t left = size - done;
+        ssize_t put =
+            write(file, (const char *)bytes + done, left < MOST_AT_ONCE ? left : MOST_AT_ONCE);
+        if (put >= 0)
+            done += (size_t)put;
+        else if (errno != EINTR)
+            return false;
+    }
+    return true;
+}
+
+/* Reads the head of a file of this size, of which the first bytes are given, as many as there are
+ * and at most 64. It answers the first reason to refuse the file. */
+static uint8_t read_head(const uint8_t *bytes, size_t size, const fastbloom_limits *limits,
+                         fastbloom_filter *filter, uint64_t *seal) {
+    /* A copy of the numbers that are there, with good ones in the place of those that a cut file
+     * lacks. The reserved bytes, which must be zero, are read after the size. */
+    uint8_t head[HEAD] = {[8] = 1, [16] = 1};
+    memcpy(head, bytes, size < NUMBERS ? size / 8 * 8 : NUMBERS);
+    uint8_t code =
+        fastbloom_head_read(head, &filter->num_words, &filter->num_hashes, filter->key, seal);
+    if (code != FASTBLOOM_OK) return code;
+    if (size < HEAD + 8 * filter->num_words) return FASTBLOOM_CUT;
+    if (size > HEAD + 8 * filter->num_words) return FASTBLOOM_TOO_LONG;
+    memcpy(head + NUMBERS, bytes + NUMBERS, HEAD - NUMBERS);
+    code = fastbloom_head_read(head, &filter->num_words, &filter->num_hashes, filter->key, seal);
+    if (code != FASTBLOOM_OK) return code;
+    if (filter->num_hashes > limits->max_hashes) return FASTBLOOM_TOO_MANY_HASHES;
+    return filter->num_words > limits->max_words ? FASTBLOOM_TOO_MANY_WORDS : FASTBLOOM_OK;
+}
+
+/* Whether the seal is 0, or that of these words. */
+static uint8_t check_seal(const fastbloom_filter *filter, uint64_t seal) {
+    return seal == 0 || seal == fastbloom_seal(filter->words, filter->num_words,
+                                               filter->num_hashes, filter->key)
+               ? FASTBLOOM_OK
+               : FASTBLOOM_SEAL;
+}
+
+/* The limits that are given, or those for no limits. */
+static const fastbloom_limits *limits_of(const fastbloom_limits *limits) {
+    static const fastbloom_limits usual = {SIZE_MAX, FASTBLOOM_USUAL_HASHES};
+    return limits == NULL ? &usual : limits;
+}
+
+/* Reads the words of an open file of this size. */
+static uint8_t load_open(int file, size_t size, const fastbloom_limits *limits,
+                         fastbloom_filter *filter) {
+    uint8_t head[HEAD];
+    size_t there;
+    uint64_t seal;
+    if (!read_bytes(file, head, sizeof head, &there)) return FASTBLOOM_INPUT;
+    /* (a file that became shorter since it was opened) */
+    if (there < sizeof head) size = there;
+    uint8_t code = read_head(head, size, limits, filter, &seal);
+    if (code != FASTBLOOM_OK) return code;
+    size_t bytes = 8 * filter->num_words;
+    filter->words = malloc(bytes);
+    if (filter->words == NULL) return FASTBLOOM_MEMORY;
+    if (!read_bytes(file, filter->words, bytes, &there))
+        code = FASTBLOOM_INPUT;
+    else
+        code = there < bytes ? FASTBLOOM_CUT : check_seal(filter, seal);
+    if (code != FASTBLOOM_OK) free(filter->words);
+    return code;
+}
+
+uint8_t fastbloom_load(const char *path, const fastbloom_limits *limits, fastbloom_filter *filter) {
+    fastbloom_filter read = {.words = NULL};
+    int file;
+    size_t size;
+    *filter = read;
+    uint8_t code = open_to_read(path, O_RDONLY, &file, &size);
+    if (code != FASTBLOOM_OK) return code;
+    code = load_open(file, size, limits_of(limits), &read);
+    close_quietly(file);
+    if (code == FASTBLOOM_OK) *filter = read;
+    return code;
+}
+
+void fastbloom_unload(fastbloom_filter *filter) {
+    free(filter->words);
+    memset(filter, 0, sizeof *filter);
+}
+
+/* Maps an open file of this size. */
+static uint8_t map_open(int file, size_t size, enum fastbloom_map_mode mode,
+                        const fastbloom_limits *limits, fastbloom_filter *filter) {
+    /* A file of no bytes has no mapping. */
+    if (size == 0) return FASTBLOOM_NOT_A_FILTER;
+    int rights = mode == FASTBLOOM_MAP_READ ? PROT_READ : PROT_READ | PROT_WRITE;
+    int kind = mode == FASTBLOOM_MAP_COPY ? MAP_PRIVATE : MAP_SHARED;
+    uint8_t *bytes = mmap(NULL, size, rights, kind, file, 0);
+    if (bytes == MAP_FAILED) return errno == ENOMEM ? FASTBLOOM_MEMORY : FASTBLOOM_INPUT;
+    uint64_t seal;
+    uint8_t code = read_head(bytes, size, limits, filter, &seal);
+    filter->words = (uint64_t *)(bytes + HEAD);
+    if (code == FASTBLOOM_OK) {
+        if (mode == FASTBLOOM_MAP_SHARE)
+            code = seal == 0 ? FASTBLOOM_OK : FASTBLOOM_SEALED;
+        else
+            code = check_seal(filter, seal);
+    }
+    if (code != FASTBLOOM_OK) munmap(bytes, size);
+    return code;
+}
+
+uint8_t fastbloom_map(const char *path, enum fastbloom_map_mode mode,
+                      const fastbloom_limits *limits, fastbloom_filter *filter) {
+    fastbloom_filter mapped = {.words = NULL};
+    int file;
+    size_t size;
+    *filter = mapped;
+    uint8_t code =
+        open_to_read(path, mode == FASTBLOOM_MAP_SHARE ? O_RDWR : O_RDONLY, &file, &size);
+    if (code != FASTBLOOM_OK) return code;
+    code = map_open(file, size, mode, limits_of(limits), &mapped);
+    close_quietly(file);
+    if (code == FASTBLOOM_OK) *filter = mapped;
+    return code;
+}
+
+void fastbloom_unmap(fastbloom_filter *filter) {
+    if (filter->words != NULL)
+        munmap((uint8_t *)filter->words - HEAD, HEAD + 8 * filter->num_words);
+    memset(filter, 0, sizeof *filter);
+}
+
+/* A number that no other call draws, as far as the system has such. */
+static uint64_t draw(void) {
+    uint64_t number;
+    if (getrandom(&number, sizeof number, GRND_NONBLOCK) == (ssize_t)sizeof number) return number;
+    struct timespec now;
+    clock_gettime(CLOCK_REALTIME, &now);
+    return ((uint64_t)now.tv_sec << 30 ^ (uint64_t)now.tv_nsec) + ((uint64_t)getpid() << 40);
+}
+
+/* Opens a new file beside the one at the path, and writes its name. A link of that name isn't
+ * followed. Until it has the rights of the old file, no other user may read it. */
+static int open_part(const char *path, char *part, size_t room, bool replaces) {
+    for (int tries = 0; tries < TRIES; tries++) {
+        snprintf(part, room, "%s.%016llx.part", path, (unsigned long long)draw());
+        int file = open(part, O_WRONLY | O_CREAT | O_EXCL | O_CLOEXEC | O_NOFOLLOW,
+                        replaces ? 0600 : 0666);
+        if (file >= 0 || errno != EEXIST) return file;
+    }
+    return -1;
+}
+
+/* Gives a file the owner, group and mode of another one, as far as this is allowed. */
+static bool give_rights(int file, const struct statx *old) {
+    mode_t mode = old->stx_mode & 0777;
+    if (fchown(file, old->stx_uid, old->stx_gid) != 0 &&
+        fchown(file, (uid_t)-1, old->stx_gid) != 0)
+        mode &= 0707; /* not to the members of another group */
+    return fchmod(file, mode) == 0;
+}
+
+/* Flushes the folder of a file, whose path is cut to it. So the file's new name outlasts a power
+ * cut. */
+static bool flush_folder(char *path) {
+    char *slash = strrchr(path, '/');
+    if (slash != NULL) slash[slash == path ? 1 : 0] = '\0';
+    int folder = open(slash == NULL ? "." : path, O_RDONLY | O_DIRECTORY | O_CLOEXEC);
+    if (folder < 0) return false;
+    /* (some systems of files have no such call, and need none) */
+    bool flushed = fsync(folder) == 0 || errno == EINVAL;
+    close_quietly(folder);
+    return flushed;
+}
+
+/* Writes a new file whole, with the rights of the old one where there is one, and flushes it. */
+static bool write_part(int file, const uint8_t head[HEAD], const fastbloom_filter *filter,
+                       const struct statx *old) {
+    return write_bytes(file, head, HEAD) &&
+           write_bytes(file, filter->words, 8 * filter->num_words) &&
+           (old == NULL || give_rights(file, old)) && fsync(file) == 0;
+}
+
+/* Gives a new file that is whole the name of the old one, and else removes it. */
+static bool put_in_place(char *part, const char *path, bool is_whole) {
+    if (is_whole && rename(part, path) == 0) return flush_folder(part);
+    int why = errno;
+    unlink(part);
+    errno = why;
+    return false;
+}
+
+/* Writes the head of a filter's file. No words have no seal to compute. */
+static uint8_t write_head(const fastbloom_filter *filter, bool sealed, uint8_t head[HEAD]) {
+    uint64_t seal = 0;
+    if (sealed && filter->num_words != 0)
+        seal = fastbloom_seal(filter->words, filter->num_words, filter->num_hashes, filter->key);
+    return fastbloom_head_write(filter->num_words, filter->num_hashes, filter->key, seal, head);
+}
+
+uint8_t fastbloom_save(const char *path, const fastbloom_filter *filter, bool sealed) {
+    uint8_t head[HEAD];
+    uint8_t code = write_head(filter, sealed, head);
+    if (code != FASTBLOOM_OK) return code;
+    size_t room = strlen(path) + sizeof "..part" + DRAWN;
+    char *part = malloc(room);
+    if (part == NULL) return FASTBLOOM_MEMORY;
+    struct statx about;
+    unsigned wanted = STATX_MODE | STATX_UID | STATX_GID;
+    const struct statx *old = statx(AT_FDCWD, path, 0, wanted, &about) == 0 ? &about : NULL;
+    int file = open_part(path, part, room, old != NULL);
+    bool saved = file >= 0;
+    if (saved) {
+        bool is_whole = write_part(file, head, filter, old);
+        close_quietly(file); /* what was flushed is safe */
+        saved = put_in_place(part, path, is_whole);
+    }
+    int why = errno;
+    free(part);
+    errno = why;
+    return saved ? FASTBLOOM_OK : FASTBLOOM_OUTPUT;
+}

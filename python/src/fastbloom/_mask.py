@@ -1,0 +1,84 @@
+"""What many look-ups or adds return: a bit for each."""
+
+from __future__ import annotations
+
+import operator
+from typing import Any, Iterator, List, Sequence, Union, overload
+
+# The bits of a byte, from the lowest one.
+_BITS = [[byte >> place & 1 == 1 for place in range(8)] for byte in range(256)]
+
+
+class Mask(Sequence[bool]):
+    """A sequence of truth values that is kept as bits, eight in a byte.
+
+    It equals a list or tuple of the same values. `numpy.asarray(mask)` is an array of booleans, and
+    so may stand as an index of one.
+    """
+
+    __slots__ = ("_bits", "_count")
+
+    def __init__(self, bits: bytearray, count: int) -> None:
+        """The first values of a buffer of bits, from the lowest bit of each byte."""
+        if len(bits) < -(-count // 8):
+            raise ValueError("there are fewer bits than values")
+        self._bits, self._count = bits, count
+
+    @property
+    def bits(self) -> memoryview:
+        """The bits, from the lowest of each byte. Those past the last value are zero."""
+        return memoryview(self._bits)[:(self._count + 7) // 8].toreadonly()
+
+    def __len__(self) -> int:
+        return self._count
+
+    @overload
+    def __getitem__(self, at: int) -> bool: ...
+    @overload
+    def __getitem__(self, at: slice) -> List[bool]: ...
+
+    def __getitem__(self, at: Union[int, slice]) -> Union[bool, List[bool]]:
+        if isinstance(at, slice):
+            return self.tolist()[at]
+        place = operator.index(at)
+        if place < 0:
+            place += self._count
+        if not 0 <= place < self._count:
+            raise IndexError("there is no such value")
+        return self._bits[place // 8] >> place % 8 & 1 == 1
+
+    def __iter__(self) -> Iterator[bool]:
+        return iter(self.tolist())
+
+    def tolist(self) -> List[bool]:
+        """The values as a list."""
+        values = [bit for byte in self.bits for bit in _BITS[byte]]
+        del values[self._count:]
+        return values
+
+    def count(self, value: Any = True) -> int:
+        """How many of the values are this one."""
+        if not isinstance(value, (bool, int)) or value not in (0, 1):
+            return 0
+        ones = bin(int.from_bytes(self.bits, "little")).count("1")
+        return ones if value else self._count - ones
+
+    def __eq__(self, other: object) -> bool:
+        if isinstance(other, Mask):
+            return self._count == other._count and self.bits == other.bits
+        if isinstance(other, (list, tuple)):
+            return self.tolist() == list(other)
+        return NotImplemented
+
+    __hash__ = None  # type: ignore[assignment]
+
+    def __array__(self, dtype: Any = None, copy: Any = None) -> Any:
+        """The values as an array of numpy."""
+        import numpy
+
+        bits = numpy.frombuffer(self.bits, dtype="u1")
+        values = numpy.unpackbits(bits, count=self._count, bitorder="little").view(bool)
+        return values if dtype is None else values.astype(dtype)
+
+    def __repr__(self) -> str:
+        return f"<{type(self).__name__}: {self.count()} of {self._count}>"

@@ -1,0 +1,183 @@
+//! Files by their paths, operators on filters, filters of iterators, and rates that are read.
+
+use fastbloom_c::{BloomFilter, Error, Rate};
+use std::error::Error as _;
+use std::os::unix::fs::{symlink, PermissionsExt};
+use std::path::PathBuf;
+use std::{env, fs, io, panic, process};
+
+/// A folder that is removed in the end.
+struct Folder(PathBuf);
+
+impl Folder {
+    fn new(name: &str) -> Folder {
+        let folder = env::temp_dir().join(format!("fastbloom-{name}-{}", process::id()));
+        fs::create_dir(&folder).unwrap();
+        Folder(folder)
+    }
+
+    fn names(&self) -> Vec<String> {
+        let names = fs::read_dir(&self.0).unwrap();
+        let mut names: Vec<_> = names
+            .map(|it| it.unwrap().file_name().into_string().unwrap())
+            .collect();
+        names.sort();
+        names
+    }
+}
+
+impl Drop for Folder {
+    fn drop(&mut self) {
+        fs::remove_dir_all(&self.0).unwrap();
+    }
+}
+
+fn seen() -> BloomFilter {
+    let mut seen = BloomFilter::with_num_bits(4096).unwrap().hashes(4);
+    seen.insert("crab");
+    seen
+}
+
+#[test]
+fn a_file_is_saved_whole_with_the_mode_of_the_old_one() {
+    let folder = Folder::new("saved");
+    let path = folder.0.join("seen.bloom");
+    fs::write(&path, "old").unwrap();
+    fs::set_permissions(&path, fs::Permissions::from_mode(0o640)).unwrap();
+    seen().save(&path).unwrap();
+    assert_eq!(fs::read(&path).unwrap(), seen().to_bytes());
+    assert_eq!(
+        fs::metadata(&path).unwrap().permissions().mode() & 0o7777,
+        0o640
+    );
+    assert_eq!(BloomFilter::load(&path).unwrap(), seen());
+    assert_eq!(folder.names(), ["seen.bloom"]);
+}
+
+#[test]
+fn a_part_that_was_left_is_no_obstacle_and_no_link_is_followed() {
+    let folder = Folder::new("parts");
+    let path = folder.0.join("seen.bloom");
+    let other = folder.0.join("other");
+    fs::write(&other, "other").unwrap();
+    for number in 0..20 {
+        let part = folder
+            .0
+            .join(format!("seen.bloom.{}.{number}.part", process::id()));
+        symlink(&other, part).unwrap();
+    }
+    seen().save(&path).unwrap();
+    assert_eq!(fs::read(&other).unwrap(), b"other");
+    assert_eq!(BloomFilter::load(&path).unwrap(), seen());
+    assert_eq!(folder.names().len(), 22);
+}
+
+#[test]
+fn what_cannot_be_saved_leaves_nothing() {
+    let folder = Folder::new("refused");
+    let below = folder.0.join("none").join("seen.bloom");
+    let refused = seen().save(&below).unwrap_err();
+    assert_eq!(refused.kind(), io::ErrorKind::NotFound);
+    // A folder at the path can't be replaced by a file.
+    let taken = folder.0.join("taken");
+    fs::create_dir(&taken).unwrap();
+    assert!(seen().save(&taken).is_err());
+    assert_eq!(folder.names(), ["taken"]);
+}
+
+#[test]
+fn what_cannot_be_loaded_is_told() {
+    let folder = Folder::new("loaded");
+    let none = BloomFilter::load(folder.0.join("none")).unwrap_err();
+    assert_eq!(none, Error::from(io::Error::from(io::ErrorKind::NotFound)));
+    assert!(none.source().is_some_and(|it| it.is::<io::Error>()));
+    assert!(matches!(BloomFilter::load(&folder.0), Err(Error::Input(_))));
+    let path = folder.0.join("text");
+    fs::write(&path, "a text, and no filter").unwrap();
+    assert_eq!(BloomFilter::load(&path), Err(Error::NotAFilter));
+}
+
+#[test]
+fn operators_are_the_calls_of_their_names() {
+    let mut empty = seen();
+    empty.clear();
+    let (mut one, mut other) = (empty.clone(), empty.clone());
+    one.insert_all(["crab", "eel"]);
+    other.insert_all(["eel", "whale"]);
+    let (mut united, mut common) = (one.clone(), one.clone());
+    united.union(&other).unwrap();
+    common.intersect(&other).unwrap();
+    assert_eq!(
+        (&one | &other, &one & &other),
+        (united.clone(), common.clone())
+    );
+    let mut changed = one.clone();
+    changed |= &other;
+    assert_eq!(changed, united);
+    changed = one.clone();
+    changed &= &other;
+    assert_eq!(changed, common);
+    let odd = BloomFilter::with_num_bits(64).unwrap().hashes(1);
+    for call in [|a, b| a | b, |a: &BloomFilter, b: &BloomFilter| a & b] {
+        assert!(panic::catch_unwind(|| call(&one, &odd)).is_err());
+    }
+}
+
+#[test]
+fn a_filter_is_collected_of_any_iterator() {
+    let items = || (0..5000).map(|number| format!("item{number}"));
+    // (an iterator that doesn't know its length)
+    let seen: BloomFilter = items().filter(|_| true).collect();
+    let rate = Rate::new(1, 1000).unwrap();
+    assert_eq!(
+        seen,
+        BloomFilter::with_false_pos(rate)
+            .items(items().collect::<Vec<_>>())
+            .unwrap()
+    );
+    let none: BloomFilter = Vec::<String>::new().into_iter().collect();
+    assert_eq!(none.count_ones(), 0);
+}
+
+#[test]
+fn rates_are_read_from_texts_and_numbers() {
+    let most = u64::MAX;
+    for (text, num, den) in [
+        ("1/2", 1, 2),
+        ("007/070", 1, 10),
+        ("0.5", 1, 2),
+        ("5e-1", 1, 2),
+        ("0.000001", 1, 1_000_000),
+        ("1e-19", 1, 10_000_000_000_000_000_000),
+        ("12.5e-3", 1, 80),
+        ("0.250", 1, 4),
+        ("500e-3", 1, 2),
+        ("18446744073709551614/18446744073709551615", most - 1, most),
+        ("36893488147419103230/55340232221128654845", 2, 3),
+    ] {
+        let rate: Rate = text.parse().unwrap();
+        assert_eq!((rate.num(), rate.den()), (num, den), "{text}");
+    }
+    let wrong = "/ 1/ /2 1/0 0/1 1/1 3/2 -1/2 +1/2 1/-2 1//2 1/2/3 1 1.0 0.0 0 . e e-3 1e 1e- \
+                 1e99999 1e-99999 0x1 1e-20 1/18446744073709551616 nan inf 1e--3 0.5.1 ½ 0.5%";
+    let long = format!("0.{}1", "0".repeat(1_000_000));
+    for text in wrong.split(' ').chain(["", " ", "1 /2", &long]) {
+        assert_eq!(text.parse::<Rate>(), Err(Error::NotARate), "{text}");
+    }
+    for (number, num, den) in [
+        (0.5, 1, 2),
+        (0.001, 1, 1000),
+        (1e-6, 1, 1_000_000),
+        (0.3, 3, 10),
+    ] {
+        assert_eq!(Rate::try_from(number), Rate::new(num, den));
+    }
+    for number in [0.0, -0.0, 1.0, 2.0, -0.1, f64::NAN, f64::INFINITY, 5e-324] {
+        assert_eq!(Rate::try_from(number), Err(Error::NotARate));
+    }
+    assert_eq!(Error::NotARate.code(), None);
+    assert_eq!(
+        Error::NotARate.to_string(),
+        "a rate is above 0 and below 1, with parts below 2^64"
+    );
+}
