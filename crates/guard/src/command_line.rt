@@ -14,6 +14,8 @@ const VERSION: &str = "0.17.0";
 pub enum Request<'a> {
     /// Put a value at a key.
     Put(&'a str, &'a str),
+    /// Put a value at a key, in place of the one that it has.
+    Replace(&'a str, &'a str),
     /// Show the value of a key.
     Get(&'a str),
     /// Take the value of a key away.
@@ -79,6 +81,11 @@ const PROGRAM: &'static [Row] = &[
     ),
 ];
 
+const ENTRY: &'static [Row] = &[
+    ("KEY", Kind::Word, "A key, any text"),
+    ("VALUE", Kind::Word, "Its value, any text"),
+];
+
 const LOAD: &'static [Row] = &[
     (
         "batch",
@@ -98,14 +105,16 @@ const LOAD: &'static [Row] = &[
 ];
 
 // The commands: the name of each, its help, and its arguments.
-const COMMANDS: [(&'static str, &'static str, &'static [Row]); 6] = [
+const COMMANDS: [(&'static str, &'static str, &'static [Row]); 7] = [
     (
         "put",
         "Puts a value at a key that has none yet, and prints added or taken",
-        &[
-            ("KEY", Kind::Word, "A key, any text"),
-            ("VALUE", Kind::Word, "Its value, any text"),
-        ],
+        ENTRY,
+    ),
+    (
+        "replace",
+        "Puts a value at a key in place of the one that it has, and prints replaced or added",
+        ENTRY,
     ),
     (
         "get",
@@ -210,6 +219,7 @@ fn request_of<'a>(matches: &ArgMatches<'a>) -> Option<Request<'a>> {
     let (name, words) = matches.subcommand()?;
     match name {
         "put" => Some(Request::Put(words.get_str("KEY")?, words.get_str("VALUE")?)),
+        "replace" => Some(Request::Replace(words.get_str("KEY")?, words.get_str("VALUE")?)),
         "get" => Some(Request::Get(words.get_str("KEY")?)),
         "delete" => Some(Request::Delete(words.get_str("KEY")?)),
         "load" => Some(Request::Load(load_of(words)?)),

@@ -8,9 +8,7 @@ use crate::input_file::open_input;
 use crate::medium::{Files, Medium};
 use crate::names::Names;
 use crate::readings::{Reading, open_reader, read_in};
-use crate::telling::{
-    DONE, FAILED, Input, NO, NO_INPUT, NO_MEMORY, tell, tell_refusal, tell_store,
-};
+use crate::telling::{FAILED, Input, NO_INPUT, NO_MEMORY, tell, tell_refusal, tell_store};
 use crate::{guards, tasks};
 use guard_engine::Task;
 use lines::Reason;
@@ -58,30 +56,16 @@ fn open_writer<'a, M: Medium>(
     }
 }
 
-// Closes a store after this status of its task. What fails there is told where the task didn't
-// fail.
-fn close_table<M: Medium>(rt: &HostRuntime, names: &Names, table: M::Table, status: u8) -> u8 {
-    match M::close(table) {
-        Ok(()) => status,
-        Err(fault) => {
-            if status == DONE || status == NO {
-                tell_store(rt, names, &fault)
-            } else {
-                status
-            }
-        }
-    }
+// Closes a store. Where that fails, as on a full disk, its log keeps what was committed, and the
+// next open copies it. So what the task came to stands, and nothing more is told.
+fn close_table<M: Medium>(table: M::Table) {
+    drop(M::close(table));
 }
 
-fn close_writer<'a, M: Medium>(
-    rt: &'a HostRuntime,
-    names: &'a Names,
-    guard: Writer<'a, M::Table, M::World>,
-    status: u8,
-) -> u8 {
+fn close_writer<'a, M: Medium>(guard: Writer<'a, M::Table, M::World>) {
     let (table, kept) = guard.into_parts();
     drop(kept);
-    close_table::<M>(rt, names, table, status)
+    close_table::<M>(table);
 }
 
 fn delete<'a, M: Medium>(
@@ -100,24 +84,25 @@ fn delete<'a, M: Medium>(
     let (store, kept) = guard.into_parts();
     drop(kept);
     match store.into_parts() {
-        (_, Some(table)) => close_table::<M>(rt, names, table, status),
-        (_, None) => status,
+        (_, Some(table)) => close_table::<M>(table),
+        (_, None) => {}
     }
+    status
 }
 
+// Puts one entry, or puts it in place of what its key has.
 fn put<'a, M: Medium>(
     rt: &'a HostRuntime,
     names: &'a Names,
     world: M::World,
     options: Options,
-    key: &str,
-    value: &str,
+    task: Task<&[u8]>,
 ) -> u8 {
     match open_writer::<M>(rt, names, world, options, PUT_ROOM) {
         Ok(mut guard) => {
-            let task: Task<&[u8]> = Task::Put(key, value);
             let status = tasks::serve(rt, names, &mut guard, task, NO_INPUT);
-            close_writer::<M>(rt, names, guard, status)
+            close_writer::<M>(guard);
+            status
         }
         Err(status) => status,
     }
@@ -143,7 +128,8 @@ fn load_input<'a, M: Medium>(
         Ok(mut guard) => {
             let input = input_of("standard input");
             let status = tasks::fill(rt, names, &mut guard, &mut rt.reader(), load.batch, input);
-            close_writer::<M>(rt, names, guard, status)
+            close_writer::<M>(guard);
+            status
         }
         Err(status) => status,
     }
@@ -174,7 +160,8 @@ fn load<'a, M: Medium>(
         Ok(mut guard) => {
             let task = Task::Load(file, load.batch);
             let status = tasks::serve(rt, names, &mut guard, task, input_of(load.file));
-            close_writer::<M>(rt, names, guard, status)
+            close_writer::<M>(guard);
+            status
         }
         Err(status) => status,
     }
@@ -199,6 +186,7 @@ pub fn names_of(rt: &HostRuntime, options: Options) -> Result<Names, u8> {
 pub fn reading_of(request: Request) -> Option<Reading> {
     match request {
         Request::Put(_, _) => None,
+        Request::Replace(_, _) => None,
         Request::Delete(_) => None,
         Request::Load(_) => None,
         Request::Get(key) => Some(Reading::Get(key)),
@@ -210,7 +198,12 @@ pub fn reading_of(request: Request) -> Option<Reading> {
 // Does what is asked for, wherever the store lies.
 fn run_in<M: Medium>(rt: &HostRuntime, names: &Names, world: M::World, options: Options) -> u8 {
     let reading = match options.request {
-        Request::Put(key, value) => return put::<M>(rt, names, world, options, key, value),
+        Request::Put(key, value) => {
+            return put::<M>(rt, names, world, options, Task::Put(key, value));
+        }
+        Request::Replace(key, value) => {
+            return put::<M>(rt, names, world, options, Task::Replace(key, value));
+        }
         Request::Delete(key) => return delete::<M>(rt, names, world, options, key),
         Request::Load(what) => return load::<M>(rt, names, world, options, what),
         Request::Get(key) => Reading::Get(key),

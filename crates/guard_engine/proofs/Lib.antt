@@ -33,6 +33,8 @@ mod PutStopLemmas
 mod PuttingLemmas
 mod ReadLemmas
 mod RateFacts
+mod ReplacedFacts
+mod ReplaceLemmas
 mod RoomFacts
 mod RoomLemmas
 mod StoppedFacts

@@ -25,6 +25,7 @@ use Rattle.guard_engine.specs.FilterRate.{IsRateOf}
 use Rattle.guard_engine.specs.Guarded.{Entries, Lacks, Loses, Stays}
 use Rattle.guard_engine.specs.Loaded.{HasEntry, IsBadAt, IsKey, LoadsAll, LoadsFirst}
 use Rattle.guard_engine.specs.Puts.{IsPut, added_by, taken_by}
+use Rattle.guard_engine.specs.Replaced.{IsReplaced}
 use Rattle.guard_engine.specs.Stops.{ComesNext, CountsStop, TalliesStop}
 
 -- a look-up whose answer is no value, or nothing that could be taken away
@@ -47,6 +48,8 @@ module _ {R : Type 0} (remaining : R → Option (List ℕ)) where
   abbrev pub IsAnswerTo : Task R → Entries → Entries → Answer → Type 0
   IsAnswerTo (tasks.Put key value) old new answer =
       (put : Put) × (answer ≡ answers.Put put) × IsPut key.now value.now old new put
+  IsAnswerTo (tasks.Replace key value) old new answer = (had : Bool)
+      × (answer ≡ answers.Replaced had) × IsReplaced key.now value.now old new had
   IsAnswerTo (tasks.Get key) old new answer = (found : Found)
       × (answer ≡ answers.Found found) × IsFound key.now old found × Stays old new
   IsAnswerTo (tasks.Delete key) old new answer = (had : Bool) × (answer ≡ answers.Deleted had)
@@ -61,6 +64,7 @@ module _ {R : Type 0} (remaining : R → Option (List ℕ)) where
   -- what an error leaves of a store: the first lines of a load were put, and else nothing changed
   abbrev pub Leaves : {E F : Type 0} → Task R → Entries → Entries → Trouble E F → Type 0
   Leaves (tasks.Put key value) old new trouble = Stays old new
+  Leaves (tasks.Replace key value) old new trouble = Stays old new
   Leaves (tasks.Get key) old new trouble = Stays old new
   Leaves (tasks.Delete key) old new trouble = Stays old new
   Leaves (tasks.Load input batch) old new (troubles.Lines stop) =
@@ -72,6 +76,8 @@ module _ {R : Type 0} (remaining : R → Option (List ℕ)) where
   -- the trouble is one of the task, and a line that is told is the first bad one
   abbrev pub IsTroubleOf : {E F : Type 0} → Task R → Trouble E F → Type 0
   IsTroubleOf {E} {F} (tasks.Put key value) trouble =
+      (fault : Fault E F) × (trouble ≡ troubles.Put fault)
+  IsTroubleOf {E} {F} (tasks.Replace key value) trouble =
       (fault : Fault E F) × (trouble ≡ troubles.Put fault)
   IsTroubleOf {E} {F} (tasks.Get key) trouble = (error : E) × (trouble ≡ troubles.Key error)
   IsTroubleOf {E} {F} (tasks.Delete key) trouble = (error : E) × (trouble ≡ troubles.Key error)
@@ -90,6 +96,8 @@ module _ {R : Type 0} (remaining : R → Option (List ℕ)) where
       → Type 0
   CountsTask f is_told (tasks.Put key value) entries old new answer = (put : Put)
       × (answer ≡ answers.Put put) × CountsPuts old (added_by put) (taken_by put) new
+  CountsTask f is_told (tasks.Replace key value) entries old new answer = (had : Bool)
+      × (answer ≡ answers.Replaced had) × CountsDelete f key.now had old new
   CountsTask f is_told (tasks.Get key) entries old new answer = (found : Found)
       × (answer ≡ answers.Found found) × (new ≡ counts_after old found)
   CountsTask f is_told (tasks.Delete key) entries old new answer = (had : Bool)
@@ -105,6 +113,8 @@ module _ {R : Type 0} (remaining : R → Option (List ℕ)) where
   abbrev pub CountsFailed : {E F : Type 0} → DefaultFilter → Type 0 → Task R → Entries → Counts
       → Counts → Trouble E F → Type 0
   CountsFailed f is_told (tasks.Put key value) entries old new trouble =
+      (new ≡ old) ⊎ CountsOnce old new
+  CountsFailed f is_told (tasks.Replace key value) entries old new trouble =
       (new ≡ old) ⊎ CountsOnce old new
   CountsFailed f is_told (tasks.Get key) entries old new trouble = new ≡ asked_once old
   CountsFailed f is_told (tasks.Delete key) entries old new trouble = new ≡ asked_once old
@@ -122,6 +132,7 @@ module _ {R : Type 0} (remaining : R → Option (List ℕ)) where
   -- from old to new just hashes of the keys that a task puts came into the filter
   abbrev pub FillsTask : Task R → DefaultFilter → DefaultFilter → Type 0
   FillsTask (tasks.Put key value) old new = Fills (key.now ∷ []) old new
+  FillsTask (tasks.Replace key value) old new = Fills (key.now ∷ []) old new
   FillsTask (tasks.Get key) old new = new ≡ old
   FillsTask (tasks.Delete key) old new = new ≡ old
   FillsTask (tasks.Load input batch) old new = FillsFrom (remaining input) old new

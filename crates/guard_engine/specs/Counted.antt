@@ -44,7 +44,7 @@ abbrev pub CountsOnce : Counts → Counts → Type 0
 CountsOnce old new =
     (new ≡ spared_once old) ⊎ ((new ≡ asked_once old) ⊎ (new ≡ alarmed_once old))
 
--- one look-up was counted of a key that was to lose its value: the store was spared what the filter
+-- one look-up was counted of a key whose value was to go: the store was spared what the filter
 -- lacks, and of the rest it had a value, or was asked in vain
 abbrev pub CountsDelete : DefaultFilter → List ℕ → Bool → Counts → Counts → Type 0
 CountsDelete f key true old new = new ≡ asked_once old

@@ -8,6 +8,7 @@ pub mod Guarding
 pub mod Loaded
 pub mod OnDemand
 pub mod Puts
+pub mod Replaced
 pub mod Room
 pub mod Stops
 pub mod Stores

@@ -21,6 +21,8 @@ use std::io::Read;
 #[derive(Drop)]
 pub enum Answer {
     Put(Put),
+    /// Whether the key had a value before.
+    Replaced(bool),
     Found(Found),
     /// Whether the key had a value.
     Deleted(bool),
@@ -47,6 +49,7 @@ impl Answer {
     {
         match self {
             Answer::Put(_) => false,
+            Answer::Replaced(_) => false,
             Answer::Found(Found::Value(_)) => false,
             Answer::Found(Found::Spared) => true,
             Answer::Found(Found::FalseAlarm) => true,
@@ -63,6 +66,7 @@ impl Answer {
         match self {
             Answer::Put(Put::Added) => false,
             Answer::Put(Put::Taken) => true,
+            Answer::Replaced(_) => false,
             Answer::Found(_) => self.is_absence(),
             Answer::Deleted(_) => self.is_absence(),
             Answer::Loaded(_, _) => false,
@@ -101,6 +105,8 @@ impl fmt::Display for Answer {
         match self {
             Answer::Put(Put::Added) => f.write_str("added"),
             Answer::Put(Put::Taken) => f.write_str("taken"),
+            Answer::Replaced(true) => f.write_str("replaced"),
+            Answer::Replaced(false) => f.write_str("added"),
             Answer::Found(Found::Value(value)) => f.write_str(value.as_str()),
             Answer::Found(Found::Spared) => f.write_str("absent: the store was spared"),
             Answer::Found(Found::FalseAlarm) => f.write_str(
@@ -156,6 +162,10 @@ pub fn carry_out<T: Store + Drop, K: Kept + Drop, R: Read + Drop>(
     match task {
         Task::Put(key, value) => match guard.put(key, value) {
             Ok(put) => Ok(Answer::Put(put)),
+            Err(fault) => Err(Trouble::Put(fault)),
+        },
+        Task::Replace(key, value) => match guard.replace(key, value) {
+            Ok(had) => Ok(Answer::Replaced(had)),
             Err(fault) => Err(Trouble::Put(fault)),
         },
         Task::Get(key) => match guard.get(key) {

@@ -64,7 +64,7 @@ pub fn find<T: Store>(
 }
 
 // Adds an entry to the open batch, to the filter first.
-fn add<T: Store>(
+pub(crate) fn add<T: Store>(
     store: &mut T,
     filter: &mut BloomFilter,
     key: &str,
@@ -129,7 +129,7 @@ pub fn put<T: Store>(
 }
 
 // Saves the filter, and then commits the open batch, which is taken back where the save failed.
-fn save_and_commit<T: Store, K: Kept>(
+pub(crate) fn save_and_commit<T: Store, K: Kept>(
     store: &mut T,
     kept: &mut K,
     filter: &BloomFilter,

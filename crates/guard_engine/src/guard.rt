@@ -8,6 +8,7 @@ mod opening;
 use crate::counts::Counts;
 use crate::desk::{find, put_alone, remove_alone};
 use crate::keys::hash_of;
+use crate::replacing::replace_alone;
 use crate::store::Store;
 use bloom_parts::math::Bracket;
 use bloom_plain::{BloomFilter, FilterError};
@@ -106,6 +107,7 @@ impl<T: Store + Drop, K: Kept + Drop> Guard<T, K> {
     ghost use Rattle.guard_engine.specs.Guarding.{IsGuarding};
     ghost use Rattle.guard_engine.specs.Guarded.{IsSingle, Lacks, Loses, Stays, key_hash};
     ghost use Rattle.guard_engine.specs.Puts.{added_by, taken_by};
+    ghost use Rattle.guard_engine.specs.Replaced.{IsReplaced};
 
     /// What the look-ups so far came to.
     pub fn counts(&self) -> Counts
@@ -194,6 +196,33 @@ impl<T: Store + Drop, K: Kept + Drop> Guard<T, K> {
             key,
             value,
         )
+    }
+
+    /// Puts an entry in place of what its key has, and answers whether it had a value. The filter
+    /// is saved before the entry is committed where the key had none.
+    ///
+    /// # Errors
+    /// `Store` and `Kept`. Then nothing changed.
+    pub fn replace(&mut self, key: &str, value: &str) -> Result<bool, Fault<T::Error, K::Error>>
+        ensures replaced { T.is_known self.new.store → K.is_known self.new.kept → IfOk result
+            (IsReplaced key.now value.now (T.sight self.old.store).has
+            (T.sight self.new.store).has) }
+        ensures err { T.is_known self.new.store → K.is_known self.new.kept → OnErr result
+            (Stays (T.sight self.old.store).has (T.sight self.new.store).has) }
+        ensures known { T.is_known self.new.store → T.is_known self.old.store }
+        ensures kept_known { K.is_known self.new.kept → K.is_known self.old.kept }
+        // The key is looked up once; after an error once, or not at all.
+        ensures counts { IfOk result (λ had.
+            CountsDelete self.old.filter key.now had self.old.counts self.new.counts) }
+        ensures count_err { OnErr result ((self.new.counts ≡ self.old.counts)
+            ⊎ CountsOnce self.old.counts self.new.counts) }
+        // The hash of the key came into the filter, and no other; none where the key had a value.
+        ensures fills { Fills (key.now ∷ []) self.old.filter self.new.filter }
+        ensures same { result ≡ Ok true → self.new.filter ≡ self.old.filter }
+    {
+        let (store, kept) = (&mut self.store, &mut self.kept);
+        let (filter, counts) = (&mut self.filter, &mut self.counts);
+        replace_alone(store, kept, filter, counts, key, value)
     }
 
     /// Takes the value of a key away, and answers whether it had one. The filter keeps its bits.

@@ -10,6 +10,7 @@ mod keys;
 mod line;
 mod on_demand;
 mod rates;
+mod replacing;
 mod store;
 mod task;
 mod told;

@@ -5,6 +5,8 @@
 pub enum Task<'a, R: Drop> {
     /// Put this value at this key.
     Put(&'a str, &'a str),
+    /// Put this value at this key, in place of the one that it has.
+    Replace(&'a str, &'a str),
     /// Find the value of this key.
     Get(&'a str),
     /// Take the value of this key away.

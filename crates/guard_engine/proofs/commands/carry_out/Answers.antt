@@ -6,6 +6,10 @@ use Rattle.guard_engine.proofs.commands.carry_out.Goals as goal
 pub returns-in-Put-clause-refused : goal.returns-in-Put-clause-refused
 returns-in-Put-clause-refused g c = rw c.in-Put.is (c.in-Err.fault, refl)
 
+-- and so does a replacement
+pub returns-in-Replace-clause-refused : goal.returns-in-Replace-clause-refused
+returns-in-Replace-clause-refused g c = rw c.in-Replace.is (c.in-Err-replace.fault, refl)
+
 -- what a load came to is true of the store
 pub returns-in-Ok-load-clause-holds : goal.returns-in-Ok-load-clause-holds
 returns-in-Ok-load-clause-holds g c known kept_known =
