@@ -81,7 +81,8 @@ enum Act {
 }
 
 // Acts one after the other on an empty store, what each answers, and how many values the store is
-// asked for. A key that was deleted stays in the filter, so the store is asked for nothing.
+// asked for. A key that was deleted stays in the filter, so the store is asked for nothing. One key
+// sets so few bits that the rate lies below a billionth.
 const ACTS: [(Act, &str, u64); 10] = [
     (Act::Get, "absent: the store was spared", 0),
     (Act::Delete, "absent: nothing was deleted", 0),
@@ -96,7 +97,11 @@ const ACTS: [(Act, &str, u64); 10] = [
         "1 added, 1 taken\n3 spared, 7 asked, 3 false alarms",
         2,
     ),
-    (Act::Stats, "4 spared, 9 asked, 3 false alarms", 2),
+    (
+        Act::Stats,
+        "4 spared, 9 asked, 3 false alarms\nfalse positive rate: 0.000000000 to 0.000000001",
+        2,
+    ),
 ];
 
 #[test]
