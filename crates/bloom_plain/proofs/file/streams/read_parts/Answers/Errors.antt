@@ -1,8 +1,8 @@
--- Why `read_file` refuses a file, before the seal is compared.
+-- Why `read_parts` refuses a file, before the seal is compared.
 use Rattle.std.proofs.Common.{◌≡◌, Err, rules, ap, ◌∙◌}
 use Rattle.bloom_plain.specs.declared.file.head.Head.{Head}
-use Rattle.bloom_plain.proofs.ReadLemmas.{told-end, told-reserved, told-words}
-use Rattle.bloom_plain.proofs.file.streams.BloomFilter.read_file.Goals as goal
+use Rattle.bloom_plain.proofs.ReadLemmas.{told-end, told-layout, told-words}
+use Rattle.bloom_plain.proofs.file.streams.read_parts.Goals as goal
 
 -- the words weren't read
 pub error-words : goal.returns-in_err-read_words-clause-refused
@@ -10,7 +10,7 @@ error-words g c =
     let is : c.from_residual-in_err-read_words.result ≡ Err c.in_err-read_words.field-0.0 =
     search rules in
     let begun = c.in_ok-start.ensures in
-    rw is (told-words _ _ _ begun.size begun.good begun.taken _
+    rw is (told-words _ _ _ begun.size begun.good begun.taken c.args.layout _
     (ap (λ (h : Head). h.num_words) c.head_in-head.ensures.head) _
     c.in_err-read_words.ensures.stops)
 
@@ -22,17 +22,17 @@ error-end g c =
     let begun = c.in_ok-start.ensures in
     let read = c.in_ok-read_words.ensures in
     rw is (told-end _ _ _ _ begun.size begun.good begun.taken _ _ _ read.taken
-    (read.count ∙ ap (λ (h : Head). h.num_words) c.head_in-head.ensures.head) _
-    c.in_err-read_end.ensures.more)
+    (read.count ∙ ap (λ (h : Head). h.num_words) c.head_in-head.ensures.head)
+    c.args.layout _ c.in_err-read_end.ensures.more)
 
--- the reserved numbers aren't 0
-pub error-reserved : goal.returns-in_err-check_reserved-clause-refused
-error-reserved g c =
-    let is : c.from_residual-in_err-check_reserved.result ≡ Err c.in_err-check_reserved.field-0.0 =
+-- the end of the head is refused
+pub error-layout : goal.returns-in_err-check_layout-clause-refused
+error-layout g c =
+    let is : c.from_residual-in_err-check_layout.result ≡ Err c.in_err-check_layout.field-0.0 =
     search rules in
     let begun = c.in_ok-start.ensures in
     let read = c.in_ok-read_words.ensures in
     let ended = c.in_ok-read_end.ensures in
-    rw is (told-reserved _ _ _ _ begun.size begun.good begun.taken _ _ _ read.taken
+    rw is (told-layout _ _ _ _ begun.size begun.good begun.taken _ _ _ read.taken
     (read.count ∙ ap (λ (h : Head). h.num_words) c.head_in-head.ensures.head) _ ended.nothing
-    ended.end _ c.in_err-check_reserved.ensures)
+    ended.end c.args.layout _ c.in_err-check_layout.ensures)

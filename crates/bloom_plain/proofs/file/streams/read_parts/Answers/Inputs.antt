@@ -1,8 +1,8 @@
--- Where `read_file` may tell a failed read.
+-- Where `read_parts` may tell a failed read.
 use Rattle.std.proofs.Common.{◌≡◌, Err, rules, ap, ◌∙◌}
 use Rattle.bloom_plain.specs.declared.file.head.Head.{Head}
 use Rattle.bloom_plain.proofs.ReadLemmas.{end-early, words-early}
-use Rattle.bloom_plain.proofs.file.streams.BloomFilter.read_file.Goals as goal
+use Rattle.bloom_plain.proofs.file.streams.read_parts.Goals as goal
 
 -- the words weren't read
 pub input-words : goal.returns-in_err-read_words-clause-input

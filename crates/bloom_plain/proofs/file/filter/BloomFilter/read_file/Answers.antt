@@ -1,0 +1,14 @@
+use Rattle.bloom_plain.proofs.FileLemmas.{file-of}
+use Rattle.bloom_plain.proofs.file.filter.BloomFilter.read_file.Goals as goal
+
+pub returns-clause-file : goal.returns-clause-file
+returns-clause-file g c =
+    let made = c.filter_with.ensures in
+    let read = c.in_ok-read_parts.ensures.file in
+    record {
+      bytes = read.bytes;
+      taken = read.taken;
+      is_file = file-of read.bytes _ _ c.filter_with.result made.head made.words made.range
+          read.is_file;
+      end = read.end;
+    }

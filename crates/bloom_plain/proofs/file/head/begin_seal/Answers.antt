@@ -1,0 +1,15 @@
+use Rattle.std.proofs.Common.{[], length-take, length-drop, take, drop, arith}
+use Rattle.bloom_plain.proofs.file.head.begin_seal.Goals as goal
+
+pub slice_bounds-write-end : goal.slice_bounds-write-end
+slice_bounds-write-end c = omega (arith, length-take 40 c.args.head.now, c.requires)
+
+pub slice_bounds-write-2-end : goal.slice_bounds-write-2-end
+slice_bounds-write-2-end c = omega (arith, length-take 40 c.args.head.now, c.requires)
+
+pub returns-in-Whole : goal.returns-in-Whole
+returns-in-Whole c = c.write.ensures.taken 0 0 [] c.default-hasher.ensures
+
+pub returns-in-Lines : goal.returns-in-Lines
+returns-in-Lines c =
+    c.write-2.ensures.taken 0 0 _ (c.write.ensures.taken 0 0 [] c.default-hasher.ensures)
