@@ -1,5 +1,5 @@
--- One file of a blocked filter. The form is that of any filter's file (`bloom_plain` File), but that
--- the head says that the words are lines.
+-- One file of a blocked filter. The form is that of any filter's file (`bloom_plain` FileLayouts),
+-- whose head says that the words are lines.
 use Rattle.std.specs.Prelude.{◌≡◌, ℕ, List, Option, Some, None}
 use Rattle.std.specs.Io.KnownBytes.{Consumes, IsAtEnd}
 use Rattle.bloom_plain.specs.declared.file.error.FileError.TheVariants.{Blocked, NotBlocked}

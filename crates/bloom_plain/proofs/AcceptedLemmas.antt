@@ -55,27 +55,24 @@ module _ (layout : Layout) (bytes head body : List ℕ) (is_head : head ≡ take
       ∙ (neither (layout_refusal layout bytes) (seal_refusal_in layout bytes)
       (neither (size_refusal bytes) _ (neither (head_refusal bytes) _ none).1).1).1)
 
-  -- it is the file of its head and its words
-  pub accepted : (words : List ℕ) → bytes_of words ≡ body → length words ≡ number_at head 2
-      → number_at head 5 < 2 ^ 64
-      → head ≡ bytes_of (numbers_in layout (head_in head) (number_at head 5))
-      → IsFileIn layout bytes (head_in head) words
-  accepted words same count narrow back =
-      rw (whole, sym same)
-      (is-file layout head words head-size head-good count end-good narrow back
-      (rw (same) sealed))
-
   -- the words of the bytes behind the head, which come behind none
   module _ (words before : List ℕ) (empty : before ≡ []) (are : words ≡ before ++ whole_words body)
     where
       words-are : words ≡ whole_words body
       words-are = are ∙ ap (λ l. l ++ whole_words body) empty
 
-      -- are as many as the head tells
-      pub words-count : length words ≡ number_at head 2
+      -- they are as many as the head tells
+      words-count : length words ≡ number_at head 2
       words-count = omega (arith, ap length words-are, length-whole_words body, body-size)
 
-      -- have the bytes behind the head
-      pub words-bytes : (length body % 8 ≡ 0 → bytes_of (whole_words body) ≡ body)
-          → bytes_of words ≡ body
-      words-bytes same = ap bytes_of words-are ∙ same (omega (arith, body-size))
+      -- it is the file of what its head says, and of them
+      pub accepted : (length body % 8 ≡ 0 → bytes_of (whole_words body) ≡ body)
+          → number_at head 5 < 2 ^ 64
+          → head ≡ bytes_of (numbers_in layout (head_in head) (number_at head 5))
+          → IsFileIn layout bytes (head_in head) words
+      accepted again narrow back =
+          let same : bytes_of words ≡ body =
+          ap bytes_of words-are ∙ again (omega (arith, body-size)) in
+          rw (whole, sym same)
+          (is-file layout head words head-size head-good words-count end-good narrow back
+          (rw (same) sealed))

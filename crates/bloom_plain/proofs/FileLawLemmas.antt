@@ -103,7 +103,8 @@ module _ (layout : Layout) (bytes : List ℕ) (head : Head) (words : List ℕ)
   none = end-kept layout start head is.seal are (subst (AreWhole layout) is.count is.whole)
 
   covered : right_seal layout head words ≡ sip 0 0 (sealed_bytes layout start ++ bytes_of words)
-  covered = ap (λ l. sip 0 0 (l ++ bytes_of words)) (sym (sealed-head layout head is.seal start refl))
+  covered =
+      ap (λ l. sip 0 0 (l ++ bytes_of words)) (sym (sealed-head layout head is.seal start refl))
 
   sealed : wrong_seal (number_at start 5) (sip 0 0 (sealed_bytes layout start ++ bytes_of words))
       ≡ None

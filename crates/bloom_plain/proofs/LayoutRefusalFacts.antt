@@ -1,5 +1,5 @@
--- Why a file is refused where lines are read, and which of two reasons is told. The worked files are
--- those of `LayoutFacts` and `FileFacts`.
+-- Why a file is refused where lines are read, and which of two reasons is told. The worked files
+-- are those of `LayoutFacts` and `FileFacts`.
 use Rattle.std.proofs.Common.{◌≡◌, ℕ, List, [], ◌∷◌, ◌++◌, None, Some, refl, inl, inr}
 use Rattle.std.specs.declared.io.ErrorKind.TheVariants as kind
 use Rattle.bloom_parts.specs.Sip.{sip, start, round, absorb, answer, whole_words, rest}

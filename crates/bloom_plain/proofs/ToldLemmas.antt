@@ -32,7 +32,8 @@ told-part layout (Some bytes) (Some rest) part error taken is (inr end) =
 
 -- the same, where a buffer of 64 bytes was filled as far as the reader had bytes
 pub told-start : (layout : Layout) (old mid : Option (List ℕ)) (buffer : List ℕ) (count : ℕ)
-    (error : FileError) → length buffer ≡ 64 → count ≤ length buffer → Consumes old mid (take count buffer)
+    (error : FileError) → length buffer ≡ 64 → count ≤ length buffer
+    → Consumes old mid (take count buffer)
     → (count < length buffer → IsAtEnd mid) → head_refusal (take count buffer) ≡ Some error
     → IfSome old (λ bytes. refusal_in layout bytes ≡ Some error)
 told-start layout old mid buffer count error size within taken end is =

@@ -12,7 +12,8 @@ ghost use Rattle.bloom_plain.specs.FileRefusals.{head_refusal};
 
 use super::error::FileError;
 use super::head::{
-    HEAD, Head, begin_seal, check_head, check_layout, check_seal, head_bytes_in, head_in, right_seal,
+    HEAD, Head, begin_seal, check_head, check_layout, check_seal, head_bytes_in, head_in,
+    right_seal,
 };
 use super::layout::Layout;
 use super::numbers::{number_at, push_numbers, put_numbers};

@@ -1,6 +1,6 @@
 use Rattle.std.proofs.Common.{ap, arith, length, sym, ◌∙◌}
 use Rattle.bloom_plain.specs.declared.file.head.Head.{Head}
-use Rattle.bloom_plain.proofs.AcceptedLemmas.{accepted, body-size, end-good, head-good, head-size, words-bytes, words-count}
+use Rattle.bloom_plain.proofs.AcceptedLemmas.{accepted, body-size, end-good, head-good, head-size}
 use Rattle.bloom_plain.proofs.file.bytes.parts_from_bytes.Goals as goal
 
 pub head_in-head-requires : goal.head_in-head-requires
@@ -31,11 +31,7 @@ returns-clause-file c =
     let pushed = c.push_numbers.ensures in
     let head = c.head_in-head.ensures in
     rw head.head
-    (accepted layout bytes _ _ cut.front cut.back none c.push_numbers.new.words.items
-    (words-bytes layout bytes _ _ cut.front cut.back none _ _ c.in_ok-words.ensures.items
-    pushed.words pushed.bytes)
-    (words-count layout bytes _ _ cut.front cut.back none _ _ c.in_ok-words.ensures.items
-    pushed.words)
-    head.seal
+    (accepted layout bytes _ _ cut.front cut.back none _ _ c.in_ok-words.ensures.items
+    pushed.words pushed.bytes head.seal
     (head.bytes layout (head-size layout bytes _ _ cut.front cut.back none)
     (end-good layout bytes _ _ cut.front cut.back none)))

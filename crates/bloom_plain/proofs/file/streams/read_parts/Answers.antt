@@ -2,9 +2,8 @@ mod Errors
 mod Inputs
 mod Read
 mod Seals
-use Rattle.std.proofs.Common.{◌≡◌, Err, arith, rules}
-use Rattle.bloom_plain.proofs.ReadLemmas.{told-head}
-use Rattle.bloom_plain.proofs.file.streams.read_parts.Answers.Errors.{error-end, error-layout, error-words}
+use Rattle.std.proofs.Common.{arith}
+use Rattle.bloom_plain.proofs.file.streams.read_parts.Answers.Errors.{error-end, error-layout, error-start, error-words}
 use Rattle.bloom_plain.proofs.file.streams.read_parts.Answers.Inputs.{input-end, input-words}
 use Rattle.bloom_plain.proofs.file.streams.read_parts.Answers.Read.{parts-read}
 use Rattle.bloom_plain.proofs.file.streams.read_parts.Answers.Seals.{error-seal, none-refused}
@@ -14,9 +13,7 @@ pub begin_seal-hasher-requires : goal.begin_seal-hasher-requires
 begin_seal-hasher-requires g c = omega (arith, c.in_ok-start.ensures.size)
 
 pub returns-in_err-start-clause-refused : goal.returns-in_err-start-clause-refused
-returns-in_err-start-clause-refused g c =
-    let is : c.from_residual.result ≡ Err c.in_err-start.field-0.0 = search rules in
-    rw is (told-head c.args.layout _ _ (c.in_err-start.ensures.refused c.args.layout))
+returns-in_err-start-clause-refused = error-start
 
 pub returns-in_err-read_words-clause-refused : goal.returns-in_err-read_words-clause-refused
 returns-in_err-read_words-clause-refused = error-words

@@ -8,7 +8,8 @@ use Rattle.bloom_blocked.proofs.filter.file.BlockedBloomFilter.to_bytes.Goals as
 pub returns-clause-value : goal.returns-clause-value
 returns-clause-value c =
     IfOk-weaker c.parts_to_bytes.result _ _
-    (λ bytes is. is ∙ (λ i. sealed_file Lines (c.head-head.ensures.head i) (c.as_slice.ensures.value i)))
+    (λ bytes is.
+    is ∙ (λ i. sealed_file Lines (c.head-head.ensures.head i) (c.as_slice.ensures.value i)))
     c.parts_to_bytes.ensures.value
 
 pub returns-clause-file : goal.returns-clause-file

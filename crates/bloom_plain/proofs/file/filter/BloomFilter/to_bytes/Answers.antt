@@ -8,7 +8,8 @@ use Rattle.bloom_plain.proofs.file.filter.BloomFilter.to_bytes.Goals as goal
 pub returns-clause-value : goal.returns-clause-value
 returns-clause-value c =
     IfOk-weaker c.parts_to_bytes.result _ _
-    (λ bytes is. is ∙ (λ i. sealed_file Whole (c.head-head.ensures.head i) (c.as_slice.ensures.value i)))
+    (λ bytes is.
+    is ∙ (λ i. sealed_file Whole (c.head-head.ensures.head i) (c.as_slice.ensures.value i)))
     c.parts_to_bytes.ensures.value
 
 pub returns-clause-file : goal.returns-clause-file

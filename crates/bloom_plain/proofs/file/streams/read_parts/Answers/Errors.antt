@@ -1,8 +1,14 @@
 -- Why `read_parts` refuses a file, before the seal is compared.
 use Rattle.std.proofs.Common.{◌≡◌, Err, rules, ap, ◌∙◌}
 use Rattle.bloom_plain.specs.declared.file.head.Head.{Head}
-use Rattle.bloom_plain.proofs.ReadLemmas.{told-end, told-layout, told-words}
+use Rattle.bloom_plain.proofs.ReadLemmas.{told-end, told-head, told-layout, told-words}
 use Rattle.bloom_plain.proofs.file.streams.read_parts.Goals as goal
+
+-- the head is refused, or wasn't read
+pub error-start : goal.returns-in_err-start-clause-refused
+error-start g c =
+    let is : c.from_residual.result ≡ Err c.in_err-start.field-0.0 = search rules in
+    rw is (told-head c.args.layout _ _ (c.in_err-start.ensures.refused c.args.layout))
 
 -- the words weren't read
 pub error-words : goal.returns-in_err-read_words-clause-refused
