@@ -1,7 +1,7 @@
 -- Files of both kinds of filters, which have one form. The head tells how the words lie: all as one
--- set of positions, or each eight as a line of 512 bits that has all positions of a hash. Of one set
--- these definitions are those of `File`, `FileRefusals` and `FileReads`. The numbers of the layouts
--- and the order of the reasons are this project's choice.
+-- set of positions, or each eight as a line of 512 bits that has all positions of a hash. Of one
+-- set these definitions are those of `File`, `FileRefusals` and `FileReads`. The numbers of the
+-- layouts and the order of the reasons are this project's choice.
 use Rattle.std.specs.Prelude.{◌≡◌, ◌⊎◌, ℕ, ◌+◌, ◌%◌, ◌^◌, ◌<◌, List, [], ◌∷◌, ◌++◌, length, take, drop, not, nat_eq, if◌then◌else◌, Option, Some, None, IfSome, ⊤}
 use Rattle.std.specs.Io.KnownBytes.{Consumes, IsAtEnd}
 use Rattle.std.specs.Option.{option_or}
