@@ -8,4 +8,4 @@ use Rattle.bloom_plain.proofs.file.head.right_seal.Given as goal
 abbrev pub invariant-words : goal.invariant-words
 invariant-words l =
     Hashed l.hasher 0 0
-    (bytes_of (sealed_numbers l.layout l.fn.head) ++ bytes_of (take l.word-index l.words))
+    (bytes_of (sealed_numbers l.fn.layout l.fn.head) ++ bytes_of (take l.word-index l.words))
