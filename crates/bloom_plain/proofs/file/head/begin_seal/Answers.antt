@@ -8,8 +8,10 @@ pub slice_bounds-write-2-end : goal.slice_bounds-write-2-end
 slice_bounds-write-2-end c = omega (arith, length-take 40 c.args.head.now, c.requires)
 
 pub returns-in-Whole : goal.returns-in-Whole
-returns-in-Whole c = c.write.ensures.taken 0 0 [] c.default-hasher.ensures
+returns-in-Whole c =
+    rw c.in-Whole.is (c.write.ensures.taken 0 0 [] c.default-hasher.ensures)
 
 pub returns-in-Lines : goal.returns-in-Lines
 returns-in-Lines c =
-    c.write-2.ensures.taken 0 0 _ (c.write.ensures.taken 0 0 [] c.default-hasher.ensures)
+    rw c.in-Lines.is
+    (c.write-2.ensures.taken 0 0 _ (c.write.ensures.taken 0 0 [] c.default-hasher.ensures))
