@@ -4,7 +4,7 @@ use Rattle.bloom_blocked.proofs.filter.file.BlockedBloomFilter.read_file.Goals a
 pub returns-clause-file : goal.returns-clause-file
 returns-clause-file g c =
     let made = c.filter_with.ensures in
-    let read = c.in_ok-read_parts.ensures.file in
+    let read = c.in_ok-head.ensures.file in
     record {
       bytes = read.bytes;
       taken = read.taken;
@@ -15,5 +15,5 @@ returns-clause-file g c =
 
 pub filter_with-requires-clause-shape : goal.filter_with-requires-clause-shape
 filter_with-requires-clause-shape g c =
-    let is = c.in_ok-read_parts.ensures.file.is_file in
+    let is = c.in_ok-head.ensures.file.is_file in
     lines-shape _ _ is.shape is.whole

@@ -4,7 +4,7 @@ use Rattle.bloom_plain.proofs.file.filter.BloomFilter.read_file.Goals as goal
 pub returns-clause-file : goal.returns-clause-file
 returns-clause-file g c =
     let made = c.filter_with.ensures in
-    let read = c.in_ok-read_parts.ensures.file in
+    let read = c.in_ok-head.ensures.file in
     record {
       bytes = read.bytes;
       taken = read.taken;
