@@ -64,7 +64,7 @@ seal-kept found right (inr same) = rw same (grind (arith, common_steps))
 module _ (layout : Layout) (bytes : List ℕ) (head : Head) (words : List ℕ)
     (is : IsFileIn layout bytes head words) (fit : AreWords words) (low : head.k0 < 2 ^ 64)
     (high : head.k1 < 2 ^ 64) where
-  start : List ℕ
+  abbrev start : List ℕ
   start = bytes_of (numbers_in layout head is.seal)
 
   head-fits : AreWords (numbers_in layout head is.seal)
@@ -154,7 +154,7 @@ not_blocked-refused bytes head words is fit low high =
     (end-not_blocked _ head is.seal (are Whole bytes head words is fit low high))
 
 -- a file of a filter is one of its head and words
-pub file-parts : (bytes : List ℕ) (f : DefaultFilter) → IsFileOf bytes f
+abbrev pub file-parts : (bytes : List ℕ) (f : DefaultFilter) → IsFileOf bytes f
     → IsFileIn Whole bytes (head_of f) f.words
 file-parts bytes f is = record {
   seal = is.seal;

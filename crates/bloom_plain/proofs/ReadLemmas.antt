@@ -158,7 +158,7 @@ module _ (old mid end : Option (List ℕ)) (start : List ℕ) (size : length sta
 
     module _ (layout : Layout) where
       -- what a seal covers
-      hashed_bytes : List ℕ
+      abbrev hashed_bytes : List ℕ
       hashed_bytes = sealed_bytes layout start ++ bytes_of words
 
       -- what the head and the words are refused for is told

@@ -4,8 +4,8 @@ use Rattle.bloom_plain.proofs.file.head.begin_seal.Goals as goal
 pub slice_bounds-write-end : goal.slice_bounds-write-end
 slice_bounds-write-end c = omega (arith, length-take 40 c.args.head.now, c.requires)
 
-pub slice_bounds-write-2-end : goal.slice_bounds-write-2-end
-slice_bounds-write-2-end c = omega (arith, length-take 40 c.args.head.now, c.requires)
+pub slice_bounds-write-end-in-Lines : goal.slice_bounds-write-end-in-Lines
+slice_bounds-write-end-in-Lines c = omega (arith, length-take 40 c.args.head.now, c.requires)
 
 pub returns-in-Whole : goal.returns-in-Whole
 returns-in-Whole c =
@@ -14,4 +14,4 @@ returns-in-Whole c =
 pub returns-in-Lines : goal.returns-in-Lines
 returns-in-Lines c =
     rw c.in-Lines.is
-    (c.write-2.ensures.taken 0 0 _ (c.write.ensures.taken 0 0 [] c.default-hasher.ensures))
+    (c.write-in-Lines.ensures.taken 0 0 _ (c.write.ensures.taken 0 0 [] c.default-hasher.ensures))

@@ -1,3 +1,4 @@
+use Rattle.std.proofs.Common.{◌≡◌, Err, rules}
 use Rattle.bloom_plain.proofs.FileLemmas.{file-of}
 use Rattle.bloom_plain.proofs.file.filter.BloomFilter.read_file.Goals as goal
 
@@ -12,3 +13,8 @@ returns-clause-file g c =
           read.is_file;
       end = read.end;
     }
+
+pub returns-in_err-head-clause-refused : goal.returns-in_err-head-clause-refused
+returns-in_err-head-clause-refused g c =
+    let is : c.from_residual.result ≡ Err c.in_err-head.field-0.0 = search rules in
+    rw is c.in_err-head.ensures.refused
