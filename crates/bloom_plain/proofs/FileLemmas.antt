@@ -112,7 +112,7 @@ module _ (layout : Layout) (head words : List ℕ) (size : length head ≡ 64)
   is-file sealed = record {
     seal = number_at head 5;
     narrow = narrow;
-    sealed = elim sealed [ | inl none ↦ inl none | inr right ↦ inr (right ∙ seal-same) ];
+    sealed = elim sealed [ inl none ↦ inl none | inr right ↦ inr (right ∙ seal-same) ];
     is = λ i. back i ++ bytes_of words;
     count = count;
     shape = rw count (good head size is_good).shape;

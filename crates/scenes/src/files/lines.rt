@@ -8,11 +8,11 @@ use std::test::Fail;
 
 // The worked file of lines of docs/FILE.md, as a program in Python makes it.
 const WORKED: [u8; 128] = [
-    102, 98, 108, 111, 111, 109, 0, 49, 3, 0, 0, 0, 0, 0, 0, 0, 8, 0, 0, 0, 0, 0, 0, 0, 0, 1, 2,
-    3, 4, 5, 6, 7, 8, 9, 10, 11, 12, 13, 14, 15, 203, 147, 242, 208, 198, 136, 251, 244, 1, 0,
-    0, 0, 0, 0, 0, 0, 0, 0, 0, 0, 0, 0, 0, 0, 0, 0, 0, 0, 0, 0, 0, 0, 0, 0, 0, 0, 0, 4, 0, 0, 0,
-    0, 0, 0, 0, 0, 0, 0, 0, 0, 0, 0, 0, 0, 0, 1, 128, 0, 2, 16, 0, 0, 0, 0, 0, 0, 0, 64, 0, 0,
-    0, 0, 0, 0, 0, 0, 0, 0, 0, 0, 0, 0, 0, 0, 0, 0, 0, 0,
+    102, 98, 108, 111, 111, 109, 0, 49, 3, 0, 0, 0, 0, 0, 0, 0, 8, 0, 0, 0, 0, 0, 0, 0, 0, 1, 2, 3,
+    4, 5, 6, 7, 8, 9, 10, 11, 12, 13, 14, 15, 203, 147, 242, 208, 198, 136, 251, 244, 1, 0, 0, 0,
+    0, 0, 0, 0, 0, 0, 0, 0, 0, 0, 0, 0, 0, 0, 0, 0, 0, 0, 0, 0, 0, 0, 0, 0, 0, 4, 0, 0, 0, 0, 0, 0,
+    0, 0, 0, 0, 0, 0, 0, 0, 0, 0, 0, 1, 128, 0, 2, 16, 0, 0, 0, 0, 0, 0, 0, 64, 0, 0, 0, 0, 0, 0,
+    0, 0, 0, 0, 0, 0, 0, 0, 0, 0, 0, 0, 0, 0,
 ];
 
 // The filter of one line and 3 hashes into which two texts were inserted.
@@ -61,11 +61,41 @@ fn the_worked_file_of_lines_is_written_and_read(rt: HostRuntime) -> Result<(), F
 // why it is refused where lines are read, and why where none are. Place 128 changes nothing.
 const REFUSED: [(usize, u64, usize, Option<FileError>, Option<FileError>); 9] = [
     (128, 0, 128, None, Some(FileError::Blocked)),
-    (48, 0, 128, Some(FileError::NotBlocked), Some(FileError::Seal)),
-    (48, 2, 128, Some(FileError::Reserved), Some(FileError::Reserved)),
-    (56, 1, 128, Some(FileError::Reserved), Some(FileError::Reserved)),
-    (16, 7, 120, Some(FileError::PartOfALine), Some(FileError::Blocked)),
-    (16, 7, 128, Some(FileError::TooLong), Some(FileError::TooLong)),
+    (
+        48,
+        0,
+        128,
+        Some(FileError::NotBlocked),
+        Some(FileError::Seal),
+    ),
+    (
+        48,
+        2,
+        128,
+        Some(FileError::Reserved),
+        Some(FileError::Reserved),
+    ),
+    (
+        56,
+        1,
+        128,
+        Some(FileError::Reserved),
+        Some(FileError::Reserved),
+    ),
+    (
+        16,
+        7,
+        120,
+        Some(FileError::PartOfALine),
+        Some(FileError::Blocked),
+    ),
+    (
+        16,
+        7,
+        128,
+        Some(FileError::TooLong),
+        Some(FileError::TooLong),
+    ),
     (16, 16, 128, Some(FileError::Cut), Some(FileError::Cut)),
     (40, 5, 128, Some(FileError::Seal), Some(FileError::Blocked)),
     (64, 1, 128, Some(FileError::Seal), Some(FileError::Blocked)),
@@ -99,6 +129,9 @@ fn each_kind_of_file_is_refused_where_the_other_is_read(rt: HostRuntime) {
     for (place, number, length, by_lines, by_plain) in REFUSED {
         let file = changed(place, number);
         let refusals = refusals(rt.alloc(), &file[..length.min(128)]);
-        assert!(rt; refusals == Some((by_lines, by_plain)), "{place}, {number}, {length}");
+        assert!(rt;
+            refusals == Some((by_lines, by_plain)),
+            "{place}, {number}, {length}"
+        );
     }
 }

@@ -24,11 +24,7 @@ const ERRORS: [(FileError, u8, &'static str); 14] = [
     ),
     (FileError::Reserved, 13, "a reserved byte isn't zero"),
     (FileError::Blocked, 17, "the file has a blocked filter"),
-    (
-        FileError::NotBlocked,
-        18,
-        "the file's filter isn't blocked",
-    ),
+    (FileError::NotBlocked, 18, "the file's filter isn't blocked"),
     (FileError::PartOfALine, 16, "words that are no whole lines"),
     (
         FileError::Seal,

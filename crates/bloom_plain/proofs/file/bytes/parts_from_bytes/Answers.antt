@@ -15,7 +15,7 @@ push_numbers-requires c =
     omega (
       arith,
       body-size c.args.layout c.args.bytes.now _ _ cut.front cut.back
-      (sym c.in_ok-check_file.ensures),
+          (sym c.in_ok-check_file.ensures),
       ap (λ (h : Head). h.num_words) c.head_in-head.ensures.head,
       c.in_ok-words.ensures.capacity,
       ap length c.in_ok-words.ensures.items,
