@@ -5,6 +5,7 @@
 //! best round tells what one operation costs.
 #![tactic(auto)]
 
+mod blocked;
 mod fills;
 mod filters;
 mod kernels;
@@ -26,6 +27,7 @@ use table::measure_rows;
 #[derive(Clone, Copy)]
 enum Part {
     Plain,
+    Blocked,
     Kernels,
     Steps,
     Shared,
@@ -33,8 +35,9 @@ enum Part {
     Fills,
 }
 
-const PARTS: [Part; 6] = [
+const PARTS: [Part; 7] = [
     Part::Plain,
+    Part::Blocked,
     Part::Kernels,
     Part::Steps,
     Part::Shared,
@@ -52,6 +55,7 @@ fn measure_part<R: AllocGlobal + Threads>(
     let (alloc, keys) = (rt.alloc(), plan.keys);
     match part {
         Part::Plain => measure_rows(rt, plan, plain::calls_for(alloc, keys), &plain::TABLE),
+        Part::Blocked => measure_rows(rt, plan, blocked::calls_for(alloc, keys), &blocked::TABLE),
         Part::Kernels => measure_rows(rt, plan, kernels::calls_for(alloc, keys), &kernels::TABLE),
         Part::Steps => measure_rows(rt, plan, steps::calls_for(alloc, keys), &steps::TABLE),
         Part::Shared => measure_rows(rt, plan, shared::calls_for(alloc, keys), &shared::TABLE),
