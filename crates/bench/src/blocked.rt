@@ -63,13 +63,7 @@ pub enum Call {
 
 /// The rows of a blocked filter with ten bits for each key.
 pub const TABLE: [Rows<Call>; 6] = [
-    (
-        Call::Insert,
-        "blocked insert_hash",
-        &[7],
-        Unit::Key,
-        "true",
-    ),
+    (Call::Insert, "blocked insert_hash", &[7], Unit::Key, "true"),
     (Call::Hit, "blocked hit", &[7], Unit::Key, "true"),
     (Call::Miss, "blocked miss", &[7], Unit::Key, "true"),
     (
@@ -112,10 +106,7 @@ impl Measured for Calls {
         match call {
             Call::Insert | Call::InsertMany => self.filter.clear(),
             Call::Miss | Call::MissMany => {
-                put_hashes(
-                    &mut self.hashes,
-                    first_foreign_key(self.keys as u64, round),
-                );
+                put_hashes(&mut self.hashes, first_foreign_key(self.keys as u64, round));
             }
             Call::Hit | Call::HitMany => {}
         }
