@@ -1,4 +1,5 @@
 mod BitLemmas
+mod BlockedPlanFacts
 mod EstimateFacts
 mod EstimateLemmas
 mod FileFacts
