@@ -51,12 +51,14 @@ pub enum Error {
     TooManyHashes,
     /// Two filters differ in their numbers of words or hashes, or in their keys.
     OtherShape,
+    /// The number of words isn't a multiple of eight, so that they are no whole lines.
+    PartOfALine,
     /// A number or a text is no rate above 0 and below 1 whose parts are below 2^64.
     NotARate,
 }
 
 impl Error {
-    /// The number that the header `fastbloom.h` names. The last three have none.
+    /// The number that the header `fastbloom.h` names. The last four have none.
     ///
     /// ```
     /// use fastbloom_c::Error;
@@ -80,7 +82,9 @@ impl Error {
             Error::Reserved => fastbloom_c_sys::FASTBLOOM_RESERVED,
             Error::Seal => fastbloom_c_sys::FASTBLOOM_SEAL,
             Error::Input(_) => fastbloom_c_sys::FASTBLOOM_INPUT,
-            Error::TooManyHashes | Error::OtherShape | Error::NotARate => return None,
+            Error::TooManyHashes | Error::OtherShape | Error::PartOfALine | Error::NotARate => {
+                return None
+            }
         })
     }
 
@@ -120,6 +124,7 @@ impl fmt::Display for Error {
             Error::Input(error) => return write!(f, "input failed: {error}"),
             Error::TooManyHashes => "more hashes than are allowed",
             Error::OtherShape => "the filters differ in words, hashes or keys",
+            Error::PartOfALine => "words that aren't whole lines",
             Error::NotARate => "a rate is above 0 and below 1, with parts below 2^64",
         })
     }
