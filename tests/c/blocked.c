@@ -55,7 +55,8 @@ static uint64_t number_of(uint64_t session) {
     for (uint64_t i = 0; i < FEW; i++)
         fold = fold_one(fold, fastbloom_blocked_insert_hash(words, all, k, drawn(session, i)));
     for (uint64_t i = 0; i < 130; i++) hashes[i] = drawn(session, 7 * i % 95);
-    wants("told", 1, fastbloom_blocked_insert_hashes_tell_new(words, all, k, hashes, 130, bits, BITS));
+    wants("told", 1,
+          fastbloom_blocked_insert_hashes_tell_new(words, all, k, hashes, 130, bits, BITS));
     fold = folded(fold, bits, BITS);
     draw_row(hashes, session, 200, 150);
     wants("inserted", 1, fastbloom_blocked_insert_hashes(words, all, k, hashes, 150));
@@ -78,7 +79,8 @@ static void try_bytes(void) {
     for (size_t len = 0; len <= 16; len++) {
         uint32_t hashes = (uint32_t)(len % 4);
         uint64_t hash = fastbloom_hash(key, key, len);
-        wants("a look-up of bytes", fastbloom_blocked_contains_hash(by_hash, 3 * LINE, hashes, hash),
+        wants("a look-up of bytes",
+              fastbloom_blocked_contains_hash(by_hash, 3 * LINE, hashes, hash),
               fastbloom_blocked_contains(by_bytes, 3 * LINE, hashes, key, key, len));
         wants("an insert of bytes", fastbloom_blocked_insert_hash(by_hash, 3 * LINE, hashes, hash),
               fastbloom_blocked_insert(by_bytes, 3 * LINE, hashes, key, key, len));
@@ -90,24 +92,28 @@ static void try_bytes(void) {
 
 /* Plans, of which a program in Python computed the numbers, and refusals. */
 static void try_plans(void) {
-    static const struct { uint64_t num, den, items; size_t words; uint32_t hashes; uint8_t code; }
-        plans[] = {
-            {1, 1000, 1000, 248, 9, FASTBLOOM_OK},
-            {1, 100, 1000000, 156048, 6, FASTBLOOM_OK},
-            {1, 50, 100000, 13264, 6, FASTBLOOM_OK},
-            {1, 2, 0, 8, 16, FASTBLOOM_OK},
-            {1, 10000, 12345, 4296, 12, FASTBLOOM_OK},
-            {3, 2, 1000, 8, 1, FASTBLOOM_OK},
-            {1, 1000000, 777, 504, 16, FASTBLOOM_OK},
-            {0, 1, 10, 0, 0, FASTBLOOM_ZERO_RATE},
-            {1, 2, UINT64_MAX, 0, 0, FASTBLOOM_SIZE_OVERFLOW},
-            {1, 2, UINT64_C(12535596710982995323), 0, 0, FASTBLOOM_TOO_MANY_WORDS},
-        };
+    static const struct {
+        uint64_t num, den, items;
+        size_t words;
+        uint32_t hashes;
+        uint8_t code;
+    } plans[] = {
+        {1, 1000, 1000, 248, 9, FASTBLOOM_OK},
+        {1, 100, 1000000, 156048, 6, FASTBLOOM_OK},
+        {1, 50, 100000, 13264, 6, FASTBLOOM_OK},
+        {1, 2, 0, 8, 16, FASTBLOOM_OK},
+        {1, 10000, 12345, 4296, 12, FASTBLOOM_OK},
+        {3, 2, 1000, 8, 1, FASTBLOOM_OK},
+        {1, 1000000, 777, 504, 16, FASTBLOOM_OK},
+        {0, 1, 10, 0, 0, FASTBLOOM_ZERO_RATE},
+        {1, 2, UINT64_MAX, 0, 0, FASTBLOOM_SIZE_OVERFLOW},
+        {1, 2, UINT64_C(12535596710982995323), 0, 0, FASTBLOOM_TOO_MANY_WORDS},
+    };
     for (size_t i = 0; i < sizeof plans / sizeof *plans; i++) {
         size_t words = 1;
         uint32_t hashes = 1;
-        wants("a plan", plans[i].code, fastbloom_blocked_plan(plans[i].num, plans[i].den,
-                                                              plans[i].items, &words, &hashes));
+        wants("a plan", plans[i].code,
+              fastbloom_blocked_plan(plans[i].num, plans[i].den, plans[i].items, &words, &hashes));
         wants("words of a plan", plans[i].words, words);
         wants("hashes of a plan", plans[i].hashes, hashes);
     }
