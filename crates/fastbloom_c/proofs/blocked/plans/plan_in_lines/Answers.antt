@@ -1,8 +1,6 @@
-use Rattle.std.proofs.Common.{◌≡◌, ◌*◌, Some, ap, ◌∙◌, arith}
-use Rattle.std.proofs.Math.Nat.{max_comm}
+use Rattle.std.proofs.Common.{Some, ap}
 use Rattle.std.proofs.lemmas.Result.{err_from_is_err_and}
-use Rattle.bloom_blocked.specs.BlockedSizing.{hashes_in_lines}
-use Rattle.fastbloom_c.proofs.BlockedPlanLemmas.{size-given, refused-size, refused-large}
+use Rattle.fastbloom_c.proofs.BlockedPlanLemmas.{size-given, hashes-given, refused-size, refused-large}
 use Rattle.fastbloom_c.proofs.blocked.plans.plan_in_lines.Goals as goal
 
 pub returns-in_err-bits-clause-refused : goal.returns-in_err-bits-clause-refused
@@ -32,11 +30,7 @@ returns-clause-words c =
 
 pub returns-clause-hashes : goal.returns-clause-hashes
 returns-clause-hashes c =
-    let words = c.in_ok-words.words in
-    let bits : words * 64 ≡ 64 * words = omega arith in
-    c.optimal_hashes_in_lines.ensures.value
-    ∙ ap (λ b. hashes_in_lines b c.max-2.result) bits
-    ∙ ap (hashes_in_lines (64 * words)) (c.max-2.ensures ∙ max_comm c.args.items 1)
+    hashes-given _ _ _ _ c.max-2.ensures c.optimal_hashes_in_lines.ensures.value
 
 pub returns-clause-refused : goal.returns-clause-refused
 returns-clause-refused c =
