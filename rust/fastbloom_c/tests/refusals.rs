@@ -48,7 +48,7 @@ fn a_size_that_has_no_room_is_refused() {
     assert_eq!(refused, Err(Error::Memory));
 }
 
-fn all() -> [(Error, Option<u8>, &'static str); 16] {
+fn all() -> [(Error, Option<u8>, &'static str); 17] {
     [
         (Error::ZeroBits, Some(1), "zero bits"),
         (Error::EmptyWords, Some(2), "no words"),
@@ -105,7 +105,7 @@ fn each_is_another_one() {
         let equal = errors().enumerate().filter(|(_, other)| *other == error);
         assert_eq!(equal.map(|(at, _)| at).collect::<Vec<_>>(), [place]);
     }
-    assert_eq!(errors().chain(errors()).collect::<HashSet<_>>().len(), 16);
+    assert_eq!(errors().chain(errors()).collect::<HashSet<_>>().len(), 17);
 }
 
 #[test]
