@@ -70,6 +70,7 @@ fn all() -> [(Error, Option<u8>, &'static str); 16] {
             "the file goes on after its last word",
         ),
         (Error::Reserved, Some(13), "a reserved byte isn't zero"),
+        (Error::Blocked, Some(17), "the file has a blocked filter"),
         (
             Error::Seal,
             Some(14),
@@ -81,7 +82,7 @@ fn all() -> [(Error, Option<u8>, &'static str); 16] {
             "input failed: timed out",
         ),
         (Error::TooManyHashes, None, "more hashes than are allowed"),
-        (Error::PartOfALine, None, "words that are no whole lines"),
+        (Error::PartOfALine, Some(16), "words that are no whole lines"),
         (
             Error::OtherShape,
             None,
