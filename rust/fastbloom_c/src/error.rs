@@ -43,6 +43,8 @@ pub enum Error {
     TooLong,
     /// A byte of a file that must be zero isn't.
     Reserved,
+    /// A file has a blocked filter, whose words are lines.
+    Blocked,
     /// The seal of a file is wrong: the file was changed.
     Seal,
     /// A read failed, by this error.
@@ -60,7 +62,7 @@ pub enum Error {
 }
 
 impl Error {
-    /// The number that the header `fastbloom.h` names. The last four have none.
+    /// The number that the header `fastbloom.h` names. Three have none: those of another shape, of more hashes than are allowed, and of no rate.
     ///
     /// ```
     /// use fastbloom_c::Error;
@@ -85,9 +87,9 @@ impl Error {
             Error::Seal => fastbloom_c_sys::FASTBLOOM_SEAL,
             Error::Input(_) => fastbloom_c_sys::FASTBLOOM_INPUT,
             Error::Sealed => fastbloom_c_sys::FASTBLOOM_SEALED,
-            Error::TooManyHashes | Error::OtherShape | Error::PartOfALine | Error::NotARate => {
-                return None
-            }
+            Error::PartOfALine => fastbloom_c_sys::FASTBLOOM_PART_OF_A_LINE,
+            Error::Blocked => fastbloom_c_sys::FASTBLOOM_BLOCKED,
+            Error::TooManyHashes | Error::OtherShape | Error::NotARate => return None,
         })
     }
 
@@ -109,6 +111,7 @@ impl Error {
             fastbloom_c_sys::FASTBLOOM_MEMORY => Error::Memory,
             fastbloom_c_sys::FASTBLOOM_SEALED => Error::Sealed,
             fastbloom_c_sys::FASTBLOOM_TOO_MANY_HASHES => Error::TooManyHashes,
+            fastbloom_c_sys::FASTBLOOM_BLOCKED => Error::Blocked,
             _ => unreachable!("the library answers no other number"),
         })
     }
@@ -129,6 +132,7 @@ impl fmt::Display for Error {
             Error::Cut => "the file is cut",
             Error::TooLong => "the file goes on after its last word",
             Error::Reserved => "a reserved byte isn't zero",
+            Error::Blocked => "the file has a blocked filter",
             Error::Seal => "the seal is wrong: the file was changed",
             Error::Input(error) => return write!(f, "input failed: {error}"),
             Error::Sealed => "a file with a seal can't be shared",
