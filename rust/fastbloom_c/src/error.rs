@@ -62,7 +62,8 @@ pub enum Error {
 }
 
 impl Error {
-    /// The number that the header `fastbloom.h` names. Three have none: those of another shape, of more hashes than are allowed, and of no rate.
+    /// The number that the header `fastbloom.h` names. `TooManyHashes`, `OtherShape` and `NotARate`
+    /// have none.
     ///
     /// ```
     /// use fastbloom_c::Error;
