@@ -82,7 +82,11 @@ fn all() -> [(Error, Option<u8>, &'static str); 18] {
             "input failed: timed out",
         ),
         (Error::TooManyHashes, None, "more hashes than are allowed"),
-        (Error::PartOfALine, Some(16), "words that are no whole lines"),
+        (
+            Error::PartOfALine,
+            Some(16),
+            "words that are no whole lines",
+        ),
         (
             Error::OtherShape,
             None,
