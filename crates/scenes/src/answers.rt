@@ -52,6 +52,17 @@ pub(crate) fn extend(pair: &mut Pair, first: u64, last: u64) -> bool {
     true
 }
 
+/// Whether both answer alike of the numbers up to 400, and have those from the first up to the last.
+pub(crate) fn finds(pair: &Pair, first: u64, last: u64) -> bool {
+    let mut is_right = true;
+    for number in 0..400u64 {
+        let is_found = pair.plain.contains(&number);
+        let is_in = (number >= first) & (number < last);
+        is_right &= (is_found | !is_in) & (is_found == pair.shared.contains(&number));
+    }
+    is_right
+}
+
 /// Clears both filters.
 pub(crate) fn clear(pair: &mut Pair) -> bool {
     pair.plain.clear();

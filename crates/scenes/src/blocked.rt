@@ -1,13 +1,13 @@
 //! Blocked filters: drawn sessions, at what `bin/blocked-model` says of them, and each generic call
 //! at a concrete type.
 
+use crate::expecting::{expect_row, has_text};
 use bloom_blocked::{AtomicBlockedBloomFilter, BlockedBloomFilter, LinesError};
 use fastbloom::{FilterError, Rate};
 use std::alloc::Global;
-use std::test::Fail;
 
 // What the model says of the answers and words of each session.
-const WANTED: [u64; 200] = [
+const WANTED: &'static [u64] = &[
     10201929447077217113,
     9114022726019433226,
     14037430642071227216,
@@ -244,6 +244,15 @@ fn fold_all(so_far: u64, numbers: &[u64]) -> u64 {
     folded
 }
 
+// Folds what both filters say. Where they differ, it begins anew, so that no session comes out.
+fn fold_both(so_far: u64, plain: u64, shared: u64) -> u64 {
+    if plain == shared {
+        fold(so_far, plain)
+    } else {
+        0
+    }
+}
+
 // The empty filter of a session. Four of 200 have a mebibyte and more.
 fn empty(alloc: Global, session: u64) -> Result<BlockedBloomFilter, FilterError> {
     let session = (session % 200) as usize;
@@ -265,72 +274,115 @@ fn several(session: u64) -> [u64; 130] {
     numbers
 }
 
-// The answers and words of a session with a plain filter, folded.
-fn plain_session(alloc: Global, session: u64) -> Result<u64, FilterError> {
-    let mut filter = empty(alloc, session)?;
-    let mut folded = 0;
-    for index in 0..20 {
-        folded = fold(folded, u64::from(filter.insert_hash(drawn(session, index))));
-    }
-    let mut told = [0; 3];
-    filter.insert_hashes_tell_new(&several(session), &mut told);
-    folded = fold_all(folded, &told);
-    let mut more = [0; 150];
-    draw_from(session, 200, &mut more);
-    filter.insert_hashes(&more);
-    draw_from(session, 300, &mut more);
-    filter.contains_hashes(&more, &mut told);
-    folded = fold_all(folded, &told);
-    for index in 440..460 {
-        folded = fold(
-            folded,
-            u64::from(filter.contains_hash(drawn(session, index))),
-        );
-    }
-    Ok(fold_all(folded, filter.as_slice()))
+// A plain and a shared filter, on which the same calls are made.
+#[derive(Drop)]
+struct Pair {
+    plain: BlockedBloomFilter,
+    shared: AtomicBlockedBloomFilter,
 }
 
-// The same with a filter that threads share.
-fn shared_session(alloc: Global, session: u64) -> Result<u64, FilterError> {
-    let filter = AtomicBlockedBloomFilter::from_plain(alloc, empty(alloc, session)?)?;
+fn pair_of(alloc: Global, session: u64) -> Result<Pair, FilterError> {
+    let shared = AtomicBlockedBloomFilter::from_plain(alloc, empty(alloc, session)?)?;
+    let plain = empty(alloc, session)?;
+    Ok(Pair { plain, shared })
+}
+
+// Inserts the first twenty hashes, and folds the answers.
+fn insert_each(pair: &mut Pair, session: u64) -> u64 {
     let mut folded = 0;
     for index in 0..20 {
-        folded = fold(folded, u64::from(filter.insert_hash(drawn(session, index))));
+        let hash = drawn(session, index);
+        let plain = u64::from(pair.plain.insert_hash(hash));
+        folded = fold_both(folded, plain, u64::from(pair.shared.insert_hash(hash)));
     }
+    folded
+}
+
+// Looks up twenty hashes, and folds the answers.
+fn find_each(pair: &Pair, session: u64, so_far: u64) -> u64 {
+    let mut folded = so_far;
+    for index in 440..460 {
+        let hash = drawn(session, index);
+        let plain = u64::from(pair.plain.contains_hash(hash));
+        folded = fold_both(folded, plain, u64::from(pair.shared.contains_hash(hash)));
+    }
+    folded
+}
+
+// A bit for each of at most 64 hashes that the shared filter is given, one by one: whether it is
+// new, or whether it is found.
+fn bits_of(shared: &AtomicBlockedBloomFilter, hashes: &[u64], inserts: bool) -> u64 {
+    let mut bits = 0;
+    let mut bit = 1u64;
+    for hash in hashes {
+        let is_set = if inserts {
+            !shared.insert_hash(*hash)
+        } else {
+            shared.contains_hash(*hash)
+        };
+        if is_set {
+            bits |= bit;
+        }
+        bit = bit.rotate_left(1);
+    }
+    bits
+}
+
+// Folds what the plain filter told of many hashes, and the shared one of each.
+fn fold_told(
+    so_far: u64,
+    told: &[u64; 3],
+    shared: &AtomicBlockedBloomFilter,
+    hashes: &[u64],
+    inserts: bool,
+) -> u64 {
+    let mut folded = so_far;
+    for (word, hashes) in told.iter().zip(hashes.chunks(64)) {
+        folded = fold_both(folded, *word, bits_of(shared, hashes, inserts));
+    }
+    folded
+}
+
+// Inserts many hashes, of which it is told which are new.
+fn insert_several(pair: &mut Pair, session: u64, so_far: u64) -> u64 {
     let hashes = several(session);
     let mut told = [0; 3];
-    for i in 0..130 {
-        told[i / 64] |= u64::from(!filter.insert_hash(hashes[i])) << (i % 64);
-    }
-    folded = fold_all(folded, &told);
+    pair.plain.insert_hashes_tell_new(&hashes, &mut told);
+    fold_told(so_far, &told, &pair.shared, &hashes, true)
+}
+
+// Inserts more hashes at once, and looks as many up.
+fn find_several(pair: &mut Pair, session: u64, so_far: u64) -> u64 {
     let mut more = [0; 150];
     draw_from(session, 200, &mut more);
-    filter.insert_hashes(&more);
+    pair.plain.insert_hashes(&more);
+    pair.shared.insert_hashes(&more);
     draw_from(session, 300, &mut more);
-    told = [0; 3];
-    for i in 0..150 {
-        told[i / 64] |= u64::from(filter.contains_hash(more[i])) << (i % 64);
+    let mut told = [0; 3];
+    pair.plain.contains_hashes(&more, &mut told);
+    fold_told(so_far, &told, &pair.shared, &more, false)
+}
+
+// The answers and words of a session, folded.
+fn session_of(alloc: Global, session: u64) -> Result<u64, FilterError> {
+    let mut pair = pair_of(alloc, session)?;
+    let folded = insert_each(&mut pair, session);
+    let folded = insert_several(&mut pair, session, folded);
+    let folded = find_several(&mut pair, session, folded);
+    let folded = find_each(&pair, session, folded);
+    let words = pair.shared.take_words(alloc)?;
+    if words.as_slice() != pair.plain.as_slice() {
+        return Ok(0);
     }
-    folded = fold_all(folded, &told);
-    for index in 440..460 {
-        folded = fold(
-            folded,
-            u64::from(filter.contains_hash(drawn(session, index))),
-        );
-    }
-    let words = filter.take_words(alloc)?;
     Ok(fold_all(folded, words.as_slice()))
 }
 
 #[test]
-fn drawn_filters_are_those_of_the_model(rt: HostRuntime) -> Result<(), Fail> {
-    let alloc = rt.alloc();
-    for session in 0..200 {
-        let wanted = WANTED[session];
-        assert!(rt; plain_session(alloc, session as u64)? == wanted);
-        assert!(rt; shared_session(alloc, session as u64)? == wanted);
+fn drawn_filters_are_those_of_the_model(rt: HostRuntime) {
+    for (session, wanted) in WANTED.iter().enumerate() {
+        let folded = session_of(rt.alloc(), session as u64);
+        expect_row(&rt, session, folded == Ok(*wanted));
     }
-    Ok(())
 }
 
 // A filter of three items at a rate of one in a hundred, under the key of a seed.
@@ -339,43 +391,72 @@ fn three(alloc: Global) -> Result<BlockedBloomFilter, FilterError> {
     builder.seed(&42).items(alloc, [1u64, 2, 3].as_slice())
 }
 
-#[test]
-fn a_plain_blocked_filter_takes_items(rt: HostRuntime) -> Result<(), Fail> {
-    let mut filter = three(rt.alloc())?;
-    assert!(rt; (filter.num_bits() == 512) & (filter.num_hashes() == 16));
-    assert!(rt; filter.contains(&1u64) & filter.contains(&2u64) & filter.contains(&3u64));
-    assert!(rt; !filter.contains(&4u64) & !filter.insert(&4u64) & filter.insert(&4u64));
-    filter.extend([5u64, 6]);
-    let copy = filter.try_clone(rt.alloc())?;
-    assert!(rt; (copy == filter) & copy.contains(&5u64) & copy.contains(&6u64));
-    let again = BlockedBloomFilter::from_data(copy.to_data(rt.alloc())?);
-    assert!(rt; again == Ok(filter));
-    Ok(())
+// Whether a filter has the items 1 to 3, and takes the item 4 as new once.
+fn plain_takes(filter: &mut BlockedBloomFilter) -> bool {
+    let mut has_all = (filter.num_bits() == 512) & (filter.num_hashes() == 16);
+    for item in 1..4u64 {
+        has_all &= filter.contains(&item);
+    }
+    has_all & !filter.contains(&4u64) & !filter.insert(&4u64) & filter.insert(&4u64)
 }
 
-#[test]
-fn a_shared_blocked_filter_takes_items(rt: HostRuntime) -> Result<(), Fail> {
-    let filter = AtomicBlockedBloomFilter::from_plain(rt.alloc(), three(rt.alloc())?)?;
-    assert!(rt; filter.contains(&1u64) & filter.contains(&2u64) & filter.contains(&3u64));
-    assert!(rt; !filter.contains(&4u64) & !filter.insert(&4u64) & filter.insert(&4u64));
+// Whether a copy equals the filter, has the items 5 and 6, and comes back from its data.
+fn is_copied(alloc: Global, filter: &BlockedBloomFilter) -> Result<bool, FilterError> {
+    let copy = filter.try_clone(alloc)?;
+    let has_both = copy.contains(&5u64) & copy.contains(&6u64);
+    let again = BlockedBloomFilter::from_data(copy.to_data(alloc)?);
+    Ok(has_both & (copy == *filter) & (again == Ok(copy)))
+}
+
+fn plain_is_right(alloc: Global) -> Result<bool, FilterError> {
+    let mut filter = three(alloc)?;
+    let takes = plain_takes(&mut filter);
+    filter.extend([5u64, 6]);
+    Ok(takes & is_copied(alloc, &filter)?)
+}
+
+// Whether a filter has the items from the first up to the last.
+fn shared_has(filter: &AtomicBlockedBloomFilter, first: u64, last: u64) -> bool {
+    let mut has_all = true;
+    for item in first..last {
+        has_all &= filter.contains(&item);
+    }
+    has_all
+}
+
+// Whether a filter has the items 1 to 3, takes the item 4 as new once, and others at once, and is
+// cleared.
+fn shared_takes(filter: &AtomicBlockedBloomFilter) -> bool {
+    let had_three = shared_has(filter, 1, 4);
+    let takes = !filter.contains(&4u64) & !filter.insert(&4u64) & filter.insert(&4u64);
     filter.extend([5u64, 6]);
     filter.insert_all([7u64].as_slice());
-    assert!(rt; filter.contains(&5u64) & filter.contains(&6u64) & filter.contains(&7u64));
+    let has_all = shared_has(filter, 1, 8);
     filter.clear();
-    assert!(rt; filter.count_ones() == 0);
-    Ok(())
+    had_three & takes & has_all & (filter.count_ones() == 0)
+}
+
+fn shared_is_right(alloc: Global) -> Result<bool, FilterError> {
+    let filter = AtomicBlockedBloomFilter::from_plain(alloc, three(alloc)?)?;
+    Ok(shared_takes(&filter))
 }
 
 #[test]
-fn refusals_of_lines_have_texts(rt: HostRuntime) -> Result<(), Fail> {
-    let texts = [
-        (LinesError::EmptyWords, "no words"),
-        (LinesError::TooManyWords, "too many words"),
-        (LinesError::PartOfALine, "words that are no whole lines"),
-        (LinesError::HashCount, "hash count too large"),
-    ];
-    for (error, text) in texts {
-        assert!(rt; error.to_string(rt.alloc())?.as_str() == text, "{text}");
+fn blocked_filters_take_items(rt: HostRuntime) {
+    assert!(rt; matches!(plain_is_right(rt.alloc()), Ok(true)));
+    assert!(rt; matches!(shared_is_right(rt.alloc()), Ok(true)));
+}
+
+const TEXTS: &'static [(LinesError, &'static str)] = &[
+    (LinesError::EmptyWords, "no words"),
+    (LinesError::TooManyWords, "too many words"),
+    (LinesError::PartOfALine, "words that are no whole lines"),
+    (LinesError::HashCount, "hash count too large"),
+];
+
+#[test]
+fn refusals_of_lines_have_texts(rt: HostRuntime) {
+    for (i, (error, text)) in TEXTS.iter().enumerate() {
+        expect_row(&rt, i, has_text(rt.alloc(), error, text));
     }
-    Ok(())
 }

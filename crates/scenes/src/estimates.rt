@@ -1,4 +1,5 @@
 //! Estimates of sets that were counted.
+use crate::expecting::expect_row;
 use fastbloom::{BloomFilter, Estimate, FilterError};
 use std::alloc::Global;
 
@@ -11,7 +12,7 @@ const ITEMS: [u64; 20] = [
 // Bits and hashes of three filters, and for each number of items four standard deviations, rounded
 // up: of b bits, k hashes and n items one is the root of b (e^r - 1 - r), divided by k, with
 // r = k n / b (S. J. Swamidass and P. Baldi, 2007).
-const SHAPES: [(usize, u32, [u64; 20]); 3] = [
+const SHAPES: &'static [(usize, u32, [u64; 20])] = &[
     (
         1 << 27,
         7,
@@ -65,9 +66,9 @@ fn are_near(
 
 #[test]
 fn estimates_are_within_four_deviations_of_the_true_number(rt: HostRuntime) {
-    for (bits, hashes, deviations) in &SHAPES {
+    for (i, (bits, hashes, deviations)) in SHAPES.iter().enumerate() {
         let holds = are_near(rt.alloc(), *bits, *hashes, deviations);
-        assert!(rt; matches!(holds, Ok(true)), "{bits} bits");
+        expect_row(&rt, i, matches!(holds, Ok(true)));
     }
 }
 

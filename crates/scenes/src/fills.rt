@@ -1,11 +1,11 @@
 //! Filters that workers fill, each with a part of the hashes.
 
 use crate::drawn::{spread, spread_from};
+use crate::expecting::expect_row;
 use fastbloom::{BloomFilter, FilterError, Gate, Shape, fill};
 use std::alloc::Global;
 use std::sync::Arc;
 use std::sync::atomic::{AtomicU64, Ordering};
-use std::test::Fail;
 use std::thread::{Threads, yield_now};
 
 /// A gate that counts the workers, and keeps a bit for the number of each of the first 64. Workers
@@ -89,7 +89,7 @@ pub(crate) const THREE: &'static [&'static [u64]] = &[&[1], &[0, 1], &[]];
 // that they make: no part at all, and the same hashes, cut in further ways.
 type Filling = (usize, u32, (usize, u32), &'static [&'static [u64]], u64);
 
-const FILLINGS: [Filling; 5] = [
+const FILLINGS: &'static [Filling] = &[
     (64, 3, (64, 3), THREE, 4296015873),
     (64, 3, (64, 3), &[], 0),
     (64, 3, (64, 3), &[&[1], &[0]], 4296015873),
@@ -97,17 +97,20 @@ const FILLINGS: [Filling; 5] = [
     (1, 0, (64, 1), &[], 0),
 ];
 
+// Whether parts fill a filter as their row says.
+fn is_filled<R: Threads>(rt: &R, alloc: Global, row: &Filling) -> Result<bool, FilterError> {
+    let (bits, hashes, rounded, cut, word) = *row;
+    let shape = Shape::new(bits, hashes)?;
+    let (filter, is_seen) = filled(rt, alloc, shape, parts_of(alloc, cut)?)?;
+    let is_rounded = (filter.num_bits(), filter.num_hashes()) == rounded;
+    Ok(is_seen & is_rounded & (filter.as_slice() == [word].as_slice()))
+}
+
 #[test]
-fn parts_fill_a_filter_however_they_are_cut(rt: HostRuntime) -> Result<(), Fail> {
-    for (bits, hashes, rounded, cut, word) in FILLINGS {
-        let shape = Shape::new(bits, hashes)?;
-        let parts = parts_of(rt.alloc(), cut)?;
-        let (filter, is_seen) = filled(&rt, rt.alloc(), shape, parts)?;
-        let is_rounded = (filter.num_bits(), filter.num_hashes()) == rounded;
-        let is_word = filter.as_slice() == [word].as_slice();
-        assert!(rt; is_rounded & is_word & is_seen, "{cut:?}");
+fn parts_fill_a_filter_however_they_are_cut(rt: HostRuntime) {
+    for (i, row) in FILLINGS.iter().enumerate() {
+        expect_row(&rt, i, matches!(is_filled(&rt, rt.alloc(), row), Ok(true)));
     }
-    Ok(())
 }
 
 // A shape is refused as by a builder.
@@ -136,10 +139,14 @@ fn made_alone(alloc: Global) -> Result<BloomFilter, FilterError> {
     Ok(filter)
 }
 
-#[test]
-fn a_hundred_workers_make_the_filter_of_one_thread(rt: HostRuntime) -> Result<(), Fail> {
+// Whether a hundred workers make the filter of one thread.
+fn is_made_alike<R: Threads>(rt: &R, alloc: Global) -> Result<bool, FilterError> {
     let shape = Shape::new(1 << 20, 7)?;
-    let (filter, is_seen) = filled(&rt, rt.alloc(), shape, hundred(rt.alloc())?)?;
-    assert!(rt; (filter == made_alone(rt.alloc())?) & is_seen);
-    Ok(())
+    let (filter, is_seen) = filled(rt, alloc, shape, hundred(alloc)?)?;
+    Ok(is_seen & (filter == made_alone(alloc)?))
+}
+
+#[test]
+fn a_hundred_workers_make_the_filter_of_one_thread(rt: HostRuntime) {
+    assert!(rt; matches!(is_made_alike(&rt, rt.alloc()), Ok(true)));
 }

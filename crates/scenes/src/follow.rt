@@ -1,4 +1,5 @@
 //! Follows scenes: after each line both filters have the same words, hashes and hasher.
+use crate::expecting::expect_row;
 use crate::making::{Pair, Refused, are_alike, have_words, pair_of, plain_of, shared_of};
 use crate::scene::{Line, Make, Op, Scene, Size};
 use crate::{answers, memory, rows};
@@ -15,6 +16,7 @@ fn holds(alloc: Global, pair: &mut Pair, line: &Line) -> Result<bool, Refused> {
         Op::ContainsItem(item) => Ok(answers::contains_item(pair, item, *said)),
         Op::Hash(item, hash) => Ok(answers::has_hash(pair, item, *hash)),
         Op::Extend(first, last) => Ok(answers::extend(pair, *first, *last)),
+        Op::Finds(first, last) => Ok(answers::finds(pair, *first, *last)),
         Op::Clear => Ok(answers::clear(pair)),
         Op::UniteWithItself => Ok(answers::unite_with_itself(pair)),
         Op::Words(words) => Ok(have_words(pair, words)),
@@ -27,6 +29,7 @@ fn holds(alloc: Global, pair: &mut Pair, line: &Line) -> Result<bool, Refused> {
         Op::Meet(words, unites) => Ok(memory::meet(alloc, pair, words, *unites)? == *said),
         Op::Clone => memory::copy(alloc, pair, *said),
         Op::Data(k0, k1) => memory::to_data_and_back(alloc, pair, *k0, *k1),
+        Op::Cross(by_text) => memory::cross(alloc, pair, *by_text),
         Op::Take => memory::take(alloc, pair),
         Op::Replay(replies) => memory::replay(alloc, pair, replies),
         Op::Build(make, bits, hashes) => memory::build(alloc, make, *bits, *hashes),
@@ -50,30 +53,44 @@ fn first_broken(alloc: Global, pair: &mut Pair, lines: &[Line]) -> Result<Option
     Ok(None)
 }
 
-/// The first line of a scene that isn't answered as said, or after which the filters differ.
-pub(crate) fn follow(alloc: Global, scene: &Scene) -> Result<Option<usize>, Refused> {
-    let mut pair = pair_of(alloc, &scene.make)?;
-    first_broken(alloc, &mut pair, scene.lines)
+/// The first line that filters which are made so don't answer as said, or after which they differ.
+pub(crate) fn follow(
+    alloc: Global,
+    make: &Make,
+    lines: &[Line],
+) -> Result<Option<usize>, Refused> {
+    let mut pair = pair_of(alloc, make)?;
+    first_broken(alloc, &mut pair, lines)
 }
 
-// The first scene of a table that isn't answered as said, and the first line that isn't, unless it
-// was refused.
-fn first_wrong(alloc: Global, scenes: &[Scene]) -> Option<(&'static str, Option<usize>)> {
-    'scenes: for scene in scenes {
-        match follow(alloc, scene) {
-            Ok(None) => {}
-            Ok(line) => return Some((scene.name, line)),
-            Err(_refused) => return Some((scene.name, None)),
-        }
-    }
-    None
+// Ends the test where a scene isn't answered as said, or is refused.
+fn expect_scene(rt: &HostRuntime, scene: &Scene) {
+    let wrong = match follow(rt.alloc(), &scene.make, scene.lines) {
+        Ok(None) => return,
+        Ok(Some(line)) => line,
+        Err(_refused) => usize::MAX,
+    };
+    panic!(*rt; "{}: line {wrong}", scene.name)
 }
 
 #[test]
 fn both_filters_answer_each_scene_as_said(rt: HostRuntime) {
     for scenes in rows::all() {
-        let wrong = first_wrong(rt.alloc(), scenes);
-        assert!(rt; wrong.is_none(), "{wrong:?}");
+        for scene in scenes {
+            expect_scene(&rt, scene);
+        }
+    }
+}
+
+// Both kinds of filter are read from one another's data, and go on alike.
+#[test]
+fn both_kinds_are_read_from_one_anothers_data(rt: HostRuntime) {
+    for bits in [64, 1024, 4096, 65536] {
+        for seed in 4..19u64 {
+            let make = Make::Seeded(bits, seed as u128, Size::Expected(100));
+            let wrong = follow(rt.alloc(), &make, rows::CROSSED);
+            expect_row(&rt, bits, matches!(wrong, Ok(None)));
+        }
     }
 }
 
@@ -81,21 +98,25 @@ fn both_filters_answer_each_scene_as_said(rt: HostRuntime) {
 fn builders_give_as_many_hashes_as_asked(rt: HostRuntime) {
     for hashes in 1..1000 {
         let built = memory::build(rt.alloc(), &Make::Bits(1, Size::Hashes(hashes)), 64, hashes);
-        assert!(rt; matches!(built, Ok(true)), "{hashes}");
+        expect_row(&rt, hashes as usize, matches!(built, Ok(true)));
     }
 }
 
 // Whether both filters are refused for this reason.
 fn are_refused(alloc: Global, make: &Make, reason: FilterError) -> bool {
-    match (plain_of(alloc, make), shared_of(alloc, make)) {
-        (Err(plain), Err(shared)) => (plain.reason == reason) & (shared.reason == reason),
-        _ => false,
+    let is_shared = match shared_of(alloc, make) {
+        Ok(_filter) => false,
+        Err(refused) => refused.reason == reason,
+    };
+    match plain_of(alloc, make) {
+        Ok(_filter) => false,
+        Err(refused) => is_shared & (refused.reason == reason),
     }
 }
 
 #[test]
 fn both_filters_are_refused_in_order(rt: HostRuntime) {
     for (i, (make, reason)) in rows::REFUSALS.iter().enumerate() {
-        assert!(rt; are_refused(rt.alloc(), make, *reason), "refusal {i}");
+        expect_row(&rt, i, are_refused(rt.alloc(), make, *reason));
     }
 }

@@ -1,16 +1,16 @@
 //! Filters that grow: their sizes at values worked out by hand from the definitions, and refusals.
 
 use crate::drawn::spread;
+use crate::expecting::{expect_row, has_text};
 use fastbloom::{BloomFilter, FilterError, GrowingError, GrowingFilter, Rate};
 use std::alloc::Global;
-use std::test::Fail;
 
 // How many new hashes came before each of the first four filters for a rate of 1/10 and 8 items,
 // its room, and its bits and hashes. The filters are for 8, 16, 32 and 64 items at 1/20, 1/40, 1/80
 // and 1/160. To come to the rate one is halved 4.32 times, and then once more each time. Times the
 // items, and by the logarithm of 2, these are 50, 123, 292 and 676 bits, which are rounded up to
 // words.
-const FILTERS: [(usize, usize, usize, u32); 4] = [
+const FILTERS: &'static [(usize, usize, usize, u32)] = &[
     (0, 8, 64, 6),
     (8, 16, 128, 6),
     (24, 32, 320, 7),
@@ -28,27 +28,31 @@ fn is_grown(filter: &GrowingFilter, new: usize) -> bool {
     (shape == (*bits, *hashes)) & is_begun & (before.saturating_add(taken) == new)
 }
 
-#[test]
-fn each_filter_begins_when_the_one_before_is_full(rt: HostRuntime) -> Result<(), Fail> {
-    let mut filter = GrowingFilter::new(rt.alloc(), Rate::new(1, 10)?, 8)?;
+// Whether the newest filter is that of its row after each of a hundred inserts, which are found, and
+// is the fourth in the end.
+fn grows(alloc: Global) -> Result<bool, GrowingError> {
+    let mut filter = GrowingFilter::new(alloc, Rate::new(1, 10)?, 8)?;
     let mut new = 0usize;
+    let mut is_right = true;
     for i in 0..100u64 {
-        if !filter.insert_hash(rt.alloc(), spread(i))? {
-            new = new.saturating_add(1);
-        }
-        assert!(rt;
-            is_grown(&filter, new) & filter.contains_hash(spread(i)),
-            "{i}"
-        );
+        let held = filter.insert_hash(alloc, spread(i))?;
+        new = new.saturating_add(!held as usize);
+        is_right &= is_grown(&filter, new) & filter.contains_hash(spread(i));
     }
-    assert_eq!(rt; filter.older().len(), 3);
-    Ok(())
+    Ok(is_right & (filter.older().len() == 3))
+}
+
+#[test]
+fn each_filter_begins_when_the_one_before_is_full(rt: HostRuntime) {
+    assert!(rt; matches!(grows(rt.alloc()), Ok(true)));
 }
 
 // Refusals, with their texts, and the parts of a rate and the items that bring them. The first
 // filter is for half the rate: at 1/1 the sizes are 2^64 - 8 bits, and for one item more 2^64. A
 // refusal of the builders keeps its text. No filter is so large that its items are too many.
-const REFUSED: [(GrowingError, &'static str, Option<(u64, u64, usize)>); 4] = [
+type Refused = (GrowingError, &'static str, Option<(u64, u64, usize)>);
+
+const REFUSED: &'static [Refused] = &[
     (
         GrowingError::RateOverflow,
         "lower part of the rate too large",
@@ -67,16 +71,29 @@ const REFUSED: [(GrowingError, &'static str, Option<(u64, u64, usize)>); 4] = [
     ),
 ];
 
-#[test]
-fn a_filter_that_cannot_be_made_is_refused(rt: HostRuntime) -> Result<(), Fail> {
-    for (error, text, asked) in REFUSED {
-        assert!(rt; error.to_string(rt.alloc())?.as_str() == text, "{text}");
-        if let Some((num, den, items)) = asked {
-            let refused = GrowingFilter::new(rt.alloc(), Rate::new(num, den)?, items).err();
-            assert!(rt; refused == Some(error), "{text}");
-        }
+// Why no filter is made of the parts of a rate and this many items.
+fn refusal(alloc: Global, num: u64, den: u64, items: usize) -> Option<GrowingError> {
+    match Rate::new(num, den) {
+        Ok(rate) => GrowingFilter::new(alloc, rate, items).err(),
+        Err(_refusal) => None,
     }
-    Ok(())
+}
+
+// Whether a refusal has its text, and comes where its row says.
+fn is_refused(alloc: Global, row: &Refused) -> bool {
+    let (error, text, asked) = *row;
+    let comes = match asked {
+        Some((num, den, items)) => refusal(alloc, num, den, items) == Some(error),
+        None => true,
+    };
+    comes & has_text(alloc, &error, text)
+}
+
+#[test]
+fn a_filter_that_cannot_be_made_is_refused(rt: HostRuntime) {
+    for (i, row) in REFUSED.iter().enumerate() {
+        expect_row(&rt, i, is_refused(rt.alloc(), row));
+    }
 }
 
 // Whether a filter takes an item once, as new, and the builders' filter of its newest's shape comes
@@ -93,13 +110,16 @@ fn answers_alike(grown: &GrowingFilter, other: &BloomFilter) -> bool {
     is_hashed & grown.contains(&"crab") & !grown.contains(&"ray")
 }
 
-// A filter under a seed takes an item as the builders' filter under that seed does.
-#[test]
-fn items_go_into_the_filter_that_the_builders_make(rt: HostRuntime) -> Result<(), Fail> {
+// Whether a filter under a seed takes an item as the builders' filter under that seed does.
+fn is_alike(alloc: Global) -> Result<bool, GrowingError> {
     let builder = BloomFilter::with_false_pos(Rate::new(1, 20)?).seed(&42);
-    let mut other = builder.expected_items(rt.alloc(), 8)?;
-    let mut grown = GrowingFilter::seeded(rt.alloc(), Rate::new(1, 10)?, 8, &42)?;
-    let is_alike = take_alike(rt.alloc(), &mut grown, &mut other);
-    assert!(rt; is_alike & answers_alike(&grown, &other));
-    Ok(())
+    let mut other = builder.expected_items(alloc, 8)?;
+    let mut grown = GrowingFilter::seeded(alloc, Rate::new(1, 10)?, 8, &42)?;
+    let is_alike = take_alike(alloc, &mut grown, &mut other);
+    Ok(is_alike & answers_alike(&grown, &other))
+}
+
+#[test]
+fn items_go_into_the_filter_that_the_builders_make(rt: HostRuntime) {
+    assert!(rt; matches!(is_alike(rt.alloc()), Ok(true)));
 }

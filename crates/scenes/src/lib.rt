@@ -26,6 +26,8 @@ mod engines;
 #[cfg(test)]
 mod estimates;
 #[cfg(test)]
+mod expecting;
+#[cfg(test)]
 mod files;
 #[cfg(test)]
 mod fills;
@@ -44,8 +46,6 @@ mod numbers;
 #[cfg(test)]
 mod overstated;
 #[cfg(test)]
-mod parity;
-#[cfg(test)]
 mod room;
 #[cfg(test)]
 mod rows;
@@ -55,8 +55,6 @@ mod scene;
 mod seated;
 #[cfg(test)]
 mod steps;
-#[cfg(test)]
-mod texts;
 #[cfg(test)]
 mod threads;
 #[cfg(test)]

@@ -1,14 +1,14 @@
 //! Numbers of hashes, sizes, rates and brackets at values from outside, and the refusals' texts.
+use crate::expecting::{expect_row, has_text};
 use fastbloom::{
-    BloomFilter, Bracket, FilterError, Rate, expected_density, expected_false_pos,
+    Bracket, FilterError, Rate, expected_density, expected_false_pos,
     false_pos_bounds, false_pos_of_either, false_pos_of_ones, optimal_hashes, optimal_size,
 };
-use std::alloc::Global;
 
 // Bits, items and the number of hashes. The quotient of bits and items times the logarithm of 2 is
 // rounded half up: 1024 / 2 gives 354.9. The last line is two and a half, since its items are the
 // logarithm times 2^53.
-const HASHES: [(usize, usize, u32); 9] = [
+const HASHES: &'static [(usize, usize, u32)] = &[
     (1024, 2, 355),
     (1024, 500, 1),
     (64, 1, 44),
@@ -22,8 +22,8 @@ const HASHES: [(usize, usize, u32); 9] = [
 
 #[test]
 fn hashes_are_rounded_half_up_within_their_range(rt: HostRuntime) {
-    for (bits, items, hashes) in HASHES {
-        assert!(rt; optimal_hashes(bits, items) == hashes, "{items}");
+    for (i, (bits, items, hashes)) in HASHES.iter().enumerate() {
+        expect_row(&rt, i, optimal_hashes(*bits, *items) == *hashes);
     }
 }
 
@@ -31,7 +31,7 @@ fn hashes_are_rounded_half_up_within_their_range(rt: HostRuntime) {
 // come to the rate: once for a half, 638 sixty-fourths of a time for a thousandth, 64 times for the
 // least rate, not at all for 3/2 and more, and a sixty-fourth of a time for the greatest rate below
 // one. No word holds the last two sizes.
-const SIZES: [(usize, u64, u64, Result<usize, FilterError>); 14] = [
+const SIZES: &'static [(usize, u64, u64, Result<usize, FilterError>)] = &[
     (1, 1, 2, Ok(64)),
     (1000, 1, 2, Ok(1448)),
     (1, 1, 18446744073709551615, Ok(96)),
@@ -60,15 +60,15 @@ fn size_of(items: usize, num: u64, den: u64) -> Result<usize, FilterError> {
 
 #[test]
 fn sizes_are_whole_bytes_of_a_word_or_more_or_are_refused(rt: HostRuntime) {
-    for (items, num, den, size) in SIZES {
-        assert!(rt; size_of(items, num, den) == size, "{items}");
+    for (i, (items, num, den, size)) in SIZES.iter().enumerate() {
+        expect_row(&rt, i, size_of(*items, *num, *den) == *size);
     }
 }
 
 // Hashes, bits, items, and both ends in units of 2^-63: 1 - (63/64)^t, and 1 - (2/3). The last two
 // lines, computed apart with Python's whole numbers, tell how each product is rounded: other ways
 // of rounding give other ends.
-const DENSITIES: [(u32, usize, usize, u64, u64); 8] = [
+const DENSITIES: &'static [(u32, usize, usize, u64, u64)] = &[
     (1, 64, 1, 144115188075855872, 144115188075855872),
     (1, 64, 2, 285978576338026496, 285978576338026496),
     (1, 3, 1, 3074457345618258602, 3074457345618258603),
@@ -104,11 +104,9 @@ fn powers_hold() -> bool {
 
 #[test]
 fn densities_and_their_powers_have_these_ends(rt: HostRuntime) {
-    for (hashes, bits, items, low, high) in DENSITIES {
-        assert!(rt;
-            has_ends(expected_density(hashes, bits, items), low, high),
-            "{bits}"
-        );
+    for (i, (hashes, bits, items, low, high)) in DENSITIES.iter().enumerate() {
+        let density = expected_density(*hashes, *bits, *items);
+        expect_row(&rt, i, has_ends(density, *low, *high));
     }
     assert!(rt; powers_hold());
 }
@@ -116,7 +114,7 @@ fn densities_and_their_powers_have_these_ends(rt: HostRuntime) {
 // Hashes, bits, items, and both ends of the mean rate of false positives, computed apart with
 // Python's whole numbers. Of two bits after two draws 10 of 16 pairs are a false positive, which is
 // 5764607523034234880 units.
-const MEAN_RATES: [(u32, usize, usize, u64, u64); 5] = [
+const MEAN_RATES: &'static [(u32, usize, usize, u64, u64)] = &[
     (2, 2, 1, 5188146770730811392, 6088866696204910592),
     (2, 64, 1, 8867011522199552, 13725461381120000),
     (7, 1024, 100, 67513609598153215, 68936744759523058),
@@ -125,7 +123,7 @@ const MEAN_RATES: [(u32, usize, usize, u64, u64); 5] = [
 ];
 
 // Hashes, bits, set bits, and both ends of the rate: (1/64)^2, (1/3)^3, and (100/192)^7.
-const RATES_OF_ONES: [(u32, usize, usize, u64, u64); 4] = [
+const RATES_OF_ONES: &'static [(u32, usize, usize, u64, u64)] = &[
     (2, 64, 1, 2251799813685248, 2251799813685248),
     (3, 3, 1, 341606371735362066, 341606371735362068),
     (7, 192, 100, 95891723822588019, 95891723822588021),
@@ -148,22 +146,18 @@ fn sums_hold() -> bool {
 
 #[test]
 fn rates_that_are_counts_have_these_ends(rt: HostRuntime) {
-    for (hashes, bits, items, low, high) in MEAN_RATES {
-        assert!(rt;
-            has_ends(false_pos_bounds(hashes, bits, items), low, high),
-            "{bits}"
-        );
+    for (i, (hashes, bits, items, low, high)) in MEAN_RATES.iter().enumerate() {
+        let rate = false_pos_bounds(*hashes, *bits, *items);
+        expect_row(&rt, i, has_ends(rate, *low, *high));
     }
-    for (hashes, bits, ones, low, high) in RATES_OF_ONES {
-        assert!(rt;
-            has_ends(false_pos_of_ones(hashes, bits, ones), low, high),
-            "{ones}"
-        );
+    for (i, (hashes, bits, ones, low, high)) in RATES_OF_ONES.iter().enumerate() {
+        let rate = false_pos_of_ones(*hashes, *bits, *ones);
+        expect_row(&rt, i, has_ends(rate, *low, *high));
     }
     assert!(rt; sums_hold());
 }
 
-const REFUSALS: [(FilterError, u8, &str); 8] = [
+const REFUSALS: &'static [(FilterError, u8, &'static str)] = &[
     (FilterError::ZeroBits, 1, "zero bits"),
     (FilterError::EmptyWords, 2, "no words"),
     (FilterError::TooManyWords, 3, "too many words"),
@@ -174,39 +168,10 @@ const REFUSALS: [(FilterError, u8, &str); 8] = [
     (FilterError::Worker, 8, "no worker"),
 ];
 
-// Whether a refusal has this number and this text.
-fn reads(alloc: Global, refusal: &(FilterError, u8, &str)) -> Result<bool, FilterError> {
-    let (error, code, text) = refusal;
-    let Ok(found) = error.to_string(alloc) else {
-        return Err(FilterError::Memory);
-    };
-    Ok((error.code() == *code) & (found.as_str() == *text))
-}
-
 #[test]
 fn refusals_have_these_numbers_and_texts(rt: HostRuntime) {
-    for refusal in &REFUSALS {
-        assert!(rt;
-            matches!(reads(rt.alloc(), refusal), Ok(true)),
-            "{}",
-            refusal.1
-        );
+    for (i, (error, code, text)) in REFUSALS.iter().enumerate() {
+        let is_told = has_text(rt.alloc(), error, text) & (error.code() == *code);
+        expect_row(&rt, i, is_told);
     }
-}
-
-// Whether a rate keeps its parts, and equals by value, as the builders of rates do, whatever their
-// hashers.
-fn rates_hold() -> Result<bool, FilterError> {
-    let (half, same, third) = (Rate::new(1, 2)?, Rate::new(2, 4)?, Rate::new(1, 3)?);
-    let parts = (same.num() == 2) & (same.den() == 4);
-    let by_value = (half == same) & (half != third);
-    let of_half = BloomFilter::with_false_pos(half).seed(&1);
-    let of_same = BloomFilter::with_false_pos(same).seed(&2);
-    let of_third = BloomFilter::with_false_pos(third).seed(&1);
-    Ok(parts & by_value & (of_half == of_same) & (of_half != of_third))
-}
-
-#[test]
-fn rates_keep_their_parts_and_equal_by_value(rt: HostRuntime) {
-    assert!(rt; matches!(rates_hold(), Ok(true)));
 }

@@ -3,123 +3,130 @@
 mod rows;
 
 use super::faulty::{NARROW, ROOMY, Reading, Seen, Sink, Source, Writing};
+use crate::expecting::{expect_row, has_text};
 use bloom_engine::{Fault, arguments, serve};
-use bloom_plain::BloomFilter;
-use rows::{FAULTS, RUNS, TEXTS};
+use bloom_plain::{BloomFilter, FilterError};
+use rows::{FAULTS, Failing, RUNS, Row, TEXTS};
 use std::alloc::{AllocError, Global};
-use std::process::Abort;
-use std::test::Fail;
 
 /// A filter of this many words of zeros, with this many hashes.
 pub(crate) fn filter_of(
-    rt: &impl Abort,
     alloc: Global,
     words: usize,
     hashes: u32,
-) -> Result<BloomFilter, AllocError> {
-    let words = vec![in alloc; 0u64; words]?;
-    Ok(
-        BloomFilter::from_vec(words)
-            .expect(rt, "there is a word")
-            .hashes(hashes),
-    )
+) -> Result<BloomFilter, FilterError> {
+    Ok(BloomFilter::from_vec(vec![in alloc; 0u64; words]?)?.hashes(hashes))
 }
 
-// What a run is to be. There is a space between two arguments.
-#[derive(Clone, Copy)]
-struct Run {
-    given: &'static str,
-    input: &'static str,
-    reading: Reading,
-    writing: Writing,
-}
-
-// Makes a run: whether this is written, it ends so, and leaves this as the filter's first word, if
-// that is told. An end is told once, and no answer waits while a read may wait, or at the end.
-fn is_right(
-    rt: &impl Abort,
-    alloc: Global,
-    run: Run,
-    output: &str,
-    wanted: Result<(), Fault>,
-    word: Option<u64>,
-) -> Result<bool, AllocError> {
+// The arguments, between which there is a space.
+fn words_of(alloc: Global, given: &str) -> Result<Vec<String>, AllocError> {
     let mut words = Vec::new(alloc);
-    for argument in run.given.split_whitespace() {
+    for argument in given.split_whitespace() {
         words.push(argument.to_string(alloc)?)?;
     }
-    let (count, hashes) = match arguments(words.as_slice()) {
-        Ok(shape) => shape,
-        Err(fault) => return Ok((wanted == Err(fault)) & output.is_empty()),
+    Ok(words)
+}
+
+// The number of words and of hashes that the arguments ask for.
+fn shape_of(alloc: Global, given: &str) -> Result<(usize, u32), Fault> {
+    match words_of(alloc, given) {
+        Ok(words) => arguments(words.as_slice()),
+        Err(_error) => Err(Fault::Memory),
+    }
+}
+
+// How a run ends, and the first word of its filter.
+fn run(
+    alloc: Global,
+    shape: (usize, u32),
+    reader: &mut Source,
+    writer: &mut Sink,
+) -> (Result<(), Fault>, u64) {
+    let Ok(mut filter) = filter_of(alloc, shape.0, shape.1) else {
+        return (Err(Fault::Memory), 0);
     };
+    let ended = serve(alloc, &mut filter, reader, writer);
+    (ended, filter.as_slice().first().copied().unwrap_or(0))
+}
+
+// Whether a run of this shape writes this, ends so, and leaves this as the filter's first word, if
+// that is told. An end is told once, and no answer waits while a read may wait, or at the end.
+fn serves(
+    alloc: Global,
+    shape: (usize, u32),
+    row: &Row,
+    reading: Reading,
+    writing: Writing,
+    word: Option<u64>,
+) -> bool {
+    let (_given, input, output, wanted) = *row;
     let seen = Seen::new();
-    let mut filter = filter_of(rt, alloc, count, hashes)?;
-    let mut reader = Source::new(run.input.as_bytes(), run.reading, &seen);
-    let mut writer = Sink::new(alloc, run.writing, &seen);
-    let ended = serve(alloc, &mut filter, &mut reader, &mut writer);
-    let left = filter.as_slice().first().copied().unwrap_or(0);
-    let is_done = (ended == wanted) & (word.unwrap_or(left) == left);
-    let is_flushed = (seen.waiting.get() == 0) | (run.writing.flushes <= 1);
-    Ok(
-        is_done
-            & is_flushed
-            & (writer.written.as_slice() == output.as_bytes())
-            & (seen.ends.get() <= 1)
-            & (seen.early.get() == 0),
-    )
+    let mut reader = Source::new(input.as_bytes(), reading, &seen);
+    let mut writer = Sink::new(alloc, writing, &seen);
+    let (ended, left) = run(alloc, shape, &mut reader, &mut writer);
+    (ended == wanted)
+        & (word.unwrap_or(left) == left)
+        & (writer.written.as_slice() == output.as_bytes())
+        & ((seen.waiting.get() == 0) | (writing.flushes <= 1))
+        & (seen.ends.get() <= 1)
+        & (seen.early.get() == 0)
+}
+
+// Whether a run is the same, whatever pieces its input comes in.
+fn is_right(alloc: Global, row: &Row) -> bool {
+    let (given, _input, output, wanted) = *row;
+    let shape = match shape_of(alloc, given) {
+        Ok(shape) => shape,
+        Err(fault) => return (wanted == Err(fault)) & output.is_empty(),
+    };
+    let mut all = true;
+    for piece in 1..24 {
+        let reading = Reading {
+            piece,
+            interrupts: false,
+            fails: false,
+        };
+        let slow = Reading {
+            piece,
+            interrupts: true,
+            fails: false,
+        };
+        all &= serves(alloc, shape, row, reading, ROOMY, None);
+        all &= serves(alloc, shape, row, slow, NARROW, None);
+    }
+    all
 }
 
 #[test]
-fn pieces_of_input_change_no_answer(rt: HostRuntime) -> Result<(), Fail> {
-    for (given, input, output, wanted) in RUNS {
-        for piece in 1..24 {
-            for (interrupts, writing) in [(false, ROOMY), (true, NARROW)] {
-                let reading = Reading {
-                    piece,
-                    interrupts,
-                    fails: false,
-                };
-                let run = Run {
-                    given,
-                    input,
-                    reading,
-                    writing,
-                };
-                assert!(rt;
-                    is_right(&rt, rt.alloc(), run, output, wanted, None)?,
-                    "{input}"
-                );
-            }
-        }
+fn pieces_of_input_change_no_answer(rt: HostRuntime) {
+    for (i, row) in RUNS.iter().enumerate() {
+        expect_row(&rt, i, is_right(rt.alloc(), row));
     }
-    Ok(())
+}
+
+// Whether a run that fails ends as its row says, whatever pieces its input comes in.
+fn fails(alloc: Global, failing: &Failing) -> bool {
+    let (input, reading, writing, output, fault, word) = *failing;
+    let row = ("", input, output, Err(fault));
+    let mut all = true;
+    for piece in 1..24 {
+        let reading = Reading { piece, ..reading };
+        all &= serves(alloc, (1, 2), &row, reading, writing, Some(word));
+    }
+    all
 }
 
 #[test]
-fn a_read_a_write_or_a_flush_may_fail(rt: HostRuntime) -> Result<(), Fail> {
-    for (input, reading, writing, output, fault, word) in FAULTS {
-        for piece in 1..24 {
-            let run = Run {
-                given: "1 2",
-                input,
-                reading: Reading { piece, ..reading },
-                writing,
-            };
-            let wanted = Err(fault);
-            assert!(rt;
-                is_right(&rt, rt.alloc(), run, output, wanted, Some(word))?,
-                "{input}"
-            );
-        }
+fn a_read_a_write_or_a_flush_may_fail(rt: HostRuntime) {
+    for (i, failing) in FAULTS.iter().enumerate() {
+        expect_row(&rt, i, fails(rt.alloc(), failing));
     }
-    Ok(())
 }
 
 #[test]
-fn faults_have_a_text_and_a_status(rt: HostRuntime) -> Result<(), Fail> {
-    for (fault, text, status) in TEXTS {
-        let told = fault.to_string(rt.alloc())?;
-        assert!(rt; told.as_str() == text && fault.status() == status, "{text}");
+fn faults_have_a_text_and_a_status(rt: HostRuntime) {
+    for (i, (fault, text, status)) in TEXTS.iter().enumerate() {
+        let is_told = has_text(rt.alloc(), fault, text) & (fault.status() == *status);
+        expect_row(&rt, i, is_told);
     }
-    Ok(())
 }

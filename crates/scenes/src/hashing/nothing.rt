@@ -49,8 +49,7 @@ fn shared_is_alike(alloc: Global) -> Result<bool, FilterError> {
 }
 
 #[test]
-fn all_items_have_hash_0_and_are_found_alike(rt: HostRuntime) -> Result<(), FilterError> {
-    assert!(rt; plain_is_alike(rt.alloc())?);
-    assert!(rt; shared_is_alike(rt.alloc())?);
-    Ok(())
+fn all_items_have_hash_0_and_are_found_alike(rt: HostRuntime) {
+    assert!(rt; matches!(plain_is_alike(rt.alloc()), Ok(true)));
+    assert!(rt; matches!(shared_is_alike(rt.alloc()), Ok(true)));
 }

@@ -63,7 +63,7 @@ fn start<R: Threads>(
 }
 
 // How many positions of a plain filter are set after the same inserts.
-fn count_by_one(alloc: Global) -> Result<u64, Fail> {
+fn count_by_one(alloc: Global) -> Result<u64, FilterError> {
     let mut filter = BloomFilter::with_num_bits(alloc, 4096)?.hashes(1);
     'hashes: for i in 0..HASHES {
         filter.insert_hash(spread(i));
@@ -87,7 +87,7 @@ fn count_found(filter: &SeatedBloomFilter, pass: &mut Pass) -> u64
 
 // Each position is gained by one pass alone, and after they met each finds what all inserted.
 #[test]
-fn four_threads_insert_the_same_hashes(rt: HostRuntime) -> Result<(), Fail> {
+fn four_threads_insert_the_same_hashes(rt: HostRuntime) -> Result<(), FilterError> {
     let by_one = count_by_one(rt.alloc())?;
     let words = vec![in rt.alloc(); 0u64; 64]?;
     let (filter, mut passes) = SeatedBloomFilter::new(rt.alloc(), words, 1, 4)?;
@@ -104,12 +104,12 @@ fn four_threads_insert_the_same_hashes(rt: HostRuntime) -> Result<(), Fail> {
         .saturating_add(new_of_two)
         .saturating_add(new_of_three)
         .saturating_add(new_of_four);
-    assert_eq!(rt; new, by_one);
+    assert!(rt; new == by_one);
     shared.meet(&mut first, &mut second);
     shared.meet(&mut third, &mut fourth);
     shared.meet(&mut first, &mut third);
-    assert_eq!(rt; count_found(&shared, &mut first), HASHES);
-    assert_eq!(rt; count_found(&shared, &mut fourth), HASHES);
+    assert!(rt; count_found(&shared, &mut first) == HASHES);
+    assert!(rt; count_found(&shared, &mut fourth) == HASHES);
     Ok(())
 }
 
@@ -128,9 +128,8 @@ fn found<R: Threads>(rt: &R, alloc: Global, asked: u64) -> Result<(bool, bool), 
 }
 
 #[test]
-fn what_either_of_two_inserted_is_found(rt: HostRuntime) -> Result<(), Fail> {
+fn what_either_of_two_inserted_is_found(rt: HostRuntime) {
     for asked in [0, 99, 500, 599] {
-        assert_eq!(rt; found(&rt, rt.alloc(), asked)?, (true, true));
+        assert!(rt; matches!(found(&rt, rt.alloc(), asked), Ok((true, true))));
     }
-    Ok(())
 }

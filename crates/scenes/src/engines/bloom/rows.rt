@@ -13,9 +13,22 @@ const USAGE: Ended = Err(Fault::Usage);
 
 const BAD: Ended = Err(Fault::Line(1));
 
+/// A run of the program.
+pub(super) type Row = (&'static str, &'static str, &'static str, Ended);
+
+/// A run that fails.
+pub(super) type Failing = (
+    &'static str,
+    Reading,
+    Writing,
+    &'static str,
+    Fault,
+    u64,
+);
+
 /// Arguments with a space between two, and input; what is written, and how the run ends. The end of
 /// the input ends a line without its own.
-pub(super) const RUNS: [(&str, &str, &str, Ended); 32] = [
+pub(super) const RUNS: &'static [Row] = &[
     (
         "1 3",
         "i 1\nc 1\nw\n",
@@ -101,7 +114,7 @@ const WORD: u64 = 0x100001;
 
 /// Input, and how it is read and the output is taken; what is written of it, how the run ends, and
 /// the filter's word. The bytes before a read that fails are answered up to the last whole line.
-pub(super) const FAULTS: [(&str, Reading, Writing, &str, Fault, u64); 16] = [
+pub(super) const FAULTS: &'static [Failing] = &[
     ("", FAILING, ROOMY, "", INPUT, 0),
     ("i", FAILING, ROOMY, "", INPUT, 0),
     ("i ", FAILING, ROOMY, "", INPUT, 0),
@@ -122,7 +135,7 @@ pub(super) const FAULTS: [(&str, Reading, Writing, &str, Fault, u64); 16] = [
 ];
 
 /// What each fault tells, and its status.
-pub(super) const TEXTS: [(Fault, &str, u8); 6] = [
+pub(super) const TEXTS: &'static [(Fault, &'static str, u8)] = &[
     (Fault::Usage, "usage: bloom WORDS HASHES", 2),
     (Fault::Line(1), "line 1: bad command", 2),
     (
