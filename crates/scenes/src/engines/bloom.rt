@@ -1,13 +1,13 @@
-//! What the program `bloom` is to do: `arguments`, `serve` over odd readers and writers, and the
-//! text and the status of each fault.
+//! What the program `bloom` is to do: `serve` over odd readers and writers, and the text and the
+//! status of each fault. Cases of the program have its arguments.
 mod rows;
 
-use super::faulty::{NARROW, ROOMY, Reading, Seen, Sink, Source, Writing};
+use super::faulty::{NARROW, ROOMY, Reading, SLOW, Seen, Sink, Source, WHOLE, Writing};
 use crate::expecting::{expect_row, has_text};
-use bloom_engine::{Fault, arguments, serve};
+use bloom_engine::{Fault, serve};
 use bloom_plain::{BloomFilter, FilterError};
 use rows::{FAULTS, Failing, RUNS, Row, TEXTS};
-use std::alloc::{AllocError, Global};
+use std::alloc::Global;
 
 /// A filter of this many words of zeros, with this many hashes.
 pub(crate) fn filter_of(
@@ -16,23 +16,6 @@ pub(crate) fn filter_of(
     hashes: u32,
 ) -> Result<BloomFilter, FilterError> {
     Ok(BloomFilter::from_vec(vec![in alloc; 0u64; words]?)?.hashes(hashes))
-}
-
-// The arguments, between which there is a space.
-fn words_of(alloc: Global, given: &str) -> Result<Vec<String>, AllocError> {
-    let mut words = Vec::new(alloc);
-    for argument in given.split_whitespace() {
-        words.push(argument.to_string(alloc)?)?;
-    }
-    Ok(words)
-}
-
-// The number of words and of hashes that the arguments ask for.
-fn shape_of(alloc: Global, given: &str) -> Result<(usize, u32), Fault> {
-    match words_of(alloc, given) {
-        Ok(words) => arguments(words.as_slice()),
-        Err(_error) => Err(Fault::Memory),
-    }
 }
 
 // How a run ends, and the first word of its filter.
@@ -49,21 +32,20 @@ fn run(
     (ended, filter.as_slice().first().copied().unwrap_or(0))
 }
 
-// Whether a run of this shape writes this, ends so, and leaves this as the filter's first word, if
-// that is told. An end is told once, and no answer waits while a read may wait, or at the end.
+// Whether a run writes this, ends so, and leaves this as the filter's first word, if that is told.
+// An end is told once, and no answer waits while a read may wait, or at the end.
 fn serves(
     alloc: Global,
-    shape: (usize, u32),
     row: &Row,
     reading: Reading,
     writing: Writing,
     word: Option<u64>,
 ) -> bool {
-    let (_given, input, output, wanted) = *row;
+    let (words, hashes, input, output, wanted) = *row;
     let seen = Seen::new();
     let mut reader = Source::new(input.as_bytes(), reading, &seen);
     let mut writer = Sink::new(alloc, writing, &seen);
-    let (ended, left) = run(alloc, shape, &mut reader, &mut writer);
+    let (ended, left) = run(alloc, (words, hashes), &mut reader, &mut writer);
     (ended == wanted)
         & (word.unwrap_or(left) == left)
         & (writer.written.as_slice() == output.as_bytes())
@@ -74,25 +56,11 @@ fn serves(
 
 // Whether a run is the same, whatever pieces its input comes in.
 fn is_right(alloc: Global, row: &Row) -> bool {
-    let (given, _input, output, wanted) = *row;
-    let shape = match shape_of(alloc, given) {
-        Ok(shape) => shape,
-        Err(fault) => return (wanted == Err(fault)) & output.is_empty(),
-    };
     let mut all = true;
     for piece in 1..24 {
-        let reading = Reading {
-            piece,
-            interrupts: false,
-            fails: false,
-        };
-        let slow = Reading {
-            piece,
-            interrupts: true,
-            fails: false,
-        };
-        all &= serves(alloc, shape, row, reading, ROOMY, None);
-        all &= serves(alloc, shape, row, slow, NARROW, None);
+        let reading = Reading { piece, ..WHOLE };
+        let slow = Reading { piece, ..SLOW };
+        all &= serves(alloc, row, reading, ROOMY, None) & serves(alloc, row, slow, NARROW, None);
     }
     all
 }
@@ -107,11 +75,11 @@ fn pieces_of_input_change_no_answer(rt: HostRuntime) {
 // Whether a run that fails ends as its row says, whatever pieces its input comes in.
 fn fails(alloc: Global, failing: &Failing) -> bool {
     let (input, reading, writing, output, fault, word) = *failing;
-    let row = ("", input, output, Err(fault));
+    let row = (1, 2, input, output, Err(fault));
     let mut all = true;
     for piece in 1..24 {
         let reading = Reading { piece, ..reading };
-        all &= serves(alloc, (1, 2), &row, reading, writing, Some(word));
+        all &= serves(alloc, &row, reading, writing, Some(word));
     }
     all
 }
