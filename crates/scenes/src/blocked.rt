@@ -391,60 +391,51 @@ fn three(alloc: Global) -> Result<BlockedBloomFilter, FilterError> {
     builder.seed(&42).items(alloc, [1u64, 2, 3].as_slice())
 }
 
-// Whether a filter has the items 1 to 3, and takes the item 4 as new once.
-fn plain_takes(filter: &mut BlockedBloomFilter) -> bool {
-    let mut has_all = (filter.num_bits() == 512) & (filter.num_hashes() == 16);
-    for item in 1..4u64 {
-        has_all &= filter.contains(&item);
+// Whether both filters have the items from the first up to the last.
+fn have(pair: &Pair, first: u64, last: u64) -> bool {
+    let mut all = true;
+    for item in first..last {
+        all &= pair.plain.contains(&item) & pair.shared.contains(&item);
     }
-    has_all & !filter.contains(&4u64) & !filter.insert(&4u64) & filter.insert(&4u64)
+    all
 }
 
-// Whether a copy equals the filter, has the items 5 and 6, and comes back from its data.
+// Whether both filters have the items 1 to 3, take the item 4 as new once, and others at once.
+fn take_items(pair: &mut Pair) -> bool {
+    let had_three = have(pair, 1, 4);
+    let Pair { plain, shared } = pair;
+    let had_four = plain.contains(&4u64) | shared.contains(&4u64);
+    let was_there = plain.insert(&4u64) | shared.insert(&4u64);
+    let is_there = plain.insert(&4u64) & shared.insert(&4u64);
+    plain.extend([5u64, 6, 7]);
+    shared.extend([5u64, 6]);
+    shared.insert_all([7u64].as_slice());
+    had_three & !had_four & !was_there & is_there & have(pair, 1, 8)
+}
+
+// Whether a copy equals the filter, has the item 5, and comes back from its data.
 fn is_copied(alloc: Global, filter: &BlockedBloomFilter) -> Result<bool, FilterError> {
     let copy = filter.try_clone(alloc)?;
-    let has_both = copy.contains(&5u64) & copy.contains(&6u64);
+    let is_alike = (copy == *filter) & copy.contains(&5u64);
     let again = BlockedBloomFilter::from_data(copy.to_data(alloc)?);
-    Ok(has_both & (copy == *filter) & (again == Ok(copy)))
+    Ok(is_alike & (again == Ok(copy)))
 }
 
-fn plain_is_right(alloc: Global) -> Result<bool, FilterError> {
-    let mut filter = three(alloc)?;
-    let takes = plain_takes(&mut filter);
-    filter.extend([5u64, 6]);
-    Ok(takes & is_copied(alloc, &filter)?)
-}
-
-// Whether a filter has the items from the first up to the last.
-fn shared_has(filter: &AtomicBlockedBloomFilter, first: u64, last: u64) -> bool {
-    let mut has_all = true;
-    for item in first..last {
-        has_all &= filter.contains(&item);
-    }
-    has_all
-}
-
-// Whether a filter has the items 1 to 3, takes the item 4 as new once, and others at once, and is
-// cleared.
-fn shared_takes(filter: &AtomicBlockedBloomFilter) -> bool {
-    let had_three = shared_has(filter, 1, 4);
-    let takes = !filter.contains(&4u64) & !filter.insert(&4u64) & filter.insert(&4u64);
-    filter.extend([5u64, 6]);
-    filter.insert_all([7u64].as_slice());
-    let has_all = shared_has(filter, 1, 8);
-    filter.clear();
-    had_three & takes & has_all & (filter.count_ones() == 0)
-}
-
-fn shared_is_right(alloc: Global) -> Result<bool, FilterError> {
-    let filter = AtomicBlockedBloomFilter::from_plain(alloc, three(alloc)?)?;
-    Ok(shared_takes(&filter))
+// Whether both filters take items, the plain one is copied, and the shared one is cleared.
+fn items_go_in(alloc: Global) -> Result<bool, FilterError> {
+    let shared = AtomicBlockedBloomFilter::from_plain(alloc, three(alloc)?)?;
+    let plain = three(alloc)?;
+    let has_shape = (plain.num_bits() == 512) & (plain.num_hashes() == 16);
+    let mut pair = Pair { plain, shared };
+    let take = take_items(&mut pair);
+    pair.shared.clear();
+    let is_clear = pair.shared.count_ones() == 0;
+    Ok(has_shape & take & is_clear & is_copied(alloc, &pair.plain)?)
 }
 
 #[test]
 fn blocked_filters_take_items(rt: HostRuntime) {
-    assert!(rt; matches!(plain_is_right(rt.alloc()), Ok(true)));
-    assert!(rt; matches!(shared_is_right(rt.alloc()), Ok(true)));
+    assert!(rt; matches!(items_go_in(rt.alloc()), Ok(true)));
 }
 
 const TEXTS: &'static [(LinesError, &'static str)] = &[

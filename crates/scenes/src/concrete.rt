@@ -5,9 +5,7 @@ ghost use Rattle.fastbloom.specs.Builders.{sized_filter};
 ghost use Rattle.fastbloom.specs.Replies.{InsertsItems};
 ghost use Rattle.fastbloom.specs.SourceHash.{source_hash_of};
 
-use fastbloom::{
-    AtomicBloomFilter, BloomFilter, BuilderWithBits, Command, DefaultHasher, FilterError, Rate,
-};
+use fastbloom::{AtomicBloomFilter, BloomFilter, BuilderWithBits, Command, FilterError, Rate};
 use std::alloc::Global;
 use std::hash::{BuildHasher, BuildHasherDefault, Hash, Hasher};
 
@@ -38,21 +36,14 @@ fn fill_by_slice<S: BuildHasher, T: Hash>(
     builder.items(items)
 }
 
-// Whether the texts "42" and "🦀", which are lent, go in. Their word is by a model of SipHash-1-3 and of
-// the positions.
-fn texts_go_in(alloc: Global) -> Result<bool, FilterError> {
-    let texts = fill_by_slice(BloomFilter::with_num_bits(alloc, 64)?, &["42", "🦀"]);
+// Whether the texts "42" and "🦀", which are lent, go in, and are there where they are lent or given
+// again. Their word is by a model of SipHash-1-3 and of the positions.
+fn items_go_in(alloc: Global) -> Result<bool, FilterError> {
+    let given = Vec::from_array(alloc, ["🦀"])?;
+    let mut texts = fill_by_slice(BloomFilter::with_num_bits(alloc, 64)?, &["42", "🦀"]);
+    insert_slice(&mut texts, &["42"]);
+    insert_vec(&mut texts, given);
     Ok((texts.num_hashes() == 22) & (texts.as_slice() == [17359632962081458146].as_slice()))
-}
-
-// Whether the items 1 and 2, which are lent, and 3, which is given, go in. Their words are by the
-// model.
-fn numbers_go_in(alloc: Global) -> Result<bool, FilterError> {
-    let given = Vec::from_array(alloc, [3u64])?;
-    let mut three = BloomFilter::with_num_bits(alloc, 128)?.hashes(4);
-    insert_slice(&mut three, &[1u64, 2]);
-    insert_vec(&mut three, given);
-    Ok(three.as_slice() == [90072061271121920, 4755818802984517632].as_slice())
 }
 
 // A filter of one word and one hash.
@@ -102,18 +93,6 @@ fn list_names_filters(alloc: Global) -> Result<bool, FilterError> {
     Ok(are_answered & is_none & (filter.as_slice() == [13].as_slice()))
 }
 
-// The big-endian bytes of 42, and the hash of 7 under the key that they are.
-const SEED: [u8; 16] = [0, 0, 0, 0, 0, 0, 0, 0, 0, 0, 0, 0, 0, 0, 0, 42];
-
-const HASH_OF_7: u64 = 8161168851798007701;
-
-// Whether the key that the bytes of a seed make goes in by a rate. A scene has that of the seed.
-fn key_goes_in(alloc: Global) -> Result<bool, FilterError> {
-    let builder = BloomFilter::with_false_pos(Rate::new(1, 2)?);
-    let builder = builder.hasher(DefaultHasher::seeded(&SEED));
-    Ok(builder.expected_items(alloc, 1)?.source_hash(&7u64) == HASH_OF_7)
-}
-
 type RustHasher = BuildHasherDefault<std::hash::DefaultHasher>;
 
 // What Rust's own hasher (1.95) gives for the item, which is new and then found.
@@ -122,15 +101,8 @@ fn hashes_as_rust(filter: &AtomicBloomFilter<RustHasher>) -> bool {
     is_new & filter.contains(&42u64) & (filter.source_hash(&42u64) == 0x7b3e_724b_36eb_df51)
 }
 
-// Whether another hasher goes into a shared filter of bits.
-fn hasher_goes_in(alloc: Global) -> Result<bool, FilterError> {
-    let builder = AtomicBloomFilter::with_num_bits(alloc, 64)?.seed(&1);
-    let filter = builder.hasher(RustHasher::new()).hashes(alloc, 2)?;
-    Ok(hashes_as_rust(&filter))
-}
-
 // Whether another hasher goes into a shared filter of a rate.
-fn hasher_goes_in_by_rate(alloc: Global) -> Result<bool, FilterError> {
+fn hasher_goes_in(alloc: Global) -> Result<bool, FilterError> {
     let builder = AtomicBloomFilter::with_false_pos(Rate::new(1, 2)?).seed(&1);
     let filter = builder.hasher(RustHasher::new()).expected_items(alloc, 1)?;
     Ok(hashes_as_rust(&filter))
@@ -138,10 +110,7 @@ fn hasher_goes_in_by_rate(alloc: Global) -> Result<bool, FilterError> {
 
 #[test]
 fn generic_calls_hold_at_concrete_types(rt: HostRuntime) {
-    assert!(rt; matches!(texts_go_in(rt.alloc()), Ok(true)));
-    assert!(rt; matches!(numbers_go_in(rt.alloc()), Ok(true)));
+    assert!(rt; matches!(items_go_in(rt.alloc()), Ok(true)));
     assert!(rt; matches!(list_names_filters(rt.alloc()), Ok(true)));
-    assert!(rt; matches!(key_goes_in(rt.alloc()), Ok(true)));
     assert!(rt; matches!(hasher_goes_in(rt.alloc()), Ok(true)));
-    assert!(rt; matches!(hasher_goes_in_by_rate(rt.alloc()), Ok(true)));
 }

@@ -2,7 +2,7 @@
 
 use crate::drawn::spread;
 use crate::expecting::{expect_row, has_text};
-use fastbloom::{BloomFilter, FilterError, GrowingError, GrowingFilter, Rate};
+use fastbloom::{FilterError, GrowingError, GrowingFilter, Rate};
 use std::alloc::Global;
 
 // How many new hashes came before each of the first four filters for a rate of 1/10 and 8 items,
@@ -29,7 +29,7 @@ fn is_grown(filter: &GrowingFilter, new: usize) -> bool {
 }
 
 // Whether the newest filter is that of its row after each of a hundred inserts, which are found, and
-// is the fourth in the end.
+// is the fourth in the end, and an item is found that went in.
 fn grows(alloc: Global) -> Result<bool, GrowingError> {
     let mut filter = GrowingFilter::new(alloc, Rate::new(1, 10)?, 8)?;
     let mut new = 0usize;
@@ -39,7 +39,8 @@ fn grows(alloc: Global) -> Result<bool, GrowingError> {
         new = new.saturating_add(!held as usize);
         is_right &= is_grown(&filter, new) & filter.contains_hash(spread(i));
     }
-    Ok(is_right & (filter.older().len() == 3))
+    filter.insert(alloc, &"crab")?;
+    Ok(is_right & (filter.older().len() == 3) & filter.contains(&"crab"))
 }
 
 #[test]
@@ -94,32 +95,4 @@ fn a_filter_that_cannot_be_made_is_refused(rt: HostRuntime) {
     for (i, row) in REFUSED.iter().enumerate() {
         expect_row(&rt, i, is_refused(rt.alloc(), row));
     }
-}
-
-// Whether a filter takes an item once, as new, and the builders' filter of its newest's shape comes
-// to the same words.
-fn take_alike(alloc: Global, grown: &mut GrowingFilter, other: &mut BloomFilter) -> bool {
-    let is_new = grown.insert(alloc, &"crab") == Ok(false);
-    let is_known = grown.insert(alloc, &"crab") == Ok(true);
-    is_new & is_known & !other.insert(&"crab") & (*grown.newest() == *other)
-}
-
-// Whether a filter hashes an item as another does, and contains that item alone.
-fn answers_alike(grown: &GrowingFilter, other: &BloomFilter) -> bool {
-    let is_hashed = grown.source_hash(&"crab") == other.source_hash(&"crab");
-    is_hashed & grown.contains(&"crab") & !grown.contains(&"ray")
-}
-
-// Whether a filter under a seed takes an item as the builders' filter under that seed does.
-fn is_alike(alloc: Global) -> Result<bool, GrowingError> {
-    let builder = BloomFilter::with_false_pos(Rate::new(1, 20)?).seed(&42);
-    let mut other = builder.expected_items(alloc, 8)?;
-    let mut grown = GrowingFilter::seeded(alloc, Rate::new(1, 10)?, 8, &42)?;
-    let is_alike = take_alike(alloc, &mut grown, &mut other);
-    Ok(is_alike & answers_alike(&grown, &other))
-}
-
-#[test]
-fn items_go_into_the_filter_that_the_builders_make(rt: HostRuntime) {
-    assert!(rt; matches!(is_alike(rt.alloc()), Ok(true)));
 }

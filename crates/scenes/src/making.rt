@@ -80,16 +80,6 @@ fn plain_of_bits(alloc: Global, bits: usize, size: &Size) -> Result<BloomFilter,
     Ok(plain_for(builder, size))
 }
 
-fn plain_of_seed(
-    alloc: Global,
-    bits: usize,
-    seed: &u128,
-    size: &Size,
-) -> Result<BloomFilter, Refused> {
-    let builder = named("with_num_bits", BloomFilter::with_num_bits(alloc, bits))?;
-    Ok(plain_for(builder.seed(seed), size))
-}
-
 fn plain_of_words(
     alloc: Global,
     words: &[u64],
@@ -137,7 +127,6 @@ fn plain_of_data(
 pub(crate) fn plain_of(alloc: Global, make: &Make) -> Result<BloomFilter, Refused> {
     match make {
         Make::Bits(bits, size) => plain_of_bits(alloc, *bits, size),
-        Make::Seeded(bits, seed, size) => plain_of_seed(alloc, *bits, seed, size),
         Make::Words(words, seed, size) => plain_of_words(alloc, words, seed, size),
         Make::Rate(num, den, seed, size) => plain_at(alloc, *num, *den, seed, size),
         Make::Data(words, less_one, k0, k1) => { plain_of_data(alloc, words, *less_one, *k0, *k1) }
@@ -186,11 +175,6 @@ pub(crate) fn shared_of(alloc: Global, make: &Make) -> Result<AtomicBloomFilter,
         Make::Bits(bits, size) => {
             let builder = AtomicBloomFilter::with_num_bits(alloc, *bits);
             shared_for(alloc, named("shared with_num_bits", builder)?, size)
-        }
-        Make::Seeded(bits, seed, size) => {
-            let builder = AtomicBloomFilter::with_num_bits(alloc, *bits);
-            let builder = named("shared with_num_bits", builder)?;
-            shared_for(alloc, builder.seed(seed), size)
         }
         Make::Words(words, seed, size) => {
             let builder = AtomicBloomFilter::from_vec(words_of(alloc, words)?);

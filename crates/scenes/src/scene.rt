@@ -24,8 +24,6 @@ pub(crate) enum Size {
 pub(crate) enum Make {
     /// A number of bits.
     Bits(usize, Size),
-    /// A number of bits, and a seed.
-    Seeded(usize, u128, Size),
     /// Words and a seed.
     Words(&'static [u64], u128, Size),
     /// The two parts of a rate, and a seed.

@@ -7,7 +7,6 @@ use fastbloom::{BloomFilter, FilterError, Pass, SeatedBloomFilter};
 use std::alloc::Global;
 use std::snapshot::Snapshot;
 use std::sync::Arc;
-use std::test::Fail;
 use std::thread;
 use std::thread::{Promise, PromisedHandle, Threads};
 use uses::two::found_by_both;
@@ -114,7 +113,7 @@ fn four_threads_insert_the_same_hashes(rt: HostRuntime) -> Result<(), FilterErro
 }
 
 // Two threads insert a hundred hashes each.
-fn found<R: Threads>(rt: &R, alloc: Global, asked: u64) -> Result<(bool, bool), Fail> {
+fn found<R: Threads>(rt: &R, alloc: Global, asked: u64) -> Result<(bool, bool), FilterError> {
     let hashes = (spread_from(alloc, 0, 100)?, spread_from(alloc, 500, 600)?);
     let words = vec![in alloc; 0u64; 64]?;
     let (filter, mut passes) = SeatedBloomFilter::new(alloc, words, 3, 2)?;
@@ -124,7 +123,7 @@ fn found<R: Threads>(rt: &R, alloc: Global, asked: u64) -> Result<(bool, bool), 
     let Some(first) = passes.pop() else {
         unreachable!()
     };
-    Ok(found_by_both(rt, alloc, filter, (first, second), hashes, spread(asked))?)
+    found_by_both(rt, alloc, filter, (first, second), hashes, spread(asked))
 }
 
 #[test]
