@@ -1,7 +1,7 @@
 //! Blocked filters: drawn sessions, at what `bin/blocked-model` says of them, and each generic call
 //! at a concrete type.
 
-use crate::expecting::{expect_row, has_text};
+use crate::telling::{has_text, tell_row};
 use bloom_blocked::{AtomicBlockedBloomFilter, BlockedBloomFilter, LinesError};
 use fastbloom::{FilterError, Rate};
 use std::alloc::Global;
@@ -381,7 +381,7 @@ fn session_of(alloc: Global, session: u64) -> Result<u64, FilterError> {
 fn drawn_filters_are_those_of_the_model(rt: HostRuntime) {
     for (session, wanted) in WANTED.iter().enumerate() {
         let folded = session_of(rt.alloc(), session as u64);
-        expect_row(&rt, session, folded == Ok(*wanted));
+        assert!(rt; tell_row(&rt, session, folded == Ok(*wanted)));
     }
 }
 
@@ -448,6 +448,6 @@ const TEXTS: &'static [(LinesError, &'static str)] = &[
 #[test]
 fn refusals_of_lines_have_texts(rt: HostRuntime) {
     for (i, (error, text)) in TEXTS.iter().enumerate() {
-        expect_row(&rt, i, has_text(rt.alloc(), error, text));
+        assert!(rt; tell_row(&rt, i, has_text(rt.alloc(), error, text)));
     }
 }

@@ -1,5 +1,5 @@
 //! Estimates of sets that were counted.
-use crate::expecting::expect_row;
+use crate::telling::tell_row;
 use fastbloom::{BloomFilter, Estimate, FilterError};
 use std::alloc::Global;
 
@@ -68,7 +68,7 @@ fn are_near(
 fn estimates_are_within_four_deviations_of_the_true_number(rt: HostRuntime) {
     for (i, (bits, hashes, deviations)) in SHAPES.iter().enumerate() {
         let holds = are_near(rt.alloc(), *bits, *hashes, deviations);
-        expect_row(&rt, i, matches!(holds, Ok(true)));
+        assert!(rt; tell_row(&rt, i, matches!(holds, Ok(true))));
     }
 }
 

@@ -51,7 +51,8 @@ fn is_written(alloc: Global) -> Result<bool, FilterError> {
     let in_memory = filter.to_bytes(alloc)?;
     let mut output = Vec::new(alloc);
     let is_whole = filter.write_file(&mut output).is_ok();
-    let are_equal = (output.as_slice() == WORKED.as_slice()) & (in_memory.as_slice() == WORKED.as_slice());
+    let are_equal = (output.as_slice() == WORKED.as_slice())
+        & (in_memory.as_slice() == WORKED.as_slice());
     Ok(is_whole & are_equal)
 }
 

@@ -1,7 +1,7 @@
 //! Filters that workers fill, each with a part of the hashes.
 
 use crate::drawn::{spread, spread_from};
-use crate::expecting::expect_row;
+use crate::telling::tell_row;
 use fastbloom::{BloomFilter, FilterError, Gate, Shape, fill};
 use std::alloc::Global;
 use std::sync::Arc;
@@ -109,7 +109,7 @@ fn is_filled<R: Threads>(rt: &R, alloc: Global, row: &Filling) -> Result<bool, F
 #[test]
 fn parts_fill_a_filter_however_they_are_cut(rt: HostRuntime) {
     for (i, row) in FILLINGS.iter().enumerate() {
-        expect_row(&rt, i, matches!(is_filled(&rt, rt.alloc(), row), Ok(true)));
+        assert!(rt; tell_row(&rt, i, matches!(is_filled(&rt, rt.alloc(), row), Ok(true))));
     }
 }
 

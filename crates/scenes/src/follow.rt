@@ -1,7 +1,7 @@
 //! Follows scenes: after each line both filters have the same words, hashes and hasher.
-use crate::expecting::expect_row;
 use crate::making::{Pair, Refused, are_alike, have_words, pair_of, plain_of, shared_of};
 use crate::scene::{Line, Make, Op, Scene, Size};
+use crate::telling::{tell_named, tell_row};
 use crate::{answers, memory, rows};
 use fastbloom::FilterError;
 use std::alloc::Global;
@@ -54,30 +54,25 @@ fn first_broken(alloc: Global, pair: &mut Pair, lines: &[Line]) -> Result<Option
 }
 
 /// The first line that filters which are made so don't answer as said, or after which they differ.
-pub(crate) fn follow(
-    alloc: Global,
-    make: &Make,
-    lines: &[Line],
-) -> Result<Option<usize>, Refused> {
+pub(crate) fn follow(alloc: Global, make: &Make, lines: &[Line]) -> Result<Option<usize>, Refused> {
     let mut pair = pair_of(alloc, make)?;
     first_broken(alloc, &mut pair, lines)
 }
 
-// Ends the test where a scene isn't answered as said, or is refused.
-fn expect_scene(rt: &HostRuntime, scene: &Scene) {
-    let wrong = match follow(rt.alloc(), &scene.make, scene.lines) {
-        Ok(None) => return,
-        Ok(Some(line)) => line,
-        Err(_refused) => usize::MAX,
-    };
-    panic!(*rt; "{}: line {wrong}", scene.name)
+// Whether a scene is answered as said. If it isn't, its name and the line are told.
+fn holds_true(rt: &HostRuntime, scene: &Scene) -> bool {
+    match follow(rt.alloc(), &scene.make, scene.lines) {
+        Ok(None) => true,
+        Ok(Some(line)) => tell_named(rt, scene.name, false) | tell_row(rt, line, false),
+        Err(refused) => tell_named(rt, scene.name, false) | tell_named(rt, refused.call, false),
+    }
 }
 
 #[test]
 fn both_filters_answer_each_scene_as_said(rt: HostRuntime) {
     for scenes in rows::all() {
         for scene in scenes {
-            expect_scene(&rt, scene);
+            assert!(rt; holds_true(&rt, scene));
         }
     }
 }
@@ -92,7 +87,7 @@ fn both_kinds_are_read_from_one_anothers_data(rt: HostRuntime) {
         for seed in 4..19u64 {
             let make = Make::Words(*zeros, seed as u128, Size::Expected(100));
             let wrong = follow(rt.alloc(), &make, rows::CROSSED);
-            expect_row(&rt, i, matches!(wrong, Ok(None)));
+            assert!(rt; tell_row(&rt, i, matches!(wrong, Ok(None))));
         }
     }
 }
@@ -101,7 +96,7 @@ fn both_kinds_are_read_from_one_anothers_data(rt: HostRuntime) {
 fn builders_give_as_many_hashes_as_asked(rt: HostRuntime) {
     for hashes in 1..1000 {
         let built = memory::build(rt.alloc(), &Make::Bits(1, Size::Hashes(hashes)), 64, hashes);
-        expect_row(&rt, hashes as usize, matches!(built, Ok(true)));
+        assert!(rt; tell_row(&rt, hashes as usize, matches!(built, Ok(true))));
     }
 }
 
@@ -120,6 +115,6 @@ fn are_refused(alloc: Global, make: &Make, reason: FilterError) -> bool {
 #[test]
 fn both_filters_are_refused_in_order(rt: HostRuntime) {
     for (i, (make, reason)) in rows::REFUSALS.iter().enumerate() {
-        expect_row(&rt, i, are_refused(rt.alloc(), make, *reason));
+        assert!(rt; tell_row(&rt, i, are_refused(rt.alloc(), make, *reason)));
     }
 }

@@ -1,7 +1,7 @@
 //! Filters that grow: their sizes at values worked out by hand from the definitions, and refusals.
 
 use crate::drawn::spread;
-use crate::expecting::{expect_row, has_text};
+use crate::telling::{has_text, tell_row};
 use fastbloom::{FilterError, GrowingError, GrowingFilter, Rate};
 use std::alloc::Global;
 
@@ -93,6 +93,6 @@ fn is_refused(alloc: Global, row: &Refused) -> bool {
 #[test]
 fn a_filter_that_cannot_be_made_is_refused(rt: HostRuntime) {
     for (i, row) in REFUSED.iter().enumerate() {
-        expect_row(&rt, i, is_refused(rt.alloc(), row));
+        assert!(rt; tell_row(&rt, i, is_refused(rt.alloc(), row)));
     }
 }

@@ -3,7 +3,7 @@
 mod nothing;
 mod vectors;
 
-use crate::expecting::expect_row;
+use crate::telling::tell_row;
 use bloom_parts::hasher::{DefaultHasher, RandomDefaultHasher};
 use fastbloom::{BloomFilter, FilterError, Text};
 use std::alloc::Global;
@@ -116,14 +116,14 @@ fn a_hash_is_of_the_key_and_of_the_bytes_written(rt: HostRuntime) {
     let given = DefaultHasher::seeded(&42u128.to_be_bytes());
     assert!(rt; given.key() == (0, 3026418949592973312));
     for (i, pieces) in PIECES.iter().enumerate() {
-        expect_row(&rt, i, answers(pieces));
+        assert!(rt; tell_row(&rt, i, answers(pieces)));
     }
     for (length, hash) in COUNTED {
         let message = &MESSAGE[..(*length).min(MESSAGE.len())];
-        expect_row(&rt, *length, has_hash(COUNTING, message, *hash));
+        assert!(rt; tell_row(&rt, *length, has_hash(COUNTING, message, *hash)));
     }
     for (i, (key, hash, message)) in DRAWN.iter().enumerate() {
-        expect_row(&rt, i, has_hash(*key, message, *hash));
+        assert!(rt; tell_row(&rt, i, has_hash(*key, message, *hash)));
     }
 }
 
@@ -183,7 +183,7 @@ fn all_go_in(filter: &mut BloomFilter) -> bool {
 #[test]
 fn items_of_all_types_go_in_by_their_hash(rt: HostRuntime) {
     let Ok(mut filter) = empty_filter(rt.alloc()) else {
-        return expect_row(&rt, 0, false);
+        panic!(rt)
     };
     assert!(rt; all_go_in(&mut filter));
 }

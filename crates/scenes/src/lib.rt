@@ -26,8 +26,6 @@ mod engines;
 #[cfg(test)]
 mod estimates;
 #[cfg(test)]
-mod expecting;
-#[cfg(test)]
 mod files;
 #[cfg(test)]
 mod fills;
@@ -55,6 +53,8 @@ mod scene;
 mod seated;
 #[cfg(test)]
 mod steps;
+#[cfg(test)]
+mod telling;
 #[cfg(test)]
 mod threads;
 #[cfg(test)]

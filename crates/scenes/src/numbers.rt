@@ -1,5 +1,5 @@
 //! Numbers of hashes, sizes, rates and brackets at values from outside, and the refusals' texts.
-use crate::expecting::{expect_row, has_text};
+use crate::telling::{has_text, tell_row};
 use fastbloom::{
     Bracket, FilterError, Rate, expected_density, expected_false_pos, false_pos_bounds,
     false_pos_of_either, false_pos_of_ones, optimal_hashes, optimal_size,
@@ -54,18 +54,8 @@ const ROWS: &'static [Row] = &[
         Ok(22544),
     ),
     Row::Size(12786308645202655226, 1, 2, Ok(18446744073709551608)),
-    Row::Size(
-        12786308645202655227,
-        1,
-        2,
-        Err(FilterError::SizeOverflow),
-    ),
-    Row::Size(
-        18446744073709551615,
-        1,
-        2,
-        Err(FilterError::SizeOverflow),
-    ),
+    Row::Size(12786308645202655227, 1, 2, Err(FilterError::SizeOverflow)),
+    Row::Size(18446744073709551615, 1, 2, Err(FilterError::SizeOverflow)),
     Row::Size(1, 0, 5, Err(FilterError::ZeroRate)),
     Row::Size(1, 5, 0, Err(FilterError::ZeroRate)),
     // 1 - (63/64)^t, and 1 - (2/3). The last two densities, computed apart with Python's whole
@@ -147,7 +137,7 @@ fn are_in_range() -> bool {
 #[test]
 fn numbers_are_those_from_outside(rt: HostRuntime) {
     for (i, row) in ROWS.iter().enumerate() {
-        expect_row(&rt, i, holds(row));
+        assert!(rt; tell_row(&rt, i, holds(row)));
     }
     assert!(rt; are_in_range());
 }
@@ -167,6 +157,6 @@ const REFUSALS: &'static [(FilterError, u8, &'static str)] = &[
 fn refusals_have_these_numbers_and_texts(rt: HostRuntime) {
     for (i, (error, code, text)) in REFUSALS.iter().enumerate() {
         let is_told = has_text(rt.alloc(), error, text) & (error.code() == *code);
-        expect_row(&rt, i, is_told);
+        assert!(rt; tell_row(&rt, i, is_told));
     }
 }

@@ -3,8 +3,8 @@
 //! compares.
 mod calls;
 
-use crate::expecting::{NO_ROOM, say, word_of};
 use crate::fills::{THREE, Watching, gate_for, parts_of};
+use crate::telling::{NO_ROOM, say, word_of};
 use bloom_parts::bit_vector::{AtomicBitVec, BitVec};
 use fastbloom::{
     BloomFilter, Call, Event, FilterError, GrowingError, GrowingFilter, Rate, SeatedBloomFilter,
@@ -68,8 +68,8 @@ fn grows(alloc: Global) -> &'static str {
 #[test]
 fn a_filter_that_grows_is_whole_or_refused(rt: HostRuntime) {
     let begun = by_builders(begun(rt.alloc()));
-    say(&rt, "GrowingFilter::new", word_of(&begun));
-    say(&rt, "insert_hash that grows", grows(rt.alloc()));
+    assert!(rt; say(&rt, "GrowingFilter::new", word_of(&begun)));
+    assert!(rt; say(&rt, "insert_hash that grows", grows(rt.alloc())));
 }
 
 // A filter that stands by.
@@ -119,15 +119,16 @@ fn stands(filter: &BloomFilter) -> bool {
 #[test]
 fn words_and_a_run_are_whole_or_refused(rt: HostRuntime) {
     let Ok(filter) = standing(rt.alloc()) else {
-        return say(&rt, "from_words", NO_ROOM);
+        assert!(rt; say(&rt, "from_words", NO_ROOM));
+        return;
     };
     let plain = word_of(&plain_words(rt.alloc()));
     let shared = word_of(&shared_words(rt.alloc()));
     let course = word_of(&course(rt.alloc()));
     assert!(rt; stands(&filter));
-    say(&rt, "from_words", plain);
-    say(&rt, "shared from_words", shared);
-    say(&rt, "run", course);
+    assert!(rt; say(&rt, "from_words", plain));
+    assert!(rt; say(&rt, "shared from_words", shared));
+    assert!(rt; say(&rt, "run", course));
 }
 
 // Whether a filter of one word has the three passes that were asked for.
@@ -163,13 +164,14 @@ fn closed(alloc: Global) -> Result<&'static str, FilterError> {
 #[test]
 fn a_seated_filter_is_whole_or_refused(rt: HostRuntime) {
     let Ok(filter) = standing(rt.alloc()) else {
-        return say(&rt, "seated new", NO_ROOM);
+        assert!(rt; say(&rt, "seated new", NO_ROOM));
+        return;
     };
     let opened = word_of(&opened(rt.alloc()));
     let closed = closed(rt.alloc()).unwrap_or(NO_ROOM);
     assert!(rt; stands(&filter));
-    say(&rt, "seated new", opened);
-    say(&rt, "seated close", closed);
+    assert!(rt; say(&rt, "seated new", opened));
+    assert!(rt; say(&rt, "seated close", closed));
 }
 
 fn filled<R: Threads>(
@@ -197,9 +199,10 @@ fn ready(alloc: Global) -> Result<Ready, FilterError> {
 #[test]
 fn a_filled_filter_is_whole_or_refused_once_all_workers_ended(rt: HostRuntime) {
     let Ok((gate, seen, parts)) = ready(rt.alloc()) else {
-        return say(&rt, "fill", NO_ROOM);
+        assert!(rt; say(&rt, "fill", NO_ROOM));
+        return;
     };
     let word = word_of(&filled(&rt, rt.alloc(), gate, parts));
     assert!(rt; Arc::strong_count(&seen) == 1);
-    say(&rt, "fill", word);
+    assert!(rt; say(&rt, "fill", word));
 }

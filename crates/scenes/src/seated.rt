@@ -4,7 +4,7 @@ ghost use Rattle.std.specs.Prelude.{◌≡◌};
 
 mod threads;
 
-use crate::expecting::expect_named;
+use crate::telling::tell_named;
 use fastbloom::{FilterError, Pass, SeatedBloomFilter};
 use std::alloc::Global;
 
@@ -142,7 +142,7 @@ fn is_kept(alloc: Global, row: &Seating) -> Result<bool, FilterError> {
 #[test]
 fn passes_find_and_close_gives_what_was_given_or_inserted(rt: HostRuntime) {
     for row in SEATINGS {
-        expect_named(&rt, row.name, matches!(is_kept(rt.alloc(), row), Ok(true)));
+        assert!(rt; tell_named(&rt, row.name, matches!(is_kept(rt.alloc(), row), Ok(true))));
     }
     let none = SeatedBloomFilter::new(rt.alloc(), Vec::new(rt.alloc()), 2, 1);
     assert!(rt; none.err() == Some(FilterError::EmptyWords));

@@ -4,7 +4,7 @@ ghost use Rattle.scenes.specs.Tallies.{CountsStep};
 
 mod courses;
 
-use crate::expecting::expect_row;
+use crate::telling::tell_row;
 use fastbloom::{Call, Machine, MemoryStore, Step, WordStore, drive};
 use std::alloc::{AllocError, Global};
 use std::marker::Model;
@@ -53,7 +53,7 @@ fn a_machine_asks_for_one_step_after_the_other(rt: HostRuntime) {
     let mut machine = Machine::new(Call::Insert(1), 1, 3);
     for (i, (step, found, answer)) in ASKED.iter().enumerate() {
         let asked = machine.ask();
-        expect_row(&rt, i, (asked == *step) & (machine.answer() == *answer));
+        assert!(rt; tell_row(&rt, i, (asked == *step) & (machine.answer() == *answer)));
         if asked.is_some() {
             machine.reply(*found);
         }
@@ -105,6 +105,6 @@ fn is_driven(alloc: Global, row: &Driven) -> Result<bool, AllocError> {
 #[test]
 fn a_call_is_driven_over_memory_and_over_a_store_that_counts(rt: HostRuntime) {
     for (i, row) in DRIVEN.iter().enumerate() {
-        expect_row(&rt, i, matches!(is_driven(rt.alloc(), row), Ok(true)));
+        assert!(rt; tell_row(&rt, i, matches!(is_driven(rt.alloc(), row), Ok(true))));
     }
 }

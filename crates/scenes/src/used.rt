@@ -1,6 +1,6 @@
 //! The examples of README and of docs/CALLING.md: each does what its comments say.
 
-use crate::expecting::expect_row;
+use crate::telling::tell_row;
 use fastbloom::{AtomicBloomFilter, BloomFilter, FilterError, SeatedBloomFilter};
 use std::alloc::Global;
 use std::fs;
@@ -113,7 +113,7 @@ fn is_common(alloc: Global, row: &(usize, u128, bool, bool, bool)) -> Result<boo
 #[test]
 fn what_two_filters_have_in_common_is_kept(rt: HostRuntime) {
     for (i, row) in KEPT.iter().enumerate() {
-        expect_row(&rt, i, matches!(is_common(rt.alloc(), row), Ok(true)));
+        assert!(rt; tell_row(&rt, i, matches!(is_common(rt.alloc(), row), Ok(true))));
     }
 }
 

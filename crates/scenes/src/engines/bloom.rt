@@ -3,7 +3,7 @@
 mod rows;
 
 use super::faulty::{NARROW, ROOMY, Reading, SLOW, Seen, Sink, Source, WHOLE, Writing};
-use crate::expecting::{expect_row, has_text};
+use crate::telling::{has_text, tell_row};
 use bloom_engine::{Fault, serve};
 use bloom_plain::{BloomFilter, FilterError};
 use rows::{FAULTS, Failing, RUNS, Row, TEXTS};
@@ -34,13 +34,7 @@ fn run(
 
 // Whether a run writes this, ends so, and leaves this as the filter's first word, if that is told.
 // An end is told once, and no answer waits while a read may wait, or at the end.
-fn serves(
-    alloc: Global,
-    row: &Row,
-    reading: Reading,
-    writing: Writing,
-    word: Option<u64>,
-) -> bool {
+fn serves(alloc: Global, row: &Row, reading: Reading, writing: Writing, word: Option<u64>) -> bool {
     let (words, hashes, input, output, wanted) = *row;
     let seen = Seen::new();
     let mut reader = Source::new(input.as_bytes(), reading, &seen);
@@ -68,7 +62,7 @@ fn is_right(alloc: Global, row: &Row) -> bool {
 #[test]
 fn pieces_of_input_change_no_answer(rt: HostRuntime) {
     for (i, row) in RUNS.iter().enumerate() {
-        expect_row(&rt, i, is_right(rt.alloc(), row));
+        assert!(rt; tell_row(&rt, i, is_right(rt.alloc(), row)));
     }
 }
 
@@ -87,7 +81,7 @@ fn fails(alloc: Global, failing: &Failing) -> bool {
 #[test]
 fn a_read_a_write_or_a_flush_may_fail(rt: HostRuntime) {
     for (i, failing) in FAULTS.iter().enumerate() {
-        expect_row(&rt, i, fails(rt.alloc(), failing));
+        assert!(rt; tell_row(&rt, i, fails(rt.alloc(), failing)));
     }
 }
 
@@ -95,6 +89,6 @@ fn a_read_a_write_or_a_flush_may_fail(rt: HostRuntime) {
 fn faults_have_a_text_and_a_status(rt: HostRuntime) {
     for (i, (fault, text, status)) in TEXTS.iter().enumerate() {
         let is_told = has_text(rt.alloc(), fault, text) & (fault.status() == *status);
-        expect_row(&rt, i, is_told);
+        assert!(rt; tell_row(&rt, i, is_told));
     }
 }

@@ -3,7 +3,7 @@ mod odd;
 mod rows;
 
 use super::faulty::{FAILING, Seen, Sink};
-use crate::expecting::{expect_row, has_text};
+use crate::telling::{has_text, tell_row};
 use bloom_plain::{BloomFilter, FilterError, Rate};
 use duplicates_engine::{Fault, Options, Total, keep_new};
 use odd::{Limited, Quiet, Sources};
@@ -66,7 +66,7 @@ fn is_right(alloc: Global, row: &Row) -> bool {
 #[test]
 fn odd_runs_write_and_end_as_they_are_to(rt: HostRuntime) {
     for (i, row) in RUNS.iter().enumerate() {
-        expect_row(&rt, i, is_right(rt.alloc(), row));
+        assert!(rt; tell_row(&rt, i, is_right(rt.alloc(), row)));
     }
 }
 
@@ -84,13 +84,13 @@ fn a_read_may_fail_behind_any_byte(rt: HostRuntime) {
     let wanted = Err(Fault::Input(ErrorKind::BrokenPipe));
     for (i, (inputs, output)) in READS.iter().enumerate() {
         let row = (failing(*inputs), *output, wanted);
-        expect_row(&rt, i, is_right(rt.alloc(), &row));
+        assert!(rt; tell_row(&rt, i, is_right(rt.alloc(), &row)));
     }
 }
 
 #[test]
 fn faults_have_texts(rt: HostRuntime) {
     for (i, (fault, text)) in TEXTS.iter().enumerate() {
-        expect_row(&rt, i, has_text(rt.alloc(), fault, text));
+        assert!(rt; tell_row(&rt, i, has_text(rt.alloc(), fault, text)));
     }
 }

@@ -1,7 +1,7 @@
 //! The file that keeps a filter, in a folder of which calls fail, and in one of this machine. Clauses
 //! say what a crash leaves at each moment, and which files are refused; cases of `guard` what it
 //! makes of them.
-use crate::expecting::expect_row;
+use crate::telling::tell_row;
 use bloom_plain::{BloomFilter, FilterError};
 use guard_parts::{
     FilterFault, FilterFile, HostFault, HostFolder, Kept, MemoryFault, MemoryFolder, Paths, Unknown,
@@ -71,7 +71,7 @@ fn is_safe(alloc: Global, row: &(u64, u64, bool, bool)) -> Result<bool, FilterEr
 #[test]
 fn a_save_that_stops_at_any_call_leaves_the_old_filter_or_the_new_one(rt: HostRuntime) {
     for (i, row) in SAVES.iter().enumerate() {
-        expect_row(&rt, i, matches!(is_safe(rt.alloc(), row), Ok(true)));
+        assert!(rt; tell_row(&rt, i, matches!(is_safe(rt.alloc(), row), Ok(true))));
     }
 }
 
@@ -113,7 +113,9 @@ fn host_file<'a>(
 fn are_refused(rt: &HostRuntime) -> Result<bool, FilterError> {
     let filter = filter_with(rt.alloc(), 1)?;
     let unread = host_file(rt, ".", ".").load().err();
-    let is_saved = host_file(rt, "scene.filter", "scene.none").save(&filter).is_ok();
+    let is_saved = host_file(rt, "scene.filter", "scene.none")
+        .save(&filter)
+        .is_ok();
     Ok(!is_saved & (unread == Some(FilterFault::Unread(HostFault::NoFile))))
 }
 

@@ -1,6 +1,6 @@
 //! How often a guard asks its store for a value. A clause says what the guard counts, and none what
 //! its store is asked.
-use crate::expecting::{expect_row, has_text};
+use crate::telling::{has_text, tell_row};
 use bloom_plain::{FilterError, Rate};
 use guard_engine::{Guard, Store, Task, carry_out};
 use guard_parts::{FilterFile, MemoryFolder};
@@ -153,9 +153,9 @@ fn is_right(
 fn a_store_is_asked_once_for_each_key_that_the_filter_has(rt: HostRuntime) {
     let look_ups = Cell::new(0);
     let Some(mut guard) = guard_of(rt.alloc(), &look_ups) else {
-        return expect_row(&rt, 0, false);
+        panic!(rt)
     };
     for (i, row) in ACTS.iter().enumerate() {
-        expect_row(&rt, i, is_right(rt.alloc(), &mut guard, &look_ups, row));
+        assert!(rt; tell_row(&rt, i, is_right(rt.alloc(), &mut guard, &look_ups, row)));
     }
 }

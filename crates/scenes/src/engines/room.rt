@@ -1,7 +1,7 @@
 //! A run whose own request for memory may be refused. Its reader and writer take none.
 use super::bloom::filter_of;
 use super::faulty::{ROOMY, Seen, Sink, Source, WHOLE};
-use crate::expecting::{NO_ROOM, WRONG, say};
+use crate::telling::{NO_ROOM, WRONG, say};
 use bloom_engine::{Fault, serve};
 use bloom_plain::BloomFilter;
 use std::alloc::Global;
@@ -47,5 +47,5 @@ fn served(alloc: Global, output: &mut Sink, seen: &Seen) -> &'static str {
 fn a_run_is_whole_or_refused_before_its_first_line(rt: HostRuntime) {
     let seen = Seen::new();
     let mut output = Sink::new(rt.alloc(), ROOMY, &seen);
-    say(&rt, "serve", served(rt.alloc(), &mut output, &seen));
+    assert!(rt; say(&rt, "serve", served(rt.alloc(), &mut output, &seen)));
 }

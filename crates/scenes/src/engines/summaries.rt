@@ -5,7 +5,7 @@ use super::faulty::{
     FAILING, FULL, NARROW, ROOMY, Reading, SLOW, STUCK, Seen, Sink, Source, UNFLUSHED, WHOLE,
     Writing,
 };
-use crate::expecting::{expect_row, has_text};
+use crate::telling::{has_text, tell_row};
 use fastbloom::{BloomFilter, Shape};
 use std::thread::Threads;
 use summaries_engine::{Inputs, Stop, Told, ask, build, load, put, put_file};
@@ -277,9 +277,9 @@ fn are_right<R: Threads + AllocGlobal>(rt: &R, row: &Row, filter: &BloomFilter) 
 #[test]
 fn acts_write_and_stop_as_they_are_to(rt: HostRuntime) {
     let Ok((filter, _form)) = load(rt.alloc(), "a", 64, &mut &A[..]) else {
-        return expect_row(&rt, 0, false);
+        panic!(rt)
     };
     for (i, row) in ACTS.iter().enumerate() {
-        expect_row(&rt, i, are_right(&rt, row, &filter));
+        assert!(rt; tell_row(&rt, i, are_right(&rt, row, &filter)));
     }
 }

@@ -1,7 +1,7 @@
 //! Files that are refused: the number and the text of each reason, heads at the borders of what is
 //! refused, and files that end too early or too late.
-use crate::expecting::{expect_row, has_text};
 use crate::files::{WORKED, refusals};
+use crate::telling::{has_text, tell_row};
 use bloom_plain::file::FileError;
 use std::alloc::Global;
 use std::io::ErrorKind;
@@ -41,7 +41,7 @@ const ERRORS: &'static [(FileError, u8, &'static str)] = &[
 fn each_refusal_has_its_text_and_number(rt: HostRuntime) {
     for (i, (error, code, text)) in ERRORS.iter().enumerate() {
         let is_told = has_text(rt.alloc(), error, text) & (error.code() == *code);
-        expect_row(&rt, i, is_told);
+        assert!(rt; tell_row(&rt, i, is_told));
     }
 }
 
@@ -93,7 +93,7 @@ fn a_changed_number_is_refused_once_it_is_whole(rt: HostRuntime) {
     for (i, (place, number, length, reason)) in REFUSED.iter().enumerate() {
         let file = changed(*place, *number);
         let read = &file[..(*length).min(72)];
-        expect_row(&rt, i, are_refused(rt.alloc(), read, *reason));
+        assert!(rt; tell_row(&rt, i, are_refused(rt.alloc(), read, *reason)));
     }
 }
 
@@ -113,7 +113,13 @@ fn every_cut_is_refused_and_so_is_a_byte_more(rt: HostRuntime) {
         } else {
             FileError::Cut
         };
-        expect_row(&rt, length, are_refused(rt.alloc(), &WORKED[..length], reason));
+        assert!(rt;
+            tell_row(
+                &rt,
+                length,
+                are_refused(rt.alloc(), &WORKED[..length], reason),
+            )
+        );
     }
     assert!(rt; are_refused(rt.alloc(), &LONGER, FileError::TooLong));
 }

@@ -1,7 +1,7 @@
 //! Files of readers and writers that take few bytes a call, are interrupted, or fail.
 use crate::engines::faulty::{NARROW, Reading, Seen, Sink, Source, Writing};
-use crate::expecting::expect_row;
 use crate::files::{WORKED, crabs};
+use crate::telling::tell_row;
 use bloom_plain::file::FileError;
 use fastbloom::{BloomFilter, FilterError};
 use std::alloc::Global;
@@ -47,10 +47,10 @@ fn are_told(alloc: Global, filter: &BloomFilter, length: usize) -> bool {
 #[test]
 fn streams_that_fail_are_told_at_each_place(rt: HostRuntime) {
     let Ok(filter) = crabs(rt.alloc()) else {
-        return expect_row(&rt, 0, false);
+        panic!(rt)
     };
     for length in 0..=72usize {
-        expect_row(&rt, length, are_told(rt.alloc(), &filter, length));
+        assert!(rt; tell_row(&rt, length, are_told(rt.alloc(), &filter, length)));
     }
 }
 
@@ -100,6 +100,6 @@ fn comes_back(alloc: Global, words: u64, piece: usize) -> Result<bool, FilterErr
 fn filters_come_back_in_pieces_and_cut_files_do_not(rt: HostRuntime) {
     for (i, (words, piece)) in STREAMS.iter().enumerate() {
         let is_back = comes_back(rt.alloc(), *words, *piece);
-        expect_row(&rt, i, matches!(is_back, Ok(true)));
+        assert!(rt; tell_row(&rt, i, matches!(is_back, Ok(true))));
     }
 }

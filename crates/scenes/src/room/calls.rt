@@ -1,6 +1,5 @@
 //! Scenes that are run again and again, each time with one request for memory refused. They print
 //! their calls and how each ended, which bin/starve compares.
-use crate::expecting::{NO_ROOM, WITHOUT_MEMORY, expect_row, say, word_of};
 use crate::follow::follow;
 use crate::making::{Refused, THE_TEST};
 use crate::scene::Op::{
@@ -9,6 +8,7 @@ use crate::scene::Op::{
 };
 use crate::scene::Size::{Expected, Hashes, Numbers};
 use crate::scene::{Item, Make, Scene};
+use crate::telling::{NO_ROOM, WITHOUT_MEMORY, say, tell_row, word_of};
 use fastbloom::{
     Call, FilterError, Machine, MemoryStore, Rate, drive, expected_density, expected_false_pos,
     optimal_hashes, optimal_size,
@@ -133,32 +133,31 @@ const SCENES: &'static [(&'static [&'static str], Scene)] = &[
 ];
 
 // Prints each call of a scene that was whole, or that it takes no memory.
-fn say_whole(rt: &HostRuntime, scene: &str, calls: &[&str]) {
-    if calls.is_empty() {
-        say(rt, scene, WITHOUT_MEMORY);
-    }
+fn say_whole(rt: &HostRuntime, scene: &str, calls: &[&str]) -> bool {
+    let mut all = !calls.is_empty() || say(rt, scene, WITHOUT_MEMORY);
     for call in calls {
-        say(rt, call, "whole");
+        all &= say(rt, call, "whole");
     }
+    all
 }
 
 // Prints the call that was refused, or that there was no room for the test.
-fn say_refused(rt: &HostRuntime, scene: &str, refused: Refused) {
+fn say_refused(rt: &HostRuntime, scene: &str, refused: Refused) -> bool {
     if refused.call == THE_TEST {
         return say(rt, scene, NO_ROOM);
     }
-    say(rt, refused.call, word_of(&Err(refused.reason)));
+    say(rt, refused.call, word_of(&Err(refused.reason)))
 }
 
 // Follows the scene of this number, and prints how it ended. Each line must be as said, up to a
 // refusal.
-fn say_end(rt: &HostRuntime, number: usize) {
+fn say_end(rt: &HostRuntime, number: usize) -> bool {
     let Some((calls, scene)) = SCENES.get(number) else {
-        return expect_row(rt, number, false);
+        return false;
     };
     match follow(rt.alloc(), &scene.make, scene.lines) {
         Ok(None) => say_whole(rt, scene.name, calls),
-        Ok(Some(line)) => expect_row(rt, line, false),
+        Ok(Some(line)) => tell_row(rt, line, false),
         Err(refused) => say_refused(rt, scene.name, refused),
     }
 }
@@ -180,53 +179,54 @@ fn store_of(alloc: Global) -> Result<MemoryStore, AllocError> {
 #[test]
 fn sizes_and_steps_take_no_memory(rt: HostRuntime) {
     let Ok(mut store) = store_of(rt.alloc()) else {
-        return say(&rt, "sizes and steps", NO_ROOM);
+        assert!(rt; say(&rt, "sizes and steps", NO_ROOM));
+        return;
     };
     let was_there = drive(&mut store, Call::Insert(1), 2);
     let asks = Machine::new(Call::Union, 1, 2).ask().is_some();
     let is_set = store.words() == [1048577].as_slice();
     assert!(rt; asks & is_set & (was_there == Some(false)));
     assert!(rt; matches!(are_sized(), Ok(true)));
-    say(&rt, "sizes and steps", WITHOUT_MEMORY);
+    assert!(rt; say(&rt, "sizes and steps", WITHOUT_MEMORY));
 }
 
 // Each test counts its own requests, so the scenes stand in tests of their own.
 #[test]
 fn filters_of_bits_are_whole_or_refused(rt: HostRuntime) {
-    say_end(&rt, 0)
+    assert!(rt; say_end(&rt, 0));
 }
 
 #[test]
 fn filters_for_items_are_whole_or_refused(rt: HostRuntime) {
-    say_end(&rt, 1)
+    assert!(rt; say_end(&rt, 1));
 }
 
 #[test]
 fn filters_for_a_rate_and_of_data_are_whole_or_refused(rt: HostRuntime) {
-    say_end(&rt, 2)
+    assert!(rt; say_end(&rt, 2));
 }
 
 #[test]
 fn plain_filters_of_words_take_no_memory(rt: HostRuntime) {
-    say_end(&rt, 3)
+    assert!(rt; say_end(&rt, 3));
 }
 
 #[test]
 fn copies_and_data_are_whole_or_refused(rt: HostRuntime) {
-    say_end(&rt, 4)
+    assert!(rt; say_end(&rt, 4));
 }
 
 #[test]
 fn a_take_and_a_list_are_whole_or_refused(rt: HostRuntime) {
-    say_end(&rt, 5)
+    assert!(rt; say_end(&rt, 5));
 }
 
 #[test]
 fn calls_with_items_take_no_memory(rt: HostRuntime) {
-    say_end(&rt, 6)
+    assert!(rt; say_end(&rt, 6));
 }
 
 #[test]
 fn comparisons_take_no_memory(rt: HostRuntime) {
-    say_end(&rt, 7)
+    assert!(rt; say_end(&rt, 7));
 }

@@ -1,6 +1,6 @@
 //! Runs of calls whose steps come in the order of a schedule, with the courses that were worked out
 //! by hand. A course is what a run records: which call began, and each step with what it found.
-use crate::expecting::expect_named;
+use crate::telling::tell_named;
 use fastbloom::{Call, End, Event, Record, Step, run};
 use std::alloc::Global;
 
@@ -215,6 +215,6 @@ fn is_taken(alloc: Global, course: &Course) -> bool {
 #[test]
 fn calls_in_the_order_of_a_schedule_take_these_courses(rt: HostRuntime) {
     for course in COURSES {
-        expect_named(&rt, course.name, is_taken(rt.alloc(), course));
+        assert!(rt; tell_named(&rt, course.name, is_taken(rt.alloc(), course)));
     }
 }

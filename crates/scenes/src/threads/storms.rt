@@ -2,7 +2,7 @@
 use super::tasks::{Act, Task, work};
 use super::{join_all, start};
 use crate::drawn::spread;
-use crate::expecting::expect_named;
+use crate::telling::tell_named;
 use fastbloom::{AtomicBloomFilter, BloomFilter, FilterError};
 use std::alloc::Global;
 use std::sync::Arc;
@@ -191,6 +191,6 @@ fn storms_lose_no_bit_and_leave_a_filter_that_is_as_new(rt: HostRuntime) {
             End::LetGo => lets_go(&rt, rt.alloc(), storm),
             End::Alone | End::Kept => keeps(&rt, rt.alloc(), storm),
         };
-        expect_named(&rt, storm.name, matches!(ends, Ok(true)));
+        assert!(rt; tell_named(&rt, storm.name, matches!(ends, Ok(true))));
     }
 }

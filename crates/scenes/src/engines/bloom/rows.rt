@@ -15,24 +15,41 @@ const BAD: Ended = Err(Fault::Line(1));
 pub(super) type Row = (usize, u32, &'static str, &'static str, Ended);
 
 /// A run that fails.
-pub(super) type Failing = (
-    &'static str,
-    Reading,
-    Writing,
-    &'static str,
-    Fault,
-    u64,
-);
+pub(super) type Failing = (&'static str, Reading, Writing, &'static str, Fault, u64);
 
 /// The numbers of words and of hashes, and input; what is written, and how the run ends. The end of
 /// the input ends a line without its own.
 pub(super) const RUNS: &'static [Row] = &[
-    (1, 3, "i 1\nc 1\nw\n", "false\ntrue\n0000000100100001\n", WELL),
-    (1, 2, "i 18446744073709551615\nw\n", "false\n8000080000000000\n", WELL),
+    (
+        1,
+        3,
+        "i 1\nc 1\nw\n",
+        "false\ntrue\n0000000100100001\n",
+        WELL,
+    ),
+    (
+        1,
+        2,
+        "i 18446744073709551615\nw\n",
+        "false\n8000080000000000\n",
+        WELL,
+    ),
     (1, 3, "i 1\nx\n", "false\n", Err(Fault::Line(2))),
-    (2, 3, "i 1\nw\n", "false\n0000010000000001\n0000000000000001\n", WELL),
+    (
+        2,
+        3,
+        "i 1\nw\n",
+        "false\n0000010000000001\n0000000000000001\n",
+        WELL,
+    ),
     (1, 1, "", "", WELL),
-    (1, 3, "i 1\nz\nc 1\nw\n", "false\nfalse\n0000000000000000\n", WELL),
+    (
+        1,
+        3,
+        "i 1\nz\nc 1\nw\n",
+        "false\nfalse\n0000000000000000\n",
+        WELL,
+    ),
     (1, 2, "i 18446744073709551616\n", "", BAD),
     (1, 2, "c 00000000000000000001\n", "false\n", WELL),
     (1, 2, "c 000000000000000000001\n", "", BAD),

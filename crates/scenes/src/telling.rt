@@ -4,14 +4,20 @@ use fastbloom::FilterError;
 use std::alloc::Global;
 use std::fmt::Display;
 
-/// Ends the test where a row isn't right.
-pub(crate) fn expect_row(rt: &HostRuntime, row: usize, is_right: bool) {
-    assert!(*rt; is_right, "row {row}");
+/// Whether a row is right. One that isn't is told.
+pub(crate) fn tell_row(rt: &HostRuntime, row: usize, is_right: bool) -> bool {
+    if !is_right {
+        let _told = eprintln!(rt; "row {row}");
+    }
+    is_right
 }
 
-/// Ends the test where what has this name isn't right.
-pub(crate) fn expect_named(rt: &HostRuntime, name: &str, is_right: bool) {
-    assert!(*rt; is_right, "{name}");
+/// Whether what has this name is right. It is told if it isn't.
+pub(crate) fn tell_named(rt: &HostRuntime, name: &str, is_right: bool) -> bool {
+    if !is_right {
+        let _told = eprintln!(rt; "{name}");
+    }
+    is_right
 }
 
 /// Whether a value is printed as this text.
@@ -31,10 +37,10 @@ pub(crate) const WITHOUT_MEMORY: &'static str = "without memory";
 /// The end of a test that is itself refused memory.
 pub(crate) const NO_ROOM: &'static str = "no room for the test";
 
-/// Prints a call and how it ended, which mustn't be wrong. bin/starve compares these lines.
-pub(crate) fn say(rt: &HostRuntime, call: &str, ended: &str) {
+/// Prints a call and how it ended, which bin/starve compares: whether it isn't wrong.
+pub(crate) fn say(rt: &HostRuntime, call: &str, ended: &str) -> bool {
     let printed = println!(rt; "{call}: {ended}");
-    assert!(*rt; printed.is_ok() & (ended != WRONG));
+    printed.is_ok() & (ended != WRONG)
 }
 
 /// How a call ended: with the full result, with another, or with a refusal.
