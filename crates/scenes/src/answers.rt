@@ -52,7 +52,7 @@ pub(crate) fn extend(pair: &mut Pair, first: u64, last: u64) -> bool {
     true
 }
 
-/// Whether both answer alike of the numbers up to 400, and have those from the first up to the last.
+/// Whether both answer alike of the numbers up to 400, and have those from the first to the last.
 pub(crate) fn finds(pair: &Pair, first: u64, last: u64) -> bool {
     let mut is_right = true;
     for number in 0..400u64 {

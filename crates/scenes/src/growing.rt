@@ -28,8 +28,8 @@ fn is_grown(filter: &GrowingFilter, new: usize) -> bool {
     (shape == (*bits, *hashes)) & is_begun & (before.saturating_add(taken) == new)
 }
 
-// Whether the newest filter is that of its row after each of a hundred inserts, which are found, and
-// is the fourth in the end, and an item is found that went in.
+// Whether the newest filter is that of its row after each of a hundred inserts, which are found,
+// and is the fourth in the end. An item that goes in is found, too.
 fn grows(alloc: Global) -> Result<bool, GrowingError> {
     let mut filter = GrowingFilter::new(alloc, Rate::new(1, 10)?, 8)?;
     let mut new = 0usize;

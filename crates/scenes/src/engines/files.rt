@@ -1,6 +1,6 @@
-//! The file that keeps a filter, in a folder of which calls fail, and in one of this machine. Clauses
-//! say what a crash leaves at each moment, and which files are refused; cases of `guard` what it
-//! makes of them.
+//! The file that keeps a filter, in a folder of which calls fail, and in one of this machine.
+//! Clauses say what a crash leaves at each moment, and which files are refused; cases of `guard`
+//! what it makes of them.
 use crate::telling::tell_row;
 use bloom_plain::{BloomFilter, FilterError};
 use guard_parts::{
@@ -33,8 +33,8 @@ fn finds(alloc: Global, folder: MemoryFolder, filter: &BloomFilter) -> bool {
     }
 }
 
-// The calls of a save are, in their order: remove, write, sync, rename, sync of the folder. After how
-// many of them some fail, and how many; whether the save comes about then, and whether the new
+// The calls of a save are, in their order: remove, write, sync, rename, sync of the folder. After
+// how many of them some fail, and how many; whether the save comes about then, and whether the new
 // filter is found, or else the old one. A removal that fails may have met no file.
 const SAVES: &'static [(u64, u64, bool, bool)] = &[
     (0, 1, true, true),
