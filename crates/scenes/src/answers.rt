@@ -99,9 +99,9 @@ pub(crate) fn has_ones(pair: &Pair, ones: usize) -> bool {
 /// Whether the number of items is told with these bounds. Where there is no upper one, the lower
 /// isn't compared.
 pub(crate) fn has_bounds(pair: &Pair, low: usize, high: Option<usize>) -> bool {
-    let (plain, shared) = (pair.plain.estimated_items(), pair.shared.estimated_items());
-    let has_low = (plain.low() == low) | high.is_none();
-    has_low & (plain.low() == shared.low()) & (plain.high() == high) & (shared.high() == high)
+    let estimate = pair.plain.estimated_items();
+    let is_same = estimate == pair.shared.estimated_items();
+    is_same & (estimate.high() == high) & (high.is_none() | (estimate.low() == low))
 }
 
 /// Whether the rate that is expected has these ends.

@@ -52,17 +52,25 @@ fn filter_of(alloc: Global, word: u64) -> Result<BloomFilter, FilterError> {
 }
 
 // Two filters that a list names.
-fn others_of(alloc: Global) -> Result<[BloomFilter; 2], FilterError> {
+#[derive(Drop)]
+struct Others {
+    six: BloomFilter,
+    eight: BloomFilter,
+}
+
+fn others_of(alloc: Global) -> Result<Others, FilterError> {
     let six = filter_of(alloc, 6)?;
-    Ok([six, filter_of(alloc, 8)?])
+    let eight = filter_of(alloc, 8)?;
+    Ok(Others { six, eight })
 }
 
 // What a list of three filters of one shape gives: an intersection, a union, two calls by hash.
 fn replies_of(
     alloc: Global,
     filter: &mut BloomFilter,
-    [six, eight]: &[BloomFilter; 2],
+    others: &Others,
 ) -> Result<Vec<bool>, FilterError> {
+    let Others { six, eight } = others;
     if !filter.same_shape(six) || !filter.same_shape(eight) {
         return Ok(Vec::new(alloc));
     }

@@ -101,7 +101,8 @@ const FILLINGS: &'static [Filling] = &[
 fn is_filled<R: Threads>(rt: &R, alloc: Global, row: &Filling) -> Result<bool, FilterError> {
     let (bits, hashes, rounded, cut, word) = *row;
     let shape = Shape::new(bits, hashes)?;
-    let (filter, is_seen) = filled(rt, alloc, shape, parts_of(alloc, cut)?)?;
+    let parts = parts_of(alloc, cut)?;
+    let (filter, is_seen) = filled(rt, alloc, shape, parts)?;
     let is_rounded = (filter.num_bits(), filter.num_hashes()) == rounded;
     Ok(is_seen & is_rounded & (filter.as_slice() == [word].as_slice()))
 }
@@ -130,20 +131,21 @@ fn hundred(alloc: Global) -> Result<Vec<Vec<u64>>, FilterError> {
     Ok(parts)
 }
 
-// The filter that one thread makes of them.
-fn made_alone(alloc: Global) -> Result<BloomFilter, FilterError> {
+// Whether a filter is that which one thread makes of them.
+fn is_made_alone(alloc: Global, filled: &BloomFilter) -> Result<bool, FilterError> {
     let mut filter = BloomFilter::with_num_bits(alloc, 1 << 20)?.hashes(7);
     for i in 0..100_000u64 {
         filter.insert_hash(spread(i));
     }
-    Ok(filter)
+    Ok(filter == *filled)
 }
 
 // Whether a hundred workers make the filter of one thread.
 fn is_made_alike<R: Threads>(rt: &R, alloc: Global) -> Result<bool, FilterError> {
     let shape = Shape::new(1 << 20, 7)?;
-    let (filter, is_seen) = filled(rt, alloc, shape, hundred(alloc)?)?;
-    Ok(is_seen & (filter == made_alone(alloc)?))
+    let parts = hundred(alloc)?;
+    let (filter, is_seen) = filled(rt, alloc, shape, parts)?;
+    Ok(is_seen & is_made_alone(alloc, &filter)?)
 }
 
 #[test]

@@ -28,19 +28,28 @@ fn is_grown(filter: &GrowingFilter, new: usize) -> bool {
     (shape == (*bits, *hashes)) & is_begun & (before.saturating_add(taken) == new)
 }
 
-// Whether the newest filter is that of its row after each of a hundred inserts, which are found,
-// and is the fourth in the end. An item that goes in is found, too.
+// Whether the newest filter is that of its row after a hash went in, which is found. New hashes are
+// counted.
+fn takes(alloc: Global, filter: &mut GrowingFilter, hash: u64, new: &mut usize) -> bool {
+    let Ok(held) = filter.insert_hash(alloc, hash) else {
+        return false;
+    };
+    *new = (*new).saturating_add(!held as usize);
+    is_grown(filter, *new) & filter.contains_hash(hash)
+}
+
+// Whether that is so after each of a hundred hashes, and the newest is the fourth in the end. An
+// item that goes in is found, too.
 fn grows(alloc: Global) -> Result<bool, GrowingError> {
     let mut filter = GrowingFilter::new(alloc, Rate::new(1, 10)?, 8)?;
     let mut new = 0usize;
     let mut is_right = true;
     for i in 0..100u64 {
-        let held = filter.insert_hash(alloc, spread(i))?;
-        new = new.saturating_add(!held as usize);
-        is_right &= is_grown(&filter, new) & filter.contains_hash(spread(i));
+        is_right &= takes(alloc, &mut filter, spread(i), &mut new);
     }
-    filter.insert(alloc, &"crab")?;
-    Ok(is_right & (filter.older().len() == 3) & filter.contains(&"crab"))
+    let has_four = filter.older().len() == 3;
+    let is_in = filter.insert(alloc, &"crab").is_ok() & filter.contains(&"crab");
+    Ok(is_right & has_four & is_in)
 }
 
 #[test]

@@ -78,13 +78,17 @@ pub(crate) fn insert_all(
     Ok(true)
 }
 
+// Copies of both filters.
+fn copies_of(alloc: Global, pair: &Pair) -> Result<Pair, Refused> {
+    let plain = named("try_clone", pair.plain.try_clone(alloc))?;
+    let shared = named("shared try_clone", pair.shared.try_clone(alloc))?;
+    Ok(Pair { plain, shared })
+}
+
 /// Whether copies are alike and equal the filters, and differ from them, or don't, once the item 42
 /// went into the copies.
 pub(crate) fn copy(alloc: Global, pair: &Pair, said: bool) -> Result<bool, Refused> {
-    let mut copies = Pair {
-        plain: named("try_clone", pair.plain.try_clone(alloc))?,
-        shared: named("shared try_clone", pair.shared.try_clone(alloc))?,
-    };
+    let mut copies = copies_of(alloc, pair)?;
     let are_equal = (copies.plain == pair.plain) & copies.shared.same_words(&pair.shared);
     let are_equal = are_equal & are_alike(&copies);
     copies.plain.insert(&42u64);

@@ -1,14 +1,16 @@
 //! Calls that take memory and are no lines of a scene: how each ends where a request for memory is
 //! refused, and what it leaves. Each test prints its calls and how they ended, which bin/starve
 //! compares.
+ghost use Rattle.std.specs.Prelude.{◌≡◌};
+
 mod calls;
 
 use crate::fills::{THREE, Watching, gate_for, parts_of};
-use crate::telling::{NO_ROOM, say, word_of};
+use crate::telling::{NO_ROOM, WRONG, say, word_of};
 use bloom_parts::bit_vector::{AtomicBitVec, BitVec};
 use fastbloom::{
-    BloomFilter, Call, Event, FilterError, GrowingError, GrowingFilter, Rate, SeatedBloomFilter,
-    Shape, fill, run,
+    BloomFilter, Call, Event, FilterError, GrowingError, GrowingFilter, Pass, Rate,
+    SeatedBloomFilter, Shape, fill, run,
 };
 use std::alloc::Global;
 use std::sync::Arc;
@@ -138,8 +140,24 @@ fn opened(alloc: Global) -> Result<bool, FilterError> {
     Ok(passes.len() == 3)
 }
 
-// How `close` ended after two of the passes called, if there was room for the filter. Hash 1 has
-// the positions 0 and 20.
+// Whether what one pass inserts is new, and is found by the other.
+fn is_shared(filter: &SeatedBloomFilter, first: &mut Pass, second: &mut Pass) -> bool
+    requires first { first.old.filter ≡ filter.now.table }
+    requires second { second.old.filter ≡ filter.now.table }
+    ensures { second.new.filter ≡ second.old.filter }
+{
+    let was_new = !filter.insert_hash_as(first, 1);
+    let is_found = filter.contains_hash_as(second, 1);
+    filter.meet(first, second);
+    was_new & is_found
+}
+
+// Whether a filter is closed to the word of hash 1, which has the positions 0 and 20.
+fn is_closed(closed: Result<Vec<u64>, FilterError>) -> Result<bool, FilterError> {
+    Ok(closed?.as_slice() == [1048577].as_slice())
+}
+
+// How `close` ended after two of the passes called, if there was room for the filter.
 fn closed(alloc: Global) -> Result<&'static str, FilterError> {
     let words = [0].to_vec(alloc)?;
     let (filter, mut passes) = SeatedBloomFilter::new(alloc, words, 2, 3)?;
@@ -149,16 +167,10 @@ fn closed(alloc: Global) -> Result<&'static str, FilterError> {
     let Some(mut second) = passes.pop() else {
         unreachable!()
     };
-    let was_new = !filter.insert_hash_as(&mut first, 1);
-    let is_found = filter.contains_hash_as(&mut second, 1);
-    filter.meet(&mut first, &mut second);
-    match filter.close(alloc, second) {
-        Ok(words) => {
-            let is_right = was_new & is_found & (words.as_slice() == [1048577].as_slice());
-            Ok(word_of(&Ok(is_right)))
-        }
-        Err(refusal) => Ok(word_of(&Err(refusal))),
+    if !is_shared(&filter, &mut first, &mut second) {
+        return Ok(WRONG);
     }
+    Ok(word_of(&is_closed(filter.close(alloc, second))))
 }
 
 #[test]

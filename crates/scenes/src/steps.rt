@@ -88,23 +88,29 @@ fn one_word(alloc: Global, word: u64, other: u64) -> Result<MemoryStore, AllocEr
     Ok(MemoryStore::new(words, other))
 }
 
-// Whether a call answers and leaves what its row says over words in memory, and over a store that
-// counts its steps.
+// Whether a call answers and leaves what its row says over words in memory.
 fn is_driven(alloc: Global, row: &Driven) -> Result<bool, AllocError> {
-    let (word, other, call, num_hashes, answer, after, steps) = *row;
+    let (word, other, call, num_hashes, answer, after, _steps) = *row;
     let mut store = one_word(alloc, word, other)?;
+    let found = drive(&mut store, call, num_hashes.max(1));
+    Ok((found == answer) & (store.words() == [after].as_slice()))
+}
+
+// The same over a store that counts its steps.
+fn is_counted(alloc: Global, row: &Driven) -> Result<bool, AllocError> {
+    let (word, other, call, num_hashes, answer, after, steps) = *row;
     let memory = one_word(alloc, word, other)?;
     let mut tally = Tally { memory, steps: 0 };
-    let found = drive(&mut store, call, num_hashes.max(1));
-    let counted = drive(&mut tally, call, num_hashes.max(1));
-    let words = [after];
-    let is_left = (store.words() == words.as_slice()) & (tally.memory.words() == words.as_slice());
-    Ok((found == answer) & (counted == answer) & (tally.steps == steps) & is_left)
+    let found = drive(&mut tally, call, num_hashes.max(1));
+    let is_left = tally.memory.words() == [after].as_slice();
+    Ok((found == answer) & (tally.steps == steps) & is_left)
 }
 
 #[test]
 fn a_call_is_driven_over_memory_and_over_a_store_that_counts(rt: HostRuntime) {
     for (i, row) in DRIVEN.iter().enumerate() {
-        assert!(rt; tell_row(&rt, i, matches!(is_driven(rt.alloc(), row), Ok(true))));
+        let is_driven = matches!(is_driven(rt.alloc(), row), Ok(true));
+        let is_counted = matches!(is_counted(rt.alloc(), row), Ok(true));
+        assert!(rt; tell_row(&rt, i, is_driven & is_counted));
     }
 }

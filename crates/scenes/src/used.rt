@@ -4,7 +4,6 @@ use crate::telling::tell_row;
 use fastbloom::{AtomicBloomFilter, BloomFilter, FilterError, SeatedBloomFilter};
 use std::alloc::Global;
 use std::fs;
-use std::test::Fail;
 use std::thread::Threads;
 use uses::builders::{by_bits_and_hashes, by_bits_and_items, by_rate_and_items, by_words};
 use uses::clauses::remember;
@@ -14,7 +13,7 @@ use uses::keys::drawn_key;
 use uses::lists::replies;
 use uses::readme::{plain_filter, seated_filter, shared_filter};
 use uses::rotated::rotate;
-use uses::saved::parts_of;
+use uses::saved::{Parts, parts_of};
 use uses::seated::insert_hashes;
 use uses::sets::keep_common;
 use uses::shared::count_found;
@@ -59,12 +58,20 @@ fn has_shape(made: Result<BloomFilter, FilterError>, bits: usize, hashes: u32) -
     }
 }
 
+// Whether the filter of these parts equals another.
+fn is_filter_of(parts: Parts, filter: &BloomFilter) -> bool {
+    match saved::filter_of(parts) {
+        Ok(again) => again == *filter,
+        Err(_refusal) => false,
+    }
+}
+
 // Whether a filter of words is that of hash 1, and is made again of its parts.
 fn is_made_again(alloc: Global) -> Result<bool, FilterError> {
     let made = by_words(alloc)?;
     let parts = parts_of(alloc, &made, 42u128.to_be_bytes())?;
-    let is_again = saved::filter_of(parts)? == made;
-    Ok(is_again & (made.as_slice() == [WORD_OF_ONE].as_slice()) & (made.num_hashes() == 2))
+    let is_of_one = (made.as_slice() == [WORD_OF_ONE].as_slice()) & (made.num_hashes() == 2);
+    Ok(is_of_one & is_filter_of(parts, &made))
 }
 
 #[test]
@@ -125,15 +132,24 @@ fn carries_out(alloc: Global, filter: &mut BloomFilter) -> bool {
     }
 }
 
-#[test]
-fn a_filter_is_read_from_its_file_and_carries_out_a_list(rt: HostRuntime) -> Result<(), Fail> {
+// Whether the filter of a file equals another, and carries out a list.
+fn is_loaded(rt: &HostRuntime, filter: &BloomFilter) -> bool {
+    match load(rt, "one.bloom") {
+        Ok(mut loaded) => (loaded == *filter) & carries_out(rt.alloc(), &mut loaded),
+        Err(_error) => false,
+    }
+}
+
+// Whether a filter is saved and read from its file.
+fn is_saved(rt: &HostRuntime) -> Result<bool, FilterError> {
     let one = filter_of(rt.alloc(), 64, 42, true)?;
-    save(&rt, &one, "one.bloom")?;
-    let mut filter = load(&rt, "one.bloom")?;
+    Ok(save(rt, &one, "one.bloom").is_ok() & is_loaded(rt, &one))
+}
+
+#[test]
+fn a_filter_is_read_from_its_file_and_carries_out_a_list(rt: HostRuntime) {
+    assert!(rt; matches!(is_saved(&rt), Ok(true)));
     assert!(rt; fs::remove_file(&rt, "one.bloom").is_ok());
-    assert!(rt; filter == one);
-    assert!(rt; carries_out(rt.alloc(), &mut filter));
-    Ok(())
 }
 
 // How many of the hashes 1, 2 and 1 set a bit.
@@ -147,12 +163,18 @@ fn count_new(alloc: Global) -> Result<u64, FilterError> {
 }
 
 // Whether a rotation gives what was inserted, and leaves nothing.
+fn rotates(alloc: Global, live: &AtomicBloomFilter) -> bool {
+    live.insert_hash(1);
+    let is_given = match rotate(alloc, live, &42) {
+        Ok(past) => past.as_slice() == [WORD_OF_ONE].as_slice(),
+        Err(_refusal) => false,
+    };
+    is_given & !live.contains_hash(1)
+}
+
 fn is_rotated(alloc: Global) -> Result<bool, FilterError> {
     let builder = AtomicBloomFilter::with_num_bits(alloc, 64)?.seed(&42);
-    let live = builder.hashes(alloc, 2)?;
-    live.insert_hash(1);
-    let past = rotate(alloc, &live, &42)?;
-    Ok((past.as_slice() == [WORD_OF_ONE].as_slice()) & !live.contains_hash(1))
+    Ok(rotates(alloc, &builder.hashes(alloc, 2)?))
 }
 
 // Whether a filter that workers fill finds the hashes.

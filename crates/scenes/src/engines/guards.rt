@@ -31,12 +31,9 @@ impl<'a> Store for Asked<'a> {
     // No clause speaks of its entries.
     ghost is_known = { λ _. ⊥ };
 
+    // A guard asks for the keys where it opens the store, which is empty then.
     fn keys(&mut self) -> Result<Vec<String>, FilterError> {
-        let mut keys = Vec::new(self.alloc);
-        if self.has_crab {
-            keys.push("crab".to_string(self.alloc)?)?;
-        }
-        Ok(keys)
+        Ok(Vec::new(self.alloc))
     }
 
     fn value_of(&mut self, key: &str) -> Result<Option<String>, FilterError> {

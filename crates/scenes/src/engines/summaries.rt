@@ -7,6 +7,7 @@ use super::faulty::{
 };
 use crate::telling::{has_text, tell_row};
 use fastbloom::{BloomFilter, Shape};
+use std::alloc::Global;
 use std::thread::Threads;
 use summaries_engine::{Inputs, Stop, Told, ask, build, load, put, put_file};
 
@@ -88,6 +89,28 @@ enum Act {
     PutText,
 }
 
+// The filter of the keys of two inputs.
+fn built<R: Threads + AllocGlobal>(rt: &R, odd: &Odd) -> Result<BloomFilter, Stop> {
+    match Shape::new(64, 2) {
+        Ok(shape) => build::<10, _, _>(rt, rt.alloc(), shape, 2, odd, &["first", "odd"]),
+        Err(_refusal) => Err(Stop::Memory),
+    }
+}
+
+// The filter of an input.
+fn loaded(alloc: Global, odd: &Odd) -> Result<BloomFilter, Stop> {
+    let (filter, _form) = load(alloc, "odd", 64, &mut odd.open("odd")?)?;
+    Ok(filter)
+}
+
+// Writes the file of a filter, if it was made.
+fn write_made(made: Result<BloomFilter, Stop>, output: &mut Sink) -> Result<(), Stop> {
+    match made {
+        Ok(filter) => put_file(&filter, output).map_err(Stop::Output),
+        Err(stop) => Err(stop),
+    }
+}
+
 // Carries an act out: why it stops early.
 fn carry_out<R: Threads + AllocGlobal>(
     rt: &R,
@@ -98,22 +121,20 @@ fn carry_out<R: Threads + AllocGlobal>(
 ) -> Result<(), Stop>
     requires { IsKeyed filter.now }
 {
-    let alloc = rt.alloc();
     match act {
-        Act::Build => {
-            let Ok(shape) = Shape::new(64, 2) else {
-                return Err(Stop::Memory);
-            };
-            let built = build::<10, _, _>(rt, alloc, shape, 2, odd, &["first", "odd"])?;
-            put_file(&built, output).map_err(Stop::Output)
-        }
-        Act::Ask => ask::<10, _, _>(alloc, filter, Told::Found, odd, &["odd"], output),
-        Act::Load => {
-            let (loaded, _form) = load(alloc, "odd", 64, &mut odd.open("odd")?)?;
-            put_file(&loaded, output).map_err(Stop::Output)
-        }
+        Act::Build => write_made(built(rt, odd), output),
+        Act::Ask => ask::<10, _, _>(rt.alloc(), filter, Told::Found, odd, &["odd"], output),
+        Act::Load => write_made(loaded(rt.alloc(), odd), output),
         Act::Put => put_file(filter, output).map_err(Stop::Output),
-        Act::PutText => put(alloc, filter, output),
+        Act::PutText => put(rt.alloc(), filter, output),
+    }
+}
+
+// Whether an act ended with this text, or well if it is empty.
+fn is_told(alloc: Global, ended: Result<(), Stop>, text: &str) -> bool {
+    match ended {
+        Ok(()) => text.is_empty(),
+        Err(stop) => has_text(alloc, &stop, text),
     }
 }
 
@@ -249,11 +270,8 @@ fn is_right<R: Threads + AllocGlobal>(rt: &R, row: &Row, end: usize, filter: &Bl
         seen: &seen,
     };
     let mut sink = Sink::new(rt.alloc(), writing, &seen);
-    let is_told = match carry_out(rt, act, &odd, filter, &mut sink) {
-        Ok(()) => text.is_empty(),
-        Err(stop) => has_text(rt.alloc(), &stop, text),
-    };
-    is_told & (sink.written.as_slice() == output)
+    let ended = carry_out(rt, act, &odd, filter, &mut sink);
+    is_told(rt.alloc(), ended, text) & (sink.written.as_slice() == output)
 }
 
 // The same for each beginning of its input behind which a read may fail: any, or the whole, where

@@ -112,9 +112,15 @@ fn four_threads_insert_the_same_hashes(rt: HostRuntime) -> Result<(), FilterErro
     Ok(())
 }
 
-// Two threads insert a hundred hashes each.
+// A hundred hashes each for two threads.
+fn hashes_of(alloc: Global) -> Result<(Vec<u64>, Vec<u64>), FilterError> {
+    let first = spread_from(alloc, 0, 100)?;
+    Ok((first, spread_from(alloc, 500, 600)?))
+}
+
+// Two threads insert their hashes.
 fn found<R: Threads>(rt: &R, alloc: Global, asked: u64) -> Result<(bool, bool), FilterError> {
-    let hashes = (spread_from(alloc, 0, 100)?, spread_from(alloc, 500, 600)?);
+    let hashes = hashes_of(alloc)?;
     let words = vec![in alloc; 0u64; 64]?;
     let (filter, mut passes) = SeatedBloomFilter::new(alloc, words, 3, 2)?;
     let Some(second) = passes.pop() else {
