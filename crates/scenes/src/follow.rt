@@ -55,8 +55,10 @@ fn first_broken(alloc: Global, pair: &mut Pair, lines: &[Line]) -> Result<Option
 
 /// The first line that filters which are made so don't answer as said, or after which they differ.
 pub(crate) fn follow(alloc: Global, make: &Make, lines: &[Line]) -> Result<Option<usize>, Refused> {
-    let mut pair = pair_of(alloc, make)?;
-    first_broken(alloc, &mut pair, lines)
+    match pair_of(alloc, make) {
+        Ok(mut pair) => first_broken(alloc, &mut pair, lines),
+        Err(refused) => Err(refused),
+    }
 }
 
 // Whether a scene is answered as said. If it isn't, its name and the line are told.
@@ -121,7 +123,7 @@ fn are_refused(alloc: Global, make: &Make, reason: FilterError) -> bool {
 
 #[test]
 fn both_filters_are_refused_in_order(rt: HostRuntime) {
-    for (i, (make, reason)) in rows::REFUSALS.iter().enumerate() {
+    for (i, (make, reason)) in rows::refusals().iter().enumerate() {
         assert!(rt; tell_row(&rt, i, are_refused(rt.alloc(), make, *reason)));
     }
 }

@@ -8,7 +8,7 @@ use bloom_parts::hasher::{DefaultHasher, RandomDefaultHasher};
 use fastbloom::{BloomFilter, FilterError, Text};
 use std::alloc::Global;
 use std::hash::{Hash, Hasher};
-use vectors::{COUNTED, DRAWN, MESSAGE};
+use vectors::{MESSAGE, counted, drawn};
 
 // What a hasher takes in, and what it answers on the way.
 enum Piece {
@@ -118,11 +118,11 @@ fn a_hash_is_of_the_key_and_of_the_bytes_written(rt: HostRuntime) {
     for (i, pieces) in PIECES.iter().enumerate() {
         assert!(rt; tell_row(&rt, i, answers(pieces)));
     }
-    for (length, hash) in COUNTED {
+    for (length, hash) in counted() {
         let message = &MESSAGE[..(*length).min(MESSAGE.len())];
         assert!(rt; tell_row(&rt, *length, has_hash(COUNTING, message, *hash)));
     }
-    for (i, (key, hash, message)) in DRAWN.iter().enumerate() {
+    for (i, (key, hash, message)) in drawn().iter().enumerate() {
         assert!(rt; tell_row(&rt, i, has_hash(*key, message, *hash)));
     }
 }

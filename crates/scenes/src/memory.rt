@@ -15,6 +15,32 @@ fn other_of(alloc: Global, words: &'static [u64], num_hashes: u32) -> Result<Pai
     )
 }
 
+// Unites or intersects a plain filter with another, if it has its shape.
+fn meet_plain(filter: &mut BloomFilter, other: &BloomFilter, unites: bool) -> bool {
+    if !filter.same_shape(other) {
+        return false;
+    }
+    if unites {
+        filter.union(other);
+    } else {
+        filter.intersect(other);
+    }
+    true
+}
+
+// Unites or intersects a shared filter with another, if it has its shape.
+fn meet_shared(filter: &AtomicBloomFilter, other: &AtomicBloomFilter, unites: bool) -> bool {
+    if !filter.same_shape(other) {
+        return false;
+    }
+    if unites {
+        filter.union(other);
+    } else {
+        filter.intersect(other);
+    }
+    true
+}
+
 /// Whether the filters are united, or else intersected, with filters of these words, which stay as
 /// they are. False: the shapes differ, and nothing is done.
 pub(crate) fn meet(
@@ -24,20 +50,9 @@ pub(crate) fn meet(
     unites: bool,
 ) -> Result<bool, Refused> {
     let other = other_of(alloc, words, pair.plain.num_hashes())?;
-    if !pair.plain.same_shape(&other.plain) {
-        return Ok(false);
-    }
-    if !pair.shared.same_shape(&other.shared) {
-        return Ok(false);
-    }
-    if unites {
-        pair.plain.union(&other.plain);
-        pair.shared.union(&other.shared);
-    } else {
-        pair.plain.intersect(&other.plain);
-        pair.shared.intersect(&other.shared);
-    }
-    Ok(have_words(&other, words))
+    let met = meet_plain(&mut pair.plain, &other.plain, unites)
+        & meet_shared(&pair.shared, &other.shared, unites);
+    Ok(met & have_words(&other, words))
 }
 
 /// Whether the shape, and the shape and words, are found to be those of filters of these words and

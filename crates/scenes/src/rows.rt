@@ -8,7 +8,7 @@ mod items;
 mod sessions;
 mod sets;
 
-pub(crate) use builders::REFUSALS;
+pub(crate) use builders::refusals;
 
 /// Every scene, by tables. A check takes longer for one long table than for two of half its length,
 /// so each table is of one subject.

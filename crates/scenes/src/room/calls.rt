@@ -23,7 +23,9 @@ const KEY: u64 = 3026418949592973312;
 
 // Calls that take memory, and scenes that make them beside filters that stand. A refused call ends
 // its scene, and leaves the filters as they were. `shared hashes` makes the filters of every scene.
-const SCENES: &'static [(&'static [&'static str], Scene)] = &[
+type Called = (&'static [&'static str], Scene);
+
+const SCENES: &'static [Called] = &[
     (
         &[
             "with_num_bits",
@@ -132,6 +134,10 @@ const SCENES: &'static [(&'static [&'static str], Scene)] = &[
     ),
 ];
 
+fn scenes() -> &'static [Called] {
+    SCENES
+}
+
 // Prints each call of a scene that was whole, or that it takes no memory.
 fn say_whole(rt: &HostRuntime, scene: &str, calls: &[&str]) -> bool {
     let mut all = !calls.is_empty() || say(rt, scene, WITHOUT_MEMORY);
@@ -152,7 +158,7 @@ fn say_refused(rt: &HostRuntime, scene: &str, refused: Refused) -> bool {
 // Follows the scene of this number, and prints how it ended. Each line must be as said, up to a
 // refusal.
 fn say_end(rt: &HostRuntime, number: usize) -> bool {
-    let Some((calls, scene)) = SCENES.get(number) else {
+    let Some((calls, scene)) = scenes().get(number) else {
         return false;
     };
     match follow(rt.alloc(), &scene.make, scene.lines) {
