@@ -100,27 +100,32 @@ fn size_of(items: usize, num: u64, den: u64) -> Result<usize, FilterError> {
     optimal_size(items, Rate::new(num, den)?)
 }
 
-// Whether a function has the value of its row.
+// The rate by this many set bits. No row has no bits, or more set bits than bits.
+fn rate_of(hashes: u32, bits: usize, ones: usize) -> Bracket {
+    let bits = bits.max(1);
+    false_pos_of_ones(hashes, bits, ones.min(bits))
+}
+
+// Whether a function has the value of its row. No row has no bits.
 fn holds(row: &Row) -> bool {
     match *row {
         Row::Hashes(bits, items, hashes) => optimal_hashes(bits, items) == hashes,
         Row::Size(items, num, den, size) => size_of(items, num, den) == size,
         Row::Density(hashes, bits, items, low, high) => {
-            has_ends(expected_density(hashes, bits, items), low, high)
+            has_ends(expected_density(hashes, bits.max(1), items), low, high)
         }
         Row::Power(exponent, hashes, bits, items, low, high) => {
-            let density = expected_density(hashes, bits, items);
+            let density = expected_density(hashes, bits.max(1), items);
             has_ends(expected_false_pos(exponent, density), low, high)
         }
         Row::Mean(hashes, bits, items, low, high) => {
-            has_ends(false_pos_bounds(hashes, bits, items), low, high)
+            has_ends(false_pos_bounds(hashes, bits.max(1), items), low, high)
         }
         Row::Ones(hashes, bits, ones, low, high) => {
-            has_ends(false_pos_of_ones(hashes, bits, ones), low, high)
+            has_ends(rate_of(hashes, bits, ones), low, high)
         }
         Row::Either(bits, ones, low, high) => {
-            let half = false_pos_of_ones(1, 64, 32);
-            let either = false_pos_of_either(false_pos_of_ones(1, bits, ones), half);
+            let either = false_pos_of_either(rate_of(1, bits, ones), rate_of(1, 64, 32));
             has_ends(either, low, high)
         }
     }
