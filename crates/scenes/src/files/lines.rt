@@ -1,10 +1,10 @@
 //! Files of blocked filters: the worked file, and what is refused.
 use crate::files::KEY;
+use crate::telling::tell_row;
 use bloom_blocked::BlockedBloomFilter;
 use bloom_plain::file::FileError;
 use fastbloom::{BloomFilter, DefaultHasher, FilterError, Text};
 use std::alloc::Global;
-use std::test::Fail;
 
 // The worked file of lines of docs/FILE.md, as a program in Python makes it.
 const WORKED: [u8; 128] = [
@@ -26,40 +26,49 @@ fn crabs(alloc: Global) -> Result<BlockedBloomFilter, FilterError> {
 }
 
 // Whether both ways to write give the worked file.
-fn is_written(alloc: Global) -> Result<bool, Fail> {
+fn is_written(alloc: Global) -> Result<bool, FilterError> {
     let filter = crabs(alloc)?;
-    let mut output = Vec::new(alloc);
-    filter.write_file(&mut output)?;
     let in_memory = filter.to_bytes(alloc)?;
-    Ok((output.as_slice() == WORKED.as_slice()) & (in_memory.as_slice() == WORKED.as_slice()))
+    let mut output = Vec::new(alloc);
+    let is_whole = filter.write_file(&mut output).is_ok();
+    let are_equal = (output.as_slice() == WORKED.as_slice())
+        & (in_memory.as_slice() == WORKED.as_slice());
+    Ok(is_whole & are_equal)
 }
 
-// Whether a filter is the worked one, with its key.
-fn are_crabs(alloc: Global, filter: &BlockedBloomFilter) -> Result<bool, FilterError> {
-    Ok((*filter == crabs(alloc)?) & (filter.hasher().key() == KEY))
+// Whether a filter was read that is the worked one, with its key.
+fn are_crabs(alloc: Global, read: Result<BlockedBloomFilter, FileError>) -> bool {
+    let Ok(filter) = read else {
+        return false;
+    };
+    match crabs(alloc) {
+        Ok(worked) => (filter == worked) & (filter.hasher().key() == KEY),
+        Err(_refusal) => false,
+    }
 }
 
 // Whether both ways to read give the worked filter, and the reader is at its end.
-fn is_read(alloc: Global, bytes: &[u8]) -> Result<bool, Fail> {
-    let in_memory = BlockedBloomFilter::from_bytes(alloc, bytes)?;
+fn is_read(alloc: Global, bytes: &[u8]) -> bool {
     let mut input = bytes;
-    let from_reader = BlockedBloomFilter::read_file(alloc, &mut input)?;
-    Ok(are_crabs(alloc, &in_memory)? & are_crabs(alloc, &from_reader)? & input.is_empty())
+    let by_reader = are_crabs(alloc, BlockedBloomFilter::read_file(alloc, &mut input));
+    let in_memory = are_crabs(alloc, BlockedBloomFilter::from_bytes(alloc, bytes));
+    by_reader & in_memory & input.is_empty()
 }
 
 #[test]
-fn the_worked_file_of_lines_is_written_and_read(rt: HostRuntime) -> Result<(), Fail> {
+fn the_worked_file_of_lines_is_written_and_read(rt: HostRuntime) {
     let mut unsealed = WORKED;
     unsealed[40..48].copy_from_slice(&[0; 8]);
-    assert!(rt; is_written(rt.alloc())?);
-    assert!(rt; is_read(rt.alloc(), &WORKED)?);
-    assert!(rt; is_read(rt.alloc(), &unsealed)?);
-    Ok(())
+    assert!(rt; matches!(is_written(rt.alloc()), Ok(true)));
+    assert!(rt; is_read(rt.alloc(), &WORKED));
+    assert!(rt; is_read(rt.alloc(), &unsealed));
 }
 
 // A place of the worked file, the number that is put there, how many bytes are read of the file,
 // why it is refused where lines are read, and why where none are. Place 128 changes nothing.
-const REFUSED: [(usize, u64, usize, Option<FileError>, Option<FileError>); 9] = [
+type Refused = (usize, u64, usize, Option<FileError>, Option<FileError>);
+
+const REFUSED: &'static [Refused] = &[
     (128, 0, 128, None, Some(FileError::Blocked)),
     (
         48,
@@ -126,12 +135,9 @@ fn refusals(alloc: Global, bytes: &[u8]) -> Option<(Option<FileError>, Option<Fi
 
 #[test]
 fn each_kind_of_file_is_refused_where_the_other_is_read(rt: HostRuntime) {
-    for (place, number, length, by_lines, by_plain) in REFUSED {
-        let file = changed(place, number);
-        let refusals = refusals(rt.alloc(), &file[..length.min(128)]);
-        assert!(rt;
-            refusals == Some((by_lines, by_plain)),
-            "{place}, {number}, {length}"
-        );
+    for (i, (place, number, length, by_lines, by_plain)) in REFUSED.iter().enumerate() {
+        let file = changed(*place, *number);
+        let refusals = refusals(rt.alloc(), &file[..(*length).min(128)]);
+        assert!(rt; tell_row(&rt, i, refusals == Some((*by_lines, *by_plain))));
     }
 }
