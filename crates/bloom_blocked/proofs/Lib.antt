@@ -7,13 +7,13 @@ mod LawLemmas
 mod LineFacts
 mod LineLemmas
 mod LineStepFacts
-mod LineStepLemmas
+pub mod LineStepLemmas
 mod ManyLemmas
 mod PositionLemmas
 mod SharedBlockedFacts
 mod SharedInsertLemmas
 mod SharedQueueLemmas
 mod SizingLemmas
-mod SpanLemmas
+pub mod SpanLemmas
 mod TakenLemmas
 mod TellLemmas
