@@ -1,6 +1,6 @@
-// Blocked filters by the class of C++: `blocked` makes the sessions that bin/blocked-model tells of,
-// and prints the number of each, in which all answers and words are folded. Then it tries what the
-// class adds to the calls of C.
+// Blocked filters by the class of C++: `blocked` makes the sessions that bin/blocked-model tells
+// of, and prints the number of each, in which all answers and words are folded. Then it tries what
+// the class adds to the calls of C.
 #include "fastbloom_blocked.hpp"
 
 #include <cinttypes>
