@@ -1,8 +1,8 @@
 //! Calls by hash, and by the bytes of an item, on a blocked filter that threads share.
 //!
-//! Each call is made of atomic operations on the words of one line, as the clauses say. `num_hashes`
-//! 0 counts as 1. Where there are fewer than eight words, or more than 2^58 - 1, a call returns false
-//! and does nothing.
+//! Each call is made of atomic operations on the words of one line, as the clauses say. Where there
+//! are fewer than eight words, or more than 2^58 - 1, a call returns false and does nothing.
+//! `num_hashes` 0 counts as 1.
 ghost use Rattle.std.specs.Prelude.{◌≡◌, ◌↔◌, ◌<◌, ◌≤◌, false, IsTrue, max};
 ghost use Rattle.bloom_parts.specs.Keys.{key_low, key_high};
 ghost use Rattle.bloom_parts.specs.Sip.{sip};

@@ -92,8 +92,8 @@ fn find_each(words: &RawWords, num_hashes: u32, hashes: &[u64], found: &mut [u64
     }
 }
 
-/// Looks up each of these hashes, and returns whether it did: whether there is a line, and 64 hashes
-/// or fewer for each word of `found`.
+/// Looks up each of these hashes, and returns whether it did: whether there is a line, and 64
+/// hashes or fewer for each word of `found`.
 ///
 /// Bit i of `found` is set where all positions of hash i were found set. Every other bit is
 /// cleared.
