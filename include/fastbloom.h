@@ -229,8 +229,8 @@ FASTBLOOM_MUST_USE bool fastbloom_rate_now(const uint64_t *words, size_t num_wor
  * those of aligned_alloc(64, 8 * num_words) do. Words may begin elsewhere, which takes longer.
  *
  * The number of words is a multiple of 8. Words behind the last whole line are no part of the
- * filter, and stay as they are. Fewer than 8 words are no filter: each call that answers a bool
- * answers false for them, and changes nothing. num_hashes 0 counts as 1.
+ * filter, and stay as they are. Fewer than 8 words are no filter: each call that returns a bool
+ * returns false for them, and changes nothing. num_hashes 0 counts as 1.
  *
  * Words are a filter of one kind. A hash that was inserted by these calls isn't found by those
  * above, nor the other way round. fastbloom_clear, fastbloom_union, fastbloom_intersect,
@@ -244,7 +244,7 @@ FASTBLOOM_MUST_USE bool fastbloom_rate_now(const uint64_t *words, size_t num_wor
 FASTBLOOM_MUST_USE uint8_t fastbloom_blocked_plan(uint64_t num, uint64_t den, size_t items,
                                                   size_t *num_words, uint32_t *num_hashes);
 
-/* Sets all positions of a hash, and answers whether all were set just before. */
+/* Sets all positions of a hash, and returns whether all were set just before. */
 bool fastbloom_blocked_insert_hash(uint64_t *words, size_t num_words, uint32_t num_hashes,
                                    uint64_t hash);
 
@@ -252,7 +252,7 @@ bool fastbloom_blocked_insert_hash(uint64_t *words, size_t num_words, uint32_t n
 bool fastbloom_blocked_contains_hash(const uint64_t *words, size_t num_words, uint32_t num_hashes,
                                      uint64_t hash);
 
-/* Sets all positions of each of count hashes, and answers true. Of words of a mebibyte and more,
+/* Sets all positions of each of count hashes, and returns true. Of words of a mebibyte and more,
  * the lines of 64 hashes are read together first. */
 bool fastbloom_blocked_insert_hashes(uint64_t *words, size_t num_words, uint32_t num_hashes,
                                      const uint64_t *hashes, size_t count);

@@ -1,4 +1,4 @@
--- The number that a plan in lines answers, at values from outside: cases that hold, and cases that
+-- The number that a plan in lines returns, at values from outside: cases that hold, and cases that
 -- differ from one of these in one thing and don't hold.
 use Rattle.std.proofs.Common.{◌≡◌, ◌∙◌, ℕ, Some, None, refl, ap, arith, lit<, lit≤}
 use Rattle.bloom_parts.specs.Roots.{IsRoot}
@@ -27,7 +27,7 @@ halvings-above =
     let root : IsRoot 0 4294967296 = record { at_most = lit≤ tt; greatest = lit< tt } in
     record { enough = (4294967296, root, lit≤ tt); least = λ other enough. omega arith }
 
--- a plan at a rate above one answers 0
+-- a plan at a rate above one returns 0
 code-above : IsCodeInLinesFor 3 2 1000 0
 code-above = (
   None,

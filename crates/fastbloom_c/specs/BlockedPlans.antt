@@ -14,7 +14,7 @@ pub record IsRefusalInLinesFor (num den items : ℕ) (refusal : Option FilterErr
   pub size : rate_refusal num den ≡ None → (bits : ℕ)
       × IsSizeInLines (max 1 items) num den bits × (refusal ≡ line_size_refusal bits)
 
--- a plan in lines answers the number of its refusal, or 0
+-- a plan in lines returns the number of its refusal, or 0
 abbrev pub IsCodeInLinesFor : ℕ → ℕ → ℕ → ℕ → Type 0
 IsCodeInLinesFor num den items code =
     (refusal : Option FilterError) × IsRefusalInLinesFor num den items refusal

@@ -379,7 +379,7 @@ extern "C" {
         num_hashes: *mut u32,
     ) -> u8;
 
-    /// Sets all positions of a hash in its line, and answers whether all were set just before. Words
+    /// Sets all positions of a hash in its line, and returns whether all were set just before. Words
     /// behind the last whole line stay as they are, and fewer than eight are no filter.
     pub fn fastbloom_blocked_insert_hash(
         words: *mut u64,
@@ -396,7 +396,7 @@ extern "C" {
         hash: u64,
     ) -> bool;
 
-    /// Sets all positions of each of `count` hashes, and answers true.
+    /// Sets all positions of each of `count` hashes, and returns true.
     pub fn fastbloom_blocked_insert_hashes(
         words: *mut u64,
         num_words: usize,
