@@ -7,11 +7,10 @@
     Filter.load("seen.bloom")  # or `mapped=True`, by which processes share its pages
 
 Items are texts, which count as their UTF-8 bytes, and bytes-like objects. Threads may use one
-filter at once. Where many add at once, or several processes do, take a SharedFilter. A BlockedFilter
-is quicker where it is larger than the processor's cache, and has no files; a SharedBlockedFilter is
-the one that is shared. The work is
-done by the shared library fastbloom_c; importing the package raises ImportError where that isn't
-found.
+filter at once. Where many add at once, or several processes do, take a SharedFilter. A
+BlockedFilter is quicker where it is larger than the processor's cache, and has no files; a
+SharedBlockedFilter is the one that is shared. The work is done by the shared library fastbloom_c;
+importing the package raises ImportError where that isn't found.
 """
 
 from ._blocked import BlockedFilter
