@@ -124,7 +124,7 @@ impl fmt::Display for Error {
             Error::Input(error) => return write!(f, "input failed: {error}"),
             Error::TooManyHashes => "more hashes than are allowed",
             Error::OtherShape => "the filters differ in words, hashes or keys",
-            Error::PartOfALine => "words that aren't whole lines",
+            Error::PartOfALine => "words that are no whole lines",
             Error::NotARate => "a rate is above 0 and below 1, with parts below 2^64",
         })
     }

@@ -81,7 +81,7 @@ fn all() -> [(Error, Option<u8>, &'static str); 16] {
             "input failed: timed out",
         ),
         (Error::TooManyHashes, None, "more hashes than are allowed"),
-        (Error::PartOfALine, None, "words that aren't whole lines"),
+        (Error::PartOfALine, None, "words that are no whole lines"),
         (
             Error::OtherShape,
             None,
