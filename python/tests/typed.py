@@ -71,7 +71,7 @@ def in_lines(theirs: BlockedFilter) -> Tuple[BlockedFilter, Mask]:
 
 def refused(mine: Filter, ours: SharedFilter, lines: BlockedFilter) -> None:
     lines.add(5)  # type: ignore[arg-type]
-    lines |= mine  # type: ignore[operator]
+    lines |= mine  # type: ignore[arg-type]
     ours.add(5)  # type: ignore[arg-type]
     mine.add(5)  # type: ignore[arg-type]
     mine.update([5])  # type: ignore[list-item]
