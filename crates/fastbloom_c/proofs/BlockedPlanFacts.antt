@@ -6,7 +6,7 @@ use Rattle.bloom_parts.specs.Sizing.{IsHalvings, size_for}
 use Rattle.bloom_parts.specs.declared.error.FilterError.TheVariants.{ZeroRate, TooManyWords, SizeOverflow}
 use Rattle.bloom_blocked.specs.BlockedSizing.{IsSizeInLines, bits_in_lines, line_size_refusal}
 use Rattle.fastbloom_c.specs.Plans.{code_or_zero}
-use Rattle.fastbloom_c.specs.BlockedPlans.{IsRefusalInLinesFor, IsCodeInLinesFor}
+use Rattle.fastbloom_c.specs.BlockedPlans.{IsCodeInLinesFor}
 
 -- a plan at a rate with a zero part is refused for it, by number 4
 code-zero : IsCodeInLinesFor 0 1 10 4
@@ -79,7 +79,7 @@ module _ (one : IsHalvings 1 2 64) where
           let large : plain ≡ size_for 18446744073709551615 64 =
           size ∙ ap (size_for 18446744073709551615) half in
           let lines : bits
-              ≡ bits_in_lines (size_for 18446744073709551615 64) 18446744073709551615 =
+          ≡ bits_in_lines (size_for 18446744073709551615 64) 18446744073709551615 =
           more ∙ ap (λ b. bits_in_lines b 18446744073709551615) large in
           let five : 0 ≡ 5 = same ∙ ap code_or_zero (why ∙ ap line_size_refusal lines) in
           omega (arith, five)

@@ -1,5 +1,6 @@
 mod BitLemmas
 mod BlockedPlanFacts
+mod BlockedPlanLemmas
 mod BlockedSharedFacts
 mod EstimateFacts
 mod EstimateLemmas

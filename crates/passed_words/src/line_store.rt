@@ -13,6 +13,7 @@ use std::marker::Model;
 pub struct LineStore<'a> {
     words: LentWords<'a>,
     start: usize,
+    count: usize,
     turn: Turn,
 }
 
@@ -26,10 +27,11 @@ impl<'a> Model for LineStore<'a> {
     ghost view = { λ s. record {
       lent = record { words = s.words; other = s.words; turn = s.turn };
       start = s.start;
-      count = 8;
+      count = s.count;
     } };
 
-    ghost invariant = { λ s. (s.start + 8 ≤ s.words.count) × (s.words.count < 2 ^ 58) };
+    ghost invariant = { λ s. (1 ≤ s.count) × (s.start + s.count ≤ s.words.count)
+        × (s.words.count < 2 ^ 58) };
 }
 
 impl<'a> LineStore<'a> {
@@ -51,6 +53,7 @@ impl<'a> LineStore<'a> {
         LineStore {
             words,
             start,
+            count: LINE,
             turn: Turn::first(),
         }
     }
@@ -63,7 +66,7 @@ impl<'a> WordStore for LineStore<'a> {
 
     #[inline(always)]
     fn num_words(&self) -> usize {
-        LINE
+        self.count
     }
 
     // Each step is one atomic operation, in its turn.
