@@ -58,8 +58,8 @@ extern "C" {
 #endif
 
 /* Status codes. FASTBLOOM_OK is success, and each other number is the reason for a refusal. The
- * proved calls answer 2 to 5, 7, 9, 10 and 13, and those on files 2, 3, 6, 7, 9 to 15 and 252, 253
- * and 255. The other numbers are those of the Rattle library. */
+ * proved calls answer 2 to 5, 7, 9, 10, 13 and 17, and those on files 2, 3, 6, 7, 9 to 15, 17 and
+ * 252, 253 and 255. The other numbers are those of the Rattle library. */
 enum fastbloom_status {
     FASTBLOOM_OK = 0,
     FASTBLOOM_ZERO_BITS = 1,        /* zero bits */
@@ -76,7 +76,10 @@ enum fastbloom_status {
     FASTBLOOM_TOO_LONG = 12,        /* bytes follow the last word */
     FASTBLOOM_RESERVED = 13,        /* a byte that must be zero isn't */
     FASTBLOOM_SEAL = 14,            /* the seal is wrong: the file was changed */
-    FASTBLOOM_INPUT = 15            /* a read failed */
+    FASTBLOOM_INPUT = 15,           /* a read failed */
+    FASTBLOOM_PART_OF_A_LINE = 16,  /* words that are no whole lines */
+    FASTBLOOM_BLOCKED = 17,         /* the file has a blocked filter */
+    FASTBLOOM_NOT_BLOCKED = 18      /* the file's filter isn't blocked */
 };
 
 /* Status codes of calls in C and C++ alone. */
@@ -406,7 +409,8 @@ FASTBLOOM_MUST_USE uint8_t fastbloom_head_write(size_t num_words, uint32_t num_h
 
 /* Reads the head of a file, and answers FASTBLOOM_OK; or the first reason for which these bytes are
  * no head: FASTBLOOM_NOT_A_FILTER, FASTBLOOM_UNKNOWN_VERSION, FASTBLOOM_HASH_COUNT,
- * FASTBLOOM_EMPTY_WORDS, FASTBLOOM_TOO_MANY_WORDS or FASTBLOOM_RESERVED. Then it writes nothing.
+ * FASTBLOOM_EMPTY_WORDS, FASTBLOOM_TOO_MANY_WORDS, FASTBLOOM_RESERVED or FASTBLOOM_BLOCKED. Then it
+ * writes nothing.
  *
  * The size of the file and the seal are the caller's to compare: the file has 64 + 8 * num_words
  * bytes, and the seal is 0 or that of `fastbloom_seal`. Each call on a filter takes as many steps

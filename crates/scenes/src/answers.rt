@@ -52,6 +52,17 @@ pub(crate) fn extend(pair: &mut Pair, first: u64, last: u64) -> bool {
     true
 }
 
+/// Whether both answer alike of the numbers up to 400, and have those from the first to the last.
+pub(crate) fn finds(pair: &Pair, first: u64, last: u64) -> bool {
+    let mut is_right = true;
+    for number in 0..400u64 {
+        let is_found = pair.plain.contains(&number);
+        let is_in = (number >= first) & (number < last);
+        is_right &= (is_found | !is_in) & (is_found == pair.shared.contains(&number));
+    }
+    is_right
+}
+
 /// Clears both filters.
 pub(crate) fn clear(pair: &mut Pair) -> bool {
     pair.plain.clear();
@@ -88,9 +99,9 @@ pub(crate) fn has_ones(pair: &Pair, ones: usize) -> bool {
 /// Whether the number of items is told with these bounds. Where there is no upper one, the lower
 /// isn't compared.
 pub(crate) fn has_bounds(pair: &Pair, low: usize, high: Option<usize>) -> bool {
-    let (plain, shared) = (pair.plain.estimated_items(), pair.shared.estimated_items());
-    let has_low = (plain.low() == low) | high.is_none();
-    has_low & (plain.low() == shared.low()) & (plain.high() == high) & (shared.high() == high)
+    let estimate = pair.plain.estimated_items();
+    let is_same = estimate == pair.shared.estimated_items();
+    is_same & (estimate.high() == high) & (high.is_none() | (estimate.low() == low))
 }
 
 /// Whether the rate that is expected has these ends.

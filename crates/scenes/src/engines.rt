@@ -1,7 +1,7 @@
 //! Tests of the engines of the programs, over readers, writers and sieves that fail or are odd.
 mod bloom;
 mod duplicates;
-mod faulty;
+pub(crate) mod faulty;
 mod files;
 mod guards;
 mod room;

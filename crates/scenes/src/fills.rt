@@ -1,11 +1,11 @@
 //! Filters that workers fill, each with a part of the hashes.
 
 use crate::drawn::{spread, spread_from};
+use crate::telling::tell_row;
 use fastbloom::{BloomFilter, FilterError, Gate, Shape, fill};
 use std::alloc::Global;
 use std::sync::Arc;
 use std::sync::atomic::{AtomicU64, Ordering};
-use std::test::Fail;
 use std::thread::{Threads, yield_now};
 
 /// A gate that counts the workers, and keeps a bit for the number of each of the first 64. Workers
@@ -89,7 +89,7 @@ pub(crate) const THREE: &'static [&'static [u64]] = &[&[1], &[0, 1], &[]];
 // that they make: no part at all, and the same hashes, cut in further ways.
 type Filling = (usize, u32, (usize, u32), &'static [&'static [u64]], u64);
 
-const FILLINGS: [Filling; 5] = [
+const FILLINGS: &'static [Filling] = &[
     (64, 3, (64, 3), THREE, 4296015873),
     (64, 3, (64, 3), &[], 0),
     (64, 3, (64, 3), &[&[1], &[0]], 4296015873),
@@ -97,17 +97,21 @@ const FILLINGS: [Filling; 5] = [
     (1, 0, (64, 1), &[], 0),
 ];
 
+// Whether parts fill a filter as their row says.
+fn is_filled<R: Threads>(rt: &R, alloc: Global, row: &Filling) -> Result<bool, FilterError> {
+    let (bits, hashes, rounded, cut, word) = *row;
+    let shape = Shape::new(bits, hashes)?;
+    let parts = parts_of(alloc, cut)?;
+    let (filter, is_seen) = filled(rt, alloc, shape, parts)?;
+    let is_rounded = (filter.num_bits(), filter.num_hashes()) == rounded;
+    Ok(is_seen & is_rounded & (filter.as_slice() == [word].as_slice()))
+}
+
 #[test]
-fn parts_fill_a_filter_however_they_are_cut(rt: HostRuntime) -> Result<(), Fail> {
-    for (bits, hashes, rounded, cut, word) in FILLINGS {
-        let shape = Shape::new(bits, hashes)?;
-        let parts = parts_of(rt.alloc(), cut)?;
-        let (filter, is_seen) = filled(&rt, rt.alloc(), shape, parts)?;
-        let is_rounded = (filter.num_bits(), filter.num_hashes()) == rounded;
-        let is_word = filter.as_slice() == [word].as_slice();
-        assert!(rt; is_rounded & is_word & is_seen, "{cut:?}");
+fn parts_fill_a_filter_however_they_are_cut(rt: HostRuntime) {
+    for (i, row) in FILLINGS.iter().enumerate() {
+        assert!(rt; tell_row(&rt, i, matches!(is_filled(&rt, rt.alloc(), row), Ok(true))));
     }
-    Ok(())
 }
 
 // A shape is refused as by a builder.
@@ -127,19 +131,24 @@ fn hundred(alloc: Global) -> Result<Vec<Vec<u64>>, FilterError> {
     Ok(parts)
 }
 
-// The filter that one thread makes of them.
-fn made_alone(alloc: Global) -> Result<BloomFilter, FilterError> {
+// Whether a filter is that which one thread makes of them.
+fn is_made_alone(alloc: Global, filled: &BloomFilter) -> Result<bool, FilterError> {
     let mut filter = BloomFilter::with_num_bits(alloc, 1 << 20)?.hashes(7);
     for i in 0..100_000u64 {
         filter.insert_hash(spread(i));
     }
-    Ok(filter)
+    Ok(filter == *filled)
+}
+
+// Whether a hundred workers make the filter of one thread.
+fn is_made_alike<R: Threads>(rt: &R, alloc: Global) -> Result<bool, FilterError> {
+    let shape = Shape::new(1 << 20, 7)?;
+    let parts = hundred(alloc)?;
+    let (filter, is_seen) = filled(rt, alloc, shape, parts)?;
+    Ok(is_seen & is_made_alone(alloc, &filter)?)
 }
 
 #[test]
-fn a_hundred_workers_make_the_filter_of_one_thread(rt: HostRuntime) -> Result<(), Fail> {
-    let shape = Shape::new(1 << 20, 7)?;
-    let (filter, is_seen) = filled(&rt, rt.alloc(), shape, hundred(rt.alloc())?)?;
-    assert!(rt; (filter == made_alone(rt.alloc())?) & is_seen);
-    Ok(())
+fn a_hundred_workers_make_the_filter_of_one_thread(rt: HostRuntime) {
+    assert!(rt; matches!(is_made_alike(&rt, rt.alloc()), Ok(true)));
 }

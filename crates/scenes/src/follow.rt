@@ -1,6 +1,7 @@
 //! Follows scenes: after each line both filters have the same words, hashes and hasher.
 use crate::making::{Pair, Refused, are_alike, have_words, pair_of, plain_of, shared_of};
 use crate::scene::{Line, Make, Op, Scene, Size};
+use crate::telling::{tell_named, tell_row};
 use crate::{answers, memory, rows};
 use fastbloom::FilterError;
 use std::alloc::Global;
@@ -15,6 +16,7 @@ fn holds(alloc: Global, pair: &mut Pair, line: &Line) -> Result<bool, Refused> {
         Op::ContainsItem(item) => Ok(answers::contains_item(pair, item, *said)),
         Op::Hash(item, hash) => Ok(answers::has_hash(pair, item, *hash)),
         Op::Extend(first, last) => Ok(answers::extend(pair, *first, *last)),
+        Op::Finds(first, last) => Ok(answers::finds(pair, *first, *last)),
         Op::Clear => Ok(answers::clear(pair)),
         Op::UniteWithItself => Ok(answers::unite_with_itself(pair)),
         Op::Words(words) => Ok(have_words(pair, words)),
@@ -27,6 +29,7 @@ fn holds(alloc: Global, pair: &mut Pair, line: &Line) -> Result<bool, Refused> {
         Op::Meet(words, unites) => Ok(memory::meet(alloc, pair, words, *unites)? == *said),
         Op::Clone => memory::copy(alloc, pair, *said),
         Op::Data(k0, k1) => memory::to_data_and_back(alloc, pair, *k0, *k1),
+        Op::Cross(by_text) => memory::cross(alloc, pair, *by_text),
         Op::Take => memory::take(alloc, pair),
         Op::Replay(replies) => memory::replay(alloc, pair, replies),
         Op::Build(make, bits, hashes) => memory::build(alloc, make, *bits, *hashes),
@@ -50,30 +53,51 @@ fn first_broken(alloc: Global, pair: &mut Pair, lines: &[Line]) -> Result<Option
     Ok(None)
 }
 
-/// The first line of a scene that isn't answered as said, or after which the filters differ.
-pub(crate) fn follow(alloc: Global, scene: &Scene) -> Result<Option<usize>, Refused> {
-    let mut pair = pair_of(alloc, &scene.make)?;
-    first_broken(alloc, &mut pair, scene.lines)
+/// The first line that filters which are made so don't answer as said, or after which they differ.
+pub(crate) fn follow(alloc: Global, make: &Make, lines: &[Line]) -> Result<Option<usize>, Refused> {
+    match pair_of(alloc, make) {
+        Ok(mut pair) => first_broken(alloc, &mut pair, lines),
+        Err(refused) => Err(refused),
+    }
 }
 
-// The first scene of a table that isn't answered as said, and the first line that isn't, unless it
-// was refused.
-fn first_wrong(alloc: Global, scenes: &[Scene]) -> Option<(&'static str, Option<usize>)> {
-    'scenes: for scene in scenes {
-        match follow(alloc, scene) {
-            Ok(None) => {}
-            Ok(line) => return Some((scene.name, line)),
-            Err(_refused) => return Some((scene.name, None)),
-        }
+// Whether a scene is answered as said. If it isn't, its name and the line are told.
+fn holds_true(rt: &HostRuntime, scene: &Scene) -> bool {
+    match follow(rt.alloc(), &scene.make, scene.lines) {
+        Ok(None) => true,
+        Ok(Some(line)) => tell_named(rt, scene.name, false) | tell_row(rt, line, false),
+        Err(refused) => tell_named(rt, scene.name, false) | tell_named(rt, refused.call, false),
     }
-    None
+}
+
+// Whether all scenes of a table are answered as said.
+fn hold_true(rt: &HostRuntime, scenes: &[Scene]) -> bool {
+    let mut all = true;
+    for scene in scenes {
+        all &= holds_true(rt, scene);
+    }
+    all
 }
 
 #[test]
 fn both_filters_answer_each_scene_as_said(rt: HostRuntime) {
     for scenes in rows::all() {
-        let wrong = first_wrong(rt.alloc(), scenes);
-        assert!(rt; wrong.is_none(), "{wrong:?}");
+        assert!(rt; hold_true(&rt, scenes));
+    }
+}
+
+// The words of filters of 64 to 65536 bits.
+const ZEROS: &'static [&'static [u64]] = &[&[0; 1], &[0; 16], &[0; 64], &[0; 1024]];
+
+// Both kinds of filter are read from one another's data, and go on alike.
+#[test]
+fn both_kinds_are_read_from_one_anothers_data(rt: HostRuntime) {
+    for (i, zeros) in ZEROS.iter().enumerate() {
+        for seed in 4..19u64 {
+            let make = Make::Words(*zeros, seed as u128, Size::Expected(100));
+            let wrong = follow(rt.alloc(), &make, rows::CROSSED);
+            assert!(rt; tell_row(&rt, i, matches!(wrong, Ok(None))));
+        }
     }
 }
 
@@ -81,21 +105,25 @@ fn both_filters_answer_each_scene_as_said(rt: HostRuntime) {
 fn builders_give_as_many_hashes_as_asked(rt: HostRuntime) {
     for hashes in 1..1000 {
         let built = memory::build(rt.alloc(), &Make::Bits(1, Size::Hashes(hashes)), 64, hashes);
-        assert!(rt; matches!(built, Ok(true)), "{hashes}");
+        assert!(rt; tell_row(&rt, hashes as usize, matches!(built, Ok(true))));
     }
 }
 
 // Whether both filters are refused for this reason.
 fn are_refused(alloc: Global, make: &Make, reason: FilterError) -> bool {
-    match (plain_of(alloc, make), shared_of(alloc, make)) {
-        (Err(plain), Err(shared)) => (plain.reason == reason) & (shared.reason == reason),
-        _ => false,
+    let is_shared = match shared_of(alloc, make) {
+        Ok(_filter) => false,
+        Err(refused) => refused.reason == reason,
+    };
+    match plain_of(alloc, make) {
+        Ok(_filter) => false,
+        Err(refused) => is_shared & (refused.reason == reason),
     }
 }
 
 #[test]
 fn both_filters_are_refused_in_order(rt: HostRuntime) {
-    for (i, (make, reason)) in rows::REFUSALS.iter().enumerate() {
-        assert!(rt; are_refused(rt.alloc(), make, *reason), "refusal {i}");
+    for (i, (make, reason)) in rows::refusals().iter().enumerate() {
+        assert!(rt; tell_row(&rt, i, are_refused(rt.alloc(), make, *reason)));
     }
 }

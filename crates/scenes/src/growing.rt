@@ -1,16 +1,16 @@
 //! Filters that grow: their sizes at values worked out by hand from the definitions, and refusals.
 
 use crate::drawn::spread;
-use fastbloom::{BloomFilter, FilterError, GrowingError, GrowingFilter, Rate};
+use crate::telling::{has_text, tell_row};
+use fastbloom::{FilterError, GrowingError, GrowingFilter, Rate};
 use std::alloc::Global;
-use std::test::Fail;
 
 // How many new hashes came before each of the first four filters for a rate of 1/10 and 8 items,
 // its room, and its bits and hashes. The filters are for 8, 16, 32 and 64 items at 1/20, 1/40, 1/80
 // and 1/160. To come to the rate one is halved 4.32 times, and then once more each time. Times the
 // items, and by the logarithm of 2, these are 50, 123, 292 and 676 bits, which are rounded up to
 // words.
-const FILTERS: [(usize, usize, usize, u32); 4] = [
+const FILTERS: &'static [(usize, usize, usize, u32)] = &[
     (0, 8, 64, 6),
     (8, 16, 128, 6),
     (24, 32, 320, 7),
@@ -28,27 +28,41 @@ fn is_grown(filter: &GrowingFilter, new: usize) -> bool {
     (shape == (*bits, *hashes)) & is_begun & (before.saturating_add(taken) == new)
 }
 
-#[test]
-fn each_filter_begins_when_the_one_before_is_full(rt: HostRuntime) -> Result<(), Fail> {
-    let mut filter = GrowingFilter::new(rt.alloc(), Rate::new(1, 10)?, 8)?;
+// Whether the newest filter is that of its row after a hash went in, which is found. New hashes are
+// counted.
+fn takes(alloc: Global, filter: &mut GrowingFilter, hash: u64, new: &mut usize) -> bool {
+    let Ok(held) = filter.insert_hash(alloc, hash) else {
+        return false;
+    };
+    *new = (*new).saturating_add(!held as usize);
+    is_grown(filter, *new) & filter.contains_hash(hash)
+}
+
+// Whether that is so after each of a hundred hashes, and the newest is the fourth in the end. An
+// item that goes in is found, too.
+fn grows(alloc: Global) -> Result<bool, GrowingError> {
+    let mut filter = GrowingFilter::new(alloc, Rate::new(1, 10)?, 8)?;
     let mut new = 0usize;
+    let mut is_right = true;
     for i in 0..100u64 {
-        if !filter.insert_hash(rt.alloc(), spread(i))? {
-            new = new.saturating_add(1);
-        }
-        assert!(rt;
-            is_grown(&filter, new) & filter.contains_hash(spread(i)),
-            "{i}"
-        );
+        is_right &= takes(alloc, &mut filter, spread(i), &mut new);
     }
-    assert_eq!(rt; filter.older().len(), 3);
-    Ok(())
+    let has_four = filter.older().len() == 3;
+    let is_in = filter.insert(alloc, &"crab").is_ok() & filter.contains(&"crab");
+    Ok(is_right & has_four & is_in)
+}
+
+#[test]
+fn each_filter_begins_when_the_one_before_is_full(rt: HostRuntime) {
+    assert!(rt; matches!(grows(rt.alloc()), Ok(true)));
 }
 
 // Refusals, with their texts, and the parts of a rate and the items that bring them. The first
 // filter is for half the rate: at 1/1 the sizes are 2^64 - 8 bits, and for one item more 2^64. A
 // refusal of the builders keeps its text. No filter is so large that its items are too many.
-const REFUSED: [(GrowingError, &'static str, Option<(u64, u64, usize)>); 4] = [
+type Refused = (GrowingError, &'static str, Option<(u64, u64, usize)>);
+
+const REFUSED: &'static [Refused] = &[
     (
         GrowingError::RateOverflow,
         "lower part of the rate too large",
@@ -67,39 +81,27 @@ const REFUSED: [(GrowingError, &'static str, Option<(u64, u64, usize)>); 4] = [
     ),
 ];
 
-#[test]
-fn a_filter_that_cannot_be_made_is_refused(rt: HostRuntime) -> Result<(), Fail> {
-    for (error, text, asked) in REFUSED {
-        assert!(rt; error.to_string(rt.alloc())?.as_str() == text, "{text}");
-        if let Some((num, den, items)) = asked {
-            let refused = GrowingFilter::new(rt.alloc(), Rate::new(num, den)?, items).err();
-            assert!(rt; refused == Some(error), "{text}");
-        }
+// Why no filter is made of the parts of a rate and this many items.
+fn refusal(alloc: Global, num: u64, den: u64, items: usize) -> Option<GrowingError> {
+    match Rate::new(num, den) {
+        Ok(rate) => GrowingFilter::new(alloc, rate, items).err(),
+        Err(_refusal) => None,
     }
-    Ok(())
 }
 
-// Whether a filter takes an item once, as new, and the builders' filter of its newest's shape comes
-// to the same words.
-fn take_alike(alloc: Global, grown: &mut GrowingFilter, other: &mut BloomFilter) -> bool {
-    let is_new = grown.insert(alloc, &"crab") == Ok(false);
-    let is_known = grown.insert(alloc, &"crab") == Ok(true);
-    is_new & is_known & !other.insert(&"crab") & (*grown.newest() == *other)
+// Whether a refusal has its text, and comes where its row says.
+fn is_refused(alloc: Global, row: &Refused) -> bool {
+    let (error, text, asked) = *row;
+    let comes = match asked {
+        Some((num, den, items)) => refusal(alloc, num, den, items) == Some(error),
+        None => true,
+    };
+    comes & has_text(alloc, &error, text)
 }
 
-// Whether a filter hashes an item as another does, and contains that item alone.
-fn answers_alike(grown: &GrowingFilter, other: &BloomFilter) -> bool {
-    let is_hashed = grown.source_hash(&"crab") == other.source_hash(&"crab");
-    is_hashed & grown.contains(&"crab") & !grown.contains(&"ray")
-}
-
-// A filter under a seed takes an item as the builders' filter under that seed does.
 #[test]
-fn items_go_into_the_filter_that_the_builders_make(rt: HostRuntime) -> Result<(), Fail> {
-    let builder = BloomFilter::with_false_pos(Rate::new(1, 20)?).seed(&42);
-    let mut other = builder.expected_items(rt.alloc(), 8)?;
-    let mut grown = GrowingFilter::seeded(rt.alloc(), Rate::new(1, 10)?, 8, &42)?;
-    let is_alike = take_alike(rt.alloc(), &mut grown, &mut other);
-    assert!(rt; is_alike & answers_alike(&grown, &other));
-    Ok(())
+fn a_filter_that_cannot_be_made_is_refused(rt: HostRuntime) {
+    for (i, row) in REFUSED.iter().enumerate() {
+        assert!(rt; tell_row(&rt, i, is_refused(rt.alloc(), row)));
+    }
 }

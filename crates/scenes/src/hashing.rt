@@ -3,14 +3,14 @@
 mod nothing;
 mod vectors;
 
+use crate::telling::tell_row;
 use bloom_parts::hasher::{DefaultHasher, RandomDefaultHasher};
 use fastbloom::{BloomFilter, FilterError, Text};
 use std::alloc::Global;
-use std::hash::{BuildHasher, Hash, Hasher};
-use vectors::{COUNTED, DRAWN, MESSAGE};
+use std::hash::{Hash, Hasher};
+use vectors::{MESSAGE, counted, drawn};
 
 // What a hasher takes in, and what it answers on the way.
-#[derive(Clone, Copy)]
 enum Piece {
     Bytes(&'static [u8]),
     U8(u8),
@@ -28,9 +28,9 @@ enum Piece {
     Answers(u64),
 }
 
-// Whether a hasher under the key of a big-endian number answers as the pieces say.
-fn answers(key: u128, pieces: &[Piece]) -> bool {
-    let mut hasher = RandomDefaultHasher::seeded(&key.to_be_bytes());
+// Whether a hasher under the zero key answers as the pieces say.
+fn answers(pieces: &[Piece]) -> bool {
+    let mut hasher = RandomDefaultHasher::seeded(&[0; 16]);
     let mut is_right = true;
     'pieces: for piece in pieces {
         match *piece {
@@ -62,7 +62,7 @@ const NUMBERS: &'static [u8] = &[
 
 // The values are those of Rust's own `std::hash::DefaultHasher` (1.95), which is SipHash-1-3 under
 // the zero key, for the same bytes.
-const PIECES: [&'static [Piece]; 7] = [
+const PIECES: &'static [&'static [Piece]] = &[
     &[
         Piece::Bytes(&[1, 2, 3]),
         Piece::Bytes(&[4, 5]),
@@ -104,54 +104,33 @@ const PIECES: [&'static [Piece]; 7] = [
 // The key bytes 0 to 15.
 const COUNTING: u128 = 0x0001_0203_0405_0607_0809_0a0b_0c0d_0e0f;
 
+// Whether a message has this hash under a key.
+fn has_hash(key: u128, message: &[u8], hash: u64) -> bool {
+    let mut hasher = RandomDefaultHasher::seeded(&key.to_be_bytes());
+    hasher.write(message);
+    hasher.finish() == hash
+}
+
 #[test]
 fn a_hash_is_of_the_key_and_of_the_bytes_written(rt: HostRuntime) {
-    for pieces in PIECES {
-        assert!(rt; answers(0, pieces));
+    let given = DefaultHasher::seeded(&42u128.to_be_bytes());
+    assert!(rt; given.key() == (0, 3026418949592973312));
+    for (i, pieces) in PIECES.iter().enumerate() {
+        assert!(rt; tell_row(&rt, i, answers(pieces)));
     }
-    for (length, hash) in COUNTED {
-        let message = Piece::Bytes(&MESSAGE[..length.min(MESSAGE.len())]);
-        assert!(rt;
-            answers(COUNTING, &[message, Piece::Answers(hash)]),
-            "{length}"
-        );
+    for (length, hash) in counted() {
+        let message = &MESSAGE[..(*length).min(MESSAGE.len())];
+        assert!(rt; tell_row(&rt, *length, has_hash(COUNTING, message, *hash)));
     }
-    for (key, hash, message) in DRAWN {
-        let pieces = [Piece::Bytes(message), Piece::Answers(hash)];
-        assert!(rt; answers(key, &pieces), "{hash}");
+    for (i, (key, hash, message)) in drawn().iter().enumerate() {
+        assert!(rt; tell_row(&rt, i, has_hash(*key, message, *hash)));
     }
 }
 
 // A filter of 256 bits and 3 hashes, with nothing in it.
-fn empty_filter(alloc: Global, hasher: DefaultHasher) -> Result<BloomFilter, FilterError> {
-    let builder = BloomFilter::from_vec(vec![in alloc; 0; 4]?)?;
-    Ok(builder.hasher(hasher).hashes(3))
-}
-
-// The hash of an item in a filter under a hasher.
-fn hash_of<T: Hash>(alloc: Global, hasher: DefaultHasher, item: &T) -> Result<u64, FilterError> {
-    Ok(empty_filter(alloc, hasher)?.source_hash(item))
-}
-
-// The hash of an item in a filter under the seed 42.
-fn seeded_hash_of<T: Hash>(alloc: Global, item: &T) -> Result<u64, FilterError> {
-    let builder = BloomFilter::with_num_bits(alloc, 64)?.seed(&42);
-    Ok(builder.hashes(2).source_hash(item))
-}
-
-// An item that writes nothing hashes to the hash of no bytes. A seed makes the hasher of its
-// sixteen big-endian bytes.
-#[test]
-fn sixteen_bytes_make_the_key_of_a_hasher(rt: HostRuntime) -> Result<(), FilterError> {
-    let alloc = rt.alloc();
-    let counting = DefaultHasher::seeded(&COUNTING.to_be_bytes());
-    assert!(rt; hash_of(alloc, counting, &())? == 0xabac_0158_050f_c4dc);
-    let given = DefaultHasher::seeded(&42u128.to_be_bytes());
-    assert!(rt; given.key() == (0, 3026418949592973312));
-    assert!(rt; hash_of(alloc, given, &7u64)? == seeded_hash_of(alloc, &7u64)?);
-    let given = DefaultHasher::seeded(&42u128.to_be_bytes());
-    assert!(rt; hash_of(alloc, given, &"42")? == seeded_hash_of(alloc, &"42")?);
-    Ok(())
+fn empty_filter(alloc: Global) -> Result<BloomFilter, FilterError> {
+    let builder = BloomFilter::with_num_bits(alloc, 256)?;
+    Ok(builder.hasher(DefaultHasher::default()).hashes(3))
 }
 
 #[derive(PartialEq, Eq, Hash)]
@@ -173,33 +152,38 @@ fn goes_in<T: Hash>(filter: &mut BloomFilter, item: &T, hash: u64) -> bool {
 }
 
 // What Rust's own hasher (1.95) answers for the same items, and after one write of the bytes of a
-// text.
+// text. Scenes have those of a number and of texts.
+const SHAPES: &'static [(Shape, u64)] = &[
+    (Shape::Dot, 0xbd60_acb6_58c7_9e45),
+    (Shape::Round(3), 0x23a5_d0f3_6a07_c6bc),
+    (Shape::Square { side: 9 }, 0xbde4_4376_9258_25d7),
+];
+
+const TEXTS: &'static [(&'static [u8], u64)] = &[
+    (&[1, 2, 3, 4, 5], 0xde68_2ee7_0fbe_bc3f),
+    (&[7], 0xfff3_eb0c_7071_97bf),
+    (&[], 0xd1fb_a762_150c_532c),
+];
+
+// Whether all items go in.
+fn all_go_in(filter: &mut BloomFilter) -> bool {
+    let mut all = goes_in(filter, &-1i32, 0x52c4_0c88_74ca_d6e2)
+        & goes_in(filter, &(1u8, 2u16), 0x6b1c_fe27_4045_3cce)
+        & goes_in(filter, &(1u32, -2i16), 0x7764_59f8_d398_c60e)
+        & goes_in(filter, &(), 0xd1fb_a762_150c_532c);
+    for (shape, hash) in SHAPES {
+        all &= goes_in(filter, shape, *hash);
+    }
+    for (text, hash) in TEXTS {
+        all &= goes_in(filter, &Text(*text), *hash);
+    }
+    all
+}
+
 #[test]
-fn items_of_all_types_go_in_by_their_hash(rt: HostRuntime) -> Result<(), FilterError> {
-    let mut filter = empty_filter(rt.alloc(), DefaultHasher::default())?;
-    let all = [
-        goes_in(&mut filter, &42u64, 0x7b3e_724b_36eb_df51),
-        goes_in(&mut filter, &-1i32, 0x52c4_0c88_74ca_d6e2),
-        goes_in(&mut filter, &"42", 0x05ee_89d1_0068_c3d9),
-        goes_in(&mut filter, &"🦀", 0x75e3_0e0e_d52f_68a3),
-        goes_in(&mut filter, &(1u8, 2u16), 0x6b1c_fe27_4045_3cce),
-        goes_in(&mut filter, &(1u32, -2i16), 0x7764_59f8_d398_c60e),
-        goes_in(&mut filter, &Shape::Dot, 0xbd60_acb6_58c7_9e45),
-        goes_in(&mut filter, &Shape::Round(3), 0x23a5_d0f3_6a07_c6bc),
-        goes_in(
-            &mut filter,
-            &Shape::Square { side: 9 },
-            0xbde4_4376_9258_25d7,
-        ),
-        goes_in(&mut filter, &(), 0xd1fb_a762_150c_532c),
-        goes_in(
-            &mut filter,
-            &Text([1, 2, 3, 4, 5].as_slice()),
-            0xde68_2ee7_0fbe_bc3f,
-        ),
-        goes_in(&mut filter, &Text([7].as_slice()), 0xfff3_eb0c_7071_97bf),
-        goes_in(&mut filter, &Text([].as_slice()), 0xd1fb_a762_150c_532c),
-    ];
-    assert!(rt; all == [true; 13]);
-    Ok(())
+fn items_of_all_types_go_in_by_their_hash(rt: HostRuntime) {
+    let Ok(mut filter) = empty_filter(rt.alloc()) else {
+        panic!(rt)
+    };
+    assert!(rt; all_go_in(&mut filter));
 }

@@ -44,8 +44,6 @@ mod numbers;
 #[cfg(test)]
 mod overstated;
 #[cfg(test)]
-mod parity;
-#[cfg(test)]
 mod room;
 #[cfg(test)]
 mod rows;
@@ -56,7 +54,7 @@ mod seated;
 #[cfg(test)]
 mod steps;
 #[cfg(test)]
-mod texts;
+mod telling;
 #[cfg(test)]
 mod threads;
 #[cfg(test)]

@@ -10,7 +10,7 @@ use std::alloc::Global;
 pub(crate) const THE_TEST: &'static str = "the test";
 
 /// A call that was refused, and why.
-#[derive(Drop, PartialEq)]
+#[derive(Clone, Copy)]
 pub(crate) struct Refused {
     pub(crate) call: &'static str,
     pub(crate) reason: FilterError,
@@ -169,17 +169,26 @@ fn shared_at(
     }
 }
 
+fn shared_of_bits(alloc: Global, bits: usize, size: &Size) -> Result<AtomicBloomFilter, Refused> {
+    let builder = AtomicBloomFilter::with_num_bits(alloc, bits);
+    shared_for(alloc, named("shared with_num_bits", builder)?, size)
+}
+
+fn shared_of_words(
+    alloc: Global,
+    words: &[u64],
+    seed: &u128,
+    size: &Size,
+) -> Result<AtomicBloomFilter, Refused> {
+    let builder = AtomicBloomFilter::from_vec(words_of(alloc, words)?);
+    shared_for(alloc, named("shared from_vec", builder)?.seed(seed), size)
+}
+
 /// The shared filter.
 pub(crate) fn shared_of(alloc: Global, make: &Make) -> Result<AtomicBloomFilter, Refused> {
     match make {
-        Make::Bits(bits, size) => {
-            let builder = AtomicBloomFilter::with_num_bits(alloc, *bits);
-            shared_for(alloc, named("shared with_num_bits", builder)?, size)
-        }
-        Make::Words(words, seed, size) => {
-            let builder = AtomicBloomFilter::from_vec(words_of(alloc, words)?);
-            shared_for(alloc, named("shared from_vec", builder)?.seed(seed), size)
-        }
+        Make::Bits(bits, size) => shared_of_bits(alloc, *bits, size),
+        Make::Words(words, seed, size) => shared_of_words(alloc, words, seed, size),
         Make::Rate(num, den, seed, size) => {
             shared_at(
                 alloc,

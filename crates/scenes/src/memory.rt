@@ -1,7 +1,7 @@
 //! What both filters answer to a call that takes memory, or that needs another filter.
 use crate::making::{Pair, Refused, THE_TEST, are_alike, have_words, named, pair_of, words_of};
 use crate::scene::{Make, Size};
-use fastbloom::{AtomicBloomFilter, BloomFilter, Command, FilterError};
+use fastbloom::{AtomicBloomFilter, BloomFilter, Command, FilterData, FilterError};
 use std::alloc::Global;
 
 // The key of the other filters, which no call looks at.
@@ -15,6 +15,32 @@ fn other_of(alloc: Global, words: &'static [u64], num_hashes: u32) -> Result<Pai
     )
 }
 
+// Unites or intersects a plain filter with another, if it has its shape.
+fn meet_plain(filter: &mut BloomFilter, other: &BloomFilter, unites: bool) -> bool {
+    if !filter.same_shape(other) {
+        return false;
+    }
+    if unites {
+        filter.union(other);
+    } else {
+        filter.intersect(other);
+    }
+    true
+}
+
+// Unites or intersects a shared filter with another, if it has its shape.
+fn meet_shared(filter: &AtomicBloomFilter, other: &AtomicBloomFilter, unites: bool) -> bool {
+    if !filter.same_shape(other) {
+        return false;
+    }
+    if unites {
+        filter.union(other);
+    } else {
+        filter.intersect(other);
+    }
+    true
+}
+
 /// Whether the filters are united, or else intersected, with filters of these words, which stay as
 /// they are. False: the shapes differ, and nothing is done.
 pub(crate) fn meet(
@@ -24,20 +50,9 @@ pub(crate) fn meet(
     unites: bool,
 ) -> Result<bool, Refused> {
     let other = other_of(alloc, words, pair.plain.num_hashes())?;
-    if !pair.plain.same_shape(&other.plain) {
-        return Ok(false);
-    }
-    if !pair.shared.same_shape(&other.shared) {
-        return Ok(false);
-    }
-    if unites {
-        pair.plain.union(&other.plain);
-        pair.shared.union(&other.shared);
-    } else {
-        pair.plain.intersect(&other.plain);
-        pair.shared.intersect(&other.shared);
-    }
-    Ok(have_words(&other, words))
+    let met = meet_plain(&mut pair.plain, &other.plain, unites)
+        & meet_shared(&pair.shared, &other.shared, unites);
+    Ok(met & have_words(&other, words))
 }
 
 /// Whether the shape, and the shape and words, are found to be those of filters of these words and
@@ -78,19 +93,91 @@ pub(crate) fn insert_all(
     Ok(true)
 }
 
+// Copies of both filters.
+fn copies_of(alloc: Global, pair: &Pair) -> Result<Pair, Refused> {
+    let plain = named("try_clone", pair.plain.try_clone(alloc))?;
+    let shared = named("shared try_clone", pair.shared.try_clone(alloc))?;
+    Ok(Pair { plain, shared })
+}
+
 /// Whether copies are alike and equal the filters, and differ from them, or don't, once the item 42
 /// went into the copies.
 pub(crate) fn copy(alloc: Global, pair: &Pair, said: bool) -> Result<bool, Refused> {
-    let mut copies = Pair {
-        plain: named("try_clone", pair.plain.try_clone(alloc))?,
-        shared: named("shared try_clone", pair.shared.try_clone(alloc))?,
-    };
+    let mut copies = copies_of(alloc, pair)?;
     let are_equal = (copies.plain == pair.plain) & copies.shared.same_words(&pair.shared);
     let are_equal = are_equal & are_alike(&copies);
     copies.plain.insert(&42u64);
     copies.shared.insert(&42u64);
     let differ = (copies.plain != pair.plain) == said;
     Ok(are_equal & differ & (copies.shared.same_words(&pair.shared) != said))
+}
+
+// Whether both filters have equal data, and keep their words.
+fn have_equal_data(alloc: Global, pair: &Pair) -> Result<bool, Refused> {
+    let form = named("to_data", pair.plain.to_data(alloc))?;
+    let shared_form = named("shared to_data", pair.shared.to_data(alloc))?;
+    Ok((form == shared_form) & are_alike(pair))
+}
+
+// The data after a way through JSON text.
+fn through_text(alloc: Global, form: &FilterData) -> Result<FilterData, FilterError> {
+    let Ok(text) = serde_json::to_string(alloc, form) else {
+        return Err(FilterError::Memory);
+    };
+    match serde_json::from_str(alloc, text.as_str()) {
+        Ok(form) => Ok(form),
+        Err(_error) => Err(FilterError::EmptyWords),
+    }
+}
+
+// The data, after a way through JSON text if that is said.
+fn sent(alloc: Global, form: FilterData, by_text: bool) -> Result<FilterData, Refused> {
+    if by_text {
+        return named(THE_TEST, through_text(alloc, &form));
+    }
+    Ok(form)
+}
+
+// The shared filter of the plain one's data.
+fn shared_from(
+    alloc: Global,
+    plain: &BloomFilter,
+    by_text: bool,
+) -> Result<AtomicBloomFilter, Refused> {
+    let form = named("to_data", plain.to_data(alloc))?;
+    let form = sent(alloc, form, by_text)?;
+    named(
+        "shared from_data",
+        AtomicBloomFilter::from_data(alloc, form),
+    )
+}
+
+// The plain filter of the shared one's data.
+fn plain_from(
+    alloc: Global,
+    shared: &AtomicBloomFilter,
+    by_text: bool,
+) -> Result<BloomFilter, Refused> {
+    let form = named("shared to_data", shared.to_data(alloc))?;
+    let form = sent(alloc, form, by_text)?;
+    named("from_data", BloomFilter::from_data(form))
+}
+
+/// Whether both filters have equal data. Each goes on as it is read from the other's, by JSON text
+/// if that is said.
+pub(crate) fn cross(alloc: Global, pair: &mut Pair, by_text: bool) -> Result<bool, Refused> {
+    let are_equal = have_equal_data(alloc, pair)?;
+    let shared = shared_from(alloc, &pair.plain, by_text)?;
+    let plain = plain_from(alloc, &pair.shared, by_text)?;
+    *pair = Pair { plain, shared };
+    Ok(are_equal)
+}
+
+// Whether data are the words and the hashes of a filter, and this key.
+fn are_data(form: &FilterData, plain: &BloomFilter, key: (u64, u64)) -> bool {
+    let has_words = form.bits.bits.as_slice() == plain.as_slice();
+    let has_hashes = form.num_hashes_minus_one == plain.num_hashes() - 1;
+    has_words & has_hashes & ((form.k0, form.k1) == key)
 }
 
 /// Whether both filters have these data, with this key. They go on as they are read from them.
@@ -101,18 +188,8 @@ pub(crate) fn to_data_and_back(
     k1: u64,
 ) -> Result<bool, Refused> {
     let form = named("to_data", pair.plain.to_data(alloc))?;
-    let shared_form = named("shared to_data", pair.shared.to_data(alloc))?;
-    let has_words = form.bits.bits.as_slice() == pair.plain.as_slice();
-    let has_hashes = form.num_hashes_minus_one == pair.plain.num_hashes() - 1;
-    let are_given = has_words & has_hashes & ((form.k0, form.k1) == (k0, k1));
-    let is_kept = are_alike(pair) & (form == shared_form);
-    let shared = named(
-        "shared from_data",
-        AtomicBloomFilter::from_data(alloc, form),
-    )?;
-    let plain = named("from_data", BloomFilter::from_data(shared_form))?;
-    *pair = Pair { plain, shared };
-    Ok(are_given & is_kept)
+    let are_given = are_data(&form, &pair.plain, (k0, k1));
+    Ok(cross(alloc, pair, false)? & are_given)
 }
 
 /// Whether the words that are taken are those of the plain filter, which is cleared.

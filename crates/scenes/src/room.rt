@@ -1,18 +1,19 @@
 //! Calls that take memory and are no lines of a scene: how each ends where a request for memory is
 //! refused, and what it leaves. Each test prints its calls and how they ended, which bin/starve
 //! compares.
+ghost use Rattle.std.specs.Prelude.{◌≡◌};
+
 mod calls;
 
 use crate::fills::{THREE, Watching, gate_for, parts_of};
+use crate::telling::{NO_ROOM, WRONG, say, word_of};
 use bloom_parts::bit_vector::{AtomicBitVec, BitVec};
-use calls::word_of;
 use fastbloom::{
-    BloomFilter, Call, Event, FilterError, GrowingError, GrowingFilter, Rate, SeatedBloomFilter,
-    Shape, fill, run,
+    BloomFilter, Call, Event, FilterError, GrowingError, GrowingFilter, Pass, Rate,
+    SeatedBloomFilter, Shape, fill, run,
 };
 use std::alloc::Global;
 use std::sync::Arc;
-use std::test::Fail;
 use std::thread::Threads;
 
 // How a call ended, with the builders' refusal, or with one that no lack of memory brings.
@@ -58,18 +59,19 @@ fn grown(alloc: Global, filter: &mut GrowingFilter) -> Result<bool, GrowingError
     }
 }
 
+// How a full filter took one hash more.
+fn grows(alloc: Global) -> &'static str {
+    match full(alloc) {
+        Ok(mut filter) => word_of(&by_builders(grown(alloc, &mut filter))),
+        Err(_refusal) => NO_ROOM,
+    }
+}
+
 #[test]
-fn a_filter_that_grows_is_whole_or_refused(rt: HostRuntime) -> Result<(), Fail> {
-    println!(rt;
-        "GrowingFilter::new: {}",
-        word_of(&by_builders(begun(rt.alloc())))
-    )?;
-    let Ok(mut filter) = full(rt.alloc()) else {
-        return Ok(println!(rt; "insert_hash that grows: no room for the test")?);
-    };
-    let ended = by_builders(grown(rt.alloc(), &mut filter));
-    println!(rt; "insert_hash that grows: {}", word_of(&ended))?;
-    Ok(())
+fn a_filter_that_grows_is_whole_or_refused(rt: HostRuntime) {
+    let begun = by_builders(begun(rt.alloc()));
+    assert!(rt; say(&rt, "GrowingFilter::new", word_of(&begun)));
+    assert!(rt; say(&rt, "insert_hash that grows", grows(rt.alloc())));
 }
 
 // A filter that stands by.
@@ -117,18 +119,18 @@ fn stands(filter: &BloomFilter) -> bool {
 }
 
 #[test]
-fn words_and_a_run_are_whole_or_refused(rt: HostRuntime) -> Result<(), Fail> {
+fn words_and_a_run_are_whole_or_refused(rt: HostRuntime) {
     let Ok(filter) = standing(rt.alloc()) else {
-        return Ok(println!(rt; "from_words: no room for the test")?);
+        assert!(rt; say(&rt, "from_words", NO_ROOM));
+        return;
     };
     let plain = word_of(&plain_words(rt.alloc()));
     let shared = word_of(&shared_words(rt.alloc()));
     let course = word_of(&course(rt.alloc()));
     assert!(rt; stands(&filter));
-    println!(rt; "from_words: {plain}")?;
-    println!(rt; "shared from_words: {shared}")?;
-    println!(rt; "run: {course}")?;
-    Ok(())
+    assert!(rt; say(&rt, "from_words", plain));
+    assert!(rt; say(&rt, "shared from_words", shared));
+    assert!(rt; say(&rt, "run", course));
 }
 
 // Whether a filter of one word has the three passes that were asked for.
@@ -138,37 +140,50 @@ fn opened(alloc: Global) -> Result<bool, FilterError> {
     Ok(passes.len() == 3)
 }
 
-// How `close` ended after two of the passes called, if there was room for the filter. Hash 1 has
-// the positions 0 and 20.
-fn closed(alloc: Global) -> Result<Result<bool, FilterError>, FilterError> {
+// Whether what one pass inserts is new, and is found by the other.
+fn is_shared(filter: &SeatedBloomFilter, first: &mut Pass, second: &mut Pass) -> bool
+    requires first { first.old.filter ≡ filter.now.table }
+    requires second { second.old.filter ≡ filter.now.table }
+    ensures { second.new.filter ≡ second.old.filter }
+{
+    let was_new = !filter.insert_hash_as(first, 1);
+    let is_found = filter.contains_hash_as(second, 1);
+    filter.meet(first, second);
+    was_new & is_found
+}
+
+// Whether a filter is closed to the word of hash 1, which has the positions 0 and 20.
+fn is_closed(closed: Result<Vec<u64>, FilterError>) -> Result<bool, FilterError> {
+    Ok(closed?.as_slice() == [1048577].as_slice())
+}
+
+// How `close` ended after two of the passes called, if there was room for the filter.
+fn closed(alloc: Global) -> Result<&'static str, FilterError> {
     let words = [0].to_vec(alloc)?;
     let (filter, mut passes) = SeatedBloomFilter::new(alloc, words, 2, 3)?;
-    let (Some(mut first), Some(mut second)) = (passes.pop(), passes.pop()) else {
-        return Ok(Ok(false));
+    let Some(mut first) = passes.pop() else {
+        unreachable!()
     };
-    let was_new = !filter.insert_hash_as(&mut first, 1);
-    let is_found = filter.contains_hash_as(&mut second, 1);
-    filter.meet(&mut first, &mut second);
-    match filter.close(alloc, second) {
-        Ok(words) => Ok(Ok(was_new & is_found & (words.as_slice() == [1048577].as_slice()))),
-        Err(refusal) => Ok(Err(refusal)),
+    let Some(mut second) = passes.pop() else {
+        unreachable!()
+    };
+    if !is_shared(&filter, &mut first, &mut second) {
+        return Ok(WRONG);
     }
+    Ok(word_of(&is_closed(filter.close(alloc, second))))
 }
 
 #[test]
-fn a_seated_filter_is_whole_or_refused(rt: HostRuntime) -> Result<(), Fail> {
+fn a_seated_filter_is_whole_or_refused(rt: HostRuntime) {
     let Ok(filter) = standing(rt.alloc()) else {
-        return Ok(println!(rt; "seated new: no room for the test")?);
+        assert!(rt; say(&rt, "seated new", NO_ROOM));
+        return;
     };
     let opened = word_of(&opened(rt.alloc()));
-    let closed = match closed(rt.alloc()) {
-        Ok(ended) => word_of(&ended),
-        Err(_refusal) => "no room for the test",
-    };
+    let closed = closed(rt.alloc()).unwrap_or(NO_ROOM);
     assert!(rt; stands(&filter));
-    println!(rt; "seated new: {opened}")?;
-    println!(rt; "seated close: {closed}")?;
-    Ok(())
+    assert!(rt; say(&rt, "seated new", opened));
+    assert!(rt; say(&rt, "seated close", closed));
 }
 
 fn filled<R: Threads>(
@@ -194,13 +209,12 @@ fn ready(alloc: Global) -> Result<Ready, FilterError> {
 // A worker has the gate until it ends. So all have ended, and none comes later, where no one else
 // has it.
 #[test]
-fn a_filled_filter_is_whole_or_refused_once_all_workers_ended(rt: HostRuntime) -> Result<(), Fail> {
+fn a_filled_filter_is_whole_or_refused_once_all_workers_ended(rt: HostRuntime) {
     let Ok((gate, seen, parts)) = ready(rt.alloc()) else {
-        return Ok(println!(rt; "fill: no room for the test")?);
+        assert!(rt; say(&rt, "fill", NO_ROOM));
+        return;
     };
     let word = word_of(&filled(&rt, rt.alloc(), gate, parts));
-    let holders = Arc::strong_count(&seen);
-    assert!(rt; holders == 1, "a worker still has the gate");
-    println!(rt; "fill: {word}")?;
-    Ok(())
+    assert!(rt; Arc::strong_count(&seen) == 1);
+    assert!(rt; say(&rt, "fill", word));
 }

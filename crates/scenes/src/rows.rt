@@ -1,5 +1,6 @@
 //! The tables of scenes. Their values come from the definitions, by hand or by a model in Python.
-use crate::scene::Scene;
+use crate::scene::Op::{Cross, Extend, Finds};
+use crate::scene::{Line, Scene};
 
 mod builders;
 mod by_hash;
@@ -7,7 +8,7 @@ mod items;
 mod sessions;
 mod sets;
 
-pub(crate) use builders::REFUSALS;
+pub(crate) use builders::refusals;
 
 /// Every scene, by tables. A check takes longer for one long table than for two of half its length,
 /// so each table is of one subject.
@@ -25,3 +26,19 @@ pub(crate) fn all() -> [&'static [Scene]; 10] {
         sessions::scenes(),
     ]
 }
+
+/// Numbers go in, and both filters are made of one another's data again and again.
+pub(crate) const CROSSED: &'static [Line] = &[
+    (Extend(0, 101), true),
+    (Finds(0, 101), true),
+    (Extend(200, 210), true),
+    (Cross(false), true),
+    (Finds(0, 101), true),
+    (Extend(210, 230), true),
+    (Finds(200, 230), true),
+    (Cross(true), true),
+    (Finds(0, 101), true),
+    (Extend(230, 250), true),
+    (Finds(200, 250), true),
+    (Cross(false), true),
+];

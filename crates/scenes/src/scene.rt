@@ -43,6 +43,9 @@ pub(crate) enum Op {
     InsertItem(Item),
     /// `contains`.
     ContainsItem(Item),
+    /// `contains` of the numbers up to 400: both answer alike, and have those from the first up to
+    /// the second.
+    Finds(u64, u64),
     /// `insert_all` of the numbers from the first up to the second.
     InsertAll(u64, u64),
     /// `extend` by the numbers from the first up to the second.
@@ -57,6 +60,9 @@ pub(crate) enum Op {
     Clone,
     /// `to_data` has these two words of the key, and the filters go on as `from_data` makes them.
     Data(u64, u64),
+    /// Both filters have equal data, and each goes on as it is made of the other's, by JSON text if
+    /// that is said.
+    Cross(bool),
     /// `take_words` gives the words of the plain filter, which is cleared then.
     Take,
     /// `replay` of contains 1, insert 1, insert 1, contains 0, clear, contains 1.

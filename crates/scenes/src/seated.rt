@@ -4,12 +4,11 @@ ghost use Rattle.std.specs.Prelude.{◌≡◌};
 
 mod threads;
 
+use crate::telling::tell_named;
 use fastbloom::{FilterError, Pass, SeatedBloomFilter};
 use std::alloc::Global;
-use std::test::Fail;
 
 // A call by a pass.
-#[derive(Clone, Copy)]
 enum Call {
     Insert(u64),
     Contains(u64),
@@ -30,7 +29,7 @@ struct Seating {
 }
 
 // Among 64 bits hash 1 has the positions 0 and 20. Among 192 hash 2^63 has the position 96.
-const SEATINGS: [Seating; 6] = [
+const SEATINGS: &'static [Seating] = &[
     Seating {
         name: "what a pass inserted it finds, and another by an insert",
         words: &[0],
@@ -114,8 +113,16 @@ fn answers(filter: &SeatedBloomFilter, pass: &mut Pass, calls: &[(Call, bool)]) 
     is_right
 }
 
+// Whether a filter was closed to these words.
+fn are_words(closed: Result<Vec<u64>, FilterError>, words: &[u64]) -> bool {
+    match closed {
+        Ok(closed) => closed.as_slice() == words,
+        Err(_refusal) => false,
+    }
+}
+
 // Whether the passes of a filter answer, and it is closed, as its row says.
-fn is_kept(alloc: Global, row: &Seating) -> Result<bool, Fail> {
+fn is_kept(alloc: Global, row: &Seating) -> Result<bool, FilterError> {
     let words = row.words.to_vec(alloc)?;
     let (filter, mut passes) = SeatedBloomFilter::new(alloc, words, row.num_hashes, row.passes)?;
     let Some(mut last) = passes.pop() else {
@@ -123,22 +130,20 @@ fn is_kept(alloc: Global, row: &Seating) -> Result<bool, Fail> {
     };
     let Some(mut first) = passes.pop() else {
         let is_right = answers(&filter, &mut last, row.first);
-        return Ok(is_right & (filter.close(alloc, last)?.as_slice() == row.closed));
+        return Ok(is_right & are_words(filter.close(alloc, last), row.closed));
     };
     let by_first = answers(&filter, &mut first, row.first);
     let by_second = answers(&filter, &mut last, row.second);
     filter.meet(&mut first, &mut last);
     let is_right = by_first & by_second & answers(&filter, &mut last, row.met);
-    Ok(is_right & (filter.close(alloc, last)?.as_slice() == row.closed))
+    Ok(is_right & are_words(filter.close(alloc, last), row.closed))
 }
 
 #[test]
-fn passes_find_and_close_gives_what_was_given_or_inserted(rt: HostRuntime) -> Result<(), Fail> {
-    for row in &SEATINGS {
-        assert!(rt; is_kept(rt.alloc(), row)?, "{}", row.name);
+fn passes_find_and_close_gives_what_was_given_or_inserted(rt: HostRuntime) {
+    for row in SEATINGS {
+        assert!(rt; tell_named(&rt, row.name, matches!(is_kept(rt.alloc(), row), Ok(true))));
     }
     let none = SeatedBloomFilter::new(rt.alloc(), Vec::new(rt.alloc()), 2, 1);
-    let Err(refusal) = none else { unreachable!() };
-    assert!(rt; refusal == FilterError::EmptyWords);
-    Ok(())
+    assert!(rt; none.err() == Some(FilterError::EmptyWords));
 }

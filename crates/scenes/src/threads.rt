@@ -6,10 +6,9 @@ mod storms;
 mod takes;
 mod tasks;
 
-use fastbloom::AtomicBloomFilter;
+use fastbloom::{AtomicBloomFilter, FilterError};
 use std::alloc::Global;
 use std::sync::Arc;
-use std::test::Fail;
 use std::thread;
 use std::thread::{Promise, PromisedHandle, Threads};
 use tasks::{Task, work};
@@ -32,13 +31,15 @@ fn start<R: Threads>(
     alloc: Global,
     filter: &Shared,
     tasks: &[Task],
-) -> Result<Vec<Child>, Fail> {
+) -> Result<Vec<Child>, FilterError> {
     let mut children = Vec::new(alloc);
     for task in tasks {
         let shared = Arc::try_clone(filter)?;
         let task = *task;
-        let child = thread::spawn_with(rt, Anything, move || work(alloc, &shared, task))?;
-        children.push(child)?;
+        match thread::spawn_with(rt, Anything, move || work(alloc, &shared, task)) {
+            Ok(child) => children.push(child)?,
+            Err(_refused) => return Err(FilterError::Worker),
+        }
     }
     Ok(children)
 }

@@ -63,6 +63,12 @@ pub const FASTBLOOM_RESERVED: u8 = 13;
 pub const FASTBLOOM_SEAL: u8 = 14;
 /// A read failed.
 pub const FASTBLOOM_INPUT: u8 = 15;
+/// Words are no whole lines.
+pub const FASTBLOOM_PART_OF_A_LINE: u8 = 16;
+/// The file has a blocked filter.
+pub const FASTBLOOM_BLOCKED: u8 = 17;
+/// The file's filter isn't blocked.
+pub const FASTBLOOM_NOT_BLOCKED: u8 = 18;
 /// A file that is to be shared has a seal.
 pub const FASTBLOOM_SEALED: u8 = 252;
 /// A write failed.

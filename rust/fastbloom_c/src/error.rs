@@ -43,10 +43,14 @@ pub enum Error {
     TooLong,
     /// A byte of a file that must be zero isn't.
     Reserved,
+    /// A file has a blocked filter, whose words are lines.
+    Blocked,
     /// The seal of a file is wrong: the file was changed.
     Seal,
     /// A read failed, by this error.
     Input(Arc<io::Error>),
+    /// A file that is to be shared has a seal.
+    Sealed,
     /// A file has more hashes than the caller allows.
     TooManyHashes,
     /// Two filters differ in their numbers of words or hashes, or in their keys.
@@ -58,7 +62,8 @@ pub enum Error {
 }
 
 impl Error {
-    /// The number that the header `fastbloom.h` names. The last four have none.
+    /// The number that the header `fastbloom.h` names. `TooManyHashes`, `OtherShape` and `NotARate`
+    /// have none.
     ///
     /// ```
     /// use fastbloom_c::Error;
@@ -82,9 +87,10 @@ impl Error {
             Error::Reserved => fastbloom_c_sys::FASTBLOOM_RESERVED,
             Error::Seal => fastbloom_c_sys::FASTBLOOM_SEAL,
             Error::Input(_) => fastbloom_c_sys::FASTBLOOM_INPUT,
-            Error::TooManyHashes | Error::OtherShape | Error::PartOfALine | Error::NotARate => {
-                return None
-            }
+            Error::Sealed => fastbloom_c_sys::FASTBLOOM_SEALED,
+            Error::PartOfALine => fastbloom_c_sys::FASTBLOOM_PART_OF_A_LINE,
+            Error::Blocked => fastbloom_c_sys::FASTBLOOM_BLOCKED,
+            Error::TooManyHashes | Error::OtherShape | Error::NotARate => return None,
         })
     }
 
@@ -100,6 +106,13 @@ impl Error {
             fastbloom_c_sys::FASTBLOOM_NOT_A_FILTER => Error::NotAFilter,
             fastbloom_c_sys::FASTBLOOM_UNKNOWN_VERSION => Error::Version,
             fastbloom_c_sys::FASTBLOOM_RESERVED => Error::Reserved,
+            fastbloom_c_sys::FASTBLOOM_CUT => Error::Cut,
+            fastbloom_c_sys::FASTBLOOM_TOO_LONG => Error::TooLong,
+            fastbloom_c_sys::FASTBLOOM_SEAL => Error::Seal,
+            fastbloom_c_sys::FASTBLOOM_MEMORY => Error::Memory,
+            fastbloom_c_sys::FASTBLOOM_SEALED => Error::Sealed,
+            fastbloom_c_sys::FASTBLOOM_TOO_MANY_HASHES => Error::TooManyHashes,
+            fastbloom_c_sys::FASTBLOOM_BLOCKED => Error::Blocked,
             _ => unreachable!("the library answers no other number"),
         })
     }
@@ -120,8 +133,10 @@ impl fmt::Display for Error {
             Error::Cut => "the file is cut",
             Error::TooLong => "the file goes on after its last word",
             Error::Reserved => "a reserved byte isn't zero",
+            Error::Blocked => "the file has a blocked filter",
             Error::Seal => "the seal is wrong: the file was changed",
             Error::Input(error) => return write!(f, "input failed: {error}"),
+            Error::Sealed => "a file with a seal can't be shared",
             Error::TooManyHashes => "more hashes than are allowed",
             Error::OtherShape => "the filters differ in words, hashes or keys",
             Error::PartOfALine => "words that are no whole lines",

@@ -187,7 +187,7 @@ fn words_that_are_no_lines_are_refused() {
         (refused(&[0; 7]), refused(&[0; 12])),
         (Error::PartOfALine, Error::PartOfALine)
     );
-    assert_eq!(Error::PartOfALine.code(), None);
+    assert_eq!(Error::PartOfALine.code(), Some(16));
     let words: Vec<u64> = (0..16).collect();
     let kept = BlockedBloomFilter::from_words(&words)
         .expect("lines")

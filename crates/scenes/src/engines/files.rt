@@ -1,168 +1,96 @@
-//! The file that keeps a filter, in a folder in memory: what a crash at each step leaves, and which
-//! files are refused.
-use bloom_plain::file::FileError;
+//! The file that keeps a filter, in a folder of which calls fail, and in one of this machine.
+//! Clauses say what a crash leaves at each moment, and which files are refused; cases of `guard`
+//! what it makes of them.
+use crate::telling::tell_row;
 use bloom_plain::{BloomFilter, FilterError};
 use guard_parts::{
-    FilterFault, FilterFile, Folder, FormFault, HostFault, HostFolder, Kept, MemoryFault,
-    MemoryFolder, MemorySlot, Name, Paths, Unknown,
+    FilterFault, FilterFile, HostFault, HostFolder, Kept, MemoryFault, MemoryFolder, Paths, Unknown,
 };
+use std::alloc::Global;
 use std::fs;
-use std::test::Fail;
-
-// The calls of a save in their order: remove, write, sync, rename, sync of the folder.
-const CALLS: u64 = 5;
 
 // A filter of 128 bits and two hashes in which this hash was inserted.
-fn filter_with(rt: &HostRuntime, hash: u64) -> Result<BloomFilter, Fail> {
-    let mut filter = BloomFilter::with_num_bits(rt.alloc(), 128)?.hashes(2);
+fn filter_with(alloc: Global, hash: u64) -> Result<BloomFilter, FilterError> {
+    let mut filter = BloomFilter::with_num_bits(alloc, 128)?.hashes(2);
     filter.insert_hash(hash);
     Ok(filter)
 }
 
-// Whether a content is the file with these bytes.
-fn is_file(content: &Option<Vec<u8>>, bytes: &[u8]) -> bool {
-    match content {
-        Some(found) => found.as_slice() == bytes,
-        None => false,
+// A folder after the file of a filter is saved in it, and whether that came about.
+fn saved(alloc: Global, folder: MemoryFolder, filter: &BloomFilter) -> (MemoryFolder, bool) {
+    let mut file = FilterFile::new(alloc, folder, false);
+    let is_saved = file.save(filter).is_ok();
+    (file.into_folder(), is_saved)
+}
+
+// Whether the file of a folder is found to have the words of a filter.
+fn finds(alloc: Global, folder: MemoryFolder, filter: &BloomFilter) -> bool {
+    let mut file = FilterFile::new(alloc, folder, false);
+    match file.load() {
+        Ok(Some(found)) => found.as_slice() == filter.as_slice(),
+        Ok(None) => false,
+        Err(_fault) => false,
     }
 }
 
-// Whether a crash leaves one of two files for certain.
-fn leaves_one(slot: &MemorySlot, old: &[u8], new: &[u8]) -> bool {
-    if slot.is_any || !(is_file(&slot.now, old) || is_file(&slot.now, new)) {
-        return false;
-    }
-    let mut all = true;
-    'others: for content in &slot.others {
-        all = all && (is_file(content, old) || is_file(content, new));
-    }
-    all
-}
+// The calls of a save are, in their order: remove, write, sync, rename, sync of the folder. After
+// how many of them some fail, and how many; whether the save comes about then, and whether the new
+// filter is found, or else the old one. A removal that fails may have met no file.
+const SAVES: &'static [(u64, u64, bool, bool)] = &[
+    (0, 1, true, true),
+    (1, 1, false, false),
+    (2, 1, false, false),
+    (3, 1, false, false),
+    (4, 1, false, true),
+    (5, 1, true, true),
+    (0, 100, false, false),
+    (1, 100, false, false),
+    (2, 100, false, false),
+    (3, 100, false, false),
+    (4, 100, false, true),
+    (5, 100, true, true),
+];
 
-// A folder whose file is that of a filter.
-fn folder_with(rt: &HostRuntime, filter: &BloomFilter) -> Result<MemoryFolder, Fail> {
-    let mut file = FilterFile::new(rt.alloc(), MemoryFolder::new(rt.alloc()), false);
-    match file.save(filter) {
-        Ok(()) => Ok(file.into_folder()),
-        Err(_) => Err(FilterError::Memory.into()),
-    }
+// Whether a save over an old filter ends as its row says.
+fn is_safe(alloc: Global, row: &(u64, u64, bool, bool)) -> Result<bool, FilterError> {
+    let (calls, failures, comes_about, is_new) = *row;
+    let old = filter_with(alloc, 1)?;
+    let new = filter_with(alloc, 2)?;
+    let (mut folder, _is_saved) = saved(alloc, MemoryFolder::new(alloc), &old);
+    folder.fail_after(calls, failures);
+    let (mut folder, is_saved) = saved(alloc, folder, &new);
+    folder.fail_after(0, 0);
+    let is_found = if is_new {
+        finds(alloc, folder, &new)
+    } else {
+        finds(alloc, folder, &old)
+    };
+    Ok((is_saved == comes_about) & is_found)
 }
 
 #[test]
-fn a_save_that_stops_at_any_call_leaves_the_old_filter_or_the_new_one(
-    rt: HostRuntime,
-) -> Result<(), Fail> {
-    let (old, new) = (filter_with(&rt, 1)?, filter_with(&rt, 2)?);
-    let (old_bytes, new_bytes) = (old.to_bytes(rt.alloc())?, new.to_bytes(rt.alloc())?);
-    'steps: for step in 0..CALLS + 1 {
-        // One call fails, or each from this one on.
-        'lengths: for failures in [1u64, 100] {
-            let mut folder = folder_with(&rt, &old)?;
-            folder.fail_after(step, failures);
-            let mut file = FilterFile::new(rt.alloc(), folder, false);
-            let saved = file.save(&new).is_ok();
-            // A removal that fails may have met no file.
-            let wanted = step == CALLS || (step == 0 && failures == 1);
-            assert!(rt; saved == wanted);
-            let folder = file.into_folder();
-            assert!(rt; leaves_one(folder.standing(), &old_bytes, &new_bytes));
-            if saved {
-                assert!(rt; is_file(&folder.standing().now, &new_bytes));
-                assert!(rt; folder.standing().others.is_empty());
-            }
-        }
+fn a_save_that_stops_at_any_call_leaves_the_old_filter_or_the_new_one(rt: HostRuntime) {
+    for (i, row) in SAVES.iter().enumerate() {
+        assert!(rt; tell_row(&rt, i, matches!(is_safe(rt.alloc(), row), Ok(true))));
     }
-    Ok(())
 }
 
-#[test]
-fn a_filter_that_was_saved_is_found_again(rt: HostRuntime) -> Result<(), Fail> {
-    let mut file = FilterFile::new(rt.alloc(), MemoryFolder::new(rt.alloc()), false);
-    match file.load() {
-        Ok(None) => {}
-        _ => assert!(rt; false),
-    }
-    let (old, new) = (filter_with(&rt, 1)?, filter_with(&rt, 2)?);
-    assert!(rt; file.save(&old).is_ok());
-    assert!(rt; file.save(&new).is_ok());
-    match file.load() {
-        Ok(Some(found)) => assert!(rt; found.as_slice() == new.as_slice()),
-        _ => assert!(rt; false),
-    }
-    Ok(())
-}
-
-#[test]
-fn the_filter_of_another_store_is_refused_until_one_is_saved(rt: HostRuntime) -> Result<(), Fail> {
-    let folder = folder_with(&rt, &filter_with(&rt, 1)?)?;
-    let mut file = FilterFile::new(rt.alloc(), folder, true);
-    match file.load() {
-        Err(fault) => assert!(rt; fault == FilterFault::OtherStore),
-        Ok(_) => assert!(rt; false),
-    }
-    assert!(rt; file.save(&filter_with(&rt, 2)?).is_ok());
-    match file.load() {
-        Ok(Some(_)) => {}
-        _ => assert!(rt; false),
-    }
-    Ok(())
-}
-
-#[test]
-fn a_read_that_fails_is_told(rt: HostRuntime) -> Result<(), Fail> {
-    let mut folder = folder_with(&rt, &filter_with(&rt, 1)?)?;
+// Whether a read that fails is told, and then that the file is another store's, until one is saved.
+fn is_told(alloc: Global) -> Result<bool, FilterError> {
+    let filter = filter_with(alloc, 1)?;
+    let (mut folder, is_left) = saved(alloc, MemoryFolder::new(alloc), &filter);
     folder.fail_after(0, 1);
-    let mut file = FilterFile::new(rt.alloc(), folder, false);
-    match file.load() {
-        Err(fault) => assert!(rt; fault == FilterFault::Unread(MemoryFault::Injected)),
-        Ok(_) => assert!(rt; false),
-    }
-    match file.load() {
-        Ok(Some(_)) => {}
-        _ => assert!(rt; false),
-    }
-    Ok(())
-}
-
-// What becomes of a file with these bytes.
-fn fault_of(rt: &HostRuntime, bytes: &[u8]) -> Result<Option<FormFault>, Fail> {
-    let mut folder = MemoryFolder::new(rt.alloc());
-    if folder.write_new(Name::Standing, bytes).is_err() {
-        return Err(FilterError::Memory.into());
-    }
-    let mut file = FilterFile::new(rt.alloc(), folder, false);
-    match file.load() {
-        Ok(Some(_)) => Ok(None),
-        Err(FilterFault::Refused(fault)) => Ok(Some(fault)),
-        _ => Err(FilterError::EmptyWords.into()),
-    }
-}
-
-// Makes these bytes zero, from one place up to another.
-fn zero(bytes: &mut Vec<u8>, from: usize, to: usize) {
-    'bytes: for (place, byte) in bytes.iter_mut().enumerate() {
-        if place >= from && place < to {
-            *byte = 0;
-        }
-    }
+    let mut file = FilterFile::new(alloc, folder, true);
+    let is_unread = file.load().err() == Some(FilterFault::Unread(MemoryFault::Injected));
+    let is_other = file.load().err() == Some(FilterFault::OtherStore);
+    let is_saved = file.save(&filter).is_ok();
+    let is_found = finds(alloc, file.into_folder(), &filter);
+    Ok(is_left & is_unread & is_other & is_saved & is_found)
 }
 
 #[test]
-fn a_file_that_no_guard_left_is_refused(rt: HostRuntime) -> Result<(), Fail> {
-    let filter = filter_with(&rt, 1)?;
-    let bytes = filter.to_bytes(rt.alloc())?;
-    assert!(rt; fault_of(&rt, &bytes)?.is_none());
-    let mut short = filter.to_bytes(rt.alloc())?;
-    short.truncate(79);
-    assert!(rt; fault_of(&rt, &short)? == Some(FormFault::Form(FileError::Cut)));
-    // A word was zeroed, and the seal stayed.
-    let mut zeroed = filter.to_bytes(rt.alloc())?;
-    zero(&mut zeroed, 64, 80);
-    assert!(rt; fault_of(&rt, &zeroed)? == Some(FormFault::Form(FileError::Seal)));
-    // The seal was zeroed too.
-    zero(&mut zeroed, 40, 48);
-    assert!(rt; fault_of(&rt, &zeroed)? == Some(FormFault::NoSeal));
-    Ok(())
+fn a_failed_read_and_the_filter_of_another_store_are_told(rt: HostRuntime) {
+    assert!(rt; matches!(is_told(rt.alloc()), Ok(true)));
 }
 
 // The file of a folder of this machine.
@@ -173,39 +101,27 @@ fn host_file<'a>(
 ) -> FilterFile<HostFolder<'a, Unknown>> {
     let paths = Paths {
         standing,
-        fresh: "scenario.filter.new",
+        fresh: "scene.filter.new",
         folder,
-        like: "scenario.like",
+        like: "scene.like",
     };
     FilterFile::new(rt.alloc(), HostFolder::new(rt, paths, Unknown), false)
 }
 
+// Whether a folder in the place of the file is refused, since it is no file, and a save in a folder
+// that is missing, since no name can be synced there.
+fn are_refused(rt: &HostRuntime) -> Result<bool, FilterError> {
+    let filter = filter_with(rt.alloc(), 1)?;
+    let unread = host_file(rt, ".", ".").load().err();
+    let is_saved = host_file(rt, "scene.filter", "scene.none")
+        .save(&filter)
+        .is_ok();
+    Ok(!is_saved & (unread == Some(FilterFault::Unread(HostFault::NoFile))))
+}
+
+// The file was moved to its name before its folder was to be synced.
 #[test]
-fn a_filter_is_kept_on_this_machine(rt: HostRuntime) -> Result<(), Fail> {
-    let filter = filter_with(&rt, 1)?;
-    let mut file = host_file(&rt, "scenario.filter", ".");
-    match file.load() {
-        Ok(None) => {}
-        _ => assert!(rt; false),
-    }
-    assert!(rt; file.save(&filter_with(&rt, 2)?).is_ok());
-    assert!(rt; file.save(&filter).is_ok());
-    match file.load() {
-        Ok(Some(found)) => assert!(rt; found.as_slice() == filter.as_slice()),
-        _ => assert!(rt; false),
-    }
-    assert!(rt; fs::metadata(&rt, "scenario.filter")?.len() == 80);
-    assert!(rt; !fs::exists(&rt, "scenario.filter.new")?);
-    // A folder in its place is no file, and where the folder is missing no name can be synced.
-    match host_file(&rt, ".", ".").load() {
-        Err(fault) => assert!(rt; fault == FilterFault::Unread(HostFault::NoFile)),
-        Ok(_) => assert!(rt; false),
-    }
-    assert!(rt;
-        host_file(&rt, "scenario.filter", "scenario.none")
-            .save(&filter)
-            .is_err()
-    );
-    fs::remove_file(&rt, "scenario.filter")?;
-    Ok(())
+fn a_folder_that_is_no_file_or_is_missing_is_told_on_this_machine(rt: HostRuntime) {
+    assert!(rt; matches!(are_refused(&rt), Ok(true)));
+    assert!(rt; fs::remove_file(&rt, "scene.filter").is_ok());
 }

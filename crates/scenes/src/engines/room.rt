@@ -1,37 +1,51 @@
 //! A run whose own request for memory may be refused. Its reader and writer take none.
 use super::bloom::filter_of;
 use super::faulty::{ROOMY, Seen, Sink, Source, WHOLE};
+use crate::telling::{NO_ROOM, WRONG, say};
 use bloom_engine::{Fault, serve};
-use std::test::Fail;
+use bloom_plain::BloomFilter;
+use std::alloc::Global;
 
-// Hash 1 has the positions 0 and 20, and position 0 is on at first.
-#[test]
-fn a_run_is_whole_or_refused_before_its_first_line(rt: HostRuntime) -> Result<(), Fail> {
-    let Ok(mut filter) = filter_of(&rt, rt.alloc(), 1, 2) else {
-        return Ok(println!(rt; "serve: no room for the test")?);
+// How a run ended, if it left what it is to.
+fn word_of(ended: Result<(), Fault>, is_left: bool) -> &'static str {
+    if !is_left {
+        return WRONG;
+    }
+    match ended {
+        Ok(()) => "whole",
+        Err(Fault::Memory) => "Memory",
+        Err(_fault) => WRONG,
+    }
+}
+
+// Whether a filter of two hashes has this word.
+fn has_word(filter: &BloomFilter, word: u64) -> bool {
+    (filter.as_slice() == [word].as_slice()) & (filter.num_hashes() == 2)
+}
+
+// How a run ended. Hash 1 has the positions 0 and 20, and position 0 is set at first.
+fn served(alloc: Global, output: &mut Sink, seen: &Seen) -> &'static str {
+    let Ok(mut filter) = filter_of(alloc, 1, 2) else {
+        return NO_ROOM;
     };
     filter.insert_hash(0);
-    let seen = Seen::new();
-    let mut input = Source::new(b"i 1\nw\n", WHOLE, &seen);
-    let mut output = Sink::new(rt.alloc(), ROOMY, &seen);
     if output.written.try_reserve(64).is_err() {
-        return Ok(println!(rt; "serve: no room for the test")?);
+        return NO_ROOM;
     }
-    let ended = serve(rt.alloc(), &mut filter, &mut input, &mut output);
-    assert!(rt; filter.num_hashes() == 2);
-    match ended {
-        Ok(()) => {
-            println!(rt; "serve: whole")?;
-            assert!(rt; filter.as_slice() == [1048577].as_slice());
-            let text = b"false\n0000000000100001\n".as_slice();
-            assert!(rt; output.written.as_slice() == text);
-        }
-        Err(fault) => {
-            println!(rt; "serve: {fault:?}")?;
-            assert!(rt; fault == Fault::Memory);
-            assert!(rt; filter.as_slice() == [1].as_slice());
-            assert!(rt; output.written.is_empty());
-        }
-    }
-    Ok(())
+    let mut input = Source::new(b"i 1\nw\n", WHOLE, seen);
+    let ended = serve(alloc, &mut filter, &mut input, output);
+    let is_left = if ended.is_ok() {
+        let text = b"false\n0000000000100001\n".as_slice();
+        has_word(&filter, 1048577) & (output.written.as_slice() == text)
+    } else {
+        has_word(&filter, 1) & output.written.is_empty()
+    };
+    word_of(ended, is_left)
+}
+
+#[test]
+fn a_run_is_whole_or_refused_before_its_first_line(rt: HostRuntime) {
+    let seen = Seen::new();
+    let mut output = Sink::new(rt.alloc(), ROOMY, &seen);
+    assert!(rt; say(&rt, "serve", served(rt.alloc(), &mut output, &seen)));
 }

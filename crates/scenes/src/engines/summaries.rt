@@ -5,8 +5,9 @@ use super::faulty::{
     FAILING, FULL, NARROW, ROOMY, Reading, SLOW, STUCK, Seen, Sink, Source, UNFLUSHED, WHOLE,
     Writing,
 };
+use crate::telling::{has_text, tell_row};
 use fastbloom::{BloomFilter, Shape};
-use std::test::Fail;
+use std::alloc::Global;
 use std::thread::Threads;
 use summaries_engine::{Inputs, Stop, Told, ask, build, load, put, put_file};
 
@@ -48,7 +49,7 @@ const CHANGED: &[u8] = b"fbloom\01\x02\0\0\0\0\0\0\0\
 const TEXT: &[u8] =
     b"{\"bits\":{\"bits\":[268500992]},\"num_hashes_minus_one\":1,\"k0\":0,\"k1\":0}\n";
 
-const UNREAD: &[u8] = b"odd: it can't be read: broken pipe";
+const UNREAD: &'static str = "odd: it can't be read: broken pipe";
 
 // Inputs, each of which gives its keys as told.
 #[derive(Drop)]
@@ -88,6 +89,28 @@ enum Act {
     PutText,
 }
 
+// The filter of the keys of two inputs.
+fn built<R: Threads + AllocGlobal>(rt: &R, odd: &Odd) -> Result<BloomFilter, Stop> {
+    match Shape::new(64, 2) {
+        Ok(shape) => build::<10, _, _>(rt, rt.alloc(), shape, 2, odd, &["first", "odd"]),
+        Err(_refusal) => Err(Stop::Memory),
+    }
+}
+
+// The filter of an input.
+fn loaded(alloc: Global, odd: &Odd) -> Result<BloomFilter, Stop> {
+    let (filter, _form) = load(alloc, "odd", 64, &mut odd.open("odd")?)?;
+    Ok(filter)
+}
+
+// Writes the file of a filter, if it was made.
+fn write_made(made: Result<BloomFilter, Stop>, output: &mut Sink) -> Result<(), Stop> {
+    match made {
+        Ok(filter) => put_file(&filter, output).map_err(Stop::Output),
+        Err(stop) => Err(stop),
+    }
+}
+
 // Carries an act out: why it stops early.
 fn carry_out<R: Threads + AllocGlobal>(
     rt: &R,
@@ -98,31 +121,38 @@ fn carry_out<R: Threads + AllocGlobal>(
 ) -> Result<(), Stop>
     requires { IsKeyed filter.now }
 {
-    let alloc = rt.alloc();
     match act {
-        Act::Build => {
-            let Ok(shape) = Shape::new(64, 2) else {
-                return Err(Stop::Memory);
-            };
-            let built = build::<10, _, _>(rt, alloc, shape, 2, odd, &["first", "odd"])?;
-            put_file(&built, output).map_err(Stop::Output)
-        }
-        Act::Ask => ask::<10, _, _>(alloc, filter, Told::Found, odd, &["odd"], output),
-        Act::Load => {
-            let (loaded, _form) = load(alloc, "odd", 64, &mut odd.open("odd")?)?;
-            put_file(&loaded, output).map_err(Stop::Output)
-        }
+        Act::Build => write_made(built(rt, odd), output),
+        Act::Ask => ask::<10, _, _>(rt.alloc(), filter, Told::Found, odd, &["odd"], output),
+        Act::Load => write_made(loaded(rt.alloc(), odd), output),
         Act::Put => put_file(filter, output).map_err(Stop::Output),
-        Act::PutText => put(alloc, filter, output),
+        Act::PutText => put(rt.alloc(), filter, output),
+    }
+}
+
+// Whether an act ended with this text, or well if it is empty.
+fn is_told(alloc: Global, ended: Result<(), Stop>, text: &str) -> bool {
+    match ended {
+        Ok(()) => text.is_empty(),
+        Err(stop) => has_text(alloc, &stop, text),
     }
 }
 
 // An act, its input, and how that is read and the output is taken; what is written, and why the act
 // stops early.
-const ACTS: [(Act, &[u8], Reading, Writing, &[u8], &[u8]); 22] = [
-    (Act::Build, b"b\na", SLOW, NARROW, BOTH, b""),
+type Row = (
+    Act,
+    &'static [u8],
+    Reading,
+    Writing,
+    &'static [u8],
+    &'static str,
+);
+
+const ACTS: &'static [Row] = &[
+    (Act::Build, b"b\na", SLOW, NARROW, BOTH, ""),
     (Act::Build, b"a\nb\n", FAILING, ROOMY, b"", UNREAD),
-    (Act::Ask, b"b\na\nc\na", SLOW, NARROW, b"a\na\n", b""),
+    (Act::Ask, b"b\na\nc\na", SLOW, NARROW, b"a\na\n", ""),
     (Act::Ask, b"a\na\na", FAILING, ROOMY, b"a\na\n", UNREAD),
     (
         Act::Ask,
@@ -130,7 +160,7 @@ const ACTS: [(Act, &[u8], Reading, Writing, &[u8], &[u8]); 22] = [
         WHOLE,
         FULL,
         b"a\na",
-        b"the keys can't be written: no space is left",
+        "the keys can't be written: no space is left",
     ),
     (
         Act::Ask,
@@ -138,19 +168,19 @@ const ACTS: [(Act, &[u8], Reading, Writing, &[u8], &[u8]); 22] = [
         WHOLE,
         STUCK,
         b"a\na",
-        b"the keys can't be written: write zero",
+        "the keys can't be written: write zero",
     ),
-    (Act::Load, A, SLOW, NARROW, A, b""),
+    (Act::Load, A, SLOW, NARROW, A, ""),
     (Act::Load, A, FAILING, ROOMY, b"", UNREAD),
-    (Act::Load, BOTH, WHOLE, ROOMY, BOTH, b""),
-    (Act::Load, TEXT, SLOW, NARROW, A, b""),
+    (Act::Load, BOTH, WHOLE, ROOMY, BOTH, ""),
+    (Act::Load, TEXT, SLOW, NARROW, A, ""),
     (
         Act::Load,
         CUT,
         WHOLE,
         ROOMY,
         b"",
-        b"odd: it holds no filter: the file is cut",
+        "odd: it holds no filter: the file is cut",
     ),
     (
         Act::Load,
@@ -158,7 +188,7 @@ const ACTS: [(Act, &[u8], Reading, Writing, &[u8], &[u8]); 22] = [
         WHOLE,
         ROOMY,
         b"",
-        b"odd: it holds no filter: the file goes on after its last word",
+        "odd: it holds no filter: the file goes on after its last word",
     ),
     (
         Act::Load,
@@ -166,7 +196,7 @@ const ACTS: [(Act, &[u8], Reading, Writing, &[u8], &[u8]); 22] = [
         SLOW,
         ROOMY,
         b"",
-        b"odd: it holds no filter: the seal is wrong: the file was changed",
+        "odd: it holds no filter: the seal is wrong: the file was changed",
     ),
     (
         Act::Load,
@@ -174,16 +204,16 @@ const ACTS: [(Act, &[u8], Reading, Writing, &[u8], &[u8]); 22] = [
         SLOW,
         ROOMY,
         b"",
-        b"odd: it holds no filter: a version of the file that isn't known",
+        "odd: it holds no filter: a version of the file that isn't known",
     ),
-    (Act::Put, b"", WHOLE, NARROW, A, b""),
+    (Act::Put, b"", WHOLE, NARROW, A, ""),
     (
         Act::Put,
         b"",
         WHOLE,
         FULL,
         b"fbl",
-        b"the filter can't be written: no space is left",
+        "the filter can't be written: no space is left",
     ),
     (
         Act::Put,
@@ -191,7 +221,7 @@ const ACTS: [(Act, &[u8], Reading, Writing, &[u8], &[u8]); 22] = [
         WHOLE,
         STUCK,
         b"fbl",
-        b"the filter can't be written: write zero",
+        "the filter can't be written: write zero",
     ),
     (
         Act::Put,
@@ -199,16 +229,16 @@ const ACTS: [(Act, &[u8], Reading, Writing, &[u8], &[u8]); 22] = [
         WHOLE,
         UNFLUSHED,
         A,
-        b"the filter can't be written: broken pipe",
+        "the filter can't be written: broken pipe",
     ),
-    (Act::PutText, b"", WHOLE, NARROW, TEXT, b""),
+    (Act::PutText, b"", WHOLE, NARROW, TEXT, ""),
     (
         Act::PutText,
         b"",
         WHOLE,
         FULL,
         b"{\"b",
-        b"the filter can't be written: no space is left",
+        "the filter can't be written: no space is left",
     ),
     (
         Act::PutText,
@@ -216,7 +246,7 @@ const ACTS: [(Act, &[u8], Reading, Writing, &[u8], &[u8]); 22] = [
         WHOLE,
         STUCK,
         b"{\"b",
-        b"the filter can't be written: write zero",
+        "the filter can't be written: write zero",
     ),
     (
         Act::PutText,
@@ -224,39 +254,50 @@ const ACTS: [(Act, &[u8], Reading, Writing, &[u8], &[u8]); 22] = [
         WHOLE,
         UNFLUSHED,
         TEXT,
-        b"the filter can't be written: broken pipe",
+        "the filter can't be written: broken pipe",
     ),
 ];
 
-// A read that fails may do so behind any byte; that of keys that are asked for, behind all.
-#[test]
-fn acts_write_and_stop_as_they_are_to(rt: HostRuntime) -> Result<(), Fail> {
-    let loaded = load(rt.alloc(), "a", 64, &mut &A[..]);
-    assert!(rt; loaded.is_ok(), "a good filter isn't loaded");
-    let Ok((filter, _form)) = loaded else {
-        unreachable!()
+// Whether an act over the first bytes of its input writes and tells what its row says.
+fn is_right<R: Threads + AllocGlobal>(rt: &R, row: &Row, end: usize, filter: &BloomFilter) -> bool
+    requires { IsKeyed filter.now }
+{
+    let (act, input, reading, writing, output, text) = *row;
+    let seen = Seen::new();
+    let odd = Odd {
+        keys: input.get(..end).unwrap_or(&[]),
+        reading,
+        seen: &seen,
     };
-    for (act, input, reading, writing, output, text) in ACTS {
-        let first = if text == UNREAD && output.is_empty() {
-            0
-        } else {
-            input.len()
-        };
-        for end in first..input.len().saturating_add(1) {
-            let seen = Seen::new();
-            let odd = Odd {
-                keys: input.get(..end).unwrap_or(&[]),
-                reading,
-                seen: &seen,
-            };
-            let mut sink = Sink::new(rt.alloc(), writing, &seen);
-            let told = match carry_out(&rt, act, &odd, &filter, &mut sink) {
-                Ok(()) => String::new(rt.alloc()),
-                Err(stop) => stop.to_string(rt.alloc())?,
-            };
-            let is_right = (sink.written.as_slice() == output) & (told.as_bytes() == text);
-            assert!(rt; is_right, "{told}");
-        }
+    let mut sink = Sink::new(rt.alloc(), writing, &seen);
+    let ended = carry_out(rt, act, &odd, filter, &mut sink);
+    is_told(rt.alloc(), ended, text) & (sink.written.as_slice() == output)
+}
+
+// The same for each beginning of its input behind which a read may fail: any, or the whole, where
+// keys are written before it or no read fails.
+fn are_right<R: Threads + AllocGlobal>(rt: &R, row: &Row, filter: &BloomFilter) -> bool
+    requires { IsKeyed filter.now }
+{
+    let (_act, input, _reading, _writing, output, text) = *row;
+    let first = if text == UNREAD && output.is_empty() {
+        0
+    } else {
+        input.len()
+    };
+    let mut all = true;
+    for end in first..input.len().saturating_add(1) {
+        all &= is_right(rt, row, end, filter);
     }
-    Ok(())
+    all
+}
+
+#[test]
+fn acts_write_and_stop_as_they_are_to(rt: HostRuntime) {
+    let Ok((filter, _form)) = load(rt.alloc(), "a", 64, &mut &A[..]) else {
+        panic!(rt)
+    };
+    for (i, row) in ACTS.iter().enumerate() {
+        assert!(rt; tell_row(&rt, i, are_right(&rt, row, &filter)));
+    }
 }

@@ -1,12 +1,13 @@
 //! Files that are refused: the number and the text of each reason, heads at the borders of what is
 //! refused, and files that end too early or too late.
 use crate::files::{WORKED, refusals};
+use crate::telling::{has_text, tell_row};
 use bloom_plain::file::FileError;
-use std::alloc::AllocError;
+use std::alloc::Global;
 use std::io::ErrorKind;
 
 // As docs/FILE.md tells them.
-const ERRORS: [(FileError, u8, &'static str); 11] = [
+const ERRORS: &'static [(FileError, u8, &'static str)] = &[
     (FileError::NotAFilter, 9, "not a filter"),
     (
         FileError::Version,
@@ -23,6 +24,9 @@ const ERRORS: [(FileError, u8, &'static str); 11] = [
         "the file goes on after its last word",
     ),
     (FileError::Reserved, 13, "a reserved byte isn't zero"),
+    (FileError::Blocked, 17, "the file has a blocked filter"),
+    (FileError::NotBlocked, 18, "the file's filter isn't blocked"),
+    (FileError::PartOfALine, 16, "words that are no whole lines"),
     (
         FileError::Seal,
         14,
@@ -37,18 +41,17 @@ const ERRORS: [(FileError, u8, &'static str); 11] = [
 ];
 
 #[test]
-fn each_refusal_has_its_text_and_number(rt: HostRuntime) -> Result<(), AllocError> {
-    for (error, code, text) in ERRORS {
-        let found = error.to_string(rt.alloc())?;
-        assert!(rt; (found.as_str() == text) & (error.code() == code), "{text}");
+fn each_refusal_has_its_text_and_number(rt: HostRuntime) {
+    for (i, (error, code, text)) in ERRORS.iter().enumerate() {
+        let is_told = has_text(rt.alloc(), error, text) & (error.code() == *code);
+        assert!(rt; tell_row(&rt, i, is_told));
     }
-    Ok(())
 }
 
 // A place of the worked file, the number that is put there, how many bytes are read of the file,
 // and why it is refused then. The seal is wrong wherever nothing comes before it. Fifteen bytes
 // don't tell a number of hashes, nor 23 a number of words. Nobody has the memory for 2^57 words.
-const REFUSED: [(usize, u64, usize, FileError); 23] = [
+const REFUSED: &'static [(usize, u64, usize, FileError)] = &[
     (0, 0x3100_6d6f_6f6c_6267, 72, FileError::NotAFilter),
     (0, 0x3101_6d6f_6f6c_6266, 72, FileError::NotAFilter),
     (0, 0x3200_6d6f_6f6c_6266, 72, FileError::Version),
@@ -68,7 +71,8 @@ const REFUSED: [(usize, u64, usize, FileError); 23] = [
     (24, 0x0706_0504_0302_0101, 72, FileError::Seal),
     (32, 0x8f0e_0d0c_0b0a_0908, 72, FileError::Seal),
     (40, 0x5d9d_8dee_d40a_1ba9, 72, FileError::Seal),
-    (48, 1, 72, FileError::Reserved),
+    (48, 1, 72, FileError::Blocked),
+    (48, 2, 72, FileError::Reserved),
     (56, 1 << 63, 72, FileError::Reserved),
     (64, 0x1080_0080_4000_1401, 72, FileError::Seal),
     (64, 0x9080_0080_4000_1400, 72, FileError::Seal),
@@ -83,35 +87,43 @@ fn changed(place: usize, number: u64) -> [u8; 72] {
     file
 }
 
+// Whether both ways to read refuse bytes for this reason.
+fn are_refused(alloc: Global, bytes: &[u8], reason: FileError) -> bool {
+    refusals(alloc, bytes) == (Some(reason), Some(reason))
+}
+
 #[test]
 fn a_changed_number_is_refused_once_it_is_whole(rt: HostRuntime) {
-    for (place, number, length, refused) in REFUSED {
-        let file = changed(place, number);
-        let refusals = refusals(rt.alloc(), &file[..length.min(72)]);
-        assert!(rt;
-            refusals == (Some(refused), Some(refused)),
-            "{place}, {number}, {length}"
-        );
+    for (i, (place, number, length, reason)) in REFUSED.iter().enumerate() {
+        let file = changed(*place, *number);
+        let read = &file[..(*length).min(72)];
+        assert!(rt; tell_row(&rt, i, are_refused(rt.alloc(), read, *reason)));
     }
 }
 
+// The worked file and a byte more.
+const LONGER: [u8; 73] = [
+    102, 98, 108, 111, 111, 109, 0, 49, 3, 0, 0, 0, 0, 0, 0, 0, 1, 0, 0, 0, 0, 0, 0, 0, 0, 1, 2, 3,
+    4, 5, 6, 7, 8, 9, 10, 11, 12, 13, 14, 15, 168, 27, 10, 212, 238, 141, 157, 93, 0, 0, 0, 0, 0,
+    0, 0, 0, 0, 0, 0, 0, 0, 0, 0, 0, 0, 20, 0, 64, 128, 0, 128, 16, 0,
+];
+
 // Eight bytes tell that it is a filter.
 #[test]
-fn every_cut_is_refused_and_so_is_a_byte_more(rt: HostRuntime) -> Result<(), AllocError> {
+fn every_cut_is_refused_and_so_is_a_byte_more(rt: HostRuntime) {
     for length in 0..72usize {
         let reason = if length < 8 {
-            Some(FileError::NotAFilter)
+            FileError::NotAFilter
         } else {
-            Some(FileError::Cut)
+            FileError::Cut
         };
         assert!(rt;
-            refusals(rt.alloc(), &WORKED[..length]) == (reason, reason),
-            "{length}"
+            tell_row(
+                &rt,
+                length,
+                are_refused(rt.alloc(), &WORKED[..length], reason),
+            )
         );
     }
-    let mut longer = WORKED.to_vec(rt.alloc())?;
-    longer.push(0)?;
-    let reason = Some(FileError::TooLong);
-    assert!(rt; refusals(rt.alloc(), longer.as_slice()) == (reason, reason));
-    Ok(())
+    assert!(rt; are_refused(rt.alloc(), &LONGER, FileError::TooLong));
 }

@@ -1,115 +1,61 @@
 //! Files of readers and writers that take few bytes a call, are interrupted, or fail.
+use crate::engines::faulty::{NARROW, Reading, Seen, Sink, Source, Writing};
 use crate::files::{WORKED, crabs};
+use crate::telling::tell_row;
 use bloom_plain::file::FileError;
-use fastbloom::BloomFilter;
+use fastbloom::{BloomFilter, FilterError};
 use std::alloc::Global;
-use std::io;
-use std::io::{ErrorKind, Read, Write};
-use std::test::Fail;
+use std::io::ErrorKind;
 
-// A reader that gives few bytes a call, each behind an interrupted one, and that may fail where it
-// would tell its end.
-#[derive(Drop)]
-struct Source<'a> {
-    rest: &'a [u8],
-    piece: usize,
-    was_interrupted: bool,
-    fails: bool,
-}
-
-impl<'a> Read for Source<'a> {
-    fn read(&mut self, buf: &mut [u8]) -> io::Result<usize> {
-        self.was_interrupted = !self.was_interrupted;
-        if self.was_interrupted {
-            return Err(ErrorKind::Interrupted.into());
-        }
-        let count = self.rest.len().min(buf.len()).min(self.piece);
-        if count == 0 && self.fails {
-            return Err(ErrorKind::BrokenPipe.into());
-        }
-        buf[..count].copy_from_slice(&self.rest[..count]);
-        self.rest = &self.rest[count..];
-        Ok(count)
-    }
-}
-
-// A writer that takes few bytes a call, each behind an interrupted one, and fails once its room is
-// full.
-#[derive(Drop)]
-struct Sink {
-    written: Vec<u8>,
-    piece: usize,
-    room: usize,
-    was_interrupted: bool,
-}
-
-impl Write for Sink {
-    fn write(&mut self, buf: &[u8]) -> io::Result<usize> {
-        self.was_interrupted = !self.was_interrupted;
-        if self.was_interrupted {
-            return Err(ErrorKind::Interrupted.into());
-        }
-        let count = buf.len().min(self.piece).min(self.room);
-        if count == 0 {
-            return Err(ErrorKind::StorageFull.into());
-        }
-        self.written.extend_from_slice(&buf[..count])?;
-        self.room -= count;
-        Ok(count)
-    }
-
-    fn flush(&mut self) -> io::Result<()> {
-        Ok(())
-    }
-}
-
-// The file of a filter, and how the writer that takes so many bytes a call ended.
-fn written(
-    alloc: Global,
-    filter: &BloomFilter,
-    piece: usize,
-    room: usize,
-) -> (Vec<u8>, io::Result<()>) {
-    let mut output = Sink {
-        written: Vec::new(alloc),
+// The file of a filter, as far as a writer takes it that has this room and takes so many bytes a
+// call, and whether it took it whole.
+fn written(alloc: Global, filter: &BloomFilter, piece: usize, room: usize) -> (Vec<u8>, bool) {
+    let seen = Seen::new();
+    let writing = Writing {
         piece,
         room,
-        was_interrupted: false,
+        ..NARROW
     };
-    let ended = filter.write_file(&mut output);
-    (output.written, ended)
+    let mut output = Sink::new(alloc, writing, &seen);
+    let is_whole = filter.write_file(&mut output).is_ok();
+    (output.written, is_whole)
 }
 
-// The filter of a file, by a reader that gives so many bytes a call.
+// The filter of a file, by a reader that gives so many bytes a call, and may fail where it would
+// tell its end.
 fn read(alloc: Global, file: &[u8], piece: usize, fails: bool) -> Result<BloomFilter, FileError> {
-    let mut input = Source {
-        rest: file,
+    let seen = Seen::new();
+    let reading = Reading {
         piece,
-        was_interrupted: false,
+        interrupts: true,
         fails,
     };
-    BloomFilter::read_file(alloc, &mut input)
+    BloomFilter::read_file(alloc, &mut Source::new(file, reading, &seen))
 }
 
-// Behind all 72 bytes the reader fails in place of telling its end, and the writer has room.
+// Whether a reader and a writer that fail behind so many bytes of the worked file are told. Behind
+// all 72 bytes the reader fails in place of telling its end, and the writer has room.
+fn are_told(alloc: Global, filter: &BloomFilter, length: usize) -> bool {
+    let beginning = &WORKED[..length.min(72)];
+    let refused = read(alloc, beginning, 5, true).err();
+    let (file, is_whole) = written(alloc, filter, 3, length);
+    (refused == Some(FileError::Input(ErrorKind::BrokenPipe)))
+        & (file.as_slice() == beginning)
+        & (is_whole == (length == 72))
+}
+
 #[test]
-fn streams_that_fail_are_told_at_each_place(rt: HostRuntime) -> Result<(), Fail> {
-    let filter = crabs(rt.alloc())?;
+fn streams_that_fail_are_told_at_each_place(rt: HostRuntime) {
+    let Ok(filter) = crabs(rt.alloc()) else {
+        panic!(rt)
+    };
     for length in 0..=72usize {
-        let refused = read(rt.alloc(), &WORKED[..length], 5, true).err();
-        assert!(rt;
-            refused == Some(FileError::Input(ErrorKind::BrokenPipe)),
-            "{length}"
-        );
-        let (file, ended) = written(rt.alloc(), &filter, 3, length);
-        assert!(rt; file.as_slice() == &WORKED[..length], "{length}");
-        assert!(rt; ended.is_ok() == (length == 72), "{length}");
+        assert!(rt; tell_row(&rt, length, are_told(rt.alloc(), &filter, length)));
     }
-    Ok(())
 }
 
 // A filter of so many words, under a key that was drawn, with as many items.
-fn filter_of(alloc: Global, words: u64) -> Result<BloomFilter, Fail> {
+fn filter_of(alloc: Global, words: u64) -> Result<BloomFilter, FilterError> {
     let builder = BloomFilter::with_num_bits(alloc, words.saturating_mul(64) as usize)?;
     let mut filter = builder.seed(&42).hashes(7);
     filter.extend(0..words);
@@ -117,7 +63,7 @@ fn filter_of(alloc: Global, words: u64) -> Result<BloomFilter, Fail> {
 }
 
 // Numbers of words, and of the bytes of a call. A block has 512 words.
-const STREAMS: [(u64, usize); 12] = [
+const STREAMS: &'static [(u64, usize)] = &[
     (1, 1),
     (1, 7),
     (1, 63),
@@ -132,20 +78,28 @@ const STREAMS: [(u64, usize); 12] = [
     (100_000, 1000),
 ];
 
+// Whether a file is read as a filter, and is cut without its last byte.
+fn is_read(alloc: Global, file: &[u8], piece: usize, filter: &BloomFilter) -> bool {
+    let cut = &file[..file.len().saturating_sub(1)];
+    let refused = read(alloc, cut, piece, false).err();
+    let is_back = match read(alloc, file, piece, false) {
+        Ok(back) => (back == *filter) & (back.hasher().key() == filter.hasher().key()),
+        Err(_error) => false,
+    };
+    is_back & (refused == Some(FileError::Cut))
+}
+
 // Whether a filter is read back from its file, and not from the file without its last byte.
-fn comes_back(alloc: Global, words: u64, piece: usize) -> Result<bool, Fail> {
+fn comes_back(alloc: Global, words: u64, piece: usize) -> Result<bool, FilterError> {
     let filter = filter_of(alloc, words)?;
-    let (file, _ended) = written(alloc, &filter, piece, usize::MAX);
-    let refused = read(alloc, &file[..file.len().saturating_sub(1)], piece, false).err();
-    let back = read(alloc, file.as_slice(), piece, false)?;
-    let has_key = back.hasher().key() == filter.hasher().key();
-    Ok((back == filter) & has_key & (refused == Some(FileError::Cut)))
+    let (file, is_whole) = written(alloc, &filter, piece, usize::MAX);
+    Ok(is_whole & is_read(alloc, file.as_slice(), piece, &filter))
 }
 
 #[test]
-fn filters_come_back_in_pieces_and_cut_files_do_not(rt: HostRuntime) -> Result<(), Fail> {
-    for (words, piece) in STREAMS {
-        assert!(rt; comes_back(rt.alloc(), words, piece)?, "{words}, {piece}");
+fn filters_come_back_in_pieces_and_cut_files_do_not(rt: HostRuntime) {
+    for (i, (words, piece)) in STREAMS.iter().enumerate() {
+        let is_back = comes_back(rt.alloc(), *words, *piece);
+        assert!(rt; tell_row(&rt, i, matches!(is_back, Ok(true))));
     }
-    Ok(())
 }

@@ -31,26 +31,25 @@ impl BuildHasher for Nothing {
 
 // Whether a plain filter of one word and seven hashes takes any item for the one that was inserted.
 fn plain_is_alike(alloc: Global) -> Result<bool, FilterError> {
-    let builder = BloomFilter::from_vec(vec![in alloc; 0; 1]?)?.hasher(Nothing);
+    let builder = BloomFilter::with_num_bits(alloc, 64)?.hasher(Nothing);
     let mut filter = builder.hashes(7);
     let is_new = !filter.contains(&1u64) & !filter.insert(&1u64);
-    let finds = filter.contains(&2u64) & filter.contains(&"🦀") & filter.insert(&(3u8, "42"));
+    let finds = filter.contains(&2u64) & filter.insert(&"🦀");
     let is_right = is_new & finds & (filter.source_hash(&"42") == 0);
     Ok(is_right & (filter.as_slice() == [1].as_slice()))
 }
 
 // Whether such a shared filter does.
 fn shared_is_alike(alloc: Global) -> Result<bool, FilterError> {
-    let builder = AtomicBloomFilter::from_vec(vec![in alloc; 0; 1]?)?.hasher(Nothing);
+    let builder = AtomicBloomFilter::with_num_bits(alloc, 64)?.hasher(Nothing);
     let filter = builder.hashes(alloc, 7)?;
-    let is_new = !filter.insert(&1u64);
-    let finds = filter.contains(&2u64) & filter.contains(&"🦀") & filter.insert(&(3u8, "42"));
+    let is_new = !filter.contains(&1u64) & !filter.insert(&1u64);
+    let finds = filter.contains(&2u64) & filter.insert(&"🦀");
     Ok(is_new & finds & filter.iter().eq([1]))
 }
 
 #[test]
-fn all_items_have_hash_0_and_are_found_alike(rt: HostRuntime) -> Result<(), FilterError> {
-    assert!(rt; plain_is_alike(rt.alloc())?);
-    assert!(rt; shared_is_alike(rt.alloc())?);
-    Ok(())
+fn all_items_have_hash_0_and_are_found_alike(rt: HostRuntime) {
+    assert!(rt; matches!(plain_is_alike(rt.alloc()), Ok(true)));
+    assert!(rt; matches!(shared_is_alike(rt.alloc()), Ok(true)));
 }

@@ -17,7 +17,7 @@ pub(super) const MESSAGE: &'static [u8] = b"\
 
 // The answers of the crate siphasher 0.3.10 (`SipHasher13`) under the key bytes 0, 1, .., 15, each
 // for the first so many bytes of the message.
-pub(super) const COUNTED: [(usize, u64); 15] = [
+const COUNTED: &'static [(usize, u64)] = &[
     (0, 0xabac_0158_050f_c4dc),
     (1, 0x2f28_48bd_f070_e448),
     (2, 0xe831_c51e_23d2_7347),
@@ -38,13 +38,13 @@ pub(super) const COUNTED: [(usize, u64); 15] = [
 // Rows of a key, a hash and the message that has it.
 macro_rules! vectors {
     ($($key:literal $hash:literal $message:literal)*) => {
-        [$(($key, $hash, $message)),*]
+        &[$(($key, $hash, $message)),*]
     };
 }
 
 // The answers of the same crate under keys that were drawn. A key is given by its big-endian
 // number.
-pub(super) const DRAWN: [(u128, u64, &'static [u8]); 25] = vectors! {
+const DRAWN: &'static [(u128, u64, &'static [u8])] = vectors! {
     0x6c82a562cb808d10d632be89c8513ebf 0x806d_6265_97df_1c98 b""
     0x6c929f34ddfa8c9f63c9960ef6e348a3 0x529a_95ee_d57c_58de b"\x52"
     0x8c8a3fcc2f044e39a3fc5b94492f8f03 0xa0bb_df9c_90a4_bc0f b"\x2e\x75"
@@ -128,3 +128,13 @@ pub(super) const DRAWN: [(u128, u64, &'static [u8]); 25] = vectors! {
         \x03\xb8\x2f\x04\x93\xfd\xfd\x48\x49\x47\x06\x84\x53\x08\x8f\x20\x99\x88\x16\x82\xa0\x0f\
         \xbf"
 };
+
+/// Beginnings of the message, by their lengths, and their hashes.
+pub(super) fn counted() -> &'static [(usize, u64)] {
+    COUNTED
+}
+
+/// Keys, hashes and messages that were drawn.
+pub(super) fn drawn() -> &'static [(u128, u64, &'static [u8])] {
+    DRAWN
+}

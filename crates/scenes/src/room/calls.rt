@@ -8,23 +8,12 @@ use crate::scene::Op::{
 };
 use crate::scene::Size::{Expected, Hashes, Numbers};
 use crate::scene::{Item, Make, Scene};
+use crate::telling::{NO_ROOM, WITHOUT_MEMORY, say, tell_row, word_of};
 use fastbloom::{
     Call, FilterError, Machine, MemoryStore, Rate, drive, expected_density, expected_false_pos,
     optimal_hashes, optimal_size,
 };
-use std::io;
-use std::test::Fail;
-
-/// How a call ended: with the full result, with another, or with a refusal.
-pub(super) fn word_of(ended: &Result<bool, FilterError>) -> &'static str {
-    match ended {
-        Ok(true) => "whole",
-        Ok(false) => "wrong",
-        Err(FilterError::Memory) => "Memory",
-        Err(FilterError::Worker) => "Worker",
-        Err(_refusal) => "wrong",
-    }
-}
+use std::alloc::{AllocError, Global};
 
 // The words 5 and 6 under three hashes and the key of seed 42.
 const STANDING: Make = Make::Words(&[5, 6], 42, Hashes(3));
@@ -34,7 +23,9 @@ const KEY: u64 = 3026418949592973312;
 
 // Calls that take memory, and scenes that make them beside filters that stand. A refused call ends
 // its scene, and leaves the filters as they were. `shared hashes` makes the filters of every scene.
-const SCENES: [(&'static [&'static str], Scene); 8] = [
+type Called = (&'static [&'static str], Scene);
+
+const SCENES: &'static [Called] = &[
     (
         &[
             "with_num_bits",
@@ -143,38 +134,38 @@ const SCENES: [(&'static [&'static str], Scene); 8] = [
     ),
 ];
 
-// Prints each call of a scene that was whole.
-fn print_whole(rt: &HostRuntime, calls: &[&str]) -> io::Result<()> {
+fn scenes() -> &'static [Called] {
+    SCENES
+}
+
+// Prints each call of a scene that was whole, or that it takes no memory.
+fn say_whole(rt: &HostRuntime, scene: &str, calls: &[&str]) -> bool {
+    let mut all = !calls.is_empty() || say(rt, scene, WITHOUT_MEMORY);
     for call in calls {
-        println!(rt; "{call}: whole")?;
+        all &= say(rt, call, "whole");
     }
-    Ok(())
+    all
 }
 
 // Prints the call that was refused, or that there was no room for the test.
-fn print_refused(rt: &HostRuntime, scene: &str, refused: &Refused) -> io::Result<()> {
+fn say_refused(rt: &HostRuntime, scene: &str, refused: Refused) -> bool {
     if refused.call == THE_TEST {
-        return println!(rt; "{scene}: no room for the test");
+        return say(rt, scene, NO_ROOM);
     }
-    println!(rt; "{}: {}", refused.call, word_of(&Err(refused.reason)))
+    say(rt, refused.call, word_of(&Err(refused.reason)))
 }
 
-// Follows the scene of this number, and prints how it ended. It gives whether each line was as
-// said, up to a refusal.
-fn print_end(rt: &HostRuntime, number: usize) -> io::Result<bool> {
-    let Some((calls, scene)) = SCENES.get(number) else {
-        return Ok(false);
+// Follows the scene of this number, and prints how it ended. Each line must be as said, up to a
+// refusal.
+fn say_end(rt: &HostRuntime, number: usize) -> bool {
+    let Some((calls, scene)) = scenes().get(number) else {
+        return false;
     };
-    match follow(rt.alloc(), scene) {
-        Ok(None) if calls.is_empty() => println!(rt; "{}: without memory", scene.name)?,
-        Ok(None) => print_whole(rt, calls)?,
-        Ok(Some(line)) => {
-            println!(rt; "{}, line {line}: wrong", scene.name)?;
-            return Ok(false);
-        }
-        Err(refused) => print_refused(rt, scene.name, &refused)?,
+    match follow(rt.alloc(), &scene.make, scene.lines) {
+        Ok(None) => say_whole(rt, scene.name, calls),
+        Ok(Some(line)) => tell_row(rt, line, false),
+        Err(refused) => say_refused(rt, scene.name, refused),
     }
-    Ok(true)
 }
 
 // Whether sizes and rates are right.
@@ -185,66 +176,63 @@ fn are_sized() -> Result<bool, FilterError> {
     Ok((size == 1448) & (optimal_hashes(1024, 2) == 355) & (rate.low() == 2251799813685248))
 }
 
+// A filter of one word of zeros, and another.
+fn store_of(alloc: Global) -> Result<MemoryStore, AllocError> {
+    let words = [0].to_vec(alloc)?;
+    Ok(MemoryStore::new(words, [0].to_vec(alloc)?))
+}
+
 #[test]
-fn sizes_and_steps_take_no_memory(rt: HostRuntime) -> Result<(), Fail> {
-    let (Ok(words), Ok(others)) = ([0].to_vec(rt.alloc()), [0].to_vec(rt.alloc())) else {
-        return Ok(println!(rt; "sizes and steps: no room for the test")?);
+fn sizes_and_steps_take_no_memory(rt: HostRuntime) {
+    let Ok(mut store) = store_of(rt.alloc()) else {
+        assert!(rt; say(&rt, "sizes and steps", NO_ROOM));
+        return;
     };
-    let mut store = MemoryStore::new(words, others);
     let was_there = drive(&mut store, Call::Insert(1), 2);
     let asks = Machine::new(Call::Union, 1, 2).ask().is_some();
-    assert!(rt; asks & (was_there == Some(false)));
-    assert_eq!(rt; store.words(), [1048577].as_slice());
+    let is_set = store.words() == [1048577].as_slice();
+    assert!(rt; asks & is_set & (was_there == Some(false)));
     assert!(rt; matches!(are_sized(), Ok(true)));
-    println!(rt; "sizes and steps: without memory")?;
-    Ok(())
+    assert!(rt; say(&rt, "sizes and steps", WITHOUT_MEMORY));
 }
 
 // Each test counts its own requests, so the scenes stand in tests of their own.
 #[test]
-fn filters_of_bits_are_whole_or_refused(rt: HostRuntime) -> Result<(), Fail> {
-    assert!(rt; print_end(&rt, 0)?);
-    Ok(())
+fn filters_of_bits_are_whole_or_refused(rt: HostRuntime) {
+    assert!(rt; say_end(&rt, 0));
 }
 
 #[test]
-fn filters_for_items_are_whole_or_refused(rt: HostRuntime) -> Result<(), Fail> {
-    assert!(rt; print_end(&rt, 1)?);
-    Ok(())
+fn filters_for_items_are_whole_or_refused(rt: HostRuntime) {
+    assert!(rt; say_end(&rt, 1));
 }
 
 #[test]
-fn filters_for_a_rate_and_of_data_are_whole_or_refused(rt: HostRuntime) -> Result<(), Fail> {
-    assert!(rt; print_end(&rt, 2)?);
-    Ok(())
+fn filters_for_a_rate_and_of_data_are_whole_or_refused(rt: HostRuntime) {
+    assert!(rt; say_end(&rt, 2));
 }
 
 #[test]
-fn plain_filters_of_words_take_no_memory(rt: HostRuntime) -> Result<(), Fail> {
-    assert!(rt; print_end(&rt, 3)?);
-    Ok(())
+fn plain_filters_of_words_take_no_memory(rt: HostRuntime) {
+    assert!(rt; say_end(&rt, 3));
 }
 
 #[test]
-fn copies_and_data_are_whole_or_refused(rt: HostRuntime) -> Result<(), Fail> {
-    assert!(rt; print_end(&rt, 4)?);
-    Ok(())
+fn copies_and_data_are_whole_or_refused(rt: HostRuntime) {
+    assert!(rt; say_end(&rt, 4));
 }
 
 #[test]
-fn a_take_and_a_list_are_whole_or_refused(rt: HostRuntime) -> Result<(), Fail> {
-    assert!(rt; print_end(&rt, 5)?);
-    Ok(())
+fn a_take_and_a_list_are_whole_or_refused(rt: HostRuntime) {
+    assert!(rt; say_end(&rt, 5));
 }
 
 #[test]
-fn calls_with_items_take_no_memory(rt: HostRuntime) -> Result<(), Fail> {
-    assert!(rt; print_end(&rt, 6)?);
-    Ok(())
+fn calls_with_items_take_no_memory(rt: HostRuntime) {
+    assert!(rt; say_end(&rt, 6));
 }
 
 #[test]
-fn comparisons_take_no_memory(rt: HostRuntime) -> Result<(), Fail> {
-    assert!(rt; print_end(&rt, 7)?);
-    Ok(())
+fn comparisons_take_no_memory(rt: HostRuntime) {
+    assert!(rt; say_end(&rt, 7));
 }

@@ -65,8 +65,7 @@ macro_rules! at_half {
     };
 }
 
-/// What is asked for, and why both filters are refused.
-pub(crate) const REFUSALS: &'static [(Make, FilterError)] = &[
+const REFUSALS: &'static [(Make, FilterError)] = &[
     // No bits, more than 2^58 - 1 words twice, and 2^61 - 8 bytes, which no machine has.
     (Make::Bits(0, Hashes(1)), FilterError::ZeroBits),
     (
@@ -93,3 +92,8 @@ pub(crate) const REFUSALS: &'static [(Make, FilterError)] = &[
     (Make::Data(&[], u32::MAX, 0, 0), FilterError::EmptyWords),
     (Make::Data(&[0], u32::MAX, 0, 0), FilterError::HashCount),
 ];
+
+/// What is asked for, and why both filters are refused.
+pub(crate) fn refusals() -> &'static [(Make, FilterError)] {
+    REFUSALS
+}

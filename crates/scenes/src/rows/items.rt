@@ -1,7 +1,7 @@
 //! Items: their hashes, one by one and many together, by builders too. The words were made by a
 //! model of SipHash-1-3 and of the positions, in Python.
 use crate::scene::Op::{Compare, ContainsItem, Extend, Hash, InsertAll, InsertItem, Shape, Words};
-use crate::scene::Size::{Hashes, Numbers, Texts};
+use crate::scene::Size::{Expected, Hashes, Numbers, Texts};
 use crate::scene::{Item, Make, Scene};
 
 // An item is new, is found once it went in, and has the hash that Rust's own hasher (1.95) gives.
@@ -53,6 +53,7 @@ const THREE: &'static [u64] = &[90072061271121920, 4755818802984517632];
 
 const ITEMS: &'static [Scene] = &[
     goes_in!(Item::Number(42), 0x7b3e_724b_36eb_df51),
+    goes_in!(Item::Text("42"), 0x05ee_89d1_0068_c3d9),
     goes_in!(Item::Text("🦀"), 0x75e3_0e0e_d52f_68a3),
     scene!(
         "an item sets its bits alone",
@@ -122,6 +123,11 @@ const BUILDERS: &'static [Scene] = &[
         Make::Rate(1, 1000, 0, Numbers(&[42])),
         (Shape(64, 44), true),
         (Words(&[3108657924517117514]), true),
+    ),
+    scene!(
+        "an item has its hash under a seed",
+        Make::Rate(1, 2, 42, Expected(1)),
+        (Hash(Item::Number(7), 8161168851798007701), true),
     ),
     is_large!(15),
     is_large!(16),

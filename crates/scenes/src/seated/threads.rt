@@ -7,7 +7,6 @@ use fastbloom::{BloomFilter, FilterError, Pass, SeatedBloomFilter};
 use std::alloc::Global;
 use std::snapshot::Snapshot;
 use std::sync::Arc;
-use std::test::Fail;
 use std::thread;
 use std::thread::{Promise, PromisedHandle, Threads};
 use uses::two::found_by_both;
@@ -63,7 +62,7 @@ fn start<R: Threads>(
 }
 
 // How many positions of a plain filter are set after the same inserts.
-fn count_by_one(alloc: Global) -> Result<u64, Fail> {
+fn count_by_one(alloc: Global) -> Result<u64, FilterError> {
     let mut filter = BloomFilter::with_num_bits(alloc, 4096)?.hashes(1);
     'hashes: for i in 0..HASHES {
         filter.insert_hash(spread(i));
@@ -85,37 +84,63 @@ fn count_found(filter: &SeatedBloomFilter, pass: &mut Pass) -> u64
     found
 }
 
-// Each position is gained by one pass alone, and after they met each finds what all inserted.
-#[test]
-fn four_threads_insert_the_same_hashes(rt: HostRuntime) -> Result<(), Fail> {
-    let by_one = count_by_one(rt.alloc())?;
-    let words = vec![in rt.alloc(); 0u64; 64]?;
-    let (filter, mut passes) = SeatedBloomFilter::new(rt.alloc(), words, 1, 4)?;
-    let shared = Arc::new(rt.alloc(), filter)?;
-    let one = start(&rt, &shared, &mut passes).expect(&rt, "the first thread");
-    let two = start(&rt, &shared, &mut passes).expect(&rt, "the second thread");
-    let three = start(&rt, &shared, &mut passes).expect(&rt, "the third thread");
-    let four = start(&rt, &shared, &mut passes).expect(&rt, "the fourth thread");
-    let (new_of_one, mut first) = one.join(&rt);
-    let (new_of_two, mut second) = two.join(&rt);
-    let (new_of_three, mut third) = three.join(&rt);
-    let (new_of_four, mut fourth) = four.join(&rt);
-    let new = new_of_one
-        .saturating_add(new_of_two)
-        .saturating_add(new_of_three)
-        .saturating_add(new_of_four);
-    assert_eq!(rt; new, by_one);
-    shared.meet(&mut first, &mut second);
-    shared.meet(&mut third, &mut fourth);
-    shared.meet(&mut first, &mut third);
-    assert_eq!(rt; count_found(&shared, &mut first), HASHES);
-    assert_eq!(rt; count_found(&shared, &mut fourth), HASHES);
-    Ok(())
+// Two passes that met, and how many of their inserts answered false.
+type Met = (u64, Pass, Pass);
+
+// Has two threads insert all hashes, with the last of the passes.
+fn insert_by_two<R: Threads>(
+    rt: &R,
+    filter: &Arc<SeatedBloomFilter, Global>,
+    passes: &mut Vec<Pass>,
+) -> Result<Met, FilterError>
+    requires some { 2 ≤ vec_len passes.old }
+    requires of_filter { All (λ pass. pass.filter ≡ (arc_value filter.now).table) passes.old.items }
+    ensures first { IfOk result (λ met. met.1.filter ≡ (arc_value filter.now).table) }
+    ensures second { IfOk result (λ met. met.2.filter ≡ (arc_value filter.now).table) }
+{
+    let one = start(rt, filter, passes)?;
+    let two = start(rt, filter, passes)?;
+    let (new_of_one, mut first) = one.join(rt);
+    let (new_of_two, mut second) = two.join(rt);
+    filter.meet(&mut first, &mut second);
+    Ok((new_of_one.saturating_add(new_of_two), first, second))
 }
 
-// Two threads insert a hundred hashes each.
-fn found<R: Threads>(rt: &R, alloc: Global, asked: u64) -> Result<(bool, bool), Fail> {
-    let hashes = (spread_from(alloc, 0, 100)?, spread_from(alloc, 500, 600)?);
+// Whether four threads gain as many positions as one thread sets, each by one pass alone, and each
+// pass finds what all inserted after they met.
+fn are_gained_once<R: Threads>(rt: &R, alloc: Global) -> Result<bool, FilterError> {
+    let words = vec![in alloc; 0u64; 64]?;
+    let (filter, mut passes) = SeatedBloomFilter::new(alloc, words, 1, 4)?;
+    let shared = Arc::new(alloc, filter)?;
+    let one = start(rt, &shared, &mut passes)?;
+    let two = start(rt, &shared, &mut passes)?;
+    let (new_of_others, mut third, mut fourth) = insert_by_two(rt, &shared, &mut passes)?;
+    let (new_of_one, mut first) = one.join(rt);
+    let (new_of_two, mut second) = two.join(rt);
+    shared.meet(&mut first, &mut second);
+    shared.meet(&mut first, &mut third);
+    let new = new_of_others
+        .saturating_add(new_of_one)
+        .saturating_add(new_of_two);
+    let by_first = count_found(&shared, &mut first) == HASHES;
+    let by_fourth = count_found(&shared, &mut fourth) == HASHES;
+    Ok(by_first & by_fourth & (new == count_by_one(alloc)?))
+}
+
+#[test]
+fn four_threads_insert_the_same_hashes(rt: HostRuntime) {
+    assert!(rt; matches!(are_gained_once(&rt, rt.alloc()), Ok(true)));
+}
+
+// A hundred hashes each for two threads.
+fn hashes_of(alloc: Global) -> Result<(Vec<u64>, Vec<u64>), FilterError> {
+    let first = spread_from(alloc, 0, 100)?;
+    Ok((first, spread_from(alloc, 500, 600)?))
+}
+
+// Two threads insert their hashes.
+fn found<R: Threads>(rt: &R, alloc: Global, asked: u64) -> Result<(bool, bool), FilterError> {
+    let hashes = hashes_of(alloc)?;
     let words = vec![in alloc; 0u64; 64]?;
     let (filter, mut passes) = SeatedBloomFilter::new(alloc, words, 3, 2)?;
     let Some(second) = passes.pop() else {
@@ -124,13 +149,12 @@ fn found<R: Threads>(rt: &R, alloc: Global, asked: u64) -> Result<(bool, bool), 
     let Some(first) = passes.pop() else {
         unreachable!()
     };
-    Ok(found_by_both(rt, alloc, filter, (first, second), hashes, spread(asked))?)
+    found_by_both(rt, alloc, filter, (first, second), hashes, spread(asked))
 }
 
 #[test]
-fn what_either_of_two_inserted_is_found(rt: HostRuntime) -> Result<(), Fail> {
+fn what_either_of_two_inserted_is_found(rt: HostRuntime) {
     for asked in [0, 99, 500, 599] {
-        assert_eq!(rt; found(&rt, rt.alloc(), asked)?, (true, true));
+        assert!(rt; matches!(found(&rt, rt.alloc(), asked), Ok((true, true))));
     }
-    Ok(())
 }

@@ -1,5 +1,6 @@
 //! Runs of calls whose steps come in the order of a schedule, with the courses that were worked out
 //! by hand. A course is what a run records: which call began, and each step with what it found.
+use crate::telling::tell_named;
 use fastbloom::{Call, End, Event, Record, Step, run};
 use std::alloc::Global;
 
@@ -79,7 +80,7 @@ macro_rules! course {
     };
 }
 
-const COURSES: [Course; 13] = [
+const COURSES: &'static [Course] = &[
     // Both inserts find one of their bits off, so both answer false: inserts aren't single steps.
     // Two steps found their bit off, and two bits were gained.
     course! {
@@ -213,7 +214,7 @@ fn is_taken(alloc: Global, course: &Course) -> bool {
 
 #[test]
 fn calls_in_the_order_of_a_schedule_take_these_courses(rt: HostRuntime) {
-    for course in &COURSES {
-        assert!(rt; is_taken(rt.alloc(), course), "{}", course.name);
+    for course in COURSES {
+        assert!(rt; tell_named(&rt, course.name, is_taken(rt.alloc(), course)));
     }
 }

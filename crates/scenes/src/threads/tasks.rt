@@ -94,6 +94,20 @@ fn is_always_flipped(
     Ok(is_right)
 }
 
+// How many bits are set in the words that are taken out.
+fn count_taken(alloc: Global, filter: &AtomicBloomFilter) -> Result<u64, FilterError> {
+    let words = filter.take_words(alloc)?;
+    Ok(BloomFilter::from_vec(words)?.hashes(1).count_ones() as u64)
+}
+
+// Whether the filter's data have the zero key and its shape.
+fn has_data(alloc: Global, filter: &AtomicBloomFilter) -> Result<bool, FilterError> {
+    let form = filter.to_data(alloc)?;
+    let has_no_key = (form.k0 == 0) & (form.k1 == 0);
+    let other = AtomicBloomFilter::from_data(alloc, form)?;
+    Ok(has_no_key & other.same_shape(filter))
+}
+
 // How many inserts of a turn answered false, less the bits that it took out, and whether its
 // answers were right.
 fn turn(
@@ -113,17 +127,9 @@ fn turn(
             call_by(alloc, filter, spread(i));
             Ok((0, true))
         }
-        Act::Take => {
-            let taken = BloomFilter::from_vec(filter.take_words(alloc)?)?.hashes(1);
-            Ok((0u64.wrapping_sub(taken.count_ones() as u64), true))
-        }
+        Act::Take => Ok((0u64.wrapping_sub(count_taken(alloc, filter)?), true)),
         Act::Clone => Ok((0, filter.try_clone(alloc)?.same_shape(filter))),
-        Act::Data => {
-            let form = filter.to_data(alloc)?;
-            let has_no_key = (form.k0 == 0) & (form.k1 == 0);
-            let other = AtomicBloomFilter::from_data(alloc, form)?;
-            Ok((0, has_no_key & other.same_shape(filter)))
-        }
+        Act::Data => Ok((0, has_data(alloc, filter)?)),
         Act::Flip(position) => Ok((0, is_always_flipped(alloc, filter, position)?)),
     }
 }

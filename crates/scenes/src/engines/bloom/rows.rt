@@ -9,80 +9,75 @@ type Ended = Result<(), Fault>;
 
 const WELL: Ended = Ok(());
 
-const USAGE: Ended = Err(Fault::Usage);
-
 const BAD: Ended = Err(Fault::Line(1));
 
-/// Arguments with a space between two, and input; what is written, and how the run ends. The end of
+/// A run over a filter.
+pub(super) type Row = (usize, u32, &'static str, &'static str, Ended);
+
+/// A run that fails.
+pub(super) type Failing = (&'static str, Reading, Writing, &'static str, Fault, u64);
+
+/// The numbers of words and of hashes, and input; what is written, and how the run ends. The end of
 /// the input ends a line without its own.
-pub(super) const RUNS: [(&str, &str, &str, Ended); 32] = [
+pub(super) const RUNS: &'static [Row] = &[
     (
-        "1 3",
+        1,
+        3,
         "i 1\nc 1\nw\n",
         "false\ntrue\n0000000100100001\n",
         WELL,
     ),
     (
-        "1 2",
+        1,
+        2,
         "i 18446744073709551615\nw\n",
         "false\n8000080000000000\n",
         WELL,
     ),
-    ("1 3", "i 1\nx\n", "false\n", Err(Fault::Line(2))),
-    ("0 3", "", "", USAGE),
-    ("1", "", "", USAGE),
-    ("1048577 1", "", "", USAGE),
+    (1, 3, "i 1\nx\n", "false\n", Err(Fault::Line(2))),
     (
-        "2 3",
+        2,
+        3,
         "i 1\nw\n",
         "false\n0000010000000001\n0000000000000001\n",
         WELL,
     ),
-    ("1 1", "", "", WELL),
+    (1, 1, "", "", WELL),
     (
-        "1 3",
+        1,
+        3,
         "i 1\nz\nc 1\nw\n",
         "false\nfalse\n0000000000000000\n",
         WELL,
     ),
-    ("1 2", "i 18446744073709551616\n", "", BAD),
-    ("1 2", "c 00000000000000000001\n", "false\n", WELL),
-    ("1 2", "c 000000000000000000001\n", "", BAD),
-    ("1 2", "i  1\n", "", BAD),
-    ("1 2", "i 1\r\n", "", BAD),
-    ("1 2", "\n", "", BAD),
-    ("1 3", "i 1\nc 1", "false\ntrue\n", WELL),
-    ("", "", "", USAGE),
-    ("1 1 1", "", "", USAGE),
-    ("1 4294967296", "", "", USAGE),
-    ("x 3", "", "", USAGE),
+    (1, 2, "i 18446744073709551616\n", "", BAD),
+    (1, 2, "c 00000000000000000001\n", "false\n", WELL),
+    (1, 2, "c 000000000000000000001\n", "", BAD),
+    (1, 2, "i  1\n", "", BAD),
+    (1, 2, "i 1\r\n", "", BAD),
+    (1, 2, "\n", "", BAD),
+    (1, 3, "i 1\nc 1", "false\ntrue\n", WELL),
+    (1, 0, "i 1\nw\n", "false\n0000000000000001\n", WELL),
     (
-        "00000000000000000001 3",
-        "i 1\nw\n",
-        "false\n0000000100100001\n",
-        WELL,
-    ),
-    ("000000000000000000001 3", "", "", USAGE),
-    ("+1 3", "", "", USAGE),
-    ("1 0", "i 1\nw\n", "false\n0000000000000001\n", WELL),
-    (
-        "1 2",
+        1,
+        2,
         "i 1\nc 1\ni 18446744073709551615\nw\nc 00000000000000000001\nw",
         "false\ntrue\nfalse\n8000080000100001\ntrue\n8000080000100001\n",
         WELL,
     ),
     (
-        "1 2",
+        1,
+        2,
         "i 1\nc 1\nw\nz\nc 1\nx\n",
         "false\ntrue\n0000000000100001\nfalse\n",
         Err(Fault::Line(6)),
     ),
-    ("1 2", "i 1\nc 1\nw\n", ALL, WELL),
-    ("1 2", "", "", WELL),
-    ("1 2", "i 1\n", ONE, WELL),
-    ("1 2", "i 1", ONE, WELL),
-    ("1 2", "i 1\nc 1", TWO, WELL),
-    ("1 2", "i 1\nc", ONE, Err(Fault::Line(2))),
+    (1, 2, "i 1\nc 1\nw\n", ALL, WELL),
+    (1, 2, "", "", WELL),
+    (1, 2, "i 1\n", ONE, WELL),
+    (1, 2, "i 1", ONE, WELL),
+    (1, 2, "i 1\nc 1", TWO, WELL),
+    (1, 2, "i 1\nc", ONE, Err(Fault::Line(2))),
 ];
 
 // What the first lines of a session are answered, and all three.
@@ -101,7 +96,7 @@ const WORD: u64 = 0x100001;
 
 /// Input, and how it is read and the output is taken; what is written of it, how the run ends, and
 /// the filter's word. The bytes before a read that fails are answered up to the last whole line.
-pub(super) const FAULTS: [(&str, Reading, Writing, &str, Fault, u64); 16] = [
+pub(super) const FAULTS: &'static [Failing] = &[
     ("", FAILING, ROOMY, "", INPUT, 0),
     ("i", FAILING, ROOMY, "", INPUT, 0),
     ("i ", FAILING, ROOMY, "", INPUT, 0),
@@ -122,7 +117,7 @@ pub(super) const FAULTS: [(&str, Reading, Writing, &str, Fault, u64); 16] = [
 ];
 
 /// What each fault tells, and its status.
-pub(super) const TEXTS: [(Fault, &str, u8); 6] = [
+pub(super) const TEXTS: &'static [(Fault, &'static str, u8)] = &[
     (Fault::Usage, "usage: bloom WORDS HASHES", 2),
     (Fault::Line(1), "line 1: bad command", 2),
     (

@@ -22,6 +22,9 @@ pub(super) struct Run {
     pub(super) refusal: GrowingError,
 }
 
+/// A run, what it writes, and how it ends.
+pub(super) type Row = (Run, &'static str, Result<Total, Fault>);
+
 /// Nothing is odd.
 pub(super) const PLAIN: Run = Run {
     inputs: &["ab\nc\nab\n\nd"],
@@ -62,8 +65,8 @@ const LATE: Run = Run {
     ..PLAIN
 };
 
-/// A run, what it writes, and how it ends.
-pub(super) const RUNS: [(Run, &str, Result<Total, Fault>); 21] = [
+/// Runs over a plain filter.
+pub(super) const RUNS: &'static [Row] = &[
     (PLAIN, OUTPUT, ALL),
     (
         Run {
@@ -240,7 +243,7 @@ pub(super) const RUNS: [(Run, &str, Result<Total, Fault>); 21] = [
 ];
 
 /// The inputs of readers that fail at their end, and what is written: whole lines that are new.
-pub(super) const READS: [(&'static [&'static str], &str); 12] = [
+pub(super) const READS: &'static [(&'static [&'static str], &'static str)] = &[
     (&[""], ""),
     (&["a"], ""),
     (&["ab"], ""),
@@ -256,7 +259,7 @@ pub(super) const READS: [(&'static [&'static str], &str); 12] = [
 ];
 
 /// What each fault tells.
-pub(super) const TEXTS: [(Fault, &str); 6] = [
+pub(super) const TEXTS: &'static [(Fault, &'static str)] = &[
     (Fault::TooLong(7), "line 7 is too long"),
     (Fault::Memory, "out of memory"),
     (Fault::Full, "the filter can take no more lines"),

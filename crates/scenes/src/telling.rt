@@ -1,0 +1,55 @@
+//! How a test tells which row of its table is wrong, or how its calls ended. A test that formats a
+//! message costs three times the proof of one that calls this.
+use fastbloom::FilterError;
+use std::alloc::Global;
+use std::fmt::Display;
+
+/// Whether a row is right. One that isn't is told.
+pub(crate) fn tell_row(rt: &HostRuntime, row: usize, is_right: bool) -> bool {
+    if !is_right {
+        let _told = eprintln!(rt; "row {row}");
+    }
+    is_right
+}
+
+/// Whether what has this name is right. It is told if it isn't.
+pub(crate) fn tell_named(rt: &HostRuntime, name: &str, is_right: bool) -> bool {
+    if !is_right {
+        let _told = eprintln!(rt; "{name}");
+    }
+    is_right
+}
+
+/// Whether a value is printed as this text.
+pub(crate) fn has_text<T: Display>(alloc: Global, value: &T, text: &str) -> bool {
+    match value.to_string(alloc) {
+        Ok(found) => found.as_str() == text,
+        Err(_refused) => false,
+    }
+}
+
+/// The end of a call that gave another result than its full one.
+pub(crate) const WRONG: &'static str = "wrong";
+
+/// The end of calls that ask for no memory.
+pub(crate) const WITHOUT_MEMORY: &'static str = "without memory";
+
+/// The end of a test that is itself refused memory.
+pub(crate) const NO_ROOM: &'static str = "no room for the test";
+
+/// Prints a call and how it ended, which bin/starve compares: whether it isn't wrong.
+pub(crate) fn say(rt: &HostRuntime, call: &str, ended: &str) -> bool {
+    let printed = println!(rt; "{call}: {ended}");
+    printed.is_ok() & (ended != WRONG)
+}
+
+/// How a call ended: with the full result, with another, or with a refusal.
+pub(crate) fn word_of(ended: &Result<bool, FilterError>) -> &'static str {
+    match ended {
+        Ok(true) => "whole",
+        Ok(false) => WRONG,
+        Err(FilterError::Memory) => "Memory",
+        Err(FilterError::Worker) => "Worker",
+        Err(_refusal) => WRONG,
+    }
+}
