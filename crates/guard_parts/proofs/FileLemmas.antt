@@ -1,22 +1,25 @@
 -- Which filters may be found in a file that was read or replaced.
-use Rattle.std.proofs.Common.{◌≡◌, ◌⊎◌, ◌≤◌, ℕ, List, Some, inl, inr, ⊎_elim, subst}
+use Rattle.std.proofs.Common.{◌≡◌, ◌⊎◌, ◌≤◌, ◌∙◌, ℕ, List, Some, inl, inr, ⊎_elim, ap, subst}
 use Rattle.bloom_plain.specs.Data.{AnswerAlike, DefaultFilter}
 use Rattle.bloom_plain.specs.File.{FileLaw, IsFileOf}
-use Rattle.guard_parts.specs.Filters.{HadSince, MayHave, Passes, Replaces}
+use Rattle.guard_parts.specs.Filters.{HadSince, MayHave, MayTell, Passes, Replaces}
 use Rattle.guard_parts.specs.Folders.{Content, Sight}
+use Rattle.guard_parts.specs.Rooms.{filter_part, room_in, room_part}
 use Rattle.guard_parts.specs.declared.folder.Name.TheVariants.{Standing}
+use Rattle.guard_parts.specs.declared.room.Room.{Room}
 
 -- a filter of a file whose content is that of another filter
 alike-content : FileLaw → (bytes other_bytes : List ℕ) (filter other : DefaultFilter)
-    → IsFileOf bytes filter → IsFileOf other_bytes other → Some other_bytes ≡ Some bytes
+    → IsFileOf (filter_part bytes) filter → IsFileOf (filter_part other_bytes) other
+    → Some other_bytes ≡ Some bytes
     → AnswerAlike filter other
 alike-content law bytes other_bytes filter other is_file other_is same =
     let e : other_bytes ≡ bytes = cc in
-    let P : List ℕ → Type 0 = λ b. IsFileOf b other in
-    law bytes filter other is_file (subst P e other_is)
+    let P : List ℕ → Type 0 = λ b. IsFileOf (filter_part b) other in
+    law (filter_part bytes) filter other is_file (subst P e other_is)
 
-module _ (law : FileLaw) (bytes : List ℕ) (filter : DefaultFilter) (is_file : IsFileOf bytes filter)
-  where
+module _ (law : FileLaw) (bytes : List ℕ) (filter : DefaultFilter)
+    (is_file : IsFileOf (filter_part bytes) filter) where
     -- what may be found after the file may have been replaced
     pub saved-now : (old new : Sight) (other : DefaultFilter) → Replaces old new (Some bytes)
         → MayHave new other → AnswerAlike filter other ⊎ MayHave old other
@@ -43,6 +46,32 @@ module _ (law : FileLaw) (bytes : List ℕ) (filter : DefaultFilter) (is_file : 
     saved-alone new other only has =
         alike-content law bytes has.bytes filter other is_file has.is_file.is_file
         (only (Some has.bytes) has.found)
+
+-- the room of a file whose content tells this one
+told-content : (bytes other_bytes : List ℕ) (room other : Room)
+    → room_in (room_part bytes) ≡ room → other ≡ room_in (room_part other_bytes)
+    → Some other_bytes ≡ Some bytes → other ≡ room
+told-content bytes other_bytes room other told other_told same =
+    let e : other_bytes ≡ bytes = cc in
+    other_told ∙ ap (λ b. room_in (room_part b)) e ∙ told
+
+module _ (bytes : List ℕ) (room : Room) (told : room_in (room_part bytes) ≡ room) where
+  -- what is told after the file was replaced
+  pub told-alone : (new : Sight) (other : Room)
+      → ((c : Content) → new.may_find Standing c → c ≡ Some bytes) → MayTell new other
+      → other ≡ room
+  told-alone new other only tells =
+      told-content bytes tells.bytes room other told tells.told
+      (only (Some tells.bytes) tells.found)
+
+  -- what may be told after the file may have been replaced
+  pub told-now : (old new : Sight) (other : Room) → Replaces old new (Some bytes)
+      → MayTell new other → (other ≡ room) ⊎ MayTell old other
+  told-now old new other replaces tells =
+      ⊎_elim
+      (λ before. inr (record { bytes = tells.bytes; found = before; told = tells.told }))
+      (λ is. inl (told-content bytes tells.bytes room other told tells.told is))
+      (replaces.now (Some tells.bytes) tells.found)
 
 -- what may be found after the file stayed
 pub read-now : (old new : Sight) (filter : DefaultFilter) → Passes old new → MayHave new filter

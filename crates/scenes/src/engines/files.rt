@@ -4,13 +4,29 @@ use bloom_plain::file::FileError;
 use bloom_plain::{BloomFilter, FilterError};
 use guard_parts::{
     FilterFault, FilterFile, Folder, FormFault, HostFault, HostFolder, Kept, MemoryFault,
-    MemoryFolder, MemorySlot, Name, Paths, Unknown,
+    MemoryFolder, MemorySlot, Name, Paths, Room, Unknown,
 };
 use std::fs;
 use std::test::Fail;
 
 // The calls of a save in their order: remove, write, sync, rename, sync of the folder.
 const CALLS: u64 = 5;
+
+// The room of each filter, and its bytes at the end of a file, as FILE tells numbers.
+const ROOM: Room = Room {
+    total: 10,
+    taken: 3,
+};
+const ROOM_BYTES: [u8; 24] = [
+    10, 0, 0, 0, 0, 0, 0, 0, 3, 0, 0, 0, 0, 0, 0, 0, 13, 0, 0, 0, 0, 0, 0, 0,
+];
+
+// The file of a filter, with its room.
+fn file_of(rt: &HostRuntime, filter: &BloomFilter) -> Result<Vec<u8>, Fail> {
+    let mut bytes = filter.to_bytes(rt.alloc())?;
+    bytes.extend_from_slice(&ROOM_BYTES)?;
+    Ok(bytes)
+}
 
 // A filter of 128 bits and two hashes in which this hash was inserted.
 fn filter_with(rt: &HostRuntime, hash: u64) -> Result<BloomFilter, Fail> {
@@ -42,7 +58,7 @@ fn leaves_one(slot: &MemorySlot, old: &[u8], new: &[u8]) -> bool {
 // A folder whose file is that of a filter.
 fn folder_with(rt: &HostRuntime, filter: &BloomFilter) -> Result<MemoryFolder, Fail> {
     let mut file = FilterFile::new(rt.alloc(), MemoryFolder::new(rt.alloc()), false);
-    match file.save(filter) {
+    match file.save(filter, ROOM) {
         Ok(()) => Ok(file.into_folder()),
         Err(_) => Err(FilterError::Memory.into()),
     }
@@ -53,14 +69,14 @@ fn a_save_that_stops_at_any_call_leaves_the_old_filter_or_the_new_one(
     rt: HostRuntime,
 ) -> Result<(), Fail> {
     let (old, new) = (filter_with(&rt, 1)?, filter_with(&rt, 2)?);
-    let (old_bytes, new_bytes) = (old.to_bytes(rt.alloc())?, new.to_bytes(rt.alloc())?);
+    let (old_bytes, new_bytes) = (file_of(&rt, &old)?, file_of(&rt, &new)?);
     'steps: for step in 0..CALLS + 1 {
         // One call fails, or each from this one on.
         'lengths: for failures in [1u64, 100] {
             let mut folder = folder_with(&rt, &old)?;
             folder.fail_after(step, failures);
             let mut file = FilterFile::new(rt.alloc(), folder, false);
-            let saved = file.save(&new).is_ok();
+            let saved = file.save(&new, ROOM).is_ok();
             // A removal that fails may have met no file.
             let wanted = step == CALLS || (step == 0 && failures == 1);
             assert!(rt; saved == wanted);
@@ -83,10 +99,17 @@ fn a_filter_that_was_saved_is_found_again(rt: HostRuntime) -> Result<(), Fail> {
         _ => assert!(rt; false),
     }
     let (old, new) = (filter_with(&rt, 1)?, filter_with(&rt, 2)?);
-    assert!(rt; file.save(&old).is_ok());
-    assert!(rt; file.save(&new).is_ok());
+    assert!(rt; file.save(&old, ROOM).is_ok());
+    let fuller = Room {
+        total: 10,
+        taken: 4,
+    };
+    assert!(rt; file.save(&new, fuller).is_ok());
     match file.load() {
-        Ok(Some(found)) => assert!(rt; found.as_slice() == new.as_slice()),
+        Ok(Some((found, room))) => {
+            assert!(rt; found.as_slice() == new.as_slice());
+            assert!(rt; room == fuller);
+        }
         _ => assert!(rt; false),
     }
     Ok(())
@@ -100,7 +123,7 @@ fn the_filter_of_another_store_is_refused_until_one_is_saved(rt: HostRuntime) ->
         Err(fault) => assert!(rt; fault == FilterFault::OtherStore),
         Ok(_) => assert!(rt; false),
     }
-    assert!(rt; file.save(&filter_with(&rt, 2)?).is_ok());
+    assert!(rt; file.save(&filter_with(&rt, 2)?, ROOM).is_ok());
     match file.load() {
         Ok(Some(_)) => {}
         _ => assert!(rt; false),
@@ -150,13 +173,20 @@ fn zero(bytes: &mut Vec<u8>, from: usize, to: usize) {
 #[test]
 fn a_file_that_no_guard_left_is_refused(rt: HostRuntime) -> Result<(), Fail> {
     let filter = filter_with(&rt, 1)?;
-    let bytes = filter.to_bytes(rt.alloc())?;
+    let bytes = file_of(&rt, &filter)?;
     assert!(rt; fault_of(&rt, &bytes)?.is_none());
-    let mut short = filter.to_bytes(rt.alloc())?;
-    short.truncate(79);
+    let mut short = file_of(&rt, &filter)?;
+    short.truncate(103);
     assert!(rt; fault_of(&rt, &short)? == Some(FormFault::Form(FileError::Cut)));
+    // The file of the filter alone has no room.
+    let alone = filter.to_bytes(rt.alloc())?;
+    assert!(rt; fault_of(&rt, &alone)? == Some(FormFault::Form(FileError::Cut)));
+    // The number of keys that came was zeroed, and the sum stayed.
+    let mut emptied = file_of(&rt, &filter)?;
+    zero(&mut emptied, 88, 96);
+    assert!(rt; fault_of(&rt, &emptied)? == Some(FormFault::Room));
     // A word was zeroed, and the seal stayed.
-    let mut zeroed = filter.to_bytes(rt.alloc())?;
+    let mut zeroed = file_of(&rt, &filter)?;
     zero(&mut zeroed, 64, 80);
     assert!(rt; fault_of(&rt, &zeroed)? == Some(FormFault::Form(FileError::Seal)));
     // The seal was zeroed too.
@@ -188,13 +218,16 @@ fn a_filter_is_kept_on_this_machine(rt: HostRuntime) -> Result<(), Fail> {
         Ok(None) => {}
         _ => assert!(rt; false),
     }
-    assert!(rt; file.save(&filter_with(&rt, 2)?).is_ok());
-    assert!(rt; file.save(&filter).is_ok());
+    assert!(rt; file.save(&filter_with(&rt, 2)?, ROOM).is_ok());
+    assert!(rt; file.save(&filter, ROOM).is_ok());
     match file.load() {
-        Ok(Some(found)) => assert!(rt; found.as_slice() == filter.as_slice()),
+        Ok(Some((found, room))) => {
+            assert!(rt; found.as_slice() == filter.as_slice());
+            assert!(rt; room == ROOM);
+        }
         _ => assert!(rt; false),
     }
-    assert!(rt; fs::metadata(&rt, "scenario.filter")?.len() == 80);
+    assert!(rt; fs::metadata(&rt, "scenario.filter")?.len() == 104);
     assert!(rt; !fs::exists(&rt, "scenario.filter.new")?);
     // A folder in its place is no file, and where the folder is missing no name can be synced.
     match host_file(&rt, ".", ".").load() {
@@ -203,7 +236,7 @@ fn a_filter_is_kept_on_this_machine(rt: HostRuntime) -> Result<(), Fail> {
     }
     assert!(rt;
         host_file(&rt, "scenario.filter", "scenario.none")
-            .save(&filter)
+            .save(&filter, ROOM)
             .is_err()
     );
     fs::remove_file(&rt, "scenario.filter")?;

@@ -113,7 +113,7 @@ fn a_store_is_asked_once_for_each_key_that_the_filter_has(rt: HostRuntime) -> Re
         look_ups: &look_ups,
     };
     let kept = FilterFile::new(rt.alloc(), MemoryFolder::new(rt.alloc()), false);
-    let opened = Guard::open(rt.alloc(), store, kept, Rate::new(1, 1000)?, 10);
+    let opened = Guard::open(rt.alloc(), store, kept, Rate::new(1, 1000)?, 0, 10);
     let Ok((mut guard, _origin)) = opened else {
         return Err(FilterError::Memory.into());
     };

@@ -1,0 +1,35 @@
+-- The bytes behind a filter's file that tell its room, written and read.
+use Rattle.std.proofs.Common.{◌≡◌, ◌<◌, ◌^◌, ◌-◌, ◌+◌, ℕ, List, ◌++◌, length, length-append, take, drop, refl, sym, ap, ◌∙◌, arith}
+use Rattle.std.proofs.lemmas.List.{take_at, drop_at}
+use Rattle.std.proofs.lemmas.Nat.{from_le_bytes-to_le_bytes_8}
+use Rattle.guard_parts.specs.Rooms.{filter_part, room_bytes, room_in, room_part}
+use Rattle.guard_parts.specs.declared.room.Room.{Room}
+
+-- how many bytes lie before them
+before : (file : List ℕ) (room : Room) → length file ≡ length (file ++ room_bytes room) - 24
+before file room =
+    let many : length (room_bytes room) ≡ 24 = refl in
+    omega (arith, length-append file (room_bytes room), many)
+
+-- what lies before them is the filter's file
+pub filter-part : (file : List ℕ) (room : Room) → filter_part (file ++ room_bytes room) ≡ file
+filter-part file room =
+    take_at file (room_bytes room) (length (file ++ room_bytes room) - 24) (before file room)
+
+-- and the others are they
+room-part : (file : List ℕ) (room : Room) → room_part (file ++ room_bytes room) ≡ room_bytes room
+room-part file room =
+    drop_at file (room_bytes room) (length (file ++ room_bytes room) - 24) (before file room)
+
+-- they tell the room
+room-in : (room : Room) → room.total < 2 ^ 64 → room.taken < 2 ^ 64
+    → room_in (room_bytes room) ≡ room
+room-in room total taken = λ i. record {
+  total = from_le_bytes-to_le_bytes_8 room.total total i;
+  taken = from_le_bytes-to_le_bytes_8 room.taken taken i;
+}
+
+-- so does the file
+pub room-told : (file : List ℕ) (room : Room) → room.total < 2 ^ 64 → room.taken < 2 ^ 64
+    → room_in (room_part (file ++ room_bytes room)) ≡ room
+room-told file room total taken = ap room_in (room-part file room) ∙ room-in room total taken
