@@ -1,7 +1,7 @@
 -- How the keys of a filter are counted, batch after batch.
 use Rattle.std.proofs.Common.{◌≡◌, ◌+◌, ◌-◌, ◌^◌, ◌<◌, ℕ, min, inl, inr, refl, ap, subst, sym, ◌∙◌, arith}
 use Rattle.guard_parts.specs.declared.room.Room.{Room}
-use Rattle.guard_engine.specs.Room.{AllTell, CountsKeys, more_keys}
+use Rattle.guard_engine.specs.Room.{AgainLaw, CountsKeys, more_keys}
 
 -- no key came
 pub CountsKeys-nil : {L : Type 0} {may_tell : L → Room → Type 0} {is_known : L → Type 0} {place : L}
@@ -46,3 +46,7 @@ module _ {L : Type 0} {may_tell : L → Room → Type 0} {is_known : L → Type 
         ]
     ];
   }
+
+-- as many keys as a filter had when it was made fit in again
+pub again_law : AgainLaw
+again_law keys spare many coming small fits = inr (omega (arith, small, fits))

@@ -1,5 +1,5 @@
 -- For how many keys a guard's filter was made, and how many came into it.
-use Rattle.std.specs.Prelude.{◌≡◌, ◌⊎◌, ◌≤◌, ◌+◌, ◌*◌, ◌-◌, ◌^◌, ℕ, Bool, true, false, min}
+use Rattle.std.specs.Prelude.{◌≡◌, ◌⊎◌, ◌≤◌, ◌<◌, ◌+◌, ◌*◌, ◌-◌, ◌^◌, ℕ, Bool, true, false, min}
 use Rattle.guard_parts.specs.declared.room.Room.{Room}
 
 -- a filter has room for this many keys more: with them it has at most as many as it was made for.
@@ -33,3 +33,9 @@ pub record CountsKeys {L : Type 0} (may_tell : L → Room → Type 0) (is_known 
     (many : ℕ) (place later : L) (old new : Room) : Type 0 where
   pub counted : new ≡ more_keys old many
   pub told : ((many ≡ 0) × (later ≡ place)) ⊎ (is_known later → AllTell (may_tell later) new)
+
+-- a filter that was made anew has room for as many keys again as it had, and for twice those to
+-- spare
+abbrev pub AgainLaw : Type 0
+AgainLaw = (keys spare many coming : ℕ) → 2 * (keys + spare) < 2 ^ 64
+    → many + coming ≤ keys + 2 * spare → HasRoom coming (more_keys (room_for keys spare) many)

@@ -7,6 +7,7 @@ mod counts;
 mod desk;
 mod guard;
 mod keys;
+pub mod laws;
 mod line;
 mod on_demand;
 mod rates;

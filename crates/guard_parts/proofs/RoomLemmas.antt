@@ -1,7 +1,9 @@
 -- The bytes behind a filter's file that tell its room, written and read.
-use Rattle.std.proofs.Common.{◌≡◌, ◌<◌, ◌^◌, ◌-◌, ◌+◌, ℕ, List, ◌++◌, length, length-append, take, drop, refl, sym, ap, ◌∙◌, arith}
+use Rattle.std.proofs.Common.{◌≡◌, ◌<◌, ◌^◌, ◌-◌, ℕ, List, ◌++◌, length, length-append, refl, sym, ap, subst, ◌∙◌, arith}
 use Rattle.std.proofs.lemmas.List.{take_at, drop_at}
 use Rattle.std.proofs.lemmas.Nat.{from_le_bytes-to_le_bytes_8}
+use Rattle.bloom_plain.specs.Data.{DefaultFilter}
+use Rattle.bloom_plain.specs.File.{IsFileOf}
 use Rattle.guard_parts.specs.Rooms.{filter_part, room_bytes, room_in, room_part}
 use Rattle.guard_parts.specs.declared.room.Room.{Room}
 
@@ -29,7 +31,16 @@ room-in room total taken = λ i. record {
   taken = from_le_bytes-to_le_bytes_8 room.taken taken i;
 }
 
--- so does the file
-pub room-told : (file : List ℕ) (room : Room) → room.total < 2 ^ 64 → room.taken < 2 ^ 64
-    → room_in (room_part (file ++ room_bytes room)) ≡ room
-room-told file room total taken = ap room_in (room-part file room) ∙ room-in room total taken
+module _ (file bytes : List ℕ) (room : Room) (are : bytes ≡ file ++ room_bytes room) where
+  -- a file of a filter has the room behind it
+  pub file-behind : (filter : DefaultFilter) → IsFileOf file filter
+      → IsFileOf (filter_part bytes) filter
+  file-behind filter is_file =
+      subst (λ f. IsFileOf f filter) (sym (ap filter_part are ∙ filter-part file room)) is_file
+
+  -- it tells the room
+  pub told-behind : room.total < 2 ^ 64 → room.taken < 2 ^ 64
+      → room_in (room_part bytes) ≡ room
+  told-behind total taken =
+      ap (λ b. room_in (room_part b)) are ∙ ap room_in (room-part file room)
+      ∙ room-in room total taken

@@ -185,6 +185,7 @@ fn file_with(alloc: Global, filter: &BloomFilter, room: Room) -> Result<Vec<u8>,
     ensures file { IfOk result (λ bytes. IsFileOf (filter_part bytes.items) filter.now) }
     ensures room { IfOk result (λ bytes. room_in (room_part bytes.items) ≡ room) }
 {
+    room.is_narrow();
     let mut bytes = match filter.to_bytes(alloc) {
         Ok(bytes) => bytes,
         Err(error) => return Err(error),
