@@ -75,9 +75,9 @@ pub record IsMadeOf (rate : Rate) (spare : ℕ) (entries : Entries) (filter : De
   pub inserts : InsertsAll empty (map key_hash keys) filter
   pub counted : room ≡ room_for (length keys) spare
 
--- why there is no filter: one for twice these keys and those to spare is refused with this error. The
--- store is gone by then, so a store that was left is meant; provided its medium returned what was
--- written, each key of the store is one of these
+-- why there is no filter: one for twice these keys and those to spare is refused with this error.
+-- The store is gone by then, so a store that was left is meant; provided its medium returned what
+-- was written, each key of the store is one of these
 pub record LacksFilter {T : Type 0} (rate : Rate) (spare : ℕ) (is_known : T → Type 0)
     (entries : Entries) (error : FilterError) : Type 0 where
   pub left : T
