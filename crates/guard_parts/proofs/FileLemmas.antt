@@ -1,8 +1,8 @@
 -- Which filters may be found in a file that was read or replaced.
-use Rattle.std.proofs.Common.{◌≡◌, ◌⊎◌, ◌≤◌, ◌∙◌, ℕ, List, Some, inl, inr, ⊎_elim, ap, subst}
+use Rattle.std.proofs.Common.{◌≡◌, ◌⊎◌, ◌≤◌, ◌∙◌, ℕ, List, Some, inl, inr, ⊎_elim, ap, subst, sym}
 use Rattle.bloom_plain.specs.Data.{AnswerAlike, DefaultFilter}
 use Rattle.bloom_plain.specs.File.{FileLaw, IsFileOf}
-use Rattle.guard_parts.specs.Filters.{HadSince, MayHave, MayTell, Passes, Replaces}
+use Rattle.guard_parts.specs.Filters.{HadSince, IsSealedFile, MayHave, MayTell, Passes, Replaces}
 use Rattle.guard_parts.specs.Folders.{Content, Sight}
 use Rattle.guard_parts.specs.Rooms.{filter_part, room_in, room_part}
 use Rattle.guard_parts.specs.declared.folder.Name.TheVariants.{Standing}
@@ -72,6 +72,26 @@ module _ (bytes : List ℕ) (room : Room) (told : room_in (room_part bytes) ≡ 
       (λ before. inr (record { bytes = tells.bytes; found = before; told = tells.told }))
       (λ is. inl (told-content bytes tells.bytes room other told tells.told is))
       (replaces.now (Some tells.bytes) tells.found)
+
+-- a file that was read is one that may be found
+module _ (s : Sight) (items read : List ℕ) (at : Some items ≡ s.now Standing)
+    (there : s.may_find Standing (s.now Standing)) (same : read ≡ items) where
+  -- so may its filter
+  pub may-have : (filter : DefaultFilter) → IsSealedFile (filter_part read) filter
+      → MayHave s filter
+  may-have filter is_file = record {
+    bytes = items;
+    found = subst (s.may_find Standing) (sym at) there;
+    is_file = subst (λ b. IsSealedFile (filter_part b) filter) same is_file;
+  }
+
+  -- and its room may be told
+  pub may-tell : (room : Room) → room ≡ room_in (room_part read) → MayTell s room
+  may-tell room told = record {
+    bytes = items;
+    found = subst (s.may_find Standing) (sym at) there;
+    told = told ∙ ap (λ b. room_in (room_part b)) same;
+  }
 
 -- what may be found after the file stayed
 pub read-now : (old new : Sight) (filter : DefaultFilter) → Passes old new → MayHave new filter

@@ -1,5 +1,5 @@
 -- What a load finds by a name, and why nothing: cases that hold, and near ones that don't.
-use Rattle.std.proofs.Common.{◌≡◌, ◌⊎◌, inl, inr, ℕ, true, false, List, [], Some, None, refl, ap, sym, ◌∙◌}
+use Rattle.std.proofs.Common.{◌≡◌, ◌⊎◌, inl, inr, ℕ, true, false, List, [], Some, None, refl, ap, sym, ◌∙◌, arith}
 use Rattle.bloom_plain.specs.Data.{DefaultFilter}
 use Rattle.bloom_plain.specs.declared.file.error.FileError.TheVariants.{Cut}
 use Rattle.bloom_plain.specs.FileRefusals.{file_refusal}
@@ -35,7 +35,9 @@ found-other bytes filter room is = let e = is.0 in cc
 -- another room isn't found
 found-room : (filter : DefaultFilter)
     → IsFoundIn false (Some []) (Some (filter, record { total = 0; taken = 1 })) → ⊥
-found-room filter is = let one : 1 ≡ 0 = ap (λ r. r.taken) is.2 in cc
+found-room filter is =
+    let one : 1 ≡ 0 = ap (λ (r : Room). r.taken) is.2 in
+    absurd (omega (arith, one))
 
 -- a file that is another store's is told as that
 fault-other : IsFaultIn {E = ℕ} true (Some []) faults.OtherStore

@@ -1,11 +1,20 @@
 -- The bytes behind a filter's file that tell its room, written and read.
-use Rattle.std.proofs.Common.{◌≡◌, ◌<◌, ◌^◌, ◌-◌, ℕ, List, ◌++◌, length, length-append, refl, sym, ap, subst, ◌∙◌, arith}
+use Rattle.std.proofs.Common.{◌≡◌, ◌<◌, ◌^◌, ◌-◌, ℕ, List, ◌++◌, length, length-append, refl, sym, ap, subst, ◌∙◌, append_assoc, arith}
 use Rattle.std.proofs.lemmas.List.{take_at, drop_at}
 use Rattle.std.proofs.lemmas.Nat.{from_le_bytes-to_le_bytes_8}
 use Rattle.bloom_plain.specs.Data.{DefaultFilter}
 use Rattle.bloom_plain.specs.File.{IsFileOf}
 use Rattle.guard_parts.specs.Rooms.{filter_part, room_bytes, room_in, room_part}
 use Rattle.guard_parts.specs.declared.room.Room.{Room}
+
+-- three texts were put behind another, one by one
+pub three-behind : (a x y z ax axy all : List ℕ) {first second third : List ℕ} → ax ≡ a ++ x
+    → axy ≡ ax ++ y → all ≡ axy ++ z → x ≡ first → y ≡ second → z ≡ third
+    → all ≡ a ++ (first ++ (second ++ third))
+three-behind a x y z ax axy all is then last one two three =
+    last ∙ ap (λ l. l ++ z) (then ∙ ap (λ l. l ++ y) is)
+    ∙ append_assoc (a ++ x) y z ∙ append_assoc a x (y ++ z)
+    ∙ (λ i. a ++ (one i ++ (two i ++ three i)))
 
 -- how many bytes lie before them
 before : (file : List ℕ) (room : Room) → length file ≡ length (file ++ room_bytes room) - 24
