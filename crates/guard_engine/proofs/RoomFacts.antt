@@ -1,5 +1,6 @@
 -- Filters that have room for more keys, and near ones that don't; and how keys are counted.
-use Rattle.std.proofs.Common.{◌≡◌, ◌^◌, ◌-◌, ℕ, true, false, refl, inl, inr, ap, ⊤, arith}
+use Rattle.std.proofs.Common.{◌≡◌, ◌^◌, ◌-◌, ℕ, true, false, refl, inl, inr, ap, arith}
+use Rattle.std.specs.Prelude.{⊤}
 use Rattle.guard_parts.specs.declared.room.Room.{Room}
 use Rattle.guard_engine.specs.Room.{AllTell, CountsKeys, HasRoom, added_beside, more_keys, room_for}
 

@@ -39,11 +39,11 @@ module _ {L : Type 0} {may_tell : L → Room → Type 0} {is_known : L → Type 
     told = elim after.told [
       | inr tells ↦ inr tells
       | inl none ↦ elim before.told [
-          | inl no_key ↦ inl (omega (arith, both, none.0, no_key.0), none.1 ∙ no_key.1)
-          | inr tells ↦ inr (λ known other told.
-              tells (subst is_known none.1 known) other (subst (λ l. may_tell l other) none.1 told)
-              ∙ sym (room-stays none.0))
-        ]
+        | inl no_key ↦ inl (omega (arith, both, none.0, no_key.0), none.1 ∙ no_key.1)
+        | inr tells ↦ inr (λ known other told.
+            tells (subst is_known none.1 known) other (subst (λ l. may_tell l other) none.1 told)
+            ∙ sym (room-stays none.0))
+      ]
     ];
   }
 

@@ -20,32 +20,32 @@ alike-content law bytes other_bytes filter other is_file other_is same =
 
 module _ (law : FileLaw) (bytes : List ℕ) (filter : DefaultFilter)
     (is_file : IsFileOf (filter_part bytes) filter) where
-    -- what may be found after the file may have been replaced
-    pub saved-now : (old new : Sight) (other : DefaultFilter) → Replaces old new (Some bytes)
-        → MayHave new other → AnswerAlike filter other ⊎ MayHave old other
-    saved-now old new other replaces has =
-        ⊎_elim
-        (λ before. inr (record { bytes = has.bytes; found = before; is_file = has.is_file }))
-        (λ is. inl (alike-content law bytes has.bytes filter other is_file has.is_file.is_file is))
-        (replaces.now (Some has.bytes) has.found)
+  -- what may be found after the file may have been replaced
+  pub saved-now : (old new : Sight) (other : DefaultFilter) → Replaces old new (Some bytes)
+      → MayHave new other → AnswerAlike filter other ⊎ MayHave old other
+  saved-now old new other replaces has =
+      ⊎_elim
+      (λ before. inr (record { bytes = has.bytes; found = before; is_file = has.is_file }))
+      (λ is. inl (alike-content law bytes has.bytes filter other is_file has.is_file.is_file is))
+      (replaces.now (Some has.bytes) has.found)
 
-    -- what a crash at any moment of that leaves
-    pub saved-since : (old new : Sight) (other : DefaultFilter) (since : ℕ)
-        → Replaces old new (Some bytes) → since ≤ old.moment → HadSince new since other
-        → AnswerAlike filter other ⊎ HadSince old since other
-    saved-since old new other since replaces le had =
-        ⊎_elim
-        (λ before. inr (record { bytes = had.bytes; found = before; is_file = had.is_file }))
-        (λ is. inl (alike-content law bytes had.bytes filter other is_file had.is_file.is_file is))
-        (replaces.each since (Some had.bytes) le had.found)
+  -- what a crash at any moment of that leaves
+  pub saved-since : (old new : Sight) (other : DefaultFilter) (since : ℕ)
+      → Replaces old new (Some bytes) → since ≤ old.moment → HadSince new since other
+      → AnswerAlike filter other ⊎ HadSince old since other
+  saved-since old new other since replaces le had =
+      ⊎_elim
+      (λ before. inr (record { bytes = had.bytes; found = before; is_file = had.is_file }))
+      (λ is. inl (alike-content law bytes had.bytes filter other is_file had.is_file.is_file is))
+      (replaces.each since (Some had.bytes) le had.found)
 
-    -- after the file was replaced
-    pub saved-alone : (new : Sight) (other : DefaultFilter)
-        → ((c : Content) → new.may_find Standing c → c ≡ Some bytes) → MayHave new other
-        → AnswerAlike filter other
-    saved-alone new other only has =
-        alike-content law bytes has.bytes filter other is_file has.is_file.is_file
-        (only (Some has.bytes) has.found)
+  -- after the file was replaced
+  pub saved-alone : (new : Sight) (other : DefaultFilter)
+      → ((c : Content) → new.may_find Standing c → c ≡ Some bytes) → MayHave new other
+      → AnswerAlike filter other
+  saved-alone new other only has =
+      alike-content law bytes has.bytes filter other is_file has.is_file.is_file
+      (only (Some has.bytes) has.found)
 
 -- the room of a file whose content tells this one
 told-content : (bytes other_bytes : List ℕ) (room other : Room)

@@ -60,9 +60,9 @@ fault-bytes bytes is = (refl, inl (inl (sym (ap (form_refusal (filter_part bytes
 fault-seal : (bytes : List ℕ) → file_refusal (filter_part bytes) ≡ Some Cut
     → IsFaultIn {E = ℕ} false (Some bytes) (faults.Refused NoSeal) → ⊥
 fault-seal bytes is fault = elim fault.1 [
-    | inl file ↦ of_seal file
-    | inr room ↦ of_none room.0
-  ]
+  | inl file ↦ of_seal file
+  | inr room ↦ of_none room.0
+]
   where
     of_seal : IsRefusedFor (filter_part bytes) (Some NoSeal) → ⊥
     of_seal (inl same) =

@@ -12,9 +12,9 @@ ghost use Rattle.guard_parts.specs.declared.folder.Name.TheVariants.{Standing, N
 use crate::folder::{Folder, Name};
 use crate::kept::Kept;
 use crate::room::Room;
-use bloom_plain::{BloomFilter, FilterError};
 use bloom_plain::file::FileError;
 use bloom_plain::laws::file_reads_back;
+use bloom_plain::{BloomFilter, FilterError};
 use std::alloc::{AllocError, Global};
 use std::fmt;
 use std::fmt::Display;

@@ -17,6 +17,7 @@ const ROOM: Room = Room {
     total: 10,
     taken: 3,
 };
+
 const ROOM_BYTES: [u8; 24] = [
     10, 0, 0, 0, 0, 0, 0, 0, 3, 0, 0, 0, 0, 0, 0, 0, 13, 0, 0, 0, 0, 0, 0, 0,
 ];
