@@ -1,20 +1,10 @@
 -- Whether the key had a value.
-use Rattle.std.proofs.Common.{◌≡◌, ℕ, List, false, true, Ok, ap, refl, subst, ◌∙◌}
-use Rattle.std.specs.Prelude.{◌↔◌, IsTrue}
-use Rattle.guard_engine.specs.Guarded.{Entries, Lacks}
+use Rattle.std.proofs.Common.{Ok, ap, subst, ◌∙◌}
+use Rattle.guard_engine.proofs.HadLemmas.{had-none, had-one}
 use Rattle.guard_engine.proofs.guard.Guard.delete.Goals as goal
 use Rattle.guard_engine.proofs.guard.Guard.delete.Goals.{in-Spared, in-FalseAlarm, in-Value+in_ok-remove_alone-in-Value}
 
--- a key that lacks a value has none
-had-none : (entries : Entries) (key : List ℕ) → Lacks entries key
-    → IsTrue false ↔ ((value : List ℕ) × entries key value)
-had-none entries key lacks = (λ is. cc, λ has. absurd (lacks has.0 has.1))
-
--- a value was found
-had-one : (entries : Entries) (key value : List ℕ) → entries key value
-    → IsTrue true ↔ ((value : List ℕ) × entries key value)
-had-one entries key value has = (λ is. (value, has), λ any. refl)
-
+-- by what the look-up found
 pub returns-clause-told : goal.returns-clause-told
 returns-clause-told g c known kept_known =
     let found = c.get.ensures in

@@ -31,9 +31,8 @@ returns-clause-made g c = λ ready known.
     made-of string_bytes (vec_items c.in-Ok.keys) _ c.deref.ensures.value c.args.rate c.args.spare
     _ _ _ _ c.with_false_pos.result c.with_false_pos.ensures.rate many
     c.saturating_add-half.ensures c.saturating_add-items.ensures _ refl _ _
-    c.with_false_pos.ensures.key
-    (c.in-Ok.ensures.keys ready.fit known) c.in-Ok-expected_items.ensures.made
-    c.insert_keys.ensures.inserts
+    c.with_false_pos.ensures.key (c.in-Ok.ensures.keys ready.fit known)
+    c.in-Ok-expected_items.ensures.made c.insert_keys.ensures.inserts
 
 -- the store stays ready
 pub returns-clause-ready : goal.returns-clause-ready

@@ -1,9 +1,11 @@
 -- A read changes nothing.
+mod Found
 use Rattle.std.proofs.Common.{None}
-use Rattle.guard_parts.proofs.FileLemmas.{may-have, may-tell, read-now, read-since}
+use Rattle.guard_parts.proofs.FileLemmas.{read-now, read-since}
 use Rattle.guard_parts.proofs.ReplaceLemmas.{passes-call}
 use Rattle.guard_parts.specs.declared.folder.Name.TheVariants.{Standing}
 use Rattle.guard_parts.proofs.filter_file.FilterFileKept.load.Goals as goal
+use Rattle.guard_parts.proofs.filter_file.FilterFileKept.load.Answers.Found as found
 
 pub returns-clause-stays : goal.returns-clause-stays
 returns-clause-stays g c k filter has =
@@ -31,17 +33,8 @@ returns-in-Ok-Some-clause-crash g c k since filter le had =
     (g.met.D.Folder.counts_now c.args.self.now.folder) (c.read.ensures.time k)
     (c.read.ensures.same k Standing)) le had
 
--- what was read may be found
 pub returns-in-Ok-clause-found : goal.returns-in-Ok-clause-found
-returns-in-Ok-clause-found g c k =
-    may-have (g.D.Folder.sight c.args.self.now.folder) _ _
-    (rw c.in-Ok-Some.field-0-is at (c.in-Ok-Some.ensures.found k))
-    (g.met.D.Folder.now_found c.args.self.now.folder Standing) c.deref.ensures.value _
-    c.in-Ok.ensures.file
+returns-in-Ok-clause-found = found.returns-in-Ok-clause-found
 
 pub returns-in-Ok-clause-told : goal.returns-in-Ok-clause-told
-returns-in-Ok-clause-told g c k =
-    may-tell (g.D.Folder.sight c.args.self.now.folder) _ _
-    (rw c.in-Ok-Some.field-0-is at (c.in-Ok-Some.ensures.found k))
-    (g.met.D.Folder.now_found c.args.self.now.folder Standing) c.deref.ensures.value _
-    c.in-Ok.ensures.room
+returns-in-Ok-clause-told = found.returns-in-Ok-clause-told

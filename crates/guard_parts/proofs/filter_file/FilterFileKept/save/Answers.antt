@@ -1,10 +1,11 @@
 -- The bytes that were written are the filter's file.
-use Rattle.std.proofs.Common.{◌≡◌, ℕ, List, subst, sym}
+mod Told
+use Rattle.std.proofs.Common.{ℕ, List, subst, sym}
 use Rattle.bloom_plain.specs.File.{IsFileOf}
-use Rattle.guard_parts.proofs.FileLemmas.{saved-alone, saved-now, saved-since, told-alone, told-now}
-use Rattle.guard_parts.specs.Rooms.{filter_part, room_in, room_part}
-use Rattle.guard_parts.specs.declared.room.Room.{Room}
+use Rattle.guard_parts.proofs.FileLemmas.{saved-alone, saved-since}
+use Rattle.guard_parts.specs.Rooms.{filter_part}
 use Rattle.guard_parts.proofs.filter_file.FilterFileKept.save.Goals as goal
+use Rattle.guard_parts.proofs.filter_file.FilterFileKept.save.Answers.Told as told
 
 pub returns-in-Ok-replace_or_clear-clause-ok : goal.returns-in-Ok-replace_or_clear-clause-ok
 returns-in-Ok-replace_or_clear-clause-ok g c k other has =
@@ -28,21 +29,10 @@ returns-clause-crash g c k since other le had =
     (c.replace_or_clear.ensures.crash k) le had
 
 pub returns-clause-err : goal.returns-clause-err
-returns-clause-err g c k other has =
-    let P : List ℕ → Type 0 = λ b. IsFileOf (filter_part b) c.args.filter.now in
-    let is_file : P c.deref.result.now = subst P (sym c.deref.ensures.value) c.in-Ok.ensures.file in
-    saved-now c.file_reads_back.ensures.filters _ _ is_file _ _ other
-    (c.replace_or_clear.ensures.crash k) has
+returns-clause-err = told.returns-clause-err
 
--- the room that was written is told
 pub returns-in-Ok-replace_or_clear-clause-told : goal.returns-in-Ok-replace_or_clear-clause-told
-returns-in-Ok-replace_or_clear-clause-told g c k other tells =
-    let P : List ℕ → Type 0 = λ b. room_in (room_part b) ≡ c.args.room in
-    let told : P c.deref.result.now = subst P (sym c.deref.ensures.value) c.in-Ok.ensures.room in
-    told-alone _ _ told _ other (c.in-Ok-replace_or_clear.ensures.ok k) tells
+returns-in-Ok-replace_or_clear-clause-told = told.returns-in-Ok-replace_or_clear-clause-told
 
 pub returns-clause-told_err : goal.returns-clause-told_err
-returns-clause-told_err g c k other tells =
-    let P : List ℕ → Type 0 = λ b. room_in (room_part b) ≡ c.args.room in
-    let told : P c.deref.result.now = subst P (sym c.deref.ensures.value) c.in-Ok.ensures.room in
-    told-now _ _ told _ _ other (c.replace_or_clear.ensures.crash k) tells
+returns-clause-told_err = told.returns-clause-told_err
