@@ -19,6 +19,9 @@ import time
 from help_text import TOP, Failed, built
 
 PICTURES = f"{TOP}/docs/pictures"
+PEERS = f"{TOP}/tests/peers"
+# Where Debian's packages put sources of Go, and Guava.
+GO, GUAVA = "/usr/share/gocode", "/usr/share/java/guava.jar"
 MASK = 2**64 - 1
 TIMER = "/usr/bin/time"
 ENVIRONMENT = {**os.environ, "LC_ALL": "C"}
@@ -253,13 +256,76 @@ def compare_library(sizes, rounds):
     with tempfile.TemporaryDirectory() as room:
         program = compile_peers(room)
         for keys in sizes:
-            run = subprocess.run([program, str(keys), str(rounds)], text=True, check=False,
-                                 stdout=subprocess.PIPE)
-            if run.returncode:
-                raise Failed(f"examples/c/peers.c, {keys} keys: status {run.returncode}")
-            head, *lines = [line.split() for line in run.stdout.splitlines()]
-            rows += [dict(zip(head, line)) for line in lines]
+            rows += rows_of([program, str(keys), str(rounds)])
     return rows
+
+
+# Filters by hash, in several languages
+
+def compile_hashes(room):
+    """The program of tests/peers over the library for C."""
+    compiler, folder = os.environ.get("CC", "cc").split() or ["cc"], build_library()
+    compiled(compiler, "hashes.c", [
+        "-std=c11", "-O2", "-Wall", "-Wextra", "-Wpedantic", "-Werror", f"-I{folder}/include",
+        f"{PEERS}/hashes.c", f"{folder}/libfastbloom_c.a", "-pthread", "-o", f"{room}/hashes"])
+    return [f"{room}/hashes"]
+
+
+def compile_lines(room):
+    """The program over blobloom and willf/bloom, whose sources Debian's packages have."""
+    environment = {**os.environ, "GOPATH": GO, "GO111MODULE": "off", "GOFLAGS": "",
+                   "GOCACHE": f"{room}/go"}
+    compiled(["go"], "lines.go", ["build", "-o", f"{room}/lines", f"{PEERS}/lines.go"], environment)
+    return [f"{room}/lines"]
+
+
+def compile_guava(room):
+    """The program over Guava, whose archive Debian's package has."""
+    compiled(["javac"], "Guava.java", ["-cp", GUAVA, "-d", room, f"{PEERS}/Guava.java"])
+    return ["java", "-cp", f"{GUAVA}:{room}", "Guava"]
+
+
+def compiled(compiler, name, words, environment=None):
+    if not shutil.which(compiler[0]):
+        raise Failed(f"no {compiler[0]}: {name} is left out")
+    run = subprocess.run([*compiler, *words], env=environment, check=False, text=True,
+                         stdout=subprocess.DEVNULL, stderr=subprocess.PIPE)
+    if run.returncode:
+        raise Failed(f"{name} doesn't compile, and is left out: {run.stderr.strip()[:200]}")
+
+
+def compare_hashes(sizes, runs):
+    """What a call by hash costs, all programs in turn, each row the best of all runs."""
+    best = {}
+    with tempfile.TemporaryDirectory() as room:
+        programs = []
+        for make in (compile_hashes, compile_lines, compile_guava):
+            try:
+                programs.append(make(room))
+            except Failed as reason:
+                tell(str(reason))
+        for keys in sizes:
+            for _ in range(runs):
+                for program in programs:
+                    take_best(best, rows_of([*program, str(keys), "1"]))
+    return list(best.values())
+
+
+def rows_of(command):
+    """The rows that a program prints, by the names in its first line."""
+    run = subprocess.run(command, text=True, check=False, stdout=subprocess.PIPE)
+    if run.returncode:
+        raise Failed(f"{' '.join(command)} ended with status {run.returncode}")
+    head, *lines = [line.split() for line in run.stdout.splitlines()]
+    return [dict(zip(head, line)) for line in lines]
+
+
+def take_best(best, rows):
+    """Keeps the row of less time of each library, call and number of keys."""
+    for row in rows:
+        name = row["library"], row["call"], row["keys"]
+        if name not in best or float(row["nanoseconds"]) < float(best[name]["nanoseconds"]):
+            best[name] = row
 
 
 def read_rows(text):
@@ -294,8 +360,11 @@ def time_threads(keys, rounds):
 
 # What bin/bench-against --peers measures
 
-def compare_peers(lines, sizes, runs):
-    """Makes the rows of each subject, which has a name and a line that tells what the rows are."""
+def compare_peers(lines, sizes, runs, word=""):
+    """Makes the rows of each subject whose name goes on with the word behind `peers-`.
+
+    Each has a line that tells what the rows are.
+    """
     python = f"Python {platform.python_version()}"
     subjects = (
         ("peers-duplicates", f"lines of 33 bytes, half of them repeated: best of {runs} runs, {python}",
@@ -304,9 +373,13 @@ def compare_peers(lines, sizes, runs):
          lambda: compare_summaries(lines, runs)),
         ("peers-c", f"calls on keys of 16 bytes at the rate 1/1000: best of {runs} rounds",
          lambda: compare_library(sizes, runs)),
+        ("peers-hashes", f"calls by hash at ten bits a key, seven hashes: best of {runs} runs",
+         lambda: compare_hashes(sizes, runs)),
         ("peers-threads", f"bin/bench {lines} {runs}: one operation, best of {runs} rounds",
          lambda: time_threads(lines, runs)))
     for name, what, make_rows in subjects:
+        if not name.startswith(f"peers-{word}"):
+            continue
         tell(name)
         try:
             yield name, what, make_rows()

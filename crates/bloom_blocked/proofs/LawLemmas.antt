@@ -5,11 +5,13 @@ use Rattle.std.proofs.Math.Bool.{or-false, or_assoc}
 use Rattle.bloom_parts.specs.Content.{content}
 use Rattle.bloom_parts.specs.Places.{place, IsPart}
 use Rattle.bloom_parts.proofs.PublishedLemmas.{are_in-off}
+use Rattle.bloom_parts.specs.Keys.{key_of}
+use Rattle.bloom_plain.specs.Data.{DefaultFilter}
 use Rattle.bloom_plain.specs.Filter.{Filter, SameShape}
 use Rattle.bloom_blocked.specs.Lines.{line_of, inner_of, in_line, line_positions, are_in_line}
 use Rattle.bloom_blocked.specs.Many.{positions_of_all}
 use Rattle.bloom_blocked.specs.Blocked.{num_lines_of, contains_in_line, InsertsInLine, InsertsAllInLines}
-use Rattle.bloom_blocked.specs.BlockedData.{LineDataLaw}
+use Rattle.bloom_blocked.specs.BlockedData.{AnswerAlikeInLines, LineDataLaw}
 use Rattle.bloom_blocked.specs.BlockedLaws.{InsertInLineLaw, KeptByInsertInLineLaw, KeptByInsertsInLinesLaw, KeptByUnionOfLinesLaw, UnionOfLinesLaw, IntersectionOfLinesLaw, ClearOfLinesLaw, InsertsOneByOne, OneByOneLaw}
 use Rattle.bloom_blocked.proofs.PositionLemmas.{line-greater, line-inserted, line-both}
 use Rattle.bloom_blocked.proofs.FilterLemmas.{inserts_all-none, inserts_all-join, inserts_all-one}
@@ -104,16 +106,20 @@ pub one_by_one_law : (S : Type 0) → OneByOneLaw S
 one_by_one_law S old one all hashes single many p =
     (all-of-single old one hashes single).bits p ∙ sym (many.bits p)
 
+-- filters of equal parts answer every hash alike
+pub alike-parts : (f g : DefaultFilter) → g.words ≡ f.words → g.hashes ≡ f.hashes
+    → key_of g.hasher ≡ key_of f.hasher → AnswerAlikeInLines f g
+alike-parts f g words hashes key = record {
+  words = words;
+  hashes = hashes;
+  key = key;
+  found = λ hash.
+      ap (λ w. are_in_line (length w / 8) g.hashes hash (content w)) words
+      ∙ ap (λ k. are_in_line (length f.words / 8) k hash (content f.words)) hashes;
+}
+
 -- filters of the same data have equal parts
 pub line_data_law : LineDataLaw
 line_data_law f g form of made =
-    let words = made.words ∙ sym of.words in
-    let hashes : g.hashes ≡ f.hashes = omega (arith, made.hashes, of.hashes) in
-    record {
-      words = words;
-      hashes = hashes;
-      key = made.key ∙ sym of.key;
-      found = λ hash.
-          ap (λ w. are_in_line (length w / 8) g.hashes hash (content w)) words
-          ∙ ap (λ k. are_in_line (length f.words / 8) k hash (content f.words)) hashes;
-    }
+    alike-parts f g (made.words ∙ sym of.words) (omega (arith, made.hashes, of.hashes))
+    (made.key ∙ sym of.key)

@@ -5,6 +5,8 @@ mod BuilderLemmas
 mod FilterLemmas
 mod LawLemmas
 mod LineFacts
+mod LineFileFacts
+mod LineFileLemmas
 mod LineLemmas
 mod LineStepFacts
 mod LineStepLemmas

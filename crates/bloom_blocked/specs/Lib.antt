@@ -1,5 +1,6 @@
 pub mod Blocked
 pub mod BlockedData
+pub mod BlockedFile
 pub mod BlockedLaws
 pub mod BlockedSizing
 pub mod Keeping

@@ -1,5 +1,6 @@
 //! The blocked Bloom filter, which its owner changes. Its constructors are in `builder`.
 ghost use Rattle.std.specs.Prelude.{◌≡◌, ◌*◌, ◌%◌, ◌^◌, ◌<◌, ◌≤◌, length, max};
+ghost use Rattle.std.specs.Iterator.Adapters.{copied_source};
 ghost use Rattle.bloom_parts.specs.Content.{content, AreWords};
 ghost use Rattle.bloom_plain.specs.Filter.{num_bits_of};
 ghost use Rattle.bloom_plain.specs.Ones.{ones_of};
@@ -7,6 +8,7 @@ ghost use Rattle.bloom_blocked.specs.Blocked.{HasBlockedShape, contains_in_line,
 ghost use Rattle.bloom_blocked.specs.Many.{TellsFound, TellsNew};
 
 mod data;
+mod file;
 mod items;
 mod sets;
 
@@ -15,7 +17,9 @@ use crate::{many, words};
 use bloom_parts::hasher::DefaultHasher;
 use bloom_parts::slices;
 pub use data::BlockedFilterData;
+use std::iter::Copied;
 use std::marker::Model;
+use std::slice;
 
 /// A Bloom filter in lines of 512 bits. All positions of a hash lie in one of them, so an insert
 /// or a look-up reads one line of the cache, and not one for each position. In return, more hashes
@@ -105,6 +109,15 @@ impl<S> BlockedBloomFilter<S> {
         ensures range { AreWords self.now.words }
     {
         with_range(self.words.as_slice())
+    }
+
+    /// An iterator over the words, word 0 first.
+    pub fn iter(&self) -> Copied<slice::Iter<'_, u64>>
+        ensures value { (copied_source result).rest.now ≡ self.now.words }
+        ensures shape { HasBlockedShape self.now }
+        ensures range { AreWords self.now.words }
+    {
+        self.as_slice().iter().copied()
     }
 
     /// The number of bits that are set.

@@ -7,7 +7,7 @@ use Rattle.lines.proofs.WritingLemmas.{IsWriting}
 use Rattle.bloom_parts.specs.Hashed.{SipState, Hashed, Takes}
 use Rattle.bloom_parts.specs.Sip.{whole_words}
 use Rattle.bloom_plain.specs.declared.file.error.FileError.{FileError}
-use Rattle.bloom_plain.specs.declared.file.error.FileError.TheVariants.{NotAFilter, Version, HashCount, EmptyWords, TooManyWords, Cut, TooLong, Reserved, Seal, Memory, Input}
+use Rattle.bloom_plain.specs.declared.file.error.FileError.TheVariants.{NotAFilter, Version, HashCount, EmptyWords, TooManyWords, Cut, TooLong, Reserved, Blocked, NotBlocked, PartOfALine, Seal, Memory, Input}
 use Rattle.bloom_plain.specs.File.{bytes_of}
 use Rattle.bloom_plain.specs.FileReads.{AsksAsGiven, FailsWithin, Gives, ReadsWords, StopsWords}
 use Rattle.bloom_plain.proofs.NumberLemmas.{bytes_of-append, length-bytes_of, length-whole_words}
@@ -146,6 +146,9 @@ stops-later old mid bytes part all EmptyWords taken within stops = absurd stops
 stops-later old mid bytes part all TooManyWords taken within stops = absurd stops
 stops-later old mid bytes part all TooLong taken within stops = absurd stops
 stops-later old mid bytes part all Reserved taken within stops = absurd stops
+stops-later old mid bytes part all Blocked taken within stops = absurd stops
+stops-later old mid bytes part all NotBlocked taken within stops = absurd stops
+stops-later old mid bytes part all PartOfALine taken within stops = absurd stops
 stops-later old mid bytes part all Seal taken within stops = absurd stops
 
 -- behind bytes that were taken, a read failed within the rest, and so within all

@@ -3,8 +3,8 @@
 use Rattle.std.proofs.Common.{◌≡◌, [], Some, None, refl, inl, inr}
 use Rattle.std.specs.declared.io.ErrorKind.TheVariants as kind
 use Rattle.bloom_parts.specs.Sip.{sip, start, round, absorb, answer, whole_words, rest}
-use Rattle.bloom_plain.specs.declared.file.error.FileError.TheVariants.{NotAFilter, Version, HashCount, EmptyWords, TooManyWords, Cut, TooLong, Reserved, Seal, Memory, Input}
-use Rattle.bloom_plain.specs.FileReads.{IsInput, IsReadAs, IsToldOf}
+use Rattle.bloom_plain.specs.declared.file.error.FileError.TheVariants.{NotAFilter, Version, HashCount, EmptyWords, TooManyWords, Cut, TooLong, Reserved, Blocked, NotBlocked, PartOfALine, Seal, Memory, Input}
+use Rattle.bloom_plain.specs.FileReads.{IsInput, IsReadAs}
 use Rattle.bloom_plain.specs.FileRefusals.{IsRefusedAs}
 use Rattle.bloom_plain.specs.FileCodes.{file_code_of}
 use Rattle.bloom_plain.proofs.FileFacts.{first, worked}
@@ -42,6 +42,15 @@ code-seal = refl
 
 code-input : file_code_of (Input kind.BrokenPipe) ≡ 15
 code-input = refl
+
+code-part_of_a_line : file_code_of PartOfALine ≡ 16
+code-part_of_a_line = refl
+
+code-blocked : file_code_of Blocked ≡ 17
+code-blocked = refl
+
+code-not_blocked : file_code_of NotBlocked ≡ 18
+code-not_blocked = refl
 
 -- a failed read is told by any kind, and no other error is one
 input-read : IsInput (Some (Input kind.BrokenPipe))
@@ -105,19 +114,3 @@ read-accepted is = elim is [
   | inl same ↦ cc same
   | inr others ↦ elim others [ inl memory ↦ cc (memory.0) | inr input ↦ cc (input.1) ]
 ]
-
--- the refusal of all that a reader has is told, or a failed read
-told-cut : IsToldOf (Some first) Cut
-unfolding whole_words
-told-cut = inr refl
-
-told-input : IsToldOf (Some first) (Input kind.BrokenPipe)
-told-input = inl (kind.BrokenPipe, refl)
-
-told-unknown : IsToldOf None Seal
-told-unknown = inr tt
-
--- no other refusal is
-told-other : IsToldOf (Some first) TooLong → ⊥
-unfolding whole_words
-told-other is = elim is [ inl input ↦ cc (input.1) | inr same ↦ cc same ]

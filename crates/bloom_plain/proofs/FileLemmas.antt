@@ -1,5 +1,5 @@
 -- A file that isn't refused is the file of a filter.
-use Rattle.std.proofs.Common.{◌≡◌, ℕ, ◌^◌, ◌<◌, List, [], ◌∷◌, ◌++◌, length, take, Bool, true, false, cond, Option, Some, None, refl, sym, ap, ◌∙◌, arith, inl, inr}
+use Rattle.std.proofs.Common.{◌≡◌, ℕ, ◌^◌, ◌<◌, List, [], ◌∷◌, ◌++◌, length, take, Bool, true, false, cond, Option, Some, None, refl, sym, ap, subst, ◌∙◌, arith, inl, inr}
 use Rattle.std.specs.Prelude.{◌⊎◌, slice_index}
 use Rattle.std.proofs.lemmas.Bool.{le-leb}
 use Rattle.std.proofs.lemmas.Grind.{common_steps}
@@ -8,12 +8,15 @@ use Rattle.bloom_parts.specs.Buffers.{AreBytes}
 use Rattle.bloom_parts.specs.Sip.{sip, whole_words}
 use Rattle.bloom_plain.specs.declared.file.error.FileError.{FileError}
 use Rattle.bloom_plain.specs.declared.file.head.Head.{Head}
+use Rattle.bloom_plain.specs.declared.file.layout.Layout.{Layout}
+use Rattle.bloom_plain.specs.declared.file.layout.Layout.TheVariants.{Whole, Lines}
 use Rattle.bloom_plain.specs.Data.{DefaultFilter}
-use Rattle.bloom_plain.specs.File.{FitsWords, IsFileOf, bytes_of, file_of, file_with, head_numbers, head_of, mark, seal_of}
-use Rattle.bloom_plain.specs.FileRefusals.{has_number, head_in, head_refusal, number_at, reserved_refusal, wrong_seal}
-use Rattle.bloom_plain.specs.Filter.{HasShape, IsShape}
+use Rattle.bloom_plain.specs.File.{FitsWords, IsFileOf, bytes_of, head_of, mark}
+use Rattle.bloom_plain.specs.FileLayouts.{AreWhole, IsFileIn, file_in, layout_number, layout_refusal, numbers_in, right_seal, sealed_bytes, sealed_file}
+use Rattle.bloom_plain.specs.FileRefusals.{has_number, head_in, head_refusal, number_at, wrong_seal}
+use Rattle.bloom_plain.specs.Filter.{IsShape}
 use Rattle.bloom_plain.proofs.NumberLemmas.{bytes-again, length-whole_words}
-use Rattle.bloom_plain.proofs.SealLemmas.{take-head}
+use Rattle.bloom_plain.proofs.SealLemmas.{sealed-head}
 
 -- a list of eight numbers
 eight : (numbers : List ℕ) → length numbers ≡ 8
@@ -31,11 +34,11 @@ eight (a ∷ b ∷ c ∷ d ∷ e ∷ []) size = absurd (omega arith)
 eight (a ∷ b ∷ c ∷ d ∷ e ∷ f ∷ []) size = absurd (omega arith)
 eight (a ∷ b ∷ c ∷ d ∷ e ∷ f ∷ g ∷ []) size = absurd (omega arith)
 
--- a head that is refused neither for its mark nor for what is reserved is the bytes of what it says
-pub head-is : (head : List ℕ) → AreBytes head → length head ≡ 64 → number_at head 0 ≡ mark
-    → number_at head 6 ≡ 0 → number_at head 7 ≡ 0
-    → head ≡ bytes_of (head_numbers (head_in head) (number_at head 5))
-head-is head small size first sixth seventh =
+-- a head that is refused neither for its mark nor for its end is the bytes of what it says
+pub head-is : (layout : Layout) (head : List ℕ) → AreBytes head → length head ≡ 64
+    → number_at head 0 ≡ mark → number_at head 6 ≡ layout_number layout → number_at head 7 ≡ 0
+    → head ≡ bytes_of (numbers_in layout (head_in head) (number_at head 5))
+head-is layout head small size first sixth seventh =
     sym (bytes-again head small (omega (arith, size)))
     ∙ ap bytes_of (eight (whole_words head) (omega (arith, size, length-whole_words head)))
     ∙ (λ i. bytes_of (first i ∷ number_at head 1 ∷ number_at head 2 ∷ number_at head 3
@@ -73,56 +76,69 @@ good head size none =
       };
     }
 
--- the reserved numbers are 0 where they aren't refused
-pub none-reserved : (head : List ℕ) → reserved_refusal head ≡ None
-    → (number_at head 6 ≡ 0) × (number_at head 7 ≡ 0)
-none-reserved head none = grind (arith, common_steps)
+-- the last numbers of a head whose end isn't refused
+pub last-numbers : (layout : Layout) (head : List ℕ) → layout_refusal layout head ≡ None
+    → (number_at head 6 ≡ layout_number layout) × (number_at head 7 ≡ 0)
+last-numbers Whole head none = grind (arith, common_steps)
+last-numbers Lines head none = grind (arith, common_steps)
+
+-- the words of such a head are whole lines, if they are lines
+pub whole-words : (layout : Layout) (head : List ℕ) → layout_refusal layout head ≡ None
+    → AreWhole layout (number_at head 2)
+whole-words Whole head none = tt
+whole-words Lines head none = grind (arith, common_steps)
 
 -- a seal that isn't refused
 pub good-seal : (found wanted : ℕ)
     → wrong_seal found wanted ≡ None → (found ≡ 0) ⊎ (found ≡ wanted)
 good-seal found wanted none = grind (arith, common_steps)
 
--- a head that isn't refused, with the words that it tells of, is a file of the filter
-module _ (head words : List ℕ) (f : DefaultFilter) (size : length head ≡ 64)
-    (is_good : head_refusal head ≡ None) (told : head_of f ≡ head_in head)
-    (is_words : f.words ≡ words) (fits : FitsWords f) (narrow : number_at head 5 < 2 ^ 64)
-    (back : head ≡ bytes_of (head_numbers (head_in head) (number_at head 5))) where
-  -- the seal of the file is that of the filter
-  seal-same : sip 0 0 (take 40 head ++ bytes_of words) ≡ seal_of (head_of f) f.words
+-- a head that isn't refused, with as many words as it tells of
+module _ (layout : Layout) (head words : List ℕ) (size : length head ≡ 64)
+    (is_good : head_refusal head ≡ None) (count : length words ≡ number_at head 2)
+    (end_good : layout_refusal layout head ≡ None) (narrow : number_at head 5 < 2 ^ 64)
+    (back : head ≡ bytes_of (numbers_in layout (head_in head) (number_at head 5))) where
+  -- the seal of the file is that of what the head tells, and of the words
+  seal-same : sip 0 0 (sealed_bytes layout head ++ bytes_of words)
+      ≡ right_seal layout (head_in head) words
   seal-same =
       ap (λ l. sip 0 0 (l ++ bytes_of words))
-      (take-head (head_in head) (number_at head 5) head back)
-      ∙ (λ i. seal_of (sym told i) (sym is_words i))
-
-  -- the filter has the shape that the head tells
-  has-shape : HasShape f
-  has-shape =
-      let words : length f.words ≡ number_at head 2 = ap (λ (h : Head). h.num_words) told in
-      let hashes : f.hashes ≡ number_at head 1 = ap (λ (h : Head). h.num_hashes) told in
-      rw (words, hashes) (good head size is_good).shape
+      (sealed-head layout (head_in head) (number_at head 5) head back)
 
   -- the bytes are the file
-  pub is-file :
-      (number_at head 5 ≡ 0) ⊎ (number_at head 5 ≡ sip 0 0 (take 40 head ++ bytes_of words))
-      → IsFileOf (head ++ bytes_of words) f
+  pub is-file : (number_at head 5 ≡ 0)
+      ⊎ (number_at head 5 ≡ sip 0 0 (sealed_bytes layout head ++ bytes_of words))
+      → IsFileIn layout (head ++ bytes_of words) (head_in head) words
   is-file sealed = record {
     seal = number_at head 5;
     narrow = narrow;
     sealed = elim sealed [ inl none ↦ inl none | inr right ↦ inr (right ∙ seal-same) ];
-    is =
-        (λ i. back i ++ bytes_of words)
-        ∙ (λ i. bytes_of (head_numbers (sym told i) (number_at head 5))
-        ++ bytes_of (sym is_words i));
-    shape = has-shape;
-    fits = fits;
+    is = λ i. back i ++ bytes_of words;
+    count = count;
+    shape = rw count (good head size is_good).shape;
+    whole = subst (AreWhole layout) (sym count) (whole-words layout head end_good);
   }
 
--- the parts of a filter's file, one after the other
-pub file-text : (f : DefaultFilter) (head : Head) (seal : ℕ) (words bytes : List ℕ)
-    → head ≡ head_of f → words ≡ f.words → seal ≡ seal_of head words
-    → bytes ≡ bytes_of (head_numbers head seal) → bytes ++ bytes_of words ≡ file_of f
-file-text f head seal words bytes is_head is_words is_seal is =
-    (λ i. is i ++ bytes_of words)
-    ∙ (λ i. bytes_of (head_numbers head (is_seal i)) ++ bytes_of words)
-    ∙ (λ i. file_with (is_head i) (seal_of (is_head i) (is_words i)) (is_words i))
+-- the parts of a sealed file, one after the other
+pub file-text : (layout : Layout) (head : Head) (seal : ℕ) (words bytes : List ℕ)
+    → seal ≡ right_seal layout head words → bytes ≡ bytes_of (numbers_in layout head seal)
+    → bytes ++ bytes_of words ≡ sealed_file layout head words
+file-text layout head seal words bytes is_seal is =
+    (λ i. is i ++ bytes_of words) ∙ (λ i. file_in layout head (is_seal i) words)
+
+-- a file of a filter's head and words is one of the filter
+pub file-of : (bytes words : List ℕ) (head : Head) (f : DefaultFilter) → head_of f ≡ head
+    → f.words ≡ words → FitsWords f → IsFileIn Whole bytes head words → IsFileOf bytes f
+file-of bytes words head f is_head is_words fits is =
+    of (subst (λ h. IsFileIn Whole bytes h f.words) (sym is_head)
+    (subst (IsFileIn Whole bytes head) (sym is_words) is))
+  where
+    of : IsFileIn Whole bytes (head_of f) f.words → IsFileOf bytes f
+    of is = record {
+      seal = is.seal;
+      narrow = is.narrow;
+      sealed = is.sealed;
+      is = is.is;
+      shape = is.shape;
+      fits = fits;
+    }

@@ -1,9 +1,9 @@
 -- Why a file is refused for its size, what is reserved or its seal, and which of two reasons is
 -- told.
-use Rattle.std.proofs.Common.{◌≡◌, ℕ, List, [], ◌∷◌, ◌++◌, Some, None, refl}
+use Rattle.std.proofs.Common.{◌≡◌, ℕ, List, [], ◌∷◌, ◌++◌, true, false, Some, None, refl}
 use Rattle.bloom_parts.specs.Sip.{sip, start, round, absorb, answer, whole_words, rest}
-use Rattle.bloom_plain.specs.declared.file.error.FileError.TheVariants.{NotAFilter, Version, HashCount, EmptyWords, TooManyWords, Cut, TooLong, Reserved, Seal}
-use Rattle.bloom_plain.specs.FileRefusals.{file_refusal, reserved_refusal, seal_refusal, size_refusal, whole_head_refusal, wrong_seal}
+use Rattle.bloom_plain.specs.declared.file.error.FileError.TheVariants.{NotAFilter, Version, HashCount, EmptyWords, TooManyWords, Cut, TooLong, Reserved, Blocked, Seal}
+use Rattle.bloom_plain.specs.FileRefusals.{file_refusal, has_layout, reserved_refusal, seal_refusal, size_refusal, whole_head_refusal, wrong_seal}
 use Rattle.bloom_plain.proofs.FileFacts.{first, head_with, its_seal, its_word, low, unsealed, worked}
 
 -- the worked file without its last byte
@@ -38,15 +38,41 @@ size_refusal-promise : size_refusal (first ++ low 3 ++ 0 ∷ 0 ∷ 0 ∷ 0 ∷ 0
 unfolding whole_words
 size_refusal-promise = refl
 
+-- the last two numbers are 0 or 1, and 0
+has_layout-lines : has_layout (head_with its_seal (low 1) (low 0)) ≡ true
+unfolding whole_words
+has_layout-lines = refl
+
+has_layout-two : has_layout (head_with its_seal (low 2) (low 0)) ≡ false
+unfolding whole_words
+has_layout-two = refl
+
+has_layout-last : has_layout (head_with its_seal (low 0) (low 1)) ≡ false
+unfolding whole_words
+has_layout-last = refl
+
 -- sixteen reserved bytes are zero
 reserved_refusal-worked : reserved_refusal worked ≡ None
 unfolding whole_words
 reserved_refusal-worked = refl
 
--- neither the first nor the last of them may be another
-reserved_refusal-first : reserved_refusal (head_with its_seal (low 1) (low 0)) ≡ Some Reserved
+-- the first of them may be the number of lines, which is told by itself, and no greater one
+reserved_refusal-lines : reserved_refusal (head_with its_seal (low 1) (low 0)) ≡ Some Blocked
+unfolding whole_words
+reserved_refusal-lines = refl
+
+reserved_refusal-first : reserved_refusal (head_with its_seal (low 2) (low 0)) ≡ Some Reserved
 unfolding whole_words
 reserved_refusal-first = refl
+
+reserved_refusal-eighth : reserved_refusal (head_with its_seal high (low 0)) ≡ Some Reserved
+unfolding whole_words
+reserved_refusal-eighth = refl
+
+-- the last of them may not be another, and that is told before the number of lines
+reserved_refusal-both : reserved_refusal (head_with its_seal (low 1) (low 1)) ≡ Some Reserved
+unfolding whole_words
+reserved_refusal-both = refl
 
 reserved_refusal-last : reserved_refusal (head_with its_seal (low 0) high) ≡ Some Reserved
 unfolding whole_words
@@ -93,6 +119,10 @@ whole_head-worked = refl
 whole_head-reserved : whole_head_refusal (head_with its_seal (low 0) (low 1)) ≡ Some Reserved
 unfolding whole_words
 whole_head-reserved = refl
+
+whole_head-blocked : whole_head_refusal (head_with its_seal (low 1) (low 0)) ≡ Some Blocked
+unfolding whole_words
+whole_head-blocked = refl
 
 whole_head-hashes : whole_head_refusal
     (first ++ low 0 ++ low 1 ++ low 2 ++ low 3 ++ low 4 ++ low 5 ++ low 6)
@@ -145,6 +175,10 @@ file_refusal-reserved : file_refusal (head_with its_seal (low 0) (low 1) ++ its_
 unfolding sip start round absorb answer whole_words rest
 file_refusal-reserved = refl
 
+file_refusal-blocked : file_refusal (head_with its_seal (low 1) (low 0) ++ its_word) ≡ Some Blocked
+unfolding sip start round absorb answer whole_words rest
+file_refusal-blocked = refl
+
 file_refusal-seal : file_refusal (head_with (low 1) (low 0) (low 0) ++ its_word) ≡ Some Seal
 unfolding sip start round absorb answer whole_words rest
 file_refusal-seal = refl
@@ -170,11 +204,16 @@ file_refusal-long_and_seal : file_refusal (head_with (low 1) (low 0) (low 0) ++ 
 unfolding sip start round absorb answer whole_words rest
 file_refusal-long_and_seal = refl
 
--- a reserved byte comes before a seal
-file_refusal-reserved_and_seal : file_refusal (head_with (low 1) (low 1) (low 0) ++ its_word)
+-- a reserved byte comes before a seal, and so do lines
+file_refusal-reserved_and_seal : file_refusal (head_with (low 1) (low 2) (low 0) ++ its_word)
     ≡ Some Reserved
 unfolding sip start round absorb answer whole_words rest
 file_refusal-reserved_and_seal = refl
+
+file_refusal-blocked_and_seal : file_refusal (head_with (low 1) (low 1) (low 0) ++ its_word)
+    ≡ Some Blocked
+unfolding sip start round absorb answer whole_words rest
+file_refusal-blocked_and_seal = refl
 
 -- the mark alone is cut
 file_refusal-mark_alone : file_refusal first ≡ Some Cut

@@ -1,7 +1,7 @@
 -- Why words or the end of a file aren't read: cases that hold, and cases that nearly do.
 use Rattle.std.proofs.Common.{[], ◌∷◌, Some, None, arith}
 use Rattle.std.specs.declared.io.ErrorKind.TheVariants as kind
-use Rattle.bloom_plain.specs.declared.file.error.FileError.TheVariants.{NotAFilter, Version, HashCount, EmptyWords, TooManyWords, Cut, TooLong, Reserved, Seal, Memory, Input}
+use Rattle.bloom_plain.specs.declared.file.error.FileError.TheVariants.{NotAFilter, Version, HashCount, EmptyWords, TooManyWords, Cut, TooLong, Reserved, Blocked, NotBlocked, PartOfALine, Seal, Memory, Input}
 use Rattle.bloom_plain.specs.FileReads.{StopsEnd, StopsWords}
 use Rattle.bloom_plain.proofs.FileFacts.{low}
 
@@ -44,6 +44,15 @@ stops-long is = is
 stops-reserved : StopsWords 8 None Reserved → ⊥
 stops-reserved is = is
 
+stops-blocked : StopsWords 8 None Blocked → ⊥
+stops-blocked is = is
+
+stops-not_blocked : StopsWords 8 None NotBlocked → ⊥
+stops-not_blocked is = is
+
+stops-part : StopsWords 8 None PartOfALine → ⊥
+stops-part is = is
+
 stops-seal : StopsWords 8 None Seal → ⊥
 stops-seal is = is
 
@@ -82,6 +91,15 @@ end-cut is = is
 
 end-reserved : StopsEnd None Reserved → ⊥
 end-reserved is = is
+
+end-blocked : StopsEnd None Blocked → ⊥
+end-blocked is = is
+
+end-not_blocked : StopsEnd None NotBlocked → ⊥
+end-not_blocked is = is
+
+end-part : StopsEnd None PartOfALine → ⊥
+end-part is = is
 
 end-seal : StopsEnd None Seal → ⊥
 end-seal is = is

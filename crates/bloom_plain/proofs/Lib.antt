@@ -10,7 +10,7 @@ mod EqualityFacts
 mod FileErrorFacts
 mod FileFacts
 mod FileInputFacts
-mod FileLawLemmas
+pub mod FileLawLemmas
 mod FileLemmas
 mod FileNumberFacts
 mod FileOfFacts
@@ -36,6 +36,8 @@ mod InsertFacts
 mod InsertListFacts
 mod LawFacts
 mod LawLemmas
+mod LayoutFacts
+mod LayoutRefusalFacts
 mod ListFacts
 mod ListLemmas
 mod NumberLemmas

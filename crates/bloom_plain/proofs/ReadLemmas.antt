@@ -7,31 +7,40 @@ use Rattle.std.proofs.KnownBytes.{Consumes-trans, Consumes-whole}
 use Rattle.bloom_parts.specs.Hashed.{SipState, Hashed, Answers}
 use Rattle.bloom_parts.specs.Sip.{sip}
 use Rattle.bloom_plain.specs.declared.file.error.FileError.{FileError}
-use Rattle.bloom_plain.specs.declared.file.error.FileError.TheVariants.{NotAFilter, Version, HashCount, EmptyWords, TooManyWords, Cut, TooLong, Reserved, Seal, Memory, Input}
-use Rattle.bloom_plain.specs.Data.{DefaultFilter}
-use Rattle.bloom_plain.specs.File.{FitsWords, bytes_of, head_numbers, head_of}
-use Rattle.bloom_plain.specs.FileReads.{FailsEarly, FailsWithin, IsReadAs, ReadsFile, ReadsWords, StopsEnd, StopsWords}
-use Rattle.bloom_plain.specs.FileRefusals.{file_refusal, head_in, head_refusal, number_at, reserved_refusal, wrong_seal}
+use Rattle.bloom_plain.specs.declared.file.error.FileError.TheVariants.{NotAFilter, Version, HashCount, EmptyWords, TooManyWords, Cut, TooLong, Reserved, Blocked, NotBlocked, PartOfALine, Seal, Memory, Input}
+use Rattle.bloom_plain.specs.declared.file.layout.Layout.{Layout}
+use Rattle.bloom_plain.specs.File.{bytes_of}
+use Rattle.bloom_plain.specs.FileLayouts.{IsReadIn, IsToldIn, ReadsParts, layout_refusal, numbers_in, refusal_in, sealed_bytes}
+use Rattle.bloom_plain.specs.FileReads.{FailsEarly, FailsWithin, ReadsWords, StopsEnd, StopsWords}
+use Rattle.bloom_plain.specs.FileRefusals.{head_in, head_refusal, number_at, wrong_seal}
 use Rattle.bloom_plain.proofs.FileLemmas.{good-seal, is-file}
 use Rattle.bloom_plain.proofs.NumberLemmas.{length-bytes_of}
-use Rattle.bloom_plain.proofs.RefusalLemmas.{file_refusal-head, file_refusal-size, head_refusal-head, number_at-head, size_refusal-cut, size_refusal-long}
+use Rattle.bloom_plain.proofs.RefusalLemmas.{head_refusal-head, number_at-head, refusal_in-head, refusal_in-size, size_refusal-cut, size_refusal-long}
+
+-- what is told of a head is told of the file
+pub told-head : (layout : Layout) (known : Option (List ℕ)) (error : FileError)
+    → IsToldIn layout known error → IfSome known (λ bytes. IsReadIn layout bytes (Some error))
+told-head layout None error told = tt
+told-head layout (Some bytes) error (inl input) = inr (inr input)
+told-head layout (Some bytes) error (inr is) = inl (sym is)
 
 -- a head was read that isn't refused
 module _ (old mid : Option (List ℕ)) (start : List ℕ) (size : length start ≡ 64)
     (good : head_refusal start ≡ None) (first : Consumes old mid start) where
   -- why the words weren't read is the refusal of all bytes, memory or a failed read
-  pub told-words : (count : ℕ) → count ≡ number_at start 2 → (error : FileError)
-      → StopsWords (8 * count) mid error → IfSome old (λ bytes. IsReadAs bytes (Some error))
-  told-words count is error stops =
+  pub told-words : (layout : Layout) (count : ℕ) → count ≡ number_at start 2
+      → (error : FileError) → StopsWords (8 * count) mid error
+      → IfSome old (λ bytes. IsReadIn layout bytes (Some error))
+  told-words layout count is error stops =
       told old mid first error (subst (λ n. StopsWords (8 * n) mid error) is stops)
     where
       told : (old mid : Option (List ℕ)) → Consumes old mid start → (error : FileError)
           → StopsWords (8 * number_at start 2) mid error
-          → IfSome old (λ bytes. IsReadAs bytes (Some error))
+          → IfSome old (λ bytes. IsReadIn layout bytes (Some error))
       told None mid taken error stops = tt
       told (Some bytes) None taken error stops = absurd taken
       told (Some bytes) (Some body) taken Cut stops =
-          rw taken (inl (sym (file_refusal-size start body size Cut good
+          rw taken (inl (sym (refusal_in-size start body size layout Cut good
           (size_refusal-cut start body size stops))))
       told (Some bytes) (Some body) taken Memory stops =
           rw taken (inr (inl (refl, head_refusal-head start body size ∙ good)))
@@ -43,6 +52,9 @@ module _ (old mid : Option (List ℕ)) (start : List ℕ) (size : length start �
       told (Some bytes) (Some body) taken TooManyWords stops = absurd stops
       told (Some bytes) (Some body) taken TooLong stops = absurd stops
       told (Some bytes) (Some body) taken Reserved stops = absurd stops
+      told (Some bytes) (Some body) taken Blocked stops = absurd stops
+      told (Some bytes) (Some body) taken NotBlocked stops = absurd stops
+      told (Some bytes) (Some body) taken PartOfALine stops = absurd stops
       told (Some bytes) (Some body) taken Seal stops = absurd stops
 
   -- a read that fails among the words decides no refusal yet
@@ -82,18 +94,18 @@ module _ (old mid end : Option (List ℕ)) (start : List ℕ) (size : length sta
   right = omega (arith, count, length-bytes_of words)
 
   -- why the reader isn't at its end is the refusal of all bytes, or a failed read
-  pub told-end : (error : FileError) → StopsEnd end error
-      → IfSome old (λ bytes. IsReadAs bytes (Some error))
-  told-end error stops = told old end both error stops
+  pub told-end : (layout : Layout) (error : FileError) → StopsEnd end error
+      → IfSome old (λ bytes. IsReadIn layout bytes (Some error))
+  told-end layout error stops = told old end both error stops
     where
       told : (old end : Option (List ℕ)) → Consumes old end (start ++ bytes_of words)
           → (error : FileError) → StopsEnd end error
-          → IfSome old (λ bytes. IsReadAs bytes (Some error))
+          → IfSome old (λ bytes. IsReadIn layout bytes (Some error))
       told None end taken error stops = tt
       told (Some bytes) None taken error stops = absurd taken
       told (Some bytes) (Some more) taken TooLong stops =
           rw (taken ∙ append_assoc start (bytes_of words) more)
-          (inl (sym (file_refusal-size start (bytes_of words ++ more) size TooLong good
+          (inl (sym (refusal_in-size start (bytes_of words ++ more) size layout TooLong good
           (size_refusal-long start (bytes_of words ++ more) size
           (omega (arith, right, stops, length-append (bytes_of words) more))))))
       told (Some bytes) (Some more) taken (Input kind) stops = inr (inr (kind, refl))
@@ -104,6 +116,9 @@ module _ (old mid end : Option (List ℕ)) (start : List ℕ) (size : length sta
       told (Some bytes) (Some more) taken TooManyWords stops = absurd stops
       told (Some bytes) (Some more) taken Cut stops = absurd stops
       told (Some bytes) (Some more) taken Reserved stops = absurd stops
+      told (Some bytes) (Some more) taken Blocked stops = absurd stops
+      told (Some bytes) (Some more) taken NotBlocked stops = absurd stops
+      told (Some bytes) (Some more) taken PartOfALine stops = absurd stops
       told (Some bytes) (Some more) taken Seal stops = absurd stops
       told (Some bytes) (Some more) taken Memory stops = absurd stops
 
@@ -141,53 +156,58 @@ module _ (old mid end : Option (List ℕ)) (start : List ℕ) (size : length sta
         subst (Consumes old last) (append-nil (start ++ bytes_of words))
         (Consumes-trans old end last (start ++ bytes_of words) [] both nothing)
 
-    -- what the head and the words are refused for is told
-    told : (error : Option FileError) → error ≡ file_refusal (start ++ bytes_of words)
-        → IfSome old (λ bytes. IsReadAs bytes error)
-    told error is =
-        Consumes-whole old last (start ++ bytes_of words) (λ bytes. IsReadAs bytes error) all-read
-        at_end (inl is)
+    module _ (layout : Layout) where
+      -- what a seal covers
+      abbrev hashed_bytes : List ℕ
+      hashed_bytes = sealed_bytes layout start ++ bytes_of words
 
-    -- the refusal of what is reserved
-    pub told-reserved : (error : FileError) → Some error ≡ reserved_refusal start
-        → IfSome old (λ bytes. IsReadAs bytes (Some error))
-    told-reserved error is =
-        told (Some error)
-        (sym (file_refusal-head start (bytes_of words) size right
-        ∙ (λ i. option_or (good i) (option_or (sym is i)
-        (wrong_seal (number_at start 5) (sip 0 0 (take 40 start ++ bytes_of words)))))))
+      -- what the head and the words are refused for is told
+      told : (error : Option FileError) → error ≡ refusal_in layout (start ++ bytes_of words)
+          → IfSome old (λ bytes. IsReadIn layout bytes error)
+      told error is =
+          Consumes-whole old last (start ++ bytes_of words) (λ bytes. IsReadIn layout bytes error)
+          all-read at_end (inl is)
 
-    -- the hasher's answer is the right seal
-    pub right-seal : (hash : ℕ) → Hashed f 0 0 (take 40 start) → Answers h hash
-        → hash ≡ sip 0 0 (take 40 start ++ bytes_of words)
-    right-seal hash begun answers =
-        answers 0 0 _ (reads.hashed 0 0 (take 40 start) begun)
-        ∙ ap (λ l. sip 0 0 (take 40 start ++ bytes_of l)) (sym reads.behind)
+      -- the refusal of the end of the head
+      pub told-layout : (error : FileError) → Some error ≡ layout_refusal layout start
+          → IfSome old (λ bytes. IsReadIn layout bytes (Some error))
+      told-layout error is =
+          told (Some error)
+          (sym (refusal_in-head start (bytes_of words) size layout right
+          ∙ (λ i. option_or (good i) (option_or (sym is i)
+          (wrong_seal (number_at start 5) (sip 0 0 hashed_bytes))))))
 
-    -- the refusal of the seal, or none
-    pub told-seal : (error : Option FileError) (hash : ℕ) → Hashed f 0 0 (take 40 start)
-        → Answers h hash → reserved_refusal start ≡ None
-        → error ≡ wrong_seal (number_at start 5) hash → IfSome old (λ bytes. IsReadAs bytes error)
-    told-seal error hash begun answers none is =
-        told error
-        (is ∙ ap (wrong_seal (number_at start 5)) (right-seal hash begun answers)
-        ∙ sym (file_refusal-head start (bytes_of words) size right
-        ∙ (λ i. option_or (good i) (option_or (none i)
-        (wrong_seal (number_at start 5) (sip 0 0 (take 40 start ++ bytes_of words)))))))
+      -- the hasher's answer is the right seal
+      pub right-seal : (hash : ℕ) → Hashed f 0 0 (sealed_bytes layout start) → Answers h hash
+          → hash ≡ sip 0 0 hashed_bytes
+      right-seal hash begun answers =
+          answers 0 0 _ (reads.hashed 0 0 (sealed_bytes layout start) begun)
+          ∙ ap (λ l. sip 0 0 (sealed_bytes layout start ++ bytes_of l)) (sym reads.behind)
 
-    -- the filter that the head tells of, with these words, is that of the bytes that were read
-    pub reads-file : (hash : ℕ) (filter : DefaultFilter) → Hashed f 0 0 (take 40 start)
-        → Answers h hash → wrong_seal (number_at start 5) hash ≡ None
-        → head_of filter ≡ head_in start → filter.words ≡ words → FitsWords filter
-        → number_at start 5 < 2 ^ 64
-        → start ≡ bytes_of (head_numbers (head_in start) (number_at start 5))
-        → ReadsFile old last filter
-    reads-file hash filter begun answers sealed is_head is_words fits narrow back = record {
-      bytes = start ++ bytes_of words;
-      taken = all-read;
-      is_file =
-          is-file start words filter size good is_head is_words fits narrow back
-          (good-seal (number_at start 5) (sip 0 0 (take 40 start ++ bytes_of words))
-          (ap (wrong_seal (number_at start 5)) (sym (right-seal hash begun answers)) ∙ sealed));
-      end = at_end;
-    }
+      -- the refusal of the seal, or none
+      pub told-seal : (error : Option FileError) (hash : ℕ)
+          → Hashed f 0 0 (sealed_bytes layout start) → Answers h hash
+          → layout_refusal layout start ≡ None → error ≡ wrong_seal (number_at start 5) hash
+          → IfSome old (λ bytes. IsReadIn layout bytes error)
+      told-seal error hash begun answers none is =
+          told error
+          (is ∙ ap (wrong_seal (number_at start 5)) (right-seal hash begun answers)
+          ∙ sym (refusal_in-head start (bytes_of words) size layout right
+          ∙ (λ i. option_or (good i) (option_or (none i)
+          (wrong_seal (number_at start 5) (sip 0 0 hashed_bytes))))))
+
+      -- the head and these words are those of the bytes that were read
+      pub reads-parts : (hash : ℕ) → Hashed f 0 0 (sealed_bytes layout start) → Answers h hash
+          → layout_refusal layout start ≡ None → wrong_seal (number_at start 5) hash ≡ None
+          → number_at start 5 < 2 ^ 64
+          → start ≡ bytes_of (numbers_in layout (head_in start) (number_at start 5))
+          → ReadsParts layout old last (head_in start) words
+      reads-parts hash begun answers none sealed narrow back = record {
+        bytes = start ++ bytes_of words;
+        taken = all-read;
+        is_file =
+            is-file layout start words size good count none narrow back
+            (good-seal (number_at start 5) (sip 0 0 hashed_bytes)
+            (ap (wrong_seal (number_at start 5)) (sym (right-seal hash begun answers)) ∙ sealed));
+        end = at_end;
+      }

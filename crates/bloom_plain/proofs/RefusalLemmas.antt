@@ -1,14 +1,17 @@
 -- How the refusal of a file follows from its head and the bytes behind it.
-use Rattle.std.proofs.Common.{◌≡◌, ℕ, ◌+◌, ◌*◌, ◌%◌, ◌^◌, ◌<◌, List, ◌++◌, length, take, Bool, not, ◌&&◌, cond, Option, Some, None, sym, ap, ◌∙◌, arith, length-append}
+use Rattle.std.proofs.Common.{◌≡◌, ℕ, ◌+◌, ◌*◌, ◌%◌, ◌^◌, ◌<◌, List, ◌++◌, length, length-drop, take, drop, Bool, not, ◌&&◌, cond, Option, Some, None, refl, sym, ap, ◌∙◌, arith, length-append}
 use Rattle.std.specs.Prelude.{slice_index, nat_eq, nat_le, nat_lt}
 use Rattle.std.specs.Option.{option_or}
 use Rattle.std.proofs.lemmas.Bool.{le-leb, lt-ltb, le-ltb}
-use Rattle.std.proofs.lemmas.List.{drop_at, get_or_append_left, take-append-le}
+use Rattle.std.proofs.lemmas.List.{drop_at, drop-append-le, get_or_append_left, take-append-le}
 use Rattle.bloom_parts.specs.Sip.{sip, whole_words}
 use Rattle.bloom_plain.specs.declared.file.error.FileError.{FileError}
-use Rattle.bloom_plain.specs.declared.file.error.FileError.TheVariants.{NotAFilter, Version, HashCount, EmptyWords, TooManyWords, Cut, TooLong, Reserved}
+use Rattle.bloom_plain.specs.declared.file.error.FileError.TheVariants.{NotAFilter, Version, HashCount, EmptyWords, TooManyWords, Cut, TooLong, Reserved, Blocked, NotBlocked, PartOfALine}
+use Rattle.bloom_plain.specs.declared.file.layout.Layout.{Layout}
+use Rattle.bloom_plain.specs.declared.file.layout.Layout.TheVariants.{Whole, Lines}
 use Rattle.bloom_plain.specs.File.{mark}
-use Rattle.bloom_plain.specs.FileRefusals.{file_refusal, has_number, head_refusal, is_hash_count, number_at, reserved_refusal, seal_in, seal_refusal, size_refusal, wrong_seal}
+use Rattle.bloom_plain.specs.FileLayouts.{layout_refusal, refusal_in, right_seal_in, seal_refusal_in, sealed_bytes}
+use Rattle.bloom_plain.specs.FileRefusals.{has_number, head_refusal, is_hash_count, number_at, size_refusal, wrong_seal}
 use Rattle.bloom_plain.proofs.NumberLemmas.{length-whole_words, whole_words-append}
 
 -- the refusal of a head, by its first numbers and by which of them are there
@@ -20,9 +23,31 @@ refusal_by first hashes words second third =
     (cond (third && nat_eq words 0) (Some EmptyWords)
     (cond (third && nat_le (2 ^ 58) words) (Some TooManyWords) None))))
 
--- the refusal of what lies at the end of a head
-abbrev reserved_by : ℕ → ℕ → Option FileError
-reserved_by sixth seventh = cond (nat_eq sixth 0 && nat_eq seventh 0) None (Some Reserved)
+-- the refusal of the end of a head, by the number of words and the last two numbers
+abbrev end_by : Layout → ℕ → ℕ → ℕ → Option FileError
+end_by Whole words sixth seventh =
+    cond (not (nat_lt sixth 2 && nat_eq seventh 0)) (Some Reserved)
+    (cond (nat_eq sixth 1) (Some Blocked) None)
+end_by Lines words sixth seventh =
+    cond (not (nat_lt sixth 2 && nat_eq seventh 0)) (Some Reserved)
+    (cond (nat_eq sixth 0) (Some NotBlocked)
+    (cond (nat_eq (words % 8) 0) None (Some PartOfALine)))
+
+-- it is that of the numbers
+end-is : (layout : Layout) (bytes : List ℕ) → layout_refusal layout bytes
+    ≡ end_by layout (number_at bytes 2) (number_at bytes 6) (number_at bytes 7)
+end-is Whole bytes = refl
+end-is Lines bytes = refl
+
+-- a seal covers nothing behind the head
+sealed-front : (layout : Layout) (head body : List ℕ) → length head ≡ 64
+    → sealed_bytes layout (head ++ body) ≡ sealed_bytes layout head
+sealed-front Whole head body size = take-append-le 40 head body (omega (arith, size))
+sealed-front Lines head body size =
+    (λ i. take-append-le 40 head body (omega (arith, size)) i
+    ++ take 8 (drop-append-le 48 head body (omega (arith, size)) i))
+    ∙ ap (λ l. take 40 head ++ l)
+    (take-append-le 8 (drop 48 head) body (omega (arith, size, length-drop 48 head)))
 
 -- the refusal of a size, where another is right
 abbrev size_by : ℕ → ℕ → Option FileError
@@ -71,21 +96,26 @@ module _ (head body : List ℕ) (size : length head ≡ 64) where
       (number_at-head 2 (omega arith) i) (has_number-head 1 (omega arith) i)
       (has_number-head 2 (omega arith) i)
 
-  -- the head decides what is reserved
-  pub reserved_refusal-head : reserved_refusal (head ++ body) ≡ reserved_refusal head
-  reserved_refusal-head i =
-      reserved_by (number_at-head 6 (omega arith) i) (number_at-head 7 (omega arith) i)
+  -- the head decides the refusal of its end
+  pub layout_refusal-head : (layout : Layout)
+      → layout_refusal layout (head ++ body) ≡ layout_refusal layout head
+  layout_refusal-head layout =
+      end-is layout (head ++ body)
+      ∙ (λ i. end_by layout (number_at-head 2 (omega arith) i) (number_at-head 6 (omega arith) i)
+      (number_at-head 7 (omega arith) i))
+      ∙ sym (end-is layout head)
 
   -- what a seal covers
-  pub seal_in-head : seal_in (head ++ body) ≡ sip 0 0 (take 40 head ++ body)
-  seal_in-head i =
-      sip 0 0 (take-append-le 40 head body (omega (arith, size)) i
-      ++ drop_at head body 64 size i)
+  pub right_seal_in-head : (layout : Layout)
+      → right_seal_in layout (head ++ body) ≡ sip 0 0 (sealed_bytes layout head ++ body)
+  right_seal_in-head layout i =
+      sip 0 0 (sealed-front layout head body size i ++ drop_at head body 64 size i)
 
   -- the refusal of the seal
-  pub seal_refusal-head : seal_refusal (head ++ body)
-      ≡ wrong_seal (number_at head 5) (sip 0 0 (take 40 head ++ body))
-  seal_refusal-head i = wrong_seal (number_at-head 5 (omega arith) i) (seal_in-head i)
+  pub seal_refusal-head : (layout : Layout) → seal_refusal_in layout (head ++ body)
+      ≡ wrong_seal (number_at head 5) (sip 0 0 (sealed_bytes layout head ++ body))
+  seal_refusal-head layout i =
+      wrong_seal (number_at-head 5 (omega arith) i) (right_seal_in-head layout i)
 
   -- how many bytes there are, and how many there must be
   size_refusal-head : size_refusal (head ++ body)
@@ -117,19 +147,19 @@ module _ (head body : List ℕ) (size : length head ≡ 64) where
       (omega (arith, size, right, length-append head body))
 
   -- the refusal of a file whose head isn't refused, but whose size is
-  pub file_refusal-size : (error : FileError) → head_refusal head ≡ None
-      → size_refusal (head ++ body) ≡ Some error → file_refusal (head ++ body) ≡ Some error
-  file_refusal-size error good is i =
+  pub refusal_in-size : (layout : Layout) (error : FileError) → head_refusal head ≡ None
+      → size_refusal (head ++ body) ≡ Some error → refusal_in layout (head ++ body) ≡ Some error
+  refusal_in-size layout error good is i =
       option_or ((head_refusal-head ∙ good) i)
       (option_or (is i)
-      (option_or (reserved_refusal (head ++ body)) (seal_refusal (head ++ body))))
+      (option_or (layout_refusal layout (head ++ body)) (seal_refusal_in layout (head ++ body))))
 
   -- the refusal of a file of the right size
-  pub file_refusal-head : length body ≡ 8 * number_at head 2
-      → file_refusal (head ++ body) ≡ option_or (head_refusal head)
-      (option_or (reserved_refusal head)
-      (wrong_seal (number_at head 5) (sip 0 0 (take 40 head ++ body))))
-  file_refusal-head right i =
+  pub refusal_in-head : (layout : Layout) → length body ≡ 8 * number_at head 2
+      → refusal_in layout (head ++ body) ≡ option_or (head_refusal head)
+      (option_or (layout_refusal layout head)
+      (wrong_seal (number_at head 5) (sip 0 0 (sealed_bytes layout head ++ body))))
+  refusal_in-head layout right i =
       option_or (head_refusal-head i)
       (option_or (size_refusal-none right i)
-      (option_or (reserved_refusal-head i) (seal_refusal-head i)))
+      (option_or (layout_refusal-head layout i) (seal_refusal-head layout i)))

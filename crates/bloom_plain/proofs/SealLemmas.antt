@@ -1,26 +1,32 @@
 -- The seal of a file: what its hasher has taken in.
-use Rattle.std.proofs.Common.{◌≡◌, ℕ, ◌+◌, ◌<◌, List, [], ◌++◌, length, take, subst, sym, ap, ◌∙◌, append_assoc, append-nil}
+use Rattle.std.proofs.Common.{◌≡◌, ℕ, ◌+◌, ◌<◌, List, [], ◌++◌, length, take, drop, subst, sym, ap, ◌∙◌, append_assoc, append-nil}
 use Rattle.std.specs.Prelude.{slice_index}
 use Rattle.std.specs.Int.{w64, to_le_bytes}
 use Rattle.bloom_parts.specs.Hashed.{SipState, Hashed, Takes}
-use Rattle.bloom_plain.specs.File.{bytes_of, head_numbers, opening}
+use Rattle.bloom_plain.specs.File.{bytes_of}
+use Rattle.bloom_plain.specs.FileLayouts.{numbers_in, sealed_bytes, sealed_numbers}
 use Rattle.bloom_plain.specs.declared.file.head.Head.{Head}
+use Rattle.bloom_plain.specs.declared.file.layout.Layout.{Layout}
+use Rattle.bloom_plain.specs.declared.file.layout.Layout.TheVariants.{Whole, Lines}
 use Rattle.bloom_plain.proofs.NumberLemmas.{bytes_of-next}
 
--- the opening is the first forty bytes of a head
-pub take-head : (head : Head) (seal : ℕ) (bytes : List ℕ)
-    → bytes ≡ bytes_of (head_numbers head seal)
-    → take 40 bytes ≡ bytes_of (opening head)
+-- what a seal covers of a head has the bytes of some of its numbers
+pub sealed-head : (layout : Layout) (head : Head) (seal : ℕ) (bytes : List ℕ)
+    → bytes ≡ bytes_of (numbers_in layout head seal)
+    → sealed_bytes layout bytes ≡ bytes_of (sealed_numbers layout head)
 unfolding bytes_of
-take-head head seal bytes is = ap (take 40) is
+sealed-head Whole head seal bytes is = ap (take 40) is
+sealed-head Lines head seal bytes is = ap (λ l. take 40 l ++ take 8 (drop 48 l)) is
 
--- the hasher has taken in the opening, and no word
-pub seal-begins : (h : SipState) (head : Head) (bytes : List ℕ)
-    → bytes ≡ bytes_of (head_numbers head 0) → Hashed h 0 0 (take 40 bytes)
-    → Hashed h 0 0 (bytes_of (opening head) ++ bytes_of [])
+-- the hasher has taken in these, and no word
+pub seal-begins : (layout : Layout) (h : SipState) (head : Head) (bytes : List ℕ)
+    → bytes ≡ bytes_of (numbers_in layout head 0) → Hashed h 0 0 (sealed_bytes layout bytes)
+    → Hashed h 0 0 (bytes_of (sealed_numbers layout head) ++ bytes_of [])
 unfolding bytes_of
-seal-begins h head bytes is hashed =
-    subst (Hashed h 0 0) (take-head head 0 bytes is ∙ sym (append-nil (bytes_of (opening head))))
+seal-begins layout h head bytes is hashed =
+    subst (Hashed h 0 0)
+    (sealed-head layout head 0 bytes is
+    ∙ sym (append-nil (bytes_of (sealed_numbers layout head))))
     hashed
 
 -- the hasher has taken in one word more

@@ -5,35 +5,39 @@ use Rattle.std.proofs.lemmas.Bool.{cases_lt}
 use Rattle.std.specs.Option.{option_or}
 use Rattle.std.specs.Io.KnownBytes.{Consumes, IsAtEnd}
 use Rattle.bloom_plain.specs.declared.file.error.FileError.{FileError}
-use Rattle.bloom_plain.specs.FileRefusals.{file_refusal, head_refusal, reserved_refusal, seal_refusal, size_refusal}
+use Rattle.bloom_plain.specs.declared.file.layout.Layout.{Layout}
+use Rattle.bloom_plain.specs.FileLayouts.{layout_refusal, refusal_in, seal_refusal_in}
+use Rattle.bloom_plain.specs.FileRefusals.{head_refusal, size_refusal}
 use Rattle.bloom_plain.proofs.RefusalLemmas.{head_refusal-head}
 
 -- a head that is refused decides for the file
-file_refusal-first : (bytes : List ℕ) (error : FileError) → head_refusal bytes ≡ Some error
-    → file_refusal bytes ≡ Some error
-file_refusal-first bytes error is =
+refusal_in-first : (layout : Layout) (bytes : List ℕ) (error : FileError)
+    → head_refusal bytes ≡ Some error → refusal_in layout bytes ≡ Some error
+refusal_in-first layout bytes error is =
     ap (λ first. option_or first (option_or (size_refusal bytes)
-    (option_or (reserved_refusal bytes) (seal_refusal bytes)))) is
+    (option_or (layout_refusal layout bytes) (seal_refusal_in layout bytes)))) is
 
 -- the refusal of a beginning that is a whole head, or all that the reader had, is that of the file
-told-part : (old mid : Option (List ℕ)) (part : List ℕ) (error : FileError)
+told-part : (layout : Layout) (old mid : Option (List ℕ)) (part : List ℕ) (error : FileError)
     → Consumes old mid part → head_refusal part ≡ Some error → (length part ≡ 64) ⊎ IsAtEnd mid
-    → IfSome old (λ bytes. file_refusal bytes ≡ Some error)
-told-part None mid part error taken is much = tt
-told-part (Some bytes) None part error taken is much = absurd taken
-told-part (Some bytes) (Some rest) part error taken is (inl size) =
-    file_refusal-first bytes error (ap head_refusal taken ∙ head_refusal-head part rest size ∙ is)
-told-part (Some bytes) (Some rest) part error taken is (inr end) =
-    file_refusal-first bytes error
+    → IfSome old (λ bytes. refusal_in layout bytes ≡ Some error)
+told-part layout None mid part error taken is much = tt
+told-part layout (Some bytes) None part error taken is much = absurd taken
+told-part layout (Some bytes) (Some rest) part error taken is (inl size) =
+    refusal_in-first layout bytes error
+    (ap head_refusal taken ∙ head_refusal-head part rest size ∙ is)
+told-part layout (Some bytes) (Some rest) part error taken is (inr end) =
+    refusal_in-first layout bytes error
     (ap head_refusal (taken ∙ ap (λ l. part ++ l) end ∙ append-nil part) ∙ is)
 
 -- the same, where a buffer of 64 bytes was filled as far as the reader had bytes
-pub told-start : (old mid : Option (List ℕ)) (buffer : List ℕ) (count : ℕ) (error : FileError)
-    → length buffer ≡ 64 → count ≤ length buffer → Consumes old mid (take count buffer)
+pub told-start : (layout : Layout) (old mid : Option (List ℕ)) (buffer : List ℕ) (count : ℕ)
+    (error : FileError) → length buffer ≡ 64 → count ≤ length buffer
+    → Consumes old mid (take count buffer)
     → (count < length buffer → IsAtEnd mid) → head_refusal (take count buffer) ≡ Some error
-    → IfSome old (λ bytes. file_refusal bytes ≡ Some error)
-told-start old mid buffer count error size within taken end is =
-    told-part old mid (take count buffer) error taken is (much (cases_lt count 64))
+    → IfSome old (λ bytes. refusal_in layout bytes ≡ Some error)
+told-start layout old mid buffer count error size within taken end is =
+    told-part layout old mid (take count buffer) error taken is (much (cases_lt count 64))
   where
     much : (count < 64) ⊎ (64 ≤ count) → (length (take count buffer) ≡ 64) ⊎ IsAtEnd mid
     much (inl less) = inr (end (omega (arith, less, size)))

@@ -51,11 +51,6 @@ StopsEnd known TooLong = IfSome known (λ bytes. 0 < length bytes)
 StopsEnd known (Input kind) = ⊤
 StopsEnd known _ = ⊥
 
--- the error is the refusal of all that a reader has, where it is known, or a failed read
-abbrev pub IsToldOf : Option (List ℕ) → FileError → Type 0
-IsToldOf known error =
-    IsInput (Some error) ⊎ IfSome known (λ bytes. file_refusal bytes ≡ Some error)
-
 -- bytes that decide no refusal of a file yet: its head isn't whole, or it isn't refused and no byte
 -- follows the words of which it tells
 abbrev pub IsUndecided : List ℕ → Type 0

@@ -5,7 +5,7 @@ use Rattle.std.specs.Option.{option_or}
 use Rattle.bloom_parts.specs.Sip.{sip, whole_words}
 use Rattle.bloom_plain.specs.declared.file.head.Head.{Head}
 use Rattle.bloom_plain.specs.declared.file.error.FileError.{FileError}
-use Rattle.bloom_plain.specs.declared.file.error.FileError.TheVariants.{NotAFilter, Version, HashCount, EmptyWords, TooManyWords, Cut, TooLong, Reserved, Seal, Memory}
+use Rattle.bloom_plain.specs.declared.file.error.FileError.TheVariants.{NotAFilter, Version, HashCount, EmptyWords, TooManyWords, Cut, TooLong, Reserved, Blocked, Seal, Memory}
 use Rattle.bloom_plain.specs.Data.{DefaultFilter}
 use Rattle.bloom_plain.specs.File.{mark, IsFileOf}
 
@@ -43,10 +43,16 @@ size_refusal bytes =
     else if nat_lt (file_size bytes) (length bytes) then Some TooLong
     else None
 
--- why a head with other numbers than 0 at its end is refused
+-- whether the last two numbers of a head are those of any layout of words: 0 or 1, and then 0
+abbrev pub has_layout : List ℕ → Bool
+has_layout bytes = nat_lt (number_at bytes 6) 2 && nat_eq (number_at bytes 7) 0
+
+-- why the end of a head is refused: it has the numbers of no layout, or those of a blocked filter
 abbrev pub reserved_refusal : List ℕ → Option FileError
 reserved_refusal bytes =
-    if nat_eq (number_at bytes 6) 0 && nat_eq (number_at bytes 7) 0 then None else Some Reserved
+    if not (has_layout bytes) then Some Reserved
+    else if nat_eq (number_at bytes 6) 1 then Some Blocked
+    else None
 
 -- the seal of a file, from all of its bytes but those of the seal and of what is reserved
 abbrev pub seal_in : List ℕ → ℕ

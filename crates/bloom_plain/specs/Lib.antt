@@ -3,6 +3,7 @@ pub mod CommandOf
 pub mod Data
 pub mod File
 pub mod FileCodes
+pub mod FileLayouts
 pub mod FileReads
 pub mod FileRefusals
 pub mod Filter

@@ -1,12 +1,18 @@
 //! One file of a filter: 64 bytes, and then the words.
 //!
 //! All numbers are little-endian, of eight bytes each: `fbloom`, 0 and the version `1`; the number
-//! of hashes; the number of words; the key's two words; the seal; two zeros; then the words.
+//! of hashes; the number of words; the key's two words; the seal; the number of the layout of the
+//! words, which is 1 for lines and else 0; a zero; then the words.
 mod bytes;
 mod error;
+mod filter;
 mod head;
+mod layout;
 mod numbers;
 mod streams;
 
+pub use bytes::{parts_from_bytes, parts_to_bytes};
 pub use error::FileError;
 pub use head::{Head, head_bytes, read_head, seal};
+pub use layout::Layout;
+pub use streams::{read_parts, write_parts};

@@ -1,5 +1,5 @@
 -- The definitions of this library, and those of the libraries below it that its contracts cite:
--- `bloom_plain` on plain filters, `bloom_steps` on word steps.
+-- `bloom_plain` on plain filters, `bloom_blocked` on blocked ones, `bloom_steps` on word steps.
 pub mod Fill
 pub mod LiveStore
 pub mod LoadedOnes
@@ -11,11 +11,25 @@ pub mod SeatedLaws
 pub mod Seats
 pub mod Sets
 pub mod Shared
+pub use Rattle.bloom_blocked.specs.Blocked
+pub use Rattle.bloom_blocked.specs.BlockedData
+pub use Rattle.bloom_blocked.specs.BlockedFile
+pub use Rattle.bloom_blocked.specs.BlockedLaws
+pub use Rattle.bloom_blocked.specs.BlockedSizing
+pub use Rattle.bloom_blocked.specs.LineRefusals
+pub use Rattle.bloom_blocked.specs.LineSteps
+pub use Rattle.bloom_blocked.specs.Lines
+pub use Rattle.bloom_blocked.specs.Many
+pub use Rattle.bloom_blocked.specs.SharedBlocked
+pub use Rattle.bloom_blocked.specs.declared.filter.data.BlockedFilterData
 pub use Rattle.bloom_plain.specs.Builders
 pub use Rattle.bloom_plain.specs.CommandOf
 pub use Rattle.bloom_plain.specs.Data
 pub use Rattle.bloom_plain.specs.File
 pub use Rattle.bloom_plain.specs.FileCodes
+pub use Rattle.bloom_plain.specs.FileLayouts
+pub use Rattle.bloom_plain.specs.FileReads
+pub use Rattle.bloom_plain.specs.FileRefusals
 pub use Rattle.bloom_plain.specs.Filter
 pub use Rattle.bloom_plain.specs.Laws
 pub use Rattle.bloom_plain.specs.Ones

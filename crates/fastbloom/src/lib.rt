@@ -8,6 +8,10 @@ mod parallel;
 mod seated;
 
 pub use atomic::AtomicBloomFilter;
+pub use bloom_blocked::{
+    AtomicBlockedBloomFilter, BlockedBloomFilter, BlockedBuilderWithBits,
+    BlockedBuilderWithFalsePositiveRate, BlockedFilterData, LinesError, laws as blocked_laws,
+};
 pub use bloom_parts::bit_vector::{AtomicWords, Words};
 pub use bloom_parts::error::FilterError;
 pub use bloom_parts::hasher::{CloneBuildHasher, DefaultHasher, RandomDefaultHasher};

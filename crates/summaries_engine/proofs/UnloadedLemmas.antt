@@ -67,6 +67,12 @@ module _ (bytes name : List ℕ) where
       inr ((λ begins. (_, refusal-of bytes _ (λ is. cc) (λ kind is. cc) read)), told)
   told-right file_error.Reserved stop told read =
       inr ((λ begins. (_, refusal-of bytes _ (λ is. cc) (λ kind is. cc) read)), told)
+  told-right file_error.Blocked stop told read =
+      inr ((λ begins. (_, refusal-of bytes _ (λ is. cc) (λ kind is. cc) read)), told)
+  told-right file_error.NotBlocked stop told read =
+      inr ((λ begins. (_, refusal-of bytes _ (λ is. cc) (λ kind is. cc) read)), told)
+  told-right file_error.PartOfALine stop told read =
+      inr ((λ begins. (_, refusal-of bytes _ (λ is. cc) (λ kind is. cc) read)), told)
   told-right file_error.Seal stop told read =
       inr ((λ begins. (_, refusal-of bytes _ (λ is. cc) (λ kind is. cc) read)), told)
   told-right file_error.Memory stop told read =

@@ -47,6 +47,8 @@ pub enum Error {
     Seal,
     /// A read failed, by this error.
     Input(Arc<io::Error>),
+    /// A file that is to be shared has a seal.
+    Sealed,
     /// A file has more hashes than the caller allows.
     TooManyHashes,
     /// Two filters differ in their numbers of words or hashes, or in their keys.
@@ -80,6 +82,7 @@ impl Error {
             Error::Reserved => fastbloom_c_sys::FASTBLOOM_RESERVED,
             Error::Seal => fastbloom_c_sys::FASTBLOOM_SEAL,
             Error::Input(_) => fastbloom_c_sys::FASTBLOOM_INPUT,
+            Error::Sealed => fastbloom_c_sys::FASTBLOOM_SEALED,
             Error::TooManyHashes | Error::OtherShape | Error::NotARate => return None,
         })
     }
@@ -96,6 +99,12 @@ impl Error {
             fastbloom_c_sys::FASTBLOOM_NOT_A_FILTER => Error::NotAFilter,
             fastbloom_c_sys::FASTBLOOM_UNKNOWN_VERSION => Error::Version,
             fastbloom_c_sys::FASTBLOOM_RESERVED => Error::Reserved,
+            fastbloom_c_sys::FASTBLOOM_CUT => Error::Cut,
+            fastbloom_c_sys::FASTBLOOM_TOO_LONG => Error::TooLong,
+            fastbloom_c_sys::FASTBLOOM_SEAL => Error::Seal,
+            fastbloom_c_sys::FASTBLOOM_MEMORY => Error::Memory,
+            fastbloom_c_sys::FASTBLOOM_SEALED => Error::Sealed,
+            fastbloom_c_sys::FASTBLOOM_TOO_MANY_HASHES => Error::TooManyHashes,
             _ => unreachable!("the library answers no other number"),
         })
     }
@@ -118,6 +127,7 @@ impl fmt::Display for Error {
             Error::Reserved => "a reserved byte isn't zero",
             Error::Seal => "the seal is wrong: the file was changed",
             Error::Input(error) => return write!(f, "input failed: {error}"),
+            Error::Sealed => "a file with a seal can't be shared",
             Error::TooManyHashes => "more hashes than are allowed",
             Error::OtherShape => "the filters differ in words, hashes or keys",
             Error::NotARate => "a rate is above 0 and below 1, with parts below 2^64",

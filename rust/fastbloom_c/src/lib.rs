@@ -72,6 +72,8 @@ mod error;
 mod estimates;
 mod file;
 mod many;
+#[allow(unsafe_code)]
+mod mapped;
 mod operators;
 mod paths;
 mod pieces;
@@ -86,6 +88,7 @@ pub use bloom::{hash, BloomFilter};
 pub use builder::{BuilderWithBits, BuilderWithFalsePositiveRate};
 pub use error::Error;
 pub use estimates::Estimate;
+pub use mapped::{MappedFilter, MappedWords};
 pub use pieces::Hasher;
 pub use rate::{Bracket, Rate};
 pub use shared::AtomicBloomFilter;

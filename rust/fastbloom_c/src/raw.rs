@@ -1,4 +1,5 @@
-//! The calls of the library over slices. This module and `raw_shared` alone have unsafe blocks.
+//! The calls of the library over slices. This module, `raw_shared` and `mapped` alone have
+//! unsafe blocks.
 //!
 //! The library asks for pointers that aren't null and are aligned, to initialized memory of the
 //! length that is given. A reference and a slice of Rust are that, also where there are no
@@ -31,7 +32,7 @@ pub struct Head {
 
 /// Panics where the processor can't run the library. The calls below that need nothing else ask this
 /// first: one of them comes before each filter and each hash of pieces.
-fn check_processor() {
+pub fn check_processor() {
     let fits = is_x86_feature_detected!("sse4.2") && is_x86_feature_detected!("popcnt");
     assert!(
         fits,

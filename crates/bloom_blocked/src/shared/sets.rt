@@ -7,6 +7,7 @@ ghost use Rattle.bloom_blocked.specs.SharedBlocked.{HaveSameLines, MakesCallOnLi
 
 use super::AtomicBlockedBloomFilter;
 use super::keeping_store::KeepingStore;
+use bloom_parts::bit_vector::AtomicWords;
 use bloom_parts::error::FilterError;
 use bloom_steps::{Call, drive};
 use std::alloc::Global;
@@ -50,6 +51,14 @@ impl<S> AtomicBlockedBloomFilter<S> {
         ensures { MakesCallOnLines self.now other.now call.Intersect None }
     {
         self.make(other, Call::Intersect);
+    }
+
+    /// An iterator over the words, word 0 first, which loads each when it is asked for it.
+    pub fn iter(&self) -> AtomicWords<'_>
+        ensures vector { result.vector ≡ self.now.words }
+        ensures next { result.next ≡ 0 }
+    {
+        self.words.iter()
     }
 
     /// The number of bits that are set, of the words as they were loaded, one after the other.

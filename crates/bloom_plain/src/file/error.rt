@@ -34,6 +34,15 @@ pub enum FileError {
     /// A byte that must be zero isn't.
     #[error("a reserved byte isn't zero")]
     Reserved,
+    /// The words are lines, and the filter that is read has none.
+    #[error("the file has a blocked filter")]
+    Blocked,
+    /// The words are no lines, and the filter that is read has lines.
+    #[error("the file's filter isn't blocked")]
+    NotBlocked,
+    /// The words are lines, and their number isn't a multiple of eight.
+    #[error("words that are no whole lines")]
+    PartOfALine,
     /// The seal is that of another file.
     #[error("the seal is wrong: the file was changed")]
     Seal,
@@ -62,6 +71,9 @@ impl FileError {
             FileError::Reserved => 13,
             FileError::Seal => 14,
             FileError::Input(_) => 15,
+            FileError::PartOfALine => 16,
+            FileError::Blocked => 17,
+            FileError::NotBlocked => 18,
         }
     }
 }

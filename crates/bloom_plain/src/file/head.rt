@@ -1,11 +1,15 @@
 //! The head of a file, and its seal.
 ghost use Rattle.std.specs.Prelude.{◌≡◌, ◌≤◌, ◌<◌, ◌^◌, ◌&&◌, not, length, None, IfOk};
 ghost use Rattle.std.specs.Result.{result_err};
+ghost use Rattle.bloom_parts.specs.Hashed.{Hashed};
 ghost use Rattle.bloom_parts.specs.Sip.{sip};
+ghost use Rattle.bloom_plain.specs.declared.file.layout.Layout.{Layout as ALayout};
 ghost use Rattle.bloom_plain.specs.File.{bytes_of, head_numbers, seal_of};
-ghost use Rattle.bloom_plain.specs.FileRefusals.{head_refusal, whole_head_refusal, reserved_refusal, seal_in, head_in, number_at, has_number, is_hash_count, wrong_seal};
+ghost use Rattle.bloom_plain.specs.FileLayouts.{layout_refusal, lines_refusal, numbers_in, right_seal, right_seal_in, sealed_bytes};
+ghost use Rattle.bloom_plain.specs.FileRefusals.{has_layout, head_refusal, whole_head_refusal, reserved_refusal, head_in, number_at, has_number, is_hash_count, wrong_seal};
 
 use super::error::FileError;
+use super::layout::Layout;
 use super::numbers::{number_at, put_numbers};
 use bloom_parts::bit_vector::MAX_WORDS;
 use bloom_parts::hasher::RandomDefaultHasher;
@@ -30,9 +34,9 @@ pub(super) const HEAD: usize = 64;
 // The number of the bytes `fbloom`, 0 and `1`.
 const MARK: u64 = 0x3100_6d6f_6f6c_6266;
 
-/// The 64 bytes of a head with a seal.
-pub fn head_bytes(head: &Head, seal: u64) -> [u8; 64]
-    ensures { result ≡ bytes_of (head_numbers head.now seal) }
+// The 64 bytes of a head with a layout and a seal.
+pub(super) fn head_bytes_in(layout: Layout, head: &Head, seal: u64) -> [u8; 64]
+    ensures { result ≡ bytes_of (numbers_in layout head.now seal) }
 {
     let numbers = [
         MARK,
@@ -41,7 +45,7 @@ pub fn head_bytes(head: &Head, seal: u64) -> [u8; 64]
         head.k0,
         head.k1,
         seal,
-        0,
+        layout.number(),
         0,
     ];
     let mut bytes = [0u8; 64];
@@ -49,27 +53,55 @@ pub fn head_bytes(head: &Head, seal: u64) -> [u8; 64]
     bytes
 }
 
-/// The seal of a head and words: SipHash-1-3 of the first forty bytes of the head and of the words,
-/// under the key of zeros.
-pub fn seal(head: &Head, words: &[u64]) -> u64
-    ensures { result ≡ seal_of head.now words.now }
+/// The 64 bytes of a head with a seal, of a filter that isn't blocked.
+pub fn head_bytes(head: &Head, seal: u64) -> [u8; 64]
+    ensures { result ≡ bytes_of (head_numbers head.now seal) }
 {
-    let bytes = head_bytes(head, 0);
+    head_bytes_in(Layout::Whole, head, seal)
+}
+
+// A hasher that has taken in what a seal covers of a head.
+pub(super) fn begin_seal(layout: Layout, head: &[u8]) -> RandomDefaultHasher
+    requires { 64 ≤ length head.now }
+    ensures { Hashed result 0 0 (sealed_bytes layout head.now) }
+{
     let mut hasher = RandomDefaultHasher::default();
-    hasher.write(&bytes[..40]);
+    hasher.write(&head[..40]);
+    match layout {
+        Layout::Whole => hasher,
+        Layout::Lines => {
+            hasher.write(&head[48..56]);
+            hasher
+        }
+    }
+}
+
+// The right seal of a head and words.
+pub(super) fn right_seal(layout: Layout, head: &Head, words: &[u64]) -> u64
+    ensures { result ≡ right_seal layout head.now words.now }
+{
+    let bytes = head_bytes_in(layout, head, 0);
+    let mut hasher = begin_seal(layout, &bytes);
     'words: for word in words {
         hasher.write_u64(*word);
     }
     hasher.finish()
 }
 
-// The seal that a file must have, unless it has none.
-pub(super) fn seal_in(bytes: &[u8]) -> u64
-    requires { 64 ≤ length bytes.now }
-    ensures { result ≡ seal_in bytes.now }
+/// The seal of a head and words, of a filter that isn't blocked: SipHash-1-3 of the first forty
+/// bytes of the head and of the words, under the key of zeros.
+pub fn seal(head: &Head, words: &[u64]) -> u64
+    ensures { result ≡ seal_of head.now words.now }
 {
-    let mut hasher = RandomDefaultHasher::default();
-    hasher.write(&bytes[..40]);
+    right_seal(Layout::Whole, head, words)
+}
+
+// The seal that a file must have, unless it has none.
+pub(super) fn right_seal_in(layout: Layout, bytes: &[u8]) -> u64
+    requires { 64 ≤ length bytes.now }
+    ensures { result ≡ right_seal_in layout bytes.now }
+{
+    let mut hasher = begin_seal(layout, bytes);
     hasher.write(&bytes[HEAD..]);
     hasher.finish()
 }
@@ -120,9 +152,10 @@ pub(super) fn check_head(bytes: &[u8]) -> Result<(), FileError>
 pub(super) fn head_in(bytes: &[u8]) -> Head
     requires { head_refusal bytes.now ≡ None }
     ensures head { result ≡ head_in bytes.now }
-    // The bytes of such a head, where its last numbers are 0, are those that were read.
-    ensures bytes { length bytes.now ≡ 64 → reserved_refusal bytes.now ≡ None
-        → bytes.now ≡ bytes_of (head_numbers (head_in bytes.now) (number_at bytes.now 5)) }
+    // The bytes of such a head, where its end isn't refused, are those that were read.
+    ensures bytes { (layout : ALayout) → length bytes.now ≡ 64
+        → layout_refusal layout bytes.now ≡ None
+        → bytes.now ≡ bytes_of (numbers_in layout (head_in bytes.now) (number_at bytes.now 5)) }
     ensures seal { number_at bytes.now 5 < 2 ^ 64 }
 {
     let _seal = number_at(bytes, 5);
@@ -134,21 +167,57 @@ pub(super) fn head_in(bytes: &[u8]) -> Head
     }
 }
 
-// Refuses a head with other numbers than 0 at its end.
-pub(super) fn check_reserved(bytes: &[u8]) -> Result<(), FileError>
+// Whether the end of a head has the numbers of a layout.
+fn has_layout(bytes: &[u8]) -> bool
+    ensures { result ≡ has_layout bytes.now }
+{
+    number_at(bytes, 6) < 2 && number_at(bytes, 7) == 0
+}
+
+// Refuses the end of a head that isn't that of a filter without lines.
+fn check_reserved(bytes: &[u8]) -> Result<(), FileError>
     ensures { result_err result ≡ reserved_refusal bytes.now }
 {
-    if number_at(bytes, 6) == 0 && number_at(bytes, 7) == 0 {
-        Ok(())
-    } else {
-        Err(FileError::Reserved)
+    if !has_layout(bytes) {
+        return Err(FileError::Reserved);
+    }
+    if number_at(bytes, 6) == 1 {
+        return Err(FileError::Blocked);
+    }
+    Ok(())
+}
+
+// Refuses the end of a head that isn't that of whole lines.
+fn check_lines(bytes: &[u8]) -> Result<(), FileError>
+    ensures { result_err result ≡ lines_refusal bytes.now }
+{
+    if !has_layout(bytes) {
+        return Err(FileError::Reserved);
+    }
+    if number_at(bytes, 6) == 0 {
+        return Err(FileError::NotBlocked);
+    }
+    if number_at(bytes, 2) % 8 != 0 {
+        return Err(FileError::PartOfALine);
+    }
+    Ok(())
+}
+
+// Refuses the end of a head that isn't that of this layout.
+pub(super) fn check_layout(layout: Layout, bytes: &[u8]) -> Result<(), FileError>
+    ensures { result_err result ≡ layout_refusal layout bytes.now }
+{
+    match layout {
+        Layout::Whole => check_reserved(bytes),
+        Layout::Lines => check_lines(bytes),
     }
 }
 
-/// What the head of a file says, and its seal, which is 0 where it has none.
+/// What the head of a file says whose filter isn't blocked, and its seal, which is 0 where it has
+/// none.
 ///
 /// # Errors
-/// `NotAFilter`, `Version`, `HashCount`, `EmptyWords`, `TooManyWords` and `Reserved`.
+/// `NotAFilter`, `Version`, `HashCount`, `EmptyWords`, `TooManyWords`, `Reserved` and `Blocked`.
 pub fn read_head(bytes: &[u8; 64]) -> Result<(Head, u64), FileError>
     ensures head { IfOk result (λ read. read.0 ≡ head_in bytes.now) }
     ensures seal { IfOk result (λ read. read.1 ≡ number_at bytes.now 5) }

@@ -1,18 +1,22 @@
-//! Files of readers and writers.
+//! Files of readers and writers: a head and words.
 ghost use Rattle.std.specs.Prelude.{◌≡◌, ◌+◌, ◌*◌, ◌%◌, ◌<◌, ◌≤◌, ◌^◌, [], None, length, max, vec_len, IfOk, IfErr, IfSome, OnOk, OnErr};
 ghost use Rattle.std.specs.Vec.{vec_capacity};
 ghost use Rattle.std.specs.Result.{result_err};
 ghost use Rattle.std.specs.Io.KnownBytes.{Appends, Consumes, IsAtEnd};
 ghost use Rattle.lines.specs.Writing.{AppendsPart};
-ghost use Rattle.bloom_plain.specs.File.{HasOwnKey, bytes_of, file_of};
-ghost use Rattle.bloom_plain.specs.FileReads.{AsksAsGiven, FailsEarly, FailsWithin, Gives, IsReadAs, IsToldOf, ReadsFile, ReadsWords, StopsEnd, StopsWords};
+ghost use Rattle.bloom_plain.specs.declared.file.layout.Layout.{Layout as ALayout};
+ghost use Rattle.bloom_plain.specs.File.{bytes_of};
+ghost use Rattle.bloom_plain.specs.FileLayouts.{IsReadIn, IsToldIn, ReadsParts, sealed_file};
+ghost use Rattle.bloom_plain.specs.FileReads.{AsksAsGiven, FailsEarly, FailsWithin, Gives, ReadsWords, StopsEnd, StopsWords};
 ghost use Rattle.bloom_plain.specs.FileRefusals.{head_refusal};
 
-use super::bytes::filter_with;
 use super::error::FileError;
-use super::head::{HEAD, check_head, check_reserved, check_seal, head_bytes, head_in, seal};
+use super::head::{
+    HEAD, Head, begin_seal, check_head, check_layout, check_seal, head_bytes_in, head_in,
+    right_seal,
+};
+use super::layout::Layout;
 use super::numbers::{number_at, push_numbers, put_numbers};
-use crate::bloom::BloomFilter;
 use bloom_parts::hasher::RandomDefaultHasher;
 use lines::{put_bytes, read_full};
 use std::alloc::Global;
@@ -139,7 +143,9 @@ fn read_start<R: Read>(input: &mut R) -> Result<[u8; 64], FileError>
         (λ head. Consumes (R.remaining input.old) (R.remaining input.new) head) }
     ensures size { IfOk result (λ head. length head ≡ 64) }
     ensures good { IfOk result (λ head. head_refusal head ≡ None) }
-    ensures refused { IfErr result (λ error. IsToldOf (R.remaining input.old) error) }
+    // It is refused so whatever the layout that is read.
+    ensures refused { IfErr result
+        (λ error. (layout : ALayout) → IsToldIn layout (R.remaining input.old) error) }
     ensures input { IfErr result
         (FailsWithin 64 (R.remaining input.old) (R.remaining input.new)) }
 {
@@ -171,51 +177,54 @@ fn read_end<R: Read>(input: &mut R) -> Result<(), FileError>
     }
 }
 
-impl BloomFilter {
-    /// Writes the file of this filter, and flushes nothing.
-    ///
-    /// # Errors
-    /// Where a write fails. Then a beginning of the file was written.
-    pub fn write_file<W: Write>(&self, output: &mut W) -> io::Result<()>
-        ensures whole { OnOk result
-            (Appends (W.contents output.old) (W.contents output.new) (file_of self.now)) }
-        ensures part { OnErr result
-            (AppendsPart (file_of self.now) (W.contents output.old) (W.contents output.new)) }
-    {
-        let head = self.head();
-        let words = self.as_slice();
-        put_bytes(output, &head_bytes(&head, seal(&head, words)))?;
-        put_words(output, words)
-    }
+/// Writes the file of a head and words that lie so, with the right seal, and flushes nothing.
+///
+/// # Errors
+/// Where a write fails. Then a beginning of the file was written.
+pub fn write_parts<W: Write>(
+    output: &mut W,
+    layout: Layout,
+    head: &Head,
+    words: &[u64],
+) -> io::Result<()>
+    ensures whole { OnOk result (Appends (W.contents output.old) (W.contents output.new)
+        (sealed_file layout head.now words.now)) }
+    ensures part { OnErr result (AppendsPart (sealed_file layout head.now words.now)
+        (W.contents output.old) (W.contents output.new)) }
+{
+    let seal = right_seal(layout, head, words);
+    put_bytes(output, &head_bytes_in(layout, head, seal))?;
+    put_words(output, words)
+}
 
-    /// Reads the filter of a file, to the end of the reader, under the file's key.
-    ///
-    /// Room is asked for as words come, so that a head that promises more of them costs nothing.
-    ///
-    /// # Errors
-    /// The first reason for which the bytes are no file of a filter, in the order of the variants
-    /// of `FileError`; `Memory`, where the head isn't refused; and `Input`, where a read fails
-    /// before the bytes decide a reason: a head of fewer than 64 bytes, or one that isn't refused
-    /// with no byte behind its words, decides none yet.
-    pub fn read_file<R: Read>(alloc: Global, input: &mut R) -> Result<Self, FileError>
-        ensures file { IfOk result
-            (ReadsFile (R.remaining input.old) (R.remaining input.new)) }
-        ensures key { IfOk result HasOwnKey }
-        ensures refused { IfSome (R.remaining input.old)
-            (λ bytes. IsReadAs bytes (result_err result)) }
-        // A failed read is told only where the bytes before it decide no refusal yet.
-        ensures input { IfErr result
-            (FailsEarly (R.remaining input.old) (R.remaining input.new)) }
-    {
-        let start = read_start(input)?;
-        let head = head_in(&start);
-        let mut hasher = RandomDefaultHasher::default();
-        hasher.write(&start[..40]);
-        let mut words = Vec::new(alloc);
-        read_words(input, head.num_words, &mut words, &mut hasher)?;
-        read_end(input)?;
-        check_reserved(&start)?;
-        check_seal(number_at(&start, 5), hasher.finish())?;
-        Ok(filter_with(head, words))
-    }
+/// Reads the head and the words of a file whose words lie so, to the end of the reader.
+///
+/// Room is asked for as words come, so that a head that promises more of them costs nothing.
+///
+/// # Errors
+/// The first reason for which the bytes are no such file, in the order of the variants of
+/// `FileError`; `Memory`, where the head isn't refused for its first numbers; and `Input`, where a
+/// read fails before the bytes decide a reason.
+pub fn read_parts<R: Read>(
+    alloc: Global,
+    layout: Layout,
+    input: &mut R,
+) -> Result<(Head, Vec<u64>), FileError>
+    ensures file { IfOk result (λ parts. ReadsParts layout
+        (R.remaining input.old) (R.remaining input.new) parts.0 parts.1.items) }
+    ensures refused { IfSome (R.remaining input.old)
+        (λ bytes. IsReadIn layout bytes (result_err result)) }
+    // A failed read is told only where the bytes before it decide no refusal yet.
+    ensures input { IfErr result
+        (FailsEarly (R.remaining input.old) (R.remaining input.new)) }
+{
+    let start = read_start(input)?;
+    let head = head_in(&start);
+    let mut hasher = begin_seal(layout, &start);
+    let mut words = Vec::new(alloc);
+    read_words(input, head.num_words, &mut words, &mut hasher)?;
+    read_end(input)?;
+    check_layout(layout, &start)?;
+    check_seal(number_at(&start, 5), hasher.finish())?;
+    Ok((head, words))
 }

@@ -6,7 +6,7 @@ use std::alloc::AllocError;
 use std::io::ErrorKind;
 
 // As docs/FILE.md tells them.
-const ERRORS: [(FileError, u8, &'static str); 11] = [
+const ERRORS: [(FileError, u8, &'static str); 14] = [
     (FileError::NotAFilter, 9, "not a filter"),
     (
         FileError::Version,
@@ -23,6 +23,9 @@ const ERRORS: [(FileError, u8, &'static str); 11] = [
         "the file goes on after its last word",
     ),
     (FileError::Reserved, 13, "a reserved byte isn't zero"),
+    (FileError::Blocked, 17, "the file has a blocked filter"),
+    (FileError::NotBlocked, 18, "the file's filter isn't blocked"),
+    (FileError::PartOfALine, 16, "words that are no whole lines"),
     (
         FileError::Seal,
         14,
@@ -48,7 +51,7 @@ fn each_refusal_has_its_text_and_number(rt: HostRuntime) -> Result<(), AllocErro
 // A place of the worked file, the number that is put there, how many bytes are read of the file,
 // and why it is refused then. The seal is wrong wherever nothing comes before it. Fifteen bytes
 // don't tell a number of hashes, nor 23 a number of words. Nobody has the memory for 2^57 words.
-const REFUSED: [(usize, u64, usize, FileError); 23] = [
+const REFUSED: [(usize, u64, usize, FileError); 24] = [
     (0, 0x3100_6d6f_6f6c_6267, 72, FileError::NotAFilter),
     (0, 0x3101_6d6f_6f6c_6266, 72, FileError::NotAFilter),
     (0, 0x3200_6d6f_6f6c_6266, 72, FileError::Version),
@@ -68,7 +71,8 @@ const REFUSED: [(usize, u64, usize, FileError); 23] = [
     (24, 0x0706_0504_0302_0101, 72, FileError::Seal),
     (32, 0x8f0e_0d0c_0b0a_0908, 72, FileError::Seal),
     (40, 0x5d9d_8dee_d40a_1ba9, 72, FileError::Seal),
-    (48, 1, 72, FileError::Reserved),
+    (48, 1, 72, FileError::Blocked),
+    (48, 2, 72, FileError::Reserved),
     (56, 1 << 63, 72, FileError::Reserved),
     (64, 0x1080_0080_4000_1401, 72, FileError::Seal),
     (64, 0x9080_0080_4000_1400, 72, FileError::Seal),

@@ -1,0 +1,20 @@
+use Rattle.std.proofs.Common.{sym, ◌∙◌}
+use Rattle.std.proofs.lemmas.Result.{IfOk-weaker}
+use Rattle.bloom_plain.specs.declared.file.layout.Layout.TheVariants.{Lines}
+use Rattle.bloom_plain.specs.FileLayouts.{sealed_file}
+use Rattle.bloom_blocked.proofs.LineFileLemmas.{file-of}
+use Rattle.bloom_blocked.proofs.filter.file.BlockedBloomFilter.to_bytes.Goals as goal
+
+pub returns-clause-value : goal.returns-clause-value
+returns-clause-value c =
+    IfOk-weaker c.parts_to_bytes.result _ _
+    (λ bytes is.
+    is ∙ (λ i. sealed_file Lines (c.head-head.ensures.head i) (c.as_slice.ensures.value i)))
+    c.parts_to_bytes.ensures.value
+
+pub returns-clause-file : goal.returns-clause-file
+returns-clause-file c =
+    IfOk-weaker c.parts_to_bytes.result _ _
+    (λ bytes is. file-of bytes.items _ _ c.args.self.now (sym c.head-head.ensures.head)
+    (sym c.as_slice.ensures.value) c.head-head.ensures.range is)
+    c.parts_to_bytes.ensures.file

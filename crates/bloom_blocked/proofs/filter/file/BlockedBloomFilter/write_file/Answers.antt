@@ -1,0 +1,23 @@
+use Rattle.std.proofs.Common.{subst}
+use Rattle.std.specs.Prelude.{OnErr, OnOk}
+use Rattle.std.specs.Io.KnownBytes.{Appends}
+use Rattle.lines.specs.Writing.{AppendsPart}
+use Rattle.bloom_plain.specs.declared.file.layout.Layout.TheVariants.{Lines}
+use Rattle.bloom_plain.specs.FileLayouts.{sealed_file}
+use Rattle.bloom_blocked.proofs.filter.file.BlockedBloomFilter.write_file.Goals as goal
+
+pub returns-clause-whole : goal.returns-clause-whole
+returns-clause-whole g c =
+    let from = g.W.Write.contents c.args.output.now in
+    let to = g.W.Write.contents c.write_parts.new.output in
+    subst (λ text. OnOk c.write_parts.result (Appends from to text))
+    (λ i. sealed_file Lines (c.head-head.ensures.head i) (c.as_slice.ensures.value i))
+    c.write_parts.ensures.whole
+
+pub returns-clause-part : goal.returns-clause-part
+returns-clause-part g c =
+    let from = g.W.Write.contents c.args.output.now in
+    let to = g.W.Write.contents c.write_parts.new.output in
+    subst (λ text. OnErr c.write_parts.result (AppendsPart text from to))
+    (λ i. sealed_file Lines (c.head-head.ensures.head i) (c.as_slice.ensures.value i))
+    c.write_parts.ensures.part
