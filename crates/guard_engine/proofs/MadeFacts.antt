@@ -96,7 +96,8 @@ made_of-taken is listed =
     ∙ ap (λ (keys : List (List ℕ)). (room_for (length keys) 1000000).taken) listed
 
 -- a key that the store has is one of the keys
-made_of-uncounted : {room : Room} (is : IsMadeOf above 1000000 one (filter 131072 1) room) → is.keys ≡ [] → ⊥
+made_of-uncounted : {room : Room} (is : IsMadeOf above 1000000 one (filter 131072 1) room)
+    → is.keys ≡ [] → ⊥
 made_of-uncounted is uncounted =
     let there = subst (λ keys. Contains keys (1 ∷ [])) uncounted
     (is.lists (1 ∷ []) (2 ∷ []) (refl, refl)) in

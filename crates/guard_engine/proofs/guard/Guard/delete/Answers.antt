@@ -15,7 +15,8 @@ returns-clause-told g c known kept_known =
           let now = subst g.T.Store.is_known (ap (λ s. s.store) w.self-is) known in
           let kept = subst g.K.Kept.is_known (ap (λ s. s.kept) w.self-is ∙ found.kept) kept_known in
           rw w.result-is
-          (had-none entries key (found.spared (found.known now) kept (c.in_ok-get.was ∙ ap Ok w.in-Spared.is)))
+          (had-none entries key
+          (found.spared (found.known now) kept (c.in_ok-get.was ∙ ap Ok w.in-Spared.is)))
       | in-FalseAlarm w ↦
           let now = subst g.T.Store.is_known (ap (λ s. s.store) w.self-is) known in
           let kept = subst g.K.Kept.is_known (ap (λ s. s.kept) w.self-is ∙ found.kept) kept_known in
