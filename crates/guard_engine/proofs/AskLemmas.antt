@@ -62,8 +62,8 @@ pub record IsAsking {S L : Type 0} (sight : S → Sight) (is_known : S → Type 
 pub asking-nil : {S L : Type 0} {sight : S → Sight} {is_known : S → Type 0}
     {is_kept : L → Type 0} {f : DefaultFilter} {old : S} {old_kept : L} {room : Room}
     {start : Counts} (reader : Waiting) (rest : Option (List ℕ)) → reader.bytes ≡ []
-    → reader.ended ≡ false → reader.longest ≡ 1048576 → {told : Counts} → told ≡ start → told.spared < 2 ^ 64
-    → told.asked < 2 ^ 64 → told.false_alarms < 2 ^ 64
+    → reader.ended ≡ false → reader.longest ≡ 1048576 → {told : Counts} → told ≡ start
+    → told.spared < 2 ^ 64 → told.asked < 2 ^ 64 → told.false_alarms < 2 ^ 64
     → IsAsking sight is_known is_kept rest f old old_kept room start reader rest f old old_kept room
     start 0
 asking-nil {sight = sight} {is_known = is_known} {is_kept = is_kept} {f = f} {old = old}
