@@ -16,6 +16,7 @@ SECTIONS = {
     "fastbloom_insert_hash": "INSERTS AND LOOK-UPS",
     "fastbloom_clear": "WHOLE FILTERS",
     "fastbloom_estimate": "ESTIMATES",
+    "fastbloom_blocked_plan": "BLOCKED FILTERS",
     "fastbloom_shared": "WORDS THAT THREADS SHARE",
     "fastbloom_seal": "HEADS OF FILES",
     "fastbloom_filter": "FILES",

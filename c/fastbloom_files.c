@@ -49,6 +49,9 @@ const char *fastbloom_strerror(uint8_t code) {
     case FASTBLOOM_RESERVED: return "a reserved byte isn't zero";
     case FASTBLOOM_SEAL: return "the seal is wrong: the file was changed";
     case FASTBLOOM_INPUT: return "input failed";
+    case FASTBLOOM_PART_OF_A_LINE: return "words that are no whole lines";
+    case FASTBLOOM_BLOCKED: return "the file has a blocked filter";
+    case FASTBLOOM_NOT_BLOCKED: return "the file's filter isn't blocked";
     case FASTBLOOM_SEALED: return "the file has a seal, which inserts would make wrong";
     case FASTBLOOM_OUTPUT: return "output failed";
     case FASTBLOOM_RATE_TOO_LARGE: return "rate of 1 or above";

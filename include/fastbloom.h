@@ -57,8 +57,8 @@ extern "C" {
 #endif
 
 /* Status codes. FASTBLOOM_OK is success, and each other number is the reason for a refusal. The
- * proved calls answer 2 to 5, 7, 9, 10 and 13, and those on files 2, 3, 6, 7, 9 to 15 and 252, 253
- * and 255. The other numbers are those of the Rattle library. */
+ * proved calls answer 2 to 5, 7, 9, 10, 13 and 17, and those on files 2, 3, 6, 7, 9 to 15, 17 and
+ * 252, 253 and 255. The other numbers are those of the Rattle library. */
 enum fastbloom_status {
     FASTBLOOM_OK = 0,
     FASTBLOOM_ZERO_BITS = 1,        /* zero bits */
@@ -75,7 +75,10 @@ enum fastbloom_status {
     FASTBLOOM_TOO_LONG = 12,        /* bytes follow the last word */
     FASTBLOOM_RESERVED = 13,        /* a byte that must be zero isn't */
     FASTBLOOM_SEAL = 14,            /* the seal is wrong: the file was changed */
-    FASTBLOOM_INPUT = 15            /* a read failed */
+    FASTBLOOM_INPUT = 15,           /* a read failed */
+    FASTBLOOM_PART_OF_A_LINE = 16,  /* words that are no whole lines */
+    FASTBLOOM_BLOCKED = 17,         /* the file has a blocked filter */
+    FASTBLOOM_NOT_BLOCKED = 18      /* the file's filter isn't blocked */
 };
 
 /* Status codes of calls in C and C++ alone. */
@@ -223,6 +226,56 @@ FASTBLOOM_MUST_USE bool fastbloom_jaccard(const uint64_t *words, size_t num_word
 FASTBLOOM_MUST_USE bool fastbloom_rate_now(const uint64_t *words, size_t num_words,
                                            uint32_t num_hashes, uint64_t *low, uint64_t *high);
 
+/* A blocked filter: its words are lines of eight, and all positions of a hash lie in one line. So a
+ * call on a hash touches one line of the cache where the words begin at a multiple of 64 bytes, as
+ * those of aligned_alloc(64, 8 * num_words) do. Words may begin elsewhere, which takes longer.
+ *
+ * The number of words is a multiple of 8. Words behind the last whole line are no part of the
+ * filter, and stay as they are. Fewer than 8 words are no filter: each call that returns a bool
+ * returns false for them, and changes nothing. num_hashes 0 counts as 1.
+ *
+ * Words are a filter of one kind. A hash that was inserted by these calls isn't found by those
+ * above, nor the other way round. fastbloom_clear, fastbloom_union, fastbloom_intersect,
+ * fastbloom_equal and fastbloom_count_ones are for both kinds. Rates, estimates and files are of the
+ * other kind alone. */
+
+/* As fastbloom_plan, for a blocked filter. At one rate it takes more bits than a filter above: 2
+ * hundredths more at 8 bits for each item, 4 at 10, 10 at 16, and at most 44. That the rate is met
+ * was measured, and isn't proved. It isn't met where a filter above has more than 32 bits for each
+ * item. More than 2^58 - 8 words are refused as too many. */
+FASTBLOOM_MUST_USE uint8_t fastbloom_blocked_plan(uint64_t num, uint64_t den, size_t items,
+                                                  size_t *num_words, uint32_t *num_hashes);
+
+/* Sets all positions of a hash, and returns whether all were set just before. */
+bool fastbloom_blocked_insert_hash(uint64_t *words, size_t num_words, uint32_t num_hashes,
+                                   uint64_t hash);
+
+/* Whether all positions of a hash are set: false means that it was never inserted. */
+bool fastbloom_blocked_contains_hash(const uint64_t *words, size_t num_words, uint32_t num_hashes,
+                                     uint64_t hash);
+
+/* Sets all positions of each of count hashes, and returns true. Of words of a mebibyte and more,
+ * the lines of 64 hashes are read together first. */
+bool fastbloom_blocked_insert_hashes(uint64_t *words, size_t num_words, uint32_t num_hashes,
+                                     const uint64_t *hashes, size_t count);
+
+/* As fastbloom_contains_hashes and fastbloom_insert_hashes_tell_new. */
+FASTBLOOM_MUST_USE bool fastbloom_blocked_contains_hashes(const uint64_t *words, size_t num_words,
+                                                          uint32_t num_hashes,
+                                                          const uint64_t *hashes, size_t count,
+                                                          uint64_t *found, size_t num_found);
+FASTBLOOM_MUST_USE bool fastbloom_blocked_insert_hashes_tell_new(uint64_t *words, size_t num_words,
+                                                                 uint32_t num_hashes,
+                                                                 const uint64_t *hashes,
+                                                                 size_t count, uint64_t *fresh,
+                                                                 size_t num_fresh);
+
+/* fastbloom_blocked_insert_hash and fastbloom_blocked_contains_hash at the hash of the bytes. */
+bool fastbloom_blocked_insert(uint64_t *words, size_t num_words, uint32_t num_hashes,
+                              const uint8_t key[16], const uint8_t *bytes, size_t len);
+bool fastbloom_blocked_contains(const uint64_t *words, size_t num_words, uint32_t num_hashes,
+                                const uint8_t key[16], const uint8_t *bytes, size_t len);
+
 /* A filter that threads share, and processes too. Any number of threads may make these calls on the
  * same words at once, and none waits for another: each call is made of atomic operations on single
  * words. So a bit that a call set is lost to no other call, but to one that clears it.
@@ -316,7 +369,8 @@ FASTBLOOM_MUST_USE uint8_t fastbloom_head_write(size_t num_words, uint32_t num_h
 
 /* Reads the head of a file, and answers FASTBLOOM_OK; or the first reason for which these bytes are
  * no head: FASTBLOOM_NOT_A_FILTER, FASTBLOOM_UNKNOWN_VERSION, FASTBLOOM_HASH_COUNT,
- * FASTBLOOM_EMPTY_WORDS, FASTBLOOM_TOO_MANY_WORDS or FASTBLOOM_RESERVED. Then it writes nothing.
+ * FASTBLOOM_EMPTY_WORDS, FASTBLOOM_TOO_MANY_WORDS, FASTBLOOM_RESERVED or FASTBLOOM_BLOCKED. Then it
+ * writes nothing.
  *
  * The size of the file and the seal are the caller's to compare: the file has 64 + 8 * num_words
  * bytes, and the seal is 0 or that of `fastbloom_seal`. Each call on a filter takes as many steps
@@ -543,6 +597,57 @@ FASTBLOOM_MUST_USE FASTBLOOM_INLINE bool fastbloom_rate_now_(const uint64_t *wor
                               high);
 }
 
+FASTBLOOM_INLINE bool fastbloom_blocked_insert_hash_(uint64_t *words, size_t num_words,
+                                                     uint32_t num_hashes, uint64_t hash) {
+    return fastbloom_blocked_insert_hash(fastbloom_words_(words, num_words), num_words, num_hashes,
+                                         hash);
+}
+
+FASTBLOOM_INLINE bool fastbloom_blocked_contains_hash_(const uint64_t *words, size_t num_words,
+                                                       uint32_t num_hashes, uint64_t hash) {
+    return fastbloom_blocked_contains_hash(fastbloom_read_words_(words, num_words), num_words,
+                                           num_hashes, hash);
+}
+
+FASTBLOOM_INLINE bool fastbloom_blocked_insert_hashes_(uint64_t *words, size_t num_words,
+                                                       uint32_t num_hashes, const uint64_t *hashes,
+                                                       size_t count) {
+    return fastbloom_blocked_insert_hashes(fastbloom_words_(words, num_words), num_words,
+                                           num_hashes, fastbloom_read_words_(hashes, count), count);
+}
+
+FASTBLOOM_MUST_USE FASTBLOOM_INLINE bool
+fastbloom_blocked_contains_hashes_(const uint64_t *words, size_t num_words, uint32_t num_hashes,
+                                   const uint64_t *hashes, size_t count, uint64_t *found,
+                                   size_t num_found) {
+    return fastbloom_blocked_contains_hashes(fastbloom_read_words_(words, num_words), num_words,
+                                             num_hashes, fastbloom_read_words_(hashes, count),
+                                             count, fastbloom_words_(found, num_found), num_found);
+}
+
+FASTBLOOM_MUST_USE FASTBLOOM_INLINE bool
+fastbloom_blocked_insert_hashes_tell_new_(uint64_t *words, size_t num_words, uint32_t num_hashes,
+                                          const uint64_t *hashes, size_t count, uint64_t *fresh,
+                                          size_t num_fresh) {
+    return fastbloom_blocked_insert_hashes_tell_new(
+        fastbloom_words_(words, num_words), num_words, num_hashes,
+        fastbloom_read_words_(hashes, count), count, fastbloom_words_(fresh, num_fresh), num_fresh);
+}
+
+FASTBLOOM_INLINE bool fastbloom_blocked_insert_(uint64_t *words, size_t num_words,
+                                                uint32_t num_hashes, const uint8_t key[16],
+                                                const uint8_t *bytes, size_t len) {
+    return fastbloom_blocked_insert(fastbloom_words_(words, num_words), num_words, num_hashes, key,
+                                    fastbloom_bytes_(bytes, len), len);
+}
+
+FASTBLOOM_INLINE bool fastbloom_blocked_contains_(const uint64_t *words, size_t num_words,
+                                                  uint32_t num_hashes, const uint8_t key[16],
+                                                  const uint8_t *bytes, size_t len) {
+    return fastbloom_blocked_contains(fastbloom_read_words_(words, num_words), num_words,
+                                      num_hashes, key, fastbloom_bytes_(bytes, len), len);
+}
+
 FASTBLOOM_INLINE bool fastbloom_shared_insert_(fastbloom_shared words, uint32_t num_hashes,
                                                const uint8_t key[16], const uint8_t *bytes,
                                                size_t len) {
@@ -627,6 +732,13 @@ FASTBLOOM_INLINE void fastbloom_hasher_update_(fastbloom_hasher *hasher, const u
 #define fastbloom_estimate_common fastbloom_estimate_common_
 #define fastbloom_jaccard fastbloom_jaccard_
 #define fastbloom_rate_now fastbloom_rate_now_
+#define fastbloom_blocked_insert_hash fastbloom_blocked_insert_hash_
+#define fastbloom_blocked_insert_hashes fastbloom_blocked_insert_hashes_
+#define fastbloom_blocked_contains_hash fastbloom_blocked_contains_hash_
+#define fastbloom_blocked_contains_hashes fastbloom_blocked_contains_hashes_
+#define fastbloom_blocked_insert_hashes_tell_new fastbloom_blocked_insert_hashes_tell_new_
+#define fastbloom_blocked_insert fastbloom_blocked_insert_
+#define fastbloom_blocked_contains fastbloom_blocked_contains_
 #define fastbloom_shared_insert fastbloom_shared_insert_
 #define fastbloom_shared_contains fastbloom_shared_contains_
 #define fastbloom_shared_insert_hashes fastbloom_shared_insert_hashes_

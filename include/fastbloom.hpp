@@ -47,6 +47,7 @@ enum class status : std::uint8_t {
     reserved = FASTBLOOM_RESERVED,
     seal = FASTBLOOM_SEAL,
     input = FASTBLOOM_INPUT,
+    blocked = FASTBLOOM_BLOCKED,
     sealed = FASTBLOOM_SEALED,
     output = FASTBLOOM_OUTPUT,
     rate_too_large = FASTBLOOM_RATE_TOO_LARGE,

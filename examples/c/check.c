@@ -499,8 +499,9 @@ static void heads(const uint8_t file[72]) {
         {0, 'F', FASTBLOOM_NOT_A_FILTER},    {6, 1, FASTBLOOM_NOT_A_FILTER},
         {7, '2', FASTBLOOM_UNKNOWN_VERSION}, {8, 0, FASTBLOOM_HASH_COUNT},
         {12, 1, FASTBLOOM_HASH_COUNT},       {16, 0, FASTBLOOM_EMPTY_WORDS},
-        {23, 4, FASTBLOOM_TOO_MANY_WORDS},   {48, 1, FASTBLOOM_RESERVED},
+        {23, 4, FASTBLOOM_TOO_MANY_WORDS},   {48, 2, FASTBLOOM_RESERVED},
         {63, 128, FASTBLOOM_RESERVED},       {23, 3, 0},
+        {48, 1, FASTBLOOM_BLOCKED},          {49, 1, FASTBLOOM_RESERVED},
         {24, 9, 0},                          {47, 0, 0}};
     for (size_t i = 0; i < sizeof rows / sizeof *rows; i++) {
         uint8_t head[64], key[16] = {42};

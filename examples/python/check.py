@@ -125,7 +125,8 @@ def refused(file, folder):
         (12, "the file goes on after its last word",
          [file + b"\0", changed(file, 63, 1) + b"\0", changed(file, 16, 224)]),
         (13, "a reserved byte isn't zero",
-         [changed(file, 48, 1), changed(file, 63, 128), changed(changed(file, 55, 1), 40, 0)]),
+         [changed(file, 48, 2), changed(file, 63, 128), changed(changed(file, 55, 1), 40, 0)]),
+        (17, "the file has a blocked filter", [changed(file, 48, 1)]),
         (14, "the seal is wrong: the file was changed",
          [changed(file, place, 1) for place in (8, 24, 39, 40, 64, len(file) - 1)]),
     ]

@@ -36,7 +36,8 @@ def refused_files(file):
         11: [file[:8], changed(file, 8, 0)[:15], file[:63], file[:64], file[:-1],
              changed(file, 48, 1)[:60], changed(file, 23, 3)],
         12: [file + b"\0", changed(file, 63, 1) + b"\0"],
-        13: [changed(file, 48, 1), changed(file, 63, 128)],
+        13: [changed(file, 48, 2), changed(file, 63, 128)],
+        17: [changed(file, 48, 1)],
         14: [changed(file, place, 1) for place in (8, 24, 39, 40, 64, len(file) - 1)],
     }
 

@@ -9,7 +9,7 @@ from fractions import Fraction
 from pathlib import Path
 from typing import List, Optional, Tuple
 
-from fastbloom import AnyFilter, Filter, Mask, Refusal, SharedFilter
+from fastbloom import AnyFilter, BlockedFilter, Filter, Mask, Refusal, SharedFilter
 
 
 class Own(Filter):
@@ -57,7 +57,17 @@ def shared(path: str, memory: bytearray) -> Tuple[Filter, Mask]:
     return ours.take(), ours.contains_hashes(array("Q", [1]))
 
 
-def refused(mine: Filter, ours: SharedFilter) -> None:
+def in_lines(theirs: BlockedFilter) -> Tuple[BlockedFilter, Mask]:
+    fill(theirs, ["a text"])
+    lines = BlockedFilter(10, "1/2", key=bytes(16))
+    lines |= theirs
+    lines.update(theirs, ["a text"])
+    return lines & theirs.copy(), lines.contains_hashes(array("Q", [1]))
+
+
+def refused(mine: Filter, ours: SharedFilter, lines: BlockedFilter) -> None:
+    lines.add(5)  # type: ignore[arg-type]
+    lines |= mine  # type: ignore[arg-type]
     ours.add(5)  # type: ignore[arg-type]
     mine.add(5)  # type: ignore[arg-type]
     mine.update([5])  # type: ignore[list-item]

@@ -138,7 +138,8 @@ static void faults(const char *path) {
         uint8_t code;
     } rows[] = {{0, FASTBLOOM_NOT_A_FILTER}, {7, FASTBLOOM_UNKNOWN_VERSION},
                 {12, FASTBLOOM_HASH_COUNT},  {22, FASTBLOOM_CUT},
-                {23, FASTBLOOM_CUT},         {63, FASTBLOOM_RESERVED}};
+                {23, FASTBLOOM_CUT},         {63, FASTBLOOM_RESERVED},
+                {48, FASTBLOOM_BLOCKED}};
     for (size_t i = 0; i < sizeof rows / sizeof *rows; i++) {
         memcpy(changed, bytes, SIZE);
         changed[rows[i].place] ^= 1;

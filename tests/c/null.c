@@ -18,7 +18,7 @@ int main(void) {
     /* Rust's own SipHash-1-3 of no bytes, under the key of zeros. */
     const uint64_t hash_of_nothing = UINT64_C(15130871412783076140);
     const uint8_t key[16] = {0};
-    uint64_t word = 0, from, to;
+    uint64_t word = 0, line[8] = {0}, from, to;
     size_t low, high;
     fastbloom_shared none, one;
     fastbloom_hasher hasher;
@@ -47,6 +47,15 @@ int main(void) {
     wants("estimate_common", 0, fastbloom_estimate_common(NULL, 0, NULL, 0, 1, &low, &high));
     wants("jaccard", 0, fastbloom_jaccard(NULL, 0, NULL, 0, 1, &from, &to));
     wants("rate_now", 0, fastbloom_rate_now(NULL, 0, 1, &from, &to));
+    wants("blocked insert_hash", 0, fastbloom_blocked_insert_hash(NULL, 0, 1, 5));
+    wants("blocked insert_hashes", 0, fastbloom_blocked_insert_hashes(NULL, 0, 1, NULL, 0));
+    wants("blocked contains_hash", 0, fastbloom_blocked_contains_hash(NULL, 0, 1, 5));
+    wants("blocked contains_hashes", 0,
+          fastbloom_blocked_contains_hashes(NULL, 0, 1, NULL, 0, NULL, 0));
+    wants("blocked tell_new", 0,
+          fastbloom_blocked_insert_hashes_tell_new(NULL, 0, 1, NULL, 0, NULL, 0));
+    wants("blocked insert", 0, fastbloom_blocked_insert(NULL, 0, 1, key, NULL, 0));
+    wants("blocked contains", 0, fastbloom_blocked_contains(NULL, 0, 1, key, NULL, 0));
     wants("shared insert_hash", 0, fastbloom_shared_insert_hash(none, 1, 5));
     wants("shared insert_hashes", 0, fastbloom_shared_insert_hashes(none, 1, NULL, 0));
     wants("shared contains_hash", 0, fastbloom_shared_contains_hash(none, 1, 5));
@@ -74,6 +83,14 @@ int main(void) {
     wants("the word", 0, word);
     wants("shared insert", 0, fastbloom_shared_insert(one, 1, key, NULL, 0));
     wants("shared contains", 1, fastbloom_shared_contains(one, 1, key, NULL, 0));
+    /* and of a filter with a line */
+    wants("blocked insert_hashes", 1, fastbloom_blocked_insert_hashes(line, 8, 1, NULL, 0));
+    wants("blocked contains_hashes", 1,
+          fastbloom_blocked_contains_hashes(line, 8, 1, NULL, 0, NULL, 0));
+    wants("blocked tell_new", 1,
+          fastbloom_blocked_insert_hashes_tell_new(line, 8, 1, NULL, 0, NULL, 0));
+    wants("blocked insert", 0, fastbloom_blocked_insert(line, 8, 1, key, NULL, 0));
+    wants("blocked contains", 1, fastbloom_blocked_contains(line, 8, 1, key, NULL, 0));
     word = 0;
     wants("insert", 0, fastbloom_insert(&word, 1, 1, key, NULL, 0));
     wants("contains", 1, fastbloom_contains(&word, 1, 1, key, NULL, 0));

@@ -201,6 +201,66 @@ uint64_t fastbloom_seal(const uint64_t *words, size_t num_words, uint32_t num_ha
     return 0;
 }
 
+bool fastbloom_blocked_insert_hash(uint64_t *words, size_t num_words, uint32_t num_hashes,
+                                   uint64_t hash) {
+    (void)num_words, (void)num_hashes, (void)hash;
+    some("words", words);
+    return false;
+}
+
+bool fastbloom_blocked_contains_hash(const uint64_t *words, size_t num_words, uint32_t num_hashes,
+                                     uint64_t hash) {
+    (void)num_words, (void)num_hashes, (void)hash;
+    some("words", words);
+    return false;
+}
+
+bool fastbloom_blocked_insert_hashes(uint64_t *words, size_t num_words, uint32_t num_hashes,
+                                     const uint64_t *hashes, size_t count) {
+    (void)num_hashes, (void)count;
+    some("words", words);
+    some("hashes", hashes);
+    return num_words > 0;
+}
+
+bool fastbloom_blocked_contains_hashes(const uint64_t *words, size_t num_words, uint32_t num_hashes,
+                                       const uint64_t *hashes, size_t count, uint64_t *found,
+                                       size_t num_found) {
+    (void)num_hashes, (void)count, (void)num_found;
+    some("words", words);
+    some("hashes", hashes);
+    some("found", found);
+    return num_words > 0;
+}
+
+bool fastbloom_blocked_insert_hashes_tell_new(uint64_t *words, size_t num_words,
+                                              uint32_t num_hashes, const uint64_t *hashes,
+                                              size_t count, uint64_t *fresh, size_t num_fresh) {
+    (void)num_hashes, (void)count, (void)num_fresh;
+    some("words", words);
+    some("hashes", hashes);
+    some("fresh", fresh);
+    return num_words > 0;
+}
+
+bool fastbloom_blocked_insert(uint64_t *words, size_t num_words, uint32_t num_hashes,
+                              const uint8_t key[16], const uint8_t *bytes, size_t len) {
+    (void)num_words, (void)num_hashes, (void)len;
+    some("words", words);
+    some("key", key);
+    some("bytes", bytes);
+    return false;
+}
+
+bool fastbloom_blocked_contains(const uint64_t *words, size_t num_words, uint32_t num_hashes,
+                                const uint8_t key[16], const uint8_t *bytes, size_t len) {
+    (void)num_hashes, (void)len;
+    some("words", words);
+    some("key", key);
+    some("bytes", bytes);
+    return num_words > 0;
+}
+
 bool fastbloom_shared_insert_hash(fastbloom_shared words, uint32_t num_hashes, uint64_t hash) {
     (void)words, (void)num_hashes, (void)hash;
     return false;

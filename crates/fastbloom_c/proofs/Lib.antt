@@ -1,4 +1,6 @@
 mod BitLemmas
+mod BlockedPlanFacts
+mod BlockedPlanLemmas
 mod EstimateFacts
 mod EstimateLemmas
 mod FileFacts

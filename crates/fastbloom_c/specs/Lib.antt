@@ -1,3 +1,4 @@
+pub mod BlockedPlans
 pub mod Estimates
 pub mod Files
 pub mod Items

@@ -5,6 +5,7 @@
 //! answers false for them. `include/fastbloom.h` says what C must keep, since nothing checks it.
 #![tactic(auto)]
 
+pub mod blocked;
 pub mod counted_rates;
 pub mod estimates;
 pub mod files;

@@ -47,6 +47,9 @@ _REASONS = {
     13: "a reserved byte isn't zero",
     _SEAL: "the seal is wrong: the file was changed",
     15: "input failed",
+    16: "words that are no whole lines",
+    17: "the file has a blocked filter",
+    18: "the file's filter isn't blocked",
 }
 _HEAD = 64  # bytes; the words of a file come next
 _LONGEST_RATE, _LONGEST_EXPONENT = 2000, 4  # digits of a rate, and of its exponent

@@ -95,6 +95,24 @@ hash_items: Callable[..., bool] = _call(
     "hash_items", _BOOL, _BYTES, _BYTES, _SIZE, _WORDS, _SIZE, _MANY, _SIZE, library=_LETTING_GO)
 seal: Callable[..., int] = _call("seal", _HASH, _WORDS, _SIZE, _HASHES, _BYTES, library=_LETTING_GO)
 
+# Those on blocked filters.
+blocked_plan: Callable[..., int] = _call(
+    "blocked_plan", _CODE, _HASH, _HASH, _SIZE, _TO_SIZE, _TO_HASHES)
+blocked_insert_hash: Callable[..., bool] = _call(
+    "blocked_insert_hash", _BOOL, _WORDS, _SIZE, _HASHES, _HASH)
+blocked_insert_hashes: Callable[..., bool] = _call(
+    "blocked_insert_hashes", _BOOL, _WORDS, _SIZE, _HASHES, _MANY, _SIZE)
+blocked_contains_hash: Callable[..., bool] = _call(
+    "blocked_contains_hash", _BOOL, _WORDS, _SIZE, _HASHES, _HASH)
+blocked_contains_hashes: Callable[..., bool] = _call(
+    "blocked_contains_hashes", _BOOL, _WORDS, _SIZE, _HASHES, _MANY, _SIZE, _MANY, _SIZE)
+blocked_insert_hashes_tell_new: Callable[..., bool] = _call(
+    "blocked_insert_hashes_tell_new", _BOOL, _WORDS, _SIZE, _HASHES, _MANY, _SIZE, _MANY, _SIZE)
+blocked_insert: Callable[..., bool] = _call(
+    "blocked_insert", _BOOL, _WORDS, _SIZE, _HASHES, _BYTES, _BYTES, _SIZE)
+blocked_contains: Callable[..., bool] = _call(
+    "blocked_contains", _BOOL, _WORDS, _SIZE, _HASHES, _BYTES, _BYTES, _SIZE)
+
 
 class SharedWords(ctypes.Structure):
     """Words that threads and processes share, as the calls on them take them."""

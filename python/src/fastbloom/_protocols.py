@@ -1,4 +1,4 @@
-"""What both kinds of filters have, for the types of functions that take either."""
+"""What all kinds of filters have, for the types of functions that take any."""
 
 from __future__ import annotations
 
@@ -10,7 +10,7 @@ from ._mask import Mask
 
 @runtime_checkable
 class AnyFilter(Protocol):
-    """A `Filter` or a `SharedFilter`, by the calls that they have in common.
+    """A `Filter`, a `SharedFilter` or a `BlockedFilter`, by the calls that they have in common.
 
     `isinstance` looks at the names of the calls alone.
     """

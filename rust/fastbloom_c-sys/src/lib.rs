@@ -63,6 +63,12 @@ pub const FASTBLOOM_RESERVED: u8 = 13;
 pub const FASTBLOOM_SEAL: u8 = 14;
 /// A read failed.
 pub const FASTBLOOM_INPUT: u8 = 15;
+/// Words are no whole lines.
+pub const FASTBLOOM_PART_OF_A_LINE: u8 = 16;
+/// The file has a blocked filter.
+pub const FASTBLOOM_BLOCKED: u8 = 17;
+/// The file's filter isn't blocked.
+pub const FASTBLOOM_NOT_BLOCKED: u8 = 18;
 /// A file that is to be shared has a seal.
 pub const FASTBLOOM_SEALED: u8 = 252;
 /// A write failed.
@@ -367,6 +373,86 @@ extern "C" {
         num_hashes: u32,
         low: *mut u64,
         high: *mut u64,
+    ) -> bool;
+
+    /// As [`fastbloom_plan`], for a blocked filter, whose words are lines of eight.
+    #[must_use]
+    pub fn fastbloom_blocked_plan(
+        num: u64,
+        den: u64,
+        items: usize,
+        num_words: *mut usize,
+        num_hashes: *mut u32,
+    ) -> u8;
+
+    /// Sets all positions of a hash in its line, and returns whether all were set just before. Words
+    /// behind the last whole line stay as they are, and fewer than eight are no filter.
+    pub fn fastbloom_blocked_insert_hash(
+        words: *mut u64,
+        num_words: usize,
+        num_hashes: u32,
+        hash: u64,
+    ) -> bool;
+
+    /// Whether all positions of a hash in its line are set.
+    pub fn fastbloom_blocked_contains_hash(
+        words: *const u64,
+        num_words: usize,
+        num_hashes: u32,
+        hash: u64,
+    ) -> bool;
+
+    /// Sets all positions of each of `count` hashes, and returns true.
+    pub fn fastbloom_blocked_insert_hashes(
+        words: *mut u64,
+        num_words: usize,
+        num_hashes: u32,
+        hashes: *const u64,
+        count: usize,
+    ) -> bool;
+
+    /// As [`fastbloom_contains_hashes`], of a blocked filter.
+    #[must_use]
+    pub fn fastbloom_blocked_contains_hashes(
+        words: *const u64,
+        num_words: usize,
+        num_hashes: u32,
+        hashes: *const u64,
+        count: usize,
+        found: *mut u64,
+        num_found: usize,
+    ) -> bool;
+
+    /// As [`fastbloom_insert_hashes_tell_new`], of a blocked filter.
+    #[must_use]
+    pub fn fastbloom_blocked_insert_hashes_tell_new(
+        words: *mut u64,
+        num_words: usize,
+        num_hashes: u32,
+        hashes: *const u64,
+        count: usize,
+        fresh: *mut u64,
+        num_fresh: usize,
+    ) -> bool;
+
+    /// [`fastbloom_blocked_insert_hash`] at the hash of the bytes.
+    pub fn fastbloom_blocked_insert(
+        words: *mut u64,
+        num_words: usize,
+        num_hashes: u32,
+        key: *const u8,
+        bytes: *const u8,
+        len: usize,
+    ) -> bool;
+
+    /// [`fastbloom_blocked_contains_hash`] at the hash of the bytes.
+    pub fn fastbloom_blocked_contains(
+        words: *const u64,
+        num_words: usize,
+        num_hashes: u32,
+        key: *const u8,
+        bytes: *const u8,
+        len: usize,
     ) -> bool;
 
     /// Sets all positions of a hash, each by one operation, and returns whether these operations

@@ -43,6 +43,8 @@ pub enum Error {
     TooLong,
     /// A byte of a file that must be zero isn't.
     Reserved,
+    /// A file has a blocked filter, whose words are lines.
+    Blocked,
     /// The seal of a file is wrong: the file was changed.
     Seal,
     /// A read failed, by this error.
@@ -53,12 +55,15 @@ pub enum Error {
     TooManyHashes,
     /// Two filters differ in their numbers of words or hashes, or in their keys.
     OtherShape,
+    /// The number of words isn't a multiple of eight, so that they are no whole lines.
+    PartOfALine,
     /// A number or a text is no rate above 0 and below 1 whose parts are below 2^64.
     NotARate,
 }
 
 impl Error {
-    /// The number that the header `fastbloom.h` names. The last three have none.
+    /// The number that the header `fastbloom.h` names. `TooManyHashes`, `OtherShape` and `NotARate`
+    /// have none.
     ///
     /// ```
     /// use fastbloom_c::Error;
@@ -83,6 +88,8 @@ impl Error {
             Error::Seal => fastbloom_c_sys::FASTBLOOM_SEAL,
             Error::Input(_) => fastbloom_c_sys::FASTBLOOM_INPUT,
             Error::Sealed => fastbloom_c_sys::FASTBLOOM_SEALED,
+            Error::PartOfALine => fastbloom_c_sys::FASTBLOOM_PART_OF_A_LINE,
+            Error::Blocked => fastbloom_c_sys::FASTBLOOM_BLOCKED,
             Error::TooManyHashes | Error::OtherShape | Error::NotARate => return None,
         })
     }
@@ -105,6 +112,7 @@ impl Error {
             fastbloom_c_sys::FASTBLOOM_MEMORY => Error::Memory,
             fastbloom_c_sys::FASTBLOOM_SEALED => Error::Sealed,
             fastbloom_c_sys::FASTBLOOM_TOO_MANY_HASHES => Error::TooManyHashes,
+            fastbloom_c_sys::FASTBLOOM_BLOCKED => Error::Blocked,
             _ => unreachable!("the library answers no other number"),
         })
     }
@@ -125,11 +133,13 @@ impl fmt::Display for Error {
             Error::Cut => "the file is cut",
             Error::TooLong => "the file goes on after its last word",
             Error::Reserved => "a reserved byte isn't zero",
+            Error::Blocked => "the file has a blocked filter",
             Error::Seal => "the seal is wrong: the file was changed",
             Error::Input(error) => return write!(f, "input failed: {error}"),
             Error::Sealed => "a file with a seal can't be shared",
             Error::TooManyHashes => "more hashes than are allowed",
             Error::OtherShape => "the filters differ in words, hashes or keys",
+            Error::PartOfALine => "words that are no whole lines",
             Error::NotARate => "a rate is above 0 and below 1, with parts below 2^64",
         })
     }

@@ -53,7 +53,7 @@
 //! A [`BloomFilter`] is `Send` and `Sync`: a call that changes it takes `&mut self`, and threads
 //! look up at once through `&self`. An [`AtomicBloomFilter`] is for threads that insert at once: each
 //! call takes `&self`, and none waits for another. Where one thread inserts, take the first, whose
-//! inserts are quicker.
+//! inserts are quicker. A [`BlockedBloomFilter`] is as a [`BloomFilter`] there.
 //!
 //! # Panics
 //!
@@ -66,6 +66,7 @@
     clippy::undocumented_unsafe_blocks
 )]
 
+mod blocked;
 mod bloom;
 mod builder;
 mod error;
@@ -81,9 +82,14 @@ mod rate;
 #[allow(unsafe_code)]
 mod raw;
 #[allow(unsafe_code)]
+mod raw_blocked;
+#[allow(unsafe_code)]
 mod raw_shared;
 mod shared;
 
+pub use blocked::{
+    BlockedBloomFilter, BlockedBuilderWithBits, BlockedBuilderWithFalsePositiveRate,
+};
 pub use bloom::{hash, BloomFilter};
 pub use builder::{BuilderWithBits, BuilderWithFalsePositiveRate};
 pub use error::Error;

@@ -1,5 +1,5 @@
-//! The calls of the library over slices. This module, `raw_shared` and `mapped` alone have
-//! unsafe blocks.
+//! The calls of the library over slices. This module, `raw_blocked`, `raw_shared` and `mapped` alone
+//! have unsafe blocks.
 //!
 //! The library asks for pointers that aren't null and are aligned, to initialized memory of the
 //! length that is given. A reference and a slice of Rust are that, also where there are no

@@ -1,5 +1,4 @@
-//! The calls of the library over words that threads share. This module and `raw` alone have unsafe
-//! blocks.
+//! The calls of the library over words that threads share.
 //!
 //! A slice of atomic words is aligned to 8, initialized, and stays where it is while it is borrowed,
 //! so until the call has returned. Rust's `&[AtomicU64]` lets nobody touch its words but by atomic

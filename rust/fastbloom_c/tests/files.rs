@@ -143,11 +143,12 @@ fn refused() -> Vec<(Error, Vec<Vec<u8>>)> {
         (
             Error::Reserved,
             vec![
-                change(48, 1),
+                change(48, 2),
                 change(63, 128),
                 changed(&change(55, 1), 40, 0),
             ],
         ),
+        (Error::Blocked, vec![change(48, 1)]),
         (
             Error::Seal,
             [8, 24, 39, 40, 64, 71]

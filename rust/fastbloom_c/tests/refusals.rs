@@ -48,7 +48,7 @@ fn a_size_that_has_no_room_is_refused() {
     assert_eq!(refused, Err(Error::Memory));
 }
 
-fn all() -> [(Error, Option<u8>, &'static str); 16] {
+fn all() -> [(Error, Option<u8>, &'static str); 18] {
     [
         (Error::ZeroBits, Some(1), "zero bits"),
         (Error::EmptyWords, Some(2), "no words"),
@@ -70,6 +70,7 @@ fn all() -> [(Error, Option<u8>, &'static str); 16] {
             "the file goes on after its last word",
         ),
         (Error::Reserved, Some(13), "a reserved byte isn't zero"),
+        (Error::Blocked, Some(17), "the file has a blocked filter"),
         (
             Error::Seal,
             Some(14),
@@ -81,6 +82,11 @@ fn all() -> [(Error, Option<u8>, &'static str); 16] {
             "input failed: timed out",
         ),
         (Error::TooManyHashes, None, "more hashes than are allowed"),
+        (
+            Error::PartOfALine,
+            Some(16),
+            "words that are no whole lines",
+        ),
         (
             Error::OtherShape,
             None,
@@ -104,7 +110,7 @@ fn each_is_another_one() {
         let equal = errors().enumerate().filter(|(_, other)| *other == error);
         assert_eq!(equal.map(|(at, _)| at).collect::<Vec<_>>(), [place]);
     }
-    assert_eq!(errors().chain(errors()).collect::<HashSet<_>>().len(), 16);
+    assert_eq!(errors().chain(errors()).collect::<HashSet<_>>().len(), 18);
 }
 
 #[test]

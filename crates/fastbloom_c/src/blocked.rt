@@ -1,0 +1,90 @@
+//! Calls on a blocked filter: all positions of a hash lie in one line of eight words.
+//!
+//! Words behind the last whole line are no part of the filter, and no call changes them. Fewer than
+//! eight words are no filter: a call returns false and changes nothing. `num_hashes` 0 counts as 1.
+ghost use Rattle.std.specs.Prelude.{◌≡◌, ℕ, ◌*◌, ◌/◌, ◌<◌, ◌≤◌, ◌||◌, false, length, max};
+ghost use Rattle.bloom_parts.specs.Content.{content};
+ghost use Rattle.bloom_parts.specs.Keys.{key_low, key_high};
+ghost use Rattle.bloom_parts.specs.Sip.{sip};
+ghost use Rattle.bloom_blocked.specs.Lines.{line_positions, are_in_line};
+
+pub mod many;
+pub mod plans;
+
+use crate::texts::fastbloom_hash;
+use bloom_blocked::words::{LINE, contains_hash, insert_hash};
+
+/// Sets all positions of a hash, and returns whether all were set just before.
+#[inline(always)]
+#[unsafe(no_mangle)]
+pub extern "C" fn fastbloom_blocked_insert_hash(
+    words: &mut [u64],
+    num_hashes: u32,
+    hash: u64,
+) -> bool
+    ensures reply { 8 ≤ length words.old → result
+        ≡ are_in_line (length words.old / 8) (max 1 num_hashes) hash (content words.old) }
+    ensures content { 8 ≤ length words.old → (p : ℕ) → content words.new p ≡ (content words.old p
+        || line_positions (length words.old / 8) (max 1 num_hashes) hash p) }
+    ensures shape { length words.new ≡ length words.old }
+    // Words that make no line are no filter.
+    ensures none { length words.old < 8 → result ≡ false }
+    ensures stays { length words.old < 8 → words.new ≡ words.old }
+{
+    if words.len() < LINE {
+        return false;
+    }
+    insert_hash(words, num_hashes.max(1), hash)
+}
+
+/// Whether all positions of a hash are set: false means that it was never inserted.
+#[inline(always)]
+#[unsafe(no_mangle)]
+pub extern "C" fn fastbloom_blocked_contains_hash(words: &[u64], num_hashes: u32, hash: u64) -> bool
+    ensures found { 8 ≤ length words.now → result
+        ≡ are_in_line (length words.now / 8) (max 1 num_hashes) hash (content words.now) }
+    ensures none { length words.now < 8 → result ≡ false }
+{
+    if words.len() < LINE {
+        false
+    } else {
+        contains_hash(words, num_hashes.max(1), hash)
+    }
+}
+
+/// Inserts the hash of bytes, and returns whether it was contained just before.
+#[unsafe(no_mangle)]
+pub extern "C" fn fastbloom_blocked_insert(
+    words: &mut [u64],
+    num_hashes: u32,
+    key: &[u8; 16],
+    bytes: &[u8],
+) -> bool
+    ensures reply { let hash = sip (key_low key.now) (key_high key.now) bytes.now in
+        8 ≤ length words.old → result
+        ≡ are_in_line (length words.old / 8) (max 1 num_hashes) hash (content words.old) }
+    ensures content { let hash = sip (key_low key.now) (key_high key.now) bytes.now in
+        8 ≤ length words.old → (p : ℕ) → content words.new p ≡ (content words.old p
+        || line_positions (length words.old / 8) (max 1 num_hashes) hash p) }
+    ensures shape { length words.new ≡ length words.old }
+    ensures none { length words.old < 8 → result ≡ false }
+    ensures stays { length words.old < 8 → words.new ≡ words.old }
+{
+    fastbloom_blocked_insert_hash(words, num_hashes, fastbloom_hash(key, bytes))
+}
+
+/// Whether the hash of bytes is contained.
+#[unsafe(no_mangle)]
+pub extern "C" fn fastbloom_blocked_contains(
+    words: &[u64],
+    num_hashes: u32,
+    key: &[u8; 16],
+    bytes: &[u8],
+) -> bool
+    ensures found { let hash = sip (key_low key.now) (key_high key.now) bytes.now in
+        8 ≤ length words.now → result
+        ≡ are_in_line (length words.now / 8) (max 1 num_hashes) hash (content words.now) }
+    ensures none { length words.now < 8 → result ≡ false }
+{
+    fastbloom_blocked_contains_hash(words, num_hashes, fastbloom_hash(key, bytes))
+}

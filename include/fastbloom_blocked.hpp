@@ -1,0 +1,254 @@
+// A blocked Bloom filter for C++17 and later, over the library fastbloom_c.
+//
+//     auto made = fastbloom::blocked_filter::make(1, 1000, 1'000'000);
+//     if (!made) std::puts(fastbloom::reason(made.status())), std::exit(1);
+//     fastbloom::blocked_filter &seen = *made;
+//     seen.insert("crab");   // false: it is new
+//     seen.contains("crab"); // true
+//
+// All bits of an item lie in one line of 512, which is a line of the cache. So where a filter is
+// larger than the cache, a call on an item is quicker than that of `fastbloom::filter`, which takes
+// fewer bits at the same rate. The two kinds aren't united, and a blocked filter has no file and no
+// estimates here.
+//
+// A filter owns its words. It moves, and it is copied by `clone` alone. Nothing here throws: a call
+// that can fail returns a `result`, or a bool. A filter that was moved from, or made by default,
+// has no words: it contains nothing, and an insert changes nothing.
+//
+// Threads may read one filter at once. While a thread changes it, no other touches it.
+#ifndef FASTBLOOM_BLOCKED_HPP
+#define FASTBLOOM_BLOCKED_HPP
+
+#include "fastbloom.hpp"
+
+namespace fastbloom {
+
+// A set of byte strings that never misses a member, and now and then takes something else for one.
+class blocked_filter {
+public:
+    // No words: it contains nothing.
+    blocked_filter() noexcept = default;
+
+    // The empty filter for this many items, where 0 counts as 1, at the rate num / den of false
+    // positives, which is below 1.
+    static result<blocked_filter> make(std::uint64_t num, std::uint64_t den, std::size_t items,
+                                       const key_bytes &key = {}) noexcept {
+        if (den != 0 && num >= den) return status::rate_too_large;
+        std::size_t num_words = 0;
+        std::uint32_t num_hashes = 0;
+        const std::uint8_t code = fastbloom_blocked_plan(num, den, items, &num_words, &num_hashes);
+        if (code != FASTBLOOM_OK) return static_cast<fastbloom::status>(code);
+        return with_lines(num_words / words_of_a_line, num_hashes, key);
+    }
+
+    // The empty filter with this many lines of 512 bits, and hashes, where 0 hashes count as 1.
+    static result<blocked_filter> with_lines(std::size_t num_lines, std::uint32_t num_hashes,
+                                             const key_bytes &key = {}) noexcept {
+        if (num_lines == 0) return status::empty_words;
+        if (num_lines > SIZE_MAX / 512) return status::too_many_words; // 2^58 - 8 words
+        // A line begins where one of the cache does.
+        void *words = std::aligned_alloc(bytes_of_a_line, bytes_of_a_line * num_lines);
+        if (words == nullptr) return status::memory;
+        std::memset(words, 0, bytes_of_a_line * num_lines);
+        blocked_filter made;
+        made.words_ = static_cast<std::uint64_t *>(words);
+        made.num_words_ = words_of_a_line * num_lines;
+        made.num_hashes_ = num_hashes == 0 ? 1 : num_hashes;
+        made.key_ = key;
+        return made;
+    }
+
+    blocked_filter(blocked_filter &&other) noexcept { swap(other); }
+    blocked_filter &operator=(blocked_filter &&other) noexcept {
+        blocked_filter(std::move(other)).swap(*this);
+        return *this;
+    }
+    blocked_filter(const blocked_filter &) = delete;
+    blocked_filter &operator=(const blocked_filter &) = delete;
+    ~blocked_filter() {
+        if (num_words_ != 0) std::free(words_);
+    }
+
+    void swap(blocked_filter &other) noexcept {
+        std::swap(words_, other.words_);
+        std::swap(num_words_, other.num_words_);
+        std::swap(num_hashes_, other.num_hashes_);
+        std::swap(key_, other.key_);
+    }
+
+    // A filter with words of its own, which are equal to these.
+    result<blocked_filter> clone() const noexcept {
+        auto made = with_lines(num_lines(), num_hashes_, key_);
+        if (made) std::memcpy(made->words_, words_, 8 * num_words_);
+        return made;
+    }
+
+    // Inserts an item, and returns whether it was contained, maybe by mistake. A null pointer is no
+    // text, and nor is 0, which stands for one: a number goes in by its bytes or its hash.
+    bool insert(std::string_view item) noexcept { return insert(item.data(), item.size()); }
+    bool insert(std::nullptr_t) = delete;
+    bool insert(const void *bytes, std::size_t size) noexcept {
+        return fastbloom_blocked_insert(words_, num_words_, num_hashes_, key_.data(),
+                                        detail::not_null(bytes), size);
+    }
+
+    // Whether an item is contained, maybe by mistake. False means that it was never inserted.
+    bool contains(std::string_view item) const noexcept {
+        return contains(item.data(), item.size());
+    }
+    bool contains(std::nullptr_t) const = delete;
+    bool contains(const void *bytes, std::size_t size) const noexcept {
+        return fastbloom_blocked_contains(words_, num_words_, num_hashes_, key_.data(),
+                                          detail::not_null(bytes), size);
+    }
+
+    // The hash of an item: SipHash-1-3 of its bytes under the key.
+    std::uint64_t hash(std::string_view item) const noexcept {
+        return hash(item.data(), item.size());
+    }
+    std::uint64_t hash(std::nullptr_t) const = delete;
+    std::uint64_t hash(const void *bytes, std::size_t size) const noexcept {
+        return fastbloom_hash(key_.data(), detail::not_null(bytes), size);
+    }
+
+    // A hasher under the key of this filter, for the hash of an item that comes in pieces.
+    fastbloom::hasher begin_hash() const noexcept { return fastbloom::hasher(key_); }
+
+    // The same by hash.
+    bool insert_hash(std::uint64_t hash) noexcept {
+        return fastbloom_blocked_insert_hash(words_, num_words_, num_hashes_, hash);
+    }
+    bool contains_hash(std::uint64_t hash) const noexcept {
+        return fastbloom_blocked_contains_hash(words_, num_words_, num_hashes_, hash);
+    }
+
+    // Inserts many hashes, which costs less than a call for each.
+    void insert_hashes(const std::uint64_t *hashes, std::size_t count) noexcept {
+        if (count != 0)
+            fastbloom_blocked_insert_hashes(words_, num_words_, num_hashes_, hashes, count);
+    }
+
+    // Inserts each item of a range: a container or a view of what `insert` takes.
+    template <typename Items> void insert_range(Items &&items) {
+        std::uint64_t hashes[256];
+        std::size_t count = 0;
+        for (const auto &item : items) {
+            hashes[count++] = hash(item);
+            if (count == 256) insert_hashes(hashes, std::exchange(count, 0));
+        }
+        insert_hashes(hashes, count);
+    }
+
+    // Calls on many hashes that tell of each, in a bit set that the caller owns, as those of
+    // `filter`. They return false, and change nothing, where there are more hashes than bits, or
+    // the filter has no words.
+    [[nodiscard]] bool contains_hashes(const std::uint64_t *hashes, std::size_t count,
+                                       std::uint64_t *found, std::size_t num_found) const noexcept {
+        return fastbloom_blocked_contains_hashes(words_, num_words_, num_hashes_,
+                                                 detail::not_null_words(hashes), count,
+                                                 detail::not_null_words(found), num_found);
+    }
+    [[nodiscard]] bool insert_hashes_tell_new(const std::uint64_t *hashes, std::size_t count,
+                                              std::uint64_t *fresh,
+                                              std::size_t num_fresh) noexcept {
+        return fastbloom_blocked_insert_hashes_tell_new(words_, num_words_, num_hashes_,
+                                                        detail::not_null_words(hashes), count,
+                                                        detail::not_null_words(fresh), num_fresh);
+    }
+
+#ifdef __cpp_lib_span
+    bool insert(std::span<const std::byte> item) noexcept {
+        return insert(item.data(), item.size());
+    }
+    bool contains(std::span<const std::byte> item) const noexcept {
+        return contains(item.data(), item.size());
+    }
+    std::uint64_t hash(std::span<const std::byte> item) const noexcept {
+        return hash(item.data(), item.size());
+    }
+    bool insert(std::span<const std::uint8_t> item) noexcept {
+        return insert(item.data(), item.size());
+    }
+    bool contains(std::span<const std::uint8_t> item) const noexcept {
+        return contains(item.data(), item.size());
+    }
+    std::uint64_t hash(std::span<const std::uint8_t> item) const noexcept {
+        return hash(item.data(), item.size());
+    }
+    void insert_hashes(std::span<const std::uint64_t> hashes) noexcept {
+        insert_hashes(hashes.data(), hashes.size());
+    }
+    [[nodiscard]] bool contains_hashes(std::span<const std::uint64_t> hashes,
+                                       std::span<std::uint64_t> found) const noexcept {
+        return contains_hashes(hashes.data(), hashes.size(), found.data(), found.size());
+    }
+    [[nodiscard]] bool insert_hashes_tell_new(std::span<const std::uint64_t> hashes,
+                                              std::span<std::uint64_t> fresh) noexcept {
+        return insert_hashes_tell_new(hashes.data(), hashes.size(), fresh.data(), fresh.size());
+    }
+    std::span<const std::uint64_t> words() const noexcept { return {words_, num_words_}; }
+#endif
+
+    // Removes every item.
+    void clear() noexcept { fastbloom_clear(words_, num_words_); }
+
+    // Whether both have as many words and hashes, and the same key.
+    bool same_shape(const blocked_filter &other) const noexcept {
+        return num_words_ == other.num_words_ && num_hashes_ == other.num_hashes_ &&
+               key_ == other.key_;
+    }
+
+    // Takes the items of the other in, or keeps only what may be in both. They return false, and
+    // change nothing, where the shapes differ or there are no words.
+    [[nodiscard]] bool unite(const blocked_filter &other) noexcept {
+        if (!same_shape(other) || num_words_ == 0) return false;
+        // The library asks for words that lie apart.
+        return this == &other ||
+               fastbloom_union(words_, num_words_, other.words_, other.num_words_);
+    }
+    [[nodiscard]] bool intersect(const blocked_filter &other) noexcept {
+        if (!same_shape(other) || num_words_ == 0) return false;
+        return this == &other ||
+               fastbloom_intersect(words_, num_words_, other.words_, other.num_words_);
+    }
+
+    // The same as operators, which answer likewise.
+    [[nodiscard]] bool operator|=(const blocked_filter &other) noexcept { return unite(other); }
+    [[nodiscard]] bool operator&=(const blocked_filter &other) noexcept {
+        return intersect(other);
+    }
+
+    // Whether shapes and words are equal.
+    friend bool operator==(const blocked_filter &one, const blocked_filter &other) noexcept {
+        return one.same_shape(other) &&
+               (one.num_words_ == 0 ||
+                fastbloom_equal(one.words_, one.num_words_, other.words_, other.num_words_));
+    }
+    friend bool operator!=(const blocked_filter &one, const blocked_filter &other) noexcept {
+        return !(one == other);
+    }
+
+    std::size_t num_lines() const noexcept { return num_words_ / words_of_a_line; }
+    std::size_t num_words() const noexcept { return num_words_; }
+    std::size_t num_bits() const noexcept { return fastbloom_num_bits(num_words_); }
+    std::uint32_t num_hashes() const noexcept { return num_hashes_; }
+    const key_bytes &key() const noexcept { return key_; }
+
+    // How many bits are set.
+    std::size_t count_ones() const noexcept { return fastbloom_count_ones(words_, num_words_); }
+
+    // The words, eight in a line.
+    const std::uint64_t *data() const noexcept { return words_; }
+
+private:
+    static constexpr std::size_t words_of_a_line = 8, bytes_of_a_line = 64;
+
+    std::uint64_t *words_ = &detail::no_words;
+    std::size_t num_words_ = 0;
+    std::uint32_t num_hashes_ = 1;
+    key_bytes key_{};
+};
+
+} // namespace fastbloom
+
+#endif

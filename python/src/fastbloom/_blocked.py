@@ -1,0 +1,297 @@
+"""The class of blocked filters."""
+
+from __future__ import annotations
+
+import ctypes
+import typing
+from typing import TYPE_CHECKING, Any, Callable, Iterable, List, Tuple, Type, TypeVar, Union
+
+from . import _library as library
+from ._filter import _check, _hash_value, _number_of_items, _parts
+from ._items import Buffer, Item, Rate, bytes_of, check_many, plain_bytes
+from ._locks import alone, alone_with, new_lock
+from ._many import Hashes, each_part, told, words_of
+from ._mask import Mask
+
+if TYPE_CHECKING:
+    from typing_extensions import Self
+else:  # for typing.get_type_hints, also before Python 3.11
+    Self = getattr(typing, "Self", TypeVar("Self"))
+
+_LINE = 64  # bytes; a line of the cache has as many
+
+
+def _restored(cls: Type[BlockedFilter], num_hashes: int, key: bytes, words: bytes) -> BlockedFilter:
+    """The filter that was pickled."""
+    made = cls.__new__(cls)
+    made._set(len(words) // _LINE, num_hashes, key)
+    made._view[:] = words
+    return made
+
+
+class BlockedFilter:
+    """A set of texts or bytes whose bits of one item lie in one line of the cache.
+
+    So where it is larger than the processor's cache, adds and look-ups of many hashes are quicker
+    than those of `Filter`, and it takes a little more memory at the same rate. Its calls are those of
+    `Filter`, as far as it has them. It has no files, estimates or rates, and takes no `Filter` in.
+    """
+
+    __slots__ = ("_view", "_at", "_num_words", "_num_hashes", "_key", "_lock", "__weakref__")
+    _view: memoryview
+    _at: int
+    _num_words: int
+    _num_hashes: int
+    _key: bytes
+    _lock: Any
+
+    def __init__(self, items: int, rate: Rate, key: Buffer = bytes(16)) -> None:
+        """The empty filter for this many items, at a rate of false positives: as `Filter`.
+
+        That the rate is met was measured. It isn't met below some 1/4,000,000, where a `Filter`
+        has more than 32 bits for each item.
+        """
+        items = _number_of_items(items)
+        num, den = _parts(rate)
+        words, hashes = ctypes.c_size_t(), ctypes.c_uint32()
+        _check(library.blocked_plan(num, den, items, words, hashes))
+        key = plain_bytes(key, "a key is a bytes-like object")
+        self._set(8 * words.value // _LINE, hashes.value, key)
+
+    def _set(self, num_lines: int, num_hashes: int, key: bytes) -> None:
+        """Takes memory of this many lines, all of them clear."""
+        if len(key) != 16:
+            raise ValueError("a key is sixteen bytes")
+        if hasattr(self, "_view"):  # a call under way may use the words that it has
+            raise TypeError("a filter is made once")
+        memory = memoryview(bytearray(_LINE * (num_lines + 1)))
+        # The words begin where a line of the cache does. The view keeps the memory where it is.
+        first = -ctypes.addressof(ctypes.c_char.from_buffer(memory)) % _LINE
+        self._view = memory[first:first + _LINE * num_lines]
+        self._at = ctypes.addressof(ctypes.c_char.from_buffer(self._view))
+        self._num_words, self._num_hashes, self._key = 8 * num_lines, num_hashes, key
+        self._lock = new_lock()
+
+    @property
+    def num_words(self) -> int:
+        """The number of words of 64 bits."""
+        return self._num_words
+
+    @property
+    def num_lines(self) -> int:
+        """The number of lines of 512 bits."""
+        return self._num_words // 8
+
+    @property
+    def num_bits(self) -> int:
+        """The number of bits."""
+        return 64 * self._num_words
+
+    @property
+    def num_hashes(self) -> int:
+        """The number of positions that an item has, all in one line."""
+        return self._num_hashes
+
+    @property
+    def key(self) -> bytes:
+        """The sixteen bytes of the key."""
+        return self._key
+
+    # One item
+
+    @alone
+    def add(self, item: Item) -> bool:
+        """Adds an item, and returns whether it was contained, maybe by mistake."""
+        data = bytes_of(item)
+        return library.blocked_insert(
+            self._at, self._num_words, self._num_hashes, self._key, data, len(data))
+
+    @alone
+    def __contains__(self, item: Item) -> bool:
+        """Whether an item is contained, maybe by mistake. False: it was never added."""
+        data = bytes_of(item)
+        return library.blocked_contains(
+            self._at, self._num_words, self._num_hashes, self._key, data, len(data))
+
+    def hash(self, item: Item) -> int:
+        """The hash of an item: SipHash-1-3 of its bytes under the key."""
+        data = bytes_of(item)
+        return library.hash_of(self._key, data, len(data))
+
+    @alone
+    def add_hash(self, value: int) -> bool:
+        """As `add`, by the hash. One out of range raises ValueError."""
+        return library.blocked_insert_hash(
+            self._at, self._num_words, self._num_hashes, _hash_value(value))
+
+    @alone
+    def contains_hash(self, value: int) -> bool:
+        """As `in`, by the hash. One out of range raises ValueError."""
+        return library.blocked_contains_hash(
+            self._at, self._num_words, self._num_hashes, _hash_value(value))
+
+    # Many items
+
+    def update(self, *others: Union[BlockedFilter, Iterable[Item]]) -> None:
+        """Adds each item of the iterables, many by one call. It takes and raises as `Filter.update`.
+
+        A blocked filter among them is taken in.
+        """
+        for other in others:
+            if isinstance(other, BlockedFilter):
+                self._check_shape(other)
+            else:
+                check_many(other, "add")
+                iter(other)
+        for other in others:
+            if isinstance(other, BlockedFilter):
+                self._change(other, library.union)
+            else:
+                each_part(other, self._key, "add", self._add_hashed)
+
+    @alone
+    def _add_hashed(self, hashes: Hashes) -> None:
+        library.blocked_insert_hashes(self._at, self._num_words, self._num_hashes, *hashes)
+
+    def contains_many(self, items: Iterable[Item]) -> List[bool]:
+        """Whether each item of an iterable is contained, in their order, many by one call."""
+        answers: List[bool] = []
+        each_part(items, self._key, "in",
+                  lambda hashes: answers.extend(self._contains_hashed(hashes).tolist()))
+        return answers
+
+    def add_hashes(self, hashes: Buffer) -> None:
+        """Adds each hash of a buffer of words of 64 bits, as of an array, by one call."""
+        self._add_hashed(words_of(hashes))
+
+    def contains_hashes(self, hashes: Buffer) -> Mask:
+        """Whether each hash of a buffer of words of 64 bits is contained, by one call."""
+        return self._contains_hashed(words_of(hashes))
+
+    @alone
+    def _contains_hashed(self, hashes: Hashes) -> Mask:
+        return told(library.blocked_contains_hashes,
+                    (self._at, self._num_words, self._num_hashes), hashes)
+
+    def add_hashes_tell_new(self, hashes: Buffer) -> Mask:
+        """Adds each hash of a buffer of words of 64 bits, and tells which of them were new.
+
+        They are added one after the other, so a hash that comes twice is new once at most.
+        """
+        return self._add_hashed_tell_new(words_of(hashes))
+
+    @alone
+    def _add_hashed_tell_new(self, hashes: Hashes) -> Mask:
+        return told(library.blocked_insert_hashes_tell_new,
+                    (self._at, self._num_words, self._num_hashes), hashes)
+
+    @alone
+    def clear(self) -> None:
+        """Removes every item."""
+        library.clear(self._at, self._num_words)
+
+    @alone
+    def count_ones(self) -> int:
+        """How many of its bits are set."""
+        return library.count_ones(self._at, self._num_words)
+
+    # Two filters
+
+    @alone_with
+    def _with(self, other: BlockedFilter, call: Callable[..., bool]) -> bool:
+        return call(self._at, self._num_words, other._at, other._num_words)
+
+    def _check_shape(self, other: BlockedFilter) -> None:
+        """Raises ValueError where another filter doesn't fit."""
+        for name in ("num_words", "num_hashes", "key"):
+            if getattr(self, name) != getattr(other, name):
+                raise ValueError(f"the filters differ in {name}")
+
+    def _change(self, other: BlockedFilter, call: Callable[..., bool]) -> None:
+        """Changes this filter by another one. Where they don't fit, it raises ValueError."""
+        self._check_shape(other)
+        if other is not self:  # the library asks for words that lie apart
+            self._with(other, call)
+
+    def __ior__(self, other: BlockedFilter) -> Self:
+        """Takes in what the other contains.
+
+        A filter of another size, number of hashes or key raises ValueError.
+        """
+        if not isinstance(other, BlockedFilter):
+            return NotImplemented
+        self._change(other, library.union)
+        return self
+
+    def __iand__(self, other: BlockedFilter) -> Self:
+        """Keeps what both may contain. It raises as `|=`."""
+        if not isinstance(other, BlockedFilter):
+            return NotImplemented
+        self._change(other, library.intersect)
+        return self
+
+    def __or__(self, other: BlockedFilter) -> Self:
+        """A filter of what one of the two contains. It raises as `|=`."""
+        if not isinstance(other, BlockedFilter):
+            return NotImplemented
+        united = self.copy()
+        united |= other
+        return united
+
+    def __and__(self, other: BlockedFilter) -> Self:
+        """A filter of what both may contain. It raises as `|=`."""
+        if not isinstance(other, BlockedFilter):
+            return NotImplemented
+        common = self.copy()
+        common &= other
+        return common
+
+    def __eq__(self, other: object) -> bool:
+        """Whether words, numbers of hashes and keys are equal."""
+        if not isinstance(other, BlockedFilter):
+            return NotImplemented
+        alike = (self._num_hashes, self._key) == (other._num_hashes, other._key)
+        return alike and self._with(other, library.equal)
+
+    __hash__ = None  # type: ignore[assignment]
+
+    # Copies
+
+    @alone
+    def _words(self) -> bytes:
+        return bytes(self._view)
+
+    def copy(self) -> Self:
+        """A filter with words of its own, which are equal to these."""
+        made = type(self).__new__(type(self))
+        made._set(self.num_lines, self._num_hashes, self._key)
+        made._view[:] = self._words()
+        return made
+
+    __copy__ = copy
+
+    def __deepcopy__(self, memo: Any) -> Self:
+        made = self.copy()
+        memo[id(self)] = made
+        return made
+
+    def __reduce__(self) -> Tuple[Any, ...]:
+        """Pickles the words, the number of hashes and the key."""
+        return _restored, (type(self), self._num_hashes, self._key, self._words())
+
+    def __sizeof__(self) -> int:
+        """The bytes of memory, those of its words included."""
+        return int(object.__sizeof__(self)) + self._view.nbytes
+
+    def view(self) -> memoryview:
+        """The words as a memoryview of numbers of 64 bits, which can't be written."""
+        return self._view.cast("Q").toreadonly()
+
+    def words(self) -> List[int]:
+        """The words, as a list of numbers."""
+        return memoryview(self._words()).cast("Q").tolist()
+
+    def __repr__(self) -> str:
+        """The size, and whether there is a key. The key itself isn't shown: it may be secret."""
+        key = "a key" if any(self._key) else "the zero key"
+        return f"<{type(self).__name__}: {self.num_bits} bits, {self._num_hashes} hashes, {key}>"

@@ -1,0 +1,163 @@
+"""Blocked filters: what a model says of drawn sessions, and what the class adds to the calls of C."""
+
+import array
+import copy
+import ctypes
+import pickle
+import unittest
+
+import fastbloom
+from fastbloom import AnyFilter, BlockedFilter, Filter, Mask, Refusal
+
+WORD = 2**64
+
+# What bin/blocked-model says of these sessions.
+WANTED = {
+    0: 10201929447077217113,
+    1: 9114022726019433226,
+    2: 14037430642071227216,
+    3: 13490501208424134116,
+    4: 3149811784735866628,
+    5: 10801210578881592884,
+    6: 83973745466136214,
+    12: 16881468693709726912,
+    49: 3236104131571975975,
+    99: 11864419982559889783,
+    199: 1515267214006784225,
+}
+
+
+def drawn(session, index):
+    """The number of an index that a session draws, by splitmix64."""
+    word = ((session << 32) + index + 0x9E3779B97F4A7C15) % WORD
+    word = (word ^ word >> 30) * 0xBF58476D1CE4E5B9 % WORD
+    word = (word ^ word >> 27) * 0x94D049BB133111EB % WORD
+    return word ^ word >> 31
+
+
+def row(session, first, count):
+    return array.array("Q", (drawn(session, first + index) for index in range(count)))
+
+
+def words_of(mask):
+    """The bits of a mask as words of 64 bits, the last of them filled with zeros."""
+    data = bytes(mask.bits)
+    return array.array("Q", data + bytes(-len(data) % 8))
+
+
+def number_of(session):
+    """All answers of a session and then all words, folded into one number."""
+    seen = BlockedFilter.__new__(BlockedFilter)
+    lines = 16384 + session if session % 50 == 49 else 1 + session % 7
+    seen._set(lines, 1 + session % 13, bytes(16))
+    told = [seen.add_hash(drawn(session, index)) for index in range(20)]
+    several = array.array("Q", (drawn(session, 7 * index % 95) for index in range(130)))
+    told += words_of(seen.add_hashes_tell_new(several))
+    seen.add_hashes(row(session, 200, 150))
+    told += words_of(seen.contains_hashes(row(session, 300, 150)))
+    told += [seen.contains_hash(drawn(session, index)) for index in range(440, 460)]
+    fold = 0
+    for number in told + seen.words():
+        fold = (fold ^ number) * 0x9E3779B97F4A7C15 % WORD
+        fold = fold * 2**7 % WORD + fold // 2**57
+    return fold
+
+
+def small(*items):
+    seen = BlockedFilter(1000, "1/1000")
+    seen.update(items)
+    return seen
+
+
+class Blocked(unittest.TestCase):
+    def test_drawn_filters_are_those_of_the_model(self):
+        for session, wanted in WANTED.items():
+            self.assertEqual(number_of(session), wanted, session)
+
+    def test_sizes(self):
+        seen = small()
+        self.assertEqual((seen.num_words, seen.num_lines, seen.num_bits, seen.num_hashes),
+                         (248, 31, 15872, 9))
+        self.assertEqual(BlockedFilter(10**6, "1/100").num_words, 156048)
+        self.assertEqual(ctypes.addressof(ctypes.c_char.from_buffer(seen._view)) % 64, 0)
+        self.assertEqual(repr(seen), "<BlockedFilter: 15872 bits, 9 hashes, the zero key>")
+
+    def test_items(self):
+        seen = small()
+        self.assertFalse(seen.add("crab"))
+        self.assertTrue(seen.add(b"crab") and "crab" in seen and "whale" not in seen)
+        self.assertTrue(seen.contains_hash(seen.hash("crab")))
+        seen.update(["eel", b"prawn"], small("lobster"), iter(()))
+        self.assertEqual(seen.contains_many(["crab", "eel", "prawn", "lobster", "whale"]),
+                         [True, True, True, True, False])
+        hashes = array.array("Q", map(seen.hash, ["crab", "whale", "whale"]))
+        self.assertEqual(seen.contains_hashes(hashes), [True, False, False])
+        fresh = seen.add_hashes_tell_new(hashes)
+        self.assertIsInstance(fresh, Mask)
+        self.assertEqual(fresh, [False, True, False])
+        self.assertIsInstance(seen, AnyFilter)
+        seen.clear()
+        self.assertEqual((seen.count_ones(), "crab" in seen), (0, False))
+
+    def test_many_are_as_one_by_one(self):
+        one, many = BlockedFilter(10**6, "1/100"), BlockedFilter(10**6, "1/100")
+        items = [f"item{number}" for number in range(5000)]
+        for item in items:
+            one.add(item)
+        many.update(items)
+        self.assertEqual(one, many)
+        self.assertEqual(many.contains_many(items), [True] * len(items))
+
+    def test_two_filters(self):
+        one, other = small("crab", "lobster"), small("lobster", "whale")
+        self.assertEqual((one | other).contains_many(["crab", "lobster", "whale"]), [True] * 3)
+        self.assertEqual((one & other).contains_many(["crab", "lobster", "whale"]),
+                         [False, True, False])
+        united = one.copy()
+        united |= other
+        self.assertEqual(united, one | other)
+        united &= one
+        self.assertEqual(united, one)
+        self.assertNotEqual(one, other)
+        one |= one
+        self.assertIn("crab", one)
+
+    def test_copies(self):
+        seen = BlockedFilter(1000, "1/1000", bytes(range(16)))
+        seen.update(["crab", "eel"])
+        ways = [BlockedFilter.copy, copy.copy, copy.deepcopy]
+        ways += [lambda it, n=number: pickle.loads(pickle.dumps(it, n)) for number in range(2, 6)]
+        for way in ways:
+            other = way(seen)
+            self.assertEqual(other, seen)
+            self.assertEqual(other.key, bytes(range(16)))
+            other.add("whale")
+            self.assertNotIn("whale", seen)
+        self.assertEqual(list(seen.view()), seen.words())
+        self.assertRaises(TypeError, seen.view().__setitem__, 0, 1)
+
+    def test_what_is_refused(self):
+        seen = small("crab")
+        for other in (BlockedFilter(10, "1/1000"), BlockedFilter(1000, "1/1000", bytes(15) + b"1")):
+            self.assertRaises(ValueError, seen.__ior__, other)
+            self.assertRaises(ValueError, seen.update, ["whale"], other)
+        plain = Filter(1000, "1/1000")
+        for call in ("__or__", "__and__", "__ior__", "__iand__", "__eq__"):
+            self.assertIs(getattr(seen, call)(plain), NotImplemented)
+            self.assertIs(getattr(plain, call)(seen), NotImplemented)
+        for bad in ("whale", b"whale", 5, None):
+            self.assertRaises(TypeError, seen.update, ["whale"], bad)
+        self.assertNotIn("whale", seen)
+        self.assertRaises(TypeError, seen.add, 5)
+        self.assertRaises(ValueError, seen.add_hash, WORD)
+        self.assertRaises(TypeError, hash, seen)
+        self.assertRaises(TypeError, seen.__init__, 10, "1/2")
+        for items, rate in ((10, "0"), (WORD - 1, "1/2")):
+            self.assertRaises(Refusal, BlockedFilter, items, rate)
+        for items, rate in ((-1, "1/2"), (10, 1)):
+            self.assertRaises(ValueError, BlockedFilter, items, rate)
+        self.assertIn("BlockedFilter", fastbloom.__all__)
+
+
+if __name__ == "__main__":
+    unittest.main()

@@ -1,0 +1,174 @@
+//! Blocked filters: what a model says of drawn sessions, and what the crate adds to the calls of C.
+
+use fastbloom_c::{BlockedBloomFilter, Error, Rate};
+
+/// What bin/blocked-model says of these sessions.
+const WANTED: [(u64, u64); 11] = [
+    (0, 10201929447077217113),
+    (1, 9114022726019433226),
+    (2, 14037430642071227216),
+    (3, 13490501208424134116),
+    (4, 3149811784735866628),
+    (5, 10801210578881592884),
+    (6, 83973745466136214),
+    (12, 16881468693709726912),
+    (49, 3236104131571975975),
+    (99, 11864419982559889783),
+    (199, 1515267214006784225),
+];
+
+/// The number of an index that a session draws, by splitmix64.
+fn drawn(session: u64, index: u64) -> u64 {
+    let word = ((session << 32) + index).wrapping_add(0x9e37_79b9_7f4a_7c15);
+    let word = (word ^ (word >> 30)).wrapping_mul(0xbf58_476d_1ce4_e5b9);
+    let word = (word ^ (word >> 27)).wrapping_mul(0x94d0_49bb_1331_11eb);
+    word ^ (word >> 31)
+}
+
+fn row(session: u64, indices: std::ops::Range<u64>) -> Vec<u64> {
+    indices.map(|index| drawn(session, index)).collect()
+}
+
+/// Answers as words of 64 bits.
+fn words_of(told: &[bool]) -> impl Iterator<Item = u64> + '_ {
+    let word_of = |part: &[bool]| {
+        part.iter()
+            .rev()
+            .fold(0, |word, bit| word << 1 | *bit as u64)
+    };
+    told.chunks(64).map(word_of)
+}
+
+/// All answers of a session and then all words, folded into one number.
+fn number_of(session: u64) -> u64 {
+    let lines = match session % 50 {
+        49 => 16384 + session,
+        _ => 1 + session % 7,
+    };
+    let mut seen = BlockedBloomFilter::with_num_bits(512 * lines as usize)
+        .expect("lines")
+        .hashes(1 + (session % 13) as u32);
+    let mut told: Vec<u64> = (0..20)
+        .map(|index| seen.insert_hash(drawn(session, index)) as u64)
+        .collect();
+    let several: Vec<_> = (0..130).map(|i| drawn(session, 7 * i % 95)).collect();
+    told.extend(words_of(&seen.insert_hashes_tell_new(&several)));
+    seen.insert_hashes(&row(session, 200..350));
+    told.extend(words_of(&seen.contains_hashes(&row(session, 300..450))));
+    told.extend((440..460).map(|index| seen.contains_hash(drawn(session, index)) as u64));
+    told.extend(seen.iter());
+    told.into_iter().fold(0, |fold: u64, number| {
+        (fold ^ number)
+            .wrapping_mul(0x9e37_79b9_7f4a_7c15)
+            .rotate_left(7)
+    })
+}
+
+fn thousand(items: &[&str]) -> BlockedBloomFilter {
+    let rate = Rate::new(1, 1000).expect("a rate");
+    let mut seen = BlockedBloomFilter::with_false_pos(rate)
+        .expected_items(1000)
+        .expect("a filter");
+    seen.insert_all(items);
+    seen
+}
+
+#[test]
+fn drawn_filters_are_those_of_the_model() {
+    for (session, wanted) in WANTED {
+        assert_eq!(number_of(session), wanted, "session {session}");
+    }
+}
+
+#[test]
+fn sizes_are_those_of_the_library() {
+    let seen = thousand(&[]);
+    assert_eq!((seen.as_slice().len(), seen.num_hashes()), (248, 9));
+    assert_eq!(seen.as_slice().as_ptr() as usize % 64, 0);
+    let bits = |bits| BlockedBloomFilter::with_num_bits(bits).map(|it| it.hashes(0).num_bits());
+    assert_eq!(
+        (bits(1), bits(512), bits(513)),
+        (Ok(512), Ok(512), Ok(1024))
+    );
+    assert_eq!(
+        (bits(0), bits(usize::MAX)),
+        (Err(Error::ZeroBits), Err(Error::TooManyWords))
+    );
+    let rate = Rate::new(1, 2).expect("a rate");
+    let large = BlockedBloomFilter::with_false_pos(rate).expected_items(usize::MAX);
+    assert_eq!(large.unwrap_err(), Error::SizeOverflow);
+}
+
+#[test]
+fn items_are_found() {
+    let mut seen = thousand(&["crab"]);
+    assert!(seen.insert("crab") && !seen.insert("eel") && seen.contains(b"eel"));
+    assert!(seen.contains_hash(seen.source_hash("crab")) && !seen.contains("whale"));
+    seen.extend(["prawn", "krill"]);
+    assert!(seen.contains("prawn") && seen.contains("krill"));
+    seen.clear();
+    assert_eq!((seen.count_ones(), seen.contains("crab")), (0, false));
+    let names: Vec<_> = (0..5000).map(|number| format!("item{number}")).collect();
+    let rate = Rate::new(1, 100).expect("a rate");
+    let mut all = BlockedBloomFilter::with_false_pos(rate)
+        .items(&names)
+        .expect("a filter");
+    let mut one = BlockedBloomFilter::from_words(&vec![0; all.as_slice().len()])
+        .expect("lines")
+        .hashes(all.num_hashes());
+    for name in &names {
+        one.insert(name);
+    }
+    assert_eq!(all, one);
+    assert!(names.iter().all(|name| all.insert(name)));
+}
+
+#[test]
+fn two_filters() {
+    let (one, other) = (
+        thousand(&["crab", "lobster"]),
+        thousand(&["lobster", "whale"]),
+    );
+    let (mut united, mut common) = (one.clone(), one.clone());
+    assert_eq!(
+        (united.union(&other), common.intersect(&other)),
+        (Ok(()), Ok(()))
+    );
+    assert!(united.contains("whale") && united.contains("crab"));
+    assert!(common.contains("lobster") && !common.contains("crab"));
+    assert!(one != other && one == one.clone());
+    let empty = |bits| BlockedBloomFilter::with_num_bits(bits).expect("bits");
+    for other in [
+        empty(512).hashes(9),
+        empty(15872).hashes(8),
+        empty(15872).seed(&1).hashes(9),
+    ] {
+        assert_eq!(united.union(&other), Err(Error::OtherShape));
+        assert_eq!(united.intersect(&other), Err(Error::OtherShape));
+    }
+}
+
+#[test]
+fn words_that_are_no_lines_are_refused() {
+    let refused = |words: &[u64]| {
+        BlockedBloomFilter::from_words(words)
+            .map(|_| ())
+            .unwrap_err()
+    };
+    assert_eq!(refused(&[]), Error::EmptyWords);
+    assert_eq!(
+        (refused(&[0; 7]), refused(&[0; 12])),
+        (Error::PartOfALine, Error::PartOfALine)
+    );
+    assert_eq!(Error::PartOfALine.code(), Some(16));
+    let words: Vec<u64> = (0..16).collect();
+    let kept = BlockedBloomFilter::from_words(&words)
+        .expect("lines")
+        .seed(&5)
+        .hashes(3);
+    assert_eq!(kept.as_slice(), words);
+    assert_eq!(
+        format!("{kept:?}"),
+        "BlockedBloomFilter { num_bits: 1024, num_hashes: 3, .. }"
+    );
+}

@@ -1,0 +1,150 @@
+/* Blocked filters: `blocked` makes the sessions that bin/blocked-model tells of, and prints the
+ * number of each, in which all answers and words are folded. The words begin in the midst of a line
+ * of the cache, and words behind the last line have to stay as they are. Then it tries the calls by
+ * bytes, plans, and what is refused. */
+#include "fastbloom.h"
+
+#include <inttypes.h>
+#include <stdio.h>
+#include <stdlib.h>
+#include <string.h>
+
+enum { SESSIONS = 200, LINE = 8, AT_ONCE = 150, BITS = 3, FEW = 20 };
+
+static int wrong;
+
+static void wants(const char *what, uint64_t wanted, uint64_t got) {
+    if (wanted == got) return;
+    fprintf(stderr, "%s: %" PRIu64 ", not %" PRIu64 "\n", what, got, wanted);
+    wrong = 1;
+}
+
+/* The number of an index that a session draws, by splitmix64. */
+static uint64_t drawn(uint64_t session, uint64_t index) {
+    uint64_t word = (session << 32) + index + UINT64_C(0x9e3779b97f4a7c15);
+    word = (word ^ (word >> 30)) * UINT64_C(0xbf58476d1ce4e5b9);
+    word = (word ^ (word >> 27)) * UINT64_C(0x94d049bb133111eb);
+    return word ^ (word >> 31);
+}
+
+static uint64_t folded(uint64_t fold, const uint64_t *numbers, size_t count) {
+    for (size_t i = 0; i < count; i++) {
+        fold = (fold ^ numbers[i]) * UINT64_C(0x9e3779b97f4a7c15);
+        fold = fold << 7 | fold >> 57;
+    }
+    return fold;
+}
+
+static uint64_t fold_one(uint64_t fold, uint64_t number) { return folded(fold, &number, 1); }
+
+/* The hashes of some indices in a row. */
+static void draw_row(uint64_t *hashes, uint64_t session, uint64_t first, size_t count) {
+    for (size_t i = 0; i < count; i++) hashes[i] = drawn(session, first + i);
+}
+
+static uint64_t number_of(uint64_t session) {
+    size_t lines = session % 50 == 49 ? 16384 + session : 1 + session % 7;
+    size_t filter = LINE * lines, rest = session % LINE, at = session % 5;
+    uint64_t *memory = malloc((at + filter + rest) * sizeof *memory), *words = memory + at;
+    uint64_t hashes[AT_ONCE], bits[BITS], fold = 0;
+    uint32_t k = (uint32_t)(1 + session % 13);
+    if (memory == NULL) abort();
+    memset(words, 0, filter * sizeof *words);
+    for (size_t i = 0; i < rest; i++) words[filter + i] = drawn(session, i);
+    size_t all = filter + rest;
+    for (uint64_t i = 0; i < FEW; i++)
+        fold = fold_one(fold, fastbloom_blocked_insert_hash(words, all, k, drawn(session, i)));
+    for (uint64_t i = 0; i < 130; i++) hashes[i] = drawn(session, 7 * i % 95);
+    wants("told", 1,
+          fastbloom_blocked_insert_hashes_tell_new(words, all, k, hashes, 130, bits, BITS));
+    fold = folded(fold, bits, BITS);
+    draw_row(hashes, session, 200, 150);
+    wants("inserted", 1, fastbloom_blocked_insert_hashes(words, all, k, hashes, 150));
+    draw_row(hashes, session, 300, 150);
+    wants("found", 1, fastbloom_blocked_contains_hashes(words, all, k, hashes, 150, bits, BITS));
+    fold = folded(fold, bits, BITS);
+    for (uint64_t i = 440; i < 440 + FEW; i++)
+        fold = fold_one(fold, fastbloom_blocked_contains_hash(words, all, k, drawn(session, i)));
+    fold = folded(fold, words, filter);
+    for (size_t i = 0; i < rest; i++)
+        wants("a word behind the lines", drawn(session, i), words[filter + i]);
+    free(memory);
+    return fold;
+}
+
+/* The calls by bytes are those by the hash of the bytes. */
+static void try_bytes(void) {
+    static const uint8_t key[16] = {1, 2, 3};
+    uint64_t by_bytes[3 * LINE] = {0}, by_hash[3 * LINE] = {0};
+    for (size_t len = 0; len <= 16; len++) {
+        uint32_t hashes = (uint32_t)(len % 4);
+        uint64_t hash = fastbloom_hash(key, key, len);
+        wants("a look-up of bytes",
+              fastbloom_blocked_contains_hash(by_hash, 3 * LINE, hashes, hash),
+              fastbloom_blocked_contains(by_bytes, 3 * LINE, hashes, key, key, len));
+        wants("an insert of bytes", fastbloom_blocked_insert_hash(by_hash, 3 * LINE, hashes, hash),
+              fastbloom_blocked_insert(by_bytes, 3 * LINE, hashes, key, key, len));
+        wants("bytes inserted", 1,
+              fastbloom_blocked_contains(by_bytes, 3 * LINE, hashes, key, key, len));
+    }
+    wants("words by bytes", 1, fastbloom_equal(by_bytes, 3 * LINE, by_hash, 3 * LINE));
+}
+
+/* Plans, of which a program in Python computed the numbers, and refusals. */
+static void try_plans(void) {
+    static const struct {
+        uint64_t num, den, items;
+        size_t words;
+        uint32_t hashes;
+        uint8_t code;
+    } plans[] = {
+        {1, 1000, 1000, 248, 9, FASTBLOOM_OK},
+        {1, 100, 1000000, 156048, 6, FASTBLOOM_OK},
+        {1, 50, 100000, 13264, 6, FASTBLOOM_OK},
+        {1, 2, 0, 8, 16, FASTBLOOM_OK},
+        {1, 10000, 12345, 4296, 12, FASTBLOOM_OK},
+        {3, 2, 1000, 8, 1, FASTBLOOM_OK},
+        {1, 1000000, 777, 504, 16, FASTBLOOM_OK},
+        {0, 1, 10, 0, 0, FASTBLOOM_ZERO_RATE},
+        {1, 2, UINT64_MAX, 0, 0, FASTBLOOM_SIZE_OVERFLOW},
+        {1, 2, UINT64_C(12535596710982995323), 0, 0, FASTBLOOM_TOO_MANY_WORDS},
+    };
+    for (size_t i = 0; i < sizeof plans / sizeof *plans; i++) {
+        size_t words = 1;
+        uint32_t hashes = 1;
+        wants("a plan", plans[i].code,
+              fastbloom_blocked_plan(plans[i].num, plans[i].den, plans[i].items, &words, &hashes));
+        wants("words of a plan", plans[i].words, words);
+        wants("hashes of a plan", plans[i].hashes, hashes);
+    }
+}
+
+/* What is refused, and changes nothing. */
+static void try_refusals(void) {
+    uint64_t few[LINE - 1], line[LINE] = {0}, hashes[65] = {5}, bits[1] = {7}, copy[LINE - 1];
+    memset(few, 0xff, sizeof few), memcpy(copy, few, sizeof few);
+    wants("an insert into no line", 0, fastbloom_blocked_insert_hash(few, LINE - 1, 1, 5));
+    wants("a look-up in no line", 0, fastbloom_blocked_contains_hash(few, LINE - 1, 1, 5));
+    wants("inserts into no line", 0, fastbloom_blocked_insert_hashes(few, LINE - 1, 1, hashes, 1));
+    wants("look-ups in no line", 0,
+          fastbloom_blocked_contains_hashes(few, LINE - 1, 1, hashes, 1, bits, 1));
+    wants("told of no line", 0,
+          fastbloom_blocked_insert_hashes_tell_new(few, LINE - 1, 1, hashes, 1, bits, 1));
+    wants("look-ups with too few bits", 0,
+          fastbloom_blocked_contains_hashes(line, LINE, 1, hashes, 65, bits, 1));
+    wants("told with too few bits", 0,
+          fastbloom_blocked_insert_hashes_tell_new(line, LINE, 1, hashes, 65, bits, 1));
+    wants("words that make no line", 0, (uint64_t)memcmp(few, copy, sizeof few));
+    wants("bits of refused calls", 7, bits[0]);
+    wants("words of refused calls", 0, fastbloom_count_ones(line, LINE));
+}
+
+int main(void) {
+    for (uint64_t session = 0; session < SESSIONS; session++)
+        printf("%s%" PRIu64 ",%s", session % 4 == 0 ? "    " : " ", number_of(session),
+               session % 4 == 3 ? "\n" : "");
+    try_bytes();
+    try_plans();
+    try_refusals();
+    return wrong;
+}
