@@ -3,6 +3,7 @@ ghost use Rattle.std.specs.Prelude.{◌≡◌, ◌≢◌, true, false, IfOk};
 ghost use Rattle.guard.specs.Left.{IsBare};
 ghost use Rattle.guard_engine.specs.Guarded.{IsMadeOf, Stays};
 ghost use Rattle.guard_engine.specs.OnDemand.{IsClosed};
+ghost use Rattle.guard_engine.specs.Room.{HasRoom};
 ghost use Rattle.guard_engine.specs.Stores.{IsReady};
 
 use crate::filter_file::{FilterFault, StoreFilter, filter_file};
@@ -38,11 +39,12 @@ pub fn over_file<'a, O: Source<Error = StoreFault> + Drop, W: Left>(
 {
     let store = OnDemand::new(source);
     let kept = filter_file(rt, names, world, false);
-    Guard::open(rt.alloc(), store, kept, rate, 0)
+    Guard::open(rt.alloc(), store, kept, rate, 0, 0)
 }
 
-/// A guard over a store that is open, whose filter has room for this many more keys. A store whose
-/// table was made just now takes no filter that is there.
+/// A guard over a store that is open, whose filter has room for the keys to come. One that is made
+/// anew has this many keys to spare. A store whose table was made just now takes no filter that is
+/// there.
 ///
 /// # Errors
 /// As `Guard::open`.
@@ -53,20 +55,22 @@ pub fn over_table<'a, T: Store<Error = StoreFault> + Drop, W: Left>(
     is_made: bool,
     world: W,
     rate: Rate,
-    room: usize,
+    coming: usize,
+    spare: usize,
 ) -> Result<(Writer<'a, T, W>, Origin<FilterFault>), Refusal<StoreFault>>
     requires ready { T.is_known table → IsReady (T.sight table) }
     // The filter is that of a guard of this store, or the store has no key.
     requires beside { T.is_known table → is_made ≡ false → Stays W.has (T.sight table).kept }
     requires bare { T.is_known table → is_made ≡ true → IsBare (T.sight table).kept }
     ensures untouched { IfOk result (λ it. it.1 ≡ Origin.Kept → it.0.store ≡ table) }
+    ensures roomy { IfOk result (λ it. it.1 ≡ Origin.Kept → HasRoom coming it.0.room) }
     ensures made { IfOk result (λ it. it.1 ≢ Origin.Kept → T.is_known it.0.store
-        → IsMadeOf rate room (T.sight table).has it.0.filter) }
+        → IsMadeOf rate spare (T.sight table).has it.0.filter it.0.room) }
     ensures stays { IfOk result (λ it. T.is_known it.0.store
         → Stays (T.sight table).has (T.sight it.0.store).has) }
     ensures counts { IfOk result (λ it. it.0.counts
         ≡ record { spared = 0; asked = 0; false_alarms = 0 }) }
 {
     let kept = filter_file(rt, names, world, is_made);
-    Guard::open(rt.alloc(), table, kept, rate, room)
+    Guard::open(rt.alloc(), table, kept, rate, coming, spare)
 }

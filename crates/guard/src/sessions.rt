@@ -14,8 +14,8 @@ use guard_engine::Task;
 use lines::Reason;
 use std::io::ErrorKind;
 
-// How many keys a filter that a put makes has room for.
-const PUT_ROOM: usize = 1000;
+// How many keys a filter has to spare that a put makes.
+const PUT_SPARE: usize = 1000;
 
 // The status where a file can't be opened or read.
 fn status_of_read(kind: ErrorKind) -> u8
@@ -29,21 +29,23 @@ fn status_of_read(kind: ErrorKind) -> u8
     }
 }
 
-// Opens a store and its filter, both of which are made where there is no store. A filter that is
-// made anew has room for this many more keys.
+// Opens a store and its filter, both of which are made where there is no store. The filter has room
+// for the keys to come, and one that is made anew has this many keys to spare.
 fn open_writer<'a, M: Medium>(
     rt: &'a HostRuntime,
     names: &'a Names,
     world: M::World,
     options: Options,
-    room: usize,
+    coming: usize,
+    spare: usize,
 ) -> Result<Writer<'a, M::Table, M::World>, u8> {
     let is_new = !names.has_store(rt);
     let (table, is_made) = match M::over(rt, names, options.wait) {
         Ok(over) => over,
         Err(fault) => return Err(tell_store(rt, names, &fault)),
     };
-    match guards::over_table(rt, names, table, is_made, world, options.rate, room) {
+    let rate = options.rate;
+    match guards::over_table(rt, names, table, is_made, world, rate, coming, spare) {
         Ok((mut guard, origin)) => {
             if is_new {
                 drop(guard.save());
@@ -98,7 +100,7 @@ fn put<'a, M: Medium>(
     options: Options,
     task: Task<&[u8]>,
 ) -> u8 {
-    match open_writer::<M>(rt, names, world, options, PUT_ROOM) {
+    match open_writer::<M>(rt, names, world, options, 1, PUT_SPARE) {
         Ok(mut guard) => {
             let status = tasks::serve(rt, names, &mut guard, task, NO_INPUT);
             close_writer::<M>(guard);
@@ -124,7 +126,8 @@ fn load_input<'a, M: Medium>(
     options: Options,
     load: Load,
 ) -> u8 {
-    match open_writer::<M>(rt, names, world, options, load.items as usize) {
+    let items = load.items as usize;
+    match open_writer::<M>(rt, names, world, options, items, items) {
         Ok(mut guard) => {
             let input = input_of("standard input");
             let status = tasks::fill(rt, names, &mut guard, &mut rt.reader(), load.batch, input);
@@ -156,7 +159,8 @@ fn load<'a, M: Medium>(
             return status_of_read(error.kind());
         }
     };
-    match open_writer::<M>(rt, names, world, options, lines as usize) {
+    let lines = lines as usize;
+    match open_writer::<M>(rt, names, world, options, lines, lines) {
         Ok(mut guard) => {
             let task = Task::Load(file, load.batch);
             let status = tasks::serve(rt, names, &mut guard, task, input_of(load.file));

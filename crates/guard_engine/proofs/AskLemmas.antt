@@ -4,6 +4,7 @@ use Rattle.std.proofs.lemmas.List.Elements.{All-nil}
 use Rattle.std.specs.Prelude.{All}
 use Rattle.bloom_plain.specs.Data.{DefaultFilter}
 use Rattle.lines.specs.Reading.{Waiting, left_of}
+use Rattle.guard_parts.specs.declared.room.Room.{Room}
 use Rattle.guard_engine.specs.declared.counts.Counts.{Counts}
 use Rattle.guard_engine.specs.declared.guard.loads.Stop.{Stop}
 use Rattle.guard_engine.specs.declared.guard.loads.Why.TheVariants.{Memory}
@@ -42,26 +43,29 @@ no_key-long line long is = absurd (omega (arith, long, is.short))
 -- half-way: these keys were looked up and counted, and the guard is as before
 pub record IsAsking {S L : Type 0} (sight : S → Sight) (is_known : S → Type 0)
     (is_kept : L → Type 0) (from : Option (List ℕ)) (f : DefaultFilter) (old : S) (old_kept : L)
-    (start : Counts) (reader : Waiting) (rest : Option (List ℕ)) (last : DefaultFilter) (new : S)
-    (kept : L) (end : Counts) (number : ℕ) : Type 0 where
-  pub keys : List (List ℕ)
-  pub reads : ReadsLines from keys (left_of reader rest)
-  pub good : All (IsKey 1048576) keys
-  pub numbered : number ≡ length keys
-  pub tallies : Tallies f (is_known new × is_kept kept) (sight old).has keys start end
-  pub filter : last ≡ f
-  pub same_kept : kept ≡ old_kept
-  pub reading : IsReading reader rest
-  pub stays : is_known new → is_kept kept → Stays (sight old).has (sight new).has
-  pub known : is_known new → is_known old
+    (first_room : Room) (start : Counts) (reader : Waiting) (rest : Option (List ℕ))
+    (last : DefaultFilter) (new : S) (kept : L) (room : Room) (end : Counts) (number : ℕ) : Type 0
+  where
+    pub keys : List (List ℕ)
+    pub reads : ReadsLines from keys (left_of reader rest)
+    pub good : All (IsKey 1048576) keys
+    pub numbered : number ≡ length keys
+    pub tallies : Tallies f (is_known new × is_kept kept) (sight old).has keys start end
+    pub filter : last ≡ f
+    pub same_kept : kept ≡ old_kept
+    pub same_room : room ≡ first_room
+    pub reading : IsReading reader rest
+    pub stays : is_known new → is_kept kept → Stays (sight old).has (sight new).has
+    pub known : is_known new → is_known old
 
 -- before the first key
 pub asking-nil : {S L : Type 0} {sight : S → Sight} {is_known : S → Type 0}
-    {is_kept : L → Type 0} {f : DefaultFilter} {old : S} {old_kept : L} {start : Counts}
-    (reader : Waiting) (rest : Option (List ℕ)) → reader.bytes ≡ [] → reader.ended ≡ false
-    → reader.longest ≡ 1048576 → {told : Counts} → told ≡ start → told.spared < 2 ^ 64
-    → told.asked < 2 ^ 64 → told.false_alarms < 2 ^ 64
-    → IsAsking sight is_known is_kept rest f old old_kept start reader rest f old old_kept start 0
+    {is_kept : L → Type 0} {f : DefaultFilter} {old : S} {old_kept : L} {room : Room}
+    {start : Counts} (reader : Waiting) (rest : Option (List ℕ)) → reader.bytes ≡ []
+    → reader.ended ≡ false → reader.longest ≡ 1048576 → {told : Counts} → told ≡ start
+    → told.spared < 2 ^ 64 → told.asked < 2 ^ 64 → told.false_alarms < 2 ^ 64
+    → IsAsking sight is_known is_kept rest f old old_kept room start reader rest f old old_kept room
+    start 0
 asking-nil {sight = sight} {is_known = is_known} {is_kept = is_kept} {f = f} {old = old}
     {old_kept = old_kept} {start = start} reader rest empty opened longest same
     spared asked alarms =
@@ -75,6 +79,7 @@ asking-nil {sight = sight} {is_known = is_known} {is_kept = is_kept} {f = f} {ol
           (subst (λ c. c.false_alarms < 2 ^ 64) same alarms);
       filter = refl;
       same_kept = refl;
+      same_room = refl;
       reading = reading-new reader rest opened longest;
       stays = λ known kept. Stays-same (sight old).has;
       known = λ known. known;

@@ -5,6 +5,7 @@ use Rattle.std.specs.Prelude.{IsUtf8}
 use Rattle.bloom_plain.specs.Data.{DefaultFilter}
 use Rattle.bloom_plain.specs.Filter.{contains}
 use Rattle.lines.specs.Reading.{Ends, KnowsEnd, TakesLine, TakesLong, TakesShort, Waiting, left_of}
+use Rattle.guard_parts.specs.declared.room.Room.{Room}
 use Rattle.guard_engine.specs.declared.counts.Counts.{Counts}
 use Rattle.guard_engine.specs.declared.guard.Found.{Found}
 use Rattle.guard_engine.specs.declared.guard.Found.TheVariants.{Spared, FalseAlarm, Value}
@@ -30,11 +31,11 @@ abbrev Came : Type 0 → Found → Found → Type 0
 Came E found what = ◌≡◌ {A = Result Found E} (Ok found) (Ok what)
 
 module _ {S L : Type 0} {sight : S → Sight} {is_known : S → Type 0} {is_kept : L → Type 0}
-    {from : Option (List ℕ)} {f : DefaultFilter} {old : S} {old_kept : L} {start : Counts}
-    {reader : Waiting} {rest : Option (List ℕ)} {now : DefaultFilter} {mid : S} {mid_kept : L}
-    {before : Counts} {number : ℕ}
-    (so_far : IsAsking sight is_known is_kept from f old old_kept start reader rest now mid mid_kept
-    before number) where
+    {from : Option (List ℕ)} {f : DefaultFilter} {old : S} {old_kept : L} {first_room : Room}
+    {start : Counts} {reader : Waiting} {rest : Option (List ℕ)} {now : DefaultFilter} {mid : S}
+    {mid_kept : L} {room : Room} {before : Counts} {number : ℕ}
+    (so_far : IsAsking sight is_known is_kept from f old old_kept first_room start reader rest now
+    mid mid_kept room before number) where
   -- nothing is left
   pub asked-all : (after : Waiting) (left : Option (List ℕ))
       → Ends (left_of reader rest) (left_of after left)
@@ -123,7 +124,8 @@ module _ {S L : Type 0} {sight : S → Sight} {is_known : S → Type 0} {is_kept
 
     -- it was looked up
     module _ (text : IsUtf8 line) {key : List ℕ} (is_key : key ≡ line) {new : S} {kept : L}
-        {last : DefaultFilter} (same : last ≡ now) (same_kept : kept ≡ mid_kept)
+        {last : DefaultFilter} {last_room : Room} (same : last ≡ now)
+        (same_kept : kept ≡ mid_kept) (same_room : last_room ≡ room)
         (known : is_known new → is_known mid)
         (stays : is_known new → is_kept mid_kept → Stays (sight mid).has (sight new).has) where
       -- the place of the filter is known as before
@@ -150,8 +152,8 @@ module _ {S L : Type 0} {sight : S → Sight} {is_known : S → Type 0} {is_kept
           → ((value : _) → Came E found (Value value)
           → end ≡ record before { asked = one_more before.asked })
           → KnowsEnd after.ended left → after.longest ≡ reader.longest
-          → IsAsking sight is_known is_kept from f old old_kept start after left last new kept end
-          (number + 1)
+          → IsAsking sight is_known is_kept from f old old_kept first_room start after left last new
+          kept last_room end (number + 1)
       asking-more {E = E} {found = found} {end = end} asked alarm value count_spared count_alarm
           count_value knows longest =
           let of_first : Came E found Spared ↔ (contains f (key_hash key) ≡ false) =
@@ -177,6 +179,7 @@ module _ {S L : Type 0} {sight : S → Sight} {is_known : S → Type 0} {is_kept
                 (value told.0 (was_kept told.1) v is)) count_spared count_alarm count_value;
             filter = same ∙ so_far.filter;
             same_kept = same_kept ∙ so_far.same_kept;
+            same_room = same_room ∙ so_far.same_room;
             reading = record { knows = knows; longest = longest ∙ so_far.reading.longest };
             stays = asking-stays;
             known = λ told. so_far.known (known told);

@@ -14,6 +14,7 @@ mod FoundLemmas
 mod GainedFacts
 mod GuardedFacts
 mod GuardingFacts
+mod HadLemmas
 mod KeyLemmas
 mod LoadLemmas
 mod LoadedFacts

@@ -20,6 +20,9 @@ use Rattle.guard_engine.specs.Stores.{Sight}
 use Rattle.guard_engine.proofs.PutCountLemmas.{CountsPuts-nil}
 use Rattle.guard_engine.specs.Fills.{FillsRead}
 use Rattle.guard_engine.proofs.FillLemmas.{Fills-nil}
+use Rattle.guard_engine.proofs.RoomLemmas.{CountsKeys-nil}
+use Rattle.guard_engine.specs.Room.{CountsKeys}
+use Rattle.guard_parts.specs.declared.room.Room.{Room}
 
 -- no line was loaded yet
 pub LoadsMany-nil : (entries : Entries) → LoadsMany [] entries entries 0
@@ -64,10 +67,11 @@ first-none {stop = stop} read batch entries is =
 
 -- half-way through a load: these lines were read and put, in whole batches, and each counts once
 pub record IsLoading {S L : Type 0} (sight : S → Sight) (may_have : L → DefaultFilter → Type 0)
-    (is_known : S → Type 0) (is_kept : L → Type 0) (batch : ℕ) (from : Option (List ℕ))
-    (first : DefaultFilter) (old : S) (old_kept : L) (before : Counts) (reader : Waiting)
-    (rest : Option (List ℕ)) (filter : DefaultFilter) (new : S) (kept : L) (counts : Counts)
-    (loaded : Loaded) (done turn : ℕ) : Type 0 where
+    (may_tell : L → Room → Type 0) (is_known : S → Type 0) (is_kept : L → Type 0) (batch : ℕ)
+    (from : Option (List ℕ)) (first : DefaultFilter) (first_room : Room) (old : S) (old_kept : L)
+    (before : Counts) (reader : Waiting) (rest : Option (List ℕ)) (filter : DefaultFilter)
+    (room : Room) (new : S) (kept : L) (counts : Counts) (loaded : Loaded) (done turn : ℕ)
+    : Type 0 where
   pub entries : ReadsEntries from (left_of reader rest) (λ lines added.
       IsGuarding (sight old) (may_have old_kept) first → is_known new → is_kept kept
       → LoadsMany lines (sight old).has (sight new).has added) loaded
@@ -81,17 +85,20 @@ pub record IsLoading {S L : Type 0} (sight : S → Sight) (may_have : L → Defa
   pub kept_known : is_kept kept → is_kept old_kept
   pub counted : CountsPuts before loaded.added loaded.taken counts
   pub fills : FillsRead from (left_of reader rest) first filter
+  pub rooms : CountsKeys may_tell is_kept loaded.added old_kept kept first_room room
 
 -- before the first batch
 pub loading-nil : {S L : Type 0} {sight : S → Sight} {may_have : L → DefaultFilter → Type 0}
-    {is_known : S → Type 0} {is_kept : L → Type 0} {batch : ℕ} {first : DefaultFilter} {old : S}
-    {old_kept : L} {before : Counts} (reader : Waiting) (rest : Option (List ℕ))
+    {may_tell : L → Room → Type 0} {is_known : S → Type 0} {is_kept : L → Type 0} {batch : ℕ}
+    {first : DefaultFilter} {room : Room} {old : S} {old_kept : L} {before : Counts}
+    (reader : Waiting) (rest : Option (List ℕ))
     → reader.bytes ≡ [] → reader.ended ≡ false → reader.longest ≡ 1048576
     → before.spared < 2 ^ 64 → before.asked < 2 ^ 64 → before.false_alarms < 2 ^ 64
-    → IsLoading sight may_have is_known is_kept batch rest first old old_kept before reader rest
-    first old old_kept before (record { added = 0; taken = 0 }) 0 0
-loading-nil {sight = sight} {old = old} {before = before} reader rest empty opened longest spared
-    asked alarms = record {
+    → room.taken < 2 ^ 64
+    → IsLoading sight may_have may_tell is_known is_kept batch rest first room old old_kept before
+    reader rest first room old old_kept before (record { added = 0; taken = 0 }) 0 0
+loading-nil {sight = sight} {room = room} {old = old} {before = before} reader rest empty opened
+    longest spared asked alarms narrow = record {
       entries = record {
         lines = [];
         reads = ReadsLines-new reader.bytes rest empty;
@@ -112,4 +119,5 @@ loading-nil {sight = sight} {old = old} {before = before} reader rest empty open
         reads = ReadsLines-new reader.bytes rest empty;
         fills = Fills-nil [] _;
       };
+      rooms = CountsKeys-nil room narrow;
     }

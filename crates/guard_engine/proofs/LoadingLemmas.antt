@@ -18,15 +18,18 @@ use Rattle.guard_engine.proofs.PutCountLemmas.{CountsPuts-more}
 use Rattle.guard_engine.proofs.ReadLemmas.{IsBadAt-after, IsReadFrom-read, IsReadWhole-read, ReadsLines-more}
 use Rattle.guard_engine.proofs.LoadedLemmas.{LoadsMany-more, Loads-kept}
 use Rattle.guard_engine.proofs.LoadedLemmas.{IsLoading}
+use Rattle.guard_engine.proofs.RoomLemmas.{CountsKeys-more}
+use Rattle.guard_engine.specs.Room.{CountsKeys}
+use Rattle.guard_parts.specs.declared.room.Room.{Room}
 
 -- half-way, and what the next batch came to
 module _ {S L : Type 0} {sight : S → Sight} {may_have : L → DefaultFilter → Type 0}
-    {is_known : S → Type 0} {is_kept : L → Type 0} {batch : ℕ} {from : Option (List ℕ)}
-    {first : DefaultFilter} {old : S} {old_kept : L} {before : Counts} {reader : Waiting}
-    {rest : Option (List ℕ)} {filter : DefaultFilter} {mid : S} {mid_kept : L} {counts : Counts}
-    {loaded : Loaded} {done turn : ℕ}
-    (so_far : IsLoading sight may_have is_known is_kept batch from first old old_kept before
-    reader rest filter mid mid_kept counts loaded done turn) where
+    {may_tell : L → Room → Type 0} {is_known : S → Type 0} {is_kept : L → Type 0} {batch : ℕ}
+    {from : Option (List ℕ)} {first : DefaultFilter} {first_room : Room} {old : S} {old_kept : L}
+    {before : Counts} {reader : Waiting} {rest : Option (List ℕ)} {filter : DefaultFilter}
+    {room : Room} {mid : S} {mid_kept : L} {counts : Counts} {loaded : Loaded} {done turn : ℕ}
+    (so_far : IsLoading sight may_have may_tell is_known is_kept batch from first first_room old
+    old_kept before reader rest filter room mid mid_kept counts loaded done turn) where
   -- the next batch isn't put
   pub first-put : (new : S) (told number : ℕ) → IsWithin batch done told number
       → Stays (sight mid).has (sight new).has
@@ -126,6 +129,12 @@ module _ {S L : Type 0} {sight : S → Sight} {may_have : L → DefaultFilter �
         (CountsPuts-more before counts now loaded.added loaded.taken part.loaded.added
         part.loaded.taken so_far.counted counted)
 
+    -- each key that came is counted
+    pub rooms-joined : {last_room : Room}
+        → CountsKeys may_tell is_kept part.loaded.added mid_kept kept room last_room
+        → CountsKeys may_tell is_kept more.added old_kept kept first_room last_room
+    rooms-joined came = CountsKeys-more so_far.rooms came both_added
+
     -- it was the last one
     pub loaded-all : part.is_last ≡ true → IsGuarding (sight old) (may_have old_kept) first
         → is_known new → is_kept kept
@@ -139,13 +148,15 @@ module _ {S L : Type 0} {sight : S → Sight} {may_have : L → DefaultFilter �
     }
 
     -- there may be more
-    pub loading-more : {last : DefaultFilter} → part.is_last ≡ false → IsReading after left
+    pub loading-more : {last : DefaultFilter} {last_room : Room} → part.is_last ≡ false
+        → IsReading after left
         → (IsGuarding (sight mid) (may_have mid_kept) filter → is_known new → is_kept kept
         → IsGuarding (sight new) (may_have kept) last)
         → FillsRead from (left_of after left) first last
-        → IsLoading sight may_have is_known is_kept batch from first old old_kept before after left
-        last new kept now more (done + batch) (turn + 1)
-    loading-more is reading guards fills =
+        → CountsKeys may_tell is_kept part.loaded.added mid_kept kept room last_room
+        → IsLoading sight may_have may_tell is_known is_kept batch from first first_room old
+        old_kept before after left last last_room new kept now more (done + batch) (turn + 1)
+    loading-more is reading guards fills came =
         let whole = read.whole is in
         let fits = read.fits in
         record {
@@ -160,4 +171,5 @@ module _ {S L : Type 0} {sight : S → Sight} {may_have : L → DefaultFilter �
           kept_known = λ told. so_far.kept_known (kept_known told);
           counted = counts-joined;
           fills = fills;
+          rooms = rooms-joined came;
         }

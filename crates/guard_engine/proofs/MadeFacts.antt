@@ -20,7 +20,9 @@ use Rattle.bloom_plain.specs.Builders.{RateStart, IsMadeFor, empty_start, sized_
 use Rattle.bloom_plain.specs.Data.{DefaultFilter}
 use Rattle.bloom_plain.specs.Replies.{InsertsAll}
 use Rattle.bloom_plain.proofs.CaseLemmas.{content-case, content-past, positions-past}
+use Rattle.guard_parts.specs.declared.room.Room.{Room}
 use Rattle.guard_engine.specs.Guarded.{IsMadeOf, key_hash}
+use Rattle.guard_engine.specs.Room.{room_for}
 use Rattle.guard_engine.proofs.CoverFacts.{filter, fresh, key_hash-one}
 use Rattle.guard_engine.proofs.GuardedFacts.{lists, one}
 
@@ -67,7 +69,7 @@ inserts = subst (λ h. InsertsAll (filter 0 1) (h ∷ []) (filter 131072 1)) (sy
 )
 
 -- a filter was made for the key 1 and room for 1000000 more, and the key was inserted
-made_of : IsMadeOf above 1000000 one (filter 131072 1)
+made_of : IsMadeOf above 1000000 one (filter 131072 1) (room_for 1 1000000)
 made_of = record {
   keys = (1 ∷ []) ∷ [];
   lists = lists;
@@ -77,25 +79,40 @@ made_of = record {
   empty = filter 0 1;
   made = made;
   inserts = inserts;
+  counted = refl;
 }
 
+-- its room tells the numbers of both, and no other
+made_of-total : {room : Room} (is : IsMadeOf above 1000000 one (filter 131072 1) room)
+    → is.keys ≡ (1 ∷ []) ∷ [] → room.total ≡ 2000002
+made_of-total is listed =
+    ap (λ r. r.total) is.counted
+    ∙ ap (λ (keys : List (List ℕ)). (room_for (length keys) 1000000).total) listed
+
+made_of-taken : {room : Room} (is : IsMadeOf above 1000000 one (filter 131072 1) room)
+    → is.keys ≡ (1 ∷ []) ∷ [] → room.taken ≡ 1
+made_of-taken is listed =
+    ap (λ r. r.taken) is.counted
+    ∙ ap (λ (keys : List (List ℕ)). (room_for (length keys) 1000000).taken) listed
+
 -- a key that the store has is one of the keys
-made_of-uncounted : (is : IsMadeOf above 1000000 one (filter 131072 1)) → is.keys ≡ [] → ⊥
+made_of-uncounted : {room : Room} (is : IsMadeOf above 1000000 one (filter 131072 1) room)
+    → is.keys ≡ [] → ⊥
 made_of-uncounted is uncounted =
     let there = subst (λ keys. Contains keys (1 ∷ [])) uncounted
     (is.lists (1 ∷ []) (2 ∷ []) (refl, refl)) in
     absurd (omega (arith, there.1))
 
 -- the hasher has the zero key: neither word may be another
-made_of-low : IsMadeOf above 1000000 one
-    (record (filter 131072 1) { hasher = record { hasher = record fresh { low = 1 } } }) → ⊥
+made_of-low : {room : Room} → IsMadeOf above 1000000 one
+    (record (filter 131072 1) { hasher = record { hasher = record fresh { low = 1 } } }) room → ⊥
 made_of-low is =
     let low : 1 ≡ is.start.hasher.hasher.low = ap (λ h. h.hasher.low)
     (is.inserts.1.hasher ∙ ap (λ f. f.hasher) is.made.2) in
     omega (arith, low, is.zero_key.low)
 
-made_of-high : IsMadeOf above 1000000 one
-    (record (filter 131072 1) { hasher = record { hasher = record fresh { high = 1 } } }) → ⊥
+made_of-high : {room : Room} → IsMadeOf above 1000000 one
+    (record (filter 131072 1) { hasher = record { hasher = record fresh { high = 1 } } }) room → ⊥
 made_of-high is =
     let high : 1 ≡ is.start.hasher.hasher.high = ap (λ h. h.hasher.high)
     (is.inserts.1.hasher ∙ ap (λ f. f.hasher) is.made.2) in
@@ -113,20 +130,21 @@ above-made items start empty least rate_is (size, is, same) =
     same ∙ ap (λ b. sized_filter (empty_start start b) items) word
 
 -- the filter of the key 1 alone, as it was made
-made-one : {room : ℕ} {f : DefaultFilter} (is : IsMadeOf above room one f)
-    → is.keys ≡ (1 ∷ []) ∷ [] → size_for (max 1 (min (2 * (1 + room)) (2 ^ 64 - 1))) 0 ≡ 64
-    → InsertsAll (sized_filter (empty_start is.start 64) (min (2 * (1 + room)) (2 ^ 64 - 1)))
+made-one : {spare : ℕ} {f : DefaultFilter} {room : Room} (is : IsMadeOf above spare one f room)
+    → is.keys ≡ (1 ∷ []) ∷ [] → size_for (max 1 (min (2 * (1 + spare)) (2 ^ 64 - 1))) 0 ≡ 64
+    → InsertsAll (sized_filter (empty_start is.start 64) (min (2 * (1 + spare)) (2 ^ 64 - 1)))
     (key_hash (1 ∷ []) ∷ []) f
-made-one {room} {f} is listed least =
+made-one {spare} {f} is listed least =
     let made = subst (λ (keys : List (List ℕ)).
-    IsMadeFor is.start (min (2 * (length keys + room)) (2 ^ 64 - 1)) is.empty) listed is.made in
-    let empty = above-made (min (2 * (1 + room)) (2 ^ 64 - 1)) is.start is.empty least is.rate_is
+    IsMadeFor is.start (min (2 * (length keys + spare)) (2 ^ 64 - 1)) is.empty) listed is.made in
+    let empty = above-made (min (2 * (1 + spare)) (2 ^ 64 - 1)) is.start is.empty least is.rate_is
     made in
     subst (λ e. InsertsAll e (key_hash (1 ∷ []) ∷ []) f) empty
     (subst (λ keys. InsertsAll is.empty (map key_hash keys) f) listed is.inserts)
 
 -- the key is inserted
-made_of-less : (is : IsMadeOf above 1000000 one (filter 0 1)) → is.keys ≡ (1 ∷ []) ∷ [] → ⊥
+made_of-less : {room : Room} (is : IsMadeOf above 1000000 one (filter 0 1) room)
+    → is.keys ≡ (1 ∷ []) ∷ [] → ⊥
 unfolding content positions chain
 made_of-less is listed =
     let did = subst (λ h. InsertsAll (sized_filter (empty_start is.start 64) 2000002) (h ∷ [])
@@ -135,7 +153,8 @@ made_of-less is listed =
     cc
 
 -- nothing else is inserted
-made_of-more : (is : IsMadeOf above 1000000 one (filter 131073 1)) → is.keys ≡ (1 ∷ []) ∷ [] → ⊥
+made_of-more : {room : Room} (is : IsMadeOf above 1000000 one (filter 131073 1) room)
+    → is.keys ≡ (1 ∷ []) ∷ [] → ⊥
 unfolding content positions chain
 made_of-more is listed =
     let did = subst (λ h. InsertsAll (sized_filter (empty_start is.start 64) 2000002) (h ∷ [])
@@ -144,20 +163,21 @@ made_of-more is listed =
     cc
 
 -- the room counts, and twice: 22 keys suit two hashes
-made_of-room : (is : IsMadeOf above 10 one (filter 131072 1)) → is.keys ≡ (1 ∷ []) ∷ [] → ⊥
+made_of-room : {room : Room} (is : IsMadeOf above 10 one (filter 131072 1) room)
+    → is.keys ≡ (1 ∷ []) ∷ [] → ⊥
 made_of-room is listed =
     let hashes : 2 ≡ 1 = (made-one is listed refl).1.shape.hashes in omega (arith, hashes)
 
 -- twice the number of keys and room together stops at the greatest number of 64 bits
-made_of-most : {f : DefaultFilter} (is : IsMadeOf above (2 ^ 64 - 1) one f)
+made_of-most : {f : DefaultFilter} {room : Room} (is : IsMadeOf above (2 ^ 64 - 1) one f room)
     → is.keys ≡ (1 ∷ []) ∷ [] → IsMadeFor is.start (2 ^ 64 - 1) is.empty
 made_of-most is listed = subst (λ (keys : List (List ℕ)).
     IsMadeFor is.start (min (2 * (length keys + (2 ^ 64 - 1))) (2 ^ 64 - 1)) is.empty) listed
     is.made
 
 -- at the rate one half so many keys take more than one word
-made_of-rate : IsHalvings 1 2 64
-    → (is : IsMadeOf (rate_of 1 2 (lit< tt) (lit< tt)) 1000000 one (filter 131072 1))
+made_of-rate : {room : Room} → IsHalvings 1 2 64
+    → (is : IsMadeOf (rate_of 1 2 (lit< tt) (lit< tt)) 1000000 one (filter 131072 1) room)
     → is.keys ≡ (1 ∷ []) ∷ [] → ⊥
 made_of-rate half is listed =
     let made = subst (λ (keys : List (List ℕ)).

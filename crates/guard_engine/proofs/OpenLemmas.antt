@@ -11,6 +11,8 @@ use Rattle.bloom_plain.specs.Builders.{RateStart, IsMadeFor, IsSizeOf, RefusesAs
 use Rattle.bloom_plain.specs.Data.{DefaultFilter}
 use Rattle.bloom_plain.specs.Replies.{InsertsAll}
 use Rattle.guard_engine.specs.Guarded.{Covers, Entries, HoldsKeys, IsMadeOf, LacksFilter, Lists, key_hash}
+use Rattle.guard_engine.specs.Room.{room_for}
+use Rattle.guard_parts.specs.declared.room.Room.{Room}
 use Rattle.guard_engine.specs.declared.guard.Refusal.{Refusal}
 use Rattle.guard_engine.specs.declared.guard.Refusal.TheVariants as refusal
 
@@ -26,27 +28,36 @@ pub covers-listed : (filter : DefaultFilter) (keys : List (List ℕ)) (entries :
 covers-listed filter keys entries lists holds key value has = holds key (lists key value has)
 
 -- twice a sum that is held down to a greatest number is twice the sum, held down to it
-twice-capped : (many room half items : ℕ) → half ≡ min (many + room) (2 ^ 64 - 1)
-    → items ≡ min (half + half) (2 ^ 64 - 1) → items ≡ min (2 * (many + room)) (2 ^ 64 - 1)
-twice-capped many room half items is more = omega (arith, is, more)
+twice-capped : (many spare half items : ℕ) → half ≡ min (many + spare) (2 ^ 64 - 1)
+    → items ≡ min (half + half) (2 ^ 64 - 1) → items ≡ min (2 * (many + spare)) (2 ^ 64 - 1)
+twice-capped many spare half items is more = omega (arith, is, more)
 
 module _ {X : Type 0} (text : X → List ℕ) (items listed : List X) (same : listed ≡ items)
-    (rate : Rate) (room many half sum : ℕ) (entries : Entries) (start : RateStart
+    (rate : Rate) (spare many half sum : ℕ) (entries : Entries) (start : RateStart
     (CloneBuildHasher RandomDefaultHasher)) (rate_is : start.rate ≡ rate)
-    (counted : many ≡ length items) (halved : half ≡ min (many + room) (2 ^ 64 - 1))
+    (counted : many ≡ length items) (halved : half ≡ min (many + spare) (2 ^ 64 - 1))
     (summed : sum ≡ min (half + half) (2 ^ 64 - 1)) where
   -- the number of the texts
-  as_texts : sum ≡ min (2 * (length (map text items) + room)) (2 ^ 64 - 1)
-  as_texts = twice-capped many room half sum halved summed
-      ∙ ap (λ n. min (2 * (n + room)) (2 ^ 64 - 1))
+  as_texts : sum ≡ min (2 * (length (map text items) + spare)) (2 ^ 64 - 1)
+  as_texts = twice-capped many spare half sum halved summed
+      ∙ ap (λ n. min (2 * (n + spare)) (2 ^ 64 - 1))
       (counted ∙ sym (length-map items text))
 
-  -- a filter was made for the listed keys and room, and just they were inserted
-  pub made-of : (empty filter : DefaultFilter) → HasKey start.hasher 0 0
+  -- the room for them
+  room-made : (room : Room) → room ≡ record { total = sum; taken = many }
+      → room ≡ room_for (length (map text items)) spare
+  room-made room is = is ∙ (λ i. record {
+    total = as_texts i;
+    taken = (counted ∙ sym (length-map items text)) i;
+  })
+
+  -- a filter was made for the listed keys and those to spare, and just they were inserted
+  pub made-of : (room : Room) → room ≡ record { total = sum; taken = many }
+      → (empty filter : DefaultFilter) → HasKey start.hasher 0 0
       → Lists (map text items) entries → IsMadeFor start sum empty
       → InsertsAll empty (map (λ item. key_hash (text item)) listed) filter
-      → IsMadeOf rate room entries filter
-  made-of empty filter zero lists made inserts = record {
+      → IsMadeOf rate spare entries filter room
+  made-of room is empty filter zero lists made inserts = record {
     keys = map text items;
     lists = lists;
     start = start;
@@ -56,20 +67,21 @@ module _ {X : Type 0} (text : X → List ℕ) (items listed : List X) (same : li
     made = subst (λ n. IsMadeFor start n empty) as_texts made;
     inserts = subst (λ l. InsertsAll empty l filter)
         (ap (map (λ item. key_hash (text item))) same ∙ sym (map-map key_hash text items)) inserts;
+    counted = room-made room is;
   }
 
-  -- a filter for this many keys and the room is refused
+  -- a filter for this many keys and those to spare is refused
   pub lacks-filter : {T : Type 0} (is_known : T → Type 0) (left : T) (error : FilterError)
       → (is_known left → Lists (map text items) entries)
       → (bits : ℕ) × IsSizeOf start sum bits × RefusesAs (size_refusal bits) (Some error)
-      → LacksFilter rate room is_known entries error
+      → LacksFilter rate spare is_known entries error
   lacks-filter is_known left error lists told = record {
     left = left;
     keys = map text items;
     lists = lists;
     bits = told.0;
     size = subst (λ r. IsSizeOf (record start { rate = r })
-        (min (2 * (length (map text items) + room)) (2 ^ 64 - 1)) told.0) rate_is
+        (min (2 * (length (map text items) + spare)) (2 ^ 64 - 1)) told.0) rate_is
         (subst (λ n. IsSizeOf start n told.0) as_texts told.1);
     refuses = told.2;
   }

@@ -17,6 +17,7 @@ use Rattle.guard_engine.specs.declared.guard.loads.Why.TheVariants.{Line}
 use Rattle.guard_engine.specs.declared.line.BadLine.{BadLine}
 use Rattle.guard_engine.specs.declared.task.Task.{Task}
 use Rattle.guard_engine.specs.declared.task.Task.TheVariants as tasks
+use Rattle.guard_parts.specs.declared.room.Room.{Room}
 use Rattle.bloom_parts.specs.declared.math.bracket.Bracket.{Bracket}
 use Rattle.bloom_plain.specs.Data.{DefaultFilter}
 use Rattle.guard_engine.specs.Counted.{CountsDelete, CountsOnce, CountsPuts, TalliesAll, asked_once, counts_after}
@@ -26,6 +27,7 @@ use Rattle.guard_engine.specs.Guarded.{Entries, Lacks, Loses, Stays}
 use Rattle.guard_engine.specs.Loaded.{HasEntry, IsBadAt, IsKey, LoadsAll, LoadsFirst}
 use Rattle.guard_engine.specs.Puts.{IsPut, added_by, taken_by}
 use Rattle.guard_engine.specs.Replaced.{IsReplaced}
+use Rattle.guard_engine.specs.Room.{added_beside, more_keys}
 use Rattle.guard_engine.specs.Stops.{ComesNext, CountsStop, TalliesStop}
 
 -- a look-up whose answer is no value, or nothing that could be taken away
@@ -137,3 +139,12 @@ module _ {R : Type 0} (remaining : R → Option (List ℕ)) where
   FillsTask (tasks.Delete key) old new = new ≡ old
   FillsTask (tasks.Load input batch) old new = FillsFrom (remaining input) old new
   FillsTask (tasks.Stats input) old new = new ≡ old
+
+-- from old to new the keys that came were counted, by what the task came to
+abbrev pub CountsRoom : Room → Room → Answer → Type 0
+CountsRoom old new (answers.Put put) = new ≡ more_keys old (added_by put)
+CountsRoom old new (answers.Replaced had) = new ≡ more_keys old (added_beside had)
+CountsRoom old new (answers.Loaded loaded counts) = new ≡ more_keys old loaded.added
+CountsRoom old new (answers.Found found) = new ≡ old
+CountsRoom old new (answers.Deleted had) = new ≡ old
+CountsRoom old new (answers.Counted counts rate) = new ≡ old

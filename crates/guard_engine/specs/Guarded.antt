@@ -13,6 +13,8 @@ use Rattle.bloom_plain.specs.Builders.{RateStart, IsMadeFor, RefusesAs, size_ref
 use Rattle.bloom_plain.specs.Data.{DefaultFilter}
 use Rattle.bloom_plain.specs.Filter.{contains}
 use Rattle.bloom_plain.specs.Replies.{InsertsAll}
+use Rattle.guard_parts.specs.declared.room.Room.{Room}
+use Rattle.guard_engine.specs.Room.{room_for}
 
 -- which values a store has at which keys, all as bytes
 abbrev pub Entries : Type 1
@@ -59,27 +61,29 @@ HoldsKeys filter keys =
     (key : List ℕ) → Contains keys key → contains filter (key_hash key) ≡ true
 
 -- a filter was made for twice as many keys as a list has, each key of these entries among them, and
--- twice the room, at a rate and under the zero key, and just the listed keys were inserted
-pub record IsMadeOf (rate : Rate) (room : ℕ) (entries : Entries) (filter : DefaultFilter) : Type 0
-  where
-    pub keys : List (List ℕ)
-    pub lists : Lists keys entries
-    pub start : RateStart (CloneBuildHasher RandomDefaultHasher)
-    pub rate_is : start.rate ≡ rate
-    pub zero_key : HasKey start.hasher 0 0
-    pub empty : DefaultFilter
-    pub made : IsMadeFor start (min (2 * (length keys + room)) (2 ^ 64 - 1)) empty
-    pub inserts : InsertsAll empty (map key_hash keys) filter
+-- twice those to spare, at a rate and under the zero key. Just the listed keys were inserted, and
+-- its room tells both numbers
+pub record IsMadeOf (rate : Rate) (spare : ℕ) (entries : Entries) (filter : DefaultFilter)
+    (room : Room) : Type 0 where
+  pub keys : List (List ℕ)
+  pub lists : Lists keys entries
+  pub start : RateStart (CloneBuildHasher RandomDefaultHasher)
+  pub rate_is : start.rate ≡ rate
+  pub zero_key : HasKey start.hasher 0 0
+  pub empty : DefaultFilter
+  pub made : IsMadeFor start (min (2 * (length keys + spare)) (2 ^ 64 - 1)) empty
+  pub inserts : InsertsAll empty (map key_hash keys) filter
+  pub counted : room ≡ room_for (length keys) spare
 
--- why there is no filter: one for twice these keys and the room is refused with this error. The
--- store is gone by then, so a store that was left is meant; provided its medium returned what was
--- written, each key of the store is one of these
-pub record LacksFilter {T : Type 0} (rate : Rate) (room : ℕ) (is_known : T → Type 0)
+-- why there is no filter: one for twice these keys and those to spare is refused with this error.
+-- The store is gone by then, so a store that was left is meant; provided its medium returned what
+-- was written, each key of the store is one of these
+pub record LacksFilter {T : Type 0} (rate : Rate) (spare : ℕ) (is_known : T → Type 0)
     (entries : Entries) (error : FilterError) : Type 0 where
   pub left : T
   pub keys : List (List ℕ)
   pub lists : is_known left → Lists keys entries
   pub bits : ℕ
-  pub size : IsSizeFor (max 1 (min (2 * (length keys + room)) (2 ^ 64 - 1))) (num_of rate)
+  pub size : IsSizeFor (max 1 (min (2 * (length keys + spare)) (2 ^ 64 - 1))) (num_of rate)
       (den_of rate) bits
   pub refuses : RefusesAs (size_refusal bits) (Some error)

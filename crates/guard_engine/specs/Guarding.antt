@@ -2,6 +2,7 @@
 -- each filter that may be found in its place, of all that is committed.
 use Rattle.std.specs.Prelude.{ℕ, List}
 use Rattle.bloom_plain.specs.Data.{DefaultFilter}
+use Rattle.guard_parts.specs.declared.room.Room.{Room}
 use Rattle.guard_engine.specs.declared.counts.Counts.{Counts}
 use Rattle.guard_engine.specs.declared.guard.Put.{Put}
 use Rattle.guard_engine.specs.Puts.{IsPut}
@@ -13,6 +14,7 @@ pub record Watch (T K : Type 0) : Type 0 where
   pub store : T
   pub kept : K
   pub filter : DefaultFilter
+  pub room : Room
   pub counts : Counts
 
 -- each filter that may be found has each key of these entries

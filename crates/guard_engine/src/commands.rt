@@ -1,7 +1,7 @@
 //! Tasks and their answers, over any store.
 ghost use Rattle.std.specs.Prelude.{◌≡◌, ◌↔◌, Ok, IfErr, IfOk, OnErr, IsTrue, Some};
 ghost use Rattle.std.specs.Fmt.{WritesOnOk};
-ghost use Rattle.guard_engine.specs.Answers.{CountsFailed, CountsTask, FillsTask, IsAbsence, IsAnswerTo, IsNo, IsTroubleOf, Leaves};
+ghost use Rattle.guard_engine.specs.Answers.{CountsFailed, CountsRoom, CountsTask, FillsTask, IsAbsence, IsAnswerTo, IsNo, IsTroubleOf, Leaves};
 ghost use Rattle.bloom_parts.specs.declared.math.bracket.Bracket.{Bracket};
 ghost use Rattle.guard_engine.specs.FilterRate.{IsRateOf};
 ghost use Rattle.guard_engine.specs.Told.{answer_text, counts_text};
@@ -151,6 +151,9 @@ pub fn carry_out<T: Store + Drop, K: Kept + Drop, R: Read + Drop>(
         (T.sight guard.old.store).has guard.old.counts guard.new.counts) }
     // Just hashes of the keys that the task puts came into the filter.
     ensures fills { FillsTask R.remaining task.entry guard.old.filter guard.new.filter }
+    // The keys that came are counted.
+    ensures room { IfOk result (CountsRoom guard.old.room guard.new.room) }
+    ensures total { guard.new.room.total ≡ guard.old.room.total }
     // Why a task isn't carried out, and what that leaves of the store.
     ensures refused { IfErr result (IsTroubleOf R.remaining task.entry) }
     ensures err { T.is_known guard.new.store → K.is_known guard.new.kept → IfErr result

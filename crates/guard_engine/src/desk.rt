@@ -7,15 +7,17 @@ ghost use Rattle.guard_engine.specs.Fills.{Fills};
 ghost use Rattle.guard_engine.specs.Guarded.{Lacks, Loses, Stays, key_hash};
 ghost use Rattle.guard_engine.specs.Guarding.{AllCover, IsGuarding, PutsInBatch, Watches};
 ghost use Rattle.guard_engine.specs.Puts.{added_by, taken_by};
+ghost use Rattle.guard_engine.specs.Room.{AllTell, CountsKeys};
 ghost use Rattle.guard_engine.specs.Stores.{Adds, Commits, Fails, IsInBatch, IsReady, Keeps, TakesBack};
 
 use crate::counts::Counts;
 use crate::guard::{Fault, Found, Put};
 use crate::keys::hash_of;
+use crate::rooms::count_keys;
 use crate::store::Store;
 use bloom_plain::laws::{contained_stays, insert_answers_contains};
 use bloom_plain::{BloomFilter, DefaultHasher};
-use guard_parts::Kept;
+use guard_parts::{Kept, Room};
 
 /// Looks a key up by its hash, in the store only where the filter may have it.
 pub fn find<T: Store>(
@@ -133,6 +135,7 @@ pub(crate) fn save_and_commit<T: Store, K: Kept>(
     store: &mut T,
     kept: &mut K,
     filter: &BloomFilter,
+    room: Room,
 ) -> Result<(), Fault<T::Error, K::Error>>
     ensures ok { IsInBatch (T.sight store.old) → T.is_known store.new
         → OnOk result (Commits (T.sight store.old) (T.sight store.new)) }
@@ -145,8 +148,9 @@ pub(crate) fn save_and_commit<T: Store, K: Kept>(
         → AllCover (K.may_have kept.new) (T.sight store.new).kept }
     ensures known { T.is_known store.new → T.is_known store.old }
     ensures kept_known { K.is_known kept.new → K.is_known kept.old }
+    ensures told { K.is_known kept.new → OnOk result (AllTell (K.may_tell kept.new) room) }
 {
-    match kept.save(filter) {
+    match kept.save(filter, room) {
         Ok(()) => {}
         Err(error) => {
             drop(store.roll_back());
@@ -165,6 +169,7 @@ pub fn end_batch<T: Store, K: Kept>(
     store: &mut T,
     kept: &mut K,
     filter: &BloomFilter,
+    room: Room,
     added: u64,
 ) -> Result<(), Fault<T::Error, K::Error>>
     ensures ok { IsInBatch (T.sight store.old)
@@ -179,9 +184,12 @@ pub fn end_batch<T: Store, K: Kept>(
         → AllCover (K.may_have kept.new) (T.sight store.new).kept }
     ensures known { T.is_known store.new → T.is_known store.old }
     ensures kept_known { K.is_known kept.new → K.is_known kept.old }
+    // What is kept tells the room, or stays where nothing was added.
+    ensures told { OnOk result (((added ≡ 0) × (kept.new ≡ kept.old))
+        ⊎ (K.is_known kept.new → AllTell (K.may_tell kept.new) room)) }
 {
     if added > 0 {
-        return save_and_commit(store, kept, filter);
+        return save_and_commit(store, kept, filter, room);
     }
     drop(store.roll_back());
     Ok(())
@@ -192,6 +200,7 @@ pub fn put_alone<T: Store, K: Kept>(
     store: &mut T,
     kept: &mut K,
     filter: &mut BloomFilter,
+    room: &mut Room,
     counts: &mut Counts,
     key: &str,
     value: &str,
@@ -213,13 +222,18 @@ pub fn put_alone<T: Store, K: Kept>(
         ⊎ CountsOnce counts.old counts.new) }
     ensures fills { Fills (key.now ∷ []) filter.old filter.new }
     ensures same { result ≡ Ok Put.Taken → filter.new ≡ filter.old }
+    ensures room { IfOk result (λ put. CountsKeys K.may_tell K.is_known (added_by put)
+        kept.old kept.new room.old room.new) }
+    ensures total { room.new.total ≡ room.old.total }
 {
     if let Err(error) = store.begin() {
         return Err(Fault::Store(error));
     }
     match put(store, filter, counts, key, value) {
         Ok(put) => {
-            end_batch(store, kept, filter, put.added())?;
+            let added = put.added();
+            count_keys(room, added);
+            end_batch(store, kept, filter, *room, added)?;
             Ok(put)
         }
         Err(error) => {

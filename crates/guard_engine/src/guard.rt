@@ -12,7 +12,7 @@ use crate::replacing::replace_alone;
 use crate::store::Store;
 use bloom_parts::math::Bracket;
 use bloom_plain::{BloomFilter, FilterError};
-use guard_parts::Kept;
+use guard_parts::{Kept, Room};
 pub use loads::{Loaded, Stop, Why};
 pub use opening::Origin;
 use std::marker::Model;
@@ -26,6 +26,7 @@ pub struct Guard<T: Store + Drop, K: Kept + Drop> {
     store: T,
     kept: K,
     filter: BloomFilter,
+    room: Room,
     counts: Counts,
 }
 
@@ -38,6 +39,7 @@ impl<T: Store + Drop, K: Kept + Drop> Model for Guard<T, K> {
       store = g.store;
       kept = g.kept;
       filter = g.filter;
+      room = g.room;
       counts = g.counts;
     } };
 
@@ -108,12 +110,20 @@ impl<T: Store + Drop, K: Kept + Drop> Guard<T, K> {
     ghost use Rattle.guard_engine.specs.Guarded.{IsSingle, Lacks, Loses, Stays, key_hash};
     ghost use Rattle.guard_engine.specs.Puts.{added_by, taken_by};
     ghost use Rattle.guard_engine.specs.Replaced.{IsReplaced};
+    ghost use Rattle.guard_engine.specs.Room.{AllTell, CountsKeys, added_beside};
 
     /// What the look-ups so far came to.
     pub fn counts(&self) -> Counts
         ensures { result ≡ self.now.counts }
     {
         self.counts
+    }
+
+    /// How many keys the filter is made for, and how many came into it.
+    pub fn room(&self) -> Room
+        ensures { result ≡ self.now.room }
+    {
+        self.room
     }
 
     /// Two bounds of the rate of false positives of the filter as it is: of the part of all
@@ -145,6 +155,7 @@ impl<T: Store + Drop, K: Kept + Drop> Guard<T, K> {
         ensures stays { T.is_known self.new.store → K.is_known self.old.kept
             → Stays (T.sight self.old.store).has (T.sight self.new.store).has }
         ensures filter { self.new.filter ≡ self.old.filter }
+        ensures room { self.new.room ≡ self.old.room }
         ensures kept { self.new.kept ≡ self.old.kept }
         ensures known { T.is_known self.new.store → T.is_known self.old.store }
         // What is counted.
@@ -187,11 +198,16 @@ impl<T: Store + Drop, K: Kept + Drop> Guard<T, K> {
         // The hash of the key came into the filter, and no other; none where the key had a value.
         ensures fills { Fills (key.now ∷ []) self.old.filter self.new.filter }
         ensures same { result ≡ Ok Put.Taken → self.new.filter ≡ self.old.filter }
+        // A key that came is counted, and what is kept tells so.
+        ensures room { IfOk result (λ put. CountsKeys K.may_tell K.is_known (added_by put)
+            self.old.kept self.new.kept self.old.room self.new.room) }
+        ensures total { self.new.room.total ≡ self.old.room.total }
     {
         put_alone(
             &mut self.store,
             &mut self.kept,
             &mut self.filter,
+            &mut self.room,
             &mut self.counts,
             key,
             value,
@@ -219,10 +235,14 @@ impl<T: Store + Drop, K: Kept + Drop> Guard<T, K> {
         // The hash of the key came into the filter, and no other; none where the key had a value.
         ensures fills { Fills (key.now ∷ []) self.old.filter self.new.filter }
         ensures same { result ≡ Ok true → self.new.filter ≡ self.old.filter }
+        // A key that came is counted, and what is kept tells so.
+        ensures room { IfOk result (λ had. CountsKeys K.may_tell K.is_known (added_beside had)
+            self.old.kept self.new.kept self.old.room self.new.room) }
+        ensures total { self.new.room.total ≡ self.old.room.total }
     {
         let (store, kept) = (&mut self.store, &mut self.kept);
-        let (filter, counts) = (&mut self.filter, &mut self.counts);
-        replace_alone(store, kept, filter, counts, key, value)
+        let (filter, room) = (&mut self.filter, &mut self.room);
+        replace_alone(store, kept, filter, room, &mut self.counts, key, value)
     }
 
     /// Takes the value of a key away, and answers whether it had one. The filter keeps its bits.
@@ -237,6 +257,7 @@ impl<T: Store + Drop, K: Kept + Drop> Guard<T, K> {
         ensures err { T.is_known self.new.store → K.is_known self.new.kept → OnErr result
             (Stays (T.sight self.old.store).has (T.sight self.new.store).has) }
         ensures filter { self.new.filter ≡ self.old.filter }
+        ensures room { self.new.room ≡ self.old.room }
         ensures kept { self.new.kept ≡ self.old.kept }
         ensures known { T.is_known self.new.store → T.is_known self.old.store }
         // The key is looked up once.
@@ -273,12 +294,14 @@ impl<T: Store + Drop, K: Kept + Drop> Guard<T, K> {
         ensures saved { K.is_known self.new.kept → OnOk result
             ((other : _) → K.may_have self.new.kept other
             → AnswerAlike self.old.filter other) }
+        ensures told { K.is_known self.new.kept
+            → OnOk result (AllTell (K.may_tell self.new.kept) self.old.room) }
         ensures there { K.is_known self.new.kept → OnOk result (¬ K.may_lack self.new.kept) }
         ensures same { (self.new.store ≡ self.old.store) × (self.new.filter ≡ self.old.filter)
-            × (self.new.counts ≡ self.old.counts) }
+            × (self.new.room ≡ self.old.room) × (self.new.counts ≡ self.old.counts) }
         ensures known { K.is_known self.new.kept → K.is_known self.old.kept }
     {
-        self.kept.save(&self.filter)
+        self.kept.save(&self.filter, self.room)
     }
 
     /// What the guard keeps true: its store is ready, its filter has each key of the store, and so

@@ -8,15 +8,17 @@ ghost use Rattle.guard_engine.specs.Fills.{Fills};
 ghost use Rattle.guard_engine.specs.Guarded.{Stays, key_hash};
 ghost use Rattle.guard_engine.specs.Guarding.{AllCover, IsGuarding, Watches};
 ghost use Rattle.guard_engine.specs.Replaced.{IsReplaced, ReplacesInBatch, Swaps};
+ghost use Rattle.guard_engine.specs.Room.{AllTell, CountsKeys, added_beside};
 ghost use Rattle.guard_engine.specs.Stores.{Commits, IsInBatch, TakesBack};
 
 use crate::counts::Counts;
 use crate::desk::{add, find, save_and_commit};
 use crate::guard::{Fault, Found};
 use crate::keys::hash_of;
+use crate::rooms::{added_beside, count_keys};
 use crate::store::Store;
 use bloom_plain::BloomFilter;
-use guard_parts::Kept;
+use guard_parts::{Kept, Room};
 
 // Takes the values of a key away and adds this one, in the open batch.
 fn swap<T: Store>(store: &mut T, key: &str, value: &str) -> Result<(), T::Error>
@@ -82,6 +84,7 @@ fn commit_replaced<T: Store, K: Kept>(
     store: &mut T,
     kept: &mut K,
     filter: &BloomFilter,
+    room: Room,
     had: bool,
 ) -> Result<(), Fault<T::Error, K::Error>>
     ensures ok { IsInBatch (T.sight store.old) → T.is_known store.new
@@ -96,9 +99,12 @@ fn commit_replaced<T: Store, K: Kept>(
         → AllCover (K.may_have kept.new) (T.sight store.new).kept }
     ensures known { T.is_known store.new → T.is_known store.old }
     ensures kept_known { K.is_known kept.new → K.is_known kept.old }
+    // What is kept tells the room, or stays where the key had a value.
+    ensures told { OnOk result (((added_beside had ≡ 0) × (kept.new ≡ kept.old))
+        ⊎ (K.is_known kept.new → AllTell (K.may_tell kept.new) room)) }
 {
     if !had {
-        return save_and_commit(store, kept, filter);
+        return save_and_commit(store, kept, filter, room);
     }
     match store.commit() {
         Ok(()) => Ok(()),
@@ -112,6 +118,7 @@ pub fn replace_alone<T: Store, K: Kept>(
     store: &mut T,
     kept: &mut K,
     filter: &mut BloomFilter,
+    room: &mut Room,
     counts: &mut Counts,
     key: &str,
     value: &str,
@@ -133,13 +140,17 @@ pub fn replace_alone<T: Store, K: Kept>(
         ⊎ CountsOnce counts.old counts.new) }
     ensures fills { Fills (key.now ∷ []) filter.old filter.new }
     ensures same { result ≡ Ok true → filter.new ≡ filter.old }
+    ensures room { IfOk result (λ had. CountsKeys K.may_tell K.is_known (added_beside had)
+        kept.old kept.new room.old room.new) }
+    ensures total { room.new.total ≡ room.old.total }
 {
     if let Err(error) = store.begin() {
         return Err(Fault::Store(error));
     }
     match replace(store, filter, counts, key, value) {
         Ok(had) => {
-            commit_replaced(store, kept, filter, had)?;
+            count_keys(room, added_beside(had));
+            commit_replaced(store, kept, filter, *room, had)?;
             Ok(had)
         }
         Err(error) => {

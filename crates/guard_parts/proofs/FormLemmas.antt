@@ -4,7 +4,7 @@ use Rattle.std.proofs.lemmas.List.{get_or-map, get_or_past, length-map}
 use Rattle.std.specs.Prelude.{map, slice_index}
 use Rattle.std.specs.Simd.{first_chunks}
 use Rattle.std.specs.Int.{w64, from_le_bytes}
-use Rattle.guard_parts.specs.Filters.{number_in}
+use Rattle.guard_parts.specs.Numbers.{number_in}
 
 module _ (bytes : List ℕ) (place : ℕ) (chunks : List (List ℕ))
     (are : chunks ≡ first_chunks 8 (length bytes / 8) bytes) where

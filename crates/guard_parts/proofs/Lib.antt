@@ -5,4 +5,6 @@ mod FormLemmas
 mod MoveLemmas
 mod ReplaceFacts
 mod ReplaceLemmas
+mod RoomFacts
+mod RoomLemmas
 mod RunFacts

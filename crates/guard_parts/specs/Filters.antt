@@ -1,7 +1,5 @@
 -- The filters that may be found in a file, and what becomes of them while the file is replaced.
-use Rattle.std.specs.Prelude.{◌≡◌, ◌≢◌, ◌⊎◌, ◌≤◌, ℕ, ◌/◌, Bool, true, false, List, length, map, slice_index, Option, Some, None, not, ◌&&◌, nat_eq, nat_lt, if◌then◌else◌, ⊤}
-use Rattle.std.specs.Int.{w64, from_le_bytes}
-use Rattle.std.specs.Simd.{first_chunks}
+use Rattle.std.specs.Prelude.{◌≡◌, ◌≢◌, ◌⊎◌, ◌≤◌, ℕ, Bool, true, false, List, Option, Some, None, not, ◌&&◌, nat_eq, nat_lt, if◌then◌else◌, ⊤}
 use Rattle.bloom_plain.specs.declared.file.error.FileError.{FileError}
 use Rattle.bloom_plain.specs.declared.file.error.FileError.TheVariants.{Memory}
 use Rattle.bloom_plain.specs.Data.{DefaultFilter}
@@ -12,13 +10,10 @@ use Rattle.guard_parts.specs.declared.filter_file.FilterFault.TheVariants as fau
 use Rattle.guard_parts.specs.declared.filter_file.FormFault.{FormFault}
 use Rattle.guard_parts.specs.declared.filter_file.FormFault.TheVariants.{Form, NoSeal, OtherKey, ManyHashes}
 use Rattle.guard_parts.specs.declared.folder.Name.TheVariants.{Standing}
+use Rattle.guard_parts.specs.declared.room.Room.{Room}
 use Rattle.guard_parts.specs.Folders.{Content, Sight}
-
--- the number of 64 bits at a place of a file, counted from 0, the lowest byte first; it is 0 where
--- the file ends before
-abbrev pub number_in : List ℕ → ℕ → ℕ
-number_in bytes place =
-    slice_index (map (from_le_bytes w64) (first_chunks 8 (length bytes / 8) bytes)) place
+use Rattle.guard_parts.specs.Numbers.{number_in}
+use Rattle.guard_parts.specs.Rooms.{filter_part, room_in, room_part, room_refusal}
 
 -- the bytes are a file of the filter that has a seal
 pub record IsSealedFile (bytes : List ℕ) (filter : DefaultFilter) : Type 0 where
@@ -45,13 +40,23 @@ IsRefusedFor bytes fault =
     (fault ≡ form_refusal bytes (file_refusal bytes))
     ⊎ ((fault ≡ Some (Form Memory)) × (file_refusal bytes ≡ None))
 
+-- the same of a guard's file: its filter's own file is refused for it, or that isn't refused, and
+-- its room is
+abbrev pub IsRefusedIn : List ℕ → Option FormFault → Type 0
+IsRefusedIn bytes None =
+    IsRefusedFor (filter_part bytes) None × (room_refusal (room_part bytes) ≡ None)
+IsRefusedIn bytes (Some fault) =
+    IsRefusedFor (filter_part bytes) (Some fault)
+    ⊎ (IsRefusedFor (filter_part bytes) None × (room_refusal (room_part bytes) ≡ Some fault))
+
 -- what is found by a name with this content: no filter where there is no file, and that of a file
--- that isn't another store's
-abbrev pub IsFoundIn : Bool → Content → Option DefaultFilter → Type 0
+-- that isn't another store's, with its room
+abbrev pub IsFoundIn : Bool → Content → Option (DefaultFilter × Room) → Type 0
 IsFoundIn is_of_another None found = found ≡ None
 IsFoundIn is_of_another (Some bytes) None = ⊥
-IsFoundIn is_of_another (Some bytes) (Some filter) =
-    (is_of_another ≡ false) × IsSealedFile bytes filter
+IsFoundIn is_of_another (Some bytes) (Some found) =
+    (is_of_another ≡ false) × IsSealedFile (filter_part bytes) found.0
+    × (found.1 ≡ room_in (room_part bytes))
 
 -- why nothing is found by a name with this content. A read that failed says nothing of it. A file
 -- that is another store's is told as that, whatever its bytes are, and any other as why its bytes
@@ -62,21 +67,27 @@ IsFaultIn is_of_another None faults.OtherStore = ⊥
 IsFaultIn is_of_another (Some bytes) faults.OtherStore = is_of_another ≡ true
 IsFaultIn is_of_another None (faults.Refused fault) = ⊥
 IsFaultIn is_of_another (Some bytes) (faults.Refused fault) =
-    (is_of_another ≡ false) × IsRefusedFor bytes (Some fault)
+    (is_of_another ≡ false) × IsRefusedIn bytes (Some fault)
 IsFaultIn is_of_another content (faults.Unsaved error) = ⊥
 IsFaultIn is_of_another content faults.Memory = ⊥
 
--- bytes may be found by the file's name that are a sealed file of the filter
+-- bytes may be found by the file's name that have a sealed file of the filter
 pub record MayHave (s : Sight) (filter : DefaultFilter) : Type 0 where
   pub bytes : List ℕ
   pub found : s.may_find Standing (Some bytes)
-  pub is_file : IsSealedFile bytes filter
+  pub is_file : IsSealedFile (filter_part bytes) filter
+
+-- bytes may be found by the file's name that tell this room
+pub record MayTell (s : Sight) (room : Room) : Type 0 where
+  pub bytes : List ℕ
+  pub found : s.may_find Standing (Some bytes)
+  pub told : room ≡ room_in (room_part bytes)
 
 -- the same, had a crash come at some moment from that one on
 pub record HadSince (s : Sight) (since : ℕ) (filter : DefaultFilter) : Type 0 where
   pub bytes : List ℕ
   pub found : s.found_since since Standing (Some bytes)
-  pub is_file : IsSealedFile bytes filter
+  pub is_file : IsSealedFile (filter_part bytes) filter
 
 -- the name may lead to no file
 abbrev pub MayLack : Sight → Type 0

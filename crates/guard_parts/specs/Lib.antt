@@ -4,5 +4,7 @@ pub mod Filters
 pub mod Folders
 pub mod Laws
 pub mod Note
+pub mod Numbers
 pub mod Replay
+pub mod Rooms
 pub mod Shows

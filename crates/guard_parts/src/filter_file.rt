@@ -1,22 +1,29 @@
 //! A filter that is kept in a file.
-ghost use Rattle.std.specs.Prelude.{◌≡◌, ◌⊎◌, ◌≤◌, ℕ, None, Some, IfErr, IfOk, IfSome, OnOk};
+ghost use Rattle.std.specs.Prelude.{◌≡◌, ◌⊎◌, ◌≤◌, ◌++◌, ℕ, None, Some, IfErr, IfOk, IfSome, OnOk};
 ghost use Rattle.std.specs.Result.{result_err};
 ghost use Rattle.bloom_plain.specs.Data.{DefaultFilter};
-ghost use Rattle.guard_parts.specs.Filters.{HadSince, IsFaultIn, IsFoundIn, IsRefusedFor, IsSealedFile, MayHave, MayLack, Passes, Replaces, number_in};
+ghost use Rattle.bloom_plain.specs.File.{IsFileOf};
+ghost use Rattle.guard_parts.specs.Filters.{HadSince, IsFaultIn, IsFoundIn, IsRefusedFor, IsRefusedIn, IsSealedFile, MayHave, MayLack, MayTell, Passes, Replaces};
 ghost use Rattle.guard_parts.specs.Folders.{Content};
+ghost use Rattle.guard_parts.specs.Numbers.{number_in};
+ghost use Rattle.guard_parts.specs.Rooms.{filter_part, room_bytes, room_in, room_part, room_refusal};
 ghost use Rattle.guard_parts.specs.declared.folder.Name.TheVariants.{Standing, New};
 
 use crate::folder::{Folder, Name};
 use crate::kept::Kept;
-use bloom_plain::BloomFilter;
+use crate::room::Room;
 use bloom_plain::file::FileError;
 use bloom_plain::laws::file_reads_back;
-use std::alloc::Global;
+use bloom_plain::{BloomFilter, FilterError};
+use std::alloc::{AllocError, Global};
 use std::fmt;
 use std::fmt::Display;
 
 // The most hashes that a filter may have: each costs time at every look-up.
 const MOST_HASHES: u64 = 64;
+
+// How many bytes at the end of a file tell its room.
+const ROOM: usize = 24;
 
 /// Why the bytes of a file aren't taken for a guard's filter.
 #[derive(Clone, Copy, Debug, PartialEq, Eq, Drop)]
@@ -29,6 +36,8 @@ pub enum FormFault {
     OtherKey,
     /// A look-up in the filter would take too long.
     ManyHashes,
+    /// The count of keys isn't the one that was written.
+    Room,
 }
 
 /// Why a filter isn't found, or isn't saved.
@@ -62,6 +71,7 @@ impl Display for FormFault {
             FormFault::NoSeal => f.write_str("it has no seal"),
             FormFault::OtherKey => f.write_str("it has another key"),
             FormFault::ManyHashes => f.write_str("it has more than 64 hashes"),
+            FormFault::Room => f.write_str("its count of keys was changed"),
         }
     }
 }
@@ -130,6 +140,62 @@ fn filter_of(alloc: Global, bytes: &[u8]) -> Result<BloomFilter, FormFault>
     }
 }
 
+// The room that bytes tell.
+fn room_of(bytes: &[u8]) -> Result<Room, FormFault>
+    ensures room { IfOk result (λ room. room ≡ room_in bytes.now) }
+    ensures refused { result_err result ≡ room_refusal bytes.now }
+{
+    let (total, taken) = (number_in(bytes, 0), number_in(bytes, 1));
+    if number_in(bytes, 2) == total.saturating_add(taken) {
+        Ok(Room { total, taken })
+    } else {
+        Err(FormFault::Room)
+    }
+}
+
+// The filter of a guard's file, and its room.
+fn filled_of(alloc: Global, bytes: &[u8]) -> Result<(BloomFilter, Room), FormFault>
+    ensures file { IfOk result (λ found. IsSealedFile (filter_part bytes.now) found.0) }
+    ensures room { IfOk result (λ found. found.1 ≡ room_in (room_part bytes.now)) }
+    ensures refused { IsRefusedIn bytes.now (result_err result) }
+{
+    let (file, end) = bytes.split_at(bytes.len().saturating_sub(ROOM));
+    let filter = match filter_of(alloc, file) {
+        Ok(filter) => filter,
+        Err(fault) => return Err(fault),
+    };
+    match room_of(end) {
+        Ok(room) => Ok((filter, room)),
+        Err(fault) => Err(fault),
+    }
+}
+
+// Puts the bytes that tell a room behind others.
+fn add_room(bytes: &mut Vec<u8>, room: Room) -> Result<(), AllocError>
+    ensures { OnOk result (bytes.new.items ≡ bytes.old.items ++ room_bytes room) }
+{
+    bytes.extend_from_slice(&u64::to_le_bytes(room.total))?;
+    bytes.extend_from_slice(&u64::to_le_bytes(room.taken))?;
+    bytes.extend_from_slice(&u64::to_le_bytes(room.total.saturating_add(room.taken)))?;
+    Ok(())
+}
+
+// The file of a guard: that of the filter, and its room.
+fn file_with(alloc: Global, filter: &BloomFilter, room: Room) -> Result<Vec<u8>, FilterError>
+    ensures file { IfOk result (λ bytes. IsFileOf (filter_part bytes.items) filter.now) }
+    ensures room { IfOk result (λ bytes. room_in (room_part bytes.items) ≡ room) }
+{
+    room.is_narrow();
+    let mut bytes = match filter.to_bytes(alloc) {
+        Ok(bytes) => bytes,
+        Err(error) => return Err(error),
+    };
+    match add_room(&mut bytes, room) {
+        Ok(()) => Ok(bytes),
+        Err(_) => Err(FilterError::Memory),
+    }
+}
+
 // Writes a new file whole to the disk, beside the one that stands.
 fn write_synced<D: Folder>(folder: &mut D, bytes: &[u8]) -> Result<(), D::Error>
     ensures known { D.is_known folder.new → D.is_known folder.old }
@@ -178,6 +244,8 @@ fn replace_or_clear<D: Folder>(folder: &mut D, bytes: &[u8]) -> Result<(), D::Er
 impl<D: Folder + Drop> Kept for FilterFile<D> {
     ghost may_have = { λ it. MayHave (D.Folder.sight it.folder) };
 
+    ghost may_tell = { λ it. MayTell (D.Folder.sight it.folder) };
+
     ghost may_lack = { λ it. MayLack (D.Folder.sight it.folder) };
 
     ghost moment = { λ it. (D.Folder.sight it.folder).moment };
@@ -200,10 +268,12 @@ impl<D: Folder + Drop> Kept for FilterFile<D> {
 
     type Error = FilterFault<D::Error>;
 
-    fn load(&mut self) -> Result<Option<BloomFilter>, FilterFault<D::Error>>
+    fn load(&mut self) -> Result<Option<(BloomFilter, Room)>, FilterFault<D::Error>>
         ensures known { D.is_known self.new.folder → D.is_known self.old.folder }
         ensures found { D.is_known self.new.folder → IfOk result (λ found.
-            IfSome found (MayHave (D.sight self.old.folder))) }
+            IfSome found (λ it. MayHave (D.sight self.old.folder) it.0)) }
+        ensures told { D.is_known self.new.folder → IfOk result (λ found.
+            IfSome found (λ it. MayTell (D.sight self.old.folder) it.1)) }
         ensures lacks { D.is_known self.new.folder → IfOk result (λ found.
             found ≡ None → MayLack (D.sight self.old.folder)) }
         ensures stays { D.is_known self.new.folder → (filter : DefaultFilter)
@@ -231,8 +301,8 @@ impl<D: Folder + Drop> Kept for FilterFile<D> {
                 if self.is_of_another {
                     return Err(FilterFault::OtherStore);
                 }
-                match filter_of(self.alloc, &bytes) {
-                    Ok(filter) => Ok(Some(filter)),
+                match filled_of(self.alloc, &bytes) {
+                    Ok(found) => Ok(Some(found)),
                     Err(fault) => Err(FilterFault::Refused(fault)),
                 }
             }
@@ -240,9 +310,9 @@ impl<D: Folder + Drop> Kept for FilterFile<D> {
         }
     }
 
-    fn save(&mut self, filter: &BloomFilter) -> Result<(), FilterFault<D::Error>> {
+    fn save(&mut self, filter: &BloomFilter, room: Room) -> Result<(), FilterFault<D::Error>> {
         file_reads_back::<u64>();
-        let bytes = match filter.to_bytes(self.alloc) {
+        let bytes = match file_with(self.alloc, filter, room) {
             Ok(bytes) => bytes,
             Err(_) => return Err(FilterFault::Memory),
         };

@@ -1,10 +1,12 @@
 //! Where the filter of a guard is kept.
 ghost use Rattle.std.specs.Prelude.{◌≡◌, ◌⊎◌, ◌≤◌, ℕ, None, IfOk, IfSome, OnOk, OnErr};
 ghost use Rattle.bloom_plain.specs.Data.{AnswerAlike, DefaultFilter};
+ghost use Rattle.guard_parts.specs.declared.room.Room.{Room as ARoom};
 
+use crate::room::Room;
 use bloom_plain::BloomFilter;
 
-/// A place that keeps one filter, whose medium may fail, or return what wasn't saved.
+/// A place that keeps one filter with its room, whose medium may fail, or return what wasn't saved.
 ///
 /// What a call says holds where the medium is known after it.
 pub trait Kept {
@@ -12,6 +14,9 @@ pub trait Kept {
 
     /// The filters that may be found there, also after a crash.
     ghost may_have: { Self → DefaultFilter → Type 0 };
+
+    /// The rooms that may be found there with a filter, also after a crash.
+    ghost may_tell: { Self → ARoom → Type 0 };
 
     /// It may be that no filter is found there, also after a crash.
     ghost may_lack: { Self → Type 0 };
@@ -26,11 +31,13 @@ pub trait Kept {
     /// So far the medium has returned what was saved.
     ghost is_known: { Self → Type 0 };
 
-    /// Finds the filter that was saved last, if there is one.
-    fn load(&mut self) -> Result<Option<BloomFilter>, Self::Error>
+    /// Finds the filter that was saved last, if there is one, and its room.
+    fn load(&mut self) -> Result<Option<(BloomFilter, Room)>, Self::Error>
         ensures known { is_known self.new → is_known self.old }
         ensures found { is_known self.new → IfOk result (λ found.
-            IfSome found (may_have self.old)) }
+            IfSome found (λ it. may_have self.old it.0)) }
+        ensures told { is_known self.new → IfOk result (λ found.
+            IfSome found (λ it. may_tell self.old it.1)) }
         ensures lacks { is_known self.new → IfOk result (λ found.
             found ≡ None → may_lack self.old) }
         ensures stays { is_known self.new
@@ -42,9 +49,15 @@ pub trait Kept {
             → since ≤ moment self.old → found_since self.new since filter
             → found_since self.old since filter };
 
-    /// Saves a filter in place of the one that is there. After an error either may be found.
-    fn save(&mut self, filter: &BloomFilter) -> Result<(), Self::Error>
+    /// Saves a filter with its room in place of the one that is there. After an error either may be
+    /// found.
+    fn save(&mut self, filter: &BloomFilter, room: Room) -> Result<(), Self::Error>
         ensures known { is_known self.new → is_known self.old }
+        ensures told { is_known self.new → OnOk result
+            ((other : ARoom) → may_tell self.new other → other ≡ room) }
+        ensures told_err { is_known self.new → OnErr result
+            ((other : ARoom) → may_tell self.new other
+            → (other ≡ room) ⊎ may_tell self.old other) }
         ensures ok { is_known self.new → OnOk result
             ((other : DefaultFilter) → may_have self.new other → AnswerAlike filter.now other) }
         ensures there { is_known self.new → OnOk result (¬ may_lack self.new) }

@@ -8,6 +8,7 @@ mod kept;
 mod memory_folder;
 mod memory_slot;
 mod noted;
+mod room;
 mod world;
 
 pub use filter_file::{FilterFault, FilterFile, FormFault};
@@ -17,4 +18,5 @@ pub use kept::Kept;
 pub use memory_folder::{MemoryFault, MemoryFolder};
 pub use memory_slot::MemorySlot;
 pub use noted::Record;
+pub use room::Room;
 pub use world::{Unknown, World};

@@ -28,6 +28,7 @@ fn ask_lines<T: Store + Drop, K: Kept + Drop, R: Read>(
         (T.is_known guard.new.store × K.is_known guard.new.kept) (T.sight guard.old.store).has
         (R.remaining input.old) (R.remaining input.new) guard.old.counts guard.new.counts) }
     ensures filter { guard.new.filter ≡ guard.old.filter }
+    ensures room { guard.new.room ≡ guard.old.room }
     ensures kept { guard.new.kept ≡ guard.old.kept }
     ensures stays { T.is_known guard.new.store → K.is_known guard.new.kept
         → Stays (T.sight guard.old.store).has (T.sight guard.new.store).has }
@@ -82,6 +83,7 @@ impl<T: Store + Drop, K: Kept + Drop> Guard<T, K> {
             (R.remaining input.old) (R.remaining input.new) self.old.counts self.new.counts) }
         // Filter and entries stay as they were, also after an error.
         ensures filter { self.new.filter ≡ self.old.filter }
+        ensures room { self.new.room ≡ self.old.room }
         ensures kept { self.new.kept ≡ self.old.kept }
         ensures stays { T.is_known self.new.store → K.is_known self.new.kept
             → Stays (T.sight self.old.store).has (T.sight self.new.store).has }

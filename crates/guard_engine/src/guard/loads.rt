@@ -6,6 +6,7 @@ ghost use Rattle.guard_engine.specs.Fills.{FillsFrom};
 ghost use Rattle.guard_engine.specs.Guarding.{IsGuarding};
 ghost use Rattle.guard_engine.specs.Loaded.{HasEntry, IsBadAt, LoadsAll, LoadsFirst};
 ghost use Rattle.guard_engine.specs.Puts.{added_by, taken_by};
+ghost use Rattle.guard_engine.specs.Room.{CountsKeys};
 ghost use Rattle.guard_engine.specs.Stops.{ComesNext, CountsStop, IsUnreadFor, why_of};
 
 mod batches;
@@ -17,7 +18,7 @@ use crate::store::Store;
 use batches::load_batch;
 use bloom_plain::laws::lists_join;
 use bloom_plain::{BloomFilter, DefaultHasher};
-use guard_parts::Kept;
+use guard_parts::{Kept, Room};
 use lines::LineReader;
 use std::alloc::Global;
 use std::io;
@@ -125,6 +126,7 @@ fn load_all<T: Store, K: Kept, R: Read>(
     store: &mut T,
     kept: &mut K,
     filter: &mut BloomFilter,
+    room: &mut Room,
     counts: &mut Counts,
     lines: &mut LineReader,
     input: &mut R,
@@ -155,13 +157,17 @@ fn load_all<T: Store, K: Kept, R: Read>(
     ensures next { IfErr result (λ stop.
         ComesNext HasEntry 1048576 (R.remaining input.old) stop.number) }
     ensures fills { FillsFrom (R.remaining input.old) filter.old filter.new }
+    ensures room { IfOk result (λ loaded. CountsKeys K.may_tell K.is_known loaded.added
+        kept.old kept.new room.old room.new) }
+    ensures total { room.new.total ≡ room.old.total }
 {
     lists_join::<DefaultHasher>();
     counts.fit();
+    room.is_narrow();
     let mut loaded = Loaded { added: 0, taken: 0 };
     let mut done = 0u64;
     'batches: for _turn in 0..u64::MAX {
-        let part = load_batch(store, kept, filter, counts, lines, input, batch, done)?;
+        let part = load_batch(store, kept, filter, room, counts, lines, input, batch, done)?;
         loaded = loaded.join(part.loaded);
         if part.is_last {
             return Ok(loaded);
@@ -208,6 +214,10 @@ impl<T: Store + Drop, K: Kept + Drop> Guard<T, K> {
             ComesNext HasEntry 1048576 (R.remaining input.old) stop.number) }
         // Just hashes of keys that were read came into the filter.
         ensures fills { FillsFrom (R.remaining input.old) self.old.filter self.new.filter }
+        // The keys that came are counted, and what is kept tells so.
+        ensures room { IfOk result (λ loaded. CountsKeys K.may_tell K.is_known loaded.added
+            self.old.kept self.new.kept self.old.room self.new.room) }
+        ensures total { self.new.room.total ≡ self.old.room.total }
     {
         self.counts().fit();
         let Ok(mut lines) = LineReader::new(alloc, LONGEST) else {
@@ -217,6 +227,7 @@ impl<T: Store + Drop, K: Kept + Drop> Guard<T, K> {
             &mut self.store,
             &mut self.kept,
             &mut self.filter,
+            &mut self.room,
             &mut self.counts,
             &mut lines,
             input,

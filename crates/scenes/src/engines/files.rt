@@ -4,10 +4,17 @@
 use crate::telling::tell_row;
 use bloom_plain::{BloomFilter, FilterError};
 use guard_parts::{
-    FilterFault, FilterFile, HostFault, HostFolder, Kept, MemoryFault, MemoryFolder, Paths, Unknown,
+    FilterFault, FilterFile, HostFault, HostFolder, Kept, MemoryFault, MemoryFolder, Paths, Room,
+    Unknown,
 };
 use std::alloc::Global;
 use std::fs;
+
+// The room of each filter.
+const ROOM: Room = Room {
+    total: 10,
+    taken: 3,
+};
 
 // A filter of 128 bits and two hashes in which this hash was inserted.
 fn filter_with(alloc: Global, hash: u64) -> Result<BloomFilter, FilterError> {
@@ -19,15 +26,15 @@ fn filter_with(alloc: Global, hash: u64) -> Result<BloomFilter, FilterError> {
 // A folder after the file of a filter is saved in it, and whether that came about.
 fn saved(alloc: Global, folder: MemoryFolder, filter: &BloomFilter) -> (MemoryFolder, bool) {
     let mut file = FilterFile::new(alloc, folder, false);
-    let is_saved = file.save(filter).is_ok();
+    let is_saved = file.save(filter, ROOM).is_ok();
     (file.into_folder(), is_saved)
 }
 
-// Whether the file of a folder is found to have the words of a filter.
+// Whether the file of a folder is found to have the words of a filter, and its room.
 fn finds(alloc: Global, folder: MemoryFolder, filter: &BloomFilter) -> bool {
     let mut file = FilterFile::new(alloc, folder, false);
     match file.load() {
-        Ok(Some(found)) => found.as_slice() == filter.as_slice(),
+        Ok(Some((found, room))) => (found.as_slice() == filter.as_slice()) & (room == ROOM),
         Ok(None) => false,
         Err(_fault) => false,
     }
@@ -83,7 +90,7 @@ fn is_told(alloc: Global) -> Result<bool, FilterError> {
     let mut file = FilterFile::new(alloc, folder, true);
     let is_unread = file.load().err() == Some(FilterFault::Unread(MemoryFault::Injected));
     let is_other = file.load().err() == Some(FilterFault::OtherStore);
-    let is_saved = file.save(&filter).is_ok();
+    let is_saved = file.save(&filter, ROOM).is_ok();
     let is_found = finds(alloc, file.into_folder(), &filter);
     Ok(is_left & is_unread & is_other & is_saved & is_found)
 }
@@ -114,7 +121,7 @@ fn are_refused(rt: &HostRuntime) -> Result<bool, FilterError> {
     let filter = filter_with(rt.alloc(), 1)?;
     let unread = host_file(rt, ".", ".").load().err();
     let is_saved = host_file(rt, "scene.filter", "scene.none")
-        .save(&filter)
+        .save(&filter, ROOM)
         .is_ok();
     Ok(!is_saved & (unread == Some(FilterFault::Unread(HostFault::NoFile))))
 }

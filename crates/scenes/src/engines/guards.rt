@@ -114,7 +114,7 @@ fn guard_of<'a>(alloc: Global, look_ups: &'a Cell<u64>) -> Option<Asking<'a>> {
         look_ups,
     };
     let kept = FilterFile::new(alloc, MemoryFolder::new(alloc), false);
-    match Guard::open(alloc, store, kept, rate, 10) {
+    match Guard::open(alloc, store, kept, rate, 0, 10) {
         Ok((guard, _origin)) => Some(guard),
         Err(_refusal) => None,
     }

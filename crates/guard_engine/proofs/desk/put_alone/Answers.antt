@@ -13,7 +13,7 @@ returns-in_ok-end_batch-in-Ok-clause-put g c = λ was known.
     let watches = watches-begun _ _ _ _ was begins in
     let puts = c.in-Ok.ensures.puts begins.batch watches put_known in
     let commits = c.in_ok-end_batch-in-Ok.ensures.ok puts.batch
-    (λ none. none-added _ _ _ _ _ _ _ _ was begins puts (sym c.added.ensures ∙ none)) known in
+    (λ none. none-added _ _ _ _ _ _ _ _ was begins puts (sym c.added-added.ensures ∙ none)) known in
     put-ended _ _ _ _ _ _ _ _ was begins puts _ commits
 
 -- after the commit the guard goes on
@@ -26,7 +26,7 @@ returns-in_ok-end_batch-in-Ok-clause-guards g c = λ was known kept_known.
     let puts = c.in-Ok.ensures.puts begins.batch watches put_known in
     let after = c.put.ensures.watches begins.batch watches put_known in
     let commits = c.in_ok-end_batch-in-Ok.ensures.ok puts.batch
-    (λ none. none-added _ _ _ _ _ _ _ _ was begins puts (sym c.added.ensures ∙ none)) known in
+    (λ none. none-added _ _ _ _ _ _ _ _ was begins puts (sym c.added-added.ensures ∙ none)) known in
     let saved = c.end_batch.ensures.saved puts.batch after
     (saved-before _ _ _ _ _ _ _ _ was begins puts) known kept_known in
     guards-ended _ _ _ _ _ _ _ _ was begins puts _ commits _ _ after saved

@@ -8,6 +8,7 @@ ghost use Rattle.guard_engine.specs.Guarded.{Stays};
 ghost use Rattle.guard_engine.specs.Guarding.{IsGuarding, Watches};
 ghost use Rattle.guard_engine.specs.Loaded.{HasEntry, HasTab, IsBad, IsBadAt, key_in};
 ghost use Rattle.guard_engine.specs.Puts.{added_by, taken_by};
+ghost use Rattle.guard_engine.specs.Room.{CountsKeys};
 ghost use Rattle.guard_engine.specs.Stops.{ComesNext, CountsStop, LeavesLine};
 ghost use Rattle.guard_engine.specs.Stores.{Fails, IsInBatch};
 
@@ -16,10 +17,11 @@ use crate::counts::Counts;
 use crate::desk::{end_batch, put};
 use crate::guard::Put;
 use crate::line::{BadLine, entry_of};
+use crate::rooms::count_keys;
 use crate::store::Store;
 use bloom_plain::laws::lists_join;
 use bloom_plain::{BloomFilter, DefaultHasher};
-use guard_parts::Kept;
+use guard_parts::{Kept, Room};
 use lines::{LineReader, Next};
 use std::io::{ErrorKind, Read};
 
@@ -139,6 +141,7 @@ pub fn load_batch<T: Store, K: Kept, R: Read>(
     store: &mut T,
     kept: &mut K,
     filter: &mut BloomFilter,
+    room: &mut Room,
     counts: &mut Counts,
     lines: &mut LineReader,
     input: &mut R,
@@ -177,16 +180,22 @@ pub fn load_batch<T: Store, K: Kept, R: Read>(
         (left_of lines.new (R.remaining input.new)) filter.old filter.new) }
     ensures fills_err { OnErr result
         (FillsFrom (left_of lines.old (R.remaining input.old)) filter.old filter.new) }
+    ensures room { IfOk result (λ part. CountsKeys K.may_tell K.is_known part.loaded.added
+        kept.old kept.new room.old room.new) }
+    ensures total { room.new.total ≡ room.old.total }
 {
     counts.fit();
     if let Err(error) = store.begin() {
         return Err(stopped(Why::Store(error), done + 1, done));
     }
     match put_lines(store, filter, counts, lines, input, batch, done) {
-        Ok(part) => match end_batch(store, kept, filter, part.loaded.added) {
-            Ok(()) => Ok(part),
-            Err(fault) => Err(stopped(Why::of(fault), done + 1, done)),
-        },
+        Ok(part) => {
+            count_keys(room, part.loaded.added);
+            match end_batch(store, kept, filter, *room, part.loaded.added) {
+                Ok(()) => Ok(part),
+                Err(fault) => Err(stopped(Why::of(fault), done + 1, done)),
+            }
+        }
         Err(stop) => {
             drop(store.roll_back());
             Err(stop)

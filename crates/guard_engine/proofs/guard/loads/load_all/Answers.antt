@@ -18,6 +18,9 @@ returns-then-part-clause-loads = more.returns-then-part-clause-loads
 pub returns-then-part-clause-counts : goal.returns-then-part-clause-counts
 returns-then-part-clause-counts = more.returns-then-part-clause-counts
 
+pub returns-then-part-clause-room : goal.returns-then-part-clause-room
+returns-then-part-clause-room = more.returns-then-part-clause-room
+
 pub returns-then-part-clause-fills : goal.returns-then-part-clause-fills
 returns-then-part-clause-fills = more.returns-then-part-clause-fills
 

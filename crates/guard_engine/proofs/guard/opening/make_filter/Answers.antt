@@ -8,10 +8,10 @@ use Rattle.guard_engine.proofs.guard.opening.make_filter.Goals as goal
 pub returns-in-Err-expected_items-clause-refused :
     goal.returns-in-Err-expected_items-clause-refused
 returns-in-Err-expected_items-clause-refused g c = λ ready error is.
-    let many : c.len.result ≡ length (vec_items c.in-Ok.keys) = search rules in
+    let many : c.len-many.result ≡ length (vec_items c.in-Ok.keys) = search rules in
     subst (LacksFilter _ _ _ _) (filter-injective _ error is)
     (lacks-filter string_bytes (vec_items c.in-Ok.keys) (vec_items c.in-Ok.keys) refl c.args.rate
-    c.args.room _ _ _ _ c.with_false_pos.result c.with_false_pos.ensures.rate many
+    c.args.spare _ _ _ _ c.with_false_pos.result c.with_false_pos.ensures.rate many
     c.saturating_add-half.ensures c.saturating_add-items.ensures g.T.Store.is_known c.keys.new.self
     _ (λ known. c.in-Ok.ensures.keys (ready (c.keys.ensures.known known)).fit known)
     c.in-Err-expected_items.ensures.refused)
@@ -27,12 +27,12 @@ returns-clause-covers g c = λ ready known.
 -- it was made for these keys and room
 pub returns-clause-made : goal.returns-clause-made
 returns-clause-made g c = λ ready known.
-    let many : c.len.result ≡ length (vec_items c.in-Ok.keys) = search rules in
-    made-of string_bytes (vec_items c.in-Ok.keys) _ c.deref.ensures.value c.args.rate c.args.room
+    let many : c.len-many.result ≡ length (vec_items c.in-Ok.keys) = search rules in
+    made-of string_bytes (vec_items c.in-Ok.keys) _ c.deref.ensures.value c.args.rate c.args.spare
     _ _ _ _ c.with_false_pos.result c.with_false_pos.ensures.rate many
-    c.saturating_add-half.ensures c.saturating_add-items.ensures _ _ c.with_false_pos.ensures.key
-    (c.in-Ok.ensures.keys ready.fit known) c.in-Ok-expected_items.ensures.made
-    c.insert_keys.ensures.inserts
+    c.saturating_add-half.ensures c.saturating_add-items.ensures _ refl _ _
+    c.with_false_pos.ensures.key (c.in-Ok.ensures.keys ready.fit known)
+    c.in-Ok-expected_items.ensures.made c.insert_keys.ensures.inserts
 
 -- the store stays ready
 pub returns-clause-ready : goal.returns-clause-ready

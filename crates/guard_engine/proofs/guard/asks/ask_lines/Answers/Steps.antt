@@ -22,6 +22,6 @@ keys-preserved g c =
     let now = c.in-Ok-get.ensures in
     asking-more c.keys.invariant c.next_line.new.self _
     (rw c.in-Ok-Line.field-0-is at c.in-Ok-Line.ensures.next) c.line.ensures c.in-Ok.ensures.utf8
-    c.in-Ok.ensures.text now.filter now.kept now.known now.stays now.asked now.alarm now.value
-    now.count_spared now.count_alarm now.count_value c.in-Ok-Line.ensures.knows
+    c.in-Ok.ensures.text now.filter now.kept now.room now.known now.stays now.asked now.alarm
+    now.value now.count_spared now.count_alarm now.count_value c.in-Ok-Line.ensures.knows
     c.in-Ok-Line.ensures.longest
