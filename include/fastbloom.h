@@ -19,7 +19,8 @@
  *    the call is given;
  *  - while a call runs that may write words, no other thread or process touches them. While a call
  *    runs that reads words, none writes them. Calls that read may run at once. The calls whose names
- *    begin with fastbloom_shared_ have a rule of their own instead, which stands beside them.
+ *    begin with fastbloom_shared_ or fastbloom_blocked_shared_ have a rule of their own instead,
+ *    which stands beside the first of them.
  *
  * It is built for x86-64 with SSE4.2 (x86-64-v2).
  */
@@ -352,6 +353,45 @@ FASTBLOOM_MUST_USE bool fastbloom_shared_load(fastbloom_shared words, uint64_t *
 
 /* The number of positions that are set in the words as they are loaded, one after the other. */
 size_t fastbloom_shared_count_ones(fastbloom_shared words);
+
+/* A blocked filter that threads share: the calls above on one line of the words. They keep the rule
+ * of the other calls on words that threads share. fastbloom_shared_clear, _union, _intersect, _take,
+ * _load and _count_ones are for both kinds of filters. Where there are fewer than 8 words, or more
+ * than 2^58 - 1, each of these calls returns false, and touches nothing. */
+
+/* Sets all positions of a hash, by one operation for each word of its line that has some, and
+ * returns whether these operations found all of them set already. So it returns false exactly if it
+ * set a bit itself. */
+bool fastbloom_blocked_shared_insert_hash(fastbloom_shared words, uint32_t num_hashes,
+                                          uint64_t hash);
+
+/* Whether all positions of a hash were found set, one after the other. While no call clears bits,
+ * false means that no insert of it had returned when this call began. */
+bool fastbloom_blocked_shared_contains_hash(fastbloom_shared words, uint32_t num_hashes,
+                                            uint64_t hash);
+
+/* The two calls above at the hash of the bytes. */
+bool fastbloom_blocked_shared_insert(fastbloom_shared words, uint32_t num_hashes,
+                                     const uint8_t key[16], const uint8_t *bytes, size_t len);
+bool fastbloom_blocked_shared_contains(fastbloom_shared words, uint32_t num_hashes,
+                                       const uint8_t key[16], const uint8_t *bytes, size_t len);
+
+/* Inserts each of count hashes, and returns true. */
+bool fastbloom_blocked_shared_insert_hashes(fastbloom_shared words, uint32_t num_hashes,
+                                            const uint64_t *hashes, size_t count);
+
+/* As fastbloom_shared_contains_hashes and fastbloom_shared_insert_hashes_tell_new. */
+FASTBLOOM_MUST_USE bool fastbloom_blocked_shared_contains_hashes(fastbloom_shared words,
+                                                                 uint32_t num_hashes,
+                                                                 const uint64_t *hashes,
+                                                                 size_t count, uint64_t *found,
+                                                                 size_t num_found);
+FASTBLOOM_MUST_USE bool fastbloom_blocked_shared_insert_hashes_tell_new(fastbloom_shared words,
+                                                                        uint32_t num_hashes,
+                                                                        const uint64_t *hashes,
+                                                                        size_t count,
+                                                                        uint64_t *fresh,
+                                                                        size_t num_fresh);
 
 /* A file is a head of 64 bytes and then the words. All numbers in it are little-endian. */
 
@@ -693,6 +733,47 @@ fastbloom_shared_load_(fastbloom_shared words, uint64_t *loaded, size_t num_load
     return fastbloom_shared_load(words, fastbloom_words_(loaded, num_loaded), num_loaded);
 }
 
+FASTBLOOM_INLINE bool fastbloom_blocked_shared_insert_(fastbloom_shared words, uint32_t num_hashes,
+                                                       const uint8_t key[16], const uint8_t *bytes,
+                                                       size_t len) {
+    return fastbloom_blocked_shared_insert(words, num_hashes, key, fastbloom_bytes_(bytes, len),
+                                           len);
+}
+
+FASTBLOOM_INLINE bool fastbloom_blocked_shared_contains_(fastbloom_shared words,
+                                                         uint32_t num_hashes,
+                                                         const uint8_t key[16],
+                                                         const uint8_t *bytes, size_t len) {
+    return fastbloom_blocked_shared_contains(words, num_hashes, key, fastbloom_bytes_(bytes, len),
+                                             len);
+}
+
+FASTBLOOM_INLINE bool fastbloom_blocked_shared_insert_hashes_(fastbloom_shared words,
+                                                              uint32_t num_hashes,
+                                                              const uint64_t *hashes,
+                                                              size_t count) {
+    return fastbloom_blocked_shared_insert_hashes(words, num_hashes,
+                                                  fastbloom_read_words_(hashes, count), count);
+}
+
+FASTBLOOM_MUST_USE FASTBLOOM_INLINE bool
+fastbloom_blocked_shared_contains_hashes_(fastbloom_shared words, uint32_t num_hashes,
+                                          const uint64_t *hashes, size_t count, uint64_t *found,
+                                          size_t num_found) {
+    return fastbloom_blocked_shared_contains_hashes(words, num_hashes,
+                                                    fastbloom_read_words_(hashes, count), count,
+                                                    fastbloom_words_(found, num_found), num_found);
+}
+
+FASTBLOOM_MUST_USE FASTBLOOM_INLINE bool
+fastbloom_blocked_shared_insert_hashes_tell_new_(fastbloom_shared words, uint32_t num_hashes,
+                                                 const uint64_t *hashes, size_t count,
+                                                 uint64_t *fresh, size_t num_fresh) {
+    return fastbloom_blocked_shared_insert_hashes_tell_new(
+        words, num_hashes, fastbloom_read_words_(hashes, count), count,
+        fastbloom_words_(fresh, num_fresh), num_fresh);
+}
+
 FASTBLOOM_INLINE uint64_t fastbloom_seal_(const uint64_t *words, size_t num_words,
                                           uint32_t num_hashes, const uint8_t key[16]) {
     return fastbloom_seal(fastbloom_read_words_(words, num_words), num_words, num_hashes, key);
@@ -746,6 +827,11 @@ FASTBLOOM_INLINE void fastbloom_hasher_update_(fastbloom_hasher *hasher, const u
 #define fastbloom_shared_insert_hashes_tell_new fastbloom_shared_insert_hashes_tell_new_
 #define fastbloom_shared_take fastbloom_shared_take_
 #define fastbloom_shared_load fastbloom_shared_load_
+#define fastbloom_blocked_shared_insert fastbloom_blocked_shared_insert_
+#define fastbloom_blocked_shared_contains fastbloom_blocked_shared_contains_
+#define fastbloom_blocked_shared_insert_hashes fastbloom_blocked_shared_insert_hashes_
+#define fastbloom_blocked_shared_contains_hashes fastbloom_blocked_shared_contains_hashes_
+#define fastbloom_blocked_shared_insert_hashes_tell_new fastbloom_blocked_shared_insert_hashes_tell_new_
 #define fastbloom_seal fastbloom_seal_
 #define fastbloom_hash fastbloom_hash_
 #define fastbloom_hash_items fastbloom_hash_items_

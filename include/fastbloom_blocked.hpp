@@ -15,13 +15,16 @@
 // that can fail returns a `result`, or a bool. A filter that was moved from, or made by default,
 // has no words: it contains nothing, and an insert changes nothing.
 //
-// Threads may read one filter at once. While a thread changes it, no other touches it.
+// Threads may read one filter at once. While a thread changes it, no other touches it. The filter
+// that threads share is in fastbloom_blocked_shared.hpp.
 #ifndef FASTBLOOM_BLOCKED_HPP
 #define FASTBLOOM_BLOCKED_HPP
 
 #include "fastbloom.hpp"
 
 namespace fastbloom {
+
+class shared_blocked_filter;
 
 // A set of byte strings that never misses a member, and now and then takes something else for one.
 class blocked_filter {
@@ -241,6 +244,9 @@ public:
     const std::uint64_t *data() const noexcept { return words_; }
 
 private:
+    // It takes words over, or fills them.
+    friend class shared_blocked_filter;
+
     static constexpr std::size_t words_of_a_line = 8, bytes_of_a_line = 64;
 
     std::uint64_t *words_ = &detail::no_words;

@@ -4,10 +4,12 @@ import array
 import copy
 import ctypes
 import pickle
+import threading
 import unittest
 
 import fastbloom
-from fastbloom import AnyFilter, BlockedFilter, Filter, Mask, Refusal
+from fastbloom import (
+    AnyFilter, BlockedFilter, Filter, Mask, Refusal, SharedBlockedFilter, SharedFilter)
 
 WORD = 2**64
 
@@ -45,11 +47,20 @@ def words_of(mask):
     return array.array("Q", data + bytes(-len(data) % 8))
 
 
-def number_of(session):
-    """All answers of a session and then all words, folded into one number."""
+def plain(lines, num_hashes):
     seen = BlockedFilter.__new__(BlockedFilter)
+    seen._set(lines, num_hashes, bytes(16))
+    return seen
+
+
+def shared(lines, num_hashes):
+    return SharedBlockedFilter.over(bytearray(64 * lines), num_hashes)
+
+
+def number_of(make, session):
+    """All answers of a session and then all words, folded into one number."""
     lines = 16384 + session if session % 50 == 49 else 1 + session % 7
-    seen._set(lines, 1 + session % 13, bytes(16))
+    seen = make(lines, 1 + session % 13)
     told = [seen.add_hash(drawn(session, index)) for index in range(20)]
     several = array.array("Q", (drawn(session, 7 * index % 95) for index in range(130)))
     told += words_of(seen.add_hashes_tell_new(several))
@@ -57,7 +68,8 @@ def number_of(session):
     told += words_of(seen.contains_hashes(row(session, 300, 150)))
     told += [seen.contains_hash(drawn(session, index)) for index in range(440, 460)]
     fold = 0
-    for number in told + seen.words():
+    words = seen.load().words() if make is shared else seen.words()
+    for number in told + words:
         fold = (fold ^ number) * 0x9E3779B97F4A7C15 % WORD
         fold = fold * 2**7 % WORD + fold // 2**57
     return fold
@@ -72,7 +84,8 @@ def small(*items):
 class Blocked(unittest.TestCase):
     def test_drawn_filters_are_those_of_the_model(self):
         for session, wanted in WANTED.items():
-            self.assertEqual(number_of(session), wanted, session)
+            for make in (plain, shared):
+                self.assertEqual(number_of(make, session), wanted, session)
 
     def test_sizes(self):
         seen = small()
@@ -157,6 +170,68 @@ class Blocked(unittest.TestCase):
         for items, rate in ((-1, "1/2"), (10, 1)):
             self.assertRaises(ValueError, BlockedFilter, items, rate)
         self.assertIn("BlockedFilter", fastbloom.__all__)
+
+
+class Shared(unittest.TestCase):
+    def test_sizes_are_those_of_plain_ones(self):
+        seen = SharedBlockedFilter(1000, "1/1000", bytes(range(16)))
+        self.assertEqual((seen.num_words, seen.num_lines, seen.num_bits, seen.num_hashes),
+                         (248, 31, 15872, 9))
+        self.assertEqual((seen._words.words % 64, seen.key), (0, bytes(range(16))))
+        self.assertEqual(repr(seen), "<SharedBlockedFilter: 15872 bits, 9 hashes, a key>")
+
+    def test_items(self):
+        seen, other = SharedBlockedFilter(1000, "1/1000"), SharedBlockedFilter(1000, "1/1000")
+        self.assertFalse(seen.add("crab"))
+        self.assertTrue(seen.add(b"crab") and "crab" in seen and "whale" not in seen)
+        other.add("lobster")
+        seen.update(["eel"], other, iter(()))
+        self.assertEqual(seen.contains_many(["crab", "eel", "lobster", "whale"]),
+                         [True, True, True, False])
+        self.assertIsInstance(seen, AnyFilter)
+        seen |= other
+        self.assertEqual(seen.load(), small("crab", "eel", "lobster"))
+        seen &= other
+        self.assertEqual(seen.take(), small("lobster"))
+        self.assertEqual(seen.count_ones(), 0)
+        other.clear()
+        self.assertNotIn("lobster", other)
+
+    def test_what_is_refused(self):
+        seen = SharedBlockedFilter(1000, "1/1000")
+        for other in (SharedFilter(1000, "1/1000"), small(), Filter(1000, "1/1000")):
+            self.assertIs(seen.__ior__(other), NotImplemented)
+            self.assertIs(seen.__iand__(other), NotImplemented)
+        self.assertIs(SharedFilter(1000, "1/1000").__ior__(seen), NotImplemented)
+        self.assertRaises(ValueError, seen.__ior__, SharedBlockedFilter(10, "1/1000"))
+        self.assertRaises(ValueError, SharedBlockedFilter.over, bytearray(65), 1)
+        self.assertRaises(ValueError, SharedBlockedFilter.over, bytearray(64), 0)
+        self.assertRaises(Refusal, SharedBlockedFilter.over, bytearray(0), 1)
+        self.assertRaises(TypeError, SharedBlockedFilter.over, bytes(64), 1)
+        self.assertRaises(TypeError, pickle.dumps, seen)
+        seen.release()
+        self.assertRaises(Refusal, seen.load)
+        self.assertFalse(seen.add("crab"))
+
+    def test_threads_lose_nothing(self):
+        memory = bytearray(64 * 4096)
+        hashes = row(7, 0, 40_000)
+        wanted = plain(4096, 5)
+        wanted.add_hashes(hashes)
+
+        def fill(first):
+            seen = SharedBlockedFilter.over(memory, 5)
+            for at in range(first, len(hashes), 2000):
+                seen.add_hashes(hashes[at:at + 1000])
+            for value in hashes[first:first + 100]:
+                seen.add_hash(value)
+
+        threads = [threading.Thread(target=fill, args=(first,)) for first in (0, 1000, 0, 1000)]
+        for thread in threads:
+            thread.start()
+        for thread in threads:
+            thread.join()
+        self.assertEqual(SharedBlockedFilter.over(memory, 5).load(), wanted)
 
 
 if __name__ == "__main__":

@@ -9,7 +9,8 @@ from fractions import Fraction
 from pathlib import Path
 from typing import List, Optional, Tuple
 
-from fastbloom import AnyFilter, BlockedFilter, Filter, Mask, Refusal, SharedFilter
+from fastbloom import (
+    AnyFilter, BlockedFilter, Filter, Mask, Refusal, SharedBlockedFilter, SharedFilter)
 
 
 class Own(Filter):
@@ -59,6 +60,9 @@ def shared(path: str, memory: bytearray) -> Tuple[Filter, Mask]:
 
 def in_lines(theirs: BlockedFilter) -> Tuple[BlockedFilter, Mask]:
     fill(theirs, ["a text"])
+    ours = SharedBlockedFilter.over(bytearray(64), 4)
+    fill(ours, ["a text"])
+    theirs |= ours.take()
     lines = BlockedFilter(10, "1/2", key=bytes(16))
     lines |= theirs
     lines.update(theirs, ["a text"])

@@ -1,7 +1,8 @@
 /* Blocked filters: `blocked` makes the sessions that bin/blocked-model tells of, and prints the
  * number of each, in which all answers and words are folded. The words begin in the midst of a line
- * of the cache, and words behind the last line have to stay as they are. Then it tries the calls by
- * bytes, plans, and what is refused. */
+ * of the cache, and words behind the last line have to stay as they are. By the calls on words that
+ * threads share one thread alone has to get the same. Then it tries the calls by bytes, plans, and
+ * what is refused. */
 #include "fastbloom.h"
 
 #include <inttypes.h>
@@ -42,7 +43,40 @@ static void draw_row(uint64_t *hashes, uint64_t session, uint64_t first, size_t 
     for (size_t i = 0; i < count; i++) hashes[i] = drawn(session, first + i);
 }
 
-static uint64_t number_of(uint64_t session) {
+/* One call of each kind, on plain words or on shared ones. */
+static bool insert(int is_shared, fastbloom_shared seen, uint32_t k, uint64_t hash) {
+    if (is_shared) return fastbloom_blocked_shared_insert_hash(seen, k, hash);
+    return fastbloom_blocked_insert_hash(seen.words, seen.num_words, k, hash);
+}
+
+static bool contains(int is_shared, fastbloom_shared seen, uint32_t k, uint64_t hash) {
+    if (is_shared) return fastbloom_blocked_shared_contains_hash(seen, k, hash);
+    return fastbloom_blocked_contains_hash(seen.words, seen.num_words, k, hash);
+}
+
+static bool insert_many(int is_shared, fastbloom_shared seen, uint32_t k, const uint64_t *hashes,
+                        size_t count) {
+    if (is_shared) return fastbloom_blocked_shared_insert_hashes(seen, k, hashes, count);
+    return fastbloom_blocked_insert_hashes(seen.words, seen.num_words, k, hashes, count);
+}
+
+static bool contains_many(int is_shared, fastbloom_shared seen, uint32_t k, const uint64_t *hashes,
+                          size_t count, uint64_t *bits, size_t room) {
+    if (is_shared)
+        return fastbloom_blocked_shared_contains_hashes(seen, k, hashes, count, bits, room);
+    return fastbloom_blocked_contains_hashes(seen.words, seen.num_words, k, hashes, count, bits,
+                                             room);
+}
+
+static bool tell_new(int is_shared, fastbloom_shared seen, uint32_t k, const uint64_t *hashes,
+                     size_t count, uint64_t *bits, size_t room) {
+    if (is_shared)
+        return fastbloom_blocked_shared_insert_hashes_tell_new(seen, k, hashes, count, bits, room);
+    return fastbloom_blocked_insert_hashes_tell_new(seen.words, seen.num_words, k, hashes, count,
+                                                    bits, room);
+}
+
+static uint64_t number_of(int is_shared, uint64_t session) {
     size_t lines = session % 50 == 49 ? 16384 + session : 1 + session % 7;
     size_t filter = LINE * lines, rest = session % LINE, at = session % 5;
     uint64_t *memory = malloc((at + filter + rest) * sizeof *memory), *words = memory + at;
@@ -51,20 +85,19 @@ static uint64_t number_of(uint64_t session) {
     if (memory == NULL) abort();
     memset(words, 0, filter * sizeof *words);
     for (size_t i = 0; i < rest; i++) words[filter + i] = drawn(session, i);
-    size_t all = filter + rest;
+    fastbloom_shared seen = {words, filter + rest};
     for (uint64_t i = 0; i < FEW; i++)
-        fold = fold_one(fold, fastbloom_blocked_insert_hash(words, all, k, drawn(session, i)));
+        fold = fold_one(fold, insert(is_shared, seen, k, drawn(session, i)));
     for (uint64_t i = 0; i < 130; i++) hashes[i] = drawn(session, 7 * i % 95);
-    wants("told", 1,
-          fastbloom_blocked_insert_hashes_tell_new(words, all, k, hashes, 130, bits, BITS));
+    wants("told", 1, tell_new(is_shared, seen, k, hashes, 130, bits, BITS));
     fold = folded(fold, bits, BITS);
     draw_row(hashes, session, 200, 150);
-    wants("inserted", 1, fastbloom_blocked_insert_hashes(words, all, k, hashes, 150));
+    wants("inserted", 1, insert_many(is_shared, seen, k, hashes, 150));
     draw_row(hashes, session, 300, 150);
-    wants("found", 1, fastbloom_blocked_contains_hashes(words, all, k, hashes, 150, bits, BITS));
+    wants("found", 1, contains_many(is_shared, seen, k, hashes, 150, bits, BITS));
     fold = folded(fold, bits, BITS);
     for (uint64_t i = 440; i < 440 + FEW; i++)
-        fold = fold_one(fold, fastbloom_blocked_contains_hash(words, all, k, drawn(session, i)));
+        fold = fold_one(fold, contains(is_shared, seen, k, drawn(session, i)));
     fold = folded(fold, words, filter);
     for (size_t i = 0; i < rest; i++)
         wants("a word behind the lines", drawn(session, i), words[filter + i]);
@@ -75,19 +108,27 @@ static uint64_t number_of(uint64_t session) {
 /* The calls by bytes are those by the hash of the bytes. */
 static void try_bytes(void) {
     static const uint8_t key[16] = {1, 2, 3};
-    uint64_t by_bytes[3 * LINE] = {0}, by_hash[3 * LINE] = {0};
+    uint64_t by_bytes[3 * LINE] = {0}, by_hash[3 * LINE] = {0}, by_shared[3 * LINE] = {0};
+    fastbloom_shared shared = {by_shared, 3 * LINE};
     for (size_t len = 0; len <= 16; len++) {
         uint32_t hashes = (uint32_t)(len % 4);
         uint64_t hash = fastbloom_hash(key, key, len);
         wants("a look-up of bytes",
               fastbloom_blocked_contains_hash(by_hash, 3 * LINE, hashes, hash),
               fastbloom_blocked_contains(by_bytes, 3 * LINE, hashes, key, key, len));
+        wants("a shared look-up of bytes",
+              fastbloom_blocked_contains_hash(by_hash, 3 * LINE, hashes, hash),
+              fastbloom_blocked_shared_contains(shared, hashes, key, key, len));
+        wants("a shared insert of bytes",
+              fastbloom_blocked_contains_hash(by_hash, 3 * LINE, hashes, hash),
+              fastbloom_blocked_shared_insert(shared, hashes, key, key, len));
         wants("an insert of bytes", fastbloom_blocked_insert_hash(by_hash, 3 * LINE, hashes, hash),
               fastbloom_blocked_insert(by_bytes, 3 * LINE, hashes, key, key, len));
         wants("bytes inserted", 1,
               fastbloom_blocked_contains(by_bytes, 3 * LINE, hashes, key, key, len));
     }
     wants("words by bytes", 1, fastbloom_equal(by_bytes, 3 * LINE, by_hash, 3 * LINE));
+    wants("words by shared bytes", 1, fastbloom_equal(by_shared, 3 * LINE, by_hash, 3 * LINE));
 }
 
 /* Plans, of which a program in Python computed the numbers, and refusals. */
@@ -130,6 +171,22 @@ static void try_refusals(void) {
           fastbloom_blocked_contains_hashes(few, LINE - 1, 1, hashes, 1, bits, 1));
     wants("told of no line", 0,
           fastbloom_blocked_insert_hashes_tell_new(few, LINE - 1, 1, hashes, 1, bits, 1));
+    fastbloom_shared part = {few, LINE - 1}, whole = {line, LINE};
+    fastbloom_shared too_many = {line, (size_t)1 << 58};
+    wants("a shared insert into no line", 0, fastbloom_blocked_shared_insert_hash(part, 1, 5));
+    wants("a shared look-up in no line", 0, fastbloom_blocked_shared_contains_hash(part, 1, 5));
+    wants("shared inserts into no line", 0,
+          fastbloom_blocked_shared_insert_hashes(part, 1, hashes, 1));
+    wants("shared look-ups in no line", 0,
+          fastbloom_blocked_shared_contains_hashes(part, 1, hashes, 1, bits, 1));
+    wants("shared, told of no line", 0,
+          fastbloom_blocked_shared_insert_hashes_tell_new(part, 1, hashes, 1, bits, 1));
+    wants("a shared insert into too many words", 0,
+          fastbloom_blocked_shared_insert_hash(too_many, 1, 5));
+    wants("shared look-ups with too few bits", 0,
+          fastbloom_blocked_shared_contains_hashes(whole, 1, hashes, 65, bits, 1));
+    wants("shared, told with too few bits", 0,
+          fastbloom_blocked_shared_insert_hashes_tell_new(whole, 1, hashes, 65, bits, 1));
     wants("look-ups with too few bits", 0,
           fastbloom_blocked_contains_hashes(line, LINE, 1, hashes, 65, bits, 1));
     wants("told with too few bits", 0,
@@ -140,9 +197,12 @@ static void try_refusals(void) {
 }
 
 int main(void) {
-    for (uint64_t session = 0; session < SESSIONS; session++)
-        printf("%s%" PRIu64 ",%s", session % 4 == 0 ? "    " : " ", number_of(session),
+    for (uint64_t session = 0; session < SESSIONS; session++) {
+        uint64_t number = number_of(0, session);
+        wants("a number by shared calls", number, number_of(1, session));
+        printf("%s%" PRIu64 ",%s", session % 4 == 0 ? "    " : " ", number,
                session % 4 == 3 ? "\n" : "");
+    }
     try_bytes();
     try_plans();
     try_refusals();

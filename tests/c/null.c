@@ -20,10 +20,11 @@ int main(void) {
     const uint8_t key[16] = {0};
     uint64_t word = 0, line[8] = {0}, from, to;
     size_t low, high;
-    fastbloom_shared none, one;
+    fastbloom_shared none, one, lines;
     fastbloom_hasher hasher;
     none.words = NULL, none.num_words = 0;
     one.words = &word, one.num_words = 1;
+    lines.words = line, lines.num_words = 8;
     fastbloom_hasher_init(&hasher, key);
     fastbloom_hasher_update(&hasher, NULL, 0);
     wants("finish", hash_of_nothing, fastbloom_hasher_finish(&hasher));
@@ -70,6 +71,16 @@ int main(void) {
     wants("shared take", 0, fastbloom_shared_take(none, NULL, 0));
     wants("shared load", 0, fastbloom_shared_load(none, NULL, 0));
     wants("shared count_ones", 0, fastbloom_shared_count_ones(none));
+    wants("blocked shared insert_hash", 0, fastbloom_blocked_shared_insert_hash(none, 1, 5));
+    wants("blocked shared insert_hashes", 0,
+          fastbloom_blocked_shared_insert_hashes(none, 1, NULL, 0));
+    wants("blocked shared contains_hash", 0, fastbloom_blocked_shared_contains_hash(none, 1, 5));
+    wants("blocked shared contains_hashes", 0,
+          fastbloom_blocked_shared_contains_hashes(none, 1, NULL, 0, NULL, 0));
+    wants("blocked shared tell_new", 0,
+          fastbloom_blocked_shared_insert_hashes_tell_new(none, 1, NULL, 0, NULL, 0));
+    wants("blocked shared insert", 0, fastbloom_blocked_shared_insert(none, 1, key, NULL, 0));
+    wants("blocked shared contains", 0, fastbloom_blocked_shared_contains(none, 1, key, NULL, 0));
     wants("seal", fastbloom_seal(&word, 0, 1, key), fastbloom_seal(NULL, 0, 1, key));
     /* no hashes and no bytes, of a filter with a word */
     wants("insert_hashes", 1, fastbloom_insert_hashes(&word, 1, 1, NULL, 0));
@@ -89,8 +100,15 @@ int main(void) {
           fastbloom_blocked_contains_hashes(line, 8, 1, NULL, 0, NULL, 0));
     wants("blocked tell_new", 1,
           fastbloom_blocked_insert_hashes_tell_new(line, 8, 1, NULL, 0, NULL, 0));
+    wants("blocked shared insert_hashes", 1,
+          fastbloom_blocked_shared_insert_hashes(lines, 1, NULL, 0));
+    wants("blocked shared contains_hashes", 1,
+          fastbloom_blocked_shared_contains_hashes(lines, 1, NULL, 0, NULL, 0));
+    wants("blocked shared tell_new", 1,
+          fastbloom_blocked_shared_insert_hashes_tell_new(lines, 1, NULL, 0, NULL, 0));
     wants("blocked insert", 0, fastbloom_blocked_insert(line, 8, 1, key, NULL, 0));
     wants("blocked contains", 1, fastbloom_blocked_contains(line, 8, 1, key, NULL, 0));
+    wants("blocked shared contains", 1, fastbloom_blocked_shared_contains(lines, 1, key, NULL, 0));
     word = 0;
     wants("insert", 0, fastbloom_insert(&word, 1, 1, key, NULL, 0));
     wants("contains", 1, fastbloom_contains(&word, 1, 1, key, NULL, 0));

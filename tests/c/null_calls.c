@@ -312,6 +312,59 @@ bool fastbloom_shared_insert_hashes_tell_new(fastbloom_shared words, uint32_t nu
     return words.num_words > 0;
 }
 
+bool fastbloom_blocked_shared_insert_hash(fastbloom_shared words, uint32_t num_hashes,
+                                          uint64_t hash) {
+    (void)words, (void)num_hashes, (void)hash;
+    return false;
+}
+
+bool fastbloom_blocked_shared_contains_hash(fastbloom_shared words, uint32_t num_hashes,
+                                            uint64_t hash) {
+    (void)words, (void)num_hashes, (void)hash;
+    return false;
+}
+
+bool fastbloom_blocked_shared_insert(fastbloom_shared words, uint32_t num_hashes,
+                                     const uint8_t key[16], const uint8_t *bytes, size_t len) {
+    (void)words, (void)num_hashes, (void)len;
+    some("key", key);
+    some("bytes", bytes);
+    return false;
+}
+
+bool fastbloom_blocked_shared_contains(fastbloom_shared words, uint32_t num_hashes,
+                                       const uint8_t key[16], const uint8_t *bytes, size_t len) {
+    (void)num_hashes, (void)len;
+    some("key", key);
+    some("bytes", bytes);
+    return words.num_words > 0;
+}
+
+bool fastbloom_blocked_shared_insert_hashes(fastbloom_shared words, uint32_t num_hashes,
+                                            const uint64_t *hashes, size_t count) {
+    (void)num_hashes, (void)count;
+    some("hashes", hashes);
+    return words.num_words > 0;
+}
+
+bool fastbloom_blocked_shared_contains_hashes(fastbloom_shared words, uint32_t num_hashes,
+                                              const uint64_t *hashes, size_t count, uint64_t *found,
+                                              size_t num_found) {
+    (void)num_hashes, (void)count, (void)num_found;
+    some("hashes", hashes);
+    some("found", found);
+    return words.num_words > 0;
+}
+
+bool fastbloom_blocked_shared_insert_hashes_tell_new(fastbloom_shared words, uint32_t num_hashes,
+                                                     const uint64_t *hashes, size_t count,
+                                                     uint64_t *fresh, size_t num_fresh) {
+    (void)num_hashes, (void)count, (void)num_fresh;
+    some("hashes", hashes);
+    some("fresh", fresh);
+    return words.num_words > 0;
+}
+
 bool fastbloom_shared_clear(fastbloom_shared words) {
     (void)words;
     return false;

@@ -1,4 +1,4 @@
-/* Threads that share a filter: `shared [RUNS [HASHES]]`.
+/* Threads that share a filter, in every second round a blocked one: `shared [RUNS [HASHES]]`.
  *
  * In each run eight threads insert the hashes, most of them twice, by one of the calls that insert.
  * Wanted are the words of a plain filter, as many new hashes as bits where each has one position,
@@ -20,6 +20,7 @@ static fastbloom_shared shared;
 static uint32_t num_hashes;
 static uint64_t num_keys;
 static enum way way;
+static int is_blocked;
 static pthread_barrier_t barrier;
 static uint64_t fresh_of[THREADS], missed_of[THREADS];
 static uint64_t *taken[TAKERS];
@@ -29,8 +30,9 @@ static int wrong;
 
 static void wants(const char *what, uint64_t wanted, uint64_t got) {
     if (wanted == got) return;
-    fprintf(stderr, "way %d, %u hashes: %s: %llu, not %llu\n", (int)way, (unsigned)num_hashes, what,
-            (unsigned long long)got, (unsigned long long)wanted);
+    fprintf(stderr, "way %d, %u hashes, blocked %d: %s: %llu, not %llu\n", (int)way,
+            (unsigned)num_hashes, is_blocked, what, (unsigned long long)got,
+            (unsigned long long)wanted);
     wrong = 1;
 }
 
@@ -49,22 +51,49 @@ static uint64_t ones_in(const uint64_t *words, size_t count) {
     return ones;
 }
 
+/* The calls of either kind of filter. */
+static bool insert_one(uint64_t hash) {
+    return is_blocked ? fastbloom_blocked_shared_insert_hash(shared, num_hashes, hash)
+                      : fastbloom_shared_insert_hash(shared, num_hashes, hash);
+}
+
+static bool contains_one(uint64_t hash) {
+    return is_blocked ? fastbloom_blocked_shared_contains_hash(shared, num_hashes, hash)
+                      : fastbloom_shared_contains_hash(shared, num_hashes, hash);
+}
+
+static bool insert_many(const uint64_t *hashes, size_t count) {
+    return is_blocked ? fastbloom_blocked_shared_insert_hashes(shared, num_hashes, hashes, count)
+                      : fastbloom_shared_insert_hashes(shared, num_hashes, hashes, count);
+}
+
+static bool tell_new(const uint64_t *hashes, size_t count, uint64_t *fresh, size_t room) {
+    return is_blocked ? fastbloom_blocked_shared_insert_hashes_tell_new(shared, num_hashes, hashes,
+                                                                        count, fresh, room)
+                      : fastbloom_shared_insert_hashes_tell_new(shared, num_hashes, hashes, count,
+                                                                fresh, room);
+}
+
+static bool contains_many(const uint64_t *hashes, size_t count, uint64_t *found, size_t room) {
+    return is_blocked
+               ? fastbloom_blocked_shared_contains_hashes(shared, num_hashes, hashes, count, found,
+                                                          room)
+               : fastbloom_shared_contains_hashes(shared, num_hashes, hashes, count, found, room);
+}
+
 /* Inserts some hashes, and returns how many were new. */
 static uint64_t insert_some(const uint64_t *hashes, size_t count) {
     uint64_t fresh[(TOGETHER + 63) / 64], news = 0;
     if (way == TELL_NEW) {
         size_t room = sizeof fresh / sizeof *fresh;
-        if (!fastbloom_shared_insert_hashes_tell_new(shared, num_hashes, hashes, count, fresh,
-                                                     room))
-            abort();
+        if (!tell_new(hashes, count, fresh, room)) abort();
         return ones_in(fresh, room);
     }
     if (way == MANY) {
-        if (!fastbloom_shared_insert_hashes(shared, num_hashes, hashes, count)) abort();
+        if (!insert_many(hashes, count)) abort();
         return 0;
     }
-    for (size_t i = 0; i < count; i++)
-        news += !fastbloom_shared_insert_hash(shared, num_hashes, hashes[i]);
+    for (size_t i = 0; i < count; i++) news += !insert_one(hashes[i]);
     return news;
 }
 
@@ -72,9 +101,8 @@ static uint64_t insert_some(const uint64_t *hashes, size_t count) {
 static uint64_t miss_some(const uint64_t *hashes, size_t count) {
     uint64_t found[(TOGETHER + 63) / 64], each = 0;
     size_t room = sizeof found / sizeof *found;
-    if (!fastbloom_shared_contains_hashes(shared, num_hashes, hashes, count, found, room)) abort();
-    for (size_t i = 0; i < count; i++)
-        each += !fastbloom_shared_contains_hash(shared, num_hashes, hashes[i]);
+    if (!contains_many(hashes, count, found, room)) abort();
+    for (size_t i = 0; i < count; i++) each += !contains_one(hashes[i]);
     return each + (count - ones_in(found, room));
 }
 
@@ -219,23 +247,29 @@ int main(int argc, char **argv) {
     int runs = argc > 1 ? atoi(argv[1]) : 20;
     num_keys = argc > 2 ? strtoull(argv[2], NULL, 10) : 1000000;
     uint64_t *words = calloc(NUM_WORDS, sizeof *words), *loaded = calloc(NUM_WORDS, sizeof *words);
-    uint64_t *plain[2] = {calloc(NUM_WORDS, sizeof *words), calloc(NUM_WORDS, sizeof *words)};
+    uint64_t *plain[4];
+    for (size_t i = 0; i < 4; i++) plain[i] = calloc(NUM_WORDS, sizeof *words);
     for (size_t i = 0; i < TAKERS; i++) taken[i] = calloc(NUM_WORDS, sizeof *words);
-    if (!words || !loaded || !plain[0] || !plain[1] || !taken[0] || !taken[1]) return 1;
+    if (!words || !loaded || !taken[0] || !taken[1]) return 1;
+    if (!plain[0] || !plain[1] || !plain[2] || !plain[3]) return 1;
     shared.words = words, shared.num_words = NUM_WORDS;
     for (uint64_t i = 0; i < num_keys; i++) {
         fastbloom_insert_hash(plain[0], NUM_WORDS, 1, hash_of(i));
         fastbloom_insert_hash(plain[1], NUM_WORDS, 3, hash_of(i));
+        fastbloom_blocked_insert_hash(plain[2], NUM_WORDS, 1, hash_of(i));
+        fastbloom_blocked_insert_hash(plain[3], NUM_WORDS, 3, hash_of(i));
     }
     try_alone();
     try_large();
     for (int number = 0; number < runs; number++) {
         way = (enum way)(number % WAYS);
-        num_hashes = number / WAYS % 2 == 0 ? 1 : 3;
-        run(plain[num_hashes != 1], loaded);
+        num_hashes = number / WAYS / 2 % 2 == 0 ? 1 : 3;
+        is_blocked = number / WAYS % 2;
+        run(plain[2 * is_blocked + (num_hashes != 1)], loaded);
     }
     for (size_t i = 0; i < TAKERS; i++) free(taken[i]);
-    free(words), free(loaded), free(plain[0]), free(plain[1]);
+    for (size_t i = 0; i < 4; i++) free(plain[i]);
+    free(words), free(loaded);
     printf("%d runs of %d threads\n", runs, THREADS);
     return wrong;
 }

@@ -4,7 +4,7 @@
  * Both have ten bits a key and seven hashes, and get the same hashes: the finish of splitmix64 of
  * the numbers from 0 on. Each round inserts all keys into an empty filter, looks each of them up
  * (hit), and then as many others (miss), one by one and many at once; then threads insert all keys
- * into an empty classic filter that they share. A row tells the nanoseconds of one call, of all rounds the
+ * into an empty filter that they share. A row tells the nanoseconds of one call, of all rounds the
  * best, and how many calls returned true: those of `miss` are false positives. Hashes are made in
  * blocks, which isn't timed. The words begin at a multiple of 2 MiB, for which the system is asked
  * for huge pages where HUGE_PAGES is set. */
@@ -103,6 +103,12 @@ static uint64_t share_many(struct filter filter, const uint64_t *hashes, size_t 
     return 0;
 }
 
+static uint64_t share_many_in_lines(struct filter filter, const uint64_t *hashes, size_t count) {
+    fastbloom_shared words = {filter.words, filter.num_words};
+    fastbloom_blocked_shared_insert_hashes(words, HASHES, hashes, count);
+    return 0;
+}
+
 static inline uint64_t spread(uint64_t number) {
     uint64_t word = number + 0x9e3779b97f4a7c15u;
     word = (word ^ (word >> 30)) * 0xbf58476d1ce4e5b9u;
@@ -194,6 +200,7 @@ int main(int argc, char **argv) {
         {"blocked-many", "hit", look_up_many_in_lines, 0, 0, 0},
         {"blocked-many", "miss", look_up_many_in_lines, 1, 0, 0},
         {"classic-shared", "insert", share_many, 0, 0, 0},
+        {"blocked-shared", "insert", share_many_in_lines, 0, 0, 0},
     };
     if (keys == 0 || rounds == 0 || threads == 0 || threads > MOST_THREADS) return 2;
     struct filter filter = {NULL, (keys * 10 + 511) / 512 * 8};

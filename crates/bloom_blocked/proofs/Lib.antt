@@ -9,13 +9,13 @@ mod LineFileFacts
 mod LineFileLemmas
 mod LineLemmas
 mod LineStepFacts
-mod LineStepLemmas
+pub mod LineStepLemmas
 mod ManyLemmas
 mod PositionLemmas
 mod SharedBlockedFacts
 mod SharedInsertLemmas
 mod SharedQueueLemmas
 mod SizingLemmas
-mod SpanLemmas
+pub mod SpanLemmas
 mod TakenLemmas
 mod TellLemmas

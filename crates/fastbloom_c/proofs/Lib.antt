@@ -1,6 +1,7 @@
 mod BitLemmas
 mod BlockedPlanFacts
 mod BlockedPlanLemmas
+mod BlockedSharedFacts
 mod EstimateFacts
 mod EstimateLemmas
 mod FileFacts

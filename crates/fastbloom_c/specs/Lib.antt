@@ -1,4 +1,5 @@
 pub mod BlockedPlans
+pub mod BlockedShared
 pub mod Estimates
 pub mod Files
 pub mod Items

@@ -10,6 +10,8 @@ ghost use Rattle.bloom_blocked.specs.Lines.{line_positions, are_in_line};
 
 pub mod many;
 pub mod plans;
+pub mod shared;
+pub mod shared_many;
 
 use crate::texts::fastbloom_hash;
 use bloom_blocked::words::{LINE, contains_hash, insert_hash};

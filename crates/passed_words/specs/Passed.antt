@@ -26,3 +26,7 @@ vector_of p n = record { name = 2 ^ block_of p * 3 ^ count_of p; count = n }
 -- this many words make a filter
 abbrev pub MakeFilter : ℕ → Type 0
 MakeFilter n = (1 ≤ n) × (n < 2 ^ 58)
+
+-- this many words make a filter in lines of eight
+abbrev pub MakeLines : ℕ → Type 0
+MakeLines n = (8 ≤ n) × (n < 2 ^ 58)

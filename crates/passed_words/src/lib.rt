@@ -7,5 +7,7 @@
 
 pub mod calls;
 pub mod lent;
+pub mod line;
+pub mod line_store;
 pub mod store;
 pub mod words;

@@ -7,18 +7,19 @@
     Filter.load("seen.bloom")  # or `mapped=True`, by which processes share its pages
 
 Items are texts, which count as their UTF-8 bytes, and bytes-like objects. Threads may use one
-filter at once. Where many add at once, or several processes do, take a SharedFilter. A BlockedFilter
-is quicker where it is larger than the processor's cache, and has no files. The work is
-done by the shared library fastbloom_c; importing the package raises ImportError where that isn't
-found.
+filter at once. Where many add at once, or several processes do, take a SharedFilter. A
+BlockedFilter is quicker where it is larger than the processor's cache, and has no files; a
+SharedBlockedFilter is the one that is shared. The work is done by the shared library fastbloom_c;
+importing the package raises ImportError where that isn't found.
 """
 
 from ._blocked import BlockedFilter
+from ._blocked_shared import SharedBlockedFilter
 from ._filter import Estimate, Filter, Refusal
 from ._mask import Mask
 from ._protocols import AnyFilter
 from ._shared import SharedFilter
 
 __version__ = "0.17.0+rattle.1"
-__all__ = ["AnyFilter", "BlockedFilter", "Estimate", "Filter", "Mask", "Refusal", "SharedFilter",
-           "__version__"]
+__all__ = ["AnyFilter", "BlockedFilter", "Estimate", "Filter", "Mask", "Refusal",
+           "SharedBlockedFilter", "SharedFilter", "__version__"]

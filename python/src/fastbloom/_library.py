@@ -125,6 +125,11 @@ def _shared(name: str, answer: Any, *kinds: Any) -> Any:
     return _call("shared_" + name, answer, SharedWords, *kinds, library=_LETTING_GO)
 
 
+def _blocked_shared(name: str, answer: Any, *kinds: Any) -> Any:
+    """A call on a blocked filter's words that are shared."""
+    return _call("blocked_shared_" + name, answer, SharedWords, *kinds, library=_LETTING_GO)
+
+
 shared_insert_hash: Callable[..., bool] = _shared("insert_hash", _BOOL, _HASHES, _HASH)
 shared_contains_hash: Callable[..., bool] = _shared("contains_hash", _BOOL, _HASHES, _HASH)
 shared_insert: Callable[..., bool] = _shared("insert", _BOOL, _HASHES, _BYTES, _BYTES, _SIZE)
@@ -141,3 +146,19 @@ shared_intersect: Callable[..., bool] = _shared("intersect", _BOOL, SharedWords)
 shared_take: Callable[..., bool] = _shared("take", _BOOL, _WORDS, _SIZE)
 shared_load: Callable[..., bool] = _shared("load", _BOOL, _WORDS, _SIZE)
 shared_count_ones: Callable[..., int] = _shared("count_ones", _SIZE)
+
+# Those on blocked filters that are shared. The calls on all words are the ones above.
+blocked_shared_insert_hash: Callable[..., bool] = _blocked_shared(
+    "insert_hash", _BOOL, _HASHES, _HASH)
+blocked_shared_contains_hash: Callable[..., bool] = _blocked_shared(
+    "contains_hash", _BOOL, _HASHES, _HASH)
+blocked_shared_insert: Callable[..., bool] = _blocked_shared(
+    "insert", _BOOL, _HASHES, _BYTES, _BYTES, _SIZE)
+blocked_shared_contains: Callable[..., bool] = _blocked_shared(
+    "contains", _BOOL, _HASHES, _BYTES, _BYTES, _SIZE)
+blocked_shared_insert_hashes: Callable[..., bool] = _blocked_shared(
+    "insert_hashes", _BOOL, _HASHES, _MANY, _SIZE)
+blocked_shared_contains_hashes: Callable[..., bool] = _blocked_shared(
+    "contains_hashes", _BOOL, _HASHES, _MANY, _SIZE, _MANY, _SIZE)
+blocked_shared_insert_hashes_tell_new: Callable[..., bool] = _blocked_shared(
+    "insert_hashes_tell_new", _BOOL, _HASHES, _MANY, _SIZE, _MANY, _SIZE)

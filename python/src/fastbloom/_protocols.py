@@ -10,7 +10,7 @@ from ._mask import Mask
 
 @runtime_checkable
 class AnyFilter(Protocol):
-    """A `Filter`, a `SharedFilter` or a `BlockedFilter`, by the calls that they have in common.
+    """A filter of any of the four classes, by the calls that they have in common.
 
     `isinstance` looks at the names of the calls alone.
     """

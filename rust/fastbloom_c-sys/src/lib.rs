@@ -520,6 +520,71 @@ extern "C" {
         num_fresh: usize,
     ) -> bool;
 
+    /// Sets all positions of a hash, by one operation for each word of its line that has some, and
+    /// returns whether these operations found all of them set already.
+    pub fn fastbloom_blocked_shared_insert_hash(
+        words: fastbloom_shared,
+        num_hashes: u32,
+        hash: u64,
+    ) -> bool;
+
+    /// Whether all positions of a hash in its line were found set, one after the other.
+    pub fn fastbloom_blocked_shared_contains_hash(
+        words: fastbloom_shared,
+        num_hashes: u32,
+        hash: u64,
+    ) -> bool;
+
+    /// [`fastbloom_blocked_shared_insert_hash`] at the hash of the bytes.
+    pub fn fastbloom_blocked_shared_insert(
+        words: fastbloom_shared,
+        num_hashes: u32,
+        key: *const u8,
+        bytes: *const u8,
+        len: usize,
+    ) -> bool;
+
+    /// [`fastbloom_blocked_shared_contains_hash`] at the hash of the bytes.
+    pub fn fastbloom_blocked_shared_contains(
+        words: fastbloom_shared,
+        num_hashes: u32,
+        key: *const u8,
+        bytes: *const u8,
+        len: usize,
+    ) -> bool;
+
+    /// Inserts each of `count` hashes, and returns true.
+    pub fn fastbloom_blocked_shared_insert_hashes(
+        words: fastbloom_shared,
+        num_hashes: u32,
+        hashes: *const u64,
+        count: usize,
+    ) -> bool;
+
+    /// As [`fastbloom_contains_hashes`]: bit `i % 64` of word `i / 64` of `found` is what the
+    /// look-up of hash `i` returned.
+    #[must_use]
+    pub fn fastbloom_blocked_shared_contains_hashes(
+        words: fastbloom_shared,
+        num_hashes: u32,
+        hashes: *const u64,
+        count: usize,
+        found: *mut u64,
+        num_found: usize,
+    ) -> bool;
+
+    /// As [`fastbloom_insert_hashes_tell_new`]: bit `i % 64` of word `i / 64` of `fresh` is set
+    /// where the insert of hash `i` returned false.
+    #[must_use]
+    pub fn fastbloom_blocked_shared_insert_hashes_tell_new(
+        words: fastbloom_shared,
+        num_hashes: u32,
+        hashes: *const u64,
+        count: usize,
+        fresh: *mut u64,
+        num_fresh: usize,
+    ) -> bool;
+
     /// Clears every position, one word after the other.
     pub fn fastbloom_shared_clear(words: fastbloom_shared) -> bool;
 

@@ -230,9 +230,13 @@ fn the_library_has_each_symbol() {
     let linked = linked! {
         fastbloom_blocked_contains fastbloom_blocked_contains_hash fastbloom_blocked_contains_hashes
         fastbloom_blocked_insert fastbloom_blocked_insert_hash fastbloom_blocked_insert_hashes
-        fastbloom_blocked_insert_hashes_tell_new fastbloom_blocked_plan fastbloom_clear
-        fastbloom_contains fastbloom_contains_hash fastbloom_contains_hashes fastbloom_count_ones
-        fastbloom_equal fastbloom_estimate fastbloom_estimate_common fastbloom_estimate_union
+        fastbloom_blocked_insert_hashes_tell_new fastbloom_blocked_plan
+        fastbloom_blocked_shared_contains fastbloom_blocked_shared_contains_hash
+        fastbloom_blocked_shared_contains_hashes fastbloom_blocked_shared_insert
+        fastbloom_blocked_shared_insert_hash fastbloom_blocked_shared_insert_hashes
+        fastbloom_blocked_shared_insert_hashes_tell_new fastbloom_clear fastbloom_contains
+        fastbloom_contains_hash fastbloom_contains_hashes fastbloom_count_ones fastbloom_equal
+        fastbloom_estimate fastbloom_estimate_common fastbloom_estimate_union
         fastbloom_expected_rate fastbloom_hash fastbloom_hash_items fastbloom_hasher_finish
         fastbloom_hasher_init fastbloom_hasher_update fastbloom_head_read fastbloom_head_write
         fastbloom_insert fastbloom_insert_hash fastbloom_insert_hashes

@@ -25,10 +25,10 @@ use std::fmt;
 #[derive(Clone)]
 pub struct BlockedBloomFilter {
     // From 1 to 2^55 - 1.
-    lines: Vec<Line>,
+    pub(crate) lines: Vec<Line>,
     // Not zero.
-    num_hashes: u32,
-    key: raw::Key,
+    pub(crate) num_hashes: u32,
+    pub(crate) key: raw::Key,
 }
 
 /// A builder of a blocked filter with a given number of bits, or given words. `Debug` doesn't show

@@ -53,7 +53,8 @@
 //! A [`BloomFilter`] is `Send` and `Sync`: a call that changes it takes `&mut self`, and threads
 //! look up at once through `&self`. An [`AtomicBloomFilter`] is for threads that insert at once: each
 //! call takes `&self`, and none waits for another. Where one thread inserts, take the first, whose
-//! inserts are quicker. A [`BlockedBloomFilter`] is as a [`BloomFilter`] there.
+//! inserts are quicker. A [`BlockedBloomFilter`] and an
+//! [`AtomicBlockedBloomFilter`] are as these two.
 //!
 //! # Panics
 //!
@@ -67,6 +68,7 @@
 )]
 
 mod blocked;
+mod blocked_shared;
 mod bloom;
 mod builder;
 mod error;
@@ -90,6 +92,7 @@ mod shared;
 pub use blocked::{
     BlockedBloomFilter, BlockedBuilderWithBits, BlockedBuilderWithFalsePositiveRate,
 };
+pub use blocked_shared::{AtomicBlockedBloomFilter, AtomicLines};
 pub use bloom::{hash, BloomFilter};
 pub use builder::{BuilderWithBits, BuilderWithFalsePositiveRate};
 pub use error::Error;

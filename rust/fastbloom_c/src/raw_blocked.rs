@@ -2,9 +2,11 @@
 //! slices, and the processor can run the library, since a filter is made only after a check of it.
 
 use crate::raw::{self, Key};
+use crate::raw_shared::passed;
 use crate::Error;
 use fastbloom_c_sys as sys;
 use std::alloc::{alloc_zeroed, Layout};
+use std::sync::atomic::AtomicU64;
 
 /// How many words a line has.
 pub const LINE: usize = 8;
@@ -14,6 +16,31 @@ pub const LINE: usize = 8;
 #[repr(C, align(64))]
 pub struct Line(pub [u64; LINE]);
 
+/// Eight words that threads share.
+#[repr(C, align(64))]
+pub struct AtomicLine([AtomicU64; LINE]);
+
+/// Lines that become atomic ones, where they lie.
+pub fn share(lines: Vec<Line>) -> Box<[AtomicLine]> {
+    let lines = Box::into_raw(lines.into_boxed_slice());
+    // SAFETY: an atomic word of 64 bits has the size and the bits of a `u64`, so that an atomic line
+    // has the layout of a line, and the box was the only owner.
+    unsafe { Box::from_raw(lines as *mut [AtomicLine]) }
+}
+
+/// Atomic lines that become plain ones, where they lie.
+pub fn unshare(lines: Box<[AtomicLine]>) -> Vec<Line> {
+    let lines = Box::into_raw(lines);
+    // SAFETY: as above, and nobody borrows the lines any more.
+    unsafe { Box::from_raw(lines as *mut [Line]) }.into_vec()
+}
+
+/// The words of atomic lines.
+pub fn atomic_words(lines: &[AtomicLine]) -> &[AtomicU64] {
+    // SAFETY: a line is eight words and no more, so that lines lie as eight times as many words.
+    unsafe { std::slice::from_raw_parts(lines.as_ptr().cast(), LINE * lines.len()) }
+}
+
 /// The words of lines.
 pub fn words(lines: &[Line]) -> &[u64] {
     // SAFETY: a line is eight words and no more, so that lines lie as eight times as many words.
@@ -21,7 +48,7 @@ pub fn words(lines: &[Line]) -> &[u64] {
 }
 
 /// The words of lines, to be written.
-fn words_mut(lines: &mut [Line]) -> &mut [u64] {
+pub fn words_mut(lines: &mut [Line]) -> &mut [u64] {
     // SAFETY: as above; the lines are borrowed for writing.
     unsafe { std::slice::from_raw_parts_mut(lines.as_mut_ptr().cast(), LINE * lines.len()) }
 }
@@ -175,4 +202,83 @@ pub fn union(lines: &mut [Line], other: &[Line]) -> bool {
 #[must_use]
 pub fn intersect(lines: &mut [Line], other: &[Line]) -> bool {
     raw::intersect(words_mut(lines), words(other))
+}
+
+/// Inserts a hash, and returns whether all its positions were found set.
+pub fn shared_insert_hash(words: &[AtomicU64], num_hashes: u32, hash: u64) -> bool {
+    // SAFETY: the words are a slice of atomic words.
+    unsafe { sys::fastbloom_blocked_shared_insert_hash(passed(words), num_hashes, hash) }
+}
+
+/// Whether all positions of a hash were found set.
+pub fn shared_contains_hash(words: &[AtomicU64], num_hashes: u32, hash: u64) -> bool {
+    // SAFETY: the words are a slice of atomic words.
+    unsafe { sys::fastbloom_blocked_shared_contains_hash(passed(words), num_hashes, hash) }
+}
+
+/// Inserts the hash of the bytes, and returns whether all its positions were found set.
+pub fn shared_insert(words: &[AtomicU64], num_hashes: u32, key: &Key, bytes: &[u8]) -> bool {
+    let (words, at, len) = (passed(words), bytes.as_ptr(), bytes.len());
+    // SAFETY: the words are a slice of atomic words, the key has sixteen bytes, and the others are a
+    // slice of their length.
+    unsafe { sys::fastbloom_blocked_shared_insert(words, num_hashes, key.as_ptr(), at, len) }
+}
+
+/// Whether all positions of the hash of the bytes were found set.
+pub fn shared_contains(words: &[AtomicU64], num_hashes: u32, key: &Key, bytes: &[u8]) -> bool {
+    let (words, at, len) = (passed(words), bytes.as_ptr(), bytes.len());
+    // SAFETY: the words are a slice of atomic words, the key has sixteen bytes, and the others are a
+    // slice of their length.
+    unsafe { sys::fastbloom_blocked_shared_contains(words, num_hashes, key.as_ptr(), at, len) }
+}
+
+/// Inserts many hashes.
+pub fn shared_insert_hashes(words: &[AtomicU64], num_hashes: u32, hashes: &[u64]) -> bool {
+    let (words, at, count) = (passed(words), hashes.as_ptr(), hashes.len());
+    // SAFETY: the words are a slice of atomic words, and the hashes a slice of their length.
+    unsafe { sys::fastbloom_blocked_shared_insert_hashes(words, num_hashes, at, count) }
+}
+
+/// Looks many hashes up, each with a bit. False: there are fewer bits than hashes.
+#[must_use]
+pub fn shared_contains_hashes(
+    words: &[AtomicU64],
+    num_hashes: u32,
+    hashes: &[u64],
+    found: &mut [u64],
+) -> bool {
+    // SAFETY: the words are a slice of atomic words, and the others are slices of their lengths. The
+    // last is borrowed for writing, so that the others lie elsewhere.
+    unsafe {
+        sys::fastbloom_blocked_shared_contains_hashes(
+            passed(words),
+            num_hashes,
+            hashes.as_ptr(),
+            hashes.len(),
+            found.as_mut_ptr(),
+            found.len(),
+        )
+    }
+}
+
+/// Inserts many hashes, and tells by a bit which set a bit. False: there are fewer bits than hashes.
+#[must_use]
+pub fn shared_insert_hashes_tell_new(
+    words: &[AtomicU64],
+    num_hashes: u32,
+    hashes: &[u64],
+    fresh: &mut [u64],
+) -> bool {
+    // SAFETY: the words are a slice of atomic words, and the others are slices of their lengths. The
+    // last is borrowed for writing, so that the others lie elsewhere.
+    unsafe {
+        sys::fastbloom_blocked_shared_insert_hashes_tell_new(
+            passed(words),
+            num_hashes,
+            hashes.as_ptr(),
+            hashes.len(),
+            fresh.as_mut_ptr(),
+            fresh.len(),
+        )
+    }
 }

@@ -10,7 +10,7 @@ use fastbloom_c_sys as sys;
 use std::sync::atomic::AtomicU64;
 
 /// The words, as the library takes them.
-fn passed(words: &[AtomicU64]) -> sys::fastbloom_shared {
+pub fn passed(words: &[AtomicU64]) -> sys::fastbloom_shared {
     sys::fastbloom_shared {
         words: words.as_ptr().cast::<u64>().cast_mut(),
         num_words: words.len(),

@@ -1,6 +1,7 @@
 //! Blocked filters: what a model says of drawn sessions, and what the crate adds to the calls of C.
 
-use fastbloom_c::{BlockedBloomFilter, Error, Rate};
+use fastbloom_c::{AtomicBlockedBloomFilter, BlockedBloomFilter, Error, Rate};
+use std::sync::atomic::AtomicU64;
 
 /// What bin/blocked-model says of these sessions.
 const WANTED: [(u64, u64); 11] = [
@@ -57,6 +58,31 @@ fn number_of(session: u64) -> u64 {
     told.extend(words_of(&seen.contains_hashes(&row(session, 300..450))));
     told.extend((440..460).map(|index| seen.contains_hash(drawn(session, index)) as u64));
     told.extend(seen.iter());
+    folded(told)
+}
+
+/// As `number_of`, by a filter that threads share.
+fn shared_number_of(session: u64) -> u64 {
+    let lines = match session % 50 {
+        49 => 16384 + session,
+        _ => 1 + session % 7,
+    };
+    let words: Vec<_> = (0..8 * lines).map(|_| AtomicU64::new(0)).collect();
+    let hashes = 1 + (session % 13) as u32;
+    let seen = AtomicBlockedBloomFilter::from_words(words, hashes).expect("lines");
+    let mut told: Vec<u64> = (0..20)
+        .map(|index| seen.insert_hash(drawn(session, index)) as u64)
+        .collect();
+    let several: Vec<_> = (0..130).map(|i| drawn(session, 7 * i % 95)).collect();
+    told.extend(words_of(&seen.insert_hashes_tell_new(&several)));
+    seen.insert_hashes(&row(session, 200..350));
+    told.extend(words_of(&seen.contains_hashes(&row(session, 300..450))));
+    told.extend((440..460).map(|index| seen.contains_hash(drawn(session, index)) as u64));
+    told.extend(seen.iter());
+    folded(told)
+}
+
+fn folded(told: Vec<u64>) -> u64 {
     told.into_iter().fold(0, |fold: u64, number| {
         (fold ^ number)
             .wrapping_mul(0x9e37_79b9_7f4a_7c15)
@@ -77,6 +103,7 @@ fn thousand(items: &[&str]) -> BlockedBloomFilter {
 fn drawn_filters_are_those_of_the_model() {
     for (session, wanted) in WANTED {
         assert_eq!(number_of(session), wanted, "session {session}");
+        assert_eq!(shared_number_of(session), wanted, "session {session}");
     }
 }
 
@@ -170,5 +197,70 @@ fn words_that_are_no_lines_are_refused() {
     assert_eq!(
         format!("{kept:?}"),
         "BlockedBloomFilter { num_bits: 1024, num_hashes: 3, .. }"
+    );
+}
+
+#[test]
+fn threads_lose_nothing() {
+    let mut wanted = BlockedBloomFilter::with_num_bits(1 << 21)
+        .expect("bits")
+        .hashes(5);
+    let hashes = row(7, 0..40_000);
+    wanted.insert_hashes(&hashes);
+    let seen = AtomicBlockedBloomFilter::from(
+        BlockedBloomFilter::with_num_bits(1 << 21)
+            .expect("bits")
+            .hashes(5),
+    );
+    assert_eq!(seen.as_slice().as_ptr() as usize % 64, 0);
+    std::thread::scope(|scope| {
+        for first in [0, 1, 2, 3, 0, 1] {
+            let (seen, hashes) = (&seen, &hashes);
+            scope.spawn(move || {
+                for part in hashes.chunks(500).skip(first).step_by(4) {
+                    seen.insert_hashes(part);
+                    assert_eq!(seen.contains_hashes(part), vec![true; part.len()]);
+                }
+            });
+        }
+    });
+    assert_eq!(seen.load().as_ref(), Ok(&wanted));
+    assert_eq!(BlockedBloomFilter::from(seen), wanted);
+}
+
+#[test]
+fn a_shared_filter_has_the_calls_of_a_plain_one() {
+    let seen = AtomicBlockedBloomFilter::from(thousand(&["crab"]));
+    let other = AtomicBlockedBloomFilter::from(thousand(&["lobster"]));
+    assert!(seen.insert("crab") && seen.contains("crab") && !seen.contains("lobster"));
+    assert!(seen.contains_hash(seen.source_hash("crab")));
+    assert_eq!(seen.union(&other), Ok(()));
+    assert_eq!(seen.load(), Ok(thousand(&["crab", "lobster"])));
+    assert_eq!(seen.intersect(&other), Ok(()));
+    assert!(seen == other && seen.same_shape(&other));
+    assert_eq!(
+        (seen.take(), seen.count_ones()),
+        (Ok(thousand(&["lobster"])), 0)
+    );
+    seen.insert_all(["eel", "prawn"]);
+    assert!(seen.contains("eel") && seen.contains("prawn"));
+    seen.clear();
+    assert!(!seen.contains("eel"));
+    let words: Vec<_> = (0..16).map(|_| AtomicU64::new(0)).collect();
+    let one = AtomicBlockedBloomFilter::from_words(&words[..], 0)
+        .expect("lines")
+        .seed(&5);
+    assert_eq!((one.num_hashes(), one.num_bits()), (1, 1024));
+    assert_eq!(u128::from_be_bytes(*one.key()), 5);
+    assert_eq!(one.union(&seen), Err(Error::OtherShape));
+    assert_eq!(one.intersect(&seen), Err(Error::OtherShape));
+    let refused = |words: &[AtomicU64]| AtomicBlockedBloomFilter::from_words(words, 1).unwrap_err();
+    assert_eq!(
+        (refused(&words[..0]), refused(&words[..9])),
+        (Error::EmptyWords, Error::PartOfALine)
+    );
+    assert_eq!(
+        format!("{one:?}"),
+        "AtomicBlockedBloomFilter { num_bits: 1024, num_hashes: 1, .. }"
     );
 }

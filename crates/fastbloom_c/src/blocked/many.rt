@@ -28,7 +28,7 @@ pub extern "C" fn fastbloom_blocked_insert_hashes(
 }
 
 // Whether there is a line, and bits enough for these hashes.
-fn have_room(words: usize, hashes: usize, bits: usize) -> bool
+pub(crate) fn have_room(words: usize, hashes: usize, bits: usize) -> bool
     ensures { IsTrue result ↔ ((8 ≤ words) × (hashes ≤ 64 * bits)) }
 {
     words >= LINE && hashes.div_ceil(64) <= bits

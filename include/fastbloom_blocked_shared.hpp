@@ -1,0 +1,249 @@
+// A blocked Bloom filter that threads share, for C++17 and later, over the library fastbloom_c.
+//
+//     auto made = fastbloom::shared_blocked_filter::make(1, 1000, 1'000'000);
+//     if (!made) std::puts(fastbloom::reason(made.status())), std::exit(1);
+//     const fastbloom::shared_blocked_filter &seen = *made;
+//     // in any thread, while others do the same:
+//     seen.insert("crab");   // false: this call set a bit
+//     seen.contains("crab"); // true
+//
+// Each call is const, also those that insert: any number of threads may make them at once, and none
+// waits for another. A move, a swap and the end of the filter are no such calls: no other thread
+// uses the filter meanwhile.
+//
+// A filter owns its words, or lies over words of the caller's: `over` takes them, in memory that
+// processes share. Then the caller keeps what fastbloom.h asks for: the words are aligned to 8, and
+// best to 64, stay where they are, and are touched by shared filters alone until the last call on
+// them has returned.
+#ifndef FASTBLOOM_BLOCKED_SHARED_HPP
+#define FASTBLOOM_BLOCKED_SHARED_HPP
+
+#include "fastbloom_blocked.hpp"
+
+namespace fastbloom {
+
+// A set of byte strings that threads share. It never misses a member, and now and then takes
+// something else for one.
+class shared_blocked_filter {
+public:
+    // No words: it contains nothing.
+    shared_blocked_filter() noexcept = default;
+
+    // The empty filter for this many items, where 0 counts as 1, at the rate num / den of false
+    // positives.
+    static result<shared_blocked_filter> make(std::uint64_t num, std::uint64_t den,
+                                              std::size_t items,
+                                              const key_bytes &key = {}) noexcept {
+        return owner_of(blocked_filter::make(num, den, items, key));
+    }
+
+    // The empty filter with this many lines of 512 bits, and hashes, where 0 hashes count as 1.
+    static result<shared_blocked_filter> with_lines(std::size_t num_lines, std::uint32_t num_hashes,
+                                                    const key_bytes &key = {}) noexcept {
+        return owner_of(blocked_filter::with_lines(num_lines, num_hashes, key));
+    }
+
+    // A plain filter that becomes shared, with its words.
+    explicit shared_blocked_filter(blocked_filter &&plain) noexcept : owned_(std::move(plain)) {
+        words_ = {owned_.words_, owned_.num_words_};
+        num_hashes_ = owned_.num_hashes_;
+        key_ = owned_.key_;
+    }
+
+    // The filter over these lines of the caller's, which it never frees. 0 hashes count as 1.
+    static result<shared_blocked_filter> over(std::uint64_t *words, std::size_t num_lines,
+                                              std::uint32_t num_hashes,
+                                              const key_bytes &key = {}) noexcept {
+        if (num_lines == 0) return status::empty_words;
+        if (num_lines > SIZE_MAX / 512) return status::too_many_words;
+        shared_blocked_filter made;
+        made.words_ = {words, 8 * num_lines};
+        made.num_hashes_ = num_hashes == 0 ? 1 : num_hashes;
+        made.key_ = key;
+        return made;
+    }
+
+    shared_blocked_filter(shared_blocked_filter &&other) noexcept { swap(other); }
+    shared_blocked_filter &operator=(shared_blocked_filter &&other) noexcept {
+        shared_blocked_filter(std::move(other)).swap(*this);
+        return *this;
+    }
+    shared_blocked_filter(const shared_blocked_filter &) = delete;
+    shared_blocked_filter &operator=(const shared_blocked_filter &) = delete;
+    ~shared_blocked_filter() = default;
+
+    void swap(shared_blocked_filter &other) noexcept {
+        owned_.swap(other.owned_);
+        std::swap(words_, other.words_);
+        std::swap(num_hashes_, other.num_hashes_);
+        std::swap(key_, other.key_);
+    }
+
+    // Inserts an item, and returns whether all its bits were found set. So it returns false exactly
+    // if this call set a bit itself. A null pointer is no text.
+    bool insert(std::string_view item) const noexcept { return insert(item.data(), item.size()); }
+    bool insert(std::nullptr_t) const = delete;
+    bool insert(const void *bytes, std::size_t size) const noexcept {
+        return fastbloom_blocked_shared_insert(words_, num_hashes_, key_.data(),
+                                               detail::not_null(bytes), size);
+    }
+
+    // Whether an item is contained, maybe by mistake. While no call clears bits, false means that
+    // no insert of it had returned when this call began.
+    bool contains(std::string_view item) const noexcept {
+        return contains(item.data(), item.size());
+    }
+    bool contains(std::nullptr_t) const = delete;
+    bool contains(const void *bytes, std::size_t size) const noexcept {
+        return fastbloom_blocked_shared_contains(words_, num_hashes_, key_.data(),
+                                                 detail::not_null(bytes), size);
+    }
+
+    // The hash of an item: SipHash-1-3 of its bytes under the key.
+    std::uint64_t hash(std::string_view item) const noexcept {
+        return hash(item.data(), item.size());
+    }
+    std::uint64_t hash(std::nullptr_t) const = delete;
+    std::uint64_t hash(const void *bytes, std::size_t size) const noexcept {
+        return fastbloom_hash(key_.data(), detail::not_null(bytes), size);
+    }
+
+    // The same by hash.
+    bool insert_hash(std::uint64_t hash) const noexcept {
+        return fastbloom_blocked_shared_insert_hash(words_, num_hashes_, hash);
+    }
+    bool contains_hash(std::uint64_t hash) const noexcept {
+        return fastbloom_blocked_shared_contains_hash(words_, num_hashes_, hash);
+    }
+
+    // Inserts each item of a range: a container or a view of what `insert` takes.
+    template <typename Items> void insert_range(Items &&items) const {
+        std::uint64_t hashes[256];
+        std::size_t count = 0;
+        for (const auto &item : items) {
+            hashes[count++] = hash(item);
+            if (count == 256) insert_hashes(hashes, std::exchange(count, 0));
+        }
+        insert_hashes(hashes, count);
+    }
+
+    // Inserts many hashes, which costs less than a call for each.
+    void insert_hashes(const std::uint64_t *hashes, std::size_t count) const noexcept {
+        if (count != 0) fastbloom_blocked_shared_insert_hashes(words_, num_hashes_, hashes, count);
+    }
+
+    // Calls on many hashes that tell of each, as those of `shared_filter`.
+    [[nodiscard]] bool contains_hashes(const std::uint64_t *hashes, std::size_t count,
+                                       std::uint64_t *found, std::size_t num_found) const noexcept {
+        return fastbloom_blocked_shared_contains_hashes(words_, num_hashes_,
+                                                        detail::not_null_words(hashes), count,
+                                                        detail::not_null_words(found), num_found);
+    }
+    [[nodiscard]] bool insert_hashes_tell_new(const std::uint64_t *hashes, std::size_t count,
+                                              std::uint64_t *fresh,
+                                              std::size_t num_fresh) const noexcept {
+        return fastbloom_blocked_shared_insert_hashes_tell_new(
+            words_, num_hashes_, detail::not_null_words(hashes), count,
+            detail::not_null_words(fresh), num_fresh);
+    }
+
+#ifdef __cpp_lib_span
+    bool insert(std::span<const std::byte> item) const noexcept {
+        return insert(item.data(), item.size());
+    }
+    bool contains(std::span<const std::byte> item) const noexcept {
+        return contains(item.data(), item.size());
+    }
+    std::uint64_t hash(std::span<const std::byte> item) const noexcept {
+        return hash(item.data(), item.size());
+    }
+    bool insert(std::span<const std::uint8_t> item) const noexcept {
+        return insert(item.data(), item.size());
+    }
+    bool contains(std::span<const std::uint8_t> item) const noexcept {
+        return contains(item.data(), item.size());
+    }
+    std::uint64_t hash(std::span<const std::uint8_t> item) const noexcept {
+        return hash(item.data(), item.size());
+    }
+    void insert_hashes(std::span<const std::uint64_t> hashes) const noexcept {
+        insert_hashes(hashes.data(), hashes.size());
+    }
+    [[nodiscard]] bool contains_hashes(std::span<const std::uint64_t> hashes,
+                                       std::span<std::uint64_t> found) const noexcept {
+        return contains_hashes(hashes.data(), hashes.size(), found.data(), found.size());
+    }
+    [[nodiscard]] bool insert_hashes_tell_new(std::span<const std::uint64_t> hashes,
+                                              std::span<std::uint64_t> fresh) const noexcept {
+        return insert_hashes_tell_new(hashes.data(), hashes.size(), fresh.data(), fresh.size());
+    }
+#endif
+
+    // Removes every item, one word after the other.
+    void clear() const noexcept { fastbloom_shared_clear(words_); }
+
+    // Whether both have as many words and hashes, and the same key.
+    bool same_shape(const shared_blocked_filter &other) const noexcept {
+        return words_.num_words == other.words_.num_words && num_hashes_ == other.num_hashes_ &&
+               key_ == other.key_;
+    }
+
+    // Takes the items of the other in, or keeps only what may be in both, one word after the other.
+    // They return false, and change nothing, where the shapes differ or there are no words.
+    [[nodiscard]] bool unite(const shared_blocked_filter &other) const noexcept {
+        return same_shape(other) && fastbloom_shared_union(words_, other.words_);
+    }
+    [[nodiscard]] bool intersect(const shared_blocked_filter &other) const noexcept {
+        return same_shape(other) && fastbloom_shared_intersect(words_, other.words_);
+    }
+
+    // The same as operators, which answer likewise.
+    [[nodiscard]] bool operator|=(const shared_blocked_filter &other) const noexcept {
+        return unite(other);
+    }
+    [[nodiscard]] bool operator&=(const shared_blocked_filter &other) const noexcept {
+        return intersect(other);
+    }
+
+    // Takes the items out into a plain filter: each word is read and cleared by one operation, so
+    // no bit that another thread sets meanwhile is lost.
+    result<blocked_filter> take() const noexcept {
+        auto made = blocked_filter::with_lines(num_lines(), num_hashes_, key_);
+        if (made && !fastbloom_shared_take(words_, made->words_, made->num_words_))
+            return status::empty_words;
+        return made;
+    }
+
+    // A plain filter with the words as they are loaded, one after the other.
+    result<blocked_filter> load() const noexcept {
+        auto made = blocked_filter::with_lines(num_lines(), num_hashes_, key_);
+        if (made && !fastbloom_shared_load(words_, made->words_, made->num_words_))
+            return status::empty_words;
+        return made;
+    }
+
+    std::size_t num_lines() const noexcept { return words_.num_words / 8; }
+    std::size_t num_words() const noexcept { return words_.num_words; }
+    std::size_t num_bits() const noexcept { return fastbloom_num_bits(words_.num_words); }
+    std::uint32_t num_hashes() const noexcept { return num_hashes_; }
+    const key_bytes &key() const noexcept { return key_; }
+
+    // How many bits are set, of the words as they are loaded.
+    std::size_t count_ones() const noexcept { return fastbloom_shared_count_ones(words_); }
+
+private:
+    static result<shared_blocked_filter> owner_of(result<blocked_filter> made) noexcept {
+        if (!made) return made.status();
+        return shared_blocked_filter(*std::move(made));
+    }
+
+    // It has no words where they are the caller's.
+    blocked_filter owned_;
+    fastbloom_shared words_{nullptr, 0};
+    std::uint32_t num_hashes_ = 1;
+    key_bytes key_{};
+};
+
+} // namespace fastbloom
+
+#endif
