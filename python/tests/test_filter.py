@@ -311,9 +311,9 @@ class Sizes(unittest.TestCase):
         self.assertEqual(seen, before)
 
     def test_each_refusal_has_a_text(self):
-        texts = [str(Refusal(code)) for code in range(17)]
-        self.assertEqual(len(set(texts)), 16)
-        self.assertEqual((texts[0], texts[16]), ("an unknown refusal",) * 2)
+        texts = [str(Refusal(code)) for code in range(20)]
+        self.assertEqual(len(set(texts)), 19)
+        self.assertEqual((texts[0], texts[19]), ("an unknown refusal",) * 2)
         self.assertEqual((texts[1], texts[6]), ("zero bits", "no memory"))
         self.assertEqual((texts[8], texts[15]), ("no worker", "input failed"))
 

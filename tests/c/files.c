@@ -79,7 +79,7 @@ static void texts(void) {
     unsigned unknown = 0;
     for (int code = 0; code < 256; code++)
         unknown += strcmp(fastbloom_strerror((uint8_t)code), "an unknown refusal") == 0;
-    CHECK(unknown == 256 - 20);
+    CHECK(unknown == 256 - 23);
 }
 
 /* What is saved is loaded and mapped again. What is written into a copy stays in it. */

@@ -1,6 +1,6 @@
 //! Files of filters: the worked file, what is refused, and odd readers and writers.
 
-mod lines;
+mod in_lines;
 mod refused;
 mod streams;
 

@@ -167,7 +167,7 @@ fn files_are_refused_each_for_its_reason() {
             count += 1;
         }
     }
-    assert_eq!(count, 33);
+    assert_eq!(count, 34);
 }
 
 #[test]
