@@ -1,9 +1,11 @@
-"""What calls of a `SharedFilter` on buffers cost by one thread and by more: `bench.py [HASHES
-[THREADS [ROUNDS [HASHES_PER_CALL]]]]`.
+"""What calls of a `SharedFilter` on many items cost by one thread and by more: `bench.py [ITEMS
+[THREADS [ROUNDS [ITEMS_PER_CALL]]]]`.
 
-Each line has the call, the threads, and the millions of hashes a second, of all rounds the best.
-Every thread has hashes of its own, so that all threads together handle as many. The last line of a
-call is its gain by threads. A filter has ten bits for each hash, and seven positions.
+Each line has the call, the threads, and the millions of items a second, of all rounds the best.
+`update` and `contains_many` are given lists of buffers, of eight bytes each, and `in` one buffer at
+a time; `add_hashes` and `contains_hashes` are given buffers of hashes. Every thread has items of
+its own, so that all threads together handle as many. The last line of a call is its gain by
+threads. A filter has ten bits for each item, and seven positions.
 """
 
 import array
@@ -13,9 +15,8 @@ import time
 
 from fastbloom import SharedFilter
 
-HASHES, THREADS, ROUNDS, AT_ONCE = (
+ITEMS, THREADS, ROUNDS, AT_ONCE = (
     [int(word) for word in sys.argv[1:]] + [1_000_000, 4, 5, 65_536][len(sys.argv) - 1:])
-KEY = bytes(16)
 
 
 def spread(count):
@@ -29,24 +30,23 @@ def spread(count):
     return hashes
 
 
-def seconds(call, hashes, threads):
-    """How long threads take for all hashes together, each for a part of its own.
+def seconds(call, pieces, threads):
+    """How long threads take for all pieces together, each for a part of its own.
 
     It is from the first thread's begin to the last one's end, as they tell it.
     """
-    part, times = len(hashes) // threads, []
+    part, times = len(pieces) // threads, []
     begin = threading.Barrier(threads)
 
-    def run(first):
-        pieces = [hashes[at:min(at + AT_ONCE, first + part)]
-                  for at in range(first, first + part, AT_ONCE)]
+    def run(mine):
         begin.wait()
         began = time.perf_counter()
-        for piece in pieces:
+        for piece in mine:
             call(piece)
         times.append((began, time.perf_counter()))
 
-    workers = [threading.Thread(target=run, args=(part * me,)) for me in range(threads)]
+    workers = [threading.Thread(target=run, args=(pieces[part * me:part * (me + 1)],))
+               for me in range(threads)]
     for worker in workers:
         worker.start()
     for worker in workers:
@@ -55,22 +55,29 @@ def seconds(call, hashes, threads):
 
 
 def main():
-    hashes = spread(HASHES // THREADS * THREADS)
+    pieces = max(THREADS, ITEMS // AT_ONCE // THREADS * THREADS)
+    size = ITEMS // pieces
+    hashes = spread(pieces * size)
+    buffers_of_hashes = [hashes[size * at:size * (at + 1)] for at in range(pieces)]
+    lists = [[word.to_bytes(8, "little") for word in piece] for piece in buffers_of_hashes]
     seen = SharedFilter.over(bytearray((len(hashes) * 10 + 63) // 64 * 8), 7)
 
-    def add(piece):
-        seen.add_hashes(piece)
-
     def look(piece):
-        seen.contains_hashes(piece)
+        for item in piece:
+            item in seen
 
-    for name, call, clears in (("add_hashes", add, True), ("contains_hashes", look, False)):
+    for name, call, given, clears in (
+            ("update", seen.update, lists, True),
+            ("contains_many", seen.contains_many, lists, False),
+            ("in", look, lists, False),
+            ("add_hashes", seen.add_hashes, buffers_of_hashes, True),
+            ("contains_hashes", seen.contains_hashes, buffers_of_hashes, False)):
         best = {}
         for _ in range(ROUNDS):
             for threads in (1, THREADS):
                 if clears:
                     seen.clear()
-                took = seconds(call, hashes, threads)
+                took = seconds(call, given, threads)
                 best[threads] = min(took, best.get(threads, took))
         for threads, took in best.items():
             print(f"{name} {threads} {len(hashes) / took / 1e6:.2f}")
