@@ -7,7 +7,7 @@ use super::AtomicBloomFilter;
 use bloom_steps::Call;
 
 impl<S> AtomicBloomFilter<S> {
-    /// Turns every position off, one word after the other.
+    /// Clears every position, one word after the other.
     pub fn clear(&self)
         ensures { MakesCall self.now self.now call.Clear None }
     {
@@ -21,8 +21,8 @@ impl<S> AtomicBloomFilter<S> {
         self.words.len() == other.words.len() && self.num_hashes == other.num_hashes
     }
 
-    /// Turns on what is found on in the other, one word after the other. The hashers aren't looked
-    /// at. A filter may be its own other.
+    /// Sets what is found set in the other, one word after the other. The hashers aren't looked at.
+    /// A filter may be its own other.
     ///
     /// ```
     /// bloom.insert_hash(1);
@@ -37,8 +37,8 @@ impl<S> AtomicBloomFilter<S> {
         self.make(other, Call::Union);
     }
 
-    /// Turns off what is found off in the other, one word after the other. The hashers aren't
-    /// looked at. A filter may be its own other.
+    /// Clears what is found clear in the other, one word after the other. The hashers aren't looked
+    /// at. A filter may be its own other.
     ///
     /// ```
     /// bloom.insert_hash(1);
