@@ -146,7 +146,7 @@ impl GrowingFilter {
         Ok(())
     }
 
-    // Inserts a hash that no older filter contains into the newest, which has room, and answers
+    // Inserts a hash that no older filter contains into the newest, which has room, and returns
     // whether that one contained it. If not, it counts as new.
     #[inline(always)]
     fn add(&mut self, hash: u64) -> bool
@@ -163,7 +163,7 @@ impl GrowingFilter {
         false
     }
 
-    /// Inserts a hash unless one of the filters contains it, and answers whether one does.
+    /// Inserts a hash unless one of the filters contains it, and returns whether one does.
     ///
     /// # Errors
     /// Only where the next filter has to begin, and then nothing changes: `RateOverflow` where its
@@ -200,7 +200,8 @@ impl GrowingFilter {
         Ok(self.add(hash))
     }
 
-    /// Whether one of the filters contains a hash: false means that it was never inserted.
+    /// Whether one of the filters contains a hash. True may be a false positive; false means that
+    /// the hash was never inserted.
     #[inline]
     pub fn contains_hash(&self, hash: u64) -> bool
         ensures { result ≡ has self.now hash }

@@ -13,7 +13,7 @@ use bloom_parts::error::FilterError;
 use std::alloc::Global;
 
 impl<S> BloomFilter<S> {
-    /// Turns every position off.
+    /// Clears every position.
     pub fn clear(&mut self)
         ensures clears { Clears self.old self.new }
         // The clear as a list of this one command.
@@ -29,7 +29,7 @@ impl<S> BloomFilter<S> {
         self.bits.len() == other.bits.len() && self.num_hashes == other.num_hashes
     }
 
-    /// Turns on every position that is on in the other. The hashers aren't looked at.
+    /// Sets every position that is set in the other. The hashers aren't looked at.
     ///
     /// ```
     /// bloom.insert_hash(1);
@@ -47,7 +47,7 @@ impl<S> BloomFilter<S> {
         self.bits.union(&other.bits);
     }
 
-    /// Turns off every position that is off in the other. The hashers aren't looked at.
+    /// Clears every position that is clear in the other. The hashers aren't looked at.
     ///
     /// ```
     /// bloom.insert_hash(1);
