@@ -68,6 +68,11 @@ impl BlockedBloomFilter {
     /// # Errors
     /// `ZeroBits` for no bits, `TooManyWords` for more than 2^58 - 8 words, and `Memory` where
     /// there is no room for them.
+    ///
+    /// ```
+    /// let builder = BlockedBloomFilter::with_num_bits(alloc, 1000)?; // 1024 bits, two lines
+    /// let bloom = builder.hashes(4);
+    /// ```
     pub fn with_num_bits(
         alloc: Global,
         num_bits: usize,

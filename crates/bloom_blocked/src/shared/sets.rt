@@ -88,8 +88,8 @@ impl<S> AtomicBlockedBloomFilter<S> {
         Ok(self.take_into(room))
     }
 
-    // Takes the words out, each in place of one number. No memory can be asked for here, so nothing
-    // is refused once a word is taken.
+    // Takes the words out, each over one number of the room. No memory can be asked for here, so
+    // nothing is refused once a word is taken.
     fn take_into(&self, room: Vec<u64>) -> Vec<u64>
         requires { length room.items ≡ self.now.words.count }
         ensures { TakesWordsOf self.now.words self.now.hashes result.items }
