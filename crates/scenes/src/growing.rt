@@ -17,7 +17,7 @@ const FILTERS: &'static [(usize, usize, usize, u32)] = &[
     (56, 64, 704, 8),
 ];
 
-// Whether the newest filter is that of its row, once so many new hashes came.
+// Whether the newest filter is that of its row, once this many new hashes came.
 fn is_grown(filter: &GrowingFilter, new: usize) -> bool {
     let Some((before, room, bits, hashes)) = FILTERS.get(filter.older().len()) else {
         return false;
