@@ -78,8 +78,8 @@ fn filter_of(alloc: Global, word: u64) -> Result<AtomicBloomFilter, FilterError>
     AtomicBloomFilter::from_vec(vec![in alloc; word]?)?.hashes(alloc, 1)
 }
 
-// Whether look-ups of a position return the truth each time that it is set and cleared. The
-// position of a hash among 64 is its six highest bits.
+// Whether a look-up of a position is right each time that it is set and cleared. The position of a
+// hash among 64 is its six highest bits.
 fn is_always_flipped(
     alloc: Global,
     filter: &AtomicBloomFilter,
