@@ -156,6 +156,11 @@ impl<S> BlockedBloomFilter<S> {
     }
 
     /// Sets bit i of `found` where hash i is contained, and clears every other bit.
+    ///
+    /// ```
+    /// let mut found = [0u64];
+    /// bloom.contains_hashes(&[3, 5], &mut found); // bit 1 of `found` tells of hash 5
+    /// ```
     pub fn contains_hashes(&self, hashes: &[u64], found: &mut [u64])
         requires room { length hashes.now ≤ 64 * length found.old }
         ensures found { TellsFound (num_lines_of self.now) self.now.hashes

@@ -70,6 +70,11 @@ impl GrowingFilter {
     ///
     /// # Errors
     /// Those of `insert_hash`.
+    ///
+    /// ```
+    /// let mut seen = GrowingFilter::new(alloc, Rate::new(1, 1000)?, 1000)?;
+    /// let before = seen.insert(alloc, &"crab")?; // false, in a new filter
+    /// ```
     pub fn new(alloc: Global, rate: Rate, items: usize) -> Result<Self, GrowingError>
         ensures begun { IfOk result (λ g. IsBegun (plan_of rate (max 1 items) g.plan.hasher) g) }
         ensures key { IfOk result (λ g. HasKey g.plan.hasher 0 0) }

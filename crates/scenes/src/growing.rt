@@ -38,7 +38,7 @@ fn takes(alloc: Global, filter: &mut GrowingFilter, hash: u64, new: &mut usize) 
     is_grown(filter, *new) & filter.contains_hash(hash)
 }
 
-// Whether that is so after each of a hundred hashes, and the newest is the fourth in the end. An
+// Whether this holds after each of a hundred hashes, and the newest is the fourth in the end. An
 // item that goes in is found, too.
 fn grows(alloc: Global) -> Result<bool, GrowingError> {
     let mut filter = GrowingFilter::new(alloc, Rate::new(1, 10)?, 8)?;

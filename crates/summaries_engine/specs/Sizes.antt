@@ -1,5 +1,5 @@
--- The shape of a filter for some keys at a rate of mistakes: that of the filter which the builders
--- of the library make.
+-- The shape of a filter for some keys at a rate of false positives: that of the filter which the
+-- builders of the library make.
 use Rattle.std.specs.Prelude.{◌≡◌, ℕ, ◌*◌, max, Option}
 use Rattle.bloom_parts.specs.declared.error.FilterError.{FilterError}
 use Rattle.bloom_parts.specs.declared.math.rate.Rate.{Rate}

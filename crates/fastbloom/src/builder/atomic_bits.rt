@@ -64,6 +64,11 @@ impl AtomicBloomFilter {
     /// # Errors
     /// `ZeroBits` for no bits, `TooManyWords` for more than 2^58 - 1 words, and else `Memory` where
     /// there is no room for them.
+    ///
+    /// ```
+    /// let builder = AtomicBloomFilter::with_num_bits(alloc, 1000)?; // 1024 bits, whole words
+    /// let bloom = builder.hashes(alloc, 4)?;
+    /// ```
     pub fn with_num_bits(
         alloc: Global,
         num_bits: usize,
