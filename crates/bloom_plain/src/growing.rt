@@ -83,7 +83,7 @@ impl GrowingFilter {
         GrowingFilter::with_hasher(alloc, rate, items, DefaultHasher::default())
     }
 
-    /// The same with the key of a seed, which is its sixteen big-endian bytes.
+    /// A filter as `new` makes it, under the key of a seed, which is its sixteen big-endian bytes.
     ///
     /// # Errors
     /// Those of `insert_hash`.

@@ -14,15 +14,16 @@ impl<S> AtomicBloomFilter<S> {
         self.make(self, Call::Clear);
     }
 
-    /// Whether numbers of words and of hashes are equal. The hashers aren't looked at.
+    /// Whether both filters have equal numbers of words and of hashes. The hashers aren't compared.
     pub fn same_shape(&self, other: &Self) -> bool
         ensures { IsTrue result ↔ HaveSameShape self.now other.now }
     {
         self.words.len() == other.words.len() && self.num_hashes == other.num_hashes
     }
 
-    /// Sets what is found set in the other, one word after the other. The hashers aren't looked at.
-    /// A filter may be its own other.
+    /// Sets every position that is found set in the other filter, one word after the other. Both
+    /// have one shape, as `same_shape` tests. The hashers aren't compared. A filter may be its own
+    /// other.
     ///
     /// ```
     /// bloom.insert_hash(1);
@@ -37,8 +38,9 @@ impl<S> AtomicBloomFilter<S> {
         self.make(other, Call::Union);
     }
 
-    /// Clears what is found clear in the other, one word after the other. The hashers aren't looked
-    /// at. A filter may be its own other.
+    /// Clears every position that is found clear in the other filter, one word after the other.
+    /// Both have one shape, as `same_shape` tests. The hashers aren't compared. A filter may be its
+    /// own other.
     ///
     /// ```
     /// bloom.insert_hash(1);

@@ -31,7 +31,7 @@ impl<S> AtomicBloomFilter<S> {
     }
 
     /// Whether both filters have equal numbers of words and of hashes, and equal words. The words
-    /// are loaded one after the other, up to the first that differ. The hashers aren't looked at.
+    /// are loaded one after the other, up to the first that differ. The hashers aren't compared.
     pub fn same_words(&self, other: &Self) -> bool
         ensures { MatchBool result (WereFoundAlike self.now other.now)
             ((HaveSameShape self.now other.now → ⊥) ⊎ WereFoundToDiffer self.now other.now) }
