@@ -103,13 +103,13 @@ pub fn bits_and_hasher<S: Drop>(builder: BuilderWithBits<S>) -> (BitVec, S)
 impl BloomFilter {
     /// A builder of a filter of at least this many bits, all clear, under the zero key.
     ///
-    /// # Errors
-    /// `ZeroBits` for no bits, `TooManyWords` for more than 2^58 - 1 words, and `Memory` where
-    /// there is no room for them.
-    ///
     /// ```
     /// let bloom = BloomFilter::with_num_bits(alloc, 1000)?.hashes(4); // 1024 bits, whole words
     /// ```
+    ///
+    /// # Errors
+    /// `ZeroBits` for no bits, `TooManyWords` for more than 2^58 - 1 words, and `Memory` where
+    /// there is no room for them.
     pub fn with_num_bits(alloc: Global, num_bits: usize) -> Result<BuilderWithBits, FilterError>
         ensures words { IfOk result (λ builder.
             builder.words ≡ replicate (words_for num_bits) 0) }

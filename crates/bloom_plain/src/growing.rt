@@ -68,13 +68,13 @@ impl GrowingFilter {
     /// A filter for this many items at first, where 0 counts as 1, under the zero key. However many
     /// come, the rates of all its filters sum to less than this one.
     ///
-    /// # Errors
-    /// Those of `insert_hash`.
-    ///
     /// ```
     /// let mut seen = GrowingFilter::new(alloc, Rate::new(1, 1000)?, 1000)?;
     /// let before = seen.insert(alloc, &"crab")?; // false, in a new filter
     /// ```
+    ///
+    /// # Errors
+    /// Those of `insert_hash`.
     pub fn new(alloc: Global, rate: Rate, items: usize) -> Result<Self, GrowingError>
         ensures begun { IfOk result (λ g. IsBegun (plan_of rate (max 1 items) g.plan.hasher) g) }
         ensures key { IfOk result (λ g. HasKey g.plan.hasher 0 0) }

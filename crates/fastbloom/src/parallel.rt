@@ -25,14 +25,14 @@ use std::thread::Threads;
 ///
 /// The call waits for its threads, and returns once each has passed the gate and ended.
 ///
-/// # Errors
-/// `Memory` where there is no room for the filters of the workers, before a thread is started, and
-/// else `Worker` where a thread can't be started, after those that were have ended.
-///
 /// ```
 /// let shape = Shape::new(1_000_000, 7)?;
 /// let bloom = fill(rt, alloc, gate, shape, parts)?; // a thread for each part
 /// ```
+///
+/// # Errors
+/// `Memory` where there is no room for the filters of the workers, before a thread is started, and
+/// else `Worker` where a thread can't be started, after those that were have ended.
 pub fn fill<R: Threads, G: Gate + Send + Sync + Drop + 'static>(
     rt: &R,
     alloc: Global,

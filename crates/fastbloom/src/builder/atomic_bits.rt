@@ -61,14 +61,14 @@ fn filter_of<S: Drop>(
 impl AtomicBloomFilter {
     /// A builder of a filter of at least this many bits, all clear, under the zero key.
     ///
-    /// # Errors
-    /// `ZeroBits` for no bits, `TooManyWords` for more than 2^58 - 1 words, and else `Memory` where
-    /// there is no room for them.
-    ///
     /// ```
     /// let builder = AtomicBloomFilter::with_num_bits(alloc, 1000)?; // 1024 bits, whole words
     /// let bloom = builder.hashes(alloc, 4)?;
     /// ```
+    ///
+    /// # Errors
+    /// `ZeroBits` for no bits, `TooManyWords` for more than 2^58 - 1 words, and else `Memory` where
+    /// there is no room for them.
     pub fn with_num_bits(
         alloc: Global,
         num_bits: usize,

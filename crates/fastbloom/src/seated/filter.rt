@@ -46,14 +46,14 @@ impl SeatedBloomFilter {
     /// A filter of these words, and all the passes that it will have. Zero hashes and zero passes
     /// count as 1.
     ///
-    /// # Errors
-    /// `EmptyWords` for no words, `TooManyWords` for more than 2^58 - 1, and else `Memory` where
-    /// there is no room for the shared words or for the passes.
-    ///
     /// ```
     /// let words = vec![in alloc; 0u64; 1024]?;
     /// let (bloom, passes) = SeatedBloomFilter::new(alloc, words, 4, 2)?; // for two threads
     /// ```
+    ///
+    /// # Errors
+    /// `EmptyWords` for no words, `TooManyWords` for more than 2^58 - 1, and else `Memory` where
+    /// there is no room for the shared words or for the passes.
     pub fn new(
         alloc: Global,
         words: Vec<u64>,
