@@ -6,7 +6,7 @@ use crate::table::{Made, Measured, Rows};
 use fastbloom::{BlockedBloomFilter, FilterError};
 use std::alloc::Global;
 
-// Inserts hashes one by one, and counts the answers that were true.
+// Inserts hashes one by one, and counts the inserts that returned true.
 #[inline(never)]
 fn insert_each(filter: &mut BlockedBloomFilter, hashes: &[u64]) -> u64 {
     let mut answers: u64 = 0;
@@ -43,7 +43,7 @@ fn contains_many(filter: &BlockedBloomFilter, hashes: &[u64], found: &mut [u64])
     answers
 }
 
-// Puts the hashes of the keys from the first on in the place of others.
+// Replaces all hashes by those of the keys from the first on.
 fn put_hashes(hashes: &mut Vec<u64>, first: u64) {
     'hashes: for i in 0..hashes.len() {
         hashes[i] = hash_of(first.wrapping_add(i as u64));

@@ -19,7 +19,7 @@ impl Gate for Open {
     fn pass(&self, _worker: usize) {}
 }
 
-// The hashes of the keys, cut into this many parts.
+// The hashes of the keys, split into this many parts.
 fn parts_of(alloc: Global, keys: u64, parts: u64) -> Result<Vec<Vec<u64>>, AllocError> {
     let size = keys.checked_div(parts).unwrap_or(0);
     let mut cut = Vec::new(alloc);

@@ -191,7 +191,7 @@ impl Measured for Kernels {
         Ok(())
     }
 
-    // A round goes over 2^20 words. The answers tell how often the words were found equal.
+    // A round goes over 2^20 words. The result tells how often the words were found equal.
     fn make(&mut self, kernel: Kernel, words: u32, _round: u32) -> anyhow::Result<Made> {
         let times = if self.keys == 0 {
             0

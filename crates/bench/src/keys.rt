@@ -18,7 +18,7 @@ pub fn first_foreign_key(keys: u64, round: u32) -> u64 {
     keys.wrapping_mul(round as u64).wrapping_add(1 << 40)
 }
 
-/// Looks up this many keys from the first on, and counts the answers that were true.
+/// Looks up this many keys from the first on, and counts the look-ups that returned true.
 #[inline(never)]
 pub fn contains_keys(filter: &BloomFilter, first: u64, keys: u64) -> u64 {
     let mut answers: u64 = 0;

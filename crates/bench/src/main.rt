@@ -1,7 +1,7 @@
 //! Measures the calls of a filter: `bench [KEYS [ROUNDS [WORD]]]`, those whose row has the word in
 //! its name.
 //!
-//! Each row of the table is one call. A round makes it many times, its answers are counted, and the
+//! Each row of the table is one call. A round makes it many times and counts its results, and the
 //! best round tells what one operation costs.
 #![tactic(auto)]
 

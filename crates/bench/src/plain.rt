@@ -6,7 +6,7 @@ use crate::table::{Made, Measured, Rows};
 use fastbloom::{BloomFilter, FilterData, FilterError};
 use std::alloc::{AllocError, Global};
 
-// The answers of `source_hash` are counted by their lowest bit.
+// The results of `source_hash` are counted by their lowest bit.
 #[inline(never)]
 fn hash_numbers(filter: &BloomFilter, keys: u64) -> u64 {
     let mut answers: u64 = 0;
@@ -79,7 +79,7 @@ fn count_odd(filter: &BloomFilter) -> u64 {
     odd
 }
 
-/// Inserts this many keys, and counts the answers that were true.
+/// Inserts this many keys, and counts the inserts that returned true.
 #[inline(never)]
 pub fn insert_keys(filter: &mut BloomFilter, keys: u64) -> u64 {
     let mut answers: u64 = 0;
@@ -229,7 +229,7 @@ pub struct Calls {
 }
 
 impl Calls {
-    // What the answers of a call that gives nothing else come to.
+    // The count of the results of a call that gives nothing else.
     fn count_answers(&mut self, call: Call, round: u32) -> u64 {
         let (keys, texts) = (self.keys as u64, self.texts.as_slice());
         match call {

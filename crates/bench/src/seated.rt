@@ -25,7 +25,7 @@ impl Model for Seat {
 }
 
 impl Seat {
-    /// Inserts this many keys from the first on, and counts the answers that were true.
+    /// Inserts this many keys from the first on, and counts the inserts that returned true.
     #[inline(never)]
     pub fn insert_keys(&mut self, first: u64, keys: u64) -> u64 {
         let (filter, pass): (&SeatedBloomFilter, _) = (&self.filter, &mut self.pass);
@@ -37,7 +37,7 @@ impl Seat {
         answers
     }
 
-    /// Looks up this many keys from the first on, and counts the answers that were true.
+    /// Looks up this many keys from the first on, and counts the look-ups that returned true.
     #[inline(never)]
     pub fn contains_keys(&mut self, first: u64, keys: u64) -> u64 {
         let (filter, pass): (&SeatedBloomFilter, _) = (&self.filter, &mut self.pass);

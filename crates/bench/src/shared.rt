@@ -9,7 +9,7 @@ use fastbloom::{AtomicBloomFilter, FilterError};
 use std::alloc::{AllocError, Global};
 use std::sync::atomic::{AtomicU64, Ordering};
 
-/// Inserts this many keys from the first on, and counts the answers that were true.
+/// Inserts this many keys from the first on, and counts the inserts that returned true.
 #[inline(never)]
 pub fn insert_keys(filter: &AtomicBloomFilter, first: u64, keys: u64) -> u64 {
     let mut answers: u64 = 0;
@@ -20,7 +20,7 @@ pub fn insert_keys(filter: &AtomicBloomFilter, first: u64, keys: u64) -> u64 {
     answers
 }
 
-/// Looks up this many keys from the first on, and counts the answers that were true.
+/// Looks up this many keys from the first on, and counts the look-ups that returned true.
 #[inline(never)]
 pub fn contains_keys(filter: &AtomicBloomFilter, first: u64, keys: u64) -> u64 {
     let mut answers: u64 = 0;
@@ -201,7 +201,7 @@ pub struct Calls {
 }
 
 impl Calls {
-    // What the answers of a call that gives nothing else come to.
+    // The count of the results of a call that gives nothing else.
     fn count_answers(&self, call: Call, round: u32) -> u64 {
         let (keys, filter) = (self.keys as u64, &self.filter);
         match call {

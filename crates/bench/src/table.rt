@@ -74,7 +74,7 @@ struct Row {
 }
 
 impl Row {
-    // Takes in a round: what its answers came to, and how long it took.
+    // Takes in a round: the count of its results, and how long it took.
     fn add(&mut self, answers: u64, time: Duration) {
         self.answers = answers;
         let time = time.as_nanos();
@@ -98,7 +98,7 @@ impl Row {
     }
 }
 
-// Measures a row in so many rounds, and prints it.
+// Measures a row in this many rounds, and prints it.
 fn measure<M: Measured>(
     rt: &HostRuntime,
     rounds: u32,
@@ -116,8 +116,8 @@ fn measure<M: Measured>(
     Ok(row.print(rt)?)
 }
 
-/// The rows of a call: the call, their name, their numbers, what an operation is for, and what its
-/// answers count. A number is that of hashes, or of what the name tells before a colon.
+/// The rows of a call: the call, their name, their numbers, what an operation is for, and what is
+/// counted of its results. A number is that of hashes, or of what the name tells before a colon.
 pub type Rows<C> = (C, &'static str, &'static [u32], Unit, &'static str);
 
 // Measures the rows of these calls that are wanted.

@@ -30,7 +30,8 @@ trait Worker {
     // A worker for each thread, all of one empty filter.
     fn all(alloc: Global, keys: u32, threads: u32) -> Result<Vec<Self>, FilterError>;
 
-    // Inserts or looks up this many keys from the first on, and counts the answers that were true.
+    // Inserts or looks up this many keys from the first on, and counts the calls that returned
+    // true.
     fn work(&mut self, job: Job, first: u64, keys: u64) -> u64;
 }
 
@@ -61,7 +62,7 @@ impl Worker for Seat {
     }
 }
 
-// What a thread promises of its count of answers and of its worker: nothing.
+// What a thread promises of its count of results and of its worker: nothing.
 #[derive(Drop)]
 struct Anything;
 
@@ -104,7 +105,7 @@ fn workers_for<W: Worker + Drop>(
     Ok(workers)
 }
 
-// One round: each worker takes this many keys of its own, in a thread. The answers that were true
+// One round: each worker takes this many keys of its own, in a thread. The calls that returned true
 // are counted once all threads are at work.
 fn round_of<R: Threads, W: Worker + Send + Drop + 'static>(
     rt: &R,

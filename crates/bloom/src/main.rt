@@ -1,4 +1,4 @@
-//! A Bloom filter that answers commands, one a line.
+//! A Bloom filter that replies to commands, one a line.
 #![tactic(auto)]
 
 ghost use Rattle.std.specs.Prelude.{◌≡◌, ◌≢◌, ◌^◌, ◌≤◌, ◌⊎◌, IfOk, IfErr, IsOkUnless, max, replicate};

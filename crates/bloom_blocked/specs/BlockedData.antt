@@ -23,14 +23,14 @@ pub record IsLineDataOf (form : BlockedFilterData) (f : DefaultFilter) : Type 0 
   pub hashes : f.hashes ≡ form.num_hashes_minus_one + 1
   pub key : key_of f.hasher ≡ (form.k0, form.k1)
 
--- two filters have equal words, numbers of hashes and keys, and answer every hash alike
+-- two filters have equal words, numbers of hashes and keys, and contain the same hashes
 pub record AnswerAlikeInLines (f g : DefaultFilter) : Type 0 where
   pub words : g.words ≡ f.words
   pub hashes : g.hashes ≡ f.hashes
   pub key : key_of g.hasher ≡ key_of f.hasher
   pub found : (hash : ℕ) → contains_in_line g hash ≡ contains_in_line f hash
 
--- two filters of the same data answer alike
+-- two filters of the same data contain the same hashes
 abbrev pub LineDataLaw : Type 0
 LineDataLaw = (f g : DefaultFilter) (form : BlockedFilterData)
     → IsLineDataOf form f → IsLineDataOf form g → AnswerAlikeInLines f g

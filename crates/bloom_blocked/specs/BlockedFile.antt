@@ -28,7 +28,7 @@ pub record ReadsLineFile (old new : Option (List ℕ)) (f : DefaultFilter) : Typ
   pub is_file : IsLineFileOf bytes f
   pub end : IsAtEnd new
 
--- two filters of one file answer alike
+-- two filters of one file contain the same hashes
 abbrev pub LineFileLaw : Type 0
 LineFileLaw = (bytes : List ℕ) (f g : DefaultFilter) → IsLineFileOf bytes f → IsLineFileOf bytes g
     → AnswerAlikeInLines f g

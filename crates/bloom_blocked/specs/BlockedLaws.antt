@@ -4,7 +4,7 @@ use Rattle.bloom_plain.specs.Filter.{Filter, SameShape, Clears, Unites, Intersec
 use Rattle.bloom_plain.specs.Laws.{SameContent}
 use Rattle.bloom_blocked.specs.Blocked.{HasBlockedShape, contains_in_line, InsertsInLine, InsertsAllInLines}
 
--- an insert answers what a look-up just before it would have, and afterwards its hash is contained
+-- an insert returns what a look-up just before it would have, and afterwards its hash is contained
 abbrev pub InsertInLineLaw : (S : Type 0) → Type 0
 InsertInLineLaw S = (old new : Filter S) (hash : ℕ) (reply : Bool)
     → InsertsInLine old hash new reply

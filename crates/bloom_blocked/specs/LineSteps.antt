@@ -33,7 +33,7 @@ IsMadeFrom vector start before step found after =
     IsMade vector vector before (step_from start step) found after
 
 -- a hash was looked up in its line: every step of a script of a look-up of the inner hash, in eight
--- words, was made there, from turn to turn, and the reply is the script's answer
+-- words, was made there, from turn to turn, and the reply is that of the script
 pub record LooksInLine (vector : SharedWords) (k hash : ℕ) (reply : Bool) : Type 0 where
   pub taken : List Taken
   pub script : IsScript 8 k (Contains (inner_of hash)) taken
@@ -60,7 +60,7 @@ SetsMasks vector start mask found (suc n) before after = (mid : ℕ)
 abbrev pub HasAll : ℕ → ℕ → Type 0
 HasAll word mask = (b : ℕ) → b < 64 → bit_at mask b ≡ 1 → bit_at word b ≡ 1
 
--- a mask was set in a word, and the answer is whether all of its bits were found set
+-- a mask was set in a word, and `all` is whether all of its bits were found set
 pub record TellsMask (vector : SharedWords) (word mask before after : ℕ) (all : Bool) : Type 0
   where
     pub found : ℕ

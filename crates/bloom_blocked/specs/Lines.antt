@@ -19,27 +19,27 @@ inner_of hash = added_of hash
 abbrev pub in_line : (ℕ → Bool) → ℕ → ℕ → Bool
 in_line A line q = A (512 * line + q)
 
--- place i of a hash
+-- position i of a hash
 abbrev pub line_place : ℕ → ℕ → ℕ → ℕ
 line_place lines hash i = 512 * line_of lines hash + place 512 (inner_of hash) i
 
--- the set of the first k places of a hash: those of the inner hash in a filter of 512 bits, moved
--- to the line of the hash
+-- the set of the first k positions of a hash: those of the inner hash in a filter of 512 bits,
+-- moved to the line of the hash
 abbrev pub line_positions : ℕ → ℕ → ℕ → ℕ → Bool
 line_positions lines k hash p =
     (p / 512) == line_of lines hash && positions 512 k (inner_of hash) (p % 512)
 
--- whether the first k places of a hash are all in a set
+-- whether the first k positions of a hash are all in a set
 abbrev pub are_in_line : ℕ → ℕ → ℕ → (ℕ → Bool) → Bool
 are_in_line lines k hash A = are_in 512 k (inner_of hash) (in_line A (line_of lines hash))
 
--- p is one of the first k places of a hash
+-- p is one of the first k positions of a hash
 pub record IsLinePosition (lines k hash p : ℕ) : Type 0 where
   pub index : ℕ
   pub below : index < k
   pub here : line_place lines hash index ≡ p
 
--- `line_positions` has exactly the places of a hash
+-- `line_positions` has exactly the positions of a hash
 abbrev pub LinePositionsLaw : Type 0
 LinePositionsLaw = (lines k hash p : ℕ) →
     (line_positions lines k hash p ≡ true) ↔ IsLinePosition lines k hash p

@@ -65,6 +65,11 @@ impl BlockedBloomFilter {
     /// A builder of a filter of at least this many bits, rounded up to whole lines of 512, all
     /// clear, under the zero key.
     ///
+    /// ```
+    /// let builder = BlockedBloomFilter::with_num_bits(alloc, 1000)?; // 1024 bits, two lines
+    /// let bloom = builder.hashes(4);
+    /// ```
+    ///
     /// # Errors
     /// `ZeroBits` for no bits, `TooManyWords` for more than 2^58 - 8 words, and `Memory` where
     /// there is no room for them.

@@ -21,9 +21,9 @@ use std::iter::Copied;
 use std::marker::Model;
 use std::slice;
 
-/// A Bloom filter in lines of 512 bits. All positions of a hash lie in one of them, so an insert
-/// or a look-up reads one line of the cache, and not one for each position. In return, more hashes
-/// that were never inserted count as contained.
+/// A Bloom filter in lines of 512 bits. All positions of a hash lie in one of them, so an insert or
+/// a look-up reads one line of the cache, and not one for each position. In return, false positives
+/// are more frequent.
 ///
 /// Contracts see its words, its number of hashes and its hasher. Words that begin at a multiple of
 /// 64 bytes are read quickest.
@@ -128,7 +128,7 @@ impl<S> BlockedBloomFilter<S> {
         slices::count_ones(self.words.as_slice())
     }
 
-    /// Sets all positions of a hash, and returns whether all were set just before.
+    /// Sets all positions of a hash, and returns whether all of them were set before.
     #[inline(always)]
     pub fn insert_hash(&mut self, hash: u64) -> bool
         ensures inserts { InsertsInLine self.old hash self.new result }
@@ -138,7 +138,8 @@ impl<S> BlockedBloomFilter<S> {
         words::insert_hash(self.words.as_mut_slice(), num_hashes, hash)
     }
 
-    /// Whether all positions of a hash are set: false means that it was never inserted.
+    /// Whether all positions of a hash are set. True may be a false positive. False means that the
+    /// hash wasn't inserted since the last `clear` or `intersect`.
     #[inline(always)]
     pub fn contains_hash(&self, hash: u64) -> bool
         ensures found { result ≡ contains_in_line self.now hash }
@@ -155,6 +156,11 @@ impl<S> BlockedBloomFilter<S> {
     }
 
     /// Sets bit i of `found` where hash i is contained, and clears every other bit.
+    ///
+    /// ```
+    /// let mut found = [0u64];
+    /// bloom.contains_hashes(&[3, 5], &mut found); // bit 1 of `found` tells of hash 5
+    /// ```
     pub fn contains_hashes(&self, hashes: &[u64], found: &mut [u64])
         requires room { length hashes.now ≤ 64 * length found.old }
         ensures found { TellsFound (num_lines_of self.now) self.now.hashes

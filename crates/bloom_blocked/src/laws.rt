@@ -4,7 +4,7 @@ ghost use Rattle.bloom_blocked.specs.BlockedFile.{BlockedRefusedLaw, LineFileLaw
 ghost use Rattle.bloom_blocked.specs.BlockedLaws.{InsertInLineLaw, KeptByInsertInLineLaw, KeptByInsertsInLinesLaw, KeptByUnionOfLinesLaw, UnionOfLinesLaw, IntersectionOfLinesLaw, ClearOfLinesLaw, OneByOneLaw};
 ghost use Rattle.bloom_blocked.specs.Lines.{LinePositionsLaw, LineSubsetLaw, LineRangeLaw, OneLineLaw};
 
-/// The positions of a hash are its places, all in one line, and within the lines.
+/// The positions of a hash are the first of its chain, all in one line, and within the lines.
 pub fn positions_of_hash()
     ensures members { LinePositionsLaw }
     ensures range { LineRangeLaw }
@@ -16,7 +16,7 @@ pub fn test_of_hash()
     ensures { LineSubsetLaw }
 {}
 
-/// An insert answers what a look-up would have, and afterwards its hash is contained.
+/// An insert returns what a look-up would have returned, and afterwards its hash is contained.
 pub fn insert_answers_contains<S>()
     ensures { InsertInLineLaw S }
 {}
@@ -48,14 +48,14 @@ pub fn many_are_as_one_by_one<S>()
     ensures { OneByOneLaw S }
 {}
 
-/// A filter that is made of another's data has its words, number of hashes and key, and answers
-/// every hash alike.
+/// A filter that is made of another's data has its words, number of hashes and key, and contains
+/// the same hashes.
 pub fn data_answer_alike()
     ensures { LineDataLaw }
 {}
 
-/// A filter that is read from another's file has its words, number of hashes and key, and answers
-/// every hash alike. A file of a blocked filter is never refused where lines are read. Where the
+/// A filter that is read from another's file has its words, number of hashes and key, and contains
+/// the same hashes. A file of a blocked filter is never refused where lines are read. Where the
 /// other kind is read a file is refused by name.
 pub fn file_reads_back()
     ensures filters { LineFileLaw }

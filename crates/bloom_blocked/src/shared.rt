@@ -110,9 +110,9 @@ impl<S> AtomicBlockedBloomFilter<S> {
         drive(&mut store, call, self.num_hashes)
     }
 
-    /// Sets all positions of a hash, and returns whether its own steps found all of them set
-    /// already. So it returns false exactly if it set a bit itself. It makes one step for each word
-    /// that has positions.
+    /// Sets all positions of a hash, and returns whether its own steps found all of them set. So it
+    /// returns false exactly if it set a bit itself. It makes one step for each word that has
+    /// positions.
     #[inline(always)]
     pub fn insert_hash(&self, hash: u64) -> bool
         ensures { MakesInsertInLine self.now hash result }
@@ -123,7 +123,7 @@ impl<S> AtomicBlockedBloomFilter<S> {
     /// Whether all positions of a hash were found set, one after the other.
     ///
     /// Its steps stop at the first that is clear. While other threads clear positions, those found
-    /// set may never have been set together.
+    /// set may never have been set all at once.
     #[inline(always)]
     pub fn contains_hash(&self, hash: u64) -> bool
         ensures { MakesLookUpInLine self.now hash result }

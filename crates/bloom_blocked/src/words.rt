@@ -39,7 +39,7 @@ pub fn inner(hash: u64) -> u64
     hash.wrapping_mul(MULTIPLIER)
 }
 
-/// Sets all positions of a hash, and returns whether all were set just before.
+/// Sets all positions of a hash, and returns whether all of them were set before.
 #[inline(always)]
 pub fn insert_hash(words: &mut [u64], num_hashes: u32, hash: u64) -> bool
     requires { 8 ≤ length words.old }
@@ -53,7 +53,7 @@ pub fn insert_hash(words: &mut [u64], num_hashes: u32, hash: u64) -> bool
     insert_positions(&mut words[at..at + LINE], num_hashes, inner(hash))
 }
 
-/// Whether all positions of a hash are set: false means that it was never inserted.
+/// Whether all positions of a hash are set. True may be a false positive.
 #[inline(always)]
 pub fn contains_hash(words: &[u64], num_hashes: u32, hash: u64) -> bool
     requires { 8 ≤ length words.now }

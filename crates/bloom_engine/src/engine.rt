@@ -77,8 +77,8 @@ fn serve_lines<R: Read, W: Write>(
 
 /// Serves each line that is read up to the end of the input.
 ///
-/// What was answered is flushed before each read that may wait, and before the call returns. The
-/// first end that a read tells is the end: the reader isn't asked again.
+/// All replies are flushed before each read that may wait, and before the call returns. The first
+/// end that a read tells is the end: the reader isn't asked again.
 ///
 /// # Errors
 /// `Line` at the first line that isn't a command, with the text of those before it written;

@@ -1,4 +1,4 @@
-//! The service of lines: commands to a Bloom filter, one a line, and their answers.
+//! The service of lines: commands to a Bloom filter, one a line, and the replies to them.
 #![tactic(auto)]
 
 mod command_line;

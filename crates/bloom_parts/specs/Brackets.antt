@@ -23,8 +23,8 @@ pub record Holds (bracket : Bracket) (p q : ℕ) : Type 0 where
   pub at_least : low_of bracket * q ≤ 2 ^ 63 * p
   pub at_most : 2 ^ 63 * p ≤ high_of bracket * q
 
--- the share of b bits that is on after t of them were turned on, each time any of them alike:
--- 1 - ((b - 1) / b)^t
+-- the share of b bits that is set after t of them were set, each time any of them alike: 1 - ((b -
+-- 1) / b)^t
 abbrev pub HoldsDensity : Bracket → ℕ → ℕ → Type 0
 HoldsDensity bracket b t = Holds bracket (b ^ t - (b - 1) ^ t) (b ^ t)
 

@@ -4,11 +4,11 @@
 use Rattle.std.specs.Prelude.{◌≡◌, ◌↔◌, ◌<◌, ℕ, ◌*◌, ◌/◌, ◌%◌, ◌^◌, Bool, true, List, length, slice_index, ◌==◌, All}
 use Rattle.std.specs.Int.{bit_at}
 
--- whether the bit of a position is on in its word, where bit 0 is the lowest
+-- whether the bit of a position is set in its word, where bit 0 is the lowest
 abbrev pub bit_is_on : ℕ → ℕ → Bool
 bit_is_on word p = bit_at word (p % 64) == 1
 
--- whether a position is on in words: it lies in word p / 64, and past the last word none is on
+-- whether a position is set in words: it lies in word p / 64, and past the last word none is set
 unfoldable pub content : List ℕ → ℕ → Bool
 content words p = bit_is_on (slice_index words (p / 64)) p
 

@@ -1,10 +1,10 @@
 -- What a list of deciders makes of a set of positions. A decider says of each position whether it
--- turns it on, turns it off, or leaves it; plain commands and the steps of threads on words are
--- deciders alike. The word, and this way to look back through a list, are the project's own.
+-- sets it, clears it, or leaves it; plain commands and the steps of threads on words are deciders
+-- alike. The word, and this way to look back through a list, are the project's own.
 use Rattle.std.specs.Prelude.{ℕ, Bool, true, false, if◌then◌else◌, List, [], ◌∷◌, Option, Some, None, unwrap_or}
 use Rattle.std.specs.Option.{option_or}
 
--- a decider, by position: Some true turns it on, Some false turns it off, None leaves it undecided
+-- a decider, by position: Some true sets it, Some false clears it, None leaves it undecided
 abbrev pub Decider : Type 0
 Decider = ℕ → Option Bool
 
@@ -12,15 +12,15 @@ Decider = ℕ → Option Bool
 abbrev pub decides_nothing : Decider
 decides_nothing p = None
 
--- turns on the positions of a set
+-- sets the positions of a set
 abbrev pub makes_on : (ℕ → Bool) → Decider
 makes_on A p = if A p then Some true else None
 
--- turns every position off
+-- clears every position
 abbrev pub makes_all_off : Decider
 makes_all_off p = Some false
 
--- turns off every position that isn't in a set
+-- clears every position that isn't in a set
 abbrev pub makes_off_outside : (ℕ → Bool) → Decider
 makes_off_outside A p = if A p then None else Some false
 

@@ -50,7 +50,7 @@ abbrev pub MeanLaw : Type 0
 MeanLaw =
     (b t : ℕ) → 0 < b → sum_draws b t (λ d. count_on (is_drawn d) b) ≡ b * drawn_lists b t
 
--- a set answers the power to k of its share of the positions: of b ^ k queries, its size to the k
+-- of the b ^ k queries of k positions, as many lie wholly in a set as its size to the power k
 abbrev pub PositivesLaw : Type 0
 PositivesLaw = (b k : ℕ) (A : ℕ → Bool) → positives b k A ≡ count_on A b ^ k
 

@@ -49,8 +49,8 @@ pub record IsTight (b k ones low : ℕ) (high : Option ℕ) : Type 0 where
       density_low b (k * (most - 1)) * b < 2 ^ 63 * ones)
   pub none : high ≡ None → density_low b (k * (2 ^ 64 - 1)) * b < 2 ^ 63 * ones
 
--- how far the bounds are apart at most, by the share of bits that stays off: some
--- 4 * b * high / off items more than two, where off is that share in parts of 2^63
+-- how far the bounds are apart at most, by the share of bits that stays clear: some 4 * b * high /
+-- clear items more than two, where clear is that share in parts of 2^63
 abbrev pub IsNear : ℕ → ℕ → ℕ → Option ℕ → Type 0
 IsNear b k low high = IfSome high (λ most.
     (most - low - 2) * (2 ^ 63 - density_high b (k * (most - 1))) ≤ 4 * (b - 1) * (most - 1))

@@ -1,5 +1,5 @@
--- Brackets of rates of false positives that are counts of draws, and what one of several filters
--- answers. The unit of 2^-63 and the exact ends are this project's own.
+-- Brackets of rates of false positives that are counts of draws: of one filter, and of one of
+-- several. The unit of 2^-63 and the exact ends are this project's own.
 use Rattle.std.specs.Prelude.{◌≡◌, ℕ, ◌+◌, ◌-◌, ◌*◌, ◌/◌, ◌^◌, ◌≤◌, max, min, nat_eq, Bool, ◌||◌, if◌then◌else◌}
 use Rattle.std.specs.Int.{div_ceil}
 use Rattle.bloom_parts.specs.declared.math.bracket.Bracket.{Bracket}
@@ -12,7 +12,7 @@ use Rattle.bloom_parts.specs.Powers.{lower_power_of, upper_power_of}
 abbrev pub HoldsFalsePositives : Bracket → ℕ → ℕ → ℕ → Type 0
 HoldsFalsePositives bracket b t k = Holds bracket (false_positives b t k) (b ^ (t + k))
 
--- the rate of a set: the part of all queries of k draws that it answers with true
+-- the rate of a set: the part of all queries of k draws whose positions all lie in it
 abbrev pub HoldsPositives : Bracket → ℕ → ℕ → (ℕ → Bool) → Type 0
 HoldsPositives bracket b k A = Holds bracket (positives b k A) (b ^ k)
 
@@ -45,7 +45,7 @@ pub record BoundsPositives (b k ones : ℕ) (bracket : Bracket) : Type 0 where
   pub high : high_of bracket ≡ positives_high b k ones
   pub width : width_of bracket ≤ 2 * k
 
--- of n queries, whatever they are, the part for which one of two tests at least holds, by the parts
+-- of n queries, whatever they are, the part for which at least one of two tests holds, by the parts
 -- for which each does
 abbrev pub HoldsEither : Bracket → Bracket → Bracket → Type 0
 HoldsEither first second either = (n : ℕ) (A B : ℕ → Bool) → Holds first (count_on A n) n →

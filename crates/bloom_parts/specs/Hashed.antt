@@ -20,7 +20,7 @@ write h bytes = record h {
   count = (h.count + length bytes) % 256;
 }
 
--- what the hasher answers
+-- what the hasher returns
 unfoldable pub finish : SipState → ℕ
 finish h = answer (absorb h.words (last_word h.held h.count))
 
@@ -37,6 +37,6 @@ abbrev pub Takes : SipState → SipState → List ℕ → Type 0
 Takes old new bytes =
     (k0 k1 : ℕ) (before : List ℕ) → Hashed old k0 k1 before → Hashed new k0 k1 (before ++ bytes)
 
--- the answer is SipHash-1-3 of all bytes taken in so far
+-- the hash is SipHash-1-3 of all bytes taken in so far
 abbrev pub Answers : SipState → ℕ → Type 0
 Answers h hash = (k0 k1 : ℕ) (bytes : List ℕ) → Hashed h k0 k1 bytes → hash ≡ sip k0 k1 bytes

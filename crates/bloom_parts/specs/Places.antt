@@ -3,21 +3,21 @@ use Rattle.std.specs.Prelude.{◌≡◌, ◌↔◌, ◌<◌, ◌^◌, ℕ, zero,
 use Rattle.bloom_parts.specs.Content.{index_of}
 use Rattle.bloom_parts.specs.Chain.{chain}
 
--- place i of a hash
+-- position i of a hash
 abbrev pub place : ℕ → ℕ → ℕ → ℕ
 place n hash i = index_of n (chain hash i)
 
--- the set of the first k places of a hash
+-- the set of the first k positions of a hash
 unfoldable pub positions : ℕ → ℕ → ℕ → ℕ → Bool
 positions n zero hash p = false
 positions n (suc k) hash p = positions n k hash p || p == place n hash k
 
--- whether the first k places of a hash are all in a set
+-- whether the first k positions of a hash are all in a set
 unfoldable pub are_in : ℕ → ℕ → ℕ → (ℕ → Bool) → Bool
 are_in n zero hash A = true
 are_in n (suc k) hash A = are_in n k hash A && A (place n hash k)
 
--- p is one of the first k places of a hash
+-- p is one of the first k positions of a hash
 pub record IsPosition (n k hash p : ℕ) : Type 0 where
   pub index : ℕ
   pub below : index < k

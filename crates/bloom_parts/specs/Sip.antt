@@ -52,7 +52,7 @@ answer s =
     let t = round (round (round (record s { v2 = bit_xor s.v2 0xff }))) in
     bit_xor (bit_xor (bit_xor t.v0 t.v1) t.v2) t.v3
 
--- a list cut into little-endian words of eight bytes, as far as they are whole
+-- a list split into little-endian words of eight bytes, as far as they are whole
 unfoldable pub whole_words : List ℕ → List ℕ
 whole_words (a ∷ b ∷ c ∷ d ∷ e ∷ f ∷ g ∷ h ∷ bytes) =
     from_le_bytes w64 (a ∷ b ∷ c ∷ d ∷ e ∷ f ∷ g ∷ h ∷ []) ∷ whole_words bytes

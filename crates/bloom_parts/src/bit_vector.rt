@@ -125,7 +125,7 @@ impl BitVec {
         Words::new(self.as_slice())
     }
 
-    /// Whether a position is on.
+    /// Whether a position is set.
     pub fn check(&self, position: usize) -> bool
         requires { position < 64 * length self.now }
         ensures { result ≡ content self.now position }
@@ -134,7 +134,7 @@ impl BitVec {
         self.words[word] & mask > 0
     }
 
-    /// Turns a position on, and answers whether it was on before.
+    /// Sets a position, and returns whether it was set before.
     pub fn set(&mut self, position: usize) -> bool
         requires { position < 64 * length self.old }
         ensures reply { result ≡ content self.old position }
@@ -147,7 +147,7 @@ impl BitVec {
         was_on
     }
 
-    /// Turns every position off.
+    /// Clears every position.
     pub fn clear(&mut self)
         ensures content { (p : ℕ) → content self.new p ≡ false }
         ensures shape { length self.new ≡ length self.old }
@@ -155,7 +155,7 @@ impl BitVec {
         slices::clear(self.words.as_mut_slice());
     }
 
-    /// Turns on what is on in the other.
+    /// Sets what is set in the other.
     pub fn union(&mut self, other: &BitVec)
         requires { length self.old ≡ length other.now }
         ensures content { (p : ℕ) → content self.new p
@@ -165,7 +165,7 @@ impl BitVec {
         slices::union(self.words.as_mut_slice(), other.words.as_slice());
     }
 
-    /// Turns off what is off in the other.
+    /// Clears what is clear in the other.
     pub fn intersect(&mut self, other: &BitVec)
         requires { length self.old ≡ length other.now }
         ensures content { (p : ℕ) → content self.new p

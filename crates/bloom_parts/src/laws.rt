@@ -12,7 +12,7 @@ ghost use Rattle.bloom_parts.specs.Sizing.{HalfUpLaw, CoverLaw, NoneLaw, MostLaw
 
 use crate::math::ROOTS;
 
-/// The positions of a hash are the first places of its chain, and each lies within the bits.
+/// The positions of a hash are the first of its chain, and each lies within the bits.
 pub fn positions_of_hash()
     ensures members { PositionsLaw }
     ensures range { RangeLaw }
@@ -49,7 +49,7 @@ pub fn halvings_of_rate()
     ensures most { MostLaw }
 {}
 
-/// At most one number is the size for items and a rate, so no two answers are right.
+/// At most one number is the size for items and a rate, so no two results are right.
 pub fn size_of_rate()
     ensures { OneSizeLaw }
 {}
@@ -65,8 +65,8 @@ pub fn density_of_draws()
     ensures mean { MeanLaw }
 {}
 
-/// A set of positions answers a power of its share of all queries with true, and the rate of false
-/// positives is the mean of that power.
+/// The part of all queries whose positions all lie in a set is a power of the set's share of the
+/// positions, and the rate of false positives is the mean of that power.
 pub fn rate_of_draws()
     ensures positives { PositivesLaw }
     ensures powers { PowersLaw }
@@ -84,7 +84,7 @@ pub fn half_up_of_quotient()
     ensures { HalfUpLaw }
 {}
 
-/// How bytes are cut into writes doesn't change their hash, which is SipHash of them joined.
+/// How bytes are split into writes doesn't change their hash, which is SipHash of them joined.
 pub fn hash_of_pieces()
     ensures cutting { CuttingLaw }
     ensures joining { JoiningLaw }

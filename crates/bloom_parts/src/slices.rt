@@ -20,7 +20,7 @@ pub const MANY_WORDS: usize = 1 << 19;
 /// How many hashes are looked up together where a filter is larger than a cache.
 pub const GROUP: usize = 16;
 
-/// Turns every position off.
+/// Clears every position.
 pub fn clear(words: &mut [u64])
     ensures content { (p : ℕ) → content words.new p ≡ false }
     ensures shape { length words.new ≡ length words.old }
@@ -29,7 +29,7 @@ pub fn clear(words: &mut [u64])
     clear_words(words, &mut turns);
 }
 
-/// Turns on what is on in the other words.
+/// Sets what is set in the other words.
 pub fn union(words: &mut [u64], other: &[u64])
     requires { length words.old ≡ length other.now }
     ensures content { (p : ℕ) → content words.new p
@@ -40,7 +40,7 @@ pub fn union(words: &mut [u64], other: &[u64])
     or_words(words, other, &mut turns);
 }
 
-/// Turns off what is off in the other words.
+/// Clears what is clear in the other words.
 pub fn intersect(words: &mut [u64], other: &[u64])
     requires { length words.old ≡ length other.now }
     ensures content { (p : ℕ) → content words.new p
@@ -59,7 +59,7 @@ pub fn are_equal(words: &[u64], other: &[u64]) -> bool
     same_words(words, other, &mut turns)
 }
 
-// The number of bits that are on in a word.
+// The number of bits that are set in a word.
 #[inline(always)]
 fn ones_in(word: u64) -> usize
     ensures value { result ≡ ones word }
@@ -68,7 +68,7 @@ fn ones_in(word: u64) -> usize
     word.count_ones() as usize
 }
 
-/// The number of positions that are on.
+/// The number of positions that are set.
 pub fn count_ones(words: &[u64]) -> usize
     requires { length words.now < 2 ^ 58 }
     ensures count { result ≡ count_on (content words.now) (64 * length words.now) }
@@ -81,7 +81,7 @@ pub fn count_ones(words: &[u64]) -> usize
     count
 }
 
-/// The number of positions that are on in either of two lists of words.
+/// The number of positions that are set in either of two lists of words.
 pub fn count_either(words: &[u64], other: &[u64]) -> usize
     requires few { length words.now < 2 ^ 58 }
     requires lengths { length words.now ≡ length other.now }

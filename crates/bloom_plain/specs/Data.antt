@@ -27,14 +27,14 @@ pub record IsDataOf (form : FilterData) (f : DefaultFilter) : Type 0 where
   pub hashes : f.hashes ≡ form.num_hashes_minus_one + 1
   pub key : key_of f.hasher ≡ (form.k0, form.k1)
 
--- two filters have equal words, numbers of hashes and keys, and answer every hash alike
+-- two filters have equal words, numbers of hashes and keys, and contain the same hashes
 pub record AnswerAlike (f g : DefaultFilter) : Type 0 where
   pub words : g.words ≡ f.words
   pub hashes : g.hashes ≡ f.hashes
   pub key : key_of g.hasher ≡ key_of f.hasher
   pub found : (hash : ℕ) → contains g hash ≡ contains f hash
 
--- two filters of the same data answer alike
+-- two filters of the same data contain the same hashes
 abbrev pub DataLaw : Type 0
 DataLaw =
     (f g : DefaultFilter) (form : FilterData) → IsDataOf form f → IsDataOf form g → AnswerAlike f g

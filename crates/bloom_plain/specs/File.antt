@@ -49,7 +49,7 @@ head_of f = record {
 abbrev pub file_of : DefaultFilter → List ℕ
 file_of f = file_with (head_of f) (seal_of (head_of f) f.words) f.words
 
--- the file has the filter's seal, or none: then the number 0 stands in its place
+-- the file has the filter's seal, or none: then the seal's number is 0
 abbrev pub IsSealOf : ℕ → DefaultFilter → Type 0
 IsSealOf seal f = (seal ≡ 0) ⊎ (seal ≡ seal_of (head_of f) f.words)
 
@@ -72,7 +72,7 @@ pub record IsFileOf (bytes : List ℕ) (f : DefaultFilter) : Type 0 where
 abbrev pub HasOwnKey : DefaultFilter → Type 0
 HasOwnKey f = HasKey f.hasher (key_of f.hasher).0 (key_of f.hasher).1
 
--- two filters of one file answer alike
+-- two filters of one file contain the same hashes
 abbrev pub FileLaw : Type 0
 FileLaw = (bytes : List ℕ) (f g : DefaultFilter) → IsFileOf bytes f → IsFileOf bytes g
     → AnswerAlike f g

@@ -9,11 +9,11 @@ use Rattle.bloom_plain.specs.declared.file.error.FileError.TheVariants.{NotAFilt
 use Rattle.bloom_plain.specs.Data.{DefaultFilter}
 use Rattle.bloom_plain.specs.File.{mark, IsFileOf}
 
--- the number at a place of a file, counted from 0; it is 0 where the file ends before
+-- the number at an index in a file, counted from 0; it is 0 where the file ends before
 abbrev pub number_at : List ℕ → ℕ → ℕ
 number_at bytes place = slice_index (whole_words bytes) place
 
--- whether a file has all bytes of the number at a place
+-- whether a file has all bytes of the number at an index
 abbrev pub has_number : List ℕ → ℕ → Bool
 has_number bytes place = nat_le (8 * place + 8) (length bytes)
 

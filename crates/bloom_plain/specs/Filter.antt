@@ -43,12 +43,12 @@ pub record SameShape {S : Type 0} (f g : Filter S) : Type 0 where
 abbrev pub positions_of : {S : Type 0} → Filter S → ℕ → ℕ → Bool
 positions_of f hash = positions (num_bits_of f) f.hashes hash
 
--- whether all positions of a hash are on
+-- whether all positions of a hash are set
 abbrev pub contains : {S : Type 0} → Filter S → ℕ → Bool
 contains f hash = are_in (num_bits_of f) f.hashes hash (content f.words)
 
--- an insert took the old filter to the new: the positions of a hash were turned on, and the reply
--- is whether all were on before
+-- an insert took the old filter to the new: the positions of a hash were set, and the reply is
+-- whether all of them were set before
 pub record Inserts {S : Type 0} (old : Filter S) (hash : ℕ) (new : Filter S) (reply : Bool)
     : Type 0 where
   pub answers : reply ≡ contains old hash
@@ -56,20 +56,20 @@ pub record Inserts {S : Type 0} (old : Filter S) (hash : ℕ) (new : Filter S) (
   pub shape : SameShape old new
   pub hasher : new.hasher ≡ old.hasher
 
--- a clear took the old filter to the new: every position was turned off
+-- a clear took the old filter to the new: every position was cleared
 pub record Clears {S : Type 0} (old new : Filter S) : Type 0 where
   pub bits : (p : ℕ) → content new.words p ≡ false
   pub shape : SameShape old new
   pub hasher : new.hasher ≡ old.hasher
 
--- a union took the old filter to the new: the positions that are on in the other were turned on
+-- a union took the old filter to the new: the positions that are set in the other were set
 pub record Unites {S : Type 0} (old other new : Filter S) : Type 0 where
   pub bits : (p : ℕ) → content new.words p ≡ (content old.words p || content other.words p)
   pub shape : SameShape old new
   pub hasher : new.hasher ≡ old.hasher
 
--- an intersection took the old filter to the new: the positions that are off in the other were
--- turned off
+-- an intersection took the old filter to the new: the positions that are clear in the other were
+-- cleared
 pub record Intersects {S : Type 0} (old other new : Filter S) : Type 0 where
   pub bits : (p : ℕ) → content new.words p ≡ (content old.words p && content other.words p)
   pub shape : SameShape old new

@@ -1,6 +1,6 @@
 -- The rate of false positives of a filter that grows: a look-up errs if one of its filters does.
--- How the answers of different filters to one look-up hang together isn't known, since they share
--- its hash. So the rate is bounded for every way. This project's own.
+-- How the replies of different filters to one look-up depend on each other isn't known, since they
+-- share its hash. So the rate is bounded for every way. This project's own.
 use Rattle.std.specs.Prelude.{◌≡◌, ℕ, ◌+◌, ◌*◌, ◌^◌, max, min, Bool, List, [], ◌∷◌, ◌++◌, map, ⊤}
 use Rattle.std.specs.List.{list_any, sum_by}
 use Rattle.bloom_parts.specs.declared.math.bracket.Bracket.{Bracket}
@@ -13,8 +13,8 @@ use Rattle.bloom_plain.specs.Filter.{Filter, num_bits_of}
 use Rattle.bloom_plain.specs.Growing.{Growing, room_at}
 use Rattle.bloom_plain.specs.Ones.{ones_of}
 
--- the rate of one filter: of all look-ups so many are answered with true, with two bounds of that
--- part in units of 2^-63
+-- the rate of one filter: the part of all look-ups for which it returns true, with two bounds of
+-- that part in units of 2^-63
 pub record Part : Type 0 where
   pub found : ℕ
   pub all : ℕ
@@ -39,8 +39,8 @@ part_after f items = record {
   high = false_pos_high (num_bits_of f) (f.hashes * items) f.hashes;
 }
 
--- of n look-ups, whatever they are, each of these tests answers as great a part with true as the
--- rate beside it says
+-- of n look-ups, whatever they are, each of these tests is true for as great a part as its rate
+-- says
 abbrev pub AnswerAt : ℕ → List (ℕ → Bool) → List Part → Type 0
 AnswerAt n [] [] = ⊤
 AnswerAt n [] (part ∷ parts) = ⊥
@@ -48,7 +48,7 @@ AnswerAt n (test ∷ tests) [] = ⊥
 AnswerAt n (test ∷ tests) (part ∷ parts) =
     (count_on test n * part.all ≡ n * part.found) × AnswerAt n tests parts
 
--- whether one of these tests answers a look-up with true
+-- whether one of these tests is true for a look-up
 abbrev pub one_answers : List (ℕ → Bool) → ℕ → Bool
 one_answers tests q = list_any (λ test. test q) tests
 
@@ -57,8 +57,8 @@ abbrev pub greatest : List ℕ → ℕ
 greatest [] = 0
 greatest (x ∷ xs) = max x (greatest xs)
 
--- a bracket of the part of look-ups that one at least of filters with these rates answers with
--- true, however their answers hang together
+-- a bracket of the part of look-ups for which at least one of the filters with these rates returns
+-- true, however their replies depend on each other
 pub record BoundsAny (parts : List Part) (bracket : Bracket) : Type 0 where
   pub holds : (n : ℕ) (tests : List (ℕ → Bool)) → AnswerAt n tests parts →
       Holds bracket (count_on (one_answers tests) n) n

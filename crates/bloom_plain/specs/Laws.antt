@@ -11,7 +11,7 @@ use Rattle.bloom_plain.specs.Replies.{CarriesOut, InsertsAll}
 use Rattle.bloom_plain.specs.declared.bloom.command.Command.{Command}
 use Rattle.bloom_plain.specs.declared.bloom.command.Command.TheVariants as command
 
--- an insert answers what a look-up just before it would have, and afterwards its hash is contained
+-- an insert returns what a look-up just before it would have, and afterwards its hash is contained
 abbrev pub InsertLaw : (S : Type 0) → Type 0
 InsertLaw S = (old new : Filter S) (hash : ℕ) (reply : Bool) → Inserts old hash new reply
     → (reply ≡ contains old hash) × (contains new hash ≡ true)
@@ -26,8 +26,8 @@ abbrev pub KeptByUnionLaw : (S : Type 0) → Type 0
 KeptByUnionLaw S = (old other new : Filter S) (hash : ℕ) → Unites old other new
     → contains old hash ≡ true → contains new hash ≡ true
 
--- a command turns off no position of a set: it is no clear, and no intersection with a set that
--- lacks one of them
+-- a command clears no position of a set: it is no clear, and no intersection with a set that lacks
+-- one of them
 abbrev pub Spares : (ℕ → Bool) → Operation → Type 0
 Spares A (Insert hash) = ⊤
 Spares A (Contains hash) = ⊤
@@ -64,7 +64,7 @@ abbrev pub ClearLaw : (S : Type 0) → Type 0
 ClearLaw S = (old new : Filter S) (hash : ℕ) → HasShape old → Clears old new
     → contains new hash ≡ false
 
--- two filters have the same positions on
+-- two filters have the same positions set
 abbrev pub SameContent : {S : Type 0} → Filter S → Filter S → Type 0
 SameContent f g = (p : ℕ) → content f.words p ≡ content g.words p
 
@@ -91,7 +91,7 @@ pub record Rebuilds {S : Type 0} (f made : Filter S) : Type 0 where
   pub hashes : made.hashes ≡ max 1 f.hashes
   pub hasher : made.hasher ≡ f.hasher
 
--- a filter that was made of another's parts equals it, and answers every hash alike
+-- a filter that was made of another's parts equals it, and contains the same hashes
 abbrev pub RebuiltLaw : (S : Type 0) → Type 0
 RebuiltLaw S = (f made : Filter S) → HasShape f → Rebuilds f made
     → (made ≡ f) × ((hash : ℕ) → contains made hash ≡ contains f hash)
@@ -101,7 +101,7 @@ abbrev pub EqualityLaw : (S : Type 0) → Type 0
 EqualityLaw S = (f g : Filter S)
     → IsTrue (same_filter f g) ↔ ((f.words ≡ g.words) × (f.hashes ≡ g.hashes))
 
--- filters of one shape, of words of 64 bits, are equal exactly if they have the same positions on
+-- filters of one shape, of words of 64 bits, are equal exactly if they have the same positions set
 abbrev pub EqualContentLaw : (S : Type 0) → Type 0
 EqualContentLaw S = (f g : Filter S) → AreWords f.words → AreWords g.words → SameShape f g
     → IsTrue (same_filter f g) ↔ SameContent f g

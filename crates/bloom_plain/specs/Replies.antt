@@ -1,4 +1,4 @@
--- What lists of commands do, and what they answer: the subset test just before each command.
+-- What lists of commands do, and their replies: the subset test just before each command.
 use Rattle.std.specs.Prelude.{◌≡◌, ℕ, Bool, List, [], ◌∷◌, ◌++◌, map, option_to_list}
 use Rattle.bloom_parts.specs.Content.{content}
 use Rattle.bloom_parts.specs.Operations.{Operation, Insert, state_after, reply}

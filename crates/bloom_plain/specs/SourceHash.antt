@@ -6,11 +6,11 @@ use Rattle.std.specs.List.{concat}
 use Rattle.std.specs.declared.hash.BuildHasher as builder
 use Rattle.std.specs.declared.hash.Hasher as hasher
 
--- the answer of a fresh hasher after writes, in their order
+-- what a fresh hasher returns after writes, in their order
 abbrev pub hash_by : {H : Type 0} → hasher.Ghosts H → H → List (List ℕ) → ℕ
 hash_by h fresh writes = h.finish (fold h.write fresh writes)
 
--- the source hash of an item: the answer of a hasher that was built for it, after what the item
+-- the source hash of an item: what a hasher that was built for it returns after what the item
 -- writes
 abbrev pub source_hash_of : {B H T : Type 0} → builder.Ghosts B H → hasher.Ghosts H
     → (T → List (List ℕ)) → B → T → ℕ
@@ -21,6 +21,6 @@ abbrev pub lent_hash_of : {B H T : Type 0} → builder.Ghosts B H → hasher.Gho
     → (T → List (List ℕ)) → B → Bor T → ℕ
 lent_hash_of b h input build item = source_hash_of b h input build item.now
 
--- a hasher answers by this function of the bytes written, joined
+-- a hasher returns this function of the bytes written, joined
 abbrev pub IsFunctionOfBytes : {H : Type 0} → hasher.Ghosts H → H → (List ℕ → ℕ) → Type 0
 IsFunctionOfBytes h fresh f = (writes : List (List ℕ)) → hash_by h fresh writes ≡ f (concat writes)

@@ -21,7 +21,7 @@ pub use rates::expected_rate;
 use std::marker::Model;
 pub use together::insert_hashes;
 
-/// A Bloom filter: a set of hashes that never forgets one, and may take one for another.
+/// A Bloom filter: a set of hashes with no false negatives. A look-up may be a false positive.
 ///
 /// Contracts see its words, its number of hashes and its hasher.
 #[derive(Debug, Drop)]
@@ -104,7 +104,7 @@ impl<S> BloomFilter<S> {
         self.bits.iter()
     }
 
-    /// Turns on all positions of a hash, and answers whether all were on just before.
+    /// Sets all positions of a hash, and returns whether all of them were set before.
     #[inline(always)]
     pub fn insert_hash(&mut self, hash: u64) -> bool
         ensures inserts { Inserts self.old hash self.new result }
@@ -116,7 +116,8 @@ impl<S> BloomFilter<S> {
         self.bits.insert_positions(num_hashes, hash)
     }
 
-    /// Whether all positions of a hash are on: false means that it was never inserted.
+    /// Whether all positions of a hash are set. True may be a false positive. False means that the
+    /// hash wasn't inserted since the last `clear` or `intersect`.
     #[inline(always)]
     pub fn contains_hash(&self, hash: u64) -> bool
         ensures found { result ≡ contains self.now hash }

@@ -101,7 +101,11 @@ pub fn bits_and_hasher<S: Drop>(builder: BuilderWithBits<S>) -> (BitVec, S)
 }
 
 impl BloomFilter {
-    /// A builder of a filter of at least this many bits, all off, under the zero key.
+    /// A builder of a filter of at least this many bits, all clear, under the zero key.
+    ///
+    /// ```
+    /// let bloom = BloomFilter::with_num_bits(alloc, 1000)?.hashes(4); // 1024 bits, whole words
+    /// ```
     ///
     /// # Errors
     /// `ZeroBits` for no bits, `TooManyWords` for more than 2^58 - 1 words, and `Memory` where

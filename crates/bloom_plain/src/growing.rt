@@ -68,6 +68,11 @@ impl GrowingFilter {
     /// A filter for this many items at first, where 0 counts as 1, under the zero key. However many
     /// come, the rates of all its filters sum to less than this one.
     ///
+    /// ```
+    /// let mut seen = GrowingFilter::new(alloc, Rate::new(1, 1000)?, 1000)?;
+    /// let before = seen.insert(alloc, &"crab")?; // false, in a new filter
+    /// ```
+    ///
     /// # Errors
     /// Those of `insert_hash`.
     pub fn new(alloc: Global, rate: Rate, items: usize) -> Result<Self, GrowingError>
@@ -78,7 +83,7 @@ impl GrowingFilter {
         GrowingFilter::with_hasher(alloc, rate, items, DefaultHasher::default())
     }
 
-    /// The same with the key of a seed, which is its sixteen big-endian bytes.
+    /// A filter as `new` makes it, under the key of a seed, which is its sixteen big-endian bytes.
     ///
     /// # Errors
     /// Those of `insert_hash`.
@@ -146,7 +151,7 @@ impl GrowingFilter {
         Ok(())
     }
 
-    // Inserts a hash that no older filter contains into the newest, which has room, and answers
+    // Inserts a hash that no older filter contains into the newest, which has room, and returns
     // whether that one contained it. If not, it counts as new.
     #[inline(always)]
     fn add(&mut self, hash: u64) -> bool
@@ -163,7 +168,7 @@ impl GrowingFilter {
         false
     }
 
-    /// Inserts a hash unless one of the filters contains it, and answers whether one does.
+    /// Inserts a hash unless one of the filters contains it, and returns whether one does.
     ///
     /// # Errors
     /// Only where the next filter has to begin, and then nothing changes: `RateOverflow` where its
@@ -200,7 +205,8 @@ impl GrowingFilter {
         Ok(self.add(hash))
     }
 
-    /// Whether one of the filters contains a hash: false means that it was never inserted.
+    /// Whether one of the filters contains a hash. True may be a false positive; false means that
+    /// the hash was never inserted.
     #[inline]
     pub fn contains_hash(&self, hash: u64) -> bool
         ensures { result ≡ has self.now hash }

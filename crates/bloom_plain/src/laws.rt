@@ -16,7 +16,7 @@ use bloom_parts::hasher::{DefaultHasher, RandomDefaultHasher};
 use bloom_parts::laws::{content_of_words, hash_of_pieces};
 use std::hash::{BuildHasher, Hash, Hasher};
 
-/// An insert answers what a look-up would have, and afterwards its hash is contained.
+/// An insert returns what a look-up would have returned, and afterwards its hash is contained.
 pub fn insert_answers_contains<S>()
     ensures { InsertLaw S }
 {}
@@ -58,7 +58,7 @@ pub fn clear_contains_nothing<S>()
     ensures { ClearLaw S }
 {}
 
-/// A filter that is made of another's words, number of hashes and hasher answers every hash alike.
+/// A filter that is made of another's words, number of hashes and hasher contains the same hashes.
 pub fn rebuilt_answers_alike<S>()
     ensures { RebuiltLaw S }
 {}
@@ -114,7 +114,7 @@ pub fn source_hash_by_default<T: Hash>()
     ensures bytes { (builder : Builder RandomDefaultHasher) (k0 k1 : ℕ) → HasKey builder k0 k1
         → IsFunctionOfBytes ⟦<RandomDefaultHasher as Hasher>⟧
         (⟦<DefaultHasher as BuildHasher>⟧.build_hasher builder) (sip k0 k1) }
-    // The left side is what `source_hash` answers.
+    // The left side is what `source_hash` returns.
     ensures item { (builder : Builder RandomDefaultHasher) (k0 k1 : ℕ) (item : T)
         → HasKey builder k0 k1
         → source_hash_of ⟦<DefaultHasher as BuildHasher>⟧ ⟦<RandomDefaultHasher as Hasher>⟧
@@ -123,22 +123,22 @@ pub fn source_hash_by_default<T: Hash>()
     hash_of_pieces();
 }
 
-/// A filter that is made of another's data has its words, number of hashes and key, and answers
-/// every hash and every item alike.
+/// A filter that is made of another's data has its words, number of hashes and key, and contains
+/// the same hashes and items.
 pub fn data_answer_alike<T: Hash>()
     ensures filters { DataLaw }
-    // The left and right sides are what `source_hash` answers.
+    // The left and right sides are what `source_hash` returns.
     ensures items { SameItemsLaw (source_hash_of ⟦<DefaultHasher as BuildHasher>⟧
         ⟦<RandomDefaultHasher as Hasher>⟧ T.hash_input) }
 {
     source_hash_by_default::<T>();
 }
 
-/// A filter that is read from another's file has its words, number of hashes and key, and answers
-/// every hash and every item alike. A file of a filter is never refused.
+/// A filter that is read from another's file has its words, number of hashes and key, and contains
+/// the same hashes and items. A file of a filter is never refused.
 pub fn file_reads_back<T: Hash>()
     ensures filters { FileLaw }
-    // The left and right sides are what `source_hash` answers.
+    // The left and right sides are what `source_hash` returns.
     ensures items { SameFileItemsLaw (source_hash_of ⟦<DefaultHasher as BuildHasher>⟧
         ⟦<RandomDefaultHasher as Hasher>⟧ T.hash_input) }
     ensures readable { ReadableLaw }

@@ -23,7 +23,7 @@ pub record IsInserted (k : ℕ) (run : Course) (p : ℕ) : Type 0 where
   pub begins : slice_get run.records m ≡ Some (Began party (Insert hash))
   pub position : IsPosition (bits_of run) k hash p
 
--- some step that read the other filter found the position on
+-- some step that read the other filter found the position set
 pub record IsFoundInOther (run : Course) (p : ℕ) : Type 0 where
   pub m : ℕ
   pub party : ℕ
@@ -32,14 +32,14 @@ pub record IsFoundInOther (run : Course) (p : ℕ) : Type 0 where
   pub reads : slice_get run.records m ≡ Some (Did party (Other (p / 64)) found ended)
   pub on : bit_is_on found p ≡ true
 
--- growing runs: where no call turns anything off, the end does not depend on the order
+-- growing runs: where no call clears anything, the end does not depend on the order
 abbrev pub EndsWithAll : ℕ → Course → Type 0
 EndsWithAll k run =
     EveryCall turns_none_off run.records → EveryCallEnded run.records
     → (p : ℕ) → (content run.words p ≡ true)
     ↔ ((content run.start p ≡ true) ⊎ (IsInserted k run p ⊎ IsFoundInOther run p))
 
--- a step of a party, after one record and up to another, turned a position on
+-- a step of a party, after one record and up to another, set a position
 pub record TurnsOneOn (run : Course) (party began last : ℕ) : Type 0 where
   pub m : ℕ
   pub p : ℕ
@@ -49,7 +49,7 @@ pub record TurnsOneOn (run : Course) (party began last : ℕ) : Type 0 where
   pub own : IsStepAt run.records m party ended
   pub on : turns_on run m p ≡ true
 
--- an insert answers for its own steps: false exactly if one of them turned a position on
+-- an insert replies for its own steps: false exactly if one of them set a position
 abbrev pub InsertsTell : Course → Type 0
 InsertsTell run =
     (party hash began last : ℕ) (answer : Bool)
@@ -70,7 +70,7 @@ ContainsTell k run =
     → IsFinished run party (Contains hash) began last (Answer answer)
     → IsRightAt k run hash began last last answer
 
--- a finished insert is found, where no record since its beginning turned one of its positions off
+-- a finished insert is found, where no record since its beginning cleared one of its positions
 abbrev pub FindsInserted : ℕ → Course → Type 0
 FindsInserted k run =
     (hash inserter first done : ℕ) (ended : End)
@@ -84,7 +84,7 @@ abbrev pub count_below : ℕ → (ℕ → Bool) → ℕ
 count_below zero test = 0
 count_below (suc n) test = if test n then count_below n test + 1 else count_below n test
 
--- whether a record is a step that turns bits on and found none of them on
+-- whether a record is a step that sets bits and found none of them set
 abbrev pub found_off : Record → Bool
 found_off (Began party call) = false
 found_off (Did party (Load i) found ended) = false
@@ -94,18 +94,18 @@ found_off (Did party (Zero i) found ended) = false
 found_off (Did party (Other i) found ended) = false
 found_off (Did party (step.Take i) found ended) = false
 
--- each position is turned on once: where each call goes by a hash, as many steps found their bit
--- off as positions were gained
+-- each position is set once: where each call goes by a hash, as many steps found their bit clear as
+-- positions were gained
 abbrev pub CountsGains : Course → Type 0
 CountsGains run =
     EveryCall goes_by_hash run.records → count_by found_off run.records ≡ count_below (bits_of run)
     (λ p. content run.words p && not (content run.start p))
 
--- how many bits of a word are on
+-- how many bits of a word are set
 unfoldable pub bits_on : ℕ → ℕ
 bits_on word = count_below 64 (bit_is_on word)
 
--- how many bits were on in the word that a take found
+-- how many bits were set in the word that a take found
 abbrev pub bits_taken : Record → ℕ
 bits_taken (Began party call) = 0
 bits_taken (Did party (Load i) found ended) = 0
@@ -124,8 +124,8 @@ adds_or_takes Union = false
 adds_or_takes Intersect = false
 adds_or_takes Take = true
 
--- up to a moment, the positions of the start and those turned on since are as many as those that
--- takes found and those on at that moment
+-- up to a moment, the positions of the start and those set since are as many as those that takes
+-- found and those that are set at that moment
 abbrev pub IsBalanced : Course → ℕ → Type 0
 IsBalanced run m =
     count_below (bits_of run) (content run.start) + count_by found_off (take m run.records)

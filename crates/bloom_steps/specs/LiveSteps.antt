@@ -23,7 +23,7 @@ IsMade words other before (Other i) found after = InTurn (FoundByLoad other i fo
 IsMade words other before (Take i) found after = InTurn (FoundBySwap words i found) before after
 
 -- a call was made on a vector, with this number of hashes: every step of one of its scripts was
--- made, from turn to turn, so each by itself and in order, and the reply is the script's answer
+-- made, from turn to turn, so each by itself and in order, and the reply is that of the script
 pub record MakesCallOn
     (words other : SharedWords) (hashes : ℕ) (call : Call) (reply : Option Bool) : Type 0 where
   pub taken : List Taken

@@ -1,5 +1,5 @@
--- What a machine asks and answers wherever it stands, and where a reply leaves it: all that public
--- clauses say of machines. The machine is this project's own.
+-- Which step a machine asks for and what it replies, wherever it stands, and where a word found
+-- leaves it: all that public clauses say of machines. The machine is this project's own.
 use Rattle.std.specs.Prelude.{ℕ, ◌<◌, ◌≡◌, ◌⊎◌, Bool, List, [], ◌∷◌, ◌++◌, Option, Some, None}
 use Rattle.bloom_steps.specs.declared.steps.vocabulary.Step.{Step}
 use Rattle.bloom_steps.specs.declared.steps.vocabulary.Call.{Call}
@@ -21,7 +21,7 @@ pub record AsksAfter (w k : ℕ) (call : Call) (s : List Taken) (asked : Option 
   pub begun : IsBeginning w k call s → ComesNext w k call s asked
   pub over : IsScript w k call s → asked ≡ None
 
--- what is answered: after a beginning nothing, after a whole script what it does
+-- the reply: after a beginning none, after a whole script that of the script
 pub record AnswersAfter
     (w k : ℕ) (call : Call) (s : List Taken) (answer : Option Bool) : Type 0 where
   pub says : answer ≡ answer_of s
@@ -32,13 +32,13 @@ abbrev pub AsksRight : Machine → Option Step → Type 0
 AsksRight m asked =
     (w k : ℕ) (call : Call) (s : List Taken) → StandsAt m w k call s → AsksAfter w k call s asked
 
--- what a machine answers, wherever it stands
+-- what a machine replies, wherever it stands
 abbrev pub AnswersRight : Machine → Option Bool → Type 0
 AnswersRight m answer =
     (w k : ℕ) (call : Call) (s : List Taken) → StandsAt m w k call s
     → AnswersAfter w k call s answer
 
--- after a reply the machine stands one step further on
+-- once it has the word that its step found, the machine stands one step further on
 abbrev pub StandsFurther : Machine → ℕ → Machine → Type 0
 StandsFurther m found n =
     (w k : ℕ) (call : Call) (s : List Taken) (step : Step)

@@ -1,6 +1,6 @@
--- Moments of a run, the spans of its calls, and what a record turns on and off. Moment m is the set
+-- Moments of a run, the spans of its calls, and what a record sets and clears. Moment m is the set
 -- after the first m records; the span of a call goes from just after its beginning to just after
--- its last step. A look-up is undisturbed if nothing of its hash is turned off in its span. All of
+-- its last step. A look-up is undisturbed if nothing of its hash is cleared in its span. All of
 -- this is said of the finished course, and is this project's own.
 use Rattle.std.specs.Prelude.{ℕ, ◌+◌, ◌*◌, ◌≤◌, ◌<◌, ◌≡◌, ◌≢◌, ◌&&◌, Bool, true, false, not, List, length, Some, slice_get, take}
 use Rattle.bloom_parts.specs.Content.{content}
@@ -46,20 +46,20 @@ pub record IsInSpan (began last m : ℕ) : Type 0 where
   pub after : began + 1 ≤ m
   pub upto : m ≤ last + 1
 
--- whether record m turns a position on: it is off at the moment before, and on at the moment after
+-- whether record m sets a position: it is clear at the moment before, and set at the moment after
 abbrev pub turns_on : Course → ℕ → ℕ → Bool
 turns_on run m p = not (moment run m p) && moment run (m + 1) p
 
--- whether record m turns a position off
+-- whether record m clears a position
 abbrev pub turns_off : Course → ℕ → ℕ → Bool
 turns_off run m p = moment run m p && not (moment run (m + 1) p)
 
--- no record from one to another, of any party, turns a position of a hash off
+-- no record from one to another, of any party, clears a position of a hash
 abbrev pub NoneTurnedOff : ℕ → Course → ℕ → ℕ → ℕ → Type 0
 NoneTurnedOff k run hash first last =
     (m p : ℕ) → first ≤ m → m ≤ last → IsPosition (bits_of run) k hash p → turns_off run m p ≡ false
 
--- a finished look-up is undisturbed: no record in its span turns a position of its hash off
+-- a finished look-up is undisturbed: no record in its span clears a position of its hash
 abbrev pub IsUndisturbed : ℕ → Course → ℕ → ℕ → ℕ → Type 0
 IsUndisturbed k run hash began last = NoneTurnedOff k run hash (began + 1) last
 

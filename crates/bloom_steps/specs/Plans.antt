@@ -8,9 +8,9 @@ use Rattle.bloom_steps.specs.declared.steps.vocabulary.Step.TheVariants as step
 use Rattle.bloom_steps.specs.declared.steps.vocabulary.Call.{Call}
 use Rattle.bloom_steps.specs.declared.steps.vocabulary.Call.TheVariants.{Insert, Contains, Clear, Union, Intersect, Take}
 
--- the plan of a call: it turns on the places of a hash; or looks at them up to the first that is
--- off; or turns off each word by one step; or reads each word of the other filter, and turns bits
--- on, or else off, by a step with what it read
+-- the plan of a call: it sets the positions of a hash; or looks at them up to the first that is
+-- clear; or clears each word by one step; or reads each word of the other filter, and sets bits, or
+-- else clears them, by a step with what it read
 pub data Plan : Type 0 where
   TurnsOn : ℕ → Plan
   LooksAt : ℕ → Plan
@@ -40,7 +40,7 @@ goes_by_hash (LooksAt hash) = true
 goes_by_hash (EachWord operation) = false
 goes_by_hash (EachPair operation on) = false
 
--- whether no step of a plan turns a bit off
+-- whether no step of a plan clears a bit
 abbrev pub turns_none_off : Plan → Bool
 turns_none_off (TurnsOn hash) = true
 turns_none_off (LooksAt hash) = true

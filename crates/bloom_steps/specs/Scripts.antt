@@ -1,6 +1,6 @@
 -- The scripts of a call. A script is a whole list of word steps that the call may make, with the
 -- word that each found and how the call stood after it. Which steps make up a call is this
--- project's choice; the places of a hash are those of the crate fastbloom 0.17.0.
+-- project's choice; the positions of a hash are those of the crate fastbloom 0.17.0.
 use Rattle.std.specs.Prelude.{ℕ, ◌+◌, ◌*◌, ◌≤◌, ◌<◌, ◌≡◌, ◌↔◌, Bool, true, false, List, [], ◌∷◌, ◌++◌, length, Option, Some, None, slice_get}
 use Rattle.bloom_parts.specs.Content.{bit_is_on}
 use Rattle.bloom_parts.specs.Places.{place}
@@ -55,11 +55,11 @@ AreStepsOf w (LooksAt hash) s = Each s (λ i t. t.step ≡ load_at (place (64 * 
 AreStepsOf w (EachWord operation) s = Each s (λ i t. t.step ≡ operation i)
 AreStepsOf w (EachPair operation on) s = ArePairs operation s
 
--- the steps so far found on the bits that they looked at
+-- the steps so far found the bits set that they looked at
 abbrev pub AllFoundOn : ℕ → ℕ → List Taken → Type 0
 AllFoundOn w hash s = Each s (λ i t. bit_is_on t.found (place (64 * w) hash i) ≡ true)
 
--- a look-up ends after the first step that found its bit off, and else after all hashes
+-- a look-up ends after the first step that found its bit clear, and else after all hashes
 pub record StopsAtFirstOff (w k hash : ℕ) (s : List Taken) : Type 0 where
   pub earlier : AllButLast s (λ i t. bit_is_on t.found (place (64 * w) hash i) ≡ true)
   pub early : Last s (λ i t. i + 1 < k → bit_is_on t.found (place (64 * w) hash i) ≡ false)
@@ -71,8 +71,8 @@ StopsRight w k (LooksAt hash) s = StopsAtFirstOff w k hash s
 StopsRight w k (EachWord operation) s = Unit {0}
 StopsRight w k (EachPair operation on) s = Unit {0}
 
--- how a plan stands after its last step: turning on a hash answers false exactly if some step found
--- its bit off, and a look-up answers what its last step found
+-- how a plan stands after its last step: an insert of a hash replies false exactly if some step
+-- found its bit clear, and a look-up replies what its last step found
 abbrev pub IsLastEnd : ℕ → Plan → List Taken → End → Type 0
 IsLastEnd w (TurnsOn hash) s end = (reply : Bool) × (end ≡ Answer reply)
     × ((reply ≡ false) ↔ Any s (λ i t. bit_is_on t.found (place (64 * w) hash i) ≡ false))
@@ -104,13 +104,13 @@ abbrev pub IsNext : ℕ → ℕ → Call → List Taken → Step → Type 0
 IsNext w k call s step =
     (t : Taken) (rest : List Taken) → IsScript w k call (s ++ t ∷ rest) → t.step ≡ step
 
--- what the end of a call answers
+-- the reply with which a call ended, if it has one
 abbrev pub answer_of_end : End → Option Bool
 answer_of_end Running = None
 answer_of_end Done = None
 answer_of_end (Answer reply) = Some reply
 
--- what the last of some steps answers
+-- the reply after the last of some steps, if there is one
 abbrev pub answer_of : List Taken → Option Bool
 answer_of [] = None
 answer_of (t ∷ []) = answer_of_end t.ended
@@ -122,7 +122,7 @@ Linked {S} moved before [] after = after ≡ before
 Linked {S} moved before (t ∷ ts) after =
     (mid : S) × moved before t.step t.found mid × Linked moved mid ts after
 
--- steps that carry out a plan lead from one store to the other, and its answer was given
+-- steps that carry out a plan lead from one store to the other, with this reply
 pub record DrivesPlan
     {S : Type 0} (moved : S → Step → ℕ → S → Type 0) (w k : ℕ) (plan : Plan) (before after : S)
     (reply : Option Bool) : Type 0 where
@@ -131,7 +131,7 @@ pub record DrivesPlan
   pub linked : Linked moved before taken after
   pub answers : reply ≡ answer_of taken
 
--- a whole script of the call leads from one store to the other, and its answer was given
+-- a whole script of the call leads from one store to the other, with this reply
 abbrev pub Drives : {S : Type 0} → (S → Step → ℕ → S → Type 0) → ℕ → ℕ → Call → S → S
     → Option Bool → Type 0
 Drives moved w k call before after reply = DrivesPlan moved w k (plan_of call) before after reply

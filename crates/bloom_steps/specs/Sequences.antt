@@ -21,12 +21,12 @@ pub record MadeCall : Type 0 where
   pub call : Call
   pub taken : List Taken
 
--- records cut at each beginning: the steps ahead of the first, and the calls with their steps
+-- records split at each beginning: the steps ahead of the first, and the calls with their steps
 pub record Cut : Type 0 where
   pub ahead : List Taken
   pub calls : List MadeCall
 
--- the cut of records
+-- the split of records
 abbrev pub cut : List Record → Cut
 cut [] = record { ahead = []; calls = [] }
 cut (Began party call ∷ rs) =
@@ -62,7 +62,7 @@ command_of Take other = operation.Clear
 abbrev pub commands_of : List MadeCall → List Operation
 commands_of calls = map (λ (m : MadeCall). command_of m.call (content (other_words m.taken))) calls
 
--- the set and the answers are those of the commands
+-- the set and the replies are those of the commands
 pub record ActsAs (k : ℕ) (run : Course) (calls : List MadeCall) : Type 0 where
   pub bits : (p : ℕ) → content run.words p
       ≡ state_after (bits_of run) k (content run.start) (commands_of calls) p

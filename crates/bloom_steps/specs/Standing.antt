@@ -1,6 +1,6 @@
--- How the fields of a machine, a call under way, stand to the steps made so far, and what a reply
--- changes in them. No steps are stored. A private field of a machine is named here alone: what
--- public clauses say of machines stands in Machines. The machine is this project's own.
+-- How the fields of a machine, a call under way, stand to the steps made so far, and what a word
+-- found changes in them. No steps are stored. A private field of a machine is named here alone:
+-- what public clauses say of machines stands in Machines. The machine is this project's own.
 use Rattle.std.specs.Prelude.{ℕ, ◌+◌, ◌-◌, ◌*◌, ◌/◌, ◌%◌, ◌<◌, ◌≡◌, ◌↔◌, Bool, true, false, not, ◌&&◌, ◌||◌, ◌==◌, List, length, Option, Some, None, slice_get, if◌then◌else◌}
 use Rattle.bloom_parts.specs.Chain.{IsAt}
 use Rattle.bloom_parts.specs.Content.{bit_is_on}
@@ -31,18 +31,18 @@ next_step (EachPair operation on) m = next_of_pairs operation m
 abbrev pub asks : Machine → Option Step
 asks m = if m.ended then None else Some (next_step (plan_of m.call) m)
 
--- the answer of a plan whose bits were all on, or not
+-- the reply of a plan, by whether all its bits were set
 abbrev pub answer_by : Plan → Bool → Option Bool
 answer_by (TurnsOn hash) all_on = Some all_on
 answer_by (LooksAt hash) all_on = Some all_on
 answer_by (EachWord operation) all_on = None
 answer_by (EachPair operation on) all_on = None
 
--- what a machine answers
+-- what a machine replies
 abbrev pub answers : Machine → Option Bool
 answers m = if m.ended then answer_by (plan_of m.call) m.all_on else None
 
--- the end of a call that gives an answer, or none
+-- the end of a call that has a reply, or none
 abbrev pub end_by : Option Bool → End
 end_by None = Done
 end_by (Some reply) = Answer reply
@@ -69,12 +69,12 @@ pub record GoesOn (w k : ℕ) (plan : Plan) (s : List Taken) : Type 0 where
   pub keeps_on : KeepsOn w plan s
   pub running : Each s (λ i t. t.ended ≡ Running)
 
--- the machine is at place i of a hash
+-- the machine is at position i of a hash
 pub record IsAtPlace (w hash i : ℕ) (m : Machine) : Type 0 where
   pub here : m.place ≡ place (64 * w) hash i
   pub chained : IsAt hash (i + 1) m.chain
 
--- a plan of a hash is at the place of its next step
+-- a plan of a hash is at the position of its next step
 abbrev pub IsPlaced : ℕ → Plan → Machine → ℕ → Type 0
 IsPlaced w (TurnsOn hash) m i = IsAtPlace w hash i m
 IsPlaced w (LooksAt hash) m i = IsAtPlace w hash i m
@@ -120,19 +120,19 @@ ends_with (LooksAt hash) m found = not (bit_is_on found m.place) || m.turn + 1 =
 ends_with (EachWord operation) m found = m.turn + 1 == m.num_words
 ends_with (EachPair operation on) m found = m.turn + 1 == 2 * m.num_words
 
--- at a reply a machine at place i of a hash goes to place i + 1
+-- once it has a word found, a machine at position i of a hash goes to position i + 1
 abbrev pub GoesToNextPlace : ℕ → Machine → Machine → Type 0
 GoesToNextPlace hash m n =
     (w i : ℕ) → m.num_words ≡ w → IsAtPlace w hash i m → IsAtPlace w hash (i + 1) n
 
--- at a reply a plan of a hash moves its machine one place on
+-- once it has a word found, a machine with a plan of a hash moves one position on
 abbrev pub MovesOn : Plan → Machine → Machine → Type 0
 MovesOn (TurnsOn hash) m n = GoesToNextPlace hash m n
 MovesOn (LooksAt hash) m n = GoesToNextPlace hash m n
 MovesOn (EachWord operation) m n = Unit {0}
 MovesOn (EachPair operation on) m n = Unit {0}
 
--- one reply leads from one machine to the other
+-- one word found leads from one machine to the other
 pub record Replied (m : Machine) (found : ℕ) (n : Machine) : Type 0 where
   pub same_call : n.call ≡ m.call
   pub same_words : n.num_words ≡ m.num_words

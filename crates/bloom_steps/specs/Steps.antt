@@ -1,5 +1,5 @@
 -- Word steps. A word step is one operation on one word of a filter, and a call is made of such
--- steps. What a step does is said by a decider: it makes each position on or off, or leaves it
+-- steps. What a step does is said by a decider: it sets each position, clears it, or leaves it
 -- undecided. Which kinds of steps there are is this project's choice; a bit lies where it does in
 -- the crate fastbloom 0.17.0.
 use Rattle.std.specs.Prelude.{ℕ, ◌/◌, ◌%◌, ◌^◌, Bool, true, false, not, ◌&&◌, List, Some, None, map, ◌==◌, if◌then◌else◌}
@@ -19,7 +19,7 @@ word_index (Zero i) = i
 word_index (Other i) = i
 word_index (Take i) = i
 
--- the step that turns a position on
+-- the step that sets a position
 abbrev pub or_at : ℕ → Step
 or_at p = Or (p / 64) (2 ^ (p % 64))
 

@@ -1,4 +1,4 @@
-//! Calls on a filter as steps on single words: what they ask, find and answer, in any order.
+//! Calls on a filter as steps on single words: what they ask, find and reply, in any order.
 #![tactic(auto)]
 
 pub mod laws;

@@ -36,7 +36,7 @@ pub struct Request<'n, 's> {
     pub names: Option<&'n [&'s str]>,
     /// How many different lines are expected.
     pub items: u64,
-    /// The share of new lines that may be held back by mistake.
+    /// The share of new lines that may be false positives, and so be held back.
     pub rate: Rate,
     /// How many bytes a line may have, without its end.
     pub longest: usize,
@@ -44,7 +44,7 @@ pub struct Request<'n, 's> {
     pub skips_longer: bool,
     /// Whether one filter for these many lines is kept, however many come.
     pub fixed: bool,
-    /// Whether the lines that are held back are written, in place of the new ones.
+    /// Whether the lines that are held back are written, and not the new ones.
     pub held_back: bool,
     /// Whether only the counts are written.
     pub count: bool,

@@ -95,13 +95,13 @@ fn tell_long(rt: &HostRuntime, place: &str, is_named: bool, number: u64, longest
     };
 }
 
-/// Tells that an input is the output, and answers the status.
+/// Tells that an input is the output, and returns the status.
 pub fn tell_output(rt: &HostRuntime, name: &str) -> u8 {
     let _ = eprintln!(rt; "duplicates: {} is the output, too", called(name));
     BAD
 }
 
-/// Tells why a run ended early, in which input it was, and answers the status. A line may have
+/// Tells why a run ended early, in which input it was, and returns the status. A line may have
 /// `longest` bytes.
 pub fn tell_fault(
     rt: &HostRuntime,
@@ -136,7 +136,7 @@ pub fn tell_fault(
     }
 }
 
-/// Tells that there is no room, and answers the status.
+/// Tells that there is no room, and returns the status.
 pub fn tell_no_room(rt: &HostRuntime, what: &str) -> u8 {
     let _ = eprintln!(rt; "duplicates: {what}");
     NO_ROOM

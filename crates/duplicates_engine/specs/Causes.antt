@@ -103,8 +103,8 @@ pub record StopsAtLine {V : Type 0} (refuses : V → List ℕ → GrowingError �
 
 module _ {V I : Type 0} (refuses : V → List ℕ → GrowingError → Type 0)
     (fails : I → I → ErrorKind → Type 0) where
-  -- behind these lines came what a fault tells. Memory, a read and a write may fail at any line; no
-  -- read is told to fail for want of memory
+  -- what a fault tells came after these lines. Memory, a read and a write may fail at any line; no
+  -- read is told to fail out of memory
   abbrev pub IsCaused : ℕ → ℕ → Option (List (List ℕ)) → List (List ℕ) → V → I → Fault → Type 0
   IsCaused end longest come lines sieve inputs (TooLong number) = Unit {0}
   IsCaused end longest come lines sieve inputs Memory = Unit {0}

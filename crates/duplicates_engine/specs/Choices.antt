@@ -1,5 +1,5 @@
--- Which lines a run writes, in words of lines alone: neither the sieve nor its replies are named. A
--- place is the number of a line among all lines of all inputs, from 0 on.
+-- Which lines a run writes, in words of lines alone: neither the sieve nor its replies are named.
+-- An index is the number of a line among all lines of all inputs, from 0 on.
 use Rattle.std.specs.Prelude.{◌≡◌, ◌≢◌, ◌⊎◌, ◌<◌, ℕ, Bool, true, false, List, [], length, get_or, map, filter, Option}
 use Rattle.std.specs.List.{range_with_len}
 use Rattle.std.specs.Io.KnownBytes.{Appends}
@@ -13,22 +13,22 @@ use Rattle.duplicates_engine.specs.Inputs.{AreAllRead}
 use Rattle.duplicates_engine.specs.Kept.{lines_text}
 use Rattle.duplicates_engine.specs.Longer.{limit_of}
 
--- the lines at the places of a set, in order
+-- the lines at the indices of a set, in order
 abbrev pub lines_at : (ℕ → Bool) → List (List ℕ) → List (List ℕ)
 lines_at A lines =
     map (λ place. get_or lines place []) (filter A (range_with_len 0 (length lines)))
 
--- the line at this place differs from every line before it
+-- the line at this index differs from every line before it
 abbrev pub IsNewAt : List (List ℕ) → ℕ → Type 0
 IsNewAt lines place =
     (earlier : ℕ) → earlier < place → get_or lines earlier [] ≢ get_or lines place []
 
--- the line at this place is longer than a line may be
+-- the line at this index is longer than a line may be
 abbrev pub IsLongerAt : ℕ → List (List ℕ) → ℕ → Type 0
 IsLongerAt longest lines place = longest < length (get_or lines place [])
 
--- these lines stand at some places of all lines. Each of them differs from every line before it, or
--- is longer than a line may be, and each longer one is among them
+-- these are the lines at some indices of all lines. Each of them differs from every line before it,
+-- or is longer than a line may be, and each longer one is among them
 pub record WritesNew (longest : ℕ) (lines written : List (List ℕ)) : Type 0 where
   pub places : ℕ → Bool
   pub stand : lines_at places lines ≡ written
@@ -37,7 +37,7 @@ pub record WritesNew (longest : ℕ) (lines written : List (List ℕ)) : Type 0 
   pub longer : (place : ℕ) → place < length lines → IsLongerAt longest lines place
       → places place ≡ true
 
--- these lines stand at some places of all lines. Each line at another place, which is left out,
+-- these are the lines at some indices of all lines. Each line at another index, which is left out,
 -- differs from every line before it, or is longer than a line may be, and each longer one is left
 -- out
 pub record LeavesOutNew (longest : ℕ) (lines written : List (List ℕ)) : Type 0 where

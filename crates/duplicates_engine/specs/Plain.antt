@@ -8,7 +8,7 @@ use Rattle.bloom_plain.specs.SourceHash.{hash_by}
 use Rattle.duplicates_engine.specs.Longer.{short_lines, short_replies}
 use Rattle.duplicates_engine.specs.Sieves.{HasSifted}
 
--- the hash that stands for a line: the answer of a fresh hasher after one write of its bytes
+-- the hash that stands for a line: what a fresh hasher returns after one write of its bytes
 abbrev pub line_hash : {H : Type 0} → hasher.Ghosts H → H → List ℕ → ℕ
 line_hash h fresh line = hash_by h fresh (line ∷ [])
 

@@ -11,14 +11,14 @@ module _ {V : Type 0} (sifts : V → List ℕ → Bool → V → Type 0) where
   SiftsAll old (line ∷ lines) (reply ∷ replies) new =
       (next : V) × sifts old line reply next × SiftsAll next lines replies new
 
--- what one line does where a longer one isn't sifted: that is answered true, since it may have come
--- before
+-- what one line does where a longer one isn't sifted: for such a line true is returned, since it
+-- may have come before
 pub record SiftsShort {V : Type 0} (sifts : V → List ℕ → Bool → V → Type 0) (longest : ℕ)
     (old : V) (line : List ℕ) (reply : Bool) (new : V) : Type 0 where
   pub short : length line ≤ longest → sifts old line reply new
   pub longer : longest < length line → (reply ≡ true) × (new ≡ old)
 
--- a line that was answered false differs from every line before it
+-- a line with the reply false differs from every line before it
 abbrev pub AreNew : List (List ℕ) → List Bool → Type 0
 AreNew lines replies = (i j : ℕ) → i < j → j < length lines
     → get_or replies j true ≡ false → get_or lines i [] ≢ get_or lines j []
@@ -28,14 +28,14 @@ abbrev pub HasShort : ℕ → (List ℕ → Type 0) → List (List ℕ) → Type
 HasShort longest has lines = (i : ℕ) → i < length lines
     → length (get_or lines i []) ≤ longest → has (get_or lines i [])
 
--- a sieve had no line that was answered false
+-- a sieve had no line with the reply false
 abbrev pub AreUnseen : (List ℕ → Type 0) → List (List ℕ) → List Bool → Type 0
 AreUnseen has lines replies = (j : ℕ) → j < length lines
     → get_or replies j true ≡ false → has (get_or lines j []) → ⊥
 
--- these lines were sifted, but for longer ones, in order, with these replies: those answered false
--- are new, also to what the sieve had before, and in the end it has all that were sifted, and what
--- it had
+-- these lines were sifted, but for longer ones, in order, with these replies. Those with the reply
+-- false are new, also to what the sieve had before. In the end it has all that were sifted, and
+-- what it had
 pub record HasSifted {V : Type 0} (has : V → List ℕ → Type 0)
     (sifts : V → List ℕ → Bool → V → Type 0) (longest : ℕ) (old new : V)
     (lines : List (List ℕ)) (replies : List Bool) : Type 0 where

@@ -3,12 +3,12 @@
 use Rattle.std.specs.Prelude.{◌≡◌, ◌≢◌, ◌%◌, ◌+◌, ◌-◌, ◌*◌, ◌/◌, ◌<◌, ◌≤◌, ◌^◌, ℕ, zero, suc, min, Bool, true, false, if◌then◌else◌, List, [], ◌∷◌, ◌++◌, length, get_or, map, take, ⊤, Option, None, Some}
 use Rattle.duplicates_engine.specs.declared.tally.Tally.{Tally}
 
--- how many lines were answered true
+-- how many lines have the reply true
 abbrev pub held_back : List Bool → ℕ
 held_back [] = 0
 held_back (reply ∷ replies) = if reply then held_back replies + 1 else held_back replies
 
--- how many lines were answered false
+-- how many lines have the reply false
 abbrev pub new_lines : List Bool → ℕ
 new_lines [] = 0
 new_lines (reply ∷ replies) = if reply then new_lines replies else new_lines replies + 1

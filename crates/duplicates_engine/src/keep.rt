@@ -61,11 +61,11 @@ fn keep_lines<V: Sieve, I: Inputs, W: Write, P: Progress, const END: u8>(
 
 /// Sifts each line of the inputs, and writes those that are asked for, each with its end.
 ///
-/// A new line is held back by mistake only where the sieve takes it for a line before; no line is
-/// called new twice, in whichever inputs it stands. Where longer lines are passed on, they are
-/// written with the new ones, and not sifted. What was written is flushed before each read and open
-/// that may wait, and before the call returns. `progress` is told each million lines, and warned
-/// once where more new lines came than the most.
+/// A new line is held back only where it is a false positive of the sieve. No line is called new
+/// twice, in whichever inputs it stands. Where longer lines are passed on, they are written with
+/// the new ones, and not sifted. What was written is flushed before each read and open that may
+/// wait, and before the call returns. `progress` is told each million lines, and warned once where
+/// more new lines came than the most.
 ///
 /// # Errors
 /// `TooLong` at the first line that has more bytes than a line may have, where longer lines aren't
@@ -80,9 +80,9 @@ pub fn keep_new<V: Sieve, I: Inputs, W: Write, P: Progress, const END: u8>(
     output: &mut W,
     progress: &mut P,
 ) -> Result<Total, Fault>
-    // All lines were sifted in order, but for longer ones; each that was answered false differs
-    // from every line before it. Those that are asked for were written, and progress was told what
-    // there was to tell.
+    // All lines were sifted in order, but for longer ones. Each line for which the sieve returned
+    // false differs from every line before it. Those that are asked for were written, and progress
+    // was told what there was to tell.
     ensures all { IfOk result (KeepsNew V.has V.sifts END options
         (I.coming inputs.old) (I.coming inputs.new) sieve.old sieve.new
         (W.contents output.old) (W.contents output.new)

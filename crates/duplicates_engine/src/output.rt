@@ -7,7 +7,7 @@ use crate::options::{Options, Written};
 use lines::put_line_by;
 use std::io::Write;
 
-// Whether a line is written that was answered this.
+// Whether a line is written for which the sieve returned this.
 fn writes(written: Written, is_longer: bool, is_held: bool) -> bool
     ensures { result ≡ is_written written is_longer is_held }
 {

@@ -1,4 +1,4 @@
-//! What answers of each line whether it may have come before.
+//! What tells of each line whether it may have come before.
 ghost use Rattle.std.specs.Prelude.{◌≡◌, ◌≤◌, true, length, List, ℕ, IfOk, IfErr, OnOk, OnErr};
 ghost use Rattle.duplicates_engine.specs.Causes.{RefusesLine};
 ghost use Rattle.duplicates_engine.specs.Sieves.{SiftsShort};
@@ -13,16 +13,16 @@ pub trait Sieve {
     ghost use Rattle.std.specs.Prelude.{ℕ, Bool, List};
     ghost use Rattle.bloom_plain.specs.declared.growing.error.GrowingError.{GrowingError};
 
-    /// A line that the sieve has is never answered false.
+    /// The sieve never returns false for a line that it has.
     ghost has: { Self → List ℕ → Type 0 };
 
-    /// What one line does, from a sieve to the next, and what is answered.
+    /// What one line does, from a sieve to the next, and what is returned.
     ghost sifts: { Self → List ℕ → Bool → Self → Type 0 };
 
     /// Which lines a sieve may refuse, and with which error.
     ghost refuses: { Self → List ℕ → GrowingError → Type 0 };
 
-    /// Takes a line, and answers whether it may have come before.
+    /// Takes a line, and returns whether it may have come before.
     ///
     /// # Errors
     /// `Filter` with `Memory`, or another where the sieve can take no more.

@@ -43,7 +43,7 @@ abbrev pub UnionOfPositionsLaw : Type 0
 UnionOfPositionsLaw = (n k : ℕ) (hashes : List ℕ) (p : ℕ)
     → (positions_of_all n k hashes p ≡ true) ↔ IsPositionOfOne n k hashes p
 
--- filters of one shape that were filled with the same hashes, however these were cut into parts,
+-- filters of one shape that were filled with the same hashes, however these were split into parts,
 -- are equal
 abbrev pub AnyCuttingLaw : (S : Type 0) → Type 0
 AnyCuttingLaw S = (shape : Shape) (f g : Filter S) (hashes others : List ℕ)

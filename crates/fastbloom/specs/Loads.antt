@@ -4,7 +4,7 @@ use Rattle.bloom_parts.specs.Content.{content}
 use Rattle.bloom_parts.specs.Places.{IsPart}
 use Rattle.fastbloom.specs.Passes.{Sight, known_of, sure_of, IsSamePass}
 
--- from old to new a pass loaded the word of a position, and answers whether the position is on
+-- from old to new a pass loaded the word of a position, and `answer` is whether the position is set
 pub record LooksAt (position : ℕ) (old new : Sight) (answer : Bool) : Type 0 where
   pub same : IsSamePass old new
   pub gained : new.gained ≡ old.gained

@@ -1,7 +1,8 @@
 -- A seated filter and its passes as callers see them, and what calls do to a pass. A seated filter
 -- is one whose words threads share at a table, where each thread has a seat. A pass is a thread's
--- seat as callers see it. It knows the positions that its steps found or turned on and those that
--- it was told of, and it gained those that its steps turned on. These words are this project's own.
+-- seat as callers see it. It knows the positions that its steps found set or set themselves, and
+-- those that it was told of. It gained those that its steps set. These words are this project's
+-- own.
 use Rattle.std.specs.Prelude.{◌≡◌, ◌+◌, ◌*◌, ◌/◌, ◌<◌, ◌≤◌, ◌⊎◌, ◌||◌, ℕ, Bool, true, false, List, []}
 use Rattle.atomic_table.specs.Seated.{TableId}
 use Rattle.atomic_table.specs.declared.shared.Seat.{Seat}
@@ -82,7 +83,7 @@ pub record HasGained (old new : Sight) : Type 0 where
   pub gained : gained_of new position ≡ true
   pub before : gained_of old position ≡ false
 
--- from old to new a pass turned on a set of positions by its own steps
+-- from old to new a pass set all positions of a set by its own steps
 pub record InsertsAs (P : ℕ → Bool) (old new : Sight) (answer : Bool) : Type 0 where
   pub same : IsSamePass old new
   -- the pass knows exactly these more
@@ -91,31 +92,31 @@ pub record InsertsAs (P : ℕ → Bool) (old new : Sight) (answer : Bool) : Type
   pub kept : IsPart (gained_of old) (gained_of new)
   pub gained : (p : ℕ) → gained_of new p ≡ true
       → (gained_of old p ≡ true) ⊎ ((P p ≡ true) × (sure_of old p ≡ false))
-  -- the answer is false exactly if the pass gained
+  -- the call returns false exactly if the pass gained
   pub grew : answer ≡ false → HasGained old new
   pub stayed : answer ≡ true → IsPart (gained_of new) (gained_of old)
 
--- a position lies in the word of one of the first places of a hash
+-- a position lies in the word of one of the first positions of a hash
 pub record IsBeside (n hash places p : ℕ) : Type 0 where
   pub index : ℕ
   pub below : index < places
   pub word : p / 64 ≡ place n hash index / 64
 
--- from old to new a pass found this many first places of a hash on
+-- from old to new a pass found this many first positions of a hash set
 pub record Looks (n hash places : ℕ) (old new : Sight) : Type 0 where
   pub same : IsSamePass old new
   pub gained : new.gained ≡ old.gained
   pub kept : IsPart (known_of old) (known_of new)
   pub found : (i : ℕ) → i < places → known_of new (place n hash i) ≡ true
 
--- what a pass knows more lies in the words of this many first places, which it loaded
+-- what a pass comes to know lies in the words of this many first positions, which it loaded
 abbrev pub GrowsBeside : ℕ → ℕ → ℕ → Sight → Sight → Type 0
 GrowsBeside n hash loads old new =
     (p : ℕ) → known_of new p ≡ true → (known_of old p ≡ true) ⊎ IsBeside n hash loads p
 
--- from old to new a pass looked at the places of a hash in order, up to the first that is off
+-- from old to new a pass looked at the positions of a hash in order, up to the first that is clear
 pub record Finds (n k hash : ℕ) (old new : Sight) (answer : Bool) : Type 0 where
-  -- how many first places were found on; no place was looked at after the first that is off
+  -- how many first positions were found set; none was looked at after the first that is clear
   pub on : ℕ
   pub most : on ≤ k
   pub looks : Looks n hash on old new
@@ -138,7 +139,7 @@ pub record Meets (a b a_new b_new : Sight) : Type 0 where
   pub start_a : IsPart (content a.start) (known_of a_new)
   pub start_b : IsPart (content b.start) (known_of b_new)
 
--- the words in the end: all is on that the pass was sure of, and nothing that it gained was on at
+-- the words in the end: all is set that the pass was sure of, and nothing that it gained was set at
 -- the start
 pub record Closes (pass : Sight) (words : List ℕ) : Type 0 where
   pub start : IsPart (content pass.start) (content words)

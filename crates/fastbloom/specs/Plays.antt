@@ -28,15 +28,15 @@ pub record SitsAt (seat : FilterSeat) (table : TableId) (size : Size) : Type 0 w
 abbrev pub sure_in : Sets → ℕ → Bool
 sure_in v p = content v.start p || set_of v.known p
 
--- what the seat is sure of is on in the word found
+-- what the seat is sure of is set in the word found
 abbrev pub Shows : Sets → ℕ → ℕ → Type 0
 Shows v i found = (p : ℕ) → p / 64 ≡ i → sure_in v p ≡ true → bit_is_on found p ≡ true
 
--- after a load the seat knows what it found on
+-- after a load the seat knows what it found set
 abbrev pub after_load : Sets → ℕ → ℕ → Sets
 after_load v i found = record v { known = v.known ++ on_in i found }
 
--- after an `|` the seat knows the positions of the mask, and gained those that were off
+-- after an `|` the seat knows the positions of the mask, and gained those that were clear
 abbrev pub after_or : Sets → ℕ → ℕ → ℕ → Sets
 after_or v i mask found = record v {
   known = v.known ++ on_in i mask;
@@ -54,7 +54,7 @@ turned_on step me found new =
     (new.0 ≡ after_or me.0 step.word step.first found) × Shows me.0 step.word found
     × IsPart (set_of me.0.gained) (set_of me.0.known)
 
--- the words with the bits of a mask turned on in word i
+-- the words with the bits of a mask set in word i
 abbrev pub with_bits : List ℕ → ℕ → ℕ → List ℕ
 with_bits words i mask = slice_set words i (bit_or (slice_index words i) mask)
 

@@ -35,12 +35,12 @@ passes_of v = v.passes
 pub record IsSeated (words passes : ℕ) (s : Standing) : Type 0 where
   pub count : length s.words ≡ words
   pub start : List ℕ
-  -- every seat that isn't spent carries the start, and all of it is on
+  -- every seat that isn't spent carries the start, and all of it is set
   pub same_start : (seat : ℕ) (v : Sets) → Has s seat v → v.role ≢ Spent → v.start ≡ start
   pub start_on : IsPart (content start) (content s.words)
-  -- all that is known is on
+  -- all that is known is set
   pub known_on : (seat : ℕ) (v : Sets) → Has s seat v → IsPart (set_of v.known) (content s.words)
-  -- what is gained is known, was off at the start, and was gained by no other seat
+  -- what is gained is known, was clear at the start, and was gained by no other seat
   pub gained_known : (seat : ℕ) (v : Sets) → Has s seat v
       → IsPart (set_of v.gained) (set_of v.known)
   pub gained_new : (seat : ℕ) (v : Sets) → Has s seat v
@@ -52,7 +52,7 @@ pub record IsSeated (words passes : ℕ) (s : Standing) : Type 0 where
       → (p : ℕ) → set_of v.gained p ≡ true → v.role ≡ Pass
   pub one_each : (seat : ℕ) (v : Sets) → Has s seat v → v.role ≡ Pass → 1 ≤ v.passes
   pub few : sum_by passes_of s.views ≡ passes
-  -- what is on was there at the start or was gained
+  -- what is set was set at the start or was gained
   pub accounted : (p : ℕ) → content s.words p ≡ true → (content start p ≡ true) ⊎ IsGained s p
   -- while the first seat puts the words in it is alone, and `start` is what was put in so far
   pub opening : (seat : ℕ) (v : Sets) → Has s seat v → v.role ≡ First

@@ -16,7 +16,7 @@ SureFoundLaw =
     (f : SeatedFilter) (old new : Sight) (hash : ℕ) (answer : Bool) → IsSure f old hash
     → Finds (seated_num_bits f) f.hashes hash old new answer → answer ≡ true
 
--- an insert by a pass answers true of what the pass can be sure of
+-- an insert by a pass returns true of what the pass can be sure of
 abbrev pub InsertedLaw : Type 0
 InsertedLaw =
     (f : SeatedFilter) (old new : Sight) (hash : ℕ) (answer : Bool) → IsSure f old hash
@@ -38,7 +38,7 @@ pub record StaysLaw : Type 0 where
       → Knows f a hash ⊎ Knows f b hash → Meets a b a_new b_new
       → Knows f a_new hash × Knows f b_new hash
 
--- what one pass knows, a look-up by another that met it finds, and an insert answers true of it
+-- what one pass knows, a look-up by another that met it finds, and an insert of it returns true
 pub record MetLaw : Type 0 where
   pub found : (f : SeatedFilter) (a b a_new b_new later : Sight) (hash : ℕ) (answer : Bool)
       → Knows f a hash → Meets a b a_new b_new

@@ -14,10 +14,10 @@ picked i test zero = []
 picked i test (suc n) =
     if test (64 * i + n) then (64 * i + n) ∷ picked i test n else picked i test n
 
--- the positions of word i that are on in a word
+-- the positions of word i that are set in a word
 abbrev pub on_in : ℕ → ℕ → List ℕ
 on_in i word = picked i (bit_is_on word) 64
 
--- the positions of word i that are on in a mask and off in the word found
+-- the positions of word i that are set in a mask and clear in the word found
 abbrev pub fresh_in : ℕ → ℕ → ℕ → List ℕ
 fresh_in i mask found = picked i (λ p. bit_is_on mask p && not (bit_is_on found p)) 64

@@ -36,7 +36,7 @@ HasFormFor start items f =
     × HasFormOf f (sized_filter (empty_start start bits) items)
 
 -- a call was made: every step of one of its scripts was made on the words of a filter, from turn to
--- turn, so each by itself and in order, and the reply is the script's answer
+-- turn, so each by itself and in order, and the reply is that of the script
 abbrev pub MakesCall : {S : Type 0} → SharedFilter S → SharedFilter S → Call → Option Bool → Type 0
 MakesCall f other call reply = MakesCallOn f.words other.words f.hashes call reply
 

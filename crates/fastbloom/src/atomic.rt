@@ -55,7 +55,7 @@ impl<S> AtomicBloomFilter<S> {
         }
     }
 
-    // Makes all steps of a call, in order, and gives the call's answer.
+    // Makes all steps of a call, in order, and returns the call's reply.
     #[inline(always)]
     fn make(&self, other: &Self, call: Call) -> Option<bool>
         requires { other.now.words.count ≡ self.now.words.count }
@@ -89,8 +89,8 @@ impl<S> AtomicBloomFilter<S> {
         &self.hasher
     }
 
-    /// Turns on all positions of a hash, and answers whether its own steps found all of them on
-    /// already. So it answers false exactly if it turned on a bit itself.
+    /// Sets all positions of a hash, and returns whether its own steps found all of them set. So it
+    /// returns false exactly if it set a bit itself.
     #[inline(always)]
     pub fn insert_hash(&self, hash: u64) -> bool
         ensures { MakesInsert self.now hash result }
@@ -101,10 +101,10 @@ impl<S> AtomicBloomFilter<S> {
         }
     }
 
-    /// Whether all positions of a hash were found on, one after the other.
+    /// Whether all positions of a hash were found set, one after the other.
     ///
-    /// Its steps stop at the first that is off. While other threads turn positions off, those found
-    /// on may never have been on together.
+    /// Its steps stop at the first that is clear. While other threads clear positions, those found
+    /// set may never have been set all at once.
     #[inline(always)]
     pub fn contains_hash(&self, hash: u64) -> bool
         ensures { MakesCall self.now self.now (Contains hash) (Some result) }

@@ -13,15 +13,15 @@ pub use bloom_plain::laws::{
 };
 pub use bloom_steps::laws::{at_most_one_course, steps_in_memory};
 
-/// Filters of one shape that `fill` answers for the same hashes are equal, however the hashes are
-/// cut into parts, and in whatever order and number they come.
+/// Filters of one shape that `fill` returns for the same hashes are equal, however the hashes are
+/// split into parts, and in whatever order and number they come.
 pub fn fill_of_any_cutting<S>()
     ensures { AnyCuttingLaw S }
 {
     equality_of_filters::<S>();
 }
 
-/// What `fill` answers is what inserts of all hashes, one after the other, make of an empty filter.
+/// What `fill` returns is what inserts of all hashes, one after the other, make of an empty filter.
 pub fn fill_equals_one_filter<S>()
     ensures inserts { FilledByInsertsLaw S }
     // The union of two such filters is filled with the hashes of both.
@@ -30,7 +30,7 @@ pub fn fill_equals_one_filter<S>()
     ensures positions { UnionOfPositionsLaw }
 {}
 
-/// Every hash of every part is contained in what `fill` answers.
+/// Every hash of every part is contained in what `fill` returns.
 pub fn filled_contains<S>()
     ensures { FilledContainsLaw S }
 {}

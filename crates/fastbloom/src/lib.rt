@@ -1,4 +1,4 @@
-//! Bloom filters: sets of which a look-up may say yes by mistake, and never no.
+//! Bloom filters: sets with no false negatives and a chosen rate of false positives.
 #![tactic(auto)]
 
 mod atomic;

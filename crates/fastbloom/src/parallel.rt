@@ -19,11 +19,16 @@ use std::sync::Arc;
 use std::thread::Threads;
 
 /// The filter of all hashes of all parts, under the zero key. Each part goes to a thread of its
-/// own, which passes the gate once and then inserts its hashes into a filter of its own; the answer
-/// is the union of these. It is the filter that one thread would make, however the hashes are cut
-/// into parts.
+/// own, which passes the gate once and then inserts its hashes into a filter of its own. The result
+/// is the union of these filters. It is the filter that one thread would make, however the hashes
+/// are split into parts.
 ///
 /// The call waits for its threads, and returns once each has passed the gate and ended.
+///
+/// ```
+/// let shape = Shape::new(1_000_000, 7)?;
+/// let bloom = fill(rt, alloc, gate, shape, parts)?; // a thread for each part
+/// ```
 ///
 /// # Errors
 /// `Memory` where there is no room for the filters of the workers, before a thread is started, and

@@ -1,4 +1,4 @@
-//! A Bloom filter that threads share under a rule: what a thread knows stays on.
+//! A Bloom filter that threads share under a rule: a position that a thread knows stays set.
 mod closing;
 mod filter;
 pub mod laws;

@@ -20,7 +20,7 @@ abbrev pub code_or_zero : Option FilterError → ℕ
 code_or_zero None = 0
 code_or_zero (Some error) = code_of error
 
--- a plan answers the number of its refusal, or 0
+-- a plan returns 0, or the number of its refusal
 abbrev pub IsCodeFor : ℕ → ℕ → ℕ → ℕ → Type 0
 IsCodeFor num den items code =
     (refusal : Option FilterError) × IsRefusalFor num den items refusal

@@ -22,7 +22,7 @@ WasInserted vector k hash = (reply : Bool) × MakesInsert vector k hash reply
 pub record MakesInserts (vector : SharedWords) (k : ℕ) (hashes : List ℕ) : Type 0 where
   pub each : All (WasInserted vector k) hashes
 
--- bit i is set exactly where there is a hash i, and the call on it gave this answer
+-- `Gives` holds of hash i and bit i, and every bit with no hash is clear
 pub record TellsEach (Gives : ℕ → Bool → Type 0) (hashes bits : List ℕ) : Type 0 where
   pub each : (i : ℕ) → i < length hashes → Gives (slice_index hashes i) (content bits i)
   pub rest : (i : ℕ) → length hashes ≤ i → content bits i ≡ false

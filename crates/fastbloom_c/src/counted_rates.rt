@@ -15,8 +15,8 @@ use bloom_plain::file::FileError;
 /// 2^-63, and 0.
 ///
 /// The rate is the part of all draws of positions, those of the items and of a look-up, by which
-/// each position of the look-up was drawn for an item. `num_hashes` 0 counts as 1. It answers 2 for
-/// no words and 3 for more than 2^58 - 1, and then the bounds are 0 and 2^63, which every rate has.
+/// each position of the look-up was drawn for an item. `num_hashes` 0 counts as 1. Returns 2 for no
+/// words and 3 for more than 2^58 - 1; the bounds are then 0 and 2^63, which every rate has.
 #[unsafe(no_mangle)]
 pub extern "C" fn fastbloom_rate_bounds(
     num_words: usize,
@@ -63,8 +63,8 @@ fn rate_of(words: &[u64], num_hashes: u32) -> Bracket
 /// Two bounds of the rate of false positives of a filter as it is, in units of 2^-63, and whether
 /// there are words, at most 2^58 - 1.
 ///
-/// The rate is the part of all look-ups, each a draw of positions, that the filter answers with
-/// true. `num_hashes` 0 counts as 1. Both bounds are 0 where it answers false.
+/// The rate is the part of all look-ups, each a draw of positions, for which the filter returns
+/// true. `num_hashes` 0 counts as 1. Both bounds are 0 where the call returns false.
 #[unsafe(no_mangle)]
 pub extern "C" fn fastbloom_rate_now(
     words: &[u64],

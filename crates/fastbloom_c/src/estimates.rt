@@ -89,7 +89,7 @@ fn part_in_both(words: &[u64], other: &[u64], num_hashes: u32) -> Bracket
 ///
 /// It is the number of items at which as many bits are expected to be set. Nothing is claimed of
 /// how far the number of items that were inserted may lie from it. `num_hashes` 0 counts as 1. The
-/// upper bound is 2^64 - 1 where there is none. Both are 0 where it answers false.
+/// upper bound is 2^64 - 1 where there is none. Both are 0 where the call returns false.
 #[unsafe(no_mangle)]
 pub extern "C" fn fastbloom_estimate(
     words: &[u64],
@@ -117,7 +117,7 @@ pub extern "C" fn fastbloom_estimate(
 /// Two bounds of the number of items in the union of two filters, which isn't made, and whether
 /// there are words, at most 2^58 - 1, and as many in both.
 ///
-/// `num_hashes`, the upper bound and both bounds where it answers false are as in
+/// `num_hashes`, the upper bound and both bounds where the call returns false are as in
 /// `fastbloom_estimate`.
 #[unsafe(no_mangle)]
 pub extern "C" fn fastbloom_estimate_union(
@@ -149,7 +149,7 @@ pub extern "C" fn fastbloom_estimate_union(
 /// at most 2^58 - 1, and as many in both.
 ///
 /// It is what both have together, less what their union has. `num_hashes`, the upper bound and both
-/// bounds where it answers false are as in `fastbloom_estimate`.
+/// bounds where the call returns false are as in `fastbloom_estimate`.
 #[unsafe(no_mangle)]
 pub extern "C" fn fastbloom_estimate_common(
     words: &[u64],
@@ -179,7 +179,7 @@ pub extern "C" fn fastbloom_estimate_common(
 /// Two bounds of the part of the items of two filters that they have in common, in units of 2^-63,
 /// and whether there are words, at most 2^58 - 1, and as many in both.
 ///
-/// `num_hashes` 0 counts as 1. Both bounds are 0 where it answers false.
+/// `num_hashes` 0 counts as 1. Both bounds are 0 where the call returns false.
 #[unsafe(no_mangle)]
 pub extern "C" fn fastbloom_jaccard(
     words: &[u64],

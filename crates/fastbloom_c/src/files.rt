@@ -31,9 +31,9 @@ fn key_bytes(k0: u64, k1: u64) -> [u8; 16]
     [a, b, c, d, e, f, g, h, i, j, k, l, m, n, o, p]
 }
 
-/// Writes the 64 bytes of a file's head, and answers 0.
+/// Writes the 64 bytes of a file's head, and returns 0.
 ///
-/// `num_hashes` 0 counts as 1. It answers 2 for no words and 3 for more than 2^58 - 1, and then
+/// `num_hashes` 0 counts as 1. Returns 2 for no words and 3 for more than 2^58 - 1, and then
 /// changes nothing.
 #[unsafe(no_mangle)]
 pub extern "C" fn fastbloom_head_write(
@@ -59,9 +59,9 @@ pub extern "C" fn fastbloom_head_write(
     0
 }
 
-/// Reads what a file's head says, and its seal, which is 0 where it has none; answers 0.
+/// Reads what a file's head says, and its seal, which is 0 where it has none; returns 0.
 ///
-/// It answers the number of the refusal where the bytes are no head of a file, and then changes
+/// Returns the number of the refusal where the bytes are no head of a file, and then changes
 /// nothing.
 #[unsafe(no_mangle)]
 pub extern "C" fn fastbloom_head_read(

@@ -8,7 +8,7 @@ use bloom_parts::slices::{
     GROUP, MANY_WORDS, contains_by_count, contains_positions, insert_positions,
 };
 
-/// Turns on all positions of a hash, and answers whether all were on just before.
+/// Sets all positions of a hash, and returns whether all of them were set before.
 ///
 /// `num_hashes` 0 counts as 1.
 #[inline(always)]
@@ -27,7 +27,7 @@ pub extern "C" fn fastbloom_insert_hash(words: &mut [u64], num_hashes: u32, hash
     insert_positions(words, num_hashes.max(1), hash)
 }
 
-/// Whether all positions of a hash are on.
+/// Whether all positions of a hash are set.
 ///
 /// `num_hashes` 0 counts as 1.
 #[inline(always)]
@@ -44,7 +44,7 @@ pub extern "C" fn fastbloom_contains_hash(words: &[u64], num_hashes: u32, hash: 
     }
 }
 
-// Whether all positions of all of these hashes are on. The look-ups branch on no word, so that the
+// Whether all positions of all of these hashes are set. The look-ups branch on no word, so that the
 // memory brings the words side by side.
 fn all_are_on(words: &[u64], num_hashes: u32, hashes: &[u64]) -> bool
     requires { 1 ≤ length words.now }
@@ -70,8 +70,7 @@ fn insert_each(words: &mut [u64], num_hashes: u32, hashes: &[u64])
     }
 }
 
-// Turns on all positions of each of these hashes, unless all of them are on: then nothing is
-// written.
+// Sets all positions of each of these hashes, unless all of them are set: then nothing is written.
 fn insert_unless_present(words: &mut [u64], num_hashes: u32, hashes: &[u64])
     requires { 1 ≤ length words.old }
     ensures content { (p : ℕ) → content words.new p ≡ (content words.old p
@@ -98,7 +97,7 @@ fn insert_together(words: &mut [u64], num_hashes: u32, hashes: &[u64])
     insert_unless_present(words, num_hashes, &hashes[GROUP * turns..]);
 }
 
-/// Turns on all positions of each of these hashes, and answers whether there are words.
+/// Sets all positions of each of these hashes, and returns whether there are words.
 ///
 /// `num_hashes` 0 counts as 1. Where the words are larger than a cache, sixteen hashes are looked
 /// up before they are inserted.

@@ -17,7 +17,7 @@ pub(crate) fn are_offsets(len: usize, offsets: &[u64]) -> bool
     true
 }
 
-// Puts the hash of each item into its place.
+// Writes the hash of each item.
 fn hash_each(key: &[u8; 16], bytes: &[u8], offsets: &[u64], hashes: &mut [u64])
     requires items { AreOffsets (length bytes.now) offsets.now }
     requires room { length hashes.old ≡ num_items offsets.now }

@@ -1,8 +1,8 @@
 //! What C calls: a Bloom filter over words that the caller owns.
 //!
 //! Each call takes the words as a slice, which is a pointer and a number of words in C. No call
-//! asks for memory or has a `requires`. No words are no filter: every call that answers a `bool`
-//! answers false for them. `include/fastbloom.h` says what C must keep, since nothing checks it.
+//! asks for memory or has a `requires`. No words are no filter: every call that returns a `bool`
+//! returns false for them. `include/fastbloom.h` says what C must keep, since nothing checks it.
 #![tactic(auto)]
 
 pub mod blocked;

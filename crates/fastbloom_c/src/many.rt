@@ -17,7 +17,7 @@ fn mask_where(on: bool, position: usize) -> u64
     u64::from(on) << (position % 64)
 }
 
-// Turns a position on where this is to be. It doesn't branch, since no processor foresees it.
+// Sets a position if this is true. It doesn't branch, since no processor foresees it.
 #[inline(always)]
 pub(crate) fn turn_on_where(on: bool, bits: &mut [u64], position: usize)
     requires { position < 64 * length bits.old }
@@ -68,10 +68,10 @@ pub(crate) fn have_room(words: usize, hashes: usize, bits: usize) -> bool
     words > 0 && hashes.div_ceil(64) <= bits
 }
 
-/// Looks up each of these hashes, and answers whether it did: whether there are words, and 64 bits
+/// Looks up each of these hashes, and returns whether it did: whether there are words, and 64 bits
 /// or fewer for each word of `found`.
 ///
-/// Bit i of `found` comes on where all positions of hash i are on. Every other bit goes off.
+/// Sets bit i of `found` where all positions of hash i are set, and clears every other bit.
 /// `num_hashes` 0 counts as 1.
 #[unsafe(no_mangle)]
 pub extern "C" fn fastbloom_contains_hashes(
@@ -119,11 +119,12 @@ fn insert_each_telling(words: &mut [u64], num_hashes: u32, hashes: &[u64], fresh
     }
 }
 
-/// Turns on all positions of each of these hashes, one after the other, and answers whether it did:
+/// Sets all positions of each of these hashes, one after the other, and returns whether it did:
 /// whether there are words, and 64 bits or fewer for each word of `fresh`.
 ///
-/// Bit i of `fresh` comes on where not all positions of hash i were on just before its insert. So a
-/// hash that comes twice is new once at most. Every other bit goes off. `num_hashes` 0 counts as 1.
+/// Sets bit i of `fresh` where not all positions of hash i were set just before its insert, and
+/// clears every other bit. So a hash that comes twice is new once at most. `num_hashes` 0 counts as
+/// 1.
 #[unsafe(no_mangle)]
 pub extern "C" fn fastbloom_insert_hashes_tell_new(
     words: &mut [u64],

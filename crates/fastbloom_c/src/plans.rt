@@ -27,8 +27,8 @@ fn numbers(num: u64, den: u64, items: usize) -> Result<(usize, u32), FilterError
 /// The numbers of words and of hashes of a filter for these items, where 0 counts as 1, at the rate
 /// `num / den` of false positives.
 ///
-/// It answers 0, or the number of a refusal: 4 for a zero part of the rate, 5 for 2^64 bits or
-/// more, 3 for more than 2^58 - 1 words. A refusal sets both numbers to 0.
+/// Returns 0, or the number of a refusal: 4 for a zero part of the rate, 5 for 2^64 bits or more, 3
+/// for more than 2^58 - 1 words. A refusal sets both numbers to 0.
 #[unsafe(no_mangle)]
 pub extern "C" fn fastbloom_plan(
     num: u64,
@@ -41,7 +41,7 @@ pub extern "C" fn fastbloom_plan(
         × (num_words.new ≡ words_for bits) }
     ensures hashes { result ≡ 0
         → num_hashes.new ≡ hashes_for (64 * num_words.new) (max 1 items) }
-    // Only one number of bits is the size, so the answer is decided.
+    // Only one number of bits is the size, so the result is decided.
     ensures code { IsCodeFor num den items result }
     // A refusal sets both numbers to 0, the size of no filter.
     ensures words_zero { 0 < result → num_words.new ≡ 0 }

@@ -11,8 +11,8 @@ use bloom_plain::file::FileError;
 /// Two bounds of the classical formula of the rate of false positives, once this many items are in
 /// a filter, in units of 2^-63, and 0. The formula is a lower bound of the mean rate.
 ///
-/// `num_hashes` 0 counts as 1. It answers 2 for no words and 3 for more than 2^58 - 1, and then the
-/// bounds are 0 and 2^63, which every rate has.
+/// `num_hashes` 0 counts as 1. Returns 2 for no words and 3 for more than 2^58 - 1; the bounds are
+/// then 0 and 2^63, which every rate has.
 #[unsafe(no_mangle)]
 pub extern "C" fn fastbloom_expected_rate(
     num_words: usize,

@@ -42,8 +42,8 @@ pub extern "C" fn fastbloom_shared_insert_hash(
     insert_hash(&words, num_hashes.max(1), hash)
 }
 
-// The number of hashes where all positions of a hash were found set, one after the other, and else
-// 0. It is a number, and made in a function of its own: a loop that answers the call itself keeps
+// Returns the number of hashes if all positions of a hash were found set, one after the other, and
+// else 0. It is a number, made in a function of its own: a loop that gives the `bool` itself keeps
 // each position's bit as a byte, which takes half as long again.
 #[inline(never)]
 pub(crate) fn found_hashes(words: &RawWords, num_hashes: u32, hash: u64) -> u32

@@ -20,7 +20,7 @@ pub extern "C" fn fastbloom_hash(key: &[u8; 16], bytes: &[u8]) -> u64
     hasher.finish()
 }
 
-/// Inserts the hash of bytes, and answers whether it was contained just before.
+/// Inserts the hash of bytes, and returns whether it was contained before.
 #[unsafe(no_mangle)]
 pub extern "C" fn fastbloom_insert(
     words: &mut [u64],

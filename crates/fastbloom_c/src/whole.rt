@@ -6,7 +6,7 @@ ghost use Rattle.bloom_parts.specs.Counts.{count_on};
 use bloom_parts::bit_vector::MAX_WORDS;
 use bloom_parts::slices;
 
-/// Turns every position off, and answers whether there are words.
+/// Clears every position, and returns whether there are words.
 #[unsafe(no_mangle)]
 pub extern "C" fn fastbloom_clear(words: &mut [u64]) -> bool
     ensures done { IsTrue result ↔ (1 ≤ length words.old) }
@@ -17,9 +17,9 @@ pub extern "C" fn fastbloom_clear(words: &mut [u64]) -> bool
     !words.is_empty()
 }
 
-/// Turns on every position that is on in the other filter, and answers whether it did.
+/// Sets every position that is set in the other filter, and returns whether it did.
 ///
-/// It answers false, and changes nothing, where there are no words or the numbers of words differ.
+/// Returns false, and changes nothing, where there are no words or the numbers of words differ.
 #[unsafe(no_mangle)]
 pub extern "C" fn fastbloom_union(words: &mut [u64], other: &[u64]) -> bool
     ensures done { IsTrue result
@@ -36,9 +36,9 @@ pub extern "C" fn fastbloom_union(words: &mut [u64], other: &[u64]) -> bool
     true
 }
 
-/// Turns off every position that is off in the other filter, and answers whether it did.
+/// Clears every position that is clear in the other filter, and returns whether it did.
 ///
-/// It answers false, and changes nothing, where there are no words or the numbers of words differ.
+/// Returns false, and changes nothing, where there are no words or the numbers of words differ.
 #[unsafe(no_mangle)]
 pub extern "C" fn fastbloom_intersect(words: &mut [u64], other: &[u64]) -> bool
     ensures done { IsTrue result
@@ -55,7 +55,7 @@ pub extern "C" fn fastbloom_intersect(words: &mut [u64], other: &[u64]) -> bool
     true
 }
 
-/// Whether the words of two filters are equal. It answers false where there are no words.
+/// Whether the words of two filters are equal. Returns false where there are no words.
 #[unsafe(no_mangle)]
 pub extern "C" fn fastbloom_equal(words: &[u64], other: &[u64]) -> bool
     ensures { IsTrue result ↔ ((1 ≤ length words.now) × (words.now ≡ other.now)) }
@@ -66,7 +66,7 @@ pub extern "C" fn fastbloom_equal(words: &[u64], other: &[u64]) -> bool
     slices::are_equal(words, other)
 }
 
-/// The number of positions that are on, or 0 for more than 2^58 - 1 words.
+/// The number of positions that are set, or 0 for more than 2^58 - 1 words.
 #[unsafe(no_mangle)]
 pub extern "C" fn fastbloom_count_ones(words: &[u64]) -> usize
     ensures value { length words.now < 2 ^ 58

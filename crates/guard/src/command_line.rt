@@ -14,7 +14,7 @@ const VERSION: &str = "0.17.0";
 pub enum Request<'a> {
     /// Put a value at a key.
     Put(&'a str, &'a str),
-    /// Put a value at a key, in place of the one that it has.
+    /// Put a value at a key, and replace the one that it has.
     Replace(&'a str, &'a str),
     /// Show the value of a key.
     Get(&'a str),

@@ -52,7 +52,7 @@ pub fn open_regular(rt: &HostRuntime, path: &str) -> Result<Option<File>, StoreF
     }
 }
 
-// What an answer to a lock says of the store.
+// What the result of a lock says of the store.
 fn locked(answer: Result<(), TryLockError>) -> Result<(), StoreFault> {
     match answer {
         Ok(()) => Ok(()),

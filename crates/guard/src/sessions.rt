@@ -92,7 +92,7 @@ fn delete<'a, M: Medium>(
     status
 }
 
-// Puts one entry, or puts it in place of what its key has.
+// Puts one entry, or replaces what its key has.
 fn put<'a, M: Medium>(
     rt: &'a HostRuntime,
     names: &'a Names,
@@ -110,7 +110,7 @@ fn put<'a, M: Medium>(
     }
 }
 
-// The place of lines that are to be put.
+// The input of lines that are to be put.
 fn input_of<'a>(place: &'a str) -> Input<'a> {
     Input {
         place,
@@ -217,12 +217,12 @@ fn run_in<M: Medium>(rt: &HostRuntime, names: &Names, world: M::World, options: 
     read_in::<M>(rt, names, world, options, reading)
 }
 
-/// Does what is asked for with a store in a file, and answers the status.
+/// Does what is asked for with a store in a file, and returns the status.
 pub fn run<C: Connector>(rt: &HostRuntime, names: &Names, world: C::World, options: Options) -> u8 {
     run_in::<Files<C>>(rt, names, world, options)
 }
 
-/// Reads what is asked for of a store in a file, and answers the status.
+/// Reads what is asked for of a store in a file, and returns the status.
 pub fn read<C: Connector>(
     rt: &HostRuntime,
     names: &Names,

@@ -1,4 +1,4 @@
-//! What is done by a guard, over any store and any place for its filter.
+//! What is done by a guard, over any store, whatever keeps its filter.
 
 use crate::filter_file::FilterFault;
 use crate::names::Names;
@@ -9,7 +9,7 @@ use lines::Reason;
 use std::io;
 use std::io::{BufWriter, Read, Write};
 
-/// Tells that the answer can't be printed.
+/// Tells that the reply can't be printed.
 fn tell_output(rt: &HostRuntime, error: io::Error) -> u8 {
     tell(rt, "standard output", Reason(error.kind()));
     FAILED
@@ -32,7 +32,7 @@ pub fn save_made<T: Store + Drop, K: Kept<Error = FilterFault> + Drop>(
     }
 }
 
-// Prints an answer: an absence on standard error, and all else on standard output.
+// Prints a reply: an absence on standard error, and all else on standard output.
 fn print_answer(rt: &HostRuntime, answer: &Answer) -> u8 {
     let status = if answer.is_no() { NO } else { DONE };
     if answer.is_absence() {
@@ -45,7 +45,7 @@ fn print_answer(rt: &HostRuntime, answer: &Answer) -> u8 {
     }
 }
 
-/// Carries a task out and prints its answer; the status.
+/// Carries a task out, prints the reply, and returns the status.
 pub fn serve<T, K, R>(
     rt: &HostRuntime,
     names: &Names,

@@ -41,7 +41,7 @@ pub const NO_INPUT: Input<'static> = Input {
     is_put: false,
 };
 
-/// Tells what failed at a place.
+/// Tells what failed, and with which file or stream.
 pub fn tell<D: Display + Drop>(rt: &HostRuntime, place: &str, what: D) {
     let _ = eprintln!(rt; "guard: {place}: {what}");
 }
@@ -129,7 +129,7 @@ pub fn tell_refusal(rt: &HostRuntime, names: &Names, refusal: &Refusal<StoreFaul
     }
 }
 
-/// Tells why the filter was made anew, if it was, and answers whether it was.
+/// Tells why the filter was made anew, if it was, and returns whether it was.
 pub fn tell_origin(rt: &HostRuntime, names: &Names, origin: &Origin<FilterFault>) -> bool
     ensures { IsTrue result ↔ (origin.now ≢ Origin.Kept) }
 {

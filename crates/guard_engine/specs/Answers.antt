@@ -1,4 +1,4 @@
--- What the answer to a task says of the store's entries before and after it, and of the guard's
+-- What the reply to a task says of the store's entries before and after it, and of the guard's
 -- counts, and what an error leaves.
 use Rattle.std.specs.Prelude.{◌≡◌, ◌⊎◌, ◌↔◌, ℕ, max, Bool, false, List, [], ◌∷◌, Option, string_bytes, IsTrue}
 use Rattle.guard_engine.specs.declared.commands.Answer.{Answer}
@@ -30,7 +30,7 @@ use Rattle.guard_engine.specs.Replaced.{IsReplaced}
 use Rattle.guard_engine.specs.Room.{added_beside, more_keys}
 use Rattle.guard_engine.specs.Stops.{ComesNext, CountsStop, TalliesStop}
 
--- a look-up whose answer is no value, or nothing that could be taken away
+-- a look-up that found no value, or a delete of a key that had none
 abbrev pub IsAbsence : Answer → Type 0
 IsAbsence answer = (answer ≡ answers.Found Spared)
     ⊎ ((answer ≡ answers.Found FalseAlarm) ⊎ (answer ≡ answers.Deleted false))
@@ -46,7 +46,7 @@ IsFound key entries Spared = Lacks entries key
 IsFound key entries FalseAlarm = Lacks entries key
 
 module _ {R : Type 0} (remaining : R → Option (List ℕ)) where
-  -- the answer is one to the task, and is true of the store before and after it
+  -- the reply is one to the task, and is true of the store before and after it
   abbrev pub IsAnswerTo : Task R → Entries → Entries → Answer → Type 0
   IsAnswerTo (tasks.Put key value) old new answer =
       (put : Put) × (answer ≡ answers.Put put) × IsPut key.now value.now old new put
@@ -90,7 +90,7 @@ module _ {R : Type 0} (remaining : R → Option (List ℕ)) where
       (stop : Stop E F) × (trouble ≡ troubles.Lines stop) × ((bad : BadLine)
       → stop.why ≡ Line bad → IsBadAt IsKey 1048576 (remaining input) stop.number bad)
 
-  -- from old to new the look-ups of the task were counted, and the answer tells the counts if it
+  -- from old to new the look-ups of the task were counted, and the reply tells the counts if it
   -- tells any, and the rate of the filter as it is. What a filter lacks is spared, and where the
   -- store told what it has, the keys that it was asked for and that have no value are the false
   -- alarms

@@ -1,5 +1,5 @@
--- What a guard keeps true (B. H. Bloom, 1970): its filter has each key of its store, and so has
--- each filter that may be found in its place, of all that is committed.
+-- What a guard keeps true (B. H. Bloom, 1970): its filter has each key of its store, and each saved
+-- filter that may be found has each key that is committed.
 use Rattle.std.specs.Prelude.{ℕ, List}
 use Rattle.bloom_plain.specs.Data.{DefaultFilter}
 use Rattle.guard_parts.specs.declared.room.Room.{Room}

@@ -3,7 +3,7 @@ use Rattle.std.specs.Prelude.{◌≡◌, ◌⊎◌, ◌↔◌, ℕ, Bool, List, 
 use Rattle.guard_engine.specs.Guarded.{Entries, Stays}
 use Rattle.guard_engine.specs.Stores.{IsInBatch, Sight}
 
--- from old to new a key got this value in place of all that it had, and no other key changed
+-- from old to new this value replaced all that a key had, and no other key changed
 abbrev pub Replaces : Entries → List ℕ → List ℕ → Entries → Type 0
 Replaces old key value new =
     (k v : List ℕ) → new k v ↔ (((k ≡ key) × (v ≡ value)) ⊎ (old k v × ¬ (k ≡ key)))
@@ -20,7 +20,7 @@ pub record ReplacesInBatch (old : Sight) (key value : List ℕ) (new : Sight) (h
     pub is_replaced : IsReplaced key value old.has new.has had
     pub kept : Stays old.kept new.kept
 
--- from old to new a key got this value in place of all that it had, in the open batch
+-- from old to new this value replaced all that a key had, in the open batch
 pub record Swaps (old : Sight) (key value : List ℕ) (new : Sight) : Type 0 where
   pub batch : IsInBatch new
   pub replaces : Replaces old.has key value new.has

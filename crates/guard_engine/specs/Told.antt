@@ -1,5 +1,5 @@
--- What is told of a task: its answer, or why it wasn't carried out to its end. The words are this
--- project's own; what an error says of itself stands among them as it is.
+-- What is told of a task: the reply to it, or why it wasn't carried out to its end. The words are
+-- this project's own; what an error says of itself stands among them as it is.
 use Rattle.std.specs.Prelude.{ℕ, ◌++◌, codes, decimal, string_bytes, false, true, Bool, List, [], Option, None, Some, nat_eq, if◌then◌else◌}
 use Rattle.std.specs.Fmt.{◌++?◌}
 use Rattle.guard_engine.specs.declared.commands.Answer.{Answer}
@@ -67,13 +67,13 @@ unread_text number own tail =
     Some (codes "line ") ++? Some (decimal number) ++? Some (codes " can't be read: ") ++? own
     ++? Some tail
 
--- what an error says of itself, and at which line of which place it came
+-- what an error says of itself, and at which line of which input it came
 abbrev pub at_line_text : Option (List ℕ) → ℕ → List ℕ → List ℕ → Option (List ℕ)
 at_line_text own number place tail =
     own ++? Some (codes ", at line " ++ (decimal number ++ (codes " of " ++ (place ++ tail))))
 
 module _ {E F : Type 0} (store : E → Option (List ℕ)) (kept : F → Option (List ℕ)) where
-  -- why the lines of a place weren't taken to their end. An error of a read says nothing that a
+  -- why the lines of an input weren't taken to their end. An error of a read says nothing that a
   -- clause knows; `unread_text` has the words around it
   abbrev pub why_text : Why E F → ℕ → List ℕ → List ℕ → Option (List ℕ)
   why_text (why.Line bad) number place tail =
@@ -83,11 +83,11 @@ module _ {E F : Type 0} (store : E → Option (List ℕ)) (kept : F → Option (
   why_text (why.Store error) number place tail = at_line_text (store error) number place tail
   why_text (why.Kept error) number place tail = at_line_text (kept error) number place tail
 
-  -- what is told of a stop at a line of a place
+  -- what is told of a stop at a line of an input
   abbrev pub stop_text : Stop E F → List ℕ → Bool → Option (List ℕ)
   stop_text stop place is_put = why_text stop.why stop.number place (tail_text is_put stop.done)
 
-  -- what is told of a task whose lines come from a place
+  -- what is told of a task whose lines come from an input
   abbrev pub told_text : Trouble E F → List ℕ → Bool → Option (List ℕ)
   told_text (troubles.Put (faults.Store error)) place is_put = store error
   told_text (troubles.Put (faults.Kept error)) place is_put = kept error

@@ -1,4 +1,4 @@
-//! Tasks and their answers, over any store.
+//! Tasks and the replies to them, over any store.
 ghost use Rattle.std.specs.Prelude.{◌≡◌, ◌↔◌, Ok, IfErr, IfOk, OnErr, IsTrue, Some};
 ghost use Rattle.std.specs.Fmt.{WritesOnOk};
 ghost use Rattle.guard_engine.specs.Answers.{CountsFailed, CountsRoom, CountsTask, FillsTask, IsAbsence, IsAnswerTo, IsNo, IsTroubleOf, Leaves};
@@ -129,20 +129,20 @@ impl fmt::Display for Answer {
 /// Carries a task out.
 ///
 /// # Errors
-/// Where the store, the place of the filter, a read or memory fails, and at a line that is no entry
-/// or no key. The batches of lines before are done.
+/// Where the store, a save of the filter, a read or memory fails, and at a line that is no entry or
+/// no key. The batches of lines before are done.
 pub fn carry_out<T: Store + Drop, K: Kept + Drop, R: Read + Drop>(
     alloc: Global,
     guard: &mut Guard<T, K>,
     task: Task<R>,
 ) -> Result<Answer, Trouble<T::Error, K::Error>>
-    // The answer is true of the store.
+    // The reply is true of the store.
     ensures holds { T.is_known guard.new.store → K.is_known guard.new.kept → IfOk result
         (IsAnswerTo R.remaining task.entry (T.sight guard.old.store).has
         (T.sight guard.new.store).has) }
     // The store was asked nothing where it is told as spared.
     ensures spared { result ≡ Ok (Answer.Found Found.Spared) → guard.new.store ≡ guard.old.store }
-    // Each look-up counts once, and the counts and the rate that an answer tells are the guard's.
+    // Each look-up counts once, and the counts and the rate that a reply tells are the guard's.
     ensures counts { IfOk result (CountsTask R.remaining guard.old.filter
         (T.is_known guard.new.store × K.is_known guard.new.kept) task.entry
         (T.sight guard.old.store).has guard.old.counts guard.new.counts) }

@@ -19,8 +19,8 @@ use std::marker::Model;
 
 /// A store behind a filter of its keys, which is kept beside it.
 ///
-/// Each key of the store is in the filter. Each key that is committed is in each filter that may be
-/// found in its place, also after a crash: the filter is saved before entries are committed.
+/// Each key of the store is in the filter. Each key that is committed is in each saved filter that
+/// may be found, also after a crash: the filter is saved before entries are committed.
 #[derive(Drop)]
 pub struct Guard<T: Store + Drop, K: Kept + Drop> {
     store: T,
@@ -127,7 +127,7 @@ impl<T: Store + Drop, K: Kept + Drop> Guard<T, K> {
     }
 
     /// Two bounds of the rate of false positives of the filter as it is: of the part of all
-    /// look-ups, each a draw of positions, that it answers with true.
+    /// look-ups, each a draw of positions, for which it returns true.
     pub fn rate(&self) -> Bracket
         ensures holds { HoldsPositives result (num_bits_of self.now.filter)
             self.now.filter.hashes (content self.now.filter.words) }
@@ -144,7 +144,7 @@ impl<T: Store + Drop, K: Kept + Drop> Guard<T, K> {
         ensures asked { (result ≡ Ok Found.Spared)
             ↔ (contains self.old.filter (key_hash key.now) ≡ false) }
         ensures unasked { result ≡ Ok Found.Spared → self.new.store ≡ self.old.store }
-        // The answer is true of the store.
+        // The result is true of the store.
         ensures spared { T.is_known self.old.store → K.is_known self.old.kept
             → result ≡ Ok Found.Spared → Lacks (T.sight self.old.store).has key.now }
         ensures alarm { T.is_known self.new.store → K.is_known self.old.kept
@@ -214,8 +214,8 @@ impl<T: Store + Drop, K: Kept + Drop> Guard<T, K> {
         )
     }
 
-    /// Puts an entry in place of what its key has, and answers whether it had a value. The filter
-    /// is saved before the entry is committed where the key had none.
+    /// Puts an entry, which replaces what its key has, and returns whether the key had a value. If
+    /// it had none, the filter is saved before the entry is committed.
     ///
     /// # Errors
     /// `Store` and `Kept`. Then nothing changed.
@@ -245,7 +245,7 @@ impl<T: Store + Drop, K: Kept + Drop> Guard<T, K> {
         replace_alone(store, kept, filter, room, &mut self.counts, key, value)
     }
 
-    /// Takes the value of a key away, and answers whether it had one. The filter keeps its bits.
+    /// Takes the value of a key away, and returns whether it had one. The filter keeps its bits.
     ///
     /// # Errors
     /// Where the store fails. Then nothing changed.
@@ -313,7 +313,7 @@ impl<T: Store + Drop, K: Kept + Drop> Guard<T, K> {
         let _ = &self.store;
     }
 
-    /// Gives the store and the place of the filter back.
+    /// Gives the store back, and what keeps the filter.
     pub fn into_parts(self) -> (T, K)
         ensures parts { result ≡ (self.store, self.kept) }
         ensures guarding { T.is_known result.0 → K.is_known result.1

@@ -1,4 +1,4 @@
-//! How a guard puts an entry in place of what its key has.
+//! How a guard replaces what a key has.
 ghost use Rattle.std.specs.Prelude.{◌≡◌, ◌⊎◌, [], ◌∷◌, true, Ok, IfOk, OnOk, OnErr};
 ghost use Rattle.bloom_plain.specs.Data.{DefaultFilter};
 ghost use Rattle.bloom_plain.specs.Filter.{contains};
@@ -36,7 +36,7 @@ fn swap<T: Store>(store: &mut T, key: &str, value: &str) -> Result<(), T::Error>
     store.add(key, value)
 }
 
-// Puts an entry in place of what its key has, in the open batch. It answers whether the key had a
+// Puts an entry, which replaces what its key has, in the open batch. Returns whether the key had a
 // value. The key is hashed once, and looked up once.
 fn replace<T: Store>(
     store: &mut T,
@@ -112,7 +112,7 @@ fn commit_replaced<T: Store, K: Kept>(
     }
 }
 
-/// Puts one entry in place of what its key has, in a batch of its own. It answers whether the key
+/// Puts one entry, which replaces what its key has, in a batch of its own. Returns whether the key
 /// had a value.
 pub fn replace_alone<T: Store, K: Kept>(
     store: &mut T,

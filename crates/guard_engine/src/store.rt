@@ -69,7 +69,7 @@ pub trait Store {
         ensures err { IsInBatch (sight self.old) → is_known self.new
             → OnErr result (TakesBack (sight self.old) (sight self.new)) };
 
-    /// Takes the open batch back, if there is one. It does so also where it answers an error.
+    /// Takes the open batch back, if there is one, also where it returns an error.
     fn roll_back(&mut self) -> Result<(), Self::Error>
         ensures known { is_known self.new → is_known self.old }
         ensures batch { IsInBatch (sight self.old) → is_known self.new

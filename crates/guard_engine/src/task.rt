@@ -5,7 +5,7 @@
 pub enum Task<'a, R: Drop> {
     /// Put this value at this key.
     Put(&'a str, &'a str),
-    /// Put this value at this key, in place of the one that it has.
+    /// Put this value at this key, and replace the one that it has.
     Replace(&'a str, &'a str),
     /// Find the value of this key.
     Get(&'a str),

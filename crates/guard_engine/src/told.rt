@@ -14,9 +14,9 @@ use std::fmt::Display;
 #[derive(Clone, Copy)]
 pub enum Subject {
     Store,
-    /// The place of the filter.
+    /// What keeps the filter.
     Filter,
-    /// The place of the lines.
+    /// What the lines come from.
     Lines,
 }
 
@@ -77,7 +77,7 @@ fn write_unread<D: Display, W: fmt::Write>(
     write!(f, "line {number} can't be read: {own}{tail}")
 }
 
-// Tells an error, and at which line of which place it came.
+// Tells an error, and at which line of which input it came.
 fn write_at_line<D: Display, W: fmt::Write>(
     own: &D,
     number: u64,
@@ -92,7 +92,7 @@ fn write_at_line<D: Display, W: fmt::Write>(
     write!(f, "{own}, at line {number} of {place}{tail}")
 }
 
-// Tells why the lines of a place weren't taken to their end.
+// Tells why the lines of an input weren't taken to their end.
 fn write_stop<E: Display, F: Display, W: fmt::Write>(
     stop: &Stop<E, F>,
     place: &str,

@@ -1,4 +1,4 @@
--- The calls on a real folder, each with its answer.
+-- The calls on a real folder, each with its result.
 use Rattle.std.specs.Prelude.{ℕ, Bool, List}
 use Rattle.guard_parts.specs.Folders.{Content}
 use Rattle.guard_parts.specs.declared.folder.Name.{Name}

@@ -41,6 +41,6 @@ pub record Elapses (old new : Sight) : Type 0 where
   pub stays : (since : ℕ) (name : Name) (c : Content) → since ≤ old.moment
       → old.found_since since name c → new.found_since since name c
 
--- the bytes that a read answered
+-- the bytes that a read returned
 abbrev pub bytes_in : Option (Vec ℕ Global) → Content
 bytes_in found = option_map (λ bytes. bytes.items) found

@@ -3,7 +3,7 @@ use Rattle.std.specs.Prelude.{ℕ, ◌/◌, List, length, map, slice_index}
 use Rattle.std.specs.Int.{w64, from_le_bytes}
 use Rattle.std.specs.Simd.{first_chunks}
 
--- the number of 64 bits at a place of a file, counted from 0, the lowest byte first; it is 0 where
+-- the number of 64 bits at an index in a file, counted from 0, the lowest byte first; it is 0 where
 -- the file ends before
 abbrev pub number_in : List ℕ → ℕ → ℕ
 number_in bytes place =

@@ -107,12 +107,12 @@ sight_of start calls = record {
   found_since = FoundSince start calls;
 }
 
--- a read answered what the name held
+-- a read returned what the name held
 abbrev pub IsTrueCall : State → Call → Type 0
 IsTrueCall s (Reads name found) = found ≡ (at s name).now
 IsTrueCall s _ = ⊤
 
--- each read answered what the name held: the medium returned what was written
+-- each read returned what the name held: the medium returned what was written
 abbrev pub IsHonest : Start → List Call → Type 0
 IsHonest start [] = ⊤
 IsHonest start (call ∷ earlier) = IsHonest start earlier × IsTrueCall (replay start earlier) call

@@ -109,7 +109,7 @@ impl<D: Folder + Drop> FilterFile<D> {
     }
 }
 
-// The number at a place of a file, counted from 0, or 0 where there are fewer bytes.
+// The number at an index in a file, counted from 0, or 0 where there are fewer bytes.
 fn number_in(bytes: &[u8], place: usize) -> u64
     ensures { result ≡ number_in bytes.now place }
 {
@@ -210,7 +210,7 @@ fn write_synced<D: Folder>(folder: &mut D, bytes: &[u8]) -> Result<(), D::Error>
     folder.sync_file(Name::New)
 }
 
-// Writes a new file whole to the disk, and puts it in place of the old one.
+// Writes a new file whole to the disk, and replaces the old one by it.
 fn replace<D: Folder>(folder: &mut D, bytes: &[u8]) -> Result<(), D::Error>
     ensures known { D.is_known folder.new → D.is_known folder.old }
     ensures ok { D.is_known folder.new → OnOk result

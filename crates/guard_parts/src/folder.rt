@@ -58,7 +58,8 @@ pub trait Folder {
         ensures synced { is_known self.new → OnOk result ((sight self.new).is_synced name) }
         ensures same { is_known self.new → KeepsAll (sight self.old) (sight self.new) };
 
-    /// Puts a file in place of another. After an error either may be found.
+    /// Renames a file to the name of another, which it replaces. After an error either may be
+    /// found.
     fn rename(&mut self, from: Name, to: Name) -> Result<(), Self::Error>
         requires { from ≢ to }
         ensures known { is_known self.new → is_known self.old }

@@ -1,5 +1,5 @@
 //! A folder of the operating system. Each method makes one call of the system, and then notes it
-//! with its answer.
+//! with its result.
 ghost use Rattle.std.specs.Prelude.{◌≡◌, [], refl};
 ghost use Rattle.std.proofs.Common.{inl};
 ghost use Rattle.guard_parts.specs.Laws.{counts, only};

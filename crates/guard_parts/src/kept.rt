@@ -6,7 +6,7 @@ ghost use Rattle.guard_parts.specs.declared.room.Room.{Room as ARoom};
 use crate::room::Room;
 use bloom_plain::BloomFilter;
 
-/// A place that keeps one filter with its room, whose medium may fail, or return what wasn't saved.
+/// Keeps one filter with its room, on a medium that may fail, or return what wasn't saved.
 ///
 /// What a call says holds where the medium is known after it.
 pub trait Kept {
@@ -49,8 +49,8 @@ pub trait Kept {
             → since ≤ moment self.old → found_since self.new since filter
             → found_since self.old since filter };
 
-    /// Saves a filter with its room in place of the one that is there. After an error either may be
-    /// found.
+    /// Saves a filter with its room, which replaces the one that is there. After an error either
+    /// may be found.
     fn save(&mut self, filter: &BloomFilter, room: Room) -> Result<(), Self::Error>
         ensures known { is_known self.new → is_known self.old }
         ensures told { is_known self.new → OnOk result

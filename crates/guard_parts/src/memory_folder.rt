@@ -127,7 +127,7 @@ fn move_file(
     }
 }
 
-// Each call is made, and then noted with its answer.
+// Each call is made, and then noted with its result.
 impl Folder for MemoryFolder {
     ghost sight = { λ it. sight_of empty it.log.events };
 

@@ -2,9 +2,9 @@
 ghost use Rattle.std.specs.Prelude.{false, None};
 ghost use Rattle.guard_parts.specs.Replay.{Start};
 
-/// What a folder held at first, and what no answer tells. Code over any `W: World` is proved for
-/// all of it, and none can read it. A folder takes a value, so that code that is handed one value
-/// can't suppose two folders to have held the same.
+/// What a folder held at first, which no call tells. Code over any `W: World` is proved for all of
+/// it, and none can read it. A folder takes a value, so that code that is handed one value can't
+/// suppose two folders to have held the same.
 pub trait World: Drop {
     ghost start: { Start };
 }

@@ -51,7 +51,7 @@ impl<S: Alter + Drop> EntryTable<S> {
     pub fn over(alloc: Global, conn: Connection<S>) -> Result<Self, Unfit>
         ensures ready { IfOk result (λ table. IsKnown (state S.Store table.conn)
             → IsReady (sight_of (state S.Store table.conn))) }
-        // A connection that has a schema isn't touched, and the answer tells which it has.
+        // A connection that has a schema isn't touched, and the result tells which it has.
         ensures same { (state S.Store conn).now.schema ≢ no_schema
             → IfOk result (λ table. table.conn ≡ conn) }
         ensures taken { (state S.Store conn).now.schema ≢ no_schema

@@ -17,7 +17,7 @@ fn are_no_terms(terms: &Terms) -> bool
     terms.roots.is_empty()
 }
 
-// Whether this place stands alone.
+// Whether this index stands alone.
 fn is_place(places: &Items<usize>, place: usize) -> bool
     ensures { IsTrue result ↔ (places.now ≡ place ∷ []) }
 {

@@ -163,7 +163,7 @@ pub fn commit_batch<S: Alter>(conn: &mut Connection<S>) -> Result<usize, Error>
     conn.execute("COMMIT", &[])
 }
 
-/// Takes the open transaction back, if there is one, whatever it answers.
+/// Takes the open transaction back, if there is one, whatever the call returns.
 pub fn roll_batch_back<S: Alter>(conn: &mut Connection<S>) -> Result<usize, Error>
     ensures batch { IsInBatch (sight_of (state S.Store conn.old)) → IsKnown (state S.Store conn.new)
         → TakesBack (sight_of (state S.Store conn.old)) (sight_of (state S.Store conn.new)) }

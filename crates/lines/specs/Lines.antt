@@ -19,7 +19,7 @@ abbrev pub has_no_end_by : ℕ → List ℕ → Bool
 has_no_end_by end [] = true
 has_no_end_by end (b ∷ bytes) = not (b == end) && has_no_end_by end bytes
 
--- what comes after these bytes is cut into lines of its own
+-- what comes after these bytes is split into lines of its own
 abbrev pub IsEndedBy : ℕ → List ℕ → Type 0
 IsEndedBy end bytes =
     (rest : List ℕ) → lines_by end (bytes ++ rest) ≡ lines_by end bytes ++ lines_by end rest
@@ -32,6 +32,6 @@ lines_of bytes = lines_by 10 bytes
 abbrev pub has_no_end : List ℕ → Bool
 has_no_end bytes = has_no_end_by 10 bytes
 
--- what comes after these bytes is cut into lines of its own, where byte 10 ends a line
+-- what comes after these bytes is split into lines of its own, where byte 10 ends a line
 abbrev pub IsEnded : List ℕ → Type 0
 IsEnded bytes = IsEndedBy 10 bytes

@@ -65,7 +65,7 @@ impl Block {
         self.at = self.end;
     }
 
-    /// Reads once, in place of a block that is empty. An interrupted read is tried again.
+    /// Reads once, into a block that is empty. An interrupted read is tried again.
     pub fn fill<R: Read>(&mut self, input: &mut R) -> io::Result<()>
         requires { self.old ≡ [] }
         ensures taken { OnOk result

@@ -71,7 +71,7 @@ pub fn has_end<const END: u8>(bytes: &[u8]) -> bool
     }
 }
 
-// Appends bytes to a line, unless they make it too long, and answers whether they did not.
+// Appends bytes to a line, unless they make it too long, and returns whether they did not.
 fn append(line: &mut Vec<u8>, bytes: &[u8], longest: usize) -> io::Result<bool>
     requires { length line.old.items ≤ longest }
     ensures joined { IfOk result

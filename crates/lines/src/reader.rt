@@ -158,7 +158,7 @@ fn fill_line<const END: u8, R: Read>(
     Err(ErrorKind::TimedOut.into())
 }
 
-// Reads a new block in place of one that is empty, unless the end was told.
+// Reads a new block where this one is empty, unless the end was told.
 fn refill<R: Read>(block: &mut Block, ended: &mut bool, input: &mut R) -> io::Result<()>
     requires empty { block.old ≡ [] }
     requires knows { KnowsEnd ended.old (R.remaining input.old) }

@@ -6,7 +6,7 @@ use denote.RawPtr.{Ptr, InBlock, block_of, count_of}
 use Rattle.bloom_parts.specs.Made.{SharedWords}
 use Rattle.atomic_table.specs.Seated.{row, fact}
 
--- this many words at a place, whatever they hold
+-- this many words at a pointer, whatever they hold
 abbrev pub rows : Ptr → ℕ → Fml
 rows p n = fex (List ℕ) (λ words. fsep (fact (length words ≡ n)) (row (block_of p) (count_of p)
     words))
@@ -19,7 +19,7 @@ Reaches p n = (0 < n → InBlock p) × (n * 8 < 2 ^ 63)
 abbrev pub words_lie : Ptr → ℕ → Fml
 words_lie p n = fsep (fact (Reaches p n)) (finv (rows p n))
 
--- which vector these words are: the same for every call on this place with this number of words
+-- which vector these words are: the same for every call with this pointer and number of words
 abbrev pub vector_of : Ptr → ℕ → SharedWords
 vector_of p n = record { name = 2 ^ block_of p * 3 ^ count_of p; count = n }
 

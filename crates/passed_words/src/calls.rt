@@ -9,7 +9,7 @@ use crate::store::PassedStore;
 use crate::words::RawWords;
 use bloom_steps::{Call, Step, WordStore, drive};
 
-// Makes all steps of a call, in order, and gives the call's answer.
+// Makes all steps of a call, in order, and returns the call's reply.
 #[inline(always)]
 fn make(words: &RawWords, other: &RawWords, call: Call, num_hashes: u32) -> Option<bool>
     requires filter { MakeFilter words.now.len }
@@ -79,7 +79,7 @@ pub fn intersect(words: &RawWords, other: &RawWords)
     make(words, other, Call::Intersect, 1);
 }
 
-// Takes every word out of a store, each in place of one number.
+// Takes every word out of a store, each into the number with its index.
 fn take_each(store: &mut PassedStore<'_>, taken: &mut [u64])
     requires room { length taken.old ≡ store.old.words.count }
     requires alone { store.old.other ≡ store.old.words }
@@ -91,9 +91,9 @@ fn take_each(store: &mut PassedStore<'_>, taken: &mut [u64])
     }
 }
 
-/// Takes the words out, word 0 first, each in place of one number: each is read and cleared by one
-/// operation, so no bit that another thread sets meanwhile is lost. It is either taken or still
-/// there.
+/// Takes the words out, word 0 first, each into the number with its index. Each word is read and
+/// cleared by one operation, so no bit that another thread sets meanwhile is lost. It is either
+/// taken or still there.
 pub fn take_into(words: &RawWords, taken: &mut [u64])
     requires filter { MakeFilter words.now.len }
     requires room { length taken.old ≡ words.now.len }
@@ -104,7 +104,7 @@ pub fn take_into(words: &RawWords, taken: &mut [u64])
     take_each(&mut store, taken);
 }
 
-/// Loads the words, word 0 first, each in place of one number.
+/// Loads the words, word 0 first, each into the number with its index.
 pub fn load_into(words: &RawWords, loaded: &mut [u64])
     requires { length loaded.old ≡ words.now.len }
     ensures loaded { WereLoaded (vector_of words.now.at words.now.len) loaded.new }

@@ -1,18 +1,18 @@
-//! What both filters answer to a call that takes no memory.
+//! What both filters return from a call that takes no memory.
 use crate::making::Pair;
 use crate::scene::Item;
 
-/// Whether the insert of a hash is answered so.
+/// Whether the insert of a hash returns this.
 pub(crate) fn insert_hash(pair: &mut Pair, hash: u64, said: bool) -> bool {
     (pair.plain.insert_hash(hash) == said) & (pair.shared.insert_hash(hash) == said)
 }
 
-/// Whether the look-up of a hash is answered so.
+/// Whether the look-up of a hash returns this.
 pub(crate) fn contains_hash(pair: &Pair, hash: u64, said: bool) -> bool {
     (pair.plain.contains_hash(hash) == said) & (pair.shared.contains_hash(hash) == said)
 }
 
-/// Whether the insert of an item is answered so.
+/// Whether the insert of an item returns this.
 pub(crate) fn insert_item(pair: &mut Pair, item: &Item, said: bool) -> bool {
     let Pair { plain, shared } = pair;
     match item {
@@ -21,7 +21,7 @@ pub(crate) fn insert_item(pair: &mut Pair, item: &Item, said: bool) -> bool {
     }
 }
 
-/// Whether the look-up of an item is answered so.
+/// Whether the look-up of an item returns this.
 pub(crate) fn contains_item(pair: &Pair, item: &Item, said: bool) -> bool {
     let Pair { plain, shared } = pair;
     match item {
@@ -52,7 +52,8 @@ pub(crate) fn extend(pair: &mut Pair, first: u64, last: u64) -> bool {
     true
 }
 
-/// Whether both answer alike of the numbers up to 400, and have those from the first to the last.
+/// Whether both return the same for the numbers up to 400, and have those from the first to the
+/// last.
 pub(crate) fn finds(pair: &Pair, first: u64, last: u64) -> bool {
     let mut is_right = true;
     for number in 0..400u64 {
@@ -91,7 +92,7 @@ pub(crate) fn has_shape(pair: &Pair, num_bits: usize, num_hashes: u32) -> bool {
     (pair.plain.num_bits() == num_bits) & (pair.plain.num_hashes() == num_hashes)
 }
 
-/// Whether so many bits are set.
+/// Whether this many bits are set.
 pub(crate) fn has_ones(pair: &Pair, ones: usize) -> bool {
     (pair.plain.count_ones() == ones) & (pair.shared.count_ones() == ones)
 }

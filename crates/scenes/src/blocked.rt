@@ -6,7 +6,7 @@ use bloom_blocked::{AtomicBlockedBloomFilter, BlockedBloomFilter, LinesError};
 use fastbloom::{FilterError, Rate};
 use std::alloc::Global;
 
-// What the model says of the answers and words of each ten sessions.
+// What the model says of the replies and words of each ten sessions.
 const WANTED: &'static [u64] = &[
     1283216022127539977,
     4231143347813872594,
@@ -107,7 +107,7 @@ fn pair_of(alloc: Global, session: u64) -> Result<Pair, FilterError> {
     Ok(Pair { plain, shared })
 }
 
-// Inserts the first twenty hashes, and folds the answers.
+// Inserts the first twenty hashes, and folds the replies.
 fn insert_each(pair: &mut Pair, session: u64) -> u64 {
     let mut folded = 0;
     for index in 0..20 {
@@ -118,7 +118,7 @@ fn insert_each(pair: &mut Pair, session: u64) -> u64 {
     folded
 }
 
-// Looks up twenty hashes, and folds the answers.
+// Looks up twenty hashes, and folds the replies.
 fn find_each(pair: &Pair, session: u64, so_far: u64) -> u64 {
     let mut folded = so_far;
     for index in 440..460 {
@@ -200,7 +200,7 @@ fn fold_words(alloc: Global, pair: &Pair, so_far: u64) -> u64 {
     }
 }
 
-// The answers and words of a session, folded.
+// The replies and words of a session, folded.
 fn fold_session(alloc: Global, pair: &mut Pair, session: u64) -> u64 {
     let folded = insert_each(pair, session);
     let folded = insert_several(pair, session, folded);
@@ -209,7 +209,7 @@ fn fold_session(alloc: Global, pair: &mut Pair, session: u64) -> u64 {
     fold_words(alloc, pair, folded)
 }
 
-// The answers and words of ten sessions, each folded, and then all.
+// The replies and words of ten sessions, each folded, and then all.
 fn fold_ten(alloc: Global, first: u64) -> u64 {
     let mut folded = 0;
     for i in 0..10u64 {

@@ -18,7 +18,7 @@ pub(crate) struct Watching {
     pub(crate) met: AtomicU64,
 }
 
-/// A gate that no worker passed yet, for so many workers. The first two await one another.
+/// A gate that no worker passed yet, for this many workers. The first two await one another.
 pub(crate) fn gate_for(workers: usize) -> Watching {
     Watching {
         awaited: if workers < 2 { 1 } else { 3 },
@@ -86,7 +86,7 @@ pub(crate) fn parts_of(alloc: Global, cut: &[&[u64]]) -> Result<Vec<Vec<u64>>, F
 pub(crate) const THREE: &'static [&'static [u64]] = &[&[1], &[0, 1], &[]];
 
 // The bits and hashes of a shape, the shape that they are rounded to, parts of hashes, and the word
-// that they make: no part at all, and the same hashes, cut in further ways.
+// that they make: no part at all, and the same hashes, split in further ways.
 type Filling = (usize, u32, (usize, u32), &'static [&'static [u64]], u64);
 
 const FILLINGS: &'static [Filling] = &[

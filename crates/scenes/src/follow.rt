@@ -6,7 +6,7 @@ use crate::{answers, memory, rows};
 use fastbloom::FilterError;
 use std::alloc::Global;
 
-// Whether both filters answer a line as said.
+// Whether both filters return from a line what it says.
 fn holds(alloc: Global, pair: &mut Pair, line: &Line) -> Result<bool, Refused> {
     let (op, said) = line;
     match op {
@@ -39,7 +39,8 @@ fn holds(alloc: Global, pair: &mut Pair, line: &Line) -> Result<bool, Refused> {
     }
 }
 
-// The first line that isn't answered as said, or after which the filters differ.
+// The first line from which a filter doesn't return what it says, or after which the filters
+// differ.
 fn first_broken(alloc: Global, pair: &mut Pair, lines: &[Line]) -> Result<Option<usize>, Refused> {
     'lines: for (i, line) in lines.iter().enumerate() {
         let held = holds(alloc, pair, line);
@@ -53,7 +54,7 @@ fn first_broken(alloc: Global, pair: &mut Pair, lines: &[Line]) -> Result<Option
     Ok(None)
 }
 
-/// The first line that filters which are made so don't answer as said, or after which they differ.
+/// The first line from which filters made so don't return what it says, or after which they differ.
 pub(crate) fn follow(alloc: Global, make: &Make, lines: &[Line]) -> Result<Option<usize>, Refused> {
     match pair_of(alloc, make) {
         Ok(mut pair) => first_broken(alloc, &mut pair, lines),
@@ -61,7 +62,7 @@ pub(crate) fn follow(alloc: Global, make: &Make, lines: &[Line]) -> Result<Optio
     }
 }
 
-// Whether a scene is answered as said. If it isn't, its name and the line are told.
+// Whether all lines of a scene return what they say. If not, its name and the line are told.
 fn holds_true(rt: &HostRuntime, scene: &Scene) -> bool {
     match follow(rt.alloc(), &scene.make, scene.lines) {
         Ok(None) => true,
@@ -70,7 +71,7 @@ fn holds_true(rt: &HostRuntime, scene: &Scene) -> bool {
     }
 }
 
-// Whether all scenes of a table are answered as said.
+// Whether all scenes of a table return what they say.
 fn hold_true(rt: &HostRuntime, scenes: &[Scene]) -> bool {
     let mut all = true;
     for scene in scenes {

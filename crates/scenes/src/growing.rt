@@ -17,7 +17,7 @@ const FILTERS: &'static [(usize, usize, usize, u32)] = &[
     (56, 64, 704, 8),
 ];
 
-// Whether the newest filter is that of its row, once so many new hashes came.
+// Whether the newest filter is that of its row, once this many new hashes came.
 fn is_grown(filter: &GrowingFilter, new: usize) -> bool {
     let Some((before, room, bits, hashes)) = FILTERS.get(filter.older().len()) else {
         return false;
@@ -38,7 +38,7 @@ fn takes(alloc: Global, filter: &mut GrowingFilter, hash: u64, new: &mut usize) 
     is_grown(filter, *new) & filter.contains_hash(hash)
 }
 
-// Whether that is so after each of a hundred hashes, and the newest is the fourth in the end. An
+// Whether this holds after each of a hundred hashes, and the newest is the fourth in the end. An
 // item that goes in is found, too.
 fn grows(alloc: Global) -> Result<bool, GrowingError> {
     let mut filter = GrowingFilter::new(alloc, Rate::new(1, 10)?, 8)?;

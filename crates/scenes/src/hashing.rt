@@ -10,7 +10,7 @@ use std::alloc::Global;
 use std::hash::{Hash, Hasher};
 use vectors::{MESSAGE, counted, drawn};
 
-// What a hasher takes in, and what it answers on the way.
+// What a hasher takes in, and what it returns on the way.
 enum Piece {
     Bytes(&'static [u8]),
     U8(u8),
@@ -28,7 +28,7 @@ enum Piece {
     Answers(u64),
 }
 
-// Whether a hasher under the zero key answers as the pieces say.
+// Whether a hasher under the zero key returns what the pieces say.
 fn answers(pieces: &[Piece]) -> bool {
     let mut hasher = RandomDefaultHasher::seeded(&[0; 16]);
     let mut is_right = true;
@@ -92,7 +92,7 @@ const PIECES: &'static [&'static [Piece]] = &[
         Piece::Answers(0xa974_2e3c_46eb_4c8f),
     ],
     &[Piece::Bytes(NUMBERS), Piece::Answers(0xa974_2e3c_46eb_4c8f)],
-    // A hasher that answered goes on.
+    // A hasher that returned a hash goes on.
     &[
         Piece::Answers(0xd1fb_a762_150c_532c),
         Piece::Bytes(&[7]),
@@ -151,7 +151,7 @@ fn goes_in<T: Hash>(filter: &mut BloomFilter, item: &T, hash: u64) -> bool {
     (filter.source_hash(item) == hash) & is_new & stands & filter.contains(item)
 }
 
-// What Rust's own hasher (1.95) answers for the same items, and after one write of the bytes of a
+// What Rust's own hasher (1.95) returns for the same items, and after one write of the bytes of a
 // text. Scenes have those of a number and of texts.
 const SHAPES: &'static [(Shape, u64)] = &[
     (Shape::Dot, 0xbd60_acb6_58c7_9e45),

@@ -6,7 +6,7 @@ use fastbloom::{
 };
 use std::alloc::Global;
 
-/// The test's own memory, in place of the name of a call.
+/// What is named instead of a call where the test's own memory runs out.
 pub(crate) const THE_TEST: &'static str = "the test";
 
 /// A call that was refused, and why.

@@ -1,4 +1,4 @@
-//! What both filters answer to a call that takes memory, or that needs another filter.
+//! What both filters return from a call that takes memory, or that needs another filter.
 use crate::making::{Pair, Refused, THE_TEST, are_alike, have_words, named, pair_of, words_of};
 use crate::scene::{Make, Size};
 use fastbloom::{AtomicBloomFilter, BloomFilter, Command, FilterData, FilterError};

@@ -39,7 +39,7 @@ fn full(alloc: Global) -> Result<GrowingFilter, GrowingError> {
     Ok(filter)
 }
 
-// Whether a filter has so many full filters and this room, took one hash into its newest, and
+// Whether a filter has this many full filters and this room, took one hash into its newest, and
 // contains hash 1.
 fn is_left(filter: &GrowingFilter, full: usize, room: usize) -> bool {
     let filters = (filter.older().len() == full) & (filter.room() == room);

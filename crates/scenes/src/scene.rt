@@ -1,4 +1,4 @@
-//! Scenes: how a plain and a shared filter are made, and what both answer to the same calls.
+//! Scenes: how a plain and a shared filter are made, and what both return from the same calls.
 
 /// An item, which is hashed as the number or the text that it holds.
 pub(crate) enum Item {
@@ -43,8 +43,8 @@ pub(crate) enum Op {
     InsertItem(Item),
     /// `contains`.
     ContainsItem(Item),
-    /// `contains` of the numbers up to 400: both answer alike, and have those from the first up to
-    /// the second.
+    /// `contains` of the numbers up to 400: both return the same, and have those from the first up
+    /// to the second.
     Finds(u64, u64),
     /// `insert_all` of the numbers from the first up to the second.
     InsertAll(u64, u64),
@@ -84,14 +84,14 @@ pub(crate) enum Op {
     Ones(usize),
     /// `estimated_items` has these bounds. Where there is no upper one, the lower isn't compared.
     Bounds(usize, Option<usize>),
-    /// `expected_false_pos` for so many items has these ends.
+    /// `expected_false_pos` for this many items has these ends.
     Rate(usize, u64, u64),
 }
 
-/// A call and its answer, which is true where the call has none.
+/// A call and what it returns, which is true where it returns nothing.
 pub(crate) type Line = (Op, bool);
 
-/// How the filters are made, and what they answer then.
+/// How the filters are made, and what they return then.
 pub(crate) struct Scene {
     pub(crate) name: &'static str,
     pub(crate) make: Make,

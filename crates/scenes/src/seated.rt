@@ -14,9 +14,9 @@ enum Call {
     Contains(u64),
 }
 
-// The words and hashes of a filter, how many passes are asked for, what the first pass answers,
-// then the second, if there is one, then the second once they met, and the words to which the last
-// of them closes the filter.
+// The words and hashes of a filter, how many passes are asked for, what calls by the first pass
+// return, then by the second, if there is one, then by the second once they met, and the words to
+// which the last of them closes the filter.
 struct Seating {
     name: &'static str,
     words: &'static [u64],
@@ -97,7 +97,7 @@ const SEATINGS: &'static [Seating] = &[
     },
 ];
 
-// Whether a pass answers these calls so.
+// Whether these calls by a pass return this.
 fn answers(filter: &SeatedBloomFilter, pass: &mut Pass, calls: &[(Call, bool)]) -> bool
     requires { pass.old.filter ≡ filter.now.table }
     ensures { pass.new.filter ≡ pass.old.filter }
@@ -121,7 +121,7 @@ fn are_words(closed: Result<Vec<u64>, FilterError>, words: &[u64]) -> bool {
     }
 }
 
-// Whether the passes of a filter answer, and it is closed, as its row says.
+// Whether the calls by the passes of a filter return, and it is closed, as its row says.
 fn is_kept(alloc: Global, row: &Seating) -> Result<bool, FilterError> {
     let words = row.words.to_vec(alloc)?;
     let (filter, mut passes) = SeatedBloomFilter::new(alloc, words, row.num_hashes, row.passes)?;

@@ -1,4 +1,4 @@
-//! Calls as word steps, at steps and answers that were worked out by hand.
+//! Calls as word steps, at steps and replies that were worked out by hand.
 ghost use Rattle.std.specs.Prelude.{length};
 ghost use Rattle.scenes.specs.Tallies.{CountsStep};
 
@@ -40,7 +40,7 @@ impl WordStore for Tally {
 }
 
 // Each step that an insert of hash 1 asks for in one word with three hashes, what it found, and the
-// answer by then. Hash 1 has the positions 0, 20 and 32 of 64 bits.
+// reply by then. Hash 1 has the positions 0, 20 and 32 of 64 bits.
 const ASKED: &'static [(Option<Step>, u64, Option<bool>)] = &[
     (Some(Step::Or(0, 1)), 0, None),
     (Some(Step::Or(0, 1048576)), 1, None),
@@ -60,11 +60,11 @@ fn a_machine_asks_for_one_step_after_the_other(rt: HostRuntime) {
     }
 }
 
-// The word before, the other filter's word, the call, the number of hashes, the answer, the word
+// The word before, the other filter's word, the call, the number of hashes, the reply, the word
 // after, and how many steps are made.
 type Driven = (u64, u64, Call, u32, Option<bool>, u64, u64);
 
-// A look-up of hash 1 finds position 0 on and position 20 off, so it ends after its second load.
+// A look-up of hash 1 finds position 0 set and position 20 clear, so it ends after its second load.
 const DRIVEN: &'static [Driven] = &[
     (1, 0, Call::Contains(1), 3, Some(false), 1, 2),
     (1048577, 0, Call::Contains(1), 2, Some(true), 1048577, 2),
@@ -88,7 +88,7 @@ fn one_word(alloc: Global, word: u64, other: u64) -> Result<MemoryStore, AllocEr
     Ok(MemoryStore::new(words, other))
 }
 
-// Whether a call answers and leaves what its row says over words in memory.
+// Whether a call over words in memory replies and leaves what its row says.
 fn is_driven(alloc: Global, row: &Driven) -> Result<bool, AllocError> {
     let (word, other, call, num_hashes, answer, after, _steps) = *row;
     let mut store = one_word(alloc, word, other)?;

@@ -50,7 +50,7 @@ fn filter_of(
     Ok(filter)
 }
 
-// Whether a filter was made that has so many bits and hashes.
+// Whether a filter was made that has this many bits and hashes.
 fn has_shape(made: Result<BloomFilter, FilterError>, bits: usize, hashes: u32) -> bool {
     match made {
         Ok(filter) => (filter.num_bits() == bits) & (filter.num_hashes() == hashes),

@@ -1,4 +1,4 @@
-//! Rates of mistakes, as they are written.
+//! Rates of false positives, as they are written.
 
 use fastbloom::Rate;
 

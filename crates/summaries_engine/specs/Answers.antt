@@ -1,4 +1,4 @@
--- What is read of keys, and what is written of a filter's answers. A key is a line without its end,
+-- What is read of keys, and what is written of a filter's replies. A key is a line without its end,
 -- which the byte `end` ends.
 use Rattle.std.specs.Prelude.{◌≡◌, ℕ, Bool, not, List, [], ◌∷◌, ◌++◌, map, filter, flat_map, Option}
 use Rattle.std.specs.Io.KnownBytes.{Appends}

@@ -24,7 +24,7 @@ pub record HasKeys (lies : Lies) (end : ℕ) (name : List ℕ) (keys : List (Lis
   pub whole : IsReadWholeBy end read left keys
   pub short : AreShort 65536 keys
 
--- each list has all keys of the input of the name at its place, and there are no others
+-- each list has all keys of the input whose name has the same index, and there are no others
 abbrev pub HaveKeys : Lies → ℕ → List (List ℕ) → List (List (List ℕ)) → Type 0
 HaveKeys lies end [] [] = ⊤
 HaveKeys lies end [] (keys ∷ parts) = ⊥
@@ -79,7 +79,8 @@ abbrev pub StopsBuilding : Lies → (List ℕ → Stop → Type 0) → ℕ → L
 StopsBuilding lies fails end names stop =
     StopsHashes lies fails end names stop ⊎ IsMemory stop ⊎ IsWorker stop
 
--- an input wasn't had, with the answers to the keys before it written; or asking stopped within it
+-- an input can't be had, and the replies for the keys before it are written; or the run stopped
+-- within it
 abbrev pub StopsAnswered : Lies → (List ℕ → Stop → Type 0) → DefaultFilter → Told → ℕ
     → Option (List ℕ) → Option (List ℕ) → List (List ℕ) → List ℕ → Stop → Type 0
 StopsAnswered lies fails f told end from to keys name stop =
@@ -87,7 +88,7 @@ StopsAnswered lies fails f told end from to keys name stop =
     ⊎ ((read : Option (List ℕ)) × lies name read
     × StopsAnswers f told end name keys read from to stop)
 
--- not all keys of all inputs were answered
+-- the run stopped before the replies for all keys of all inputs were written
 abbrev pub StopsAsking : Lies → (List ℕ → Stop → Type 0) → DefaultFilter → Told → ℕ
     → List (List ℕ) → Option (List ℕ) → Option (List ℕ) → Stop → Type 0
 StopsAsking lies fails f told end names from to stop =

@@ -59,7 +59,7 @@ IsToldOf name _ stop = SaysNone name stop
 abbrev pub HoldsNone : List ℕ → Type 0
 HoldsNone bytes = Begins bytes mark_bytes → (error : FileError) × (file_refusal bytes ≡ Some error)
 
--- that these bytes hold no filter is said only where it is so
+-- that these bytes hold no filter is said only where it is true
 abbrev pub IsRightOf : List ℕ → List ℕ → Stop → Type 0
 IsRightOf bytes name stop =
     (IsBad (λ said. Unit {0}) stop → ⊥) ⊎ (HoldsNone bytes × SaysNone name stop)
@@ -89,7 +89,7 @@ pub record HasHashesOf (bytes name : List ℕ) (most : ℕ) (said : Error) : Typ
   pub says : HasMessage (Some (hashes_text name filter.hashes most)) said
 
 -- that these bytes hold no filter, or one with more hashes than are allowed, is said only where it
--- is so, and by the number of hashes of that filter
+-- is true, and by the number of hashes of that filter
 abbrev pub IsRightWith : List ℕ → List ℕ → ℕ → Stop → Type 0
 IsRightWith bytes name most stop =
     IsRightOf bytes name stop ⊎ IsBad (HasHashesOf bytes name most) stop

@@ -11,7 +11,7 @@ use Rattle.summaries_engine.specs.Stops.{IsBad, Says}
 abbrev pub Named : Type 1
 Named = List ℕ → DefaultFilter → Type 0
 
--- each filter lies under the name at its place, and there are no others
+-- each filter lies under the name with its index, and there are no others
 abbrev pub AreNamed : Named → List (List ℕ) → List DefaultFilter → Type 0
 AreNamed has [] [] = ⊤
 AreNamed has [] (f ∷ filters) = ⊥

@@ -1,6 +1,5 @@
--- Why filters weren't united, and what is said of a key that is too long. The number of a filter is
--- its place behind the first, that of a key its place from 1; both stay at 2^64 - 1. This project's
--- own.
+-- Why filters weren't united, and what is said of a key that is too long. The filters after the
+-- first, and the keys, are numbered from 1; both numbers stay at 2^64 - 1. This project's own.
 use Rattle.std.specs.Prelude.{◌≡◌, ℕ, ◌+◌, ◌-◌, ◌^◌, min, codes, decimal, List, [], ◌∷◌, ◌++◌, length, map, All, Ok, Err, Result, Option}
 use Rattle.std.specs.Iterator.{Yields}
 use Rattle.fastbloom.specs.Data.{DefaultFilter}

@@ -1,5 +1,5 @@
--- The shape of a filter for some keys at a rate of mistakes: that of the filter which the builders
--- of the library make.
+-- The shape of a filter for some keys at a rate of false positives: that of the filter which the
+-- builders of the library make.
 use Rattle.std.specs.Prelude.{◌≡◌, ℕ, ◌*◌, max, Option}
 use Rattle.bloom_parts.specs.declared.error.FilterError.{FilterError}
 use Rattle.bloom_parts.specs.declared.math.rate.Rate.{Rate}
@@ -9,7 +9,7 @@ use Rattle.fastbloom.specs.Builders.{size_refusal, words_for}
 use Rattle.fastbloom.specs.Fill.{hashes_of, words_of}
 use Rattle.fastbloom.specs.declared.parallel.shape.Shape.{Shape}
 
--- the shape has the words of the size for so many keys, where 0 counts as 1, and the hashes that
+-- the shape has the words of the size for this many keys, where 0 counts as 1, and the hashes that
 -- suit its bits
 pub record IsShapeFor (keys : ℕ) (rate : Rate) (shape : Shape) : Type 0 where
   pub bits : ℕ
@@ -17,7 +17,7 @@ pub record IsShapeFor (keys : ℕ) (rate : Rate) (shape : Shape) : Type 0 where
   pub words : words_of shape ≡ words_for bits
   pub hashes : hashes_of shape ≡ hashes_for (64 * words_of shape) (max 1 keys)
 
--- the shape for so many keys is refused as its size is, which is decided, since one size alone is
+-- the shape for this many keys is refused as its size is, which is decided, since one size alone is
 -- right; or there is no refusal
 pub record IsUnshapedFor (keys : ℕ) (rate : Rate) (refusal : Option FilterError) : Type 0 where
   pub bits : ℕ

@@ -74,7 +74,7 @@ IsUnwritten stop = IsOutput (SaysOver (codes "the keys can't be written")) stop
 abbrev pub IsUnput : Stop → Type 0
 IsUnput stop = IsMemory stop ⊎ IsOutput (SaysOver (codes "the filter can't be written")) stop
 
--- a read failed for want of memory, or for another reason, and its input is named
+-- a read failed, out of memory or for another reason, and its input is named
 abbrev pub IsUnreadable : List ℕ → Stop → Type 0
 IsUnreadable name stop =
     IsMemory stop ⊎ IsInput (SaysOver (name ++ codes ": it can't be read")) stop
@@ -111,8 +111,8 @@ pub record StopsAfter (end : ℕ) (name : List ℕ) (read : Option (List ℕ))
 abbrev pub StopsHashing : ℕ → List ℕ → Option (List ℕ) → Stop → Type 0
 StopsHashing end name read stop = StopsAfter end name read (λ keys. Unit {0}) stop
 
--- a write failed at the answers to earlier keys and to these first keys, none of which is too long:
--- what was written is a beginning of their text
+-- a write failed within the replies for earlier keys and these first keys, none of which is too
+-- long: what was written is a beginning of their text
 pub record StopsWriting (f : DefaultFilter) (told : Told) (end : ℕ) (earlier : List (List ℕ))
     (read from to : Option (List ℕ)) (stop : Stop) : Type 0 where
   pub keys : List (List ℕ)
@@ -121,8 +121,8 @@ pub record StopsWriting (f : DefaultFilter) (told : Told) (end : ℕ) (earlier :
   pub part : AppendsPart (told_text f told end (earlier ++ keys)) from to
   pub says : IsUnwritten stop
 
--- asking stopped behind keys whose answers were written, behind those to earlier keys, or within an
--- answer, where a write failed
+-- the run stopped after the replies for earlier keys and these first keys were written, or within a
+-- reply, where a write failed
 abbrev pub StopsAnswers : DefaultFilter → Told → ℕ → List ℕ → List (List ℕ) → Option (List ℕ)
     → Option (List ℕ) → Option (List ℕ) → Stop → Type 0
 StopsAnswers f told end name earlier read from to stop =

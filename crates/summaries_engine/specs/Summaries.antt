@@ -45,7 +45,7 @@ pub record IsUnionOf (filters : List DefaultFilter) (made : DefaultFilter) : Typ
   pub key : All (HaveSameKey made) filters
 
 -- the theorem of shards: where these filters are summaries of parts of the keys, their union is the
--- summary of all keys, equals every filter of the same keys, however those were cut, and contains
+-- summary of all keys, equals every filter of the same keys, however those were split, and contains
 -- each key of each part
 pub record UnitesShards (filters : List DefaultFilter) (made : DefaultFilter) : Type 0 where
   pub union : IsUnionOf filters made

@@ -1,5 +1,6 @@
--- Unions as an engine of many machines makes them: it cuts keys into parts, does a part again where
--- a worker was lost, and unites the filters in any order and nesting. That is this project's own.
+-- Unions as an engine of many machines makes them: it splits keys into parts, does a part again
+-- where a worker was lost, and unites the filters in any order and nesting. That is this project's
+-- own.
 use Rattle.std.specs.Prelude.{◌≡◌, ℕ, true, List, ◌++◌}
 use Rattle.std.specs.List.{Contains}
 use Rattle.bloom_parts.specs.Content.{AreWords}

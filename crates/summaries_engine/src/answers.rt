@@ -17,9 +17,9 @@ use std::io::{Read, Write};
 /// Which keys are told of a filter.
 #[derive(Clone, Copy)]
 pub enum Told {
-    /// Those that may be in: each that is in, and by mistake some others.
+    /// Keys that may be in: every key that is in, and some false positives.
     Found,
-    /// Those that are surely not in.
+    /// Keys that are surely not in.
     Absent,
 }
 
@@ -56,7 +56,7 @@ fn answer_key<const END: u8, O: Write>(
     }
 }
 
-// Answers the keys of one input.
+// Writes those keys of one input that `told` chooses.
 fn ask_input<const END: u8, I: Read, O: Write>(
     alloc: Global,
     filter: &BloomFilter,
@@ -86,13 +86,13 @@ fn ask_input<const END: u8, I: Read, O: Write>(
     Err(too_many(name))
 }
 
-/// Writes those keys of the inputs of these names that are told of a filter, in order, and nothing
-/// else. The byte `END` ends a key, read or written, and so does the end of an input.
+/// Writes the keys of these inputs that `told` chooses, in order, and nothing else. The byte `END`
+/// ends a key, read or written, and so does the end of an input.
 ///
 /// # Errors
 /// At the first input that can't be had or read, or has a key that is too long, where a write
-/// fails, and out of memory. The keys before were answered; where a write fails, the answers end
-/// within the text of the last key.
+/// fails, and out of memory. The replies for all earlier keys are written; where a write fails, the
+/// output ends within the text of the last key.
 pub fn ask<const END: u8, S: Inputs, O: Write>(
     alloc: Global,
     filter: &BloomFilter,
@@ -104,8 +104,8 @@ pub fn ask<const END: u8, S: Inputs, O: Write>(
     requires { IsKeyed filter.now }
     ensures all { OnOk result (AnswersInputs (S.has inputs.now) filter.now told END
         (map (λ name. name.now) names.now) (O.contents output.old) (O.contents output.new)) }
-    // Why not all were answered, and what was written: the text of the keys before, and where a
-    // write fails a beginning of it.
+    // Why the call stopped, and what was written: the text of the keys before, and where a write
+    // fails a beginning of it.
     ensures stops { IfErr result (StopsAsking (S.has inputs.now) (S.fails inputs.now) filter.now
         told END (map (λ name. name.now) names.now)
         (O.contents output.old) (O.contents output.new)) }

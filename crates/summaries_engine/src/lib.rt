@@ -1,4 +1,4 @@
-//! Summaries of keys: filters of the keys of shards, their unions, and what they answer.
+//! Summaries of keys: filters of the keys of shards, their unions, and look-ups in them.
 #![tactic(auto)]
 
 mod answers;

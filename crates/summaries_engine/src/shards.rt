@@ -87,7 +87,7 @@ pub fn unite_named<S: Shelf>(shelf: &S, names: &[&str]) -> Result<BloomFilter, S
         Ok(filter) => Ok(filter),
         Err(Refusal::Unread(stop)) => Err(stop),
         Err(Refusal::Differs(number, how)) => {
-            // The number of a filter is the place of its name.
+            // The number of a filter is the index of its name.
             prove!(names.len() <= usize::MAX);
             prove!(number < names.len());
             Err(misfit(names[number], name, how))

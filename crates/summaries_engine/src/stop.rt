@@ -37,7 +37,7 @@ impl Display for Stop {
     }
 }
 
-/// That the words of a program leave this out, which they can only by a mistake of the program.
+/// That the words of a program leave this out, which they can only by a fault of the program.
 pub fn unsaid(what: &str) -> Stop
     ensures { IsBad (Says (codes "which " ++ (what.now ++ codes "?"))) result }
 {

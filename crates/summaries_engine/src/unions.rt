@@ -80,7 +80,7 @@ pub fn unite<E: Drop, I: IntoIterator<Item = Result<BloomFilter, E>>>(
     // The iterator ends.
     requires { IsFiniteIterable
         I.into_iter_gives I.IntoIter.can_next I.IntoIter.remaining others }
-    // However the keys were cut into shards, this is the filter of all of them.
+    // However the keys were split into shards, this is the filter of all of them.
     ensures whole { IfOk result (λ made. (it : I.IntoIter) × I.into_iter_gives others it
         × WholeRun I.IntoIter.next_gives it (λ run. UnitesGiven first run.items made)) }
     // A refusal tells what the iterator gave last.

@@ -20,6 +20,6 @@ pub fn save<R: Files + AllocGlobal>(
 /// Reads it.
 pub fn load<R: Files + AllocGlobal>(rt: &R, path: &str) -> anyhow::Result<BloomFilter> {
     let mut file = fs::open(rt, path).context("the file can't be opened")?;
-    // no filter, a cut or a changed file: the error says which
+    // no filter, a truncated or a changed file: the error says which
     Ok(BloomFilter::read_file(rt.alloc(), &mut file)?)
 }

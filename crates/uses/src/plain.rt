@@ -3,7 +3,8 @@
 use fastbloom::{BloomFilter, FilterError, Rate};
 use std::alloc::Global;
 
-/// How many of the names were there before, from a filter sized for one mistake in a thousand.
+/// How many of the names were there before, from a filter sized for one false positive in a
+/// thousand.
 pub fn count_repeated(alloc: Global, key: &u128, names: &[&str]) -> Result<u64, FilterError> {
     let rate = Rate::new(1, 1000)?;
     let builder = BloomFilter::with_false_pos(rate).seed(key);

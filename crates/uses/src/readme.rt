@@ -4,7 +4,7 @@ use fastbloom::{AtomicBloomFilter, BloomFilter, FilterError, Rate, SeatedBloomFi
 use std::alloc::Global;
 use std::sync::Arc;
 
-/// One owner. The answers are false and true.
+/// One owner. Returns false and true.
 pub fn plain_filter(alloc: Global, key: &u128) -> Result<(bool, bool), FilterError> {
     let one_in_a_thousand = Rate::new(1, 1000)?;
     let builder = BloomFilter::with_false_pos(one_in_a_thousand).seed(key);
@@ -14,7 +14,7 @@ pub fn plain_filter(alloc: Global, key: &u128) -> Result<(bool, bool), FilterErr
     Ok((before, after))
 }
 
-/// Many threads, each with an `Arc` of the filter. The answer is true.
+/// Many threads, each with an `Arc` of the filter. Returns true.
 pub fn shared_filter(alloc: Global) -> Result<bool, FilterError> {
     let filter = AtomicBloomFilter::with_num_bits(alloc, 1 << 20)?.hashes(alloc, 7)?;
     let mine = Arc::new(alloc, filter)?;

@@ -20,7 +20,7 @@ pub fn parts_of(alloc: Global, filter: &BloomFilter, key: [u8; 16]) -> Result<Pa
     })
 }
 
-/// The filter of these parts, which answers as the one that they came from.
+/// The filter of these parts, which contains the same hashes as the one that they came from.
 pub fn filter_of(parts: Parts) -> Result<BloomFilter, FilterError> {
     let builder = BloomFilter::from_vec(parts.words)?;
     Ok(

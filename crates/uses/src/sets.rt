@@ -2,7 +2,7 @@
 
 use fastbloom::BloomFilter;
 
-/// Keeps what both filters have, and answers true. False where they differ in key or shape.
+/// Keeps what both filters have, and returns true. Returns false where they differ in key or shape.
 pub fn keep_common(filter: &mut BloomFilter, other: &BloomFilter) -> bool {
     if filter.hasher().key() != other.hasher().key() {
         return false;

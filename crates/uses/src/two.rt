@@ -61,8 +61,8 @@ fn start<R: Threads>(
     }
 }
 
-/// Two threads insert hashes by two passes, which meet after both threads were joined. Answers
-/// whether the first pass then finds a hash, and whether an insert by the second finds it on.
+/// Two threads insert hashes by two passes, which meet after both threads were joined. Returns
+/// whether the first pass then finds a hash, and whether an insert by the second finds it set.
 ///
 /// # Errors
 /// Those of `SeatedBloomFilter::new`, `Memory`, and `Worker` where a thread can't be started.

@@ -42,6 +42,11 @@ impl BlockedBloomFilter {
     /// A builder of a filter that is sized by a rate of false positives, under the zero key.
     ///
     /// That a filter so sized has this rate is measured, not proved: docs/RATES.md.
+    ///
+    /// ```
+    /// let builder = BlockedBloomFilter::with_false_pos(Rate::new(1, 1000)?);
+    /// let bloom = builder.expected_items(alloc, 1000)?;
+    /// ```
     pub fn with_false_pos(rate: Rate) -> BlockedBuilderWithFalsePositiveRate
         ensures rate { result.rate ≡ rate }
         ensures key { HasKey result.hasher 0 0 }

@@ -35,12 +35,13 @@ impl<S> BlockedBloomFilter<S> {
 }
 
 impl<S: BuildHasher> BlockedBloomFilter<S> {
-    /// The source hash of an item: the answer of a fresh hasher to which the item was hashed.
+    /// The source hash of an item: what a fresh hasher returns once the item is hashed into it.
     #[inline]
     pub fn source_hash<T: Hash>(&self, val: &T) -> u64
         ensures hash { result
             ≡ source_hash_of S.BuildHasher S.Hasher.Hasher T.hash_input self.now.hasher val.now }
-        // A hasher that answers by a function of the bytes gives that function of the item's bytes.
+        // If the hasher returns a function of the bytes written, this is that function of the
+        // item's.
         ensures bytes { (f : List ℕ → ℕ)
             → IsFunctionOfBytes S.Hasher.Hasher (S.build_hasher self.now.hasher) f
             → result ≡ f (concat (T.hash_input val.now)) }
@@ -53,7 +54,13 @@ impl<S: BuildHasher> BlockedBloomFilter<S> {
         state.finish()
     }
 
-    /// Sets all positions of an item's source hash, and returns whether all were set before.
+    /// Sets all positions of an item's source hash, and returns whether all of them were set
+    /// before.
+    ///
+    /// ```
+    /// bloom.insert(&"crab"); // false, where the filter was empty
+    /// bloom.insert(&"crab"); // true
+    /// ```
     #[inline]
     pub fn insert<T: Hash>(&mut self, val: &T) -> bool
         ensures inserts { let hash = source_hash_of S.BuildHasher S.Hasher.Hasher T.hash_input in
@@ -67,8 +74,8 @@ impl<S: BuildHasher> BlockedBloomFilter<S> {
         self.insert_hash(hash)
     }
 
-    /// Whether all positions of an item's source hash are set: false means that it was never
-    /// inserted.
+    /// Whether all positions of an item's source hash are set. True may be a false positive. False
+    /// means that the item wasn't inserted since the last `clear` or `intersect`.
     #[inline]
     pub fn contains<T: Hash>(&self, val: &T) -> bool
         ensures found { let hash = source_hash_of S.BuildHasher S.Hasher.Hasher T.hash_input in

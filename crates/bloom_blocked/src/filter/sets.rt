@@ -17,14 +17,15 @@ impl<S> BlockedBloomFilter<S> {
         slices::clear(self.words.as_mut_slice());
     }
 
-    /// Whether two filters have as many words and as many hashes. The hashers aren't looked at.
+    /// Whether both filters have equal numbers of words and of hashes. The hashers aren't compared.
     pub fn same_shape(&self, other: &Self) -> bool
         ensures { IsTrue result ↔ SameShape self.now other.now }
     {
         self.words.len() == other.words.len() && self.num_hashes == other.num_hashes
     }
 
-    /// Sets every bit that is set in the other. The hashers aren't looked at.
+    /// Sets every bit that is set in the other filter. Both have one shape, as `same_shape` tests.
+    /// The hashers aren't compared.
     pub fn union(&mut self, other: &Self)
         requires { SameShape self.old other.now }
         ensures unites { Unites self.old other.now self.new }
@@ -32,7 +33,8 @@ impl<S> BlockedBloomFilter<S> {
         slices::union(self.words.as_mut_slice(), other.words.as_slice());
     }
 
-    /// Clears every bit that is clear in the other. The hashers aren't looked at.
+    /// Clears every bit that is clear in the other filter. Both have one shape, as `same_shape`
+    /// tests. The hashers aren't compared.
     pub fn intersect(&mut self, other: &Self)
         requires { SameShape self.old other.now }
         ensures intersects { Intersects self.old other.now self.new }

@@ -29,12 +29,13 @@ impl<S> AtomicBlockedBloomFilter<S> {
 }
 
 impl<S: BuildHasher> AtomicBlockedBloomFilter<S> {
-    /// The source hash of an item: the answer of a fresh hasher to which the item was hashed.
+    /// The source hash of an item: what a fresh hasher returns once the item is hashed into it.
     #[inline]
     pub fn source_hash<T: Hash>(&self, val: &T) -> u64
         ensures hash { result
             ≡ source_hash_of S.BuildHasher S.Hasher.Hasher T.hash_input self.now.hasher val.now }
-        // Where the hasher answers by a function of the bytes written, it is that of the item's.
+        // If the hasher returns a function of the bytes written, this is that function of the
+        // item's.
         ensures bytes { (f : List ℕ → ℕ)
             → IsFunctionOfBytes S.Hasher.Hasher (S.build_hasher self.now.hasher) f
             → result ≡ f (concat (T.hash_input val.now)) }
@@ -48,7 +49,7 @@ impl<S: BuildHasher> AtomicBlockedBloomFilter<S> {
     }
 
     /// Sets all positions of an item's source hash, and returns whether its own steps found all of
-    /// them set.
+    /// them set. So it returns false exactly if it set a bit itself.
     #[inline]
     pub fn insert<T: Hash>(&self, val: &T) -> bool
         ensures made { let hash = source_hash_of S.BuildHasher S.Hasher.Hasher T.hash_input in

@@ -32,7 +32,7 @@ fn has_all(word: u64, mask: u64) -> bool
     word & mask == mask
 }
 
-// Sets the bits of a mask in a word, and tells whether all were found set. An empty mask takes no
+// Sets the bits of a mask in a word, and returns whether all were found set. An empty mask takes no
 // step.
 #[inline(always)]
 fn set_mask(words: &LentWords<'_>, turn: &mut Turn, word: usize, mask: u64) -> bool
@@ -45,7 +45,7 @@ fn set_mask(words: &LentWords<'_>, turn: &mut Turn, word: usize, mask: u64) -> b
     has_all(words.fetch_or(turn, word, mask), mask)
 }
 
-// Sets all positions of a hash in its line, and tells whether all were found set.
+// Sets all positions of a hash in its line, and returns whether all were found set.
 #[inline(always)]
 pub(super) fn set_in_line(words: &LentWords<'_>, num_hashes: u32, hash: u64) -> bool
     requires { 8 ≤ words.now.count }

@@ -28,15 +28,16 @@ impl<S> AtomicBlockedBloomFilter<S> {
         self.make(self, Call::Clear);
     }
 
-    /// Whether numbers of words and of hashes are equal. The hashers aren't looked at.
+    /// Whether both filters have equal numbers of words and of hashes. The hashers aren't compared.
     pub fn same_shape(&self, other: &Self) -> bool
         ensures { IsTrue result ↔ HaveSameLines self.now other.now }
     {
         self.words.len() == other.words.len() && self.num_hashes == other.num_hashes
     }
 
-    /// Sets what is found set in the other, one word after the other. The hashers aren't looked at.
-    /// A filter may be its own other.
+    /// Sets every bit that is found set in the other filter, one word after the other. Both have
+    /// one shape, as `same_shape` tests. The hashers aren't compared. A filter may be its own
+    /// other.
     pub fn union(&self, other: &Self)
         requires { HaveSameLines self.now other.now }
         ensures { MakesCallOnLines self.now other.now call.Union None }
@@ -44,8 +45,9 @@ impl<S> AtomicBlockedBloomFilter<S> {
         self.make(other, Call::Union);
     }
 
-    /// Clears what is found clear in the other, one word after the other. The hashers aren't looked
-    /// at. A filter may be its own other.
+    /// Clears every bit that is found clear in the other filter, one word after the other. Both
+    /// have one shape, as `same_shape` tests. The hashers aren't compared. A filter may be its own
+    /// other.
     pub fn intersect(&self, other: &Self)
         requires { HaveSameLines self.now other.now }
         ensures { MakesCallOnLines self.now other.now call.Intersect None }
@@ -88,8 +90,8 @@ impl<S> AtomicBlockedBloomFilter<S> {
         Ok(self.take_into(room))
     }
 
-    // Takes the words out, each in place of one number. No memory can be asked for here, so nothing
-    // is refused once a word is taken.
+    // Takes the words out, each over one number of the room. No memory can be asked for here, so
+    // nothing is refused once a word is taken.
     fn take_into(&self, room: Vec<u64>) -> Vec<u64>
         requires { length room.items ≡ self.now.words.count }
         ensures { TakesWordsOf self.now.words self.now.hashes result.items }

@@ -32,7 +32,7 @@ fn parsed_line(line: &[u8]) -> Next
     }
 }
 
-// Flushes what was answered, where the next line may have to wait for a read.
+// Flushes all replies, where the next line may have to wait for a read.
 fn flush_before_a_read<W: Write>(lines: &LineReader, output: &mut W) -> Result<(), Fault>
     ensures kept { Keeps (W.contents output.old) (W.contents output.new) }
     ensures fault { IsOkUnless result Fault.Output }
@@ -44,8 +44,7 @@ fn flush_before_a_read<W: Write>(lines: &LineReader, output: &mut W) -> Result<(
     }
 }
 
-/// Reads the next line, and what it asks for. Before a read that may wait, what was answered is
-/// flushed.
+/// Reads the next line, and what it asks for. Before a read that may wait, all replies are flushed.
 pub fn next_command<R: Read, W: Write>(
     lines: &mut LineReader,
     input: &mut R,

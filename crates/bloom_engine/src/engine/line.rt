@@ -14,7 +14,7 @@ pub enum Line {
     Insert(u64),
     /// To look up a hash.
     Contains(u64),
-    /// To turn every position off.
+    /// To clear every position.
     Clear,
     /// To write the words.
     Words,

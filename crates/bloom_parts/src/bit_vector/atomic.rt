@@ -47,7 +47,7 @@ pub(super) fn load_from(vector: &AtomicBitVec, words: &[AtomicU64], word: usize)
     words[word].load(Ordering::SeqCst)
 }
 
-// Turns on the bits of a mask in a word of a vector, and answers the word as it was.
+// Sets the bits of a mask in a word of a vector, and returns the word as it was.
 #[inline(always)]
 #[tactic(auto, using(crate::specs::Made::made_by_or))]
 pub(super) fn or_into(vector: &AtomicBitVec, words: &[AtomicU64], word: usize, mask: u64) -> u64
@@ -159,7 +159,7 @@ impl AtomicBitVec {
         load_from(self, self.as_slice(), word)
     }
 
-    /// Turns on the bits of a mask in a word, and answers the word as it was.
+    /// Sets the bits of a mask in a word, and returns the word as it was.
     pub fn fetch_or(&self, word: usize, mask: u64) -> u64
         requires { word < self.now.count }
         ensures { FoundByOr self.now word mask result }
@@ -167,7 +167,7 @@ impl AtomicBitVec {
         or_into(self, self.as_slice(), word, mask)
     }
 
-    /// Turns off the bits of a word that a mask lacks, and answers the word as it was.
+    /// Clears the bits of a word that a mask lacks, and returns the word as it was.
     pub fn fetch_and(&self, word: usize, mask: u64) -> u64
         requires { word < self.now.count }
         ensures { FoundByAnd self.now word mask result }
@@ -175,7 +175,7 @@ impl AtomicBitVec {
         and_into(self, self.as_slice(), word, mask)
     }
 
-    /// Turns off every bit of a word.
+    /// Clears every bit of a word.
     pub fn store_zero(&self, word: usize)
         requires { word < self.now.count }
         ensures { MadeZero self.now word }
@@ -183,7 +183,7 @@ impl AtomicBitVec {
         zero_in(self, self.as_slice(), word);
     }
 
-    /// Turns off every bit of a word, and answers the word as it was.
+    /// Clears every bit of a word, and returns the word as it was.
     pub fn swap_zero(&self, word: usize) -> u64
         requires { word < self.now.count }
         ensures { FoundBySwap self.now word result }

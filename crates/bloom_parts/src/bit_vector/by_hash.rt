@@ -1,4 +1,4 @@
-//! Calls that take a hash, and turn on its positions or look at them.
+//! Calls that take a hash, and set its positions or look at them.
 ghost use Rattle.std.specs.Prelude.{◌≡◌, ℕ, ◌*◌, ◌||◌, length};
 ghost use Rattle.bloom_parts.specs.Content.{content};
 ghost use Rattle.bloom_parts.specs.Places.{positions, are_in};
@@ -8,7 +8,7 @@ use crate::slices;
 use crate::slices::by_hash;
 
 impl BitVec {
-    /// Turns on the first `num_hashes` positions of a hash, and answers whether all were on just
+    /// Sets the first `num_hashes` positions of a hash, and returns whether all of them were set
     /// before.
     #[inline(always)]
     pub fn insert_positions(&mut self, num_hashes: u32, hash: u64) -> bool
@@ -21,7 +21,7 @@ impl BitVec {
         slices::insert_positions(self.words.as_mut_slice(), num_hashes, hash)
     }
 
-    /// Whether the first `num_hashes` positions of a hash are all on.
+    /// Whether the first `num_hashes` positions of a hash are all set.
     #[inline(always)]
     pub fn contains_positions(&self, num_hashes: u32, hash: u64) -> bool
         ensures { result ≡ are_in (64 * length self.now) num_hashes hash (content self.now) }
@@ -29,7 +29,7 @@ impl BitVec {
         slices::contains_positions(self.words.as_slice(), num_hashes, hash)
     }
 
-    /// Whether the first `num_hashes` positions of a hash are all on. It counts, so that no branch
+    /// Whether the first `num_hashes` positions of a hash are all set. It counts, so that no branch
     /// waits for a word, and all words are asked for at once.
     #[inline(always)]
     pub fn contains_by_count(&self, num_hashes: u32, hash: u64) -> bool

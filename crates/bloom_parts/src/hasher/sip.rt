@@ -14,7 +14,7 @@ mod writes;
 use state::State;
 use std::marker::Model;
 
-/// SipHash-1-3 of the bytes written, under a key. More bytes may be written after an answer.
+/// SipHash-1-3 of the bytes written, under a key. More bytes may be written after a hash was read.
 ///
 /// It keeps the key, four words, at most seven bytes of a buffer of eight, and a length modulo 256.
 #[derive(Clone, Copy, Debug)]

@@ -1,4 +1,4 @@
-//! What share of the bits is on, and how often a look-up errs, as brackets.
+//! What share of the bits is set, and how often a look-up errs, as brackets.
 ghost use Rattle.std.specs.Prelude.{◌≡◌, ℕ, ◌+◌, ◌-◌, ◌*◌, ◌^◌, ◌<◌, ◌≤◌};
 ghost use Rattle.bloom_parts.specs.Brackets.{low_of, high_of, width_of, Holds, HoldsDensity, density_low, density_high};
 ghost use Rattle.bloom_parts.specs.Powers.{lower_power_of, upper_power_of};
@@ -6,7 +6,7 @@ ghost use Rattle.bloom_parts.specs.Powers.{lower_power_of, upper_power_of};
 use super::bracket::Bracket;
 use super::powers::{Down, UNIT, Up, power};
 
-// The lower end of the expected density after `sets` positions were turned on.
+// The lower end of the expected density after `sets` positions were set.
 pub(super) fn low_end(bits: usize, sets: u128) -> u64
     requires { 0 < bits }
     ensures value { result ≡ density_low bits sets }
@@ -17,7 +17,7 @@ pub(super) fn low_end(bits: usize, sets: u128) -> u64
     UNIT - power(off as u64, sets, &mut up)
 }
 
-// The upper end of the expected density after `sets` positions were turned on.
+// The upper end of the expected density after `sets` positions were set.
 pub(super) fn high_end(bits: usize, sets: u128) -> u64
     requires { 0 < bits }
     ensures value { result ≡ density_high bits sets }
@@ -28,7 +28,7 @@ pub(super) fn high_end(bits: usize, sets: u128) -> u64
     UNIT - power(off as u64, sets, &mut down)
 }
 
-/// The expected share of `bits` bits that is on after `items` items with `hashes` positions each.
+/// The expected share of `bits` bits that is set after `items` items with `hashes` positions each.
 pub fn expected_density(hashes: u32, bits: usize, items: usize) -> Bracket
     requires { 0 < bits }
     ensures holds { HoldsDensity result bits (hashes * items) }
@@ -42,7 +42,7 @@ pub fn expected_density(hashes: u32, bits: usize, items: usize) -> Bracket
     Bracket::new(low_end(bits, sets), high_end(bits, sets))
 }
 
-/// The chance that `hashes` positions, each of which is on with the chance `density`, are all on.
+/// The chance that `hashes` positions, each of which is set with the chance `density`, are all set.
 ///
 /// Of the expected density it is the classical formula of the rate of false positives, which is a
 /// lower bound of the mean rate: `laws::rate_by_formula`. `false_pos_bounds` has both bounds.

@@ -45,7 +45,7 @@ pub fn false_pos_bounds(hashes: u32, bits: usize, items: usize) -> Bracket
 }
 
 /// Two bounds of the rate of a filter of `bits` bits of which `ones` are set: the part of all
-/// queries of `hashes` positions that it answers with true.
+/// queries of `hashes` positions for which it returns true.
 pub fn false_pos_of_ones(hashes: u32, bits: usize, ones: usize) -> Bracket
     requires bits { 0 < bits }
     requires ones { ones ≤ bits }
@@ -56,8 +56,8 @@ pub fn false_pos_of_ones(hashes: u32, bits: usize, ones: usize) -> Bracket
     expected_false_pos(hashes, Bracket::new((set / bits) as u64, high as u64))
 }
 
-/// Two bounds of the part of queries for which one of two tests at least holds, by those of the
-/// parts for which each does. How the tests hang together doesn't matter.
+/// Two bounds of the part of queries for which at least one of two tests holds, by those of the
+/// parts for which each does. How the tests depend on each other doesn't matter.
 pub fn false_pos_of_either(first: Bracket, second: Bracket) -> Bracket
     ensures { BoundsEither first second result }
 {

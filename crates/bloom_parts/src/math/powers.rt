@@ -82,7 +82,7 @@ impl Multiply for Up {
 
 // The power of `base` to `exponent`, by squares, from the highest digit of the exponent on.
 //
-// It can make no `M`, and can't tell how `M` rounds, so its answer rests on counted products alone.
+// It can make no `M`, and can't tell how `M` rounds, so its result rests on counted products alone.
 pub(super) fn power<M: Multiply>(base: u64, exponent: u128, products: &mut M) -> u64
     requires base { base ≤ 2 ^ 63 }
     requires none { M.count products.old ≡ 0 }

@@ -19,7 +19,7 @@ pub(super) trait Side {
         ensures tests { count self.new ≡ count self.old + 1 };
 }
 
-// A filter of which so many bits are set.
+// A filter of which this many bits are set.
 #[derive(Clone, Copy)]
 pub(super) struct Filled {
     pub(super) hashes: u32,
@@ -72,7 +72,7 @@ impl Side for MaybeBelow {
 
 // A number of items that passes, of which the next does not, found by 64 tests.
 //
-// It can make no `T`, so its answer rests on counted tests alone.
+// It can make no `T`, so its result rests on counted tests alone.
 pub(super) fn last_passing<T: Side>(side: &mut T) -> usize
     requires zero { T.passes side.old 0 }
     requires none { T.count side.old ≡ 0 }

@@ -26,7 +26,7 @@ fn word_and_mask_of_hash(words: usize, hash: u64) -> (usize, u64)
     (word, 1 << bit)
 }
 
-// Whether the position is on where a hash lies.
+// Whether the position where a hash lies is set.
 pub(crate) fn check_hash(words: &[u64], hash: u64) -> bool
     requires { 1 ≤ length words.now }
     ensures { result ≡ content words.now (index_of (64 * length words.now) hash) }
@@ -35,7 +35,7 @@ pub(crate) fn check_hash(words: &[u64], hash: u64) -> bool
     words[word] & mask > 0
 }
 
-// Turns the position on where a hash lies, and answers the bit that this changed in its word.
+// Sets the position where a hash lies, and returns the bit that this changed in its word.
 pub(crate) fn turn_on_hash(words: &mut [u64], hash: u64) -> u64
     requires { 1 ≤ length words.old }
     ensures changed { let position = index_of (64 * length words.old) hash in

@@ -1,5 +1,5 @@
 //! The loops over the positions of a hash. They branch as seldom as they can, since no processor
-//! foresees whether one position is on.
+//! foresees whether one position is set.
 ghost use Rattle.std.specs.Prelude.{◌≡◌, ℕ, ◌*◌, ◌<◌, ◌≤◌, ◌||◌, length};
 ghost use Rattle.bloom_parts.specs.Content.{content};
 ghost use Rattle.bloom_parts.specs.Places.{positions, are_in};
@@ -8,7 +8,7 @@ ghost use Rattle.bloom_parts.specs.Stretches.{Advances, TurnsOnNext, TellsNext};
 use super::by_hash::{check_hash, turn_on_hash};
 use crate::hasher::DoubleHasher;
 
-// Turns on the next place of a hash. The answer is 0 exactly if it was on just before.
+// Sets the next position of a hash. Returns 0 exactly if it was set before.
 fn turn_on_next(words: &mut [u64], chain: &mut DoubleHasher) -> u64
     requires { 1 ≤ length words.old }
     ensures turns_on { TurnsOnNext 1 chain.old words.old words.new result }
@@ -17,10 +17,10 @@ fn turn_on_next(words: &mut [u64], chain: &mut DoubleHasher) -> u64
     turn_on_hash(words, chain.next())
 }
 
-/// Turns on all positions of a hash, and answers whether all were on just before.
+/// Sets all positions of a hash, and returns whether all of them were set before.
 ///
-/// One alone needs no chain. Of more the first two are turned on before any loop. One word gathers
-/// what was off.
+/// One hash needs no chain. Of more the first two positions are set before any loop. One word
+/// gathers what was clear.
 #[inline(always)]
 pub fn insert_positions(words: &mut [u64], num_hashes: u32, hash: u64) -> bool
     requires { 1 ≤ length words.old }
@@ -45,7 +45,7 @@ pub fn insert_positions(words: &mut [u64], num_hashes: u32, hash: u64) -> bool
     was_off == 0
 }
 
-// Whether the next place of a hash is on.
+// Whether the next position of a hash is set.
 fn next_is_on(words: &[u64], chain: &mut DoubleHasher) -> bool
     requires { 1 ≤ length words.now }
     ensures found { TellsNext 1 chain.old words.now result }
@@ -54,7 +54,7 @@ fn next_is_on(words: &[u64], chain: &mut DoubleHasher) -> bool
     check_hash(words, chain.next())
 }
 
-// Whether the next `count` places of a hash are on. It counts, which needs no branch.
+// Whether the next `count` positions of a hash are set. It counts, which needs no branch.
 #[inline(always)]
 fn all_are_on(words: &[u64], chain: &mut DoubleHasher, count: u32) -> bool
     requires { 1 ≤ length words.now }
@@ -68,8 +68,8 @@ fn all_are_on(words: &[u64], chain: &mut DoubleHasher, count: u32) -> bool
     on == count
 }
 
-// Whether the next `count` places of a hash are on. It stops at the first that is off. It counts
-// those before, so that no answer is made in the loop.
+// Whether the next `count` positions of a hash are set. It stops at the first that is clear. It
+// counts those before, so that the loop makes no `bool`.
 #[inline(always)]
 fn each_is_on(words: &[u64], chain: &mut DoubleHasher, count: u32) -> bool
     requires { 1 ≤ length words.now }
@@ -82,10 +82,10 @@ fn each_is_on(words: &[u64], chain: &mut DoubleHasher, count: u32) -> bool
     found == count
 }
 
-/// Whether all positions of a hash are on.
+/// Whether all positions of a hash are set.
 ///
 /// Up to three are taken together. Of more, the first three are, which tell apart most hashes that
-/// were never inserted. It then stops at the first that is off.
+/// were never inserted. It then stops at the first that is clear.
 #[inline(always)]
 pub fn contains_positions(words: &[u64], num_hashes: u32, hash: u64) -> bool
     requires { 1 ≤ length words.now }
@@ -101,7 +101,7 @@ pub fn contains_positions(words: &[u64], num_hashes: u32, hash: u64) -> bool
     each_is_on(words, &mut chain, num_hashes - 3)
 }
 
-/// Whether all positions of a hash are on.
+/// Whether all positions of a hash are set.
 ///
 /// It counts, so that no branch waits for a word, and all words are asked for at once.
 #[inline(always)]

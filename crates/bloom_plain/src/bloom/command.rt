@@ -62,8 +62,13 @@ impl<S> BloomFilter<S> {
 
     /// Carries out commands in order, and returns one reply for each `Insert` and `Contains`.
     ///
+    /// ```
+    /// // false and true, where the filter was empty
+    /// bloom.replay(alloc, &[Command::Insert(1), Command::Contains(1)])?
+    /// ```
+    ///
     /// # Errors
-    /// `Memory` where there is no room for the replies. It is made before the first command.
+    /// `Memory` where there is no room for the replies. It is asked for before the first command.
     pub fn replay(
         &mut self,
         alloc: Global,

@@ -65,7 +65,7 @@ impl<S> BloomFilter<S> {
     }
 
     /// Two bounds of the rate of false positives of the filter as it is: the part of all look-ups,
-    /// each a draw of positions, that it answers with true.
+    /// each a draw of positions, for which it returns true.
     pub fn false_pos_now(&self) -> Bracket
         ensures holds { HoldsPositives result (num_bits_of self.now) self.now.hashes
             (content self.now.words) }

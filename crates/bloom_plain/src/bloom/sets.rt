@@ -13,7 +13,7 @@ use bloom_parts::error::FilterError;
 use std::alloc::Global;
 
 impl<S> BloomFilter<S> {
-    /// Turns every position off.
+    /// Clears every position.
     pub fn clear(&mut self)
         ensures clears { Clears self.old self.new }
         // The clear as a list of this one command.
@@ -22,14 +22,15 @@ impl<S> BloomFilter<S> {
         self.bits.clear();
     }
 
-    /// Whether two filters have as many words and as many hashes. The hashers aren't looked at.
+    /// Whether both filters have equal numbers of words and of hashes. The hashers aren't compared.
     pub fn same_shape(&self, other: &Self) -> bool
         ensures { IsTrue result ↔ SameShape self.now other.now }
     {
         self.bits.len() == other.bits.len() && self.num_hashes == other.num_hashes
     }
 
-    /// Turns on every position that is on in the other. The hashers aren't looked at.
+    /// Sets every position that is set in the other filter. Both have one shape, as `same_shape`
+    /// tests. The hashers aren't compared.
     ///
     /// ```
     /// bloom.insert_hash(1);
@@ -47,7 +48,8 @@ impl<S> BloomFilter<S> {
         self.bits.union(&other.bits);
     }
 
-    /// Turns off every position that is off in the other. The hashers aren't looked at.
+    /// Clears every position that is clear in the other filter. Both have one shape, as
+    /// `same_shape` tests. The hashers aren't compared.
     ///
     /// ```
     /// bloom.insert_hash(1);

@@ -46,6 +46,11 @@ pub fn rate_and_hasher<S: Drop>(builder: BuilderWithFalsePositiveRate<S>) -> (Ra
 
 impl BloomFilter {
     /// A builder of a filter that is sized by a rate of false positives, under the zero key.
+    ///
+    /// ```
+    /// let builder = BloomFilter::with_false_pos(Rate::new(1, 1000)?);
+    /// let bloom = builder.expected_items(alloc, 1000)?; // 14400 bits, 10 hashes
+    /// ```
     pub fn with_false_pos(rate: Rate) -> BuilderWithFalsePositiveRate
         ensures rate { result.rate ≡ rate }
         ensures key { HasKey result.hasher 0 0 }

@@ -5,7 +5,7 @@ ghost use Rattle.bloom_parts.specs.Sip.{whole_words};
 ghost use Rattle.bloom_plain.specs.File.{bytes_of};
 ghost use Rattle.bloom_plain.specs.FileRefusals.{number_at};
 
-// The number at a place, counted from 0, or 0 where there are fewer bytes.
+// The number at an index, counted from 0, or 0 where there are fewer bytes.
 pub(super) fn number_at(bytes: &[u8], place: usize) -> u64
     ensures value { result ≡ number_at bytes.now place }
     ensures past { length bytes.now < 8 * place + 8 → result ≡ 0 }
@@ -17,7 +17,7 @@ pub(super) fn number_at(bytes: &[u8], place: usize) -> u64
     }
 }
 
-// Puts numbers in the place of as many bytes as they have.
+// Writes numbers over as many bytes as they have.
 #[tactic(auto, unfolding(crate::specs::File::bytes_of))]
 pub(super) fn put_numbers(bytes: &mut [u8], numbers: &[u64])
     requires { length bytes.old ≡ 8 * length numbers.now }

@@ -25,7 +25,7 @@ impl GrowingFilter {
         self.newest.source_hash(val)
     }
 
-    /// Inserts an item by its source hash unless one of the filters contains that, and answers
+    /// Inserts an item by its source hash unless one of the filters contains that, and returns
     /// whether one does.
     ///
     /// # Errors
@@ -49,8 +49,8 @@ impl GrowingFilter {
         self.insert_hash(alloc, hash)
     }
 
-    /// Whether one of the filters contains an item's source hash: false means that it was never
-    /// inserted.
+    /// Whether one of the filters contains an item's source hash. True may be a false positive;
+    /// false means that the item was never inserted.
     #[inline]
     pub fn contains<T: Hash>(&self, val: &T) -> bool
         ensures found { let hash = source_hash_of ⟦<DefaultHasher as BuildHasher>⟧

@@ -69,7 +69,7 @@ pub(super) fn any_contains(filters: &[BloomFilter], hash: u64) -> bool
     false
 }
 
-// Inserts a hash, and answers whether it was contained. If so, the filter stays as it was.
+// Inserts a hash, and returns whether it was contained. If so, the filter stays as it was.
 #[inline(always)]
 pub(super) fn insert_once(filter: &mut BloomFilter, hash: u64) -> bool
     ensures inserts { Inserts filter.old hash filter.new result }

@@ -1,4 +1,4 @@
-//! How often a filter that grows answers true for what was never inserted.
+//! The rate of false positives of a filter that grows.
 ghost use Rattle.std.specs.Prelude.{◌≡◌, ◌^◌, ◌<◌, length, map};
 ghost use Rattle.bloom_plain.specs.Growing.{room_at};
 ghost use Rattle.bloom_plain.specs.GrowingRates.{BoundsAny, part_now, parts_now, parts_full, parts_grown};
@@ -35,9 +35,9 @@ impl GrowingFilter {
     /// Two bounds of the mean rate of false positives of all the filters together, each once it
     /// took as many new items as it did.
     ///
-    /// A look-up errs if one of the filters does. Each has its own rate. How their answers to one
-    /// look-up hang together isn't known, so the upper bound is the sum of theirs, and the lower
-    /// one the greatest.
+    /// A look-up errs if one of the filters does. Each has its own rate. How their replies to one
+    /// look-up depend on each other isn't known, so the upper bound is the sum of theirs, and the
+    /// lower one the greatest.
     pub fn false_pos_bounds(&self) -> Bracket
         ensures { BoundsAny (parts_grown self.now) result }
     {
@@ -47,7 +47,7 @@ impl GrowingFilter {
     }
 
     /// Two bounds of the rate of false positives of all the filters together as they are: the part
-    /// of look-ups that one of them at least answers with true, by the parts that each does.
+    /// of look-ups for which at least one of them returns true, by the part for each.
     pub fn false_pos_now(&self) -> Bracket
         ensures { BoundsAny (parts_now self.now) result }
     {

@@ -29,7 +29,7 @@ fn is_set(word: u64, bit: u64) -> bool
     (word >> bit) % 2 == 1
 }
 
-// Sets the bit at each position of a hash, and tells whether each step found its bit set.
+// Sets the bit at each position of a hash, and returns whether each step found its bit set.
 #[inline(always)]
 fn set_each<W: WordStore>(store: &mut W, num_hashes: u32, hash: u64) -> bool
     requires hashes { 1 ≤ num_hashes }
@@ -50,7 +50,7 @@ fn set_each<W: WordStore>(store: &mut W, num_hashes: u32, hash: u64) -> bool
     all_on
 }
 
-// Looks at each position of a hash up to the first whose bit is found clear, and tells whether
+// Looks at each position of a hash up to the first whose bit is found clear, and returns whether
 // there is none.
 #[inline(always)]
 fn look_at_each<W: WordStore>(store: &mut W, num_hashes: u32, hash: u64) -> bool
@@ -122,7 +122,7 @@ fn merge_each<W: WordStore>(store: &mut W, sets: bool)
     }
 }
 
-/// Makes all steps of a call over a store, in order, and gives the call's answer.
+/// Makes all steps of a call over a store, in order, and returns the call's reply.
 #[inline(always)]
 pub fn drive<W: WordStore>(store: &mut W, call: Call, num_hashes: u32) -> Option<bool>
     requires hashes { 1 ≤ num_hashes }

@@ -17,7 +17,7 @@ pub struct Machine {
     num_hashes: u32,
     // The number of steps made.
     turn: usize,
-    // The chain of the call's hash, just after this turn's place; and that place.
+    // The chain of the call's hash, just after the position of this turn; and that position.
     chain: DoubleHasher,
     place: usize,
     // The word of the other filter that was found last.
@@ -31,7 +31,7 @@ pub struct Machine {
     ghost room: { ended ≡ false → turn < most_steps num_words num_hashes (plan_of call) },
 }
 
-// Whether a position's bit is on in its word.
+// Whether a position's bit is set in its word.
 fn is_on(word: u64, position: usize) -> bool
     ensures { result ≡ bit_is_on word position }
 {
@@ -166,7 +166,7 @@ impl Machine {
         self.turn = turn;
     }
 
-    /// The answer of an insert or contains that has ended, and else none.
+    /// The reply of an insert or contains that has ended, and else none.
     pub fn answer(&self) -> Option<bool>
         ensures value { result ≡ answers self.now }
         ensures said { AnswersRight self.now result }
@@ -174,7 +174,7 @@ impl Machine {
         self.reply_of()
     }
 
-    // The answer of a call that has ended.
+    // The reply of a call that has ended.
     fn reply_of(&self) -> Option<bool>
         ensures { result ≡ answers self.now }
     {

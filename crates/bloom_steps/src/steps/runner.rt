@@ -25,8 +25,8 @@ struct World {
 /// Makes the steps of calls in the order of a schedule, one step an event, and records each.
 ///
 /// An event that makes no sense, as a step of a party that runs no call, records nothing. Calls may
-/// overlap: two inserts of one fresh hash may both answer false, and a look-up in which another
-/// party turns bits off may answer true though its hash was contained at no moment.
+/// overlap: two inserts of one fresh hash may both reply false, and a look-up in which another
+/// party clears bits may reply true though its hash was contained at no moment.
 ///
 /// # Errors
 /// `Memory` where memory was refused. All room is made before the first event.
@@ -44,11 +44,11 @@ pub fn run(
     ensures follows { IfOk result (λ course. Follows parties words.now schedule.now course) }
     // One call at a time behaves as the list of commands.
     ensures commands { IfOk result (λ course. ActsAsCommands num_hashes course) }
-    // An insert answers for its own steps; a look-up is right at one moment; an insert is found.
+    // An insert replies for its own steps; a look-up is right at one moment; an insert is found.
     ensures inserts { IfOk result (λ course. InsertsTell course) }
     ensures contains { IfOk result (λ course. ContainsTell num_hashes course) }
     ensures found { IfOk result (λ course. FindsInserted num_hashes course) }
-    // A growing run ends alike in any order, and each position is turned on once.
+    // A growing run ends alike in any order, and each position is set once.
     ensures grows { IfOk result (λ course. EndsWithAll num_hashes course) }
     ensures gained { IfOk result (λ course. CountsGains course) }
     // Taking the words out loses no position.

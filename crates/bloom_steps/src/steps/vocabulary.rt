@@ -5,32 +5,32 @@
 pub enum Step {
     /// Reads a word.
     Load(usize),
-    /// Turns on the bits of a mask, and finds the word as it was.
+    /// Sets the bits of a mask, and finds the word as it was.
     Or(usize, u64),
-    /// Turns off the bits that a mask lacks, and finds the word as it was.
+    /// Clears the bits that a mask lacks, and finds the word as it was.
     And(usize, u64),
-    /// Turns off a whole word. What it finds is always 0.
+    /// Clears a whole word. What it finds is always 0.
     Zero(usize),
     /// Reads a word of the other filter.
     Other(usize),
-    /// Turns off a whole word, and finds it as it was.
+    /// Clears a whole word, and finds it as it was.
     Take(usize),
 }
 
 /// A call on a filter.
 #[derive(Clone, Copy, Debug, PartialEq, Eq)]
 pub enum Call {
-    /// Turns on the positions of a hash.
+    /// Sets the positions of a hash.
     Insert(u64),
-    /// Asks whether the positions of a hash are on.
+    /// Asks whether the positions of a hash are set.
     Contains(u64),
-    /// Turns off every position.
+    /// Clears every position.
     Clear,
-    /// Turns on what is on in the other filter.
+    /// Sets what is set in the other filter.
     Union,
-    /// Turns off what is off in the other filter.
+    /// Clears what is clear in the other filter.
     Intersect,
-    /// Turns off every position, and finds what was on.
+    /// Clears every position, and finds what was set.
     Take,
 }
 
@@ -48,9 +48,9 @@ pub enum Event {
 pub enum End {
     /// It has further steps to make.
     Running,
-    /// It has ended, and answers nothing.
+    /// It has ended, and has no reply.
     Done,
-    /// It has ended with an answer.
+    /// It has ended with a reply.
     Answer(bool),
 }
 

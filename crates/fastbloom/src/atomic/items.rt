@@ -11,12 +11,13 @@ use super::AtomicBloomFilter;
 use std::hash::{BuildHasher, Hash, Hasher};
 
 impl<S: BuildHasher> AtomicBloomFilter<S> {
-    /// The source hash of an item: the answer of a fresh hasher to which the item was hashed.
+    /// The source hash of an item: what a fresh hasher returns once the item is hashed into it.
     #[inline]
     pub fn source_hash<T: Hash>(&self, val: &T) -> u64
         ensures hash { result
             ≡ source_hash_of S.BuildHasher S.Hasher.Hasher T.hash_input self.now.hasher val.now }
-        // Where the hasher answers by a function of the bytes written, it is that of the item's.
+        // If the hasher returns a function of the bytes written, this is that function of the
+        // item's.
         ensures bytes { (f : List ℕ → ℕ)
             → IsFunctionOfBytes S.Hasher.Hasher (S.build_hasher self.now.hasher) f
             → result ≡ f (concat (T.hash_input val.now)) }
@@ -29,8 +30,8 @@ impl<S: BuildHasher> AtomicBloomFilter<S> {
         state.finish()
     }
 
-    /// Turns on all positions of an item's source hash, and answers whether its own steps found all
-    /// of them on.
+    /// Sets all positions of an item's source hash, and returns whether its own steps found all of
+    /// them set. So it returns false exactly if it set a bit itself.
     #[inline]
     pub fn insert<T: Hash>(&self, val: &T) -> bool
         ensures made { let hash = source_hash_of S.BuildHasher S.Hasher.Hasher T.hash_input in
@@ -43,7 +44,7 @@ impl<S: BuildHasher> AtomicBloomFilter<S> {
         self.insert_hash(self.source_hash(val))
     }
 
-    /// Whether all positions of an item's source hash were found on, one after the other.
+    /// Whether all positions of an item's source hash were found set, one after the other.
     #[inline]
     pub fn contains<T: Hash>(&self, val: &T) -> bool
         ensures made { let hash = source_hash_of S.BuildHasher S.Hasher.Hasher T.hash_input in

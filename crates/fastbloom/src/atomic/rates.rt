@@ -28,8 +28,8 @@ impl<S> AtomicBloomFilter<S> {
     }
 
     /// Two bounds of the rate of false positives of the filter, by its words as they were loaded,
-    /// one after the other: the part of all look-ups, each a draw of positions, that such words
-    /// answer with true.
+    /// one after the other: the part of all look-ups, each a draw of positions, for which such
+    /// words return true.
     pub fn false_pos_now(&self) -> Bracket
         ensures { BoundsLoaded self.now result }
     {

@@ -7,22 +7,23 @@ use super::AtomicBloomFilter;
 use bloom_steps::Call;
 
 impl<S> AtomicBloomFilter<S> {
-    /// Turns every position off, one word after the other.
+    /// Clears every position, one word after the other.
     pub fn clear(&self)
         ensures { MakesCall self.now self.now call.Clear None }
     {
         self.make(self, Call::Clear);
     }
 
-    /// Whether numbers of words and of hashes are equal. The hashers aren't looked at.
+    /// Whether both filters have equal numbers of words and of hashes. The hashers aren't compared.
     pub fn same_shape(&self, other: &Self) -> bool
         ensures { IsTrue result ↔ HaveSameShape self.now other.now }
     {
         self.words.len() == other.words.len() && self.num_hashes == other.num_hashes
     }
 
-    /// Turns on what is found on in the other, one word after the other. The hashers aren't looked
-    /// at. A filter may be its own other.
+    /// Sets every position that is found set in the other filter, one word after the other. Both
+    /// have one shape, as `same_shape` tests. The hashers aren't compared. A filter may be its own
+    /// other.
     ///
     /// ```
     /// bloom.insert_hash(1);
@@ -37,8 +38,9 @@ impl<S> AtomicBloomFilter<S> {
         self.make(other, Call::Union);
     }
 
-    /// Turns off what is found off in the other, one word after the other. The hashers aren't
-    /// looked at. A filter may be its own other.
+    /// Clears every position that is found clear in the other filter, one word after the other.
+    /// Both have one shape, as `same_shape` tests. The hashers aren't compared. A filter may be its
+    /// own other.
     ///
     /// ```
     /// bloom.insert_hash(1);

@@ -30,8 +30,8 @@ impl<S> AtomicBloomFilter<S> {
         self.words.iter()
     }
 
-    /// Whether numbers of words and of hashes are equal, and the words as they were loaded, one
-    /// after the other up to the first that differ. The hashers aren't looked at.
+    /// Whether both filters have equal numbers of words and of hashes, and equal words. The words
+    /// are loaded one after the other, up to the first that differ. The hashers aren't compared.
     pub fn same_words(&self, other: &Self) -> bool
         ensures { MatchBool result (WereFoundAlike self.now other.now)
             ((HaveSameShape self.now other.now → ⊥) ⊎ WereFoundToDiffer self.now other.now) }
@@ -47,8 +47,8 @@ impl<S> AtomicBloomFilter<S> {
         true
     }
 
-    /// Takes the words out, word 0 first: each is read and turned off by one operation, so no bit
-    /// that another thread turns on meanwhile is lost. It is either taken or still there.
+    /// Takes the words out, word 0 first: each is read and cleared by one operation, so no bit that
+    /// another thread sets meanwhile is lost. It is either taken or still there.
     ///
     /// # Errors
     /// `Memory` where there is no room for the words, before any is touched.
@@ -61,8 +61,8 @@ impl<S> AtomicBloomFilter<S> {
         Ok(self.take_into(room))
     }
 
-    // Takes the words out, each in place of one number. No memory can be asked for here, so nothing
-    // is refused once a word is taken.
+    // Takes the words out, each over one number of the room. No memory can be asked for here, so
+    // nothing is refused once a word is taken.
     fn take_into(&self, room: Vec<u64>) -> Vec<u64>
         requires { length room.items ≡ self.now.words.count }
         ensures { TakesWords self.now result.items }

@@ -59,7 +59,12 @@ fn filter_of<S: Drop>(
 }
 
 impl AtomicBloomFilter {
-    /// A builder of a filter of at least this many bits, all off, under the zero key.
+    /// A builder of a filter of at least this many bits, all clear, under the zero key.
+    ///
+    /// ```
+    /// let builder = AtomicBloomFilter::with_num_bits(alloc, 1000)?; // 1024 bits, whole words
+    /// let bloom = builder.hashes(alloc, 4)?;
+    /// ```
     ///
     /// # Errors
     /// `ZeroBits` for no bits, `TooManyWords` for more than 2^58 - 1 words, and else `Memory` where

@@ -53,6 +53,11 @@ fn zero_words(alloc: Global, num_bits: usize) -> Result<AtomicBitVec, FilterErro
 
 impl AtomicBloomFilter {
     /// A builder of a filter that is sized by a rate of false positives, under the zero key.
+    ///
+    /// ```
+    /// let builder = AtomicBloomFilter::with_false_pos(Rate::new(1, 1000)?);
+    /// let bloom = builder.expected_items(alloc, 1000)?; // 14400 bits, 10 hashes
+    /// ```
     pub fn with_false_pos(rate: Rate) -> AtomicBuilderWithFalsePositiveRate
         ensures rate { result.rate ≡ rate }
         ensures key { HasKey result.hasher 0 0 }

@@ -76,7 +76,7 @@ pub(super) fn prepare<G: Gate + Drop>(
     })
 }
 
-// Starts a thread for each job, until one is refused. Answers whether none was.
+// Starts a thread for each job, until one is refused. Returns whether none was.
 fn start_all<R: Threads, G: Gate + Send + Sync + Drop + 'static>(
     rt: &R,
     jobs: Vec<Job<G>>,

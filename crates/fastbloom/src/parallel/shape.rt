@@ -40,7 +40,7 @@ impl Shape {
         })
     }
 
-    // The filter of this shape with every position off, under the zero key.
+    // The filter of this shape with every position clear, under the zero key.
     pub(super) fn empty_filter(self, alloc: Global) -> Result<BloomFilter, FilterError>
         ensures empty { IfOk result (λ filter. IsFilledWith self [] filter) }
         ensures key { IfOk result (λ filter. HasKey filter.hasher 0 0) }

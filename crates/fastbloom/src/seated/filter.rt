@@ -15,7 +15,8 @@ use bloom_parts::error::FilterError;
 use std::alloc::Global;
 use std::marker::Model;
 
-/// A Bloom filter that threads share, whose bits never turn off: what a thread knows stays on.
+/// A Bloom filter that threads share, whose bits are never cleared: a position that a thread knows
+/// stays set.
 ///
 /// Each thread has a `Pass` of the filter. Contracts see which filter it is, with its number of
 /// words, the number of hashes, and how many passes there are at most. Between any two steps of any
@@ -44,6 +45,11 @@ impl Model for SeatedBloomFilter {
 impl SeatedBloomFilter {
     /// A filter of these words, and all the passes that it will have. Zero hashes and zero passes
     /// count as 1.
+    ///
+    /// ```
+    /// let words = vec![in alloc; 0u64; 1024]?;
+    /// let (bloom, passes) = SeatedBloomFilter::new(alloc, words, 4, 2)?; // for two threads
+    /// ```
     ///
     /// # Errors
     /// `EmptyWords` for no words, `TooManyWords` for more than 2^58 - 1, and else `Memory` where
@@ -90,27 +96,27 @@ impl SeatedBloomFilter {
         Ok((filter, all))
     }
 
-    /// Turns on the positions of a hash by steps of this pass, and answers whether these found all
-    /// of them on. The answer is false exactly if the pass gained a position.
+    /// Sets the positions of a hash by steps of this pass, and returns whether these found all of
+    /// them set. The result is false exactly if the pass gained a position.
     pub fn insert_hash_as(&self, pass: &mut Pass, hash: u64) -> bool
         requires { pass.old.filter ≡ self.now.table }
         ensures same { IsSamePass pass.old pass.new }
         ensures inserts { InsertsAs (seated_positions self.now hash) pass.old pass.new result }
-        // The answer is true where the pass could be sure of all of them.
+        // The result is true where the pass could be sure of all of them.
         ensures sure { IsSure self.now pass.old hash → result ≡ true }
     {
         insert_positions(&self.table, &mut pass.seat, self.num_hashes, hash)
     }
 
-    /// Whether all positions of a hash are found on. It stops at the first that is off.
+    /// Whether all positions of a hash are found set. The look-up stops at the first that is clear.
     pub fn contains_hash_as(&self, pass: &mut Pass, hash: u64) -> bool
         requires { pass.old.filter ≡ self.now.table }
         ensures same { IsSamePass pass.old pass.new }
         ensures finds { Finds (seated_num_bits self.now) self.now.hashes hash
             pass.old pass.new result }
-        // The answer is whether the pass knows all of them then.
+        // The result is whether the pass knows all of them then.
         ensures found { result ≡ contains_known self.now pass.new hash }
-        // The answer is true where the pass could be sure of all of them.
+        // The result is true where the pass could be sure of all of them.
         ensures sure { IsSure self.now pass.old hash → result ≡ true }
         ensures gained { pass.new.gained ≡ pass.old.gained }
     {
@@ -128,7 +134,7 @@ impl SeatedBloomFilter {
         meet_seats(&self.table, &mut a.seat, &mut b.seat)
     }
 
-    /// The words: every bit is on that the filter began with or that the pass knows.
+    /// The words of the filter: all bits that it began with are set, and all that the pass knows.
     ///
     /// # Errors
     /// `Memory` where there is no room for them; the filter is gone then too.

@@ -1,7 +1,7 @@
 //! Laws of seated filters. These functions do nothing: their contracts are the laws.
 ghost use Rattle.fastbloom.specs.SeatedLaws.{FewLaw, SureFoundLaw, InsertedLaw, KnownLaw, MetLaw, OrLaw, StaysLaw};
 
-/// A look-up by a pass finds what the pass can be sure of, and an insert answers true of it.
+/// A look-up by a pass finds what the pass can be sure of, and an insert of it returns true.
 pub fn sure_is_found()
     ensures found { SureFoundLaw }
     ensures inserted { InsertedLaw }
@@ -13,7 +13,7 @@ pub fn inserted_stays_known()
     ensures stays { StaysLaw }
 {}
 
-/// What one pass knows, a look-up by another that met it finds, and an insert answers true of it.
+/// What one pass knows, a look-up by another that met it finds, and an insert of it returns true.
 pub fn met_is_found()
     ensures { MetLaw }
 {}

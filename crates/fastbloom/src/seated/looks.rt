@@ -17,7 +17,7 @@ use std::alloc::Global;
 /// The table of a filter.
 pub(crate) type FilterTable = Table<(), Sets, Size, SeatedRule, Global>;
 
-// Turns a position on, and answers whether it was on before.
+// Sets a position, and returns whether it was set before.
 fn turn_on_position(shared: &SharedWords, seat: &mut FilterSeat, position: usize) -> bool
     requires at { SitsAt seat.old shared.now.table_id shared.now.key }
     requires within { position < 64 * shared.now.table_id.words }
@@ -30,7 +30,7 @@ fn turn_on_position(shared: &SharedWords, seat: &mut FilterSeat, position: usize
     turn_on(shared, seat, word, mask) & mask > 0
 }
 
-// Whether a position is on.
+// Whether a position is set.
 fn look_at_position(shared: &SharedWords, seat: &mut FilterSeat, position: usize) -> bool
     requires at { SitsAt seat.old shared.now.table_id shared.now.key }
     requires within { position < 64 * shared.now.table_id.words }
@@ -42,7 +42,7 @@ fn look_at_position(shared: &SharedWords, seat: &mut FilterSeat, position: usize
     load(shared, seat, word) & mask > 0
 }
 
-/// Turns on the positions of a hash, and answers whether each was found on.
+/// Sets the positions of a hash, and returns whether each was found set.
 pub(crate) fn insert_positions(
     table: &FilterTable,
     seat: &mut FilterSeat,
@@ -66,7 +66,7 @@ pub(crate) fn insert_positions(
     all_on
 }
 
-/// Looks at the positions of a hash up to the first that is off, and answers whether all are on.
+/// Looks at the positions of a hash up to the first that is clear, and returns whether all are set.
 pub(crate) fn find_positions(
     table: &FilterTable,
     seat: &mut FilterSeat,

@@ -20,7 +20,7 @@ impl Play<(), Sets> for Settles {
     ghost then = { settled };
 }
 
-// Turns bits on in a word.
+// Sets bits in a word.
 fn put_bits(shared: &SharedWords, seat: &mut FilterSeat, word: usize, mask: u64)
     requires at { SitsAt seat.old shared.now.table_id shared.now.key }
     requires within { word < shared.now.table_id.words }
@@ -30,7 +30,7 @@ fn put_bits(shared: &SharedWords, seat: &mut FilterSeat, word: usize, mask: u64)
     shared.fetch_or::<PutsIn>(seat, word, mask);
 }
 
-// Makes a zero word this one, by a step for each bit that is on.
+// Makes a zero word this one, by a step for each bit that is set.
 fn put_word(shared: &SharedWords, seat: &mut FilterSeat, word: usize, value: u64)
     requires at { SitsAt seat.old shared.now.table_id shared.now.key }
     requires within { word < shared.now.table_id.words }

@@ -13,7 +13,7 @@ use std::marker::Model;
 /// What one user of a filter knows of its words, in contracts alone: it has no bytes.
 ///
 /// Contracts see the filter that it is of, the words that this began with, the positions that it
-/// knows to be on, and those of them that it turned on.
+/// knows to be set, and those of them that it set itself.
 #[derive(Drop)]
 pub struct Pass {
     pub(crate) seat: FilterSeat,

@@ -20,9 +20,9 @@ pub struct Sets {
     pub role: Role,
     /// The words that the filter began with.
     pub start: [u64; 0],
-    /// The positions that the seat knows to be on.
+    /// The positions that the seat knows to be set.
     pub known: [u64; 0],
-    /// Those of them that it turned on.
+    /// Those of them that it set itself.
     pub gained: [u64; 0],
     /// How many passes it stands for.
     pub passes: usize,
@@ -35,8 +35,8 @@ pub struct Size {
     pub passes: usize,
 }
 
-/// The rule that holds between any two steps: all that passes know is on, and no position is gained
-/// twice.
+/// The rule that holds between any two steps: all that passes know is set, and no position is
+/// gained twice.
 pub struct SeatedRule;
 
 impl TableRule<(), Sets, Size> for SeatedRule {

@@ -14,14 +14,14 @@ pub(crate) type SharedWords = Shared<(), Sets, Size, SeatedRule>;
 /// A seat of a filter. It has no bytes.
 pub(crate) type FilterSeat = Seat<(), Sets>;
 
-// A load makes the positions known that it finds on.
+// A load makes the positions known that it finds set.
 struct Loads;
 
 impl Play<(), Sets> for Loads {
     ghost then = { loaded };
 }
 
-// An `|` makes its positions known, and gained where it finds them off.
+// An `|` makes its positions known, and gained where it finds them clear.
 struct TurnsOn;
 
 impl Play<(), Sets> for TurnsOn {

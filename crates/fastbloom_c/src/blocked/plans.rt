@@ -39,7 +39,7 @@ pub extern "C" fn fastbloom_blocked_plan(
         × (num_words.new ≡ line_words_for bits) }
     ensures hashes { result ≡ 0
         → num_hashes.new ≡ hashes_in_lines (64 * num_words.new) (max 1 items) }
-    // Only one number of bits is the size, so the answer is decided.
+    // Only one number of bits is the size, so the result is decided.
     ensures code { IsCodeInLinesFor num den items result }
     // A refusal sets both numbers to 0, the size of no filter.
     ensures words_zero { 0 < result → num_words.new ≡ 0 }

@@ -183,7 +183,7 @@ impl<T: Store + Drop, K: Kept + Drop> Guard<T, K> {
     /// before a batch is committed.
     ///
     /// # Errors
-    /// At the first line that is no entry, and where the store, the place of the filter, a read or
+    /// At the first line that is no entry, and where the store, a save of the filter, a read or
     /// memory fails. The batches before are put, and nothing else.
     pub fn load<R: Read>(
         &mut self,

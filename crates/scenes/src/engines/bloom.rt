@@ -33,7 +33,7 @@ fn run(
 }
 
 // Whether a run writes this, ends so, and leaves this as the filter's first word, if that is told.
-// An end is told once, and no answer waits while a read may wait, or at the end.
+// An end is told once, and no reply waits while a read may wait, or at the end.
 fn serves(alloc: Global, row: &Row, reading: Reading, writing: Writing, word: Option<u64>) -> bool {
     let (words, hashes, input, output, wanted) = *row;
     let seen = Seen::new();

@@ -41,7 +41,7 @@ pub(crate) const FAILING: Reading = Reading {
 pub(crate) struct Seen {
     /// How many bytes were written and not flushed.
     pub(crate) waiting: Cell<usize>,
-    /// How many ends were told, or failures in place of one.
+    /// How many ends were told, or failures instead of one.
     pub(crate) ends: Cell<usize>,
     /// How many reads and opens came while what was written waited for a flush.
     pub(crate) early: Cell<usize>,
@@ -118,7 +118,7 @@ pub(crate) struct Writing {
     pub(crate) room: usize,
     /// Whether an interrupted write comes before each.
     pub(crate) interrupts: bool,
-    /// Whether it takes nothing where no room is left, in place of an error.
+    /// Whether it takes nothing where no room is left, instead of an error.
     pub(crate) takes_none: bool,
     /// The most flushes that don't fail.
     pub(crate) flushes: usize,

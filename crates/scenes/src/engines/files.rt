@@ -115,8 +115,8 @@ fn host_file<'a>(
     FilterFile::new(rt.alloc(), HostFolder::new(rt, paths, Unknown), false)
 }
 
-// Whether a folder in the place of the file is refused, since it is no file, and a save in a folder
-// that is missing, since no name can be synced there.
+// Whether a folder with the name of the file is refused, since it is no file, and a save in a
+// folder that is missing, since no name can be synced there.
 fn are_refused(rt: &HostRuntime) -> Result<bool, FilterError> {
     let filter = filter_with(rt.alloc(), 1)?;
     let unread = host_file(rt, ".", ".").load().err();

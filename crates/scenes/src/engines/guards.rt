@@ -77,7 +77,7 @@ enum Act {
     Stats,
 }
 
-// Acts one after the other on an empty store, what each answers, and how many values the store is
+// Acts one after the other on an empty store, the reply to each, and how many values the store is
 // asked for. A key that was deleted stays in the filter, so the store is asked for nothing. One key
 // sets so few bits that the rate lies below a billionth.
 const ACTS: &'static [(Act, &'static str, u64)] = &[
@@ -130,7 +130,7 @@ fn task_of(act: Act) -> Task<'static, &'static [u8]> {
     }
 }
 
-// Whether a guard answers an act as its row says, and asks its store for so many values.
+// Whether a guard replies to an act as its row says, and asks its store for this many values.
 fn is_right(
     alloc: Global,
     guard: &mut Asking,

@@ -13,7 +13,7 @@ use summaries_engine::{Inputs, Stop, Told, ask, build, load, put, put_file};
 
 // The files of filters of 64 bits and two hashes, of the key "a", and of "a" and "b". Their words
 // were worked out by another program, from the papers on SipHash and on the multiply and shift.
-// Their seals are what Python 3.11, whose hash of bytes is SipHash-1-3, answers under the key of
+// Their seals are what Python 3.11, whose hash of bytes is SipHash-1-3, returns under the key of
 // zeros.
 const A: &[u8] = b"fbloom\01\x02\0\0\0\0\0\0\0\
     \x01\0\0\0\0\0\0\0\0\0\0\0\0\0\0\0\

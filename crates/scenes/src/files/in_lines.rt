@@ -64,8 +64,8 @@ fn the_worked_file_of_lines_is_written_and_read(rt: HostRuntime) {
     assert!(rt; is_read(rt.alloc(), &unsealed));
 }
 
-// A place of the worked file, the number that is put there, how many bytes are read of the file,
-// why it is refused where lines are read, and why where none are. Place 128 changes nothing.
+// An offset in the worked file, the number that is put there, how many bytes are read of the file,
+// why it is refused where lines are read, and why where none are. Offset 128 changes nothing.
 type Refused = (usize, u64, usize, Option<FileError>, Option<FileError>);
 
 const REFUSED: &'static [Refused] = &[
@@ -110,7 +110,7 @@ const REFUSED: &'static [Refused] = &[
     (64, 1, 128, Some(FileError::Seal), Some(FileError::Blocked)),
 ];
 
-// The worked file with another number at a place.
+// The worked file with another number at an offset.
 fn changed(place: usize, number: u64) -> [u8; 128] {
     let mut file = WORKED;
     if place <= 64 {

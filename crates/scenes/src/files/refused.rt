@@ -48,7 +48,7 @@ fn each_refusal_has_its_text_and_number(rt: HostRuntime) {
     }
 }
 
-// A place of the worked file, the number that is put there, how many bytes are read of the file,
+// An offset in the worked file, the number that is put there, how many bytes are read of the file,
 // and why it is refused then. The seal is wrong wherever nothing comes before it. Fifteen bytes
 // don't tell a number of hashes, nor 23 a number of words. Nobody has the memory for 2^57 words.
 const REFUSED: &'static [(usize, u64, usize, FileError)] = &[
@@ -78,7 +78,7 @@ const REFUSED: &'static [(usize, u64, usize, FileError)] = &[
     (64, 0x9080_0080_4000_1400, 72, FileError::Seal),
 ];
 
-// The worked file with another number at a place, or as it is where the place lies behind it.
+// The worked file with another number at an offset, or as it is where the offset lies behind it.
 fn changed(place: usize, number: u64) -> [u8; 72] {
     let mut file = WORKED;
     if place <= 64 {

@@ -7,7 +7,7 @@ use fastbloom::{BloomFilter, FilterError};
 use std::alloc::Global;
 use std::io::ErrorKind;
 
-// The file of a filter, as far as a writer takes it that has this room and takes so many bytes a
+// The file of a filter, as far as a writer takes it that has this room and takes this many bytes a
 // call, and whether it took it whole.
 fn written(alloc: Global, filter: &BloomFilter, piece: usize, room: usize) -> (Vec<u8>, bool) {
     let seen = Seen::new();
@@ -21,7 +21,7 @@ fn written(alloc: Global, filter: &BloomFilter, piece: usize, room: usize) -> (V
     (output.written, is_whole)
 }
 
-// The filter of a file, by a reader that gives so many bytes a call, and may fail where it would
+// The filter of a file, by a reader that gives this many bytes a call, and may fail where it would
 // tell its end.
 fn read(alloc: Global, file: &[u8], piece: usize, fails: bool) -> Result<BloomFilter, FileError> {
     let seen = Seen::new();
@@ -33,8 +33,8 @@ fn read(alloc: Global, file: &[u8], piece: usize, fails: bool) -> Result<BloomFi
     BloomFilter::read_file(alloc, &mut Source::new(file, reading, &seen))
 }
 
-// Whether a reader and a writer that fail behind so many bytes of the worked file are told. Behind
-// all 72 bytes the reader fails in place of telling its end, and the writer has room.
+// Whether a reader and a writer that fail behind this many bytes of the worked file are told.
+// Behind all 72 bytes the reader fails instead of telling its end, and the writer has room.
 fn are_told(alloc: Global, filter: &BloomFilter, length: usize) -> bool {
     let beginning = &WORKED[..length.min(72)];
     let refused = read(alloc, beginning, 5, true).err();
@@ -54,7 +54,7 @@ fn streams_that_fail_are_told_at_each_place(rt: HostRuntime) {
     }
 }
 
-// A filter of so many words, under a key that was drawn, with as many items.
+// A filter of this many words, under a key that was drawn, with as many items.
 fn filter_of(alloc: Global, words: u64) -> Result<BloomFilter, FilterError> {
     let builder = BloomFilter::with_num_bits(alloc, words.saturating_mul(64) as usize)?;
     let mut filter = builder.seed(&42).hashes(7);
@@ -78,7 +78,7 @@ const STREAMS: &'static [(u64, usize)] = &[
     (100_000, 1000),
 ];
 
-// Whether a file is read as a filter, and is cut without its last byte.
+// Whether a file is read as a filter, and counts as truncated without its last byte.
 fn is_read(alloc: Global, file: &[u8], piece: usize, filter: &BloomFilter) -> bool {
     let cut = &file[..file.len().saturating_sub(1)];
     let refused = read(alloc, cut, piece, false).err();

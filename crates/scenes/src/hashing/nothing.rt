@@ -3,7 +3,7 @@ use fastbloom::{AtomicBloomFilter, BloomFilter, FilterError};
 use std::alloc::Global;
 use std::hash::{BuildHasher, Hasher};
 
-// A hasher that looks at nothing and always answers 0.
+// A hasher that looks at nothing and always returns 0.
 #[derive(Clone, Copy)]
 struct Nothing;
 

@@ -15,8 +15,8 @@ pub(super) const MESSAGE: &'static [u8] = b"\
     \x4d\x54\x5b\x62\x69\x70\x77\x7e\x85\x8c\x93\x9a\xa1\xa8\xaf\xb6\xbd\xc4\xcb\xd2\xd9\xe0\xe7\
     \xee\xf5\xfc\x03";
 
-// The answers of the crate siphasher 0.3.10 (`SipHasher13`) under the key bytes 0, 1, .., 15, each
-// for the first so many bytes of the message.
+// The hashes of the crate siphasher 0.3.10 (`SipHasher13`) under the key bytes 0, 1, .., 15, each
+// for this many first bytes of the message.
 const COUNTED: &'static [(usize, u64)] = &[
     (0, 0xabac_0158_050f_c4dc),
     (1, 0x2f28_48bd_f070_e448),
@@ -42,8 +42,7 @@ macro_rules! vectors {
     };
 }
 
-// The answers of the same crate under keys that were drawn. A key is given by its big-endian
-// number.
+// The hashes of the same crate under keys that were drawn. A key is given by its big-endian number.
 const DRAWN: &'static [(u128, u64, &'static [u8])] = vectors! {
     0x6c82a562cb808d10d632be89c8513ebf 0x806d_6265_97df_1c98 b""
     0x6c929f34ddfa8c9f63c9960ef6e348a3 0x529a_95ee_d57c_58de b"\x52"

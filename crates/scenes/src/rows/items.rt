@@ -33,7 +33,7 @@ macro_rules! has_texts {
     };
 }
 
-// A filter of 2^25 bits, which is larger than a cache, takes so many items: fewer than a group of
+// A filter of 2^25 bits, which is larger than a cache, takes this many items: fewer than a group of
 // sixteen, one group, and more.
 macro_rules! is_large {
     ($count:expr) => {

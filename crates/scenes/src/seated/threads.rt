@@ -23,7 +23,7 @@ impl Promise<(u64, Pass)> for IsOfFilter {
 
 type Child = PromisedHandle<(u64, Pass), IsOfFilter>;
 
-// Inserts all hashes, and counts the answers that were false.
+// Inserts all hashes, and counts the inserts that returned false.
 fn insert_all(filter: &SeatedBloomFilter, mut pass: Pass) -> (u64, Pass)
     requires { pass.filter ≡ filter.now.table }
     ensures { result.1.filter ≡ filter.entry.now.table }
@@ -84,7 +84,7 @@ fn count_found(filter: &SeatedBloomFilter, pass: &mut Pass) -> u64
     found
 }
 
-// Two passes that met, and how many of their inserts answered false.
+// Two passes that met, and how many of their inserts returned false.
 type Met = (u64, Pass, Pass);
 
 // Has two threads insert all hashes, with the last of the passes.

@@ -34,7 +34,7 @@ macro_rules! event {
     };
 }
 
-// A record of a party's number. A step that ends its call is the last or gives the answer.
+// A record of a party's number. A step that ends its call is the last or gives the reply.
 macro_rules! record {
     ($party:literal begins $call:ident $(($hash:expr))?) => {
         Record::Began {
@@ -81,8 +81,8 @@ macro_rules! course {
 }
 
 const COURSES: &'static [Course] = &[
-    // Both inserts find one of their bits off, so both answer false: inserts aren't single steps.
-    // Two steps found their bit off, and two bits were gained.
+    // Both inserts find one of their bits clear, so both reply false: inserts aren't single steps.
+    // Two steps found their bit clear, and two bits were gained.
     course! {
         "two inserts of one fresh hash both answer false",
         [0], 2, 2, [1048577];
@@ -91,8 +91,8 @@ const COURSES: &'static [Course] = &[
         [1 makes Or(0, 1) finding 1] [1 makes Or(0, 1048576) finding 1 answering false]
         [0 makes Or(0, 1048576) finding 1048577 answering false]
     },
-    // The words were 1, 0 and 1048576, so positions 0 and 20 were never on together. The look-up is
-    // disturbed: between its first step and its last the clear turned off position 0 of its hash.
+    // The words were 1, 0 and 1048576, so positions 0 and 20 were never set together. The look-up
+    // is disturbed: between its first step and its last the clear cleared position 0 of its hash.
     course! {
         "a disturbed contains may be true at no moment",
         [1], 2, 3, [1048576];
@@ -109,7 +109,7 @@ const COURSES: &'static [Course] = &[
         [0 begins Union] [0 makes Other(0) finding 5] [1 begins Clear]
         [1 makes Zero(0) finding 0 ending] [0 makes Or(0, 5) finding 0 ending]
     },
-    // Hash 1 has the positions 0, 40 and 64 of 128 bits. The clear turns position 64 off.
+    // Hash 1 has the positions 0, 40 and 64 of 128 bits. The clear clears position 64.
     course! {
         "a clear under way takes from an insert",
         [0, 0], 3, 2, [1099511627777, 0];
@@ -138,7 +138,7 @@ const COURSES: &'static [Course] = &[
         [9], 1, 0, [9];
         [0 begins Clear] [0 goes] =>
     },
-    // The look-up is undisturbed, since no step turned off a position of its hash. At the moment of
+    // The look-up is undisturbed, since no step cleared a position of its hash. At the moment of
     // its last load its hash isn't contained.
     course! {
         "an undisturbed contains is false before the insert ends",
@@ -183,7 +183,7 @@ const COURSES: &'static [Course] = &[
         [0 begins Take] [1 begins Take] [1 makes Take(0) finding 7 ending]
         [0 makes Take(0) finding 0 ending]
     },
-    // Two steps found their bit off; the take found one of the bits, and one is left.
+    // Two steps found their bit clear; the take found one of the bits, and one is left.
     course! {
         "a take between two steps of an insert loses no bit",
         [0], 2, 2, [1048576];

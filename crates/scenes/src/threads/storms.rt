@@ -8,7 +8,7 @@ use std::alloc::Global;
 use std::sync::Arc;
 use std::thread::Threads;
 
-// A filter of this many bits and hashes under a seed, into which the first so many hashes are
+// A filter of this many bits and hashes under a seed, into which this many first hashes are
 // inserted before threads with these tasks are started.
 struct Storm {
     name: &'static str,
@@ -20,12 +20,12 @@ struct Storm {
     end: End,
 }
 
-// What is done and must be so besides that no answer was wrong.
+// What is done and must hold, besides that no reply was wrong.
 enum End {
     // The filter is let go while the threads run. A thread's own `Arc` keeps it.
     LetGo,
-    // With one hash an insert that answers false set one bit. So as many bits are set as inserts
-    // answered false, less those that were taken out. Then the filter is cleared, and is as new.
+    // With one hash an insert that returns false set one bit. So as many bits are set as inserts
+    // returned false, less those that were taken out. Then the filter is cleared, and is as new.
     Kept,
     // And before, the words are those that one thread makes.
     Alone,
@@ -139,7 +139,7 @@ fn made(alloc: Global, storm: &Storm) -> Result<AtomicBloomFilter, FilterError> 
     Ok(filter)
 }
 
-// Whether a filter that is cleared is empty, and a hundred inserts answer as a plain filter's.
+// Whether a filter that is cleared is empty, and a hundred inserts return what a plain filter's do.
 fn ends_as_new(alloc: Global, filter: &AtomicBloomFilter) -> Result<bool, FilterError> {
     filter.clear();
     let mut is_right = filter.count_ones() == 0;

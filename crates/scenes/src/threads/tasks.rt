@@ -52,7 +52,7 @@ fn call_by(alloc: Global, filter: &AtomicBloomFilter, drawn: u64) {
     }
 }
 
-// A turn with the position of a hash, which one thread alone changes, and whether each answer was
+// A turn with the position of a hash, which one thread alone changes, and whether each reply was
 // right. In one other filter the position alone is clear, in one it alone is set.
 fn is_flipped(
     filter: &AtomicBloomFilter,
@@ -78,8 +78,8 @@ fn filter_of(alloc: Global, word: u64) -> Result<AtomicBloomFilter, FilterError>
     AtomicBloomFilter::from_vec(vec![in alloc; word]?)?.hashes(alloc, 1)
 }
 
-// Whether a position answers right each time that it is set and cleared. The position of a hash
-// among 64 is its six highest bits.
+// Whether a look-up of a position is right each time that it is set and cleared. The position of a
+// hash among 64 is its six highest bits.
 fn is_always_flipped(
     alloc: Global,
     filter: &AtomicBloomFilter,
@@ -108,8 +108,8 @@ fn has_data(alloc: Global, filter: &AtomicBloomFilter) -> Result<bool, FilterErr
     Ok(has_no_key & other.same_shape(filter))
 }
 
-// How many inserts of a turn answered false, less the bits that it took out, and whether its
-// answers were right.
+// How many inserts of a turn returned false, less the bits that it took out, and whether its
+// replies were right.
 fn turn(
     alloc: Global,
     filter: &AtomicBloomFilter,
@@ -134,8 +134,8 @@ fn turn(
     }
 }
 
-/// Does a task. Counts the inserts that answered false less the bits that were taken out, modulo
-/// 2^64, and the turns in which an answer was wrong or memory ran out.
+/// Does a task. Counts the inserts that returned false less the bits that were taken out, modulo
+/// 2^64, and the turns in which a reply was wrong or memory ran out.
 pub(super) fn work(alloc: Global, filter: &AtomicBloomFilter, task: Task) -> (u64, u64) {
     let (act, first, end) = task;
     let mut new = 0u64;

@@ -1,4 +1,4 @@
-//! The writes of the hasher, and its answer. A whole number counts as its bytes, the lowest first.
+//! The writes of the hasher, and its hash. A whole number counts as its bytes, the lowest first.
 ghost use Rattle.std.specs.Prelude.{◌≡◌, ◌%◌, fold};
 ghost use Rattle.std.specs.Hash as fed;
 ghost use Rattle.std.specs.Int.{w8, w16, w32, w64, w128, to_le_bytes, cast_unsigned};

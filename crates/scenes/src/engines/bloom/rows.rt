@@ -80,7 +80,7 @@ pub(super) const RUNS: &'static [Row] = &[
     (1, 2, "i 1\nc", ONE, Err(Fault::Line(2))),
 ];
 
-// What the first lines of a session are answered, and all three.
+// The replies to the first lines of a session: to one, to two, and to all three.
 const ONE: &str = "false\n";
 
 const TWO: &str = "false\ntrue\n";
@@ -95,7 +95,7 @@ const OUTPUT: Fault = Fault::Output;
 const WORD: u64 = 0x100001;
 
 /// Input, and how it is read and the output is taken; what is written of it, how the run ends, and
-/// the filter's word. The bytes before a read that fails are answered up to the last whole line.
+/// the filter's word. Of the bytes before a read that fails, all whole lines get their replies.
 pub(super) const FAULTS: &'static [Failing] = &[
     ("", FAILING, ROOMY, "", INPUT, 0),
     ("i", FAILING, ROOMY, "", INPUT, 0),
