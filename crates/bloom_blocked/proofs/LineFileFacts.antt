@@ -1,5 +1,5 @@
 -- Which bytes are the file of a blocked filter, at values from outside: cases that hold, and cases
--- that nearly do. They were made by a program in Python (`bin/blocked-model`). The worked filter
+-- that nearly do. They were made by a program in Python (`dev/blocked-model`). The worked filter
 -- has one line, 3 hashes and the key bytes 0 to 15, and `crab` and `lobster` were inserted into it.
 use Rattle.std.proofs.Common.{◌≡◌, ℕ, zero, suc, ◌^◌, ◌<◌, List, [], ◌∷◌, ◌++◌, length, get_or, true, false, None, Some, refl, sym, ap, subst, ◌∙◌, append-nil, arith, inl, inr, lit<}
 use Rattle.bloom_parts.specs.Chain.{chain}

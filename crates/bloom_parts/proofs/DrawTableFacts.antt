@@ -1,5 +1,5 @@
 -- How many pairs of draws and a query are a false positive, for up to three positions, draws and
--- positions of a query. bin/draws counts the pairs one after the other.
+-- positions of a query. dev/draws counts the pairs one after the other.
 use Rattle.std.proofs.Common.{◌≡◌, refl}
 use Rattle.bloom_parts.specs.Draws.{sum_below, sum_draws, is_drawn, all_in, false_positives}
 

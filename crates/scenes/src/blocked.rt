@@ -1,4 +1,4 @@
-//! Blocked filters: drawn sessions, at what `bin/blocked-model` says of them, and each generic call
+//! Blocked filters: drawn sessions, at what `dev/blocked-model` says of them, and each generic call
 //! at a concrete type.
 
 use crate::telling::{has_text, tell_row};

@@ -1,5 +1,5 @@
 //! Calls that take memory and are no lines of a scene: how each ends where a request for memory is
-//! refused, and what it leaves. Each test prints its calls and how they ended, which bin/starve
+//! refused, and what it leaves. Each test prints its calls and how they ended, which dev/starve
 //! compares.
 ghost use Rattle.std.specs.Prelude.{◌≡◌};
 

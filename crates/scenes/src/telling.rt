@@ -37,7 +37,7 @@ pub(crate) const WITHOUT_MEMORY: &'static str = "without memory";
 /// The end of a test that is itself refused memory.
 pub(crate) const NO_ROOM: &'static str = "no room for the test";
 
-/// Prints a call and how it ended, which bin/starve compares: whether it isn't wrong.
+/// Prints a call and how it ended, which dev/starve compares: whether it isn't wrong.
 pub(crate) fn say(rt: &HostRuntime, call: &str, ended: &str) -> bool {
     let printed = println!(rt; "{call}: {ended}");
     printed.is_ok() & (ended != WRONG)

@@ -1,5 +1,5 @@
 //! Scenes that are run again and again, each time with one request for memory refused. They print
-//! their calls and how each ended, which bin/starve compares.
+//! their calls and how each ended, which dev/starve compares.
 use crate::follow::follow;
 use crate::making::{Refused, THE_TEST};
 use crate::scene::Op::{
