@@ -420,11 +420,11 @@ FASTBLOOM_MUST_USE uint8_t fastbloom_head_read(const uint8_t head[64], size_t *n
                                                uint32_t *num_hashes, uint8_t key[16],
                                                uint64_t *seal);
 
-/* The same of the file of a blocked filter, whose head says so. The seal covers this too, so it is
- * another one than that of fastbloom_seal. Words that are no whole lines have no such file:
- * fastbloom_blocked_head_write returns FASTBLOOM_PART_OF_A_LINE for them, and writes nothing. By
- * fastbloom_blocked_head_read they are refused so as well, and the head of a filter that isn't
- * blocked by FASTBLOOM_NOT_BLOCKED. */
+/* The same for the file of a blocked filter. Bytes 48 to 55 of its head say that the words are
+ * lines, and its seal covers these bytes too, so fastbloom_seal gives another one. For words that
+ * are no whole lines fastbloom_blocked_head_write returns FASTBLOOM_PART_OF_A_LINE, and writes
+ * nothing. fastbloom_blocked_head_read refuses them by the same number, and the head of a filter
+ * that isn't blocked by FASTBLOOM_NOT_BLOCKED. */
 uint64_t fastbloom_blocked_seal(const uint64_t *words, size_t num_words, uint32_t num_hashes,
                                 const uint8_t key[16]);
 FASTBLOOM_MUST_USE uint8_t fastbloom_blocked_head_write(size_t num_words, uint32_t num_hashes,
@@ -493,11 +493,11 @@ void fastbloom_unmap(fastbloom_filter *filter);
 FASTBLOOM_MUST_USE uint8_t fastbloom_save(const char *path, const fastbloom_filter *filter,
                                           bool sealed);
 
-/* The same calls on the file of a blocked filter. Each kind of filter is read by its own calls: the
- * ones above refuse the file of a blocked filter by FASTBLOOM_BLOCKED, and these refuse the other
- * kind by FASTBLOOM_NOT_BLOCKED. Words that are no whole lines are neither read nor written, by
- * FASTBLOOM_PART_OF_A_LINE. fastbloom_unload and fastbloom_unmap are for both kinds. The words that
- * are read or mapped begin where a line of the cache does. */
+/* The same calls for the file of a blocked filter. The calls above refuse such a file by
+ * FASTBLOOM_BLOCKED, and these refuse the file of the other kind by FASTBLOOM_NOT_BLOCKED. They
+ * return FASTBLOOM_PART_OF_A_LINE for words that are no whole lines. fastbloom_unload and
+ * fastbloom_unmap are for both kinds. Words that are loaded or mapped begin at a multiple of 64
+ * bytes, where a line of the cache does. */
 FASTBLOOM_MUST_USE uint8_t fastbloom_blocked_load(const char *path, const fastbloom_limits *limits,
                                                   fastbloom_filter *filter);
 FASTBLOOM_MUST_USE uint8_t fastbloom_blocked_map(const char *path, enum fastbloom_map_mode mode,
