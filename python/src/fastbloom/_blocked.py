@@ -270,6 +270,10 @@ class BlockedFilter:
     def _words(self) -> bytes:
         return bytes(self._view)
 
+    @alone
+    def _copy_words(self, memory: bytearray, offset: int) -> None:
+        memoryview(memory)[offset:] = self._view
+
     def copy(self) -> Self:
         """A filter with words of its own, which are equal to these."""
         made = type(self).__new__(type(self))
@@ -309,12 +313,12 @@ class BlockedFilter:
 
     def _file(self, sealed: bool) -> bytearray:
         """The bytes of the file, of the words as they are at one instant."""
-        file = bytearray(_HEAD) + self._words()
+        file = bytearray(_HEAD + 8 * self._num_words)
+        self._copy_words(file, _HEAD)
         at = ctypes.addressof(ctypes.c_char.from_buffer(file))
         seal = 0
         if sealed:
-            seal = library.blocked_seal(
-                at + _HEAD, self._num_words, self._num_hashes, self._key)
+            seal = library.blocked_seal(at + _HEAD, self._num_words, self._num_hashes, self._key)
         _check(library.blocked_head_write(self._num_words, self._num_hashes, self._key, seal, at))
         return file
 
@@ -333,10 +337,12 @@ class BlockedFilter:
         It raises as `Filter.from_bytes`, and Refusal where they are the file of a `Filter`.
         """
         data = plain_bytes(data, "a file is a bytes-like object")
-        told = _check_file(data[:_HEAD], len(data), max_hashes, library.blocked_head_read)
-        read = cls._empty(*told)
-        read._view[:] = data[_HEAD:]
-        return read._checked(told[3])
+        num_words, num_hashes, key, seal = _check_file(
+            data[:_HEAD], len(data), max_hashes, library.blocked_head_read)
+        read = cls.__new__(cls)
+        read._set(num_words // 8, num_hashes, key)
+        read._view[:] = memoryview(data)[_HEAD:]
+        return read._checked(seal)
 
     @classmethod
     def load(cls, path: Path, *, max_hashes: Optional[int] = 64, mapped: bool = False) -> Self:
@@ -346,22 +352,16 @@ class BlockedFilter:
         """
         with open(path, "rb") as file:
             head, size = file.read(_HEAD), os.fstat(file.fileno()).st_size
-            told = _check_file(head, size, max_hashes, library.blocked_head_read)
+            num_words, num_hashes, key, seal = _check_file(
+                head, size, max_hashes, library.blocked_head_read)
+            read = cls.__new__(cls)
             if mapped:
-                read = cls.__new__(cls)
-                read._take(memoryview(map_file(file, size))[_HEAD:], told[1], told[2])
+                read._take(memoryview(map_file(file, size))[_HEAD:], num_hashes, key)
             else:
-                read = cls._empty(*told)
+                read._set(num_words // 8, num_hashes, key)
                 if file.readinto(read._view) != read._view.nbytes:  # it has become shorter
                     raise Refusal(_CUT)
-        return read._checked(told[3])
-
-    @classmethod
-    def _empty(cls, num_words: int, num_hashes: int, key: bytes, seal: int) -> Self:
-        """The empty filter with the shape that a head tells."""
-        made = cls.__new__(cls)
-        made._set(num_words // 8, num_hashes, key)
-        return made
+        return read._checked(seal)
 
     def _checked(self, seal: int) -> Self:
         """This filter, unless its file has the seal of another one."""
