@@ -21,7 +21,8 @@
 
 enum {
     HEAD = 64,             /* bytes; the words come next */
-    NUMBERS = 48,          /* bytes of the head before the reserved ones */
+    NUMBERS = 48,          /* bytes of the head before the layout and the reserved ones */
+    LINE = 64,             /* bytes; words that begin at a multiple of them begin a line */
     TRIES = 100,           /* names of a new file that are drawn at most */
     DRAWN = 16,            /* digits of such a name */
     MOST_AT_ONCE = 1 << 30 /* bytes that are read or written by one call of the system */
@@ -110,12 +111,27 @@ static bool write_bytes(int file, const void *bytes, size_t size) {
     return true;
 }
 
-/* Reads the head of a file of this size, of which the first bytes are given, as many as there are
- * and at most 64. It answers the first reason to refuse the file. */
-static uint8_t read_head(const uint8_t *bytes, size_t size, const fastbloom_limits *limits,
-                         fastbloom_filter *filter, uint64_t *seal) {
-    /* A copy of the numbers that are there, with good ones in the place of those that a cut file
-     * lacks. The reserved bytes, which must be zero, are read after the size. */
+/* What files of one kind of filters have of their own. */
+struct kind {
+    uint8_t (*head_read)(const uint8_t head[64], size_t *num_words, uint32_t *num_hashes,
+                         uint8_t key[16], uint64_t *seal);
+    uint8_t (*head_write)(size_t num_words, uint32_t num_hashes, const uint8_t key[16],
+                          uint64_t seal, uint8_t head[64]);
+    uint64_t (*seal)(const uint64_t *words, size_t num_words, uint32_t num_hashes,
+                     const uint8_t key[16]);
+};
+
+static const struct kind whole = {fastbloom_head_read, fastbloom_head_write, fastbloom_seal};
+static const struct kind blocked = {fastbloom_blocked_head_read, fastbloom_blocked_head_write,
+                                    fastbloom_blocked_seal};
+
+/* Reads the head of a file of this kind and size, of which the first bytes are given, as many as
+ * there are and at most 64. It returns the first reason to refuse the file. */
+static uint8_t read_head(const struct kind *kind, const uint8_t *bytes, size_t size,
+                         const fastbloom_limits *limits, fastbloom_filter *filter,
+                         uint64_t *seal) {
+    /* A copy of the numbers that are there, with good ones for those that a truncated file lacks.
+     * The last bytes, by which the kinds differ, are read after the size. */
     uint8_t head[HEAD] = {[8] = 1, [16] = 1};
     memcpy(head, bytes, size < NUMBERS ? size / 8 * 8 : NUMBERS);
     uint8_t code =
@@ -124,16 +140,16 @@ static uint8_t read_head(const uint8_t *bytes, size_t size, const fastbloom_limi
     if (size < HEAD + 8 * filter->num_words) return FASTBLOOM_CUT;
     if (size > HEAD + 8 * filter->num_words) return FASTBLOOM_TOO_LONG;
     memcpy(head + NUMBERS, bytes + NUMBERS, HEAD - NUMBERS);
-    code = fastbloom_head_read(head, &filter->num_words, &filter->num_hashes, filter->key, seal);
+    code = kind->head_read(head, &filter->num_words, &filter->num_hashes, filter->key, seal);
     if (code != FASTBLOOM_OK) return code;
     if (filter->num_hashes > limits->max_hashes) return FASTBLOOM_TOO_MANY_HASHES;
     return filter->num_words > limits->max_words ? FASTBLOOM_TOO_MANY_WORDS : FASTBLOOM_OK;
 }
 
 /* Whether the seal is 0, or that of these words. */
-static uint8_t check_seal(const fastbloom_filter *filter, uint64_t seal) {
-    return seal == 0 || seal == fastbloom_seal(filter->words, filter->num_words,
-                                               filter->num_hashes, filter->key)
+static uint8_t check_seal(const struct kind *kind, const fastbloom_filter *filter, uint64_t seal) {
+    return seal == 0 || seal == kind->seal(filter->words, filter->num_words, filter->num_hashes,
+                                           filter->key)
                ? FASTBLOOM_OK
                : FASTBLOOM_SEAL;
 }
@@ -144,39 +160,55 @@ static const fastbloom_limits *limits_of(const fastbloom_limits *limits) {
     return limits == NULL ? &usual : limits;
 }
 
+/* Memory that begins at a line of the cache, or NULL. */
+static void *allocate_lines(size_t bytes) {
+    void *memory = NULL;
+    return posix_memalign(&memory, LINE, bytes) == 0 ? memory : NULL;
+}
+
 /* Reads the words of an open file of this size. */
-static uint8_t load_open(int file, size_t size, const fastbloom_limits *limits,
-                         fastbloom_filter *filter) {
+static uint8_t load_open(const struct kind *kind, int file, size_t size,
+                         const fastbloom_limits *limits, fastbloom_filter *filter) {
     uint8_t head[HEAD];
     size_t there;
     uint64_t seal;
     if (!read_bytes(file, head, sizeof head, &there)) return FASTBLOOM_INPUT;
     /* (a file that became shorter since it was opened) */
     if (there < sizeof head) size = there;
-    uint8_t code = read_head(head, size, limits, filter, &seal);
+    uint8_t code = read_head(kind, head, size, limits, filter, &seal);
     if (code != FASTBLOOM_OK) return code;
     size_t bytes = 8 * filter->num_words;
-    filter->words = malloc(bytes);
+    filter->words = allocate_lines(bytes);
     if (filter->words == NULL) return FASTBLOOM_MEMORY;
     if (!read_bytes(file, filter->words, bytes, &there))
         code = FASTBLOOM_INPUT;
     else
-        code = there < bytes ? FASTBLOOM_CUT : check_seal(filter, seal);
+        code = there < bytes ? FASTBLOOM_CUT : check_seal(kind, filter, seal);
     if (code != FASTBLOOM_OK) free(filter->words);
     return code;
 }
 
-uint8_t fastbloom_load(const char *path, const fastbloom_limits *limits, fastbloom_filter *filter) {
+static uint8_t load(const struct kind *kind, const char *path, const fastbloom_limits *limits,
+                    fastbloom_filter *filter) {
     fastbloom_filter read = {.words = NULL};
     int file;
     size_t size;
     *filter = read;
     uint8_t code = open_to_read(path, O_RDONLY, &file, &size);
     if (code != FASTBLOOM_OK) return code;
-    code = load_open(file, size, limits_of(limits), &read);
+    code = load_open(kind, file, size, limits_of(limits), &read);
     close_quietly(file);
     if (code == FASTBLOOM_OK) *filter = read;
     return code;
+}
+
+uint8_t fastbloom_load(const char *path, const fastbloom_limits *limits, fastbloom_filter *filter) {
+    return load(&whole, path, limits, filter);
+}
+
+uint8_t fastbloom_blocked_load(const char *path, const fastbloom_limits *limits,
+                               fastbloom_filter *filter) {
+    return load(&blocked, path, limits, filter);
 }
 
 void fastbloom_unload(fastbloom_filter *filter) {
@@ -185,29 +217,30 @@ void fastbloom_unload(fastbloom_filter *filter) {
 }
 
 /* Maps an open file of this size. */
-static uint8_t map_open(int file, size_t size, enum fastbloom_map_mode mode,
-                        const fastbloom_limits *limits, fastbloom_filter *filter) {
+static uint8_t map_open(const struct kind *kind, int file, size_t size,
+                        enum fastbloom_map_mode mode, const fastbloom_limits *limits,
+                        fastbloom_filter *filter) {
     /* A file of no bytes has no mapping. */
     if (size == 0) return FASTBLOOM_NOT_A_FILTER;
     int rights = mode == FASTBLOOM_MAP_READ ? PROT_READ : PROT_READ | PROT_WRITE;
-    int kind = mode == FASTBLOOM_MAP_COPY ? MAP_PRIVATE : MAP_SHARED;
-    uint8_t *bytes = mmap(NULL, size, rights, kind, file, 0);
+    int sharing = mode == FASTBLOOM_MAP_COPY ? MAP_PRIVATE : MAP_SHARED;
+    uint8_t *bytes = mmap(NULL, size, rights, sharing, file, 0);
     if (bytes == MAP_FAILED) return errno == ENOMEM ? FASTBLOOM_MEMORY : FASTBLOOM_INPUT;
     uint64_t seal;
-    uint8_t code = read_head(bytes, size, limits, filter, &seal);
+    uint8_t code = read_head(kind, bytes, size, limits, filter, &seal);
     filter->words = (uint64_t *)(bytes + HEAD);
     if (code == FASTBLOOM_OK) {
         if (mode == FASTBLOOM_MAP_SHARE)
             code = seal == 0 ? FASTBLOOM_OK : FASTBLOOM_SEALED;
         else
-            code = check_seal(filter, seal);
+            code = check_seal(kind, filter, seal);
     }
     if (code != FASTBLOOM_OK) munmap(bytes, size);
     return code;
 }
 
-uint8_t fastbloom_map(const char *path, enum fastbloom_map_mode mode,
-                      const fastbloom_limits *limits, fastbloom_filter *filter) {
+static uint8_t map(const struct kind *kind, const char *path, enum fastbloom_map_mode mode,
+                   const fastbloom_limits *limits, fastbloom_filter *filter) {
     fastbloom_filter mapped = {.words = NULL};
     int file;
     size_t size;
@@ -215,10 +248,20 @@ uint8_t fastbloom_map(const char *path, enum fastbloom_map_mode mode,
     uint8_t code =
         open_to_read(path, mode == FASTBLOOM_MAP_SHARE ? O_RDWR : O_RDONLY, &file, &size);
     if (code != FASTBLOOM_OK) return code;
-    code = map_open(file, size, mode, limits_of(limits), &mapped);
+    code = map_open(kind, file, size, mode, limits_of(limits), &mapped);
     close_quietly(file);
     if (code == FASTBLOOM_OK) *filter = mapped;
     return code;
+}
+
+uint8_t fastbloom_map(const char *path, enum fastbloom_map_mode mode,
+                      const fastbloom_limits *limits, fastbloom_filter *filter) {
+    return map(&whole, path, mode, limits, filter);
+}
+
+uint8_t fastbloom_blocked_map(const char *path, enum fastbloom_map_mode mode,
+                              const fastbloom_limits *limits, fastbloom_filter *filter) {
+    return map(&blocked, path, mode, limits, filter);
 }
 
 void fastbloom_unmap(fastbloom_filter *filter) {
@@ -288,16 +331,18 @@ static bool put_in_place(char *part, const char *path, bool is_whole) {
 }
 
 /* Writes the head of a filter's file. No words have no seal to compute. */
-static uint8_t write_head(const fastbloom_filter *filter, bool sealed, uint8_t head[HEAD]) {
+static uint8_t write_head(const struct kind *kind, const fastbloom_filter *filter, bool sealed,
+                          uint8_t head[HEAD]) {
     uint64_t seal = 0;
     if (sealed && filter->num_words != 0)
-        seal = fastbloom_seal(filter->words, filter->num_words, filter->num_hashes, filter->key);
-    return fastbloom_head_write(filter->num_words, filter->num_hashes, filter->key, seal, head);
+        seal = kind->seal(filter->words, filter->num_words, filter->num_hashes, filter->key);
+    return kind->head_write(filter->num_words, filter->num_hashes, filter->key, seal, head);
 }
 
-uint8_t fastbloom_save(const char *path, const fastbloom_filter *filter, bool sealed) {
+static uint8_t save(const struct kind *kind, const char *path, const fastbloom_filter *filter,
+                    bool sealed) {
     uint8_t head[HEAD];
-    uint8_t code = write_head(filter, sealed, head);
+    uint8_t code = write_head(kind, filter, sealed, head);
     if (code != FASTBLOOM_OK) return code;
     size_t room = strlen(path) + sizeof "..part" + DRAWN;
     char *part = malloc(room);
@@ -316,4 +361,12 @@ uint8_t fastbloom_save(const char *path, const fastbloom_filter *filter, bool se
     free(part);
     errno = why;
     return saved ? FASTBLOOM_OK : FASTBLOOM_OUTPUT;
+}
+
+uint8_t fastbloom_save(const char *path, const fastbloom_filter *filter, bool sealed) {
+    return save(&whole, path, filter, sealed);
+}
+
+uint8_t fastbloom_blocked_save(const char *path, const fastbloom_filter *filter, bool sealed) {
+    return save(&blocked, path, filter, sealed);
 }

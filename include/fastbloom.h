@@ -58,7 +58,7 @@ extern "C" {
 #endif
 
 /* Status codes. FASTBLOOM_OK is success, and each other number is the reason for a refusal. The
- * proved calls answer 2 to 5, 7, 9, 10, 13 and 17, and those on files 2, 3, 6, 7, 9 to 15, 17 and
+ * proved calls return 2 to 5, 7, 9, 10, 13 and 16 to 18, and those on files 2, 3, 6, 7, 9 to 18,
  * 252, 253 and 255. The other numbers are those of the Rattle library. */
 enum fastbloom_status {
     FASTBLOOM_OK = 0,
@@ -237,8 +237,8 @@ FASTBLOOM_MUST_USE bool fastbloom_rate_now(const uint64_t *words, size_t num_wor
  *
  * Words are a filter of one kind. A hash that was inserted by these calls isn't found by those
  * above, nor the other way round. fastbloom_clear, fastbloom_union, fastbloom_intersect,
- * fastbloom_equal and fastbloom_count_ones are for both kinds. Rates, estimates and files are of the
- * other kind alone. */
+ * fastbloom_equal and fastbloom_count_ones are for both kinds. Rates and estimates are of the other
+ * kind alone, and each kind has files of its own. */
 
 /* As fastbloom_plan, for a blocked filter. At one rate it takes more bits than a filter above: 2
  * hundredths more at 8 bits for each item, 4 at 10, 10 at 16, and at most 44. That the rate is met
@@ -420,6 +420,20 @@ FASTBLOOM_MUST_USE uint8_t fastbloom_head_read(const uint8_t head[64], size_t *n
                                                uint32_t *num_hashes, uint8_t key[16],
                                                uint64_t *seal);
 
+/* The same for the file of a blocked filter. Bytes 48 to 55 of its head say that the words are
+ * lines, and its seal covers these bytes too, so fastbloom_seal gives another one. For words that
+ * are no whole lines fastbloom_blocked_head_write returns FASTBLOOM_PART_OF_A_LINE, and writes
+ * nothing. fastbloom_blocked_head_read refuses them by the same number, and the head of a filter
+ * that isn't blocked by FASTBLOOM_NOT_BLOCKED. */
+uint64_t fastbloom_blocked_seal(const uint64_t *words, size_t num_words, uint32_t num_hashes,
+                                const uint8_t key[16]);
+FASTBLOOM_MUST_USE uint8_t fastbloom_blocked_head_write(size_t num_words, uint32_t num_hashes,
+                                                        const uint8_t key[16], uint64_t seal,
+                                                        uint8_t head[64]);
+FASTBLOOM_MUST_USE uint8_t fastbloom_blocked_head_read(const uint8_t head[64], size_t *num_words,
+                                                       uint32_t *num_hashes, uint8_t key[16],
+                                                       uint64_t *seal);
+
 /* Files of filters. These calls are written in C, for Linux. They are tested and not proved.
  * Threads may make them at once. Where they answer FASTBLOOM_INPUT or FASTBLOOM_OUTPUT, errno says
  * why. */
@@ -478,6 +492,19 @@ void fastbloom_unmap(fastbloom_filter *filter);
  * the new file is there. */
 FASTBLOOM_MUST_USE uint8_t fastbloom_save(const char *path, const fastbloom_filter *filter,
                                           bool sealed);
+
+/* The same calls for the file of a blocked filter. The calls above refuse such a file by
+ * FASTBLOOM_BLOCKED, and these refuse the file of the other kind by FASTBLOOM_NOT_BLOCKED. They
+ * return FASTBLOOM_PART_OF_A_LINE for words that are no whole lines. fastbloom_unload and
+ * fastbloom_unmap are for both kinds. Words that are loaded or mapped begin at a multiple of 64
+ * bytes, where a line of the cache does. */
+FASTBLOOM_MUST_USE uint8_t fastbloom_blocked_load(const char *path, const fastbloom_limits *limits,
+                                                  fastbloom_filter *filter);
+FASTBLOOM_MUST_USE uint8_t fastbloom_blocked_map(const char *path, enum fastbloom_map_mode mode,
+                                                 const fastbloom_limits *limits,
+                                                 fastbloom_filter *filter);
+FASTBLOOM_MUST_USE uint8_t fastbloom_blocked_save(const char *path, const fastbloom_filter *filter,
+                                                  bool sealed);
 
 #ifdef __cplusplus
 }
@@ -779,6 +806,12 @@ FASTBLOOM_INLINE uint64_t fastbloom_seal_(const uint64_t *words, size_t num_word
     return fastbloom_seal(fastbloom_read_words_(words, num_words), num_words, num_hashes, key);
 }
 
+FASTBLOOM_INLINE uint64_t fastbloom_blocked_seal_(const uint64_t *words, size_t num_words,
+                                                  uint32_t num_hashes, const uint8_t key[16]) {
+    return fastbloom_blocked_seal(fastbloom_read_words_(words, num_words), num_words, num_hashes,
+                                  key);
+}
+
 FASTBLOOM_INLINE uint64_t fastbloom_hash_(const uint8_t key[16], const uint8_t *bytes, size_t len) {
     return fastbloom_hash(key, fastbloom_bytes_(bytes, len), len);
 }
@@ -833,6 +866,7 @@ FASTBLOOM_INLINE void fastbloom_hasher_update_(fastbloom_hasher *hasher, const u
 #define fastbloom_blocked_shared_contains_hashes fastbloom_blocked_shared_contains_hashes_
 #define fastbloom_blocked_shared_insert_hashes_tell_new fastbloom_blocked_shared_insert_hashes_tell_new_
 #define fastbloom_seal fastbloom_seal_
+#define fastbloom_blocked_seal fastbloom_blocked_seal_
 #define fastbloom_hash fastbloom_hash_
 #define fastbloom_hash_items fastbloom_hash_items_
 #define fastbloom_hasher_update fastbloom_hasher_update_

@@ -47,7 +47,9 @@ enum class status : std::uint8_t {
     reserved = FASTBLOOM_RESERVED,
     seal = FASTBLOOM_SEAL,
     input = FASTBLOOM_INPUT,
+    part_of_a_line = FASTBLOOM_PART_OF_A_LINE,
     blocked = FASTBLOOM_BLOCKED,
+    not_blocked = FASTBLOOM_NOT_BLOCKED,
     sealed = FASTBLOOM_SEALED,
     output = FASTBLOOM_OUTPUT,
     rate_too_large = FASTBLOOM_RATE_TOO_LARGE,
@@ -134,6 +136,30 @@ inline key_bytes key_of(const fastbloom_filter &filter) noexcept {
     return key;
 }
 
+// The call that reads the head of a file, and the one that maps a file. Those of the two kinds of
+// filters have the same types.
+using head_reader = decltype(&fastbloom_head_read);
+using file_mapper = decltype(&fastbloom_map);
+
+// Reads the head of a file of this size by the call of its kind: all but the words.
+inline std::uint8_t read_head(const void *bytes, std::size_t size, head_reader reader,
+                              fastbloom_filter &read, std::uint64_t &seal) noexcept {
+    // A copy of the numbers that are there, with good ones for those that a truncated file lacks.
+    // The last two, by which the kinds differ, are read after the size.
+    head_bytes head{};
+    head[8] = head[16] = 1;
+    const std::size_t there = size < 48 ? size / 8 * 8 : 48;
+    if (there != 0) std::memcpy(head.data(), bytes, there);
+    const auto code = [&](head_reader by) {
+        return by(head.data(), &read.num_words, &read.num_hashes, read.key, &seal);
+    };
+    if (const std::uint8_t why = code(fastbloom_head_read); why != FASTBLOOM_OK) return why;
+    if (size < 64 + 8 * read.num_words) return FASTBLOOM_CUT;
+    if (size > 64 + 8 * read.num_words) return FASTBLOOM_TOO_LONG;
+    std::memcpy(head.data() + 48, static_cast<const char *>(bytes) + 48, 16);
+    return code(reader);
+}
+
 // A filter in a mapped file, or none. Its end undoes the mapping.
 class mapping {
 public:
@@ -145,10 +171,11 @@ public:
     }
     ~mapping() { fastbloom_unmap(&file_); }
 
-    status map(const char *path, fastbloom_map_mode mode, std::uint32_t max_hashes) noexcept {
+    status map(const char *path, fastbloom_map_mode mode, std::uint32_t max_hashes,
+               file_mapper mapper = fastbloom_map) noexcept {
         fastbloom_unmap(&file_);
         const fastbloom_limits limits = hashes_up_to(max_hashes);
-        return static_cast<status>(fastbloom_map(path, mode, &limits, &file_));
+        return static_cast<status>(mapper(path, mode, &limits, &file_));
     }
     const fastbloom_filter &filter() const noexcept { return file_; }
 
@@ -229,15 +256,14 @@ public:
     // refused, since each call takes as many steps.
     static result<filter> from_bytes(const void *bytes, std::size_t size,
                                      std::uint32_t max_hashes = 64) noexcept {
-        filter read;
-        std::size_t num_words = 0;
+        fastbloom_filter read{};
         std::uint64_t seal = 0;
-        const std::uint8_t code = read_head(bytes, size, read, num_words, seal);
+        const std::uint8_t code = detail::read_head(bytes, size, fastbloom_head_read, read, seal);
         if (code != FASTBLOOM_OK) return static_cast<fastbloom::status>(code);
-        if (read.num_hashes_ > max_hashes) return status::too_many_hashes;
-        auto made = with_shape(num_words, read.num_hashes_, read.key_);
+        if (read.num_hashes > max_hashes) return status::too_many_hashes;
+        auto made = with_shape(read.num_words, read.num_hashes, detail::key_of(read));
         if (!made) return made;
-        std::memcpy(made->words_, static_cast<const char *>(bytes) + 64, 8 * num_words);
+        std::memcpy(made->words_, static_cast<const char *>(bytes) + 64, 8 * read.num_words);
         if (seal != 0 && seal != made->seal()) return status::seal;
         return made;
     }
@@ -550,26 +576,6 @@ private:
 
     std::uint64_t seal() const noexcept {
         return fastbloom_seal(words_, num_words_, num_hashes_, key_.data());
-    }
-
-    // Reads the head of a file of this size into the filter's number of hashes and its key.
-    static std::uint8_t read_head(const void *bytes, std::size_t size, filter &read,
-                                  std::size_t &num_words, std::uint64_t &seal) noexcept {
-        // A copy of the numbers that are there, with good ones in the place of those that a cut
-        // file lacks. The last two, which must be zero, are read after the size.
-        head_bytes head{};
-        head[8] = head[16] = 1;
-        const std::size_t there = size < 48 ? size / 8 * 8 : 48;
-        if (there != 0) std::memcpy(head.data(), bytes, there);
-        const auto code = [&] {
-            return fastbloom_head_read(head.data(), &num_words, &read.num_hashes_,
-                                       read.key_.data(), &seal);
-        };
-        if (const std::uint8_t why = code(); why != FASTBLOOM_OK) return why;
-        if (size < 64 + 8 * num_words) return FASTBLOOM_CUT;
-        if (size > 64 + 8 * num_words) return FASTBLOOM_TOO_LONG;
-        std::memcpy(head.data() + 48, static_cast<const char *>(bytes) + 48, 16);
-        return code();
     }
 
     std::uint64_t *words_ = &detail::no_words;

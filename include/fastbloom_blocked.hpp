@@ -8,8 +8,8 @@
 //
 // All bits of an item lie in one line of 512, which is a line of the cache. So where a filter is
 // larger than the cache, a call on an item is quicker than that of `fastbloom::filter`, which takes
-// fewer bits at the same rate. The two kinds aren't united, and a blocked filter has no file and no
-// estimates here.
+// fewer bits at the same rate. The two kinds aren't united, and neither reads the other's file. A
+// blocked filter has no estimates here.
 //
 // A filter owns its words. It moves, and it is copied by `clone` alone. Nothing here throws: a call
 // that can fail returns a `result`, or a bool. A filter that was moved from, or made by default,
@@ -25,6 +25,7 @@
 namespace fastbloom {
 
 class shared_blocked_filter;
+class mapped_blocked_filter;
 
 // A set of byte strings that never misses a member, and now and then takes something else for one.
 class blocked_filter {
@@ -59,6 +60,48 @@ public:
         made.num_hashes_ = num_hashes == 0 ? 1 : num_hashes;
         made.key_ = key;
         return made;
+    }
+
+    // The filter of a file's bytes, which are copied. A file with more than max_hashes hashes is
+    // refused, since each call takes as many steps, and so is that of a filter that isn't blocked:
+    // `status::not_blocked`.
+    static result<blocked_filter> from_bytes(const void *bytes, std::size_t size,
+                                             std::uint32_t max_hashes = 64) noexcept {
+        fastbloom_filter read{};
+        std::uint64_t seal = 0;
+        const std::uint8_t code =
+            detail::read_head(bytes, size, fastbloom_blocked_head_read, read, seal);
+        if (code != FASTBLOOM_OK) return static_cast<fastbloom::status>(code);
+        if (read.num_hashes > max_hashes) return status::too_many_hashes;
+        auto made =
+            with_lines(read.num_words / words_of_a_line, read.num_hashes, detail::key_of(read));
+        if (!made) return made;
+        std::memcpy(made->words_, static_cast<const char *>(bytes) + 64, 8 * read.num_words);
+        if (seal != 0 && seal != made->seal()) return status::seal;
+        return made;
+    }
+
+    // The filter of a file, which is read whole. It is refused as by `from_bytes`, and where it
+    // can't be read: `status::input`, and errno says why.
+    static result<blocked_filter> load(const char *path, std::uint32_t max_hashes = 64) noexcept {
+        const fastbloom_limits limits = detail::hashes_up_to(max_hashes);
+        fastbloom_filter read;
+        const std::uint8_t code = fastbloom_blocked_load(path, &limits, &read);
+        if (code != FASTBLOOM_OK) return static_cast<fastbloom::status>(code);
+        blocked_filter made;
+        made.words_ = read.words;
+        made.num_words_ = read.num_words;
+        made.num_hashes_ = read.num_hashes;
+        made.key_ = detail::key_of(read);
+        return made;
+    }
+
+    // Writes the filter's file, whole or not at all, with a seal or without one. Where it can't be
+    // written, the old file stays: `status::output`, and errno says why.
+    [[nodiscard]] fastbloom::status save(const char *path, bool sealed = true) const noexcept {
+        fastbloom_filter written{words_, num_words_, num_hashes_, {}};
+        std::memcpy(written.key, key_.data(), key_.size());
+        return static_cast<fastbloom::status>(fastbloom_blocked_save(path, &written, sealed));
     }
 
     blocked_filter(blocked_filter &&other) noexcept { swap(other); }
@@ -240,19 +283,99 @@ public:
     // How many bits are set.
     std::size_t count_ones() const noexcept { return fastbloom_count_ones(words_, num_words_); }
 
-    // The words, eight in a line.
+    // The words, eight in a line. In a file they are behind the head, as they are in memory.
     const std::uint64_t *data() const noexcept { return words_; }
 
+    // The head of this filter's file: with a seal, by which a reader finds out whether a byte was
+    // changed, or without. A filter with no words has no file.
+    result<head_bytes> head(bool sealed = true) const noexcept {
+        head_bytes bytes{};
+        const std::uint8_t code = fastbloom_blocked_head_write(
+            num_words_, num_hashes_, key_.data(), sealed ? seal() : 0, bytes.data());
+        if (code != FASTBLOOM_OK) return static_cast<fastbloom::status>(code);
+        return bytes;
+    }
+
 private:
-    // It takes words over, or fills them.
+    // They take words over, or fill them.
     friend class shared_blocked_filter;
+    friend class mapped_blocked_filter;
 
     static constexpr std::size_t words_of_a_line = 8, bytes_of_a_line = 64;
+
+    std::uint64_t seal() const noexcept {
+        return fastbloom_blocked_seal(words_, num_words_, num_hashes_, key_.data());
+    }
 
     std::uint64_t *words_ = &detail::no_words;
     std::size_t num_words_ = 0;
     std::uint32_t num_hashes_ = 1;
     key_bytes key_{};
+};
+
+// A blocked filter in a mapped file, which is only read: processes that map one file share its
+// pages. A mapping moves with its owner. While it lasts nobody writes into the file.
+class mapped_blocked_filter {
+public:
+    // No words: it contains nothing.
+    mapped_blocked_filter() noexcept = default;
+
+    // Maps a file, which is refused as by `blocked_filter::load`. Only a sealed one is read whole
+    // for it.
+    static result<mapped_blocked_filter> map(const char *path,
+                                             std::uint32_t max_hashes = 64) noexcept {
+        mapped_blocked_filter made;
+        const auto why =
+            made.file_.map(path, FASTBLOOM_MAP_READ, max_hashes, fastbloom_blocked_map);
+        if (why != status::ok) return why;
+        return made;
+    }
+
+    // As those of a blocked filter.
+    bool contains(std::string_view item) const noexcept {
+        return contains(item.data(), item.size());
+    }
+    bool contains(std::nullptr_t) const = delete;
+    bool contains(const void *bytes, std::size_t size) const noexcept {
+        return fastbloom_blocked_contains(words(), num_words(), num_hashes(), file_.filter().key,
+                                          detail::not_null(bytes), size);
+    }
+    bool contains_hash(std::uint64_t hash) const noexcept {
+        return fastbloom_blocked_contains_hash(words(), num_words(), num_hashes(), hash);
+    }
+    [[nodiscard]] bool contains_hashes(const std::uint64_t *hashes, std::size_t count,
+                                       std::uint64_t *found, std::size_t num_found) const noexcept {
+        return fastbloom_blocked_contains_hashes(words(), num_words(), num_hashes(),
+                                                 detail::not_null_words(hashes), count,
+                                                 detail::not_null_words(found), num_found);
+    }
+#ifdef __cpp_lib_span
+    bool contains(std::span<const std::byte> item) const noexcept {
+        return contains(item.data(), item.size());
+    }
+    bool contains(std::span<const std::uint8_t> item) const noexcept {
+        return contains(item.data(), item.size());
+    }
+#endif
+
+    // A filter with words of its own, which are equal to these.
+    result<blocked_filter> clone() const noexcept {
+        auto made = blocked_filter::with_lines(num_lines(), num_hashes(), key());
+        if (made) std::memcpy(made->words_, words(), 8 * num_words());
+        return made;
+    }
+
+    std::size_t num_lines() const noexcept { return num_words() / 8; }
+    std::size_t num_words() const noexcept { return file_.filter().num_words; }
+    std::size_t num_bits() const noexcept { return fastbloom_num_bits(num_words()); }
+    std::uint32_t num_hashes() const noexcept { return file_.filter().num_hashes; }
+    key_bytes key() const noexcept { return detail::key_of(file_.filter()); }
+    const std::uint64_t *data() const noexcept { return file_.filter().words; }
+
+private:
+    const std::uint64_t *words() const noexcept { return detail::not_null_words(data()); }
+
+    detail::mapping file_;
 };
 
 } // namespace fastbloom

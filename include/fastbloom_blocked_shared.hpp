@@ -11,10 +11,10 @@
 // waits for another. A move, a swap and the end of the filter are no such calls: no other thread
 // uses the filter meanwhile.
 //
-// A filter owns its words, or lies over words of the caller's: `over` takes them, in memory that
-// processes share. Then the caller keeps what fastbloom.h asks for: the words are aligned to 8, and
-// best to 64, stay where they are, and are touched by shared filters alone until the last call on
-// them has returned.
+// A filter owns its words, or maps them from a file, or lies over words of the caller's: `over`
+// takes them, in memory that processes share. Then the caller keeps what fastbloom.h asks for: the
+// words are aligned to 8, and best to 64, stay where they are, and are touched by shared filters
+// alone until the last call on them has returned.
 #ifndef FASTBLOOM_BLOCKED_SHARED_HPP
 #define FASTBLOOM_BLOCKED_SHARED_HPP
 
@@ -63,6 +63,22 @@ public:
         return made;
     }
 
+    // The filter of a file without a seal, whose words all processes fill that map it: what is
+    // inserted goes into the file. It is refused as by `blocked_filter::load`, and where it has a
+    // seal.
+    static result<shared_blocked_filter> map(const char *path,
+                                             std::uint32_t max_hashes = 64) noexcept {
+        shared_blocked_filter made;
+        const auto why =
+            made.mapped_.map(path, FASTBLOOM_MAP_SHARE, max_hashes, fastbloom_blocked_map);
+        if (why != status::ok) return why;
+        const fastbloom_filter &file = made.mapped_.filter();
+        made.words_ = {file.words, file.num_words};
+        made.num_hashes_ = file.num_hashes;
+        made.key_ = detail::key_of(file);
+        return made;
+    }
+
     shared_blocked_filter(shared_blocked_filter &&other) noexcept { swap(other); }
     shared_blocked_filter &operator=(shared_blocked_filter &&other) noexcept {
         shared_blocked_filter(std::move(other)).swap(*this);
@@ -74,6 +90,7 @@ public:
 
     void swap(shared_blocked_filter &other) noexcept {
         owned_.swap(other.owned_);
+        std::swap(mapped_, other.mapped_);
         std::swap(words_, other.words_);
         std::swap(num_hashes_, other.num_hashes_);
         std::swap(key_, other.key_);
@@ -214,7 +231,7 @@ public:
         return made;
     }
 
-    // A plain filter with the words as they are loaded, one after the other.
+    // A plain filter with the words as they are loaded, one after the other, as for a file.
     result<blocked_filter> load() const noexcept {
         auto made = blocked_filter::with_lines(num_lines(), num_hashes_, key_);
         if (made && !fastbloom_shared_load(words_, made->words_, made->num_words_))
@@ -237,8 +254,9 @@ private:
         return shared_blocked_filter(*std::move(made));
     }
 
-    // It has no words where they are the caller's.
+    // At most one of these has words. Neither has, where they are the caller's.
     blocked_filter owned_;
+    detail::mapping mapped_;
     fastbloom_shared words_{nullptr, 0};
     std::uint32_t num_hashes_ = 1;
     key_bytes key_{};

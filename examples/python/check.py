@@ -1,8 +1,8 @@
 """Calls the package, and prints the lines of the other languages' checks.
 
-`check.py FOLDER [FILE..]` leaves the file of the items in FOLDER/python.bloom. In FOLDER/refused it
-leaves files that a reader refuses, each by the number with which its name begins. Each FILE is to
-be one of the items too.
+`check.py FOLDER [FILE..]` leaves the file of the items in FOLDER/python.bloom, and that of a blocked
+filter of them in FOLDER/python.blocked. In FOLDER/refused it leaves files that a reader refuses,
+each by the number with which its name begins. Each FILE is to be one of the items too.
 """
 
 import os
@@ -10,7 +10,7 @@ import sys
 from fractions import Fraction
 from pathlib import Path
 
-from fastbloom import Filter
+from fastbloom import BlockedFilter, Filter
 
 COUNTING_KEY = bytes(range(16))
 NAMES = [f"item{i}" for i in range(101_000)]
@@ -146,8 +146,13 @@ def main():
     mapped(seen, folder / "python.bloom")
     worked(folder)
     refused((folder / "python.bloom").read_bytes(), folder / "refused")
+    blocked = BlockedFilter(1000, "1/1000")
+    blocked.update(NAMES[:1000])
+    blocked.save(folder / "python.blocked")
     for path in sys.argv[2:]:
-        assert Filter.load(path) == seen == Filter.load(path, mapped=True), path
+        wanted = blocked if path.endswith(".blocked") else seen
+        load = type(wanted).load
+        assert load(path) == wanted == load(path, mapped=True), path
 
 
 main()

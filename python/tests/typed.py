@@ -64,6 +64,10 @@ def in_lines(theirs: BlockedFilter) -> Tuple[BlockedFilter, Mask]:
     fill(ours, ["a text"])
     theirs |= ours.take()
     lines = BlockedFilter(10, "1/2", key=bytes(16))
+    lines.save("lines.bloom", sealed=False)
+    lines |= BlockedFilter.load(Path("lines.bloom"), mapped=True, max_hashes=None)
+    lines |= BlockedFilter.from_bytes(lines.to_bytes())
+    ours |= SharedBlockedFilter.map(b"lines.bloom")
     lines |= theirs
     lines.update(theirs, ["a text"])
     return lines & theirs.copy(), lines.contains_hashes(array("Q", [1]))

@@ -2,7 +2,10 @@
  * number of each, in which all answers and words are folded. The words begin in the midst of a line
  * of the cache, and words behind the last line have to stay as they are. By the calls on words that
  * threads share one thread alone has to get the same. Then it tries the calls by bytes, plans, and
- * what is refused. */
+ * what is refused.
+ *
+ * `blocked make FILE` writes the file of item0 to item999, and `blocked read FILE..` wants it in
+ * each file. */
 #include "fastbloom.h"
 
 #include <inttypes.h>
@@ -196,7 +199,48 @@ static void try_refusals(void) {
     wants("words of refused calls", 0, fastbloom_count_ones(line, LINE));
 }
 
-int main(void) {
+/* The filter of item0 to item999, which each language makes. */
+static bool make_items(fastbloom_filter *filter) {
+    const fastbloom_filter none = {0};
+    *filter = none;
+    if (fastbloom_blocked_plan(1, 1000, 1000, &filter->num_words, &filter->num_hashes) != 0)
+        return false;
+    filter->words = calloc(filter->num_words, sizeof *filter->words);
+    if (filter->words == NULL) return false;
+    for (int i = 0; i < 1000; i++) {
+        char text[16];
+        size_t length = (size_t)snprintf(text, sizeof text, "item%d", i);
+        fastbloom_blocked_insert(filter->words, filter->num_words, filter->num_hashes, filter->key,
+                                 (const uint8_t *)text, length);
+    }
+    return true;
+}
+
+/* Whether a file has this filter. */
+static bool has_file(const char *path, const fastbloom_filter *filter) {
+    fastbloom_filter read;
+    if (fastbloom_blocked_map(path, FASTBLOOM_MAP_READ, NULL, &read) != FASTBLOOM_OK) return false;
+    bool same = read.num_hashes == filter->num_hashes &&
+                memcmp(read.key, filter->key, sizeof read.key) == 0 &&
+                fastbloom_equal(read.words, read.num_words, filter->words, filter->num_words);
+    fastbloom_unmap(&read);
+    return same;
+}
+
+/* Writes the first file where it is told to, and reads each. */
+static int try_files(bool makes, char **paths) {
+    fastbloom_filter filter;
+    if (!make_items(&filter)) return 1;
+    if (makes) wants("a file", FASTBLOOM_OK, fastbloom_blocked_save(*paths, &filter, true));
+    for (; *paths != NULL; paths++) wants(*paths, 1, has_file(*paths, &filter));
+    free(filter.words);
+    return wrong;
+}
+
+int main(int argc, char **argv) {
+    if (argc > 2 && strcmp(argv[1], "make") == 0) return try_files(true, argv + 2);
+    if (argc > 2 && strcmp(argv[1], "read") == 0) return try_files(false, argv + 2);
+    if (argc > 1) return 2;
     for (uint64_t session = 0; session < SESSIONS; session++) {
         uint64_t number = number_of(0, session);
         wants("a number by shared calls", number, number_of(1, session));

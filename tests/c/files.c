@@ -1,8 +1,10 @@
-/* The calls of the library on files: `files FOLDER` works in an empty folder.
+/* The calls of the library on files: `files FOLDER HEX` works in an empty folder. HEX is the worked
+ * file of a blocked filter in hexadecimal digits.
  *
- * Files are written, read and mapped, and those with faults are refused: a file that is cut at each
- * length or goes on, a folder, a pipe, a link, no file, no room, no right to read or write, and
- * limits. The reasons are those of docs/FILE.md. */
+ * Files of both kinds of filters are written, read and mapped, and those with faults are refused:
+ * one that is truncated at each length or goes on, one of the other kind, a folder, a pipe, a link,
+ * no file, no room, no right to read or write, and limits. The reasons are those of docs/FILE.md.
+ */
 #define _DEFAULT_SOURCE
 #include "fastbloom.h"
 
@@ -29,10 +31,31 @@ static void check(bool holds, int line, const char *text) {
 
 #define CHECK(x) check((x), __LINE__, #x)
 
-enum { WORDS = 9 };
+enum { MOST = 16, HEAD = 64 };
 
-static uint64_t words[WORDS];
-static const fastbloom_filter filter = {words, WORDS, 3, {1, 2, 3, 4, 5, 6, 7, 8, 9, 10}};
+static uint64_t words[MOST];
+static fastbloom_filter filter = {words, 0, 3, {1, 2, 3, 4, 5, 6, 7, 8, 9, 10}};
+
+/* The calls on one kind of filters, and the number by which they refuse files of the other kind. */
+struct kind {
+    size_t num_words;
+    uint8_t other;
+    uint8_t (*load)(const char *, const fastbloom_limits *, fastbloom_filter *);
+    uint8_t (*map)(const char *, enum fastbloom_map_mode, const fastbloom_limits *,
+                   fastbloom_filter *);
+    uint8_t (*save)(const char *, const fastbloom_filter *, bool);
+    bool (*insert_hash)(uint64_t *, size_t, uint32_t, uint64_t);
+    bool (*contains_hash)(const uint64_t *, size_t, uint32_t, uint64_t);
+    bool (*shared_insert_hash)(fastbloom_shared, uint32_t, uint64_t);
+};
+
+static const struct kind kinds[2] = {
+    {9, FASTBLOOM_BLOCKED, fastbloom_load, fastbloom_map, fastbloom_save, fastbloom_insert_hash,
+     fastbloom_contains_hash, fastbloom_shared_insert_hash},
+    {16, FASTBLOOM_NOT_BLOCKED, fastbloom_blocked_load, fastbloom_blocked_map,
+     fastbloom_blocked_save, fastbloom_blocked_insert_hash, fastbloom_blocked_contains_hash,
+     fastbloom_blocked_shared_insert_hash}};
+static const struct kind *kind = kinds;
 
 /* The bytes of a file, and how many. */
 static size_t bytes_of(const char *path, uint8_t *bytes, size_t room) {
@@ -55,19 +78,19 @@ static unsigned mode_of(const char *path) {
 }
 
 static bool is_this(const fastbloom_filter *read) {
-    return read->num_words == WORDS && read->num_hashes == 3 &&
+    return read->num_words == filter.num_words && read->num_hashes == 3 &&
            memcmp(read->key, filter.key, sizeof read->key) == 0 &&
-           memcmp(read->words, words, sizeof words) == 0;
+           memcmp(read->words, words, 8 * filter.num_words) == 0;
 }
 
-/* A load, and each way to map a file, answer this, and then there are no words. */
+/* A load, and each way to map a file, return this, and then there are no words. */
 static void refuses(const char *path, const fastbloom_limits *limits, uint8_t code) {
     fastbloom_filter read = filter;
-    CHECK(fastbloom_load(path, limits, &read) == code);
+    CHECK(kind->load(path, limits, &read) == code);
     CHECK(read.words == NULL && read.num_words == 0);
     for (int mode = FASTBLOOM_MAP_READ; mode <= FASTBLOOM_MAP_SHARE; mode++) {
         read = filter;
-        CHECK(fastbloom_map(path, (enum fastbloom_map_mode)mode, limits, &read) == code);
+        CHECK(kind->map(path, (enum fastbloom_map_mode)mode, limits, &read) == code);
         CHECK(read.words == NULL && read.num_words == 0);
     }
 }
@@ -76,6 +99,9 @@ static void texts(void) {
     CHECK(strcmp(fastbloom_version(), FASTBLOOM_VERSION) == 0);
     CHECK(strcmp(fastbloom_strerror(FASTBLOOM_CUT), "the file is cut") == 0);
     CHECK(strcmp(fastbloom_strerror(FASTBLOOM_OUTPUT), "output failed") == 0);
+    CHECK(strcmp(fastbloom_strerror(FASTBLOOM_BLOCKED), "the file has a blocked filter") == 0);
+    const char *not_blocked = fastbloom_strerror(FASTBLOOM_NOT_BLOCKED);
+    CHECK(strcmp(not_blocked, "the file's filter isn't blocked") == 0);
     unsigned unknown = 0;
     for (int code = 0; code < 256; code++)
         unknown += strcmp(fastbloom_strerror((uint8_t)code), "an unknown refusal") == 0;
@@ -85,99 +111,154 @@ static void texts(void) {
 /* What is saved is loaded and mapped again. What is written into a copy stays in it. */
 static void kept(const char *path, bool sealed) {
     fastbloom_filter read;
-    CHECK(fastbloom_save(path, &filter, sealed) == FASTBLOOM_OK);
-    CHECK(fastbloom_load(path, NULL, &read) == FASTBLOOM_OK && is_this(&read));
+    CHECK(kind->save(path, &filter, sealed) == FASTBLOOM_OK);
+    CHECK(kind->load(path, NULL, &read) == FASTBLOOM_OK && is_this(&read));
     fastbloom_unload(&read);
     CHECK(read.words == NULL && read.num_words == 0);
     fastbloom_unload(&read);
-    CHECK(fastbloom_map(path, FASTBLOOM_MAP_READ, NULL, &read) == FASTBLOOM_OK && is_this(&read));
+    CHECK(kind->map(path, FASTBLOOM_MAP_READ, NULL, &read) == FASTBLOOM_OK && is_this(&read));
     CHECK((uintptr_t)read.words % 64 == 0);
     fastbloom_unmap(&read);
     CHECK(read.words == NULL && read.num_words == 0);
     fastbloom_unmap(&read);
-    CHECK(fastbloom_map(path, FASTBLOOM_MAP_COPY, NULL, &read) == FASTBLOOM_OK && is_this(&read));
+    CHECK(kind->map(path, FASTBLOOM_MAP_COPY, NULL, &read) == FASTBLOOM_OK && is_this(&read));
     read.words[0] ^= 1;
     fastbloom_unmap(&read);
-    CHECK(fastbloom_load(path, NULL, &read) == FASTBLOOM_OK && is_this(&read));
+    CHECK(kind->load(path, NULL, &read) == FASTBLOOM_OK && is_this(&read));
     fastbloom_unload(&read);
 }
 
 /* What is written into a file that is shared goes into it, and a sealed one isn't shared. */
 static void shared(const char *path) {
     fastbloom_filter read, again;
-    CHECK(fastbloom_save(path, &filter, true) == FASTBLOOM_OK);
-    CHECK(fastbloom_map(path, FASTBLOOM_MAP_SHARE, NULL, &read) == FASTBLOOM_SEALED);
+    CHECK(kind->save(path, &filter, true) == FASTBLOOM_OK);
+    CHECK(kind->map(path, FASTBLOOM_MAP_SHARE, NULL, &read) == FASTBLOOM_SEALED);
     CHECK(read.words == NULL);
-    CHECK(fastbloom_save(path, &filter, false) == FASTBLOOM_OK);
-    CHECK(fastbloom_map(path, FASTBLOOM_MAP_SHARE, NULL, &read) == FASTBLOOM_OK);
-    CHECK(fastbloom_map(path, FASTBLOOM_MAP_SHARE, NULL, &again) == FASTBLOOM_OK);
+    CHECK(kind->save(path, &filter, false) == FASTBLOOM_OK);
+    CHECK(kind->map(path, FASTBLOOM_MAP_SHARE, NULL, &read) == FASTBLOOM_OK);
+    CHECK(kind->map(path, FASTBLOOM_MAP_SHARE, NULL, &again) == FASTBLOOM_OK);
     fastbloom_shared one = {read.words, read.num_words}, other = {again.words, again.num_words};
-    CHECK(!fastbloom_shared_insert_hash(one, 3, 42) && fastbloom_shared_insert_hash(other, 3, 42));
+    CHECK(!kind->shared_insert_hash(one, 3, 42) && kind->shared_insert_hash(other, 3, 42));
     fastbloom_unmap(&read);
     fastbloom_unmap(&again);
-    CHECK(fastbloom_load(path, NULL, &read) == FASTBLOOM_OK && !is_this(&read));
-    CHECK(fastbloom_contains_hash(read.words, read.num_words, 3, 42));
+    CHECK(kind->load(path, NULL, &read) == FASTBLOOM_OK && !is_this(&read));
+    CHECK(kind->contains_hash(read.words, read.num_words, 3, 42));
     fastbloom_unload(&read);
 }
 
-/* Files that are cut at each length, go on, or have a byte changed. */
+/* Files that are truncated at each length, go on, or have a byte changed. */
 static void faults(const char *path) {
-    enum { SIZE = 64 + 8 * WORDS };
-    uint8_t bytes[SIZE + 2], changed[SIZE + 2] = {0};
-    CHECK(fastbloom_save(path, &filter, true) == FASTBLOOM_OK);
-    CHECK(bytes_of(path, bytes, sizeof bytes) == SIZE);
-    bytes[SIZE] = 0;
-    for (size_t size = 0; size < SIZE; size++) {
+    enum { ROOM = HEAD + 8 * MOST + 2 };
+    uint8_t bytes[ROOM], changed[ROOM] = {0};
+    const size_t whole = HEAD + 8 * filter.num_words;
+    CHECK(kind->save(path, &filter, true) == FASTBLOOM_OK);
+    CHECK(bytes_of(path, bytes, sizeof bytes) == whole);
+    bytes[whole] = 0;
+    for (size_t size = 0; size < whole; size++) {
         put(path, bytes, size);
         refuses(path, NULL, size < 8 ? FASTBLOOM_NOT_A_FILTER : FASTBLOOM_CUT);
     }
-    put(path, bytes, SIZE + 1);
+    put(path, bytes, whole + 1);
     refuses(path, NULL, FASTBLOOM_TOO_LONG);
-    static const struct {
+    const struct {
         size_t place;
         uint8_t code;
     } rows[] = {{0, FASTBLOOM_NOT_A_FILTER}, {7, FASTBLOOM_UNKNOWN_VERSION},
                 {12, FASTBLOOM_HASH_COUNT},  {22, FASTBLOOM_CUT},
                 {23, FASTBLOOM_CUT},         {63, FASTBLOOM_RESERVED},
-                {48, FASTBLOOM_BLOCKED}};
+                {48, kind->other},           {49, FASTBLOOM_RESERVED}};
     for (size_t i = 0; i < sizeof rows / sizeof *rows; i++) {
-        memcpy(changed, bytes, SIZE);
+        memcpy(changed, bytes, whole);
         changed[rows[i].place] ^= 1;
-        put(path, changed, SIZE);
+        put(path, changed, whole);
         refuses(path, NULL, rows[i].code);
     }
     /* Of a seal that is wrong nothing is found where the words aren't read. */
     fastbloom_filter read;
-    memcpy(changed, bytes, SIZE);
-    changed[SIZE - 1] ^= 128;
-    put(path, changed, SIZE);
-    CHECK(fastbloom_load(path, NULL, &read) == FASTBLOOM_SEAL && read.words == NULL);
-    CHECK(fastbloom_map(path, FASTBLOOM_MAP_READ, NULL, &read) == FASTBLOOM_SEAL);
-    CHECK(fastbloom_map(path, FASTBLOOM_MAP_SHARE, NULL, &read) == FASTBLOOM_SEALED);
+    memcpy(changed, bytes, whole);
+    changed[whole - 1] ^= 128;
+    put(path, changed, whole);
+    CHECK(kind->load(path, NULL, &read) == FASTBLOOM_SEAL && read.words == NULL);
+    CHECK(kind->map(path, FASTBLOOM_MAP_READ, NULL, &read) == FASTBLOOM_SEAL);
+    CHECK(kind->map(path, FASTBLOOM_MAP_SHARE, NULL, &read) == FASTBLOOM_SEALED);
+}
+
+/* The file of each kind is refused by the calls on the other kind, whether it is sealed or not. */
+static void other_kind(const char *path, bool sealed) {
+    CHECK(kind->save(path, &filter, sealed) == FASTBLOOM_OK);
+    kind = kinds + (kind == kinds);
+    refuses(path, NULL, kind->other);
+    kind = kinds + (kind == kinds);
+}
+
+/* Words that are no whole lines are no blocked filter. A byte that is missing is told before. */
+static void part_of_a_line(const char *path) {
+    uint8_t bytes[HEAD + 8 * MOST];
+    fastbloom_filter part = filter;
+    CHECK(kind->save(path, &filter, false) == FASTBLOOM_OK);
+    CHECK(bytes_of(path, bytes, sizeof bytes) == HEAD + 8 * filter.num_words);
+    bytes[16] = 9;
+    put(path, bytes, HEAD + 8 * 9);
+    refuses(path, NULL, FASTBLOOM_PART_OF_A_LINE);
+    put(path, bytes, HEAD + 8 * 9 - 1);
+    refuses(path, NULL, FASTBLOOM_CUT);
+    part.num_words = 9;
+    CHECK(kind->save(path, &part, true) == FASTBLOOM_PART_OF_A_LINE);
+    CHECK(kind->save(path, &part, false) == FASTBLOOM_PART_OF_A_LINE);
+    uint8_t head[HEAD] = {7}, seal[8];
+    memcpy(seal, head, sizeof seal);
+    CHECK(fastbloom_blocked_head_write(9, 3, filter.key, 5, head) == FASTBLOOM_PART_OF_A_LINE);
+    CHECK(memcmp(head, seal, sizeof seal) == 0);
+}
+
+/* The worked file is read with its members, and written byte for byte. */
+static void worked(const char *path, const uint8_t *bytes, size_t size) {
+    static const char *const texts[] = {"crab", "lobster", "whale"};
+    fastbloom_filter read;
+    uint8_t written[HEAD + 8 * MOST];
+    put(path, bytes, size);
+    for (int mapped = 0; mapped < 2; mapped++) {
+        CHECK((mapped ? fastbloom_blocked_map(path, FASTBLOOM_MAP_COPY, NULL, &read)
+                      : fastbloom_blocked_load(path, NULL, &read)) == FASTBLOOM_OK);
+        CHECK(read.num_words == 8 && read.num_hashes == 3 && (uintptr_t)read.words % 64 == 0);
+        for (uint8_t i = 0; i < 16; i++) CHECK(read.key[i] == i);
+        for (size_t i = 0; i < 3; i++)
+            CHECK(fastbloom_blocked_contains(read.words, 8, 3, read.key, (const uint8_t *)texts[i],
+                                             strlen(texts[i])) == (i < 2));
+        fastbloom_clear(read.words, 8);
+        for (size_t i = 0; i < 2; i++)
+            CHECK(!fastbloom_blocked_insert(read.words, 8, 3, read.key, (const uint8_t *)texts[i],
+                                            strlen(texts[i])));
+        CHECK(fastbloom_blocked_save("again", &read, true) == FASTBLOOM_OK);
+        CHECK(bytes_of("again", written, sizeof written) == size);
+        CHECK(memcmp(written, bytes, size) == 0 && unlink("again") == 0);
+        mapped ? fastbloom_unmap(&read) : fastbloom_unload(&read);
+    }
+    CHECK(unlink(path) == 0);
 }
 
 static void limits(const char *path) {
     fastbloom_filter many = filter, read;
-    fastbloom_limits allowed = {WORDS, 3};
-    CHECK(fastbloom_save(path, &filter, false) == FASTBLOOM_OK);
-    CHECK(fastbloom_load(path, &allowed, &read) == FASTBLOOM_OK);
+    fastbloom_limits allowed = {filter.num_words, 3};
+    CHECK(kind->save(path, &filter, false) == FASTBLOOM_OK);
+    CHECK(kind->load(path, &allowed, &read) == FASTBLOOM_OK);
     fastbloom_unload(&read);
     allowed.max_words--;
     refuses(path, &allowed, FASTBLOOM_TOO_MANY_WORDS);
     allowed.max_words++, allowed.max_hashes--;
     refuses(path, &allowed, FASTBLOOM_TOO_MANY_HASHES);
     many.num_hashes = 65;
-    CHECK(fastbloom_save(path, &many, false) == FASTBLOOM_OK);
+    CHECK(kind->save(path, &many, false) == FASTBLOOM_OK);
     refuses(path, NULL, FASTBLOOM_TOO_MANY_HASHES);
     allowed.max_hashes = 65;
-    CHECK(fastbloom_load(path, &allowed, &read) == FASTBLOOM_OK && read.num_hashes == 65);
+    CHECK(kind->load(path, &allowed, &read) == FASTBLOOM_OK && read.num_hashes == 65);
     fastbloom_unload(&read);
     /* no words, and too many */
     many.num_words = 0;
-    CHECK(fastbloom_save(path, &many, true) == FASTBLOOM_EMPTY_WORDS);
+    CHECK(kind->save(path, &many, true) == FASTBLOOM_EMPTY_WORDS);
     many.num_words = (size_t)1 << 58;
-    CHECK(fastbloom_save(path, &many, false) == FASTBLOOM_TOO_MANY_WORDS);
-    CHECK(fastbloom_load(path, &allowed, &read) == FASTBLOOM_OK && read.num_hashes == 65);
+    CHECK(kind->save(path, &many, false) == FASTBLOOM_TOO_MANY_WORDS);
+    CHECK(kind->load(path, &allowed, &read) == FASTBLOOM_OK && read.num_hashes == 65);
     fastbloom_unload(&read);
 }
 
@@ -189,9 +270,9 @@ static void no_files(void) {
     refuses("folder", NULL, FASTBLOOM_INPUT);
     CHECK(errno == EISDIR);
     refuses("pipe", NULL, FASTBLOOM_INPUT);
-    CHECK(fastbloom_save("folder", &filter, true) == FASTBLOOM_OUTPUT && errno == EISDIR);
-    CHECK(fastbloom_save("none/file", &filter, true) == FASTBLOOM_OUTPUT && errno == ENOENT);
-    CHECK(fastbloom_save("", &filter, true) == FASTBLOOM_OUTPUT);
+    CHECK(kind->save("folder", &filter, true) == FASTBLOOM_OUTPUT && errno == EISDIR);
+    CHECK(kind->save("none/file", &filter, true) == FASTBLOOM_OUTPUT && errno == ENOENT);
+    CHECK(kind->save("", &filter, true) == FASTBLOOM_OUTPUT);
     CHECK(rmdir("folder") == 0 && unlink("pipe") == 0);
 }
 
@@ -200,17 +281,17 @@ static void no_files(void) {
 static void rights(void) {
     fastbloom_filter read;
     umask(027);
-    CHECK(fastbloom_save("made", &filter, true) == FASTBLOOM_OK && mode_of("made") == 0640);
+    CHECK(kind->save("made", &filter, true) == FASTBLOOM_OK && mode_of("made") == 0640);
     CHECK(chmod("made", 0604) == 0);
-    CHECK(fastbloom_save("made", &filter, false) == FASTBLOOM_OK && mode_of("made") == 0604);
+    CHECK(kind->save("made", &filter, false) == FASTBLOOM_OK && mode_of("made") == 0604);
     umask(022);
     put("other", (const uint8_t *)"other", 5);
     CHECK(symlink("other", "link") == 0 && chmod("other", 0600) == 0);
-    CHECK(fastbloom_save("link", &filter, true) == FASTBLOOM_OK && mode_of("link") == 0600);
+    CHECK(kind->save("link", &filter, true) == FASTBLOOM_OK && mode_of("link") == 0600);
     uint8_t bytes[8];
     CHECK(bytes_of("other", bytes, sizeof bytes) == 5);
     CHECK(unlink("other") == 0 && symlink("link", "to") == 0);
-    CHECK(fastbloom_load("to", NULL, &read) == FASTBLOOM_OK && is_this(&read));
+    CHECK(kind->load("to", NULL, &read) == FASTBLOOM_OK && is_this(&read));
     fastbloom_unload(&read);
     CHECK(unlink("link") == 0 && unlink("to") == 0 && unlink("made") == 0);
 }
@@ -220,38 +301,62 @@ static void no_room(void) {
     fastbloom_filter large = filter;
     large.num_words = 1 << 16;
     large.words = calloc(large.num_words, 8);
-    CHECK(large.words != NULL && fastbloom_save("old", &filter, true) == FASTBLOOM_OK);
+    CHECK(large.words != NULL && kind->save("old", &filter, true) == FASTBLOOM_OK);
     pid_t child = fork();
     CHECK(child >= 0);
     if (child == 0) {
         struct rlimit room = {4096, 4096};
         signal(SIGXFSZ, SIG_IGN);
         bool well = setrlimit(RLIMIT_FSIZE, &room) == 0 &&
-                    fastbloom_save("old", &large, true) == FASTBLOOM_OUTPUT && errno == EFBIG;
+                    kind->save("old", &large, true) == FASTBLOOM_OUTPUT && errno == EFBIG;
         _exit(well ? 0 : 1);
     }
     int status;
     CHECK(waitpid(child, &status, 0) == child && status == 0);
     free(large.words);
     fastbloom_filter read;
-    CHECK(fastbloom_load("old", NULL, &read) == FASTBLOOM_OK && is_this(&read));
+    CHECK(kind->load("old", NULL, &read) == FASTBLOOM_OK && is_this(&read));
     fastbloom_unload(&read);
     CHECK(unlink("old") == 0);
 }
 
+/* The bytes of a file in hexadecimal digits, and how many. */
+static size_t digits(const char *path, uint8_t *bytes, size_t room) {
+    size_t size = 0;
+    FILE *file = fopen(path, "r");
+    CHECK(file != NULL);
+    for (unsigned byte; size < room && fscanf(file, "%2x", &byte) == 1;)
+        bytes[size++] = (uint8_t)byte;
+    fclose(file);
+    return size;
+}
+
 int main(int argc, char **argv) {
-    if (argc != 2 || chdir(argv[1]) != 0) return 2;
-    for (int i = 0; i < 20; i++)
-        fastbloom_insert_hash(words, WORDS, 3, 0x9e3779b97f4a7c15u * (uint64_t)i);
+    uint8_t blocked[HEAD + 8 * MOST];
+    if (argc != 3) return 2;
+    size_t size = digits(argv[2], blocked, sizeof blocked);
+    if (size != HEAD + 8 * 8 || chdir(argv[1]) != 0) return 2;
     texts();
-    for (int sealed = 0; sealed < 2; sealed++) kept("kept", sealed);
-    shared("kept");
-    faults("kept");
-    limits("kept");
-    CHECK(unlink("kept") == 0);
-    no_files();
-    rights();
-    no_room();
+    for (size_t i = 0; i < 2; i++) {
+        kind = kinds + i;
+        filter.num_words = kind->num_words;
+        memset(words, 0, sizeof words);
+        for (uint64_t hash = 0; hash < 20; hash++)
+            kind->insert_hash(words, filter.num_words, 3, 0x9e3779b97f4a7c15u * hash);
+        for (int sealed = 0; sealed < 2; sealed++) {
+            kept("kept", sealed);
+            other_kind("kept", sealed);
+        }
+        shared("kept");
+        faults("kept");
+        limits("kept");
+        CHECK(unlink("kept") == 0);
+        no_files();
+        rights();
+        no_room();
+    }
+    part_of_a_line("kept");
+    worked("kept", blocked, size);
     /* No part of a file is left: the folder can be removed. */
     CHECK(chdir("/") == 0 && rmdir(argv[1]) == 0);
     printf("files %s\n", "well");

@@ -82,6 +82,8 @@ int main(void) {
     wants("blocked shared insert", 0, fastbloom_blocked_shared_insert(none, 1, key, NULL, 0));
     wants("blocked shared contains", 0, fastbloom_blocked_shared_contains(none, 1, key, NULL, 0));
     wants("seal", fastbloom_seal(&word, 0, 1, key), fastbloom_seal(NULL, 0, 1, key));
+    wants("blocked seal", fastbloom_blocked_seal(&word, 0, 1, key),
+          fastbloom_blocked_seal(NULL, 0, 1, key));
     /* no hashes and no bytes, of a filter with a word */
     wants("insert_hashes", 1, fastbloom_insert_hashes(&word, 1, 1, NULL, 0));
     wants("contains_hashes", 1, fastbloom_contains_hashes(&word, 1, 1, NULL, 0, NULL, 0));

@@ -201,6 +201,14 @@ uint64_t fastbloom_seal(const uint64_t *words, size_t num_words, uint32_t num_ha
     return 0;
 }
 
+uint64_t fastbloom_blocked_seal(const uint64_t *words, size_t num_words, uint32_t num_hashes,
+                                const uint8_t key[16]) {
+    (void)num_words, (void)num_hashes;
+    some("words", words);
+    some("key", key);
+    return 0;
+}
+
 bool fastbloom_blocked_insert_hash(uint64_t *words, size_t num_words, uint32_t num_hashes,
                                    uint64_t hash) {
     (void)num_words, (void)num_hashes, (void)hash;

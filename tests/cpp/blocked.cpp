@@ -1,8 +1,10 @@
-// Blocked filters by the classes of C++: `blocked` makes the sessions that bin/blocked-model tells
-// of, and prints the number of each, in which all answers and words are folded. The class of filters
-// that threads share gets the same by one thread. Then it tries what the classes add to the calls of
-// C.
+// Blocked filters by the classes of C++: `blocked HEX FOLDER [FILE..]` makes the sessions that
+// bin/blocked-model tells of, and prints the number of each, in which all answers and words are
+// folded. The class of filters that threads share gets the same by one thread. Then it tries what
+// the classes add to the calls of C, and files. HEX is the worked file in hexadecimal digits. It
+// leaves the file of item0 to item999 in FOLDER/cpp.blocked, and wants it in each FILE.
 #include "fastbloom_blocked_shared.hpp"
+#include "fastbloom_shared.hpp"
 
 #include <cinttypes>
 #include <cstdint>
@@ -149,7 +151,141 @@ static void try_refusals() {
     CHECK(moved.contains("crab") && some.num_words() == 0 && !some.contains("crab"));
 }
 
-int main() {
+static fastbloom::key_bytes counting_key() {
+    fastbloom::key_bytes key{};
+    for (std::size_t i = 0; i < key.size(); i++) key[i] = static_cast<std::uint8_t>(i);
+    return key;
+}
+
+static std::vector<char> bytes_of(const blocked_filter &seen, bool sealed = true) {
+    const auto head = seen.head(sealed);
+    CHECK(static_cast<bool>(head));
+    std::vector<char> bytes(head->begin(), head->end());
+    const char *words = reinterpret_cast<const char *>(seen.data());
+    bytes.insert(bytes.end(), words, words + 8 * seen.num_words());
+    return bytes;
+}
+
+static std::vector<char> read_whole(const std::string &path) {
+    std::vector<char> bytes;
+    std::FILE *file = std::fopen(path.c_str(), "rb");
+    CHECK(file != nullptr);
+    for (int byte; (byte = std::fgetc(file)) != EOF;) bytes.push_back(static_cast<char>(byte));
+    std::fclose(file);
+    return bytes;
+}
+
+static void write_whole(const std::string &path, const std::vector<char> &bytes) {
+    std::FILE *file = std::fopen(path.c_str(), "wb");
+    CHECK(file != nullptr && std::fwrite(bytes.data(), 1, bytes.size(), file) == bytes.size());
+    CHECK(std::fclose(file) == 0);
+}
+
+// What each way to read the bytes of a file tells.
+static status told(const std::string &path, const std::vector<char> &bytes) {
+    write_whole(path, bytes);
+    const status why = blocked_filter::from_bytes(bytes.data(), bytes.size()).status();
+    CHECK(blocked_filter::load(path.c_str()).status() == why);
+    CHECK(fastbloom::mapped_blocked_filter::map(path.c_str()).status() == why);
+    return why;
+}
+
+// The worked file is read with its members, and written byte for byte. A truncated one is refused,
+// and one with a byte changed.
+static void try_worked(const char *hex, const std::string &path) {
+    std::vector<char> wanted;
+    std::FILE *file = std::fopen(hex, "r");
+    CHECK(file != nullptr);
+    for (unsigned byte; std::fscanf(file, "%2x", &byte) == 1;) {
+        wanted.push_back(static_cast<char>(byte));
+    }
+    std::fclose(file);
+    CHECK(wanted.size() == 128 && told(path, wanted) == status::ok);
+    auto read = blocked_filter::load(path.c_str());
+    CHECK(read && read->num_lines() == 1 && read->num_hashes() == 3);
+    CHECK(read->key() == counting_key() && read->contains("crab") && read->contains("lobster"));
+    CHECK(!read->contains("whale") && bytes_of(*read) == wanted);
+    read->clear();
+    CHECK(!read->insert("crab") && !read->insert("lobster"));
+    CHECK(read->save(path.c_str()) == status::ok && read_whole(path) == wanted);
+    const auto copied = blocked_filter::from_bytes(wanted.data(), wanted.size());
+    CHECK(copied && *copied == *read);
+    CHECK(reinterpret_cast<std::uintptr_t>(read->data()) % 64 == 0);
+    const std::vector<char> cut(wanted.begin(), wanted.end() - 1);
+    CHECK(told(path, cut) == status::cut);
+    struct {
+        std::size_t at;
+        char byte;
+        status why;
+    } const rows[] = {{48, 0, status::not_blocked}, {48, 2, status::reserved},
+                      {63, 1, status::reserved},    {127, 1, status::seal},
+                      {64, 1, status::seal},        {8, 0, status::hash_count},
+                      {8, 65, status::too_many_hashes}};
+    for (const auto &row : rows) {
+        std::vector<char> changed = wanted;
+        changed[row.at] = row.byte;
+        CHECK(told(path, changed) == row.why);
+    }
+    std::vector<char> part(wanted.begin(), wanted.begin() + 64 + 8 * 7);
+    part[16] = 7;
+    CHECK(told(path, part) == status::part_of_a_line);
+    CHECK(std::string(fastbloom::reason(status::not_blocked)) == "the file's filter isn't blocked");
+}
+
+// Files are saved, loaded, mapped and shared, and each kind refuses the file of the other kind.
+static void try_files(const std::string &path) {
+    const blocked_filter seen = of_items({"crab", "lobster"});
+    CHECK(seen.save(path.c_str()) == status::ok && read_whole(path) == bytes_of(seen));
+    const auto loaded = blocked_filter::load(path.c_str());
+    CHECK(loaded && *loaded == seen);
+    auto mapped = fastbloom::mapped_blocked_filter::map(path.c_str());
+    CHECK(mapped && mapped->contains("crab") && !mapped->contains("whale"));
+    CHECK(mapped->num_lines() == seen.num_lines() && mapped->key() == seen.key());
+    const fastbloom::mapped_blocked_filter moved = *std::move(mapped);
+    const std::uint64_t hash = seen.hash("lobster");
+    std::uint64_t found = 0;
+    CHECK(moved.contains_hash(hash) && moved.contains_hashes(&hash, 1, &found, 1) && found == 1);
+    CHECK(*moved.clone() == seen && mapped->num_words() == 0 && !mapped->contains("crab"));
+    CHECK(fastbloom::filter::load(path.c_str()).status() == status::blocked);
+    CHECK(fastbloom::mapped_filter::map(path.c_str()).status() == status::blocked);
+    CHECK(fastbloom::shared_filter::map(path.c_str()).status() == status::blocked);
+    CHECK(shared_blocked_filter::map(path.c_str()).status() == status::sealed);
+    CHECK(blocked_filter::load(path.c_str(), 8).status() == status::too_many_hashes);
+    CHECK(blocked_filter{}.save(path.c_str()) == status::empty_words);
+    CHECK(blocked_filter{}.head().status() == status::empty_words);
+    CHECK(seen.save(path.c_str(), false) == status::ok);
+    {
+        auto shared = shared_blocked_filter::map(path.c_str());
+        CHECK(shared && shared->contains("crab") && !shared->insert("whale"));
+        const shared_blocked_filter owner = *std::move(shared);
+        CHECK(owner.contains("whale") && shared->num_words() == 0);
+        owner.insert_range(std::vector<std::string>{"prawn", "krill"});
+    }
+    const auto grown = blocked_filter::load(path.c_str());
+    CHECK(grown && grown->contains("whale") && grown->contains("krill") && *grown != seen);
+    const auto plain = fastbloom::filter::make(1, 1000, 1000);
+    CHECK(plain && plain->save(path.c_str(), false) == status::ok);
+    CHECK(told(path, read_whole(path)) == status::not_blocked);
+    CHECK(shared_blocked_filter::map(path.c_str()).status() == status::not_blocked);
+    CHECK(std::remove(path.c_str()) == 0);
+    CHECK(blocked_filter::load(path.c_str()).status() == status::input);
+}
+
+// The file of item0 to item999, which each language makes, is written and read.
+static void try_writers(const std::string &path, int count, char **others) {
+    auto seen = blocked_filter::make(1, 1000, 1000);
+    CHECK(static_cast<bool>(seen));
+    for (int i = 0; i < 1000; i++) seen->insert("item" + std::to_string(i));
+    CHECK(seen->save(path.c_str()) == status::ok);
+    for (int i = 0; i < count; i++) {
+        const auto read = blocked_filter::load(others[i]);
+        const auto mapped = fastbloom::mapped_blocked_filter::map(others[i]);
+        CHECK(read && mapped && *read == *seen && *mapped->clone() == *seen);
+    }
+}
+
+int main(int argc, char **argv) {
+    if (argc < 3) return 2;
     for (std::uint64_t session = 0; session < 200; session++) {
         const std::uint64_t number = number_of<blocked_filter>(session);
         CHECK(number_of<shared_blocked_filter>(session) == number);
@@ -159,5 +295,8 @@ int main() {
     try_items();
     try_shared();
     try_refusals();
+    try_worked(argv[1], std::string(argv[2]) + "/cpp_blocked.bloom");
+    try_files(std::string(argv[2]) + "/cpp_blocked.bloom");
+    try_writers(std::string(argv[2]) + "/cpp.blocked", argc - 3, argv + 3);
     return 0;
 }

@@ -1,9 +1,13 @@
--- Why the first numbers of a file are refused, at the borders of each reason and where two meet.
-use Rattle.std.proofs.Common.{◌≡◌, [], ◌∷◌, ◌++◌, Some, None, refl}
+-- Why the first numbers of a file are refused, and then a whole head, at the borders of each reason
+-- and where two meet.
+use Rattle.std.proofs.Common.{◌≡◌, ℕ, List, [], ◌∷◌, ◌++◌, Some, None, refl}
 use Rattle.bloom_parts.specs.Sip.{whole_words}
-use Rattle.bloom_plain.specs.declared.file.error.FileError.TheVariants.{NotAFilter, Version, HashCount, EmptyWords, TooManyWords}
-use Rattle.bloom_plain.specs.FileRefusals.{head_refusal}
-use Rattle.bloom_plain.proofs.FileFacts.{first, head_with, low}
+use Rattle.bloom_plain.specs.declared.file.error.FileError.TheVariants.{NotAFilter, Version, HashCount, EmptyWords, TooManyWords, Reserved, Blocked, NotBlocked, PartOfALine}
+use Rattle.bloom_plain.specs.declared.file.layout.Layout.TheVariants.{Whole, Lines}
+use Rattle.bloom_plain.specs.FileLayouts.{head_refusal_in}
+use Rattle.bloom_plain.specs.FileRefusals.{head_refusal, whole_head_refusal}
+use Rattle.bloom_plain.proofs.FileFacts.{first, head_with, low, worked}
+use Rattle.bloom_plain.proofs.LayoutFacts.{line_file, line_seal, line_start}
 
 -- no bytes are no filter, and neither are seven
 head_refusal-no_bytes : head_refusal [] ≡ Some NotAFilter
@@ -120,3 +124,35 @@ head_refusal-hashes_first_many = refl
 head_refusal-worked : head_refusal (head_with (low 1) (low 1) (low 1)) ≡ None
 unfolding whole_words
 head_refusal-worked = refl
+
+-- the head of the worked file of lines is good where lines are read, and blocked where none are
+layout-lines : head_refusal_in Lines line_file ≡ None
+unfolding whole_words
+layout-lines = refl
+
+layout-blocked : head_refusal_in Whole line_file ≡ Some Blocked
+unfolding whole_words
+layout-blocked = refl
+
+-- the worked head of words that are no lines isn't blocked
+layout-not_blocked : head_refusal_in Lines worked ≡ Some NotBlocked
+unfolding whole_words
+layout-not_blocked = refl
+
+-- words that are no whole lines are refused, and so is the number of no layout
+layout-seven : head_refusal_in Lines (line_start 7 line_seal (low 1) (low 0)) ≡ Some PartOfALine
+unfolding whole_words
+layout-seven = refl
+
+layout-two : head_refusal_in Lines (line_start 8 line_seal (low 2) (low 0)) ≡ Some Reserved
+unfolding whole_words
+layout-two = refl
+
+-- no words are told before a layout that isn't read
+layout-no_words : head_refusal_in Lines (line_start 0 line_seal (low 0) (low 0)) ≡ Some EmptyWords
+unfolding whole_words
+layout-no_words = refl
+
+-- a head of words that are no lines is refused as in `FileRefusals`
+layout-whole : (bytes : List ℕ) → head_refusal_in Whole bytes ≡ whole_head_refusal bytes
+layout-whole bytes = refl

@@ -72,6 +72,10 @@ abbrev pub layout_refusal : Layout → List ℕ → Option FileError
 layout_refusal Whole bytes = reserved_refusal bytes
 layout_refusal Lines bytes = lines_refusal bytes
 
+-- why a head of 64 bytes is refused where this layout is read
+abbrev pub head_refusal_in : Layout → List ℕ → Option FileError
+head_refusal_in layout bytes = option_or (head_refusal bytes) (layout_refusal layout bytes)
+
 -- the bytes of a head that its seal covers
 abbrev pub sealed_bytes : Layout → List ℕ → List ℕ
 sealed_bytes Whole bytes = take 40 bytes

@@ -13,6 +13,6 @@ mod streams;
 
 pub use bytes::{parts_from_bytes, parts_to_bytes};
 pub use error::FileError;
-pub use head::{Head, head_bytes, read_head, seal};
+pub use head::{Head, head_bytes, head_bytes_in, read_head, read_head_in, right_seal, seal};
 pub use layout::Layout;
 pub use streams::{read_parts, write_parts};

@@ -1,7 +1,7 @@
 -- The heads that C gives, and the numbers of their refusals, at values from outside.
-use Rattle.std.proofs.Common.{◌≡◌, ◌^◌, ◌-◌, ℕ, List, [], ◌∷◌, ◌++◌, replicate, Some, None, refl}
-use Rattle.bloom_plain.specs.declared.file.error.FileError.TheVariants.{NotAFilter, EmptyWords, TooManyWords, Reserved}
-use Rattle.fastbloom_c.specs.Files.{head_for, words_refusal, file_code_or_zero}
+use Rattle.std.proofs.Common.{◌≡◌, ◌^◌, ◌+◌, ◌-◌, ℕ, List, [], ◌∷◌, ◌++◌, replicate, Some, None, refl}
+use Rattle.bloom_plain.specs.declared.file.error.FileError.TheVariants.{NotAFilter, EmptyWords, TooManyWords, Reserved, NotBlocked, PartOfALine}
+use Rattle.fastbloom_c.specs.Files.{head_for, line_words_refusal, words_refusal, file_code_or_zero}
 
 -- where nothing is refused the number is 0
 number-none : file_code_or_zero None ≡ 0
@@ -14,6 +14,10 @@ number-not_a_filter = refl
 -- a head whose last bytes aren't zero is refused by number 13
 number-reserved : file_code_or_zero (Some Reserved) ≡ 13
 number-reserved = refl
+
+-- a filter that isn't blocked is refused by number 18 where a blocked one is read
+number-not_blocked : file_code_or_zero (Some NotBlocked) ≡ 18
+number-not_blocked = refl
 
 -- no words are refused
 words-none : words_refusal 0 ≡ Some EmptyWords
@@ -30,6 +34,32 @@ words-most = refl
 -- 2^58 words are refused
 words-too_many : words_refusal (2 ^ 58) ≡ Some TooManyWords
 words-too_many = refl
+
+-- no words are no lines
+line_words-none : line_words_refusal 0 ≡ Some EmptyWords
+line_words-none = refl
+
+-- eight words are a line
+line_words-eight : line_words_refusal 8 ≡ None
+line_words-eight = refl
+
+-- seven and nine are no whole lines, and nor are 2^58 - 1
+line_words-seven : line_words_refusal 7 ≡ Some PartOfALine
+line_words-seven = refl
+
+line_words-nine : line_words_refusal 9 ≡ Some PartOfALine
+line_words-nine = refl
+
+line_words-part : line_words_refusal (2 ^ 58 - 1) ≡ Some PartOfALine
+line_words-part = refl
+
+-- 2^58 - 8 words are the most
+line_words-most : line_words_refusal (2 ^ 58 - 8) ≡ None
+line_words-most = refl
+
+-- too many words are told before a part of a line
+line_words-too_many : line_words_refusal (2 ^ 58 + 1) ≡ Some TooManyWords
+line_words-too_many = refl
 
 -- a key whose bytes are 1, 2, twelve zeros, 3 and 4
 abbrev a_key : List ℕ

@@ -1,9 +1,9 @@
 -- Heads of files, as C gives and takes them. The form of a file is that of `bloom_plain`.
-use Rattle.std.specs.Prelude.{ℕ, ◌^◌, max, List, Option, Some, None, nat_eq, nat_le, if◌then◌else◌}
+use Rattle.std.specs.Prelude.{ℕ, ◌%◌, ◌^◌, max, List, Option, Some, None, nat_eq, nat_le, if◌then◌else◌}
 use Rattle.bloom_parts.specs.Keys.{key_low, key_high}
 use Rattle.bloom_plain.specs.declared.file.head.Head.{Head}
 use Rattle.bloom_plain.specs.declared.file.error.FileError.{FileError}
-use Rattle.bloom_plain.specs.declared.file.error.FileError.TheVariants.{EmptyWords, TooManyWords}
+use Rattle.bloom_plain.specs.declared.file.error.FileError.TheVariants.{EmptyWords, TooManyWords, PartOfALine}
 use Rattle.bloom_plain.specs.FileCodes.{file_code_of}
 
 -- the head of a filter with this many words and hashes, where 0 hashes count as 1, under a key of
@@ -22,6 +22,14 @@ words_refusal num_words =
     if nat_eq num_words 0 then Some EmptyWords
     else if nat_le (2 ^ 58) num_words then Some TooManyWords
     else None
+
+-- why a head of a blocked filter with this many words is refused, if it is: lines have eight each
+abbrev pub line_words_refusal : ℕ → Option FileError
+line_words_refusal num_words =
+    if nat_eq num_words 0 then Some EmptyWords
+    else if nat_le (2 ^ 58) num_words then Some TooManyWords
+    else if nat_eq (num_words % 8) 0 then None
+    else Some PartOfALine
 
 -- the number of a refusal, or 0 where nothing is refused
 abbrev pub file_code_or_zero : Option FileError → ℕ

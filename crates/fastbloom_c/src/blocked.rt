@@ -8,6 +8,7 @@ ghost use Rattle.bloom_parts.specs.Keys.{key_low, key_high};
 ghost use Rattle.bloom_parts.specs.Sip.{sip};
 ghost use Rattle.bloom_blocked.specs.Lines.{line_positions, are_in_line};
 
+pub mod files;
 pub mod many;
 pub mod plans;
 pub mod shared;

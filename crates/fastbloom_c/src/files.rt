@@ -1,4 +1,4 @@
-//! The head of a file, and its seal.
+//! The head of a file whose filter isn't blocked, and its seal.
 ghost use Rattle.std.specs.Prelude.{◌≡◌, ◌<◌, length};
 ghost use Rattle.bloom_parts.specs.Keys.{key_low, key_high};
 ghost use Rattle.bloom_plain.specs.File.{bytes_of, head_numbers, seal_of};
@@ -9,7 +9,7 @@ use bloom_parts::bit_vector::MAX_WORDS;
 use bloom_plain::file::{FileError, Head, head_bytes, read_head, seal};
 
 // The head of a filter with this many words and hashes, where 0 hashes count as 1, under a key.
-fn head_for(num_words: usize, num_hashes: u32, key: &[u8; 16]) -> Head
+pub(crate) fn head_for(num_words: usize, num_hashes: u32, key: &[u8; 16]) -> Head
     ensures { result ≡ head_for num_words num_hashes key.now }
 {
     let [a, b, c, d, e, f, g, h, i, j, k, l, m, n, o, p] = *key;
@@ -22,7 +22,7 @@ fn head_for(num_words: usize, num_hashes: u32, key: &[u8; 16]) -> Head
 }
 
 // The sixteen bytes of a key.
-fn key_bytes(k0: u64, k1: u64) -> [u8; 16]
+pub(crate) fn key_bytes(k0: u64, k1: u64) -> [u8; 16]
     ensures low { key_low result ≡ k0 }
     ensures high { key_high result ≡ k1 }
 {

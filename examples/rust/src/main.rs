@@ -1,9 +1,10 @@
 //! Calls the crate, and prints the lines of the other languages' checks: `check FOLDER [FILE..]`.
 //!
-//! It leaves the file of the items in FOLDER/rust.bloom. Each FILE is to be one of the items too.
-//! One in a folder `refused` is to be refused by the number with which its name begins.
+//! It leaves the file of the items in FOLDER/rust.bloom, and that of a blocked filter of them in
+//! FOLDER/rust.blocked. Each FILE is to be one of the items too. One in a folder `refused` is to be
+//! refused by the number with which its name begins.
 
-use fastbloom_c::{hash, BloomFilter, Error, Rate};
+use fastbloom_c::{hash, BlockedBloomFilter, BloomFilter, Error, Rate};
 use std::path::Path;
 
 const ZERO_KEY: [u8; 16] = [0; 16];
@@ -113,8 +114,15 @@ fn main() -> Result<(), Box<dyn std::error::Error>> {
     refused()?;
     worked()?;
     std::fs::write(Path::new(&folder).join("rust.bloom"), seen.to_bytes())?;
+    let names: Vec<_> = (0..1000).map(|number| format!("item{number}")).collect();
+    let blocked = BlockedBloomFilter::with_false_pos(Rate::new(1, 1000)?).items(names)?;
+    blocked.save(Path::new(&folder).join("rust.blocked"))?;
     for path in words {
-        read(&path, &seen)?;
+        if path.ends_with(".blocked") {
+            assert!(BlockedBloomFilter::load(&path)? == blocked, "{path}");
+        } else {
+            read(&path, &seen)?;
+        }
     }
     Ok(())
 }

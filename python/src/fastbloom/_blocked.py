@@ -3,11 +3,15 @@
 from __future__ import annotations
 
 import ctypes
+import os
 import typing
-from typing import TYPE_CHECKING, Any, Callable, Iterable, List, Tuple, Type, TypeVar, Union
+from typing import (
+    TYPE_CHECKING, Any, Callable, Iterable, List, Optional, Tuple, Type, TypeVar, Union)
 
 from . import _library as library
-from ._filter import _check, _hash_value, _number_of_items, _parts
+from ._files import Path, map_file, write_file
+from ._filter import (
+    _CUT, _HEAD, _SEAL, Refusal, _check, _check_file, _hash_value, _number_of_items, _parts)
 from ._items import Buffer, Item, Rate, bytes_of, check_many, plain_bytes
 from ._locks import alone, alone_with, new_lock
 from ._many import Hashes, each_part, told, words_of
@@ -34,7 +38,8 @@ class BlockedFilter:
 
     So where it is larger than the processor's cache, adds and look-ups of many hashes are quicker
     than those of `Filter`, and it takes a little more memory at the same rate. Its calls are those of
-    `Filter`, as far as it has them. It has no files, estimates or rates, and takes no `Filter` in.
+    `Filter`, as far as it has them. It has no estimates or rates, and takes no `Filter` in, nor the
+    file of one.
     """
 
     __slots__ = ("_view", "_at", "_num_words", "_num_hashes", "_key", "_lock", "__weakref__")
@@ -60,16 +65,20 @@ class BlockedFilter:
 
     def _set(self, num_lines: int, num_hashes: int, key: bytes) -> None:
         """Takes memory of this many lines, all of them clear."""
+        memory = memoryview(bytearray(_LINE * (num_lines + 1)))
+        # The words begin where a line of the cache does.
+        first = -ctypes.addressof(ctypes.c_char.from_buffer(memory)) % _LINE
+        self._take(memory[first:first + _LINE * num_lines], num_hashes, key)
+
+    def _take(self, view: memoryview, num_hashes: int, key: bytes) -> None:
+        """Takes the lines of a view, which have no other user."""
         if len(key) != 16:
             raise ValueError("a key is sixteen bytes")
         if hasattr(self, "_view"):  # a call under way may use the words that it has
             raise TypeError("a filter is made once")
-        memory = memoryview(bytearray(_LINE * (num_lines + 1)))
-        # The words begin where a line of the cache does. The view keeps the memory where it is.
-        first = -ctypes.addressof(ctypes.c_char.from_buffer(memory)) % _LINE
-        self._view = memory[first:first + _LINE * num_lines]
-        self._at = ctypes.addressof(ctypes.c_char.from_buffer(self._view))
-        self._num_words, self._num_hashes, self._key = 8 * num_lines, num_hashes, key
+        # The view keeps the memory where it is.
+        self._view, self._at = view, ctypes.addressof(ctypes.c_char.from_buffer(view))
+        self._num_words, self._num_hashes, self._key = view.nbytes // 8, num_hashes, key
         self._lock = new_lock()
 
     @property
@@ -261,6 +270,10 @@ class BlockedFilter:
     def _words(self) -> bytes:
         return bytes(self._view)
 
+    @alone
+    def _copy_words(self, memory: bytearray, offset: int) -> None:
+        memoryview(memory)[offset:] = self._view
+
     def copy(self) -> Self:
         """A filter with words of its own, which are equal to these."""
         made = type(self).__new__(type(self))
@@ -295,3 +308,64 @@ class BlockedFilter:
         """The size, and whether there is a key. The key itself isn't shown: it may be secret."""
         key = "a key" if any(self._key) else "the zero key"
         return f"<{type(self).__name__}: {self.num_bits} bits, {self._num_hashes} hashes, {key}>"
+
+    # Files
+
+    def _file(self, sealed: bool) -> bytearray:
+        """The bytes of the file, of the words as they are at one instant."""
+        file = bytearray(_HEAD + 8 * self._num_words)
+        self._copy_words(file, _HEAD)
+        at = ctypes.addressof(ctypes.c_char.from_buffer(file))
+        seal = 0
+        if sealed:
+            seal = library.blocked_seal(at + _HEAD, self._num_words, self._num_hashes, self._key)
+        _check(library.blocked_head_write(self._num_words, self._num_hashes, self._key, seal, at))
+        return file
+
+    def to_bytes(self, sealed: bool = True) -> bytes:
+        """The bytes of the file that `save` writes."""
+        return bytes(self._file(sealed))
+
+    def save(self, path: Path, sealed: bool = True) -> None:
+        """Writes a file, whole or not at all, as `Filter.save`."""
+        write_file(path, self._file(sealed))
+
+    @classmethod
+    def from_bytes(cls, data: Buffer, *, max_hashes: Optional[int] = 64) -> Self:
+        """The filter of a file's bytes, which are copied.
+
+        It raises as `Filter.from_bytes`, and Refusal where they are the file of a `Filter`.
+        """
+        data = plain_bytes(data, "a file is a bytes-like object")
+        num_words, num_hashes, key, seal = _check_file(
+            data[:_HEAD], len(data), max_hashes, library.blocked_head_read)
+        read = cls.__new__(cls)
+        read._set(num_words // 8, num_hashes, key)
+        read._view[:] = memoryview(data)[_HEAD:]
+        return read._checked(seal)
+
+    @classmethod
+    def load(cls, path: Path, *, max_hashes: Optional[int] = 64, mapped: bool = False) -> Self:
+        """The filter of a file, which is read into memory, or `mapped`: as by `Filter.load`.
+
+        It raises OSError where the file can't be read, and as `from_bytes` where it is refused.
+        """
+        with open(path, "rb") as file:
+            head, size = file.read(_HEAD), os.fstat(file.fileno()).st_size
+            num_words, num_hashes, key, seal = _check_file(
+                head, size, max_hashes, library.blocked_head_read)
+            read = cls.__new__(cls)
+            if mapped:
+                read._take(memoryview(map_file(file, size))[_HEAD:], num_hashes, key)
+            else:
+                read._set(num_words // 8, num_hashes, key)
+                if file.readinto(read._view) != read._view.nbytes:  # it has become shorter
+                    raise Refusal(_CUT)
+        return read._checked(seal)
+
+    def _checked(self, seal: int) -> Self:
+        """This filter, unless its file has the seal of another one."""
+        shape = self._at, self._num_words, self._num_hashes, self._key
+        if seal and seal != library.blocked_seal(*shape):
+            raise Refusal(_SEAL)
+        return self

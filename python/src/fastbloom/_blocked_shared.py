@@ -3,11 +3,15 @@
 from __future__ import annotations
 
 import ctypes
+import mmap
+import os
 from typing import Any, Callable, Iterable, List, NoReturn, Union
 
 from . import _library as library
 from ._blocked import _LINE, BlockedFilter
-from ._filter import Refusal, _check, _hash_value, _number_of_items, _parts
+from ._files import Path
+from ._filter import (
+    _HEAD, Refusal, _check, _check_file, _hash_value, _number_of_items, _parts)
 from ._items import Buffer, Item, Rate, bytes_of, check_many, plain_bytes
 from ._many import Hashes, each_part, told, words_of
 from ._mask import Mask
@@ -20,7 +24,7 @@ class SharedBlockedFilter:
 
     Its calls are those of `SharedFilter`, as far as it has them, and its size is that of
     `BlockedFilter`. Where it is larger than the processor's cache, adds of many hashes are quicker
-    than those of a `SharedFilter`. It has no files, and takes no filter of another kind in.
+    than those of a `SharedFilter`. It takes no filter of another kind in.
     """
 
     __slots__ = ("_owner", "_view", "_words", "_num_hashes", "_key", "__weakref__")
@@ -49,6 +53,25 @@ class SharedBlockedFilter:
             raise ValueError("hashes are from 1 to 2^32 - 1")
         made = cls.__new__(cls)
         made._set(buffer, num_hashes, key)
+        return made
+
+    @classmethod
+    def map(cls, path: Path, *, max_hashes: int = 64) -> SharedBlockedFilter:
+        """The filter of a file, whose words all processes fill that map it.
+
+        What is added goes into the file. It must have no seal, which adds would make wrong: make it
+        by `BlockedFilter.save(path, sealed=False)`. A seal raises ValueError; else it raises as
+        `BlockedFilter.load`.
+        """
+        with open(path, "r+b") as file:
+            head, size = file.read(_HEAD), os.fstat(file.fileno()).st_size
+            _, num_hashes, key, seal = _check_file(
+                head, size, max_hashes, library.blocked_head_read)
+            if seal:
+                raise ValueError("the file has a seal, which adds would make wrong")
+            memory = mmap.mmap(file.fileno(), size, access=mmap.ACCESS_WRITE)
+        made = cls.__new__(cls)
+        made._set(memoryview(memory)[_HEAD:], num_hashes, key)
         return made
 
     def _set(self, memory: Any, num_hashes: int, key: Buffer) -> None:
@@ -203,7 +226,7 @@ class SharedBlockedFilter:
         return self._plain(library.shared_take)
 
     def load(self) -> BlockedFilter:
-        """A plain blocked filter with the words as they are loaded, one after the other."""
+        """A plain blocked filter with the words as they are loaded, as for a file."""
         return self._plain(library.shared_load)
 
     def _plain(self, call: Callable[..., bool]) -> BlockedFilter:
@@ -242,7 +265,7 @@ class SharedBlockedFilter:
         return self
 
     def __reduce__(self) -> NoReturn:
-        raise TypeError("a shared filter isn't pickled: hand its memory on, or `load()`")
+        raise TypeError("a shared filter isn't pickled: hand its memory or its file on, or `load()`")
 
     def __repr__(self) -> str:
         """The size, and whether there is a key. The key itself isn't shown: it may be secret."""

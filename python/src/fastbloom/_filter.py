@@ -117,26 +117,30 @@ def _estimate(low: ctypes.c_size_t, high: ctypes.c_size_t) -> Estimate:
     return Estimate(low.value, None if high.value == 2**64 - 1 else high.value)
 
 
-def _read_head(head: bytes) -> Tuple[int, int, bytes, int]:
+def _read_head(head: bytes, call: Callable[..., int]) -> Tuple[int, int, bytes, int]:
     """The numbers of words and of hashes, the key and the seal that a head tells."""
     words, hashes = ctypes.c_size_t(), ctypes.c_uint32()
     key, seal = ctypes.create_string_buffer(16), ctypes.c_uint64()
-    _check(library.head_read(head, words, hashes, key, seal))
+    _check(call(head, words, hashes, key, seal))
     return words.value, hashes.value, key.raw, seal.value
 
 
-def _check_file(head: bytes, size: int, max_hashes: Optional[int]) -> Tuple[int, int, bytes, int]:
-    """What the first 64 bytes of a file of this size tell, if the file isn't refused for them."""
-    # Where the head is cut, good numbers stand for those that it lacks. The last two, which must be
-    # zero, are read after the size.
+def _check_file(head: bytes, size: int, max_hashes: Optional[int],
+                call: Callable[..., int] = library.head_read) -> Tuple[int, int, bytes, int]:
+    """What the first 64 bytes of a file of this size tell, if the file isn't refused for them.
+
+    `call` reads heads of the kind of filters that is wanted.
+    """
+    # Where the head is truncated, good numbers stand for those that it lacks. The last two, by
+    # which the kinds differ, are read after the size.
     good = struct.pack("<8Q", 0, 1, 1, 0, 0, 0, 0, 0)
     there = min(len(head) // 8 * 8, 48)
-    wanted = _HEAD + 8 * _read_head(head[:there] + good[there:])[0]
+    wanted = _HEAD + 8 * _read_head(head[:there] + good[there:], library.head_read)[0]
     if size > wanted:
         raise Refusal(_TOO_LONG)
     if size < wanted or len(head) < _HEAD:  # a file that grows may have been short
         raise Refusal(_CUT)
-    told = _read_head(head)
+    told = _read_head(head, call)
     if max_hashes is not None and told[1] > max_hashes:
         raise ValueError(f"the file has {told[1]} hashes, and max_hashes is {max_hashes}")
     return told

@@ -112,6 +112,12 @@ blocked_insert: Callable[..., bool] = _call(
     "blocked_insert", _BOOL, _WORDS, _SIZE, _HASHES, _BYTES, _BYTES, _SIZE)
 blocked_contains: Callable[..., bool] = _call(
     "blocked_contains", _BOOL, _WORDS, _SIZE, _HASHES, _BYTES, _BYTES, _SIZE)
+blocked_head_write: Callable[..., int] = _call(
+    "blocked_head_write", _CODE, _SIZE, _HASHES, _BYTES, _HASH, _WORDS)
+blocked_head_read: Callable[..., int] = _call(
+    "blocked_head_read", _CODE, _BYTES, _TO_SIZE, _TO_HASHES, _BYTES, _MANY)
+blocked_seal: Callable[..., int] = _call(
+    "blocked_seal", _HASH, _WORDS, _SIZE, _HASHES, _BYTES, library=_LETTING_GO)
 
 
 class SharedWords(ctypes.Structure):

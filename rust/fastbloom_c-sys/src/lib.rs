@@ -649,6 +649,36 @@ extern "C" {
         seal: *mut u64,
     ) -> u8;
 
+    /// As [`fastbloom_seal`], of the file of a blocked filter. It is another seal.
+    pub fn fastbloom_blocked_seal(
+        words: *const u64,
+        num_words: usize,
+        num_hashes: u32,
+        key: *const u8,
+    ) -> u64;
+
+    /// As [`fastbloom_head_write`], of the file of a blocked filter. It returns
+    /// [`FASTBLOOM_PART_OF_A_LINE`] for words that are no whole lines, and then it writes nothing.
+    #[must_use]
+    pub fn fastbloom_blocked_head_write(
+        num_words: usize,
+        num_hashes: u32,
+        key: *const u8,
+        seal: u64,
+        head: *mut u8,
+    ) -> u8;
+
+    /// As [`fastbloom_head_read`], of the file of a blocked filter. The head of another filter is
+    /// refused by [`FASTBLOOM_NOT_BLOCKED`].
+    #[must_use]
+    pub fn fastbloom_blocked_head_read(
+        head: *const u8,
+        num_words: *mut usize,
+        num_hashes: *mut u32,
+        key: *mut u8,
+        seal: *mut u64,
+    ) -> u8;
+
     /// Reads a file into words of its own, which [`fastbloom_unload`] frees. Null limits allow any
     /// number of words that the file has, and 64 hashes. It answers [`FASTBLOOM_OK`]; or why the
     /// file is refused, and then the filter has no words. The path ends in a zero byte.
@@ -682,4 +712,31 @@ extern "C" {
     #[must_use]
     pub fn fastbloom_save(path: *const c_char, filter: *const fastbloom_filter, sealed: bool)
         -> u8;
+
+    /// As [`fastbloom_load`], of the file of a blocked filter. The words begin where a line of the
+    /// cache does.
+    #[must_use]
+    pub fn fastbloom_blocked_load(
+        path: *const c_char,
+        limits: *const fastbloom_limits,
+        filter: *mut fastbloom_filter,
+    ) -> u8;
+
+    /// As [`fastbloom_map`], of the file of a blocked filter.
+    #[must_use]
+    pub fn fastbloom_blocked_map(
+        path: *const c_char,
+        mode: u32,
+        limits: *const fastbloom_limits,
+        filter: *mut fastbloom_filter,
+    ) -> u8;
+
+    /// As [`fastbloom_save`], of a blocked filter. Words that are no whole lines are refused by
+    /// [`FASTBLOOM_PART_OF_A_LINE`].
+    #[must_use]
+    pub fn fastbloom_blocked_save(
+        path: *const c_char,
+        filter: *const fastbloom_filter,
+        sealed: bool,
+    ) -> u8;
 }

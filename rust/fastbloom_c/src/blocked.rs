@@ -5,12 +5,25 @@ use crate::raw_blocked::{self, Line, LINE};
 use crate::{hash, raw, Error, Rate};
 use std::fmt;
 
+/// The hundredths of a bit for each item above which one hash more suits.
+const HASH_STEPS: [u128; 15] = [
+    208, 359, 511, 668, 832, 1006, 1193, 1394, 1613, 1853, 2119, 2414, 2745, 3117, 3537,
+];
+
+/// The number of hashes that suits this many bits and items, where 0 items count as 1. The library
+/// has no call for it. In what `fastbloom_blocked_plan` returns the numbers have the same relation.
+fn hashes_for(num_bits: usize, items: usize) -> u32 {
+    let (hundredths, items) = (100 * num_bits as u128, items.max(1) as u128);
+    let passed = HASH_STEPS.iter().filter(|step| **step * items < hundredths);
+    1 + passed.count() as u32
+}
+
 /// A set of texts and bytes whose bits of one item lie in one line of 512, which is one of the cache.
 ///
 /// So where it is larger than the cache, inserts and look-ups of many hashes are quicker than those
 /// of a [`BloomFilter`](crate::BloomFilter), and it takes a little more memory at the same rate. Its
-/// calls are those of the other kind, as far as it has them. It has no file, no estimates and no
-/// rates, and the two kinds aren't united.
+/// calls are those of the other kind, as far as it has them. It has no estimates and no rates. The
+/// two kinds aren't united, and neither reads the other's file.
 ///
 /// ```
 /// use fastbloom_c::{BlockedBloomFilter, Rate};
@@ -302,6 +315,42 @@ impl BlockedBuilderWithBits {
             num_hashes: num_hashes.max(1),
             key: self.key,
         }
+    }
+
+    /// The filter with the number of hashes that suits this many items, where 0 counts as 1. This
+    /// number is computed here, and not by the library.
+    ///
+    /// ```
+    /// # use fastbloom_c::BlockedBloomFilter;
+    /// let seen = BlockedBloomFilter::with_num_bits(10_000)?.expected_items(1000);
+    /// assert_eq!((seen.num_bits(), seen.num_hashes()), (10_240, 7));
+    /// # Ok::<(), fastbloom_c::Error>(())
+    /// ```
+    #[must_use]
+    pub fn expected_items(self, expected_items: usize) -> BlockedBloomFilter {
+        let num_hashes = hashes_for(64 * LINE * self.lines.len(), expected_items);
+        self.hashes(num_hashes)
+    }
+
+    /// The filter with the number of hashes that suits these items, and with the items.
+    ///
+    /// ```
+    /// # use fastbloom_c::BlockedBloomFilter;
+    /// let seen = BlockedBloomFilter::with_num_bits(1024)?.items(["42", "🦀"]);
+    /// assert!(seen.contains("42") && seen.contains("🦀"));
+    /// # Ok::<(), fastbloom_c::Error>(())
+    /// ```
+    #[must_use]
+    pub fn items<T, I>(self, items: I) -> BlockedBloomFilter
+    where
+        T: AsRef<[u8]>,
+        I: IntoIterator<Item = T>,
+        I::IntoIter: ExactSizeIterator,
+    {
+        let items = items.into_iter();
+        let mut filter = self.expected_items(items.len());
+        filter.insert_all(items);
+        filter
     }
 }
 

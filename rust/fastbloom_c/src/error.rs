@@ -45,6 +45,8 @@ pub enum Error {
     Reserved,
     /// A file has a blocked filter, whose words are lines.
     Blocked,
+    /// A file's filter isn't blocked: its words are no lines.
+    NotBlocked,
     /// The seal of a file is wrong: the file was changed.
     Seal,
     /// A read failed, by this error.
@@ -90,6 +92,7 @@ impl Error {
             Error::Sealed => fastbloom_c_sys::FASTBLOOM_SEALED,
             Error::PartOfALine => fastbloom_c_sys::FASTBLOOM_PART_OF_A_LINE,
             Error::Blocked => fastbloom_c_sys::FASTBLOOM_BLOCKED,
+            Error::NotBlocked => fastbloom_c_sys::FASTBLOOM_NOT_BLOCKED,
             Error::TooManyHashes | Error::OtherShape | Error::NotARate => return None,
         })
     }
@@ -112,7 +115,9 @@ impl Error {
             fastbloom_c_sys::FASTBLOOM_MEMORY => Error::Memory,
             fastbloom_c_sys::FASTBLOOM_SEALED => Error::Sealed,
             fastbloom_c_sys::FASTBLOOM_TOO_MANY_HASHES => Error::TooManyHashes,
+            fastbloom_c_sys::FASTBLOOM_PART_OF_A_LINE => Error::PartOfALine,
             fastbloom_c_sys::FASTBLOOM_BLOCKED => Error::Blocked,
+            fastbloom_c_sys::FASTBLOOM_NOT_BLOCKED => Error::NotBlocked,
             _ => unreachable!("the library answers no other number"),
         })
     }
@@ -134,6 +139,7 @@ impl fmt::Display for Error {
             Error::TooLong => "the file goes on after its last word",
             Error::Reserved => "a reserved byte isn't zero",
             Error::Blocked => "the file has a blocked filter",
+            Error::NotBlocked => "the file's filter isn't blocked",
             Error::Seal => "the seal is wrong: the file was changed",
             Error::Input(error) => return write!(f, "input failed: {error}"),
             Error::Sealed => "a file with a seal can't be shared",

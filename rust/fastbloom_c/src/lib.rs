@@ -68,12 +68,14 @@
 )]
 
 mod blocked;
+mod blocked_file;
 mod blocked_shared;
 mod bloom;
 mod builder;
 mod error;
 mod estimates;
 mod file;
+mod in_file;
 mod many;
 #[allow(unsafe_code)]
 mod mapped;
@@ -97,7 +99,7 @@ pub use bloom::{hash, BloomFilter};
 pub use builder::{BuilderWithBits, BuilderWithFalsePositiveRate};
 pub use error::Error;
 pub use estimates::Estimate;
-pub use mapped::{MappedFilter, MappedWords};
+pub use mapped::{MappedBlockedFilter, MappedFilter, MappedWords};
 pub use pieces::Hasher;
 pub use rate::{Bracket, Rate};
 pub use shared::AtomicBloomFilter;

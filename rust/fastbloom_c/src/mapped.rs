@@ -1,6 +1,10 @@
 //! Filters in mapped files. Beside `raw` and `raw_shared` this module alone has unsafe code.
 
-use crate::{hash, raw, AtomicBloomFilter, BloomFilter, Error};
+use crate::raw::Kind;
+use crate::{
+    hash, raw, raw_blocked, AtomicBlockedBloomFilter, AtomicBloomFilter, BlockedBloomFilter,
+    BloomFilter, Error,
+};
 use fastbloom_c_sys as sys;
 use std::ffi::CString;
 use std::os::unix::ffi::OsStrExt;
@@ -18,12 +22,12 @@ unsafe impl Send for Mapping {}
 unsafe impl Sync for Mapping {}
 
 impl Mapping {
-    /// Maps a file, of at most 64 hashes.
+    /// Maps a file of this kind, of at most 64 hashes.
     ///
     /// # Safety
     /// While it is mapped nobody makes the file shorter. Nobody writes into a file that is mapped
     /// to be read. Into one that is mapped to be shared nobody writes but by atomic operations.
-    unsafe fn open(path: &Path, mode: u32) -> Result<Mapping, Error> {
+    unsafe fn open(kind: Kind, path: &Path, mode: u32) -> Result<Mapping, Error> {
         raw::check_processor();
         let path = CString::new(path.as_os_str().as_bytes()).map_err(io::Error::from)?;
         let mut filter = sys::fastbloom_filter {
@@ -32,8 +36,12 @@ impl Mapping {
             num_hashes: 0,
             key: [0; 16],
         };
+        let call = match kind {
+            Kind::Whole => sys::fastbloom_map,
+            Kind::Blocked => sys::fastbloom_blocked_map,
+        };
         // SAFETY: the path ends in a zero byte, null limits are allowed, and the filter is written.
-        let code = unsafe { sys::fastbloom_map(path.as_ptr(), mode, ptr::null(), &mut filter) };
+        let code = unsafe { call(path.as_ptr(), mode, ptr::null(), &mut filter) };
         if code == sys::FASTBLOOM_INPUT {
             return Err(io::Error::last_os_error().into());
         }
@@ -43,6 +51,16 @@ impl Mapping {
 
     fn words(&self) -> *mut u64 {
         self.0.words
+    }
+
+    /// The words of a file that is mapped to be read.
+    ///
+    /// # Safety
+    /// It is mapped so.
+    unsafe fn as_slice(&self) -> &[u64] {
+        // SAFETY: so many words are mapped, aligned, until the mapping is dropped, and by the rule
+        // of `open` nobody writes them.
+        unsafe { slice::from_raw_parts(self.words(), self.0.num_words) }
     }
 }
 
@@ -82,7 +100,8 @@ impl MappedFilter {
     /// name meanwhile, as by [`BloomFilter::save`].
     pub unsafe fn open(path: impl AsRef<Path>) -> Result<MappedFilter, Error> {
         // SAFETY: the caller keeps the same rule.
-        unsafe { Mapping::open(path.as_ref(), sys::FASTBLOOM_MAP_READ) }.map(MappedFilter)
+        let mapping = unsafe { Mapping::open(Kind::Whole, path.as_ref(), sys::FASTBLOOM_MAP_READ) };
+        mapping.map(MappedFilter)
     }
 
     /// Whether an item is contained, maybe by mistake; never false for one that was inserted.
@@ -124,9 +143,8 @@ impl MappedFilter {
     /// The words, as they lie in the file.
     #[must_use]
     pub fn as_slice(&self) -> &[u64] {
-        // SAFETY: so many words are mapped, aligned, until the mapping is dropped, and by the rule
-        // of `open` nobody writes them.
-        unsafe { slice::from_raw_parts(self.0.words(), self.0 .0.num_words) }
+        // SAFETY: `open` mapped it to be read.
+        unsafe { self.0.as_slice() }
     }
 
     /// A filter with words of its own.
@@ -151,7 +169,109 @@ impl fmt::Debug for MappedFilter {
     }
 }
 
-/// The words of a file that is mapped to be shared, for an [`AtomicBloomFilter`].
+/// A blocked filter in a file that is mapped to be read, as a [`MappedFilter`].
+///
+/// ```
+/// use fastbloom_c::{BlockedBloomFilter, MappedBlockedFilter};
+///
+/// # let path = std::env::temp_dir().join(format!("mapped_lines.{}.bloom", std::process::id()));
+/// let mut seen = BlockedBloomFilter::with_num_bits(1024)?.hashes(4);
+/// seen.insert("crab");
+/// seen.save(&path)?;
+/// // SAFETY: nobody else knows the file.
+/// let mapped = unsafe { MappedBlockedFilter::open(&path)? };
+/// assert!(mapped.contains("crab"));
+/// # std::fs::remove_file(&path)?;
+/// # Ok::<(), Box<dyn std::error::Error>>(())
+/// ```
+pub struct MappedBlockedFilter(Mapping);
+
+impl MappedBlockedFilter {
+    /// Maps the file at a path. A file with a seal is read once, whole, to compare it.
+    ///
+    /// # Errors
+    /// As [`BlockedBloomFilter::read_file`]; and [`Error::Input`] where the file can't be opened or
+    /// mapped.
+    ///
+    /// # Safety
+    /// As [`MappedFilter::open`].
+    pub unsafe fn open(path: impl AsRef<Path>) -> Result<MappedBlockedFilter, Error> {
+        // SAFETY: the caller keeps the same rule.
+        let mapping =
+            unsafe { Mapping::open(Kind::Blocked, path.as_ref(), sys::FASTBLOOM_MAP_READ) };
+        mapping.map(MappedBlockedFilter)
+    }
+
+    fn lines(&self) -> &[raw_blocked::Line] {
+        // (a mapping begins at a page, and the words 64 bytes behind)
+        raw_blocked::lines(self.as_slice())
+    }
+
+    /// Whether an item is contained, maybe by mistake; never false for one that was inserted.
+    #[must_use]
+    pub fn contains(&self, val: &(impl AsRef<[u8]> + ?Sized)) -> bool {
+        raw_blocked::contains(self.lines(), self.num_hashes(), self.key(), val.as_ref())
+    }
+
+    /// The hash of an item: SipHash-1-3 of exactly its bytes under the filter's key.
+    #[must_use]
+    pub fn source_hash(&self, val: &(impl AsRef<[u8]> + ?Sized)) -> u64 {
+        hash(self.key(), val)
+    }
+
+    /// As [`contains`](Self::contains), by the hash.
+    #[must_use]
+    pub fn contains_hash(&self, hash: u64) -> bool {
+        raw_blocked::contains_hash(self.lines(), self.num_hashes(), hash)
+    }
+
+    /// The number of hashes, which isn't 0.
+    #[must_use]
+    pub fn num_hashes(&self) -> u32 {
+        self.0 .0.num_hashes
+    }
+
+    /// The number of bits, 512 for each line.
+    #[must_use]
+    pub fn num_bits(&self) -> usize {
+        64 * self.as_slice().len()
+    }
+
+    /// The key.
+    #[must_use]
+    pub fn key(&self) -> &[u8; 16] {
+        &self.0 .0.key
+    }
+
+    /// The words, as they lie in the file, eight in a line.
+    #[must_use]
+    pub fn as_slice(&self) -> &[u64] {
+        // SAFETY: `open` mapped it to be read.
+        unsafe { self.0.as_slice() }
+    }
+
+    /// A filter with words of its own.
+    ///
+    /// # Errors
+    /// [`Error::Memory`].
+    pub fn to_filter(&self) -> Result<BlockedBloomFilter, Error> {
+        let builder = BlockedBloomFilter::from_words(self.as_slice())?;
+        let seed = u128::from_be_bytes(*self.key());
+        Ok(builder.seed(&seed).hashes(self.num_hashes()))
+    }
+}
+
+impl fmt::Debug for MappedBlockedFilter {
+    fn fmt(&self, f: &mut fmt::Formatter<'_>) -> fmt::Result {
+        f.debug_struct("MappedBlockedFilter")
+            .field("num_bits", &self.num_bits())
+            .field("num_hashes", &self.num_hashes())
+            .finish_non_exhaustive()
+    }
+}
+
+/// The words of a file that is mapped to be shared, for an [`AtomicBloomFilter`] or an
+/// [`AtomicBlockedBloomFilter`].
 pub struct MappedWords(Mapping);
 
 impl AsRef<[AtomicU64]> for MappedWords {
@@ -181,9 +301,31 @@ impl AtomicBloomFilter<MappedWords> {
     /// filters, or by the library's calls on shared words.
     pub unsafe fn map(path: impl AsRef<Path>) -> Result<AtomicBloomFilter<MappedWords>, Error> {
         // SAFETY: the caller keeps the same rule.
-        let mapping = unsafe { Mapping::open(path.as_ref(), sys::FASTBLOOM_MAP_SHARE)? };
+        let mapping =
+            unsafe { Mapping::open(Kind::Whole, path.as_ref(), sys::FASTBLOOM_MAP_SHARE)? };
         let (num_hashes, key) = (mapping.0.num_hashes, mapping.0.key);
         let filter = AtomicBloomFilter::from_words(MappedWords(mapping), num_hashes)?;
+        Ok(filter.seed(&u128::from_be_bytes(key)))
+    }
+}
+
+impl AtomicBlockedBloomFilter<MappedWords> {
+    /// Maps the file of a blocked filter without a seal, as [`AtomicBloomFilter::map`].
+    ///
+    /// # Errors
+    /// As [`BlockedBloomFilter::read_file`]; [`Error::Sealed`]; and [`Error::Input`] where the file
+    /// can't be opened or mapped.
+    ///
+    /// # Safety
+    /// As [`AtomicBloomFilter::map`].
+    pub unsafe fn map(
+        path: impl AsRef<Path>,
+    ) -> Result<AtomicBlockedBloomFilter<MappedWords>, Error> {
+        // SAFETY: the caller keeps the same rule.
+        let mapping =
+            unsafe { Mapping::open(Kind::Blocked, path.as_ref(), sys::FASTBLOOM_MAP_SHARE)? };
+        let (num_hashes, key) = (mapping.0.num_hashes, mapping.0.key);
+        let filter = AtomicBlockedBloomFilter::from_words(MappedWords(mapping), num_hashes)?;
         Ok(filter.seed(&u128::from_be_bytes(key)))
     }
 }

@@ -70,6 +70,23 @@ impl Drop for Part {
     }
 }
 
+/// Writes a file whole or not at all: a new one beside the one at the path, which then takes its
+/// place.
+pub(crate) fn save(path: &Path, write: impl FnOnce(&mut File) -> io::Result<()>) -> io::Result<()> {
+    let before = match fs::metadata(path) {
+        Ok(before) => Some(before),
+        Err(error) if error.kind() == io::ErrorKind::NotFound => None,
+        Err(error) => return Err(error),
+    };
+    let mut part = Part::create(path, before.as_ref())?;
+    write(&mut part.file)?;
+    if let Some(before) = &before {
+        part.give_rights(before)?;
+    }
+    part.file.sync_all()?;
+    part.place(path)
+}
+
 impl BloomFilter {
     /// Writes the file of this filter, sealed, whole or not at all: a new file beside the one at the
     /// path, which then takes its place, and has its owner and mode.
@@ -87,19 +104,7 @@ impl BloomFilter {
     /// # Errors
     /// That of the file system. What was at the path is then still there.
     pub fn save(&self, path: impl AsRef<Path>) -> io::Result<()> {
-        let path = path.as_ref();
-        let before = match fs::metadata(path) {
-            Ok(before) => Some(before),
-            Err(error) if error.kind() == io::ErrorKind::NotFound => None,
-            Err(error) => return Err(error),
-        };
-        let mut part = Part::create(path, before.as_ref())?;
-        self.write_file(&mut part.file)?;
-        if let Some(before) = &before {
-            part.give_rights(before)?;
-        }
-        part.file.sync_all()?;
-        part.place(path)
+        save(path.as_ref(), |file| self.write_file(file))
     }
 
     /// Reads the file at a path, as [`read_file`](Self::read_file).

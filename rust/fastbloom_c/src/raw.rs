@@ -21,6 +21,15 @@ pub type HeadBytes = [u8; 64];
 /// A hash of pieces.
 pub use sys::fastbloom_hasher as Hashing;
 
+/// Which kind of filters a file is of.
+#[derive(Clone, Copy)]
+pub enum Kind {
+    /// All words are one set of positions.
+    Whole,
+    /// Eight words are a line.
+    Blocked,
+}
+
 /// What a head tells of a filter, and the seal of its file.
 #[derive(Default)]
 pub struct Head {
@@ -338,17 +347,25 @@ pub fn jaccard(words: &[u64], other: &[u64], num_hashes: u32) -> Option<(u64, u6
 }
 
 /// The seal of the file of these words.
-pub fn seal(words: &[u64], num_hashes: u32, key: &Key) -> u64 {
+pub fn seal(kind: Kind, words: &[u64], num_hashes: u32, key: &Key) -> u64 {
+    let call = match kind {
+        Kind::Whole => sys::fastbloom_seal,
+        Kind::Blocked => sys::fastbloom_blocked_seal,
+    };
     // SAFETY: the key has sixteen bytes, and the words are a slice of this length.
-    unsafe { sys::fastbloom_seal(words.as_ptr(), words.len(), num_hashes, key.as_ptr()) }
+    unsafe { call(words.as_ptr(), words.len(), num_hashes, key.as_ptr()) }
 }
 
 /// The head of a file.
-pub fn write_head(head: &Head) -> Result<HeadBytes, Error> {
+pub fn write_head(kind: Kind, head: &Head) -> Result<HeadBytes, Error> {
     let mut bytes = [0; 64];
+    let call = match kind {
+        Kind::Whole => sys::fastbloom_head_write,
+        Kind::Blocked => sys::fastbloom_blocked_head_write,
+    };
     // SAFETY: the key has sixteen bytes, and the local that the call writes has 64.
     Error::check(unsafe {
-        sys::fastbloom_head_write(
+        call(
             head.num_words,
             head.num_hashes,
             head.key.as_ptr(),
@@ -360,13 +377,17 @@ pub fn write_head(head: &Head) -> Result<HeadBytes, Error> {
 }
 
 /// What the head of a file tells.
-pub fn read_head(bytes: &HeadBytes) -> Result<Head, Error> {
+pub fn read_head(kind: Kind, bytes: &HeadBytes) -> Result<Head, Error> {
     check_processor();
     let mut head = Head::default();
+    let call = match kind {
+        Kind::Whole => sys::fastbloom_head_read,
+        Kind::Blocked => sys::fastbloom_blocked_head_read,
+    };
     // SAFETY: the head has 64 bytes. The call writes four fields of a local, of the types that it
     // wants, which lie apart.
     Error::check(unsafe {
-        sys::fastbloom_head_read(
+        call(
             bytes.as_ptr(),
             &mut head.num_words,
             &mut head.num_hashes,

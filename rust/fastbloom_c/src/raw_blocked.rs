@@ -47,6 +47,14 @@ pub fn words(lines: &[Line]) -> &[u64] {
     unsafe { std::slice::from_raw_parts(lines.as_ptr().cast(), LINE * lines.len()) }
 }
 
+/// The lines of words that begin where a line of the cache does.
+pub fn lines(words: &[u64]) -> &[Line] {
+    // SAFETY: a line is eight words and no more, and any words are one.
+    let (before, lines, behind) = unsafe { words.align_to() };
+    assert!(before.is_empty() && behind.is_empty(), "whole lines");
+    lines
+}
+
 /// The words of lines, to be written.
 pub fn words_mut(lines: &mut [Line]) -> &mut [u64] {
     // SAFETY: as above; the lines are borrowed for writing.

@@ -48,7 +48,7 @@ fn a_size_that_has_no_room_is_refused() {
     assert_eq!(refused, Err(Error::Memory));
 }
 
-fn all() -> [(Error, Option<u8>, &'static str); 18] {
+fn all() -> [(Error, Option<u8>, &'static str); 19] {
     [
         (Error::ZeroBits, Some(1), "zero bits"),
         (Error::EmptyWords, Some(2), "no words"),
@@ -71,6 +71,11 @@ fn all() -> [(Error, Option<u8>, &'static str); 18] {
         ),
         (Error::Reserved, Some(13), "a reserved byte isn't zero"),
         (Error::Blocked, Some(17), "the file has a blocked filter"),
+        (
+            Error::NotBlocked,
+            Some(18),
+            "the file's filter isn't blocked",
+        ),
         (
             Error::Seal,
             Some(14),
@@ -110,7 +115,7 @@ fn each_is_another_one() {
         let equal = errors().enumerate().filter(|(_, other)| *other == error);
         assert_eq!(equal.map(|(at, _)| at).collect::<Vec<_>>(), [place]);
     }
-    assert_eq!(errors().chain(errors()).collect::<HashSet<_>>().len(), 18);
+    assert_eq!(errors().chain(errors()).collect::<HashSet<_>>().len(), 19);
 }
 
 #[test]

@@ -5,7 +5,7 @@ ghost use Rattle.bloom_parts.specs.Hashed.{Hashed};
 ghost use Rattle.bloom_parts.specs.Sip.{sip};
 ghost use Rattle.bloom_plain.specs.declared.file.layout.Layout.{Layout as ALayout};
 ghost use Rattle.bloom_plain.specs.File.{bytes_of, head_numbers, seal_of};
-ghost use Rattle.bloom_plain.specs.FileLayouts.{layout_refusal, lines_refusal, numbers_in, right_seal, right_seal_in, sealed_bytes};
+ghost use Rattle.bloom_plain.specs.FileLayouts.{head_refusal_in, layout_refusal, lines_refusal, numbers_in, right_seal, right_seal_in, sealed_bytes};
 ghost use Rattle.bloom_plain.specs.FileRefusals.{has_layout, head_refusal, whole_head_refusal, reserved_refusal, head_in, number_at, has_number, is_hash_count, wrong_seal};
 
 use super::error::FileError;
@@ -34,8 +34,8 @@ pub(super) const HEAD: usize = 64;
 // The number of the bytes `fbloom`, 0 and `1`.
 const MARK: u64 = 0x3100_6d6f_6f6c_6266;
 
-// The 64 bytes of a head with a layout and a seal.
-pub(super) fn head_bytes_in(layout: Layout, head: &Head, seal: u64) -> [u8; 64]
+/// The 64 bytes of a head with a seal, of words that lie so.
+pub fn head_bytes_in(layout: Layout, head: &Head, seal: u64) -> [u8; 64]
     ensures { result ≡ bytes_of (numbers_in layout head.now seal) }
 {
     let numbers = [
@@ -76,8 +76,9 @@ pub(super) fn begin_seal(layout: Layout, head: &[u8]) -> RandomDefaultHasher
     }
 }
 
-// The right seal of a head and words.
-pub(super) fn right_seal(layout: Layout, head: &Head, words: &[u64]) -> u64
+/// The seal of a head and words that lie so: SipHash-1-3 of the first forty bytes of the head, of
+/// lines also those of the layout, and of the words, under the key of zeros.
+pub fn right_seal(layout: Layout, head: &Head, words: &[u64]) -> u64
     ensures { result ≡ right_seal layout head.now words.now }
 {
     let bytes = head_bytes_in(layout, head, 0);
@@ -213,6 +214,21 @@ pub(super) fn check_layout(layout: Layout, bytes: &[u8]) -> Result<(), FileError
     }
 }
 
+/// What the head of a file says whose words lie so, and its seal, which is 0 where it has none.
+///
+/// # Errors
+/// `NotAFilter`, `Version`, `HashCount`, `EmptyWords`, `TooManyWords` and `Reserved`; `Blocked`
+/// where no lines are read, and `NotBlocked` and `PartOfALine` where lines are.
+pub fn read_head_in(layout: Layout, bytes: &[u8; 64]) -> Result<(Head, u64), FileError>
+    ensures head { IfOk result (λ read. read.0 ≡ head_in bytes.now) }
+    ensures seal { IfOk result (λ read. read.1 ≡ number_at bytes.now 5) }
+    ensures refused { result_err result ≡ head_refusal_in layout bytes.now }
+{
+    check_head(bytes)?;
+    check_layout(layout, bytes)?;
+    Ok((head_in(bytes), number_at(bytes, 5)))
+}
+
 /// What the head of a file says whose filter isn't blocked, and its seal, which is 0 where it has
 /// none.
 ///
@@ -223,7 +239,5 @@ pub fn read_head(bytes: &[u8; 64]) -> Result<(Head, u64), FileError>
     ensures seal { IfOk result (λ read. read.1 ≡ number_at bytes.now 5) }
     ensures refused { result_err result ≡ whole_head_refusal bytes.now }
 {
-    check_head(bytes)?;
-    check_reserved(bytes)?;
-    Ok((head_in(bytes), number_at(bytes, 5)))
+    read_head_in(Layout::Whole, bytes)
 }

@@ -1,0 +1,114 @@
+//! Files of blocked filters, whose heads say that their words are lines.
+
+use crate::in_file::{self, InFile, MAX_HASHES};
+use crate::paths::save;
+use crate::raw::{Head, Key, Kind};
+use crate::raw_blocked::Line;
+use crate::{BlockedBloomFilter, Error};
+use std::fs::File;
+use std::io::{self, Read, Write};
+use std::path::Path;
+
+impl InFile for BlockedBloomFilter {
+    const KIND: Kind = Kind::Blocked;
+
+    type Unit = Line;
+
+    fn of(head: &Head, lines: Vec<Line>) -> BlockedBloomFilter {
+        BlockedBloomFilter {
+            lines,
+            num_hashes: head.num_hashes,
+            key: head.key,
+        }
+    }
+
+    fn parts(&self) -> (&[u64], u32, &Key) {
+        (self.as_slice(), self.num_hashes, &self.key)
+    }
+}
+
+impl BlockedBloomFilter {
+    /// The head of this filter's file, as [`BloomFilter::head`](crate::BloomFilter::head).
+    #[must_use]
+    pub fn head(&self, sealed: bool) -> [u8; 64] {
+        in_file::head(self, sealed)
+    }
+
+    /// The bytes of this filter's file, sealed. The file has the key.
+    ///
+    /// ```
+    /// # use fastbloom_c::{BlockedBloomFilter, BloomFilter, Error};
+    /// let seen = BlockedBloomFilter::with_num_bits(512)?.items(["crab"]);
+    /// assert_eq!(BlockedBloomFilter::from_bytes(&seen.to_bytes())?, seen);
+    /// assert_eq!(BloomFilter::from_bytes(&seen.to_bytes()), Err(Error::Blocked));
+    /// # Ok::<(), Error>(())
+    /// ```
+    #[must_use]
+    pub fn to_bytes(&self) -> Vec<u8> {
+        in_file::to_bytes(self)
+    }
+
+    /// The filter of a file's bytes, which has at most 64 hashes.
+    ///
+    /// # Errors
+    /// As [`BloomFilter::from_bytes`](crate::BloomFilter::from_bytes); but [`Error::NotBlocked`]
+    /// where the filter isn't blocked, and then [`Error::PartOfALine`].
+    pub fn from_bytes(bytes: &[u8]) -> Result<BlockedBloomFilter, Error> {
+        in_file::from_bytes(bytes, MAX_HASHES)
+    }
+
+    /// As [`from_bytes`](Self::from_bytes), with at most this many hashes.
+    ///
+    /// # Errors
+    /// As [`from_bytes`](Self::from_bytes).
+    pub fn from_bytes_with_hashes(
+        bytes: &[u8],
+        max_hashes: u32,
+    ) -> Result<BlockedBloomFilter, Error> {
+        in_file::from_bytes(bytes, max_hashes)
+    }
+
+    /// Writes the file of this filter, sealed.
+    ///
+    /// # Errors
+    /// That of a write that failed.
+    pub fn write_file(&self, output: &mut impl Write) -> io::Result<()> {
+        in_file::write(self, output)
+    }
+
+    /// Reads a file to its end, which has at most 64 hashes. Memory is asked for as words come.
+    ///
+    /// # Errors
+    /// As [`from_bytes`](Self::from_bytes), but [`Error::Memory`] may come before [`Error::Cut`]
+    /// and what is told after it; and [`Error::Input`] where a read failed.
+    pub fn read_file(input: &mut impl Read) -> Result<BlockedBloomFilter, Error> {
+        in_file::read(input)
+    }
+
+    /// Writes the file of this filter, sealed, whole or not at all, as
+    /// [`BloomFilter::save`](crate::BloomFilter::save).
+    ///
+    /// ```
+    /// # use fastbloom_c::BlockedBloomFilter;
+    /// # let path = std::env::temp_dir().join(format!("lines.{}.bloom", std::process::id()));
+    /// let seen = BlockedBloomFilter::with_num_bits(1024)?.hashes(4);
+    /// seen.save(&path)?;
+    /// assert_eq!(BlockedBloomFilter::load(&path)?, seen);
+    /// # std::fs::remove_file(&path)?;
+    /// # Ok::<(), Box<dyn std::error::Error>>(())
+    /// ```
+    ///
+    /// # Errors
+    /// That of the file system. What was at the path is then still there.
+    pub fn save(&self, path: impl AsRef<Path>) -> io::Result<()> {
+        save(path.as_ref(), |file| self.write_file(file))
+    }
+
+    /// Reads the file at a path, as [`read_file`](Self::read_file).
+    ///
+    /// # Errors
+    /// As `read_file`; and [`Error::Input`] where the file can't be opened.
+    pub fn load(path: impl AsRef<Path>) -> Result<BlockedBloomFilter, Error> {
+        BlockedBloomFilter::read_file(&mut File::open(path)?)
+    }
+}
