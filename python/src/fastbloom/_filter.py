@@ -127,8 +127,8 @@ def _read_head(head: bytes) -> Tuple[int, int, bytes, int]:
 
 def _check_file(head: bytes, size: int, max_hashes: Optional[int]) -> Tuple[int, int, bytes, int]:
     """What the first 64 bytes of a file of this size tell, if the file isn't refused for them."""
-    # Where the head is cut, good numbers stand for those that it lacks. The last two, which must be
-    # zero, are read after the size.
+    # Where the head is truncated, good numbers stand for those that it lacks. The last two, which
+    # must be zero, are read after the size.
     good = struct.pack("<8Q", 0, 1, 1, 0, 0, 0, 0, 0)
     there = min(len(head) // 8 * 8, 48)
     wanted = _HEAD + 8 * _read_head(head[:there] + good[there:])[0]
@@ -250,14 +250,17 @@ class Filter:
 
     @alone
     def add(self, item: Item) -> bool:
-        """Adds an item, and answers whether it was contained, maybe by mistake."""
+        """Adds an item, and returns whether it was contained before.
+
+        True may be a false positive.
+        """
         data = bytes_of(item)
         return library.insert(
             self._at, self._num_words, self._num_hashes, self._key, data, len(data))
 
     @alone
     def __contains__(self, item: Item) -> bool:
-        """Whether an item is contained, maybe by mistake. False: it was never added."""
+        """Whether an item is contained. False: it was never added. True may be a false positive."""
         data = bytes_of(item)
         return library.contains(
             self._at, self._num_words, self._num_hashes, self._key, data, len(data))
@@ -347,7 +350,7 @@ class Filter:
 
     @alone
     def count_ones(self) -> int:
-        """How many of its bits are on."""
+        """How many of its bits are set."""
         return library.count_ones(self._at, self._num_words)
 
     def expected_rate(self, items: int) -> Tuple[Fraction, Fraction]:
@@ -382,8 +385,8 @@ class Filter:
     def exact_false_positive_rate(self) -> Tuple[Fraction, Fraction]:
         """Two bounds of the rate of false positives of the filter as it is.
 
-        It is the part of all look-ups, where each position is drawn alike, that it answers with
-        True. The bounds are proved, and are fractions of 2^63.
+        It is the part of all look-ups, where each position is drawn alike, that return True. The
+        bounds are proved, and are fractions of 2^63.
         """
         low, high = ctypes.c_uint64(), ctypes.c_uint64()
         library.rate_now(self._at, self._num_words, self._num_hashes, low, high)
@@ -395,10 +398,10 @@ class Filter:
 
     @alone
     def estimate(self) -> Estimate:
-        """Two bounds of the number of items in it. The upper one is None where all bits are on.
+        """Two bounds of the number of items in it. The upper one is None where all bits are set.
 
-        It is the number of items at which as many bits are expected to be on. Nothing is claimed of
-        how far the number of items that were added may lie from it. The bounds are proved.
+        It is the number of items at which as many bits are expected to be set. Nothing is claimed
+        of how far the number of items that were added may lie from it. The bounds are proved.
         """
         low, high = ctypes.c_size_t(), ctypes.c_size_t()
         library.estimate(self._at, self._num_words, self._num_hashes, low, high)
@@ -698,8 +701,8 @@ class Filter:
 
         A file that is `mapped` is read as its words are needed, and processes share its pages; but
         one with a seal is read whole, to check it. What this process adds stays its own. The file
-        isn't to be cut or written while it is mapped, as by `cp`: the filter would lose members, or
-        the process end by a signal. `save` puts a new file in its place.
+        isn't to be truncated or written while it is mapped, as by `cp`: the filter would lose
+        members, or the process end by a signal. `save` replaces it by a new file.
         """
         with open(path, "rb") as file:
             head, size = file.read(_HEAD), os.fstat(file.fileno()).st_size
