@@ -42,7 +42,7 @@ pub struct BloomFilter {
 }
 
 impl BloomFilter {
-    /// Inserts an item, and answers whether it was contained, maybe by mistake.
+    /// Inserts an item, and returns whether it was contained before, which may be a false positive.
     ///
     /// ```
     /// # use fastbloom_c::BloomFilter;
@@ -55,7 +55,7 @@ impl BloomFilter {
         raw::insert(&mut self.words, self.num_hashes, &self.key, val.as_ref())
     }
 
-    /// Whether an item is contained, maybe by mistake. False: it was never inserted.
+    /// Whether an item is contained. False: it was never inserted. True may be a false positive.
     ///
     /// ```
     /// # use fastbloom_c::BloomFilter;
@@ -288,7 +288,7 @@ impl BloomFilter {
     }
 
     /// Two bounds of the rate of false positives of the filter as it is: the part of all look-ups,
-    /// where each position is drawn alike, that it answers with true.
+    /// where each position is drawn alike, that return true.
     ///
     /// ```
     /// # use fastbloom_c::BloomFilter;

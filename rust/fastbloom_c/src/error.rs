@@ -94,7 +94,7 @@ impl Error {
         })
     }
 
-    /// What a number says that a call of the library answers.
+    /// What a number says that a call of the library returns.
     pub(crate) fn check(code: u8) -> Result<(), Error> {
         Err(match code {
             fastbloom_c_sys::FASTBLOOM_OK => return Ok(()),
@@ -113,7 +113,7 @@ impl Error {
             fastbloom_c_sys::FASTBLOOM_SEALED => Error::Sealed,
             fastbloom_c_sys::FASTBLOOM_TOO_MANY_HASHES => Error::TooManyHashes,
             fastbloom_c_sys::FASTBLOOM_BLOCKED => Error::Blocked,
-            _ => unreachable!("the library answers no other number"),
+            _ => unreachable!("the library returns no other number"),
         })
     }
 }
