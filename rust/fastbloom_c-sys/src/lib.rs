@@ -678,7 +678,6 @@ extern "C" {
     pub fn fastbloom_unmap(filter: *mut fastbloom_filter);
 
     /// Writes a file, whole or not at all, with a seal or without one. It returns
-####
     /// [`FASTBLOOM_OK`]; or [`FASTBLOOM_EMPTY_WORDS`], [`FASTBLOOM_TOO_MANY_WORDS`],
     /// [`FASTBLOOM_MEMORY`] or [`FASTBLOOM_OUTPUT`], and then the old file is as it was.
     #[must_use]
