@@ -192,7 +192,7 @@ private:
 class shared_filter;
 class mapped_filter;
 
-// A set of byte strings that never misses a member, and now and then takes something else for one.
+// A set of byte strings with no false negatives, and with false positives at a chosen rate.
 class filter {
 public:
     // No words: it contains nothing.

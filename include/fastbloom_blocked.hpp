@@ -26,7 +26,7 @@ namespace fastbloom {
 
 class shared_blocked_filter;
 
-// A set of byte strings that never misses a member, and now and then takes something else for one.
+// A set of byte strings with no false negatives, and with false positives at a chosen rate.
 class blocked_filter {
 public:
     // No words: it contains nothing.

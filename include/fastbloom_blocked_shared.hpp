@@ -22,8 +22,8 @@
 
 namespace fastbloom {
 
-// A set of byte strings that threads share. It never misses a member, and now and then takes
-// something else for one.
+// A set of byte strings that threads share, with no false negatives, and with false positives at a
+// chosen rate.
 class shared_blocked_filter {
 public:
     // No words: it contains nothing.

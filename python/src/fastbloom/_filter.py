@@ -181,7 +181,7 @@ def _add_attributes(made: Filter, added: Tuple[Dict[str, Any], Dict[str, Any]]) 
 
 
 class Filter:
-    """A set of texts or bytes that never misses a member, and may take something else for one.
+    """A set of texts or bytes with no false negatives, and with false positives at a chosen rate.
 
     Items are `str`, which count as their UTF-8 bytes, and bytes-like objects. Everything else
     raises TypeError, and a `str` that has no UTF-8 raises UnicodeEncodeError. Threads may call one

@@ -17,8 +17,7 @@ pub fn hash(key: &[u8; 16], val: &(impl AsRef<[u8]> + ?Sized)) -> u64 {
     raw::hash(key, val.as_ref())
 }
 
-/// A set of texts and bytes that never misses a member, and now and then takes something else for
-/// one.
+/// A set of texts and bytes with no false negatives, and with false positives at a chosen rate.
 ///
 /// It has at least one word. Filters are equal where their words, their numbers of hashes and their
 /// keys are. `Debug` doesn't show the key.
