@@ -62,7 +62,7 @@ extern "C" {
 #endif
 
 /* Status codes. FASTBLOOM_OK is success, and each other number is the reason for a refusal. The
- * proved calls return 2 to 5, 7, 9, 10, 13 and 17, and those on files 2, 3, 6, 7, 9 to 15, 17 and
+ * proved calls answer 2 to 5, 7, 9, 10, 13 and 17, and those on files 2, 3, 6, 7, 9 to 15, 17 and
  * 252, 253 and 255. The other numbers are those of the Rattle library. */
 enum fastbloom_status {
     FASTBLOOM_OK = 0,

@@ -1,8 +1,8 @@
 /* The calls of the library on files: `files FOLDER` works in an empty folder.
  *
- * Files are written, read and mapped, and those with faults are refused: a file that is truncated
- * to each length or goes on, a folder, a pipe, a link, no file, no room, no right to read or write,
- * and limits. The reasons are those of docs/FILE.md. */
+ * Files are written, read and mapped, and those with faults are refused: a file that is cut at each
+ * length or goes on, a folder, a pipe, a link, no file, no room, no right to read or write, and
+ * limits. The reasons are those of docs/FILE.md. */
 #define _DEFAULT_SOURCE
 #include "fastbloom.h"
 
@@ -60,7 +60,7 @@ static bool is_this(const fastbloom_filter *read) {
            memcmp(read->words, words, sizeof words) == 0;
 }
 
-/* A load, and each way to map a file, return this, and then there are no words. */
+/* A load, and each way to map a file, answer this, and then there are no words. */
 static void refuses(const char *path, const fastbloom_limits *limits, uint8_t code) {
     fastbloom_filter read = filter;
     CHECK(fastbloom_load(path, limits, &read) == code);
@@ -120,7 +120,7 @@ static void shared(const char *path) {
     fastbloom_unload(&read);
 }
 
-/* Files that are truncated to each length, go on, or have a byte changed. */
+/* Files that are cut at each length, go on, or have a byte changed. */
 static void faults(const char *path) {
     enum { SIZE = 64 + 8 * WORDS };
     uint8_t bytes[SIZE + 2], changed[SIZE + 2] = {0};

@@ -1,7 +1,7 @@
 // Blocked filters by the classes of C++: `blocked` makes the sessions that bin/blocked-model tells
-// of, and prints the number of each, in which all results and words are folded. The class of
-// filters that threads share gets the same by one thread. Then it tries what the classes add to the
-// calls of C.
+// of, and prints the number of each, in which all answers and words are folded. The class of filters
+// that threads share gets the same by one thread. Then it tries what the classes add to the calls of
+// C.
 #include "fastbloom_blocked_shared.hpp"
 
 #include <cinttypes>

@@ -127,8 +127,8 @@ def _read_head(head: bytes) -> Tuple[int, int, bytes, int]:
 
 def _check_file(head: bytes, size: int, max_hashes: Optional[int]) -> Tuple[int, int, bytes, int]:
     """What the first 64 bytes of a file of this size tell, if the file isn't refused for them."""
-    # Where the head is truncated, good numbers stand for those that it lacks. The last two, which
-    # must be zero, are read after the size.
+    # Where the head is cut, good numbers stand for those that it lacks. The last two, which must be
+    # zero, are read after the size.
     good = struct.pack("<8Q", 0, 1, 1, 0, 0, 0, 0, 0)
     there = min(len(head) // 8 * 8, 48)
     wanted = _HEAD + 8 * _read_head(head[:there] + good[there:])[0]
