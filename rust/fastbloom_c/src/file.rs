@@ -179,8 +179,8 @@ impl BloomFilter {
         output.write_all(&self.head(true))?;
         let mut buffer = [0; 8 * AT_ONCE];
         for words in self.words.chunks(AT_ONCE) {
-            for (bytes, word) in buffer.chunks_exact_mut(8).zip(words) {
-                bytes.copy_from_slice(&word.to_le_bytes());
+            for (place, word) in buffer.chunks_exact_mut(8).zip(words) {
+                place.copy_from_slice(&word.to_le_bytes());
             }
             output.write_all(&buffer[..8 * words.len()])?;
         }

@@ -9,7 +9,7 @@ pub(crate) type Bits = [u64; AT_ONCE / 64];
 
 /// Puts the first bits, as many as told, behind the others.
 pub(crate) fn push_bits(told: &mut Vec<bool>, bits: &Bits, count: usize) {
-    told.extend((0..count).map(|bit| bits[bit / 64] >> (bit % 64) & 1 == 1));
+    told.extend((0..count).map(|place| bits[place / 64] >> (place % 64) & 1 == 1));
 }
 
 /// Hashes that aren't inserted yet. They are when it is dropped, as by a panic.
