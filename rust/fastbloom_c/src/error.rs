@@ -113,7 +113,7 @@ impl Error {
             fastbloom_c_sys::FASTBLOOM_SEALED => Error::Sealed,
             fastbloom_c_sys::FASTBLOOM_TOO_MANY_HASHES => Error::TooManyHashes,
             fastbloom_c_sys::FASTBLOOM_BLOCKED => Error::Blocked,
-            _ => unreachable!("the library returns no other number"),
+            _ => unreachable!("the library answers no other number"),
         })
     }
 }

@@ -11,7 +11,7 @@ const MAX_HASHES: u32 = 64;
 /// The part of a head that is read before the words. Then come sixteen bytes that must be zero.
 const NUMBERS: usize = 48;
 
-/// Reads until the buffer is full or the input ends, and returns how many bytes there were.
+/// Reads until the buffer is full or the input ends, and answers how many bytes there were.
 fn fill(input: &mut impl Read, buffer: &mut [u8]) -> Result<usize, Error> {
     let mut there = 0;
     while there < buffer.len() {
@@ -27,7 +27,7 @@ fn fill(input: &mut impl Read, buffer: &mut [u8]) -> Result<usize, Error> {
 
 /// The number of words that a head tells, of which this many bytes are there.
 fn num_words_of(bytes: &HeadBytes, there: usize) -> Result<usize, Error> {
-    // Where the head is truncated, good numbers stand for those that it lacks.
+    // Where the head is cut, good numbers stand for those that it lacks.
     let mut good = [0; 64];
     (good[8], good[16]) = (1, 1);
     let whole = there.min(NUMBERS) / 8 * 8;
