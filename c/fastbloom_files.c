@@ -300,8 +300,8 @@ static bool give_rights(int file, const struct statx *old) {
     return fchmod(file, mode) == 0;
 }
 
-/* Flushes the folder of a file, whose path is cut to it. So the file's new name outlasts a power
- * cut. */
+/* Flushes the folder of a file, to which the path is shortened. So the file's new name outlasts a
+ * loss of power. */
 static bool flush_folder(char *path) {
     char *slash = strrchr(path, '/');
     if (slash != NULL) slash[slash == path ? 1 : 0] = '\0';

@@ -6,19 +6,23 @@
  * zeros is the empty filter. No call allocates memory, waits, or keeps a pointer, but for those on
  * files at the end. A call fails only as it says here.
  *
- * No words are no filter: each call that answers a bool answers false for them, and changes
+ * No words are no filter: each call that returns a bool returns false for them, and changes
  * nothing. Those that hand out two bounds set both to 0.
  *
+ * The number of hashes and the key belong to the words. Under another key, or with more hashes,
+ * what was inserted isn't found.
+ *
  * The caller must keep these rules, which nothing checks:
- *  - pointers aren't NULL, but for one whose length is 0: the last part of this header puts another
- *    in its place. They are aligned: words, hashes, found, fresh, hasher, seal, low and high to 8,
- *    num_words to the alignment of size_t, num_hashes to 4;
+ *  - pointers aren't NULL, but for one whose length is 0: the last part of this header hands over
+ *    another instead. They are aligned: words, hashes, found, fresh, hasher, seal, low and high to
+ *    8, num_words to the alignment of size_t, num_hashes to 4;
  *  - each pointer is to memory of the length that is given, at most 2^63 - 1 bytes. This memory
- *    stays in its place while the call runs;
+ *    stays where it is while the call runs. If it is a mapped file, nobody makes the file shorter
+ *    meanwhile;
  *  - memory that a call may write (a parameter that isn't const) overlaps with nothing else that
- *    the call is given;
+ *    the call is given: fastbloom_union(words, n, words, n) is wrong;
  *  - while a call runs that may write words, no other thread or process touches them. While a call
- *    runs that reads words, none writes them. Calls that read may run at once. The calls whose names
+ *    runs that reads words, none writes them. Calls that read may run at once. Calls whose names
  *    begin with fastbloom_shared_ or fastbloom_blocked_shared_ have a rule of their own instead,
  *    which stands beside the first of them.
  *
@@ -40,7 +44,7 @@
 #define FASTBLOOM_VERSION_MINOR 17
 #define FASTBLOOM_VERSION_PATCH 0
 
-/* Marks a call whose answer must be looked at. It is empty where the compiler has no such mark. */
+/* Marks a call whose result must be looked at. It is empty where the compiler has no such mark. */
 #ifndef FASTBLOOM_MUST_USE
 #if defined(__cplusplus) && __cplusplus >= 201703L
 #define FASTBLOOM_MUST_USE [[nodiscard]]
@@ -96,10 +100,10 @@ const char *fastbloom_version(void);
 const char *fastbloom_strerror(uint8_t code);
 
 /* The numbers of words and of hashes for this many items, where 0 counts as 1, at the rate
- * num / den of false positives. It answers FASTBLOOM_OK; or FASTBLOOM_ZERO_RATE,
+ * num / den of false positives. It returns FASTBLOOM_OK; or FASTBLOOM_ZERO_RATE,
  * FASTBLOOM_SIZE_OVERFLOW or FASTBLOOM_TOO_MANY_WORDS, and then both numbers are 0, so that a
  * caller who doesn't look has no words, which are no filter. A rate of 1 or above is taken, as the
- * Rust crate takes it, and gives the smallest filter: see that num < den where a user chooses it. */
+ * Rust crate does, and gives the smallest filter: see that num < den where a user chooses it. */
 FASTBLOOM_MUST_USE uint8_t fastbloom_plan(uint64_t num, uint64_t den, size_t items,
                                           size_t *num_words, uint32_t *num_hashes);
 
@@ -108,7 +112,7 @@ size_t fastbloom_num_bits(size_t num_words);
 
 /* Two bounds of the rate of false positives to expect once this many items are in the filter, as
  * fractions of 2^63: the first by the classical formula, which is a little below the mean rate, and
- * the second of that mean rate itself. They answer FASTBLOOM_OK; or FASTBLOOM_EMPTY_WORDS or
+ * the second of that mean rate itself. They return FASTBLOOM_OK; or FASTBLOOM_EMPTY_WORDS or
  * FASTBLOOM_TOO_MANY_WORDS, and then the bounds are 0 and 2^63. */
 FASTBLOOM_MUST_USE uint8_t fastbloom_expected_rate(size_t num_words, uint32_t num_hashes,
                                                    size_t items, uint64_t *low, uint64_t *high);
@@ -121,9 +125,9 @@ uint64_t fastbloom_hash(const uint8_t key[16], const uint8_t *bytes, size_t len)
 
 /* The hashes of many items by one call, for the calls on many hashes. The bytes of the items lie
  * one behind the other, and item i is those from offsets[i] up to offsets[i + 1]. So there is one
- * offset more than there are hashes, but for no item there may be none. It answers true. Where the
- * numbers differ otherwise, or an offset is less than the one before it or more than len, it
- * answers false and writes nothing. */
+ * offset more than there are hashes, but for no item there may be none. This is how Apache Arrow
+ * lays out a large binary array. It returns true. Where the numbers differ otherwise, or an offset
+ * is less than the one before it or more than len, it returns false and writes nothing. */
 FASTBLOOM_MUST_USE bool fastbloom_hash_items(const uint8_t key[16], const uint8_t *bytes,
                                              size_t len, const uint64_t *offsets,
                                              size_t num_offsets, uint64_t *hashes, size_t count);
@@ -134,33 +138,33 @@ typedef struct fastbloom_hasher {
     uint64_t words[8];
 } fastbloom_hasher;
 
-/* The first begins with no bytes, and the second takes in a piece. The third answers the hash of
+/* The first begins with no bytes, and the second takes in a piece. The third returns the hash of
  * all pieces so far, one behind the other, as fastbloom_hash does. More pieces may follow. The last
  * two take any struct, but one that wasn't begun has a hash of no meaning. */
 void fastbloom_hasher_init(fastbloom_hasher *hasher, const uint8_t key[16]);
 void fastbloom_hasher_update(fastbloom_hasher *hasher, const uint8_t *bytes, size_t len);
 uint64_t fastbloom_hasher_finish(const fastbloom_hasher *hasher);
 
-/* Turns on all positions of a hash, and answers whether all were on just before. */
+/* Sets all positions of a hash, and returns whether all were set just before. */
 bool fastbloom_insert_hash(uint64_t *words, size_t num_words, uint32_t num_hashes, uint64_t hash);
 
-/* Turns on all positions of each of count hashes, and answers true. One call for many hashes costs
- * less than a call for each. Where the words are larger than a cache, sixteen hashes are looked up
+/* Sets all positions of each of count hashes, and returns true. One call for many hashes costs less
+ * than a call for each. Where the words are larger than a cache, sixteen hashes are looked up
  * together. */
 bool fastbloom_insert_hashes(uint64_t *words, size_t num_words, uint32_t num_hashes,
                              const uint64_t *hashes, size_t count);
 
-/* Whether all positions of a hash are on: false means that it was never inserted. */
+/* Whether all positions of a hash are set: false means that it was never inserted. */
 bool fastbloom_contains_hash(const uint64_t *words, size_t num_words, uint32_t num_hashes,
                              uint64_t hash);
 
 /* Many hashes at once, with a bit for each in words that the caller owns: bit i % 64, from the
- * lowest one, of word i / 64 is that of hashes[i]. Both answer true. Where there are no words, or
- * more hashes than bits, they answer false and change nothing. Otherwise each bit past the hashes
- * goes off.
+ * lowest one, of word i / 64 is that of hashes[i]. Both return true. Where there are no words, or
+ * more hashes than bits, they return false and change nothing. Otherwise each bit past the hashes
+ * is cleared.
  *
- * The first looks them up: a bit is on where all positions of its hash are on. The second inserts
- * them, one after the other: a bit is on where not all positions of its hash were on just before
+ * The first looks them up: a bit is set where all positions of its hash are set. The second inserts
+ * them, one after the other: a bit is set where not all positions of its hash were set just before
  * its insert. So a hash that comes twice is new once at most. */
 FASTBLOOM_MUST_USE bool fastbloom_contains_hashes(const uint64_t *words, size_t num_words,
                                                   uint32_t num_hashes, const uint64_t *hashes,
@@ -177,13 +181,13 @@ bool fastbloom_insert(uint64_t *words, size_t num_words, uint32_t num_hashes,
 bool fastbloom_contains(const uint64_t *words, size_t num_words, uint32_t num_hashes,
                         const uint8_t key[16], const uint8_t *bytes, size_t len);
 
-/* Turns every position off. */
+/* Clears every position. */
 bool fastbloom_clear(uint64_t *words, size_t num_words);
 
-/* A union turns on every position that is on in the other filter, and an intersection turns off
- * every position that is off in it. Both answer true. Where the numbers of words differ, they
- * answer false and change nothing. The caller sees to it that the numbers of hashes are equal, and
- * the keys: otherwise the words are those of no filter. */
+/* A union sets every position that is set in the other filter, and an intersection clears every
+ * position that is clear in it. Both return true. Where the numbers of words differ, they return
+ * false and change nothing. The caller sees to it that the numbers of hashes are equal, and the
+ * keys: otherwise the words are those of no filter. */
 FASTBLOOM_MUST_USE bool fastbloom_union(uint64_t *words, size_t num_words, const uint64_t *other,
                                         size_t num_other);
 FASTBLOOM_MUST_USE bool fastbloom_intersect(uint64_t *words, size_t num_words,
@@ -193,18 +197,23 @@ FASTBLOOM_MUST_USE bool fastbloom_intersect(uint64_t *words, size_t num_words,
 bool fastbloom_equal(const uint64_t *words, size_t num_words, const uint64_t *other,
                      size_t num_other);
 
-/* The number of positions that are on, or 0 where num_words is more than 2^58 - 1. */
+/* The number of positions that are set, or 0 where num_words is more than 2^58 - 1. */
 size_t fastbloom_count_ones(const uint64_t *words, size_t num_words);
 
 /* Two bounds of the number of items: in a filter, in the union of two, which isn't made, and in
- * common to both. It is the number of items at which as many positions are expected to be on; what
- * two filters have in common is what both have together, less what their union has. Nothing is
- * claimed of how far the number of items that were inserted may lie from it. high is SIZE_MAX where
- * there is no upper bound, as where all positions are on.
+ * common to both. It is the number of items at which as many positions are expected to be set:
  *
- * They answer true. Where num_words is more than 2^58 - 1, or the numbers of words differ, they
- * answer false, and both bounds are 0. The caller sees to it that the numbers of hashes are equal,
- * and the keys: otherwise the bounds mean nothing. */
+ *   ln(1 - set / bits) / (num_hashes * ln(1 - 1 / bits)).
+ *
+ * With fewer items than low fewer positions are expected to be set, and with more than high more.
+ * Nothing is claimed of how far the number of items that were inserted may lie from it. high is
+ * SIZE_MAX where there is no upper bound. Where all positions are set no number is too many, and
+ * both bounds are SIZE_MAX. What two filters have in common is what both have together, less what
+ * their union has. So its bounds may be as far apart as those of all three together.
+ *
+ * They return true. Where num_words is 0 or more than 2^58 - 1, or the numbers of words differ,
+ * they return false, and both bounds are 0. The caller sees to it that the numbers of hashes are
+ * equal, and the keys: otherwise the bounds mean nothing. */
 FASTBLOOM_MUST_USE bool fastbloom_estimate(const uint64_t *words, size_t num_words,
                                            uint32_t num_hashes, size_t *low, size_t *high);
 FASTBLOOM_MUST_USE bool fastbloom_estimate_union(const uint64_t *words, size_t num_words,
@@ -215,15 +224,15 @@ FASTBLOOM_MUST_USE bool fastbloom_estimate_common(const uint64_t *words, size_t 
                                                   uint32_t num_hashes, size_t *low, size_t *high);
 
 /* Two bounds of the part of the items of two filters that both have, as fractions of 2^63: that of
- * the items in common in those of the union, by the bounds of both. It answers as the calls above
+ * the items in common in those of the union, by the bounds of both. It returns what the calls above
  * do. Where nothing is known of the part, as of two empty filters, the bounds are 0 and 2^63. */
 FASTBLOOM_MUST_USE bool fastbloom_jaccard(const uint64_t *words, size_t num_words,
                                           const uint64_t *other, size_t num_other,
                                           uint32_t num_hashes, uint64_t *low, uint64_t *high);
 
 /* Two bounds of the rate of false positives of the filter as it is, as fractions of 2^63: the part
- * of all look-ups, where each position is drawn alike, that it answers with true. It answers true.
- * Where num_words is 0 or more than 2^58 - 1, it answers false, and both bounds are 0. */
+ * of all look-ups, where each position is drawn alike, that return true. It returns true. Where
+ * num_words is 0 or more than 2^58 - 1, it returns false, and both bounds are 0. */
 FASTBLOOM_MUST_USE bool fastbloom_rate_now(const uint64_t *words, size_t num_words,
                                            uint32_t num_hashes, uint64_t *low, uint64_t *high);
 
@@ -355,9 +364,9 @@ FASTBLOOM_MUST_USE bool fastbloom_shared_load(fastbloom_shared words, uint64_t *
 size_t fastbloom_shared_count_ones(fastbloom_shared words);
 
 /* A blocked filter that threads share: the calls above on one line of the words. They keep the rule
- * of the other calls on words that threads share. fastbloom_shared_clear, _union, _intersect, _take,
- * _load and _count_ones are for both kinds of filters. Where there are fewer than 8 words, or more
- * than 2^58 - 1, each of these calls returns false, and touches nothing. */
+ * of the other calls on words that threads share. fastbloom_shared_clear, _union, _intersect,
+ * _take, _load and _count_ones are for both kinds of filters. Where there are fewer than 8 words,
+ * or more than 2^58 - 1, each of these calls returns false, and touches nothing. */
 
 /* Sets all positions of a hash, by one operation for each word of its line that has some, and
  * returns whether these operations found all of them set already. So it returns false exactly if it
@@ -400,14 +409,14 @@ FASTBLOOM_MUST_USE bool fastbloom_blocked_shared_insert_hashes_tell_new(fastbloo
 uint64_t fastbloom_seal(const uint64_t *words, size_t num_words, uint32_t num_hashes,
                         const uint8_t key[16]);
 
-/* Writes the head of a file with this seal, where 0 stands for a file without one. It answers
+/* Writes the head of a file with this seal, where 0 stands for a file without one. It returns
  * FASTBLOOM_OK; or FASTBLOOM_EMPTY_WORDS or FASTBLOOM_TOO_MANY_WORDS, and then it writes
  * nothing. */
 FASTBLOOM_MUST_USE uint8_t fastbloom_head_write(size_t num_words, uint32_t num_hashes,
                                                 const uint8_t key[16], uint64_t seal,
                                                 uint8_t head[64]);
 
-/* Reads the head of a file, and answers FASTBLOOM_OK; or the first reason for which these bytes are
+/* Reads the head of a file, and returns FASTBLOOM_OK; or the first reason for which these bytes are
  * no head: FASTBLOOM_NOT_A_FILTER, FASTBLOOM_UNKNOWN_VERSION, FASTBLOOM_HASH_COUNT,
  * FASTBLOOM_EMPTY_WORDS, FASTBLOOM_TOO_MANY_WORDS, FASTBLOOM_RESERVED or FASTBLOOM_BLOCKED. Then it
  * writes nothing.
@@ -435,7 +444,7 @@ FASTBLOOM_MUST_USE uint8_t fastbloom_blocked_head_read(const uint8_t head[64], s
                                                        uint64_t *seal);
 
 /* Files of filters. These calls are written in C, for Linux. They are tested and not proved.
- * Threads may make them at once. Where they answer FASTBLOOM_INPUT or FASTBLOOM_OUTPUT, errno says
+ * Threads may make them at once. Where they return FASTBLOOM_INPUT or FASTBLOOM_OUTPUT, errno says
  * why. */
 
 /* A filter that a call on files reads, maps or writes. */
@@ -455,7 +464,7 @@ typedef struct fastbloom_limits {
 
 #define FASTBLOOM_USUAL_HASHES 64
 
-/* Reads a file into words of its own, which fastbloom_unload frees. It answers FASTBLOOM_OK; or why
+/* Reads a file into words of its own, which fastbloom_unload frees. It returns FASTBLOOM_OK; or why
  * the file is refused, and then the filter has no words: a reason of fastbloom_head_read,
  * FASTBLOOM_CUT, FASTBLOOM_TOO_LONG, FASTBLOOM_SEAL, FASTBLOOM_TOO_MANY_WORDS or
  * FASTBLOOM_TOO_MANY_HASHES for a limit, FASTBLOOM_MEMORY, or FASTBLOOM_INPUT. The size of the file
@@ -473,10 +482,10 @@ enum fastbloom_map_mode {
     FASTBLOOM_MAP_SHARE = 2 /* what is written goes into the file, and to all that map it so */
 };
 
-/* Maps a file, which fastbloom_unmap undoes. It answers as fastbloom_load does, and a file that has
- * a seal isn't shared: FASTBLOOM_SEALED. While it is mapped nobody writes into the file in another
- * way, or makes it shorter. A process that fills a shared file makes the calls for words that
- * threads share. */
+/* Maps a file, which fastbloom_unmap undoes. It returns what fastbloom_load does, and a file that
+ * has a seal isn't shared: FASTBLOOM_SEALED. While it is mapped nobody writes into the file in
+ * another way, or makes it shorter. A process that fills a shared file makes the calls for words
+ * that threads share. */
 FASTBLOOM_MUST_USE uint8_t fastbloom_map(const char *path, enum fastbloom_map_mode mode,
                                          const fastbloom_limits *limits, fastbloom_filter *filter);
 
@@ -487,7 +496,7 @@ void fastbloom_unmap(fastbloom_filter *filter);
  * beside it, which is flushed to the disk and then takes the name, with the owner and mode of the
  * file that had it. A link there is replaced. Last the folder is flushed.
  *
- * It answers FASTBLOOM_OK; or FASTBLOOM_EMPTY_WORDS, FASTBLOOM_TOO_MANY_WORDS, FASTBLOOM_MEMORY or
+ * It returns FASTBLOOM_OK; or FASTBLOOM_EMPTY_WORDS, FASTBLOOM_TOO_MANY_WORDS, FASTBLOOM_MEMORY or
  * FASTBLOOM_OUTPUT, and then the old file is as it was. Only where the flush of the folder failed,
  * the new file is there. */
 FASTBLOOM_MUST_USE uint8_t fastbloom_save(const char *path, const fastbloom_filter *filter,
@@ -511,7 +520,7 @@ FASTBLOOM_MUST_USE uint8_t fastbloom_blocked_save(const char *path, const fastbl
 #endif
 
 /* A pointer whose length is 0 may be NULL, as that of an empty vector or text of C++ is. The names
- * of these calls stand for functions that hand over a pointer to a word of their own in its place.
+ * of these calls stand for functions that hand over a pointer to a word of their own instead.
  * The library touches no memory behind it. Where FASTBLOOM_NO_WRAPPERS is defined, the names are
  * the library's own calls, which take no null pointer. */
 #ifndef FASTBLOOM_NO_WRAPPERS

@@ -7,7 +7,7 @@
 //     seen.contains("crab"); // true
 //
 // A filter owns its words. It moves, and it is copied by `clone` alone. Nothing here throws: a call
-// that can fail answers a `result`, or a bool. A filter that was moved from, or made by default,
+// that can fail returns a `result`, or a bool. A filter that was moved from, or made by default,
 // has no words: it contains nothing, and an insert changes nothing.
 //
 // Threads may read one filter at once. While a thread changes it, no other touches it. The filter
@@ -99,7 +99,7 @@ struct item_bounds {
     std::optional<std::size_t> high; // none where no number is too many
 };
 
-// Whether bit i of a bit set is on, as the calls on many hashes write it.
+// Whether bit i of a bit set is set, as the calls on many hashes write it.
 inline bool bit_of(const std::uint64_t *bits, std::size_t i) noexcept {
     return (bits[i / 64] >> (i % 64) & 1) != 0;
 }
@@ -219,7 +219,7 @@ private:
 class shared_filter;
 class mapped_filter;
 
-// A set of byte strings that never misses a member, and now and then takes something else for one.
+// A set of byte strings with no false negatives, and with false positives at a chosen rate.
 class filter {
 public:
     // No words: it contains nothing.
@@ -316,8 +316,9 @@ public:
         return made;
     }
 
-    // Inserts an item, and answers whether it was contained, maybe by mistake. A null pointer is no
-    // text, and nor is 0, which stands for one: a number goes in by its bytes or its hash.
+    // Inserts an item, and returns whether it was contained before, which may be a false positive.
+    // A null pointer is no text, and nor is 0, which stands for one: a number goes in by its bytes
+    // or its hash.
     bool insert(std::string_view item) noexcept { return insert(item.data(), item.size()); }
     bool insert(std::nullptr_t) = delete;
     bool insert(const void *bytes, std::size_t size) noexcept {
@@ -325,7 +326,8 @@ public:
                                 detail::not_null(bytes), size);
     }
 
-    // Whether an item is contained, maybe by mistake. False means that it was never inserted.
+    // Whether an item is contained. False means that it was never inserted. True may be a false
+    // positive.
     bool contains(std::string_view item) const noexcept {
         return contains(item.data(), item.size());
     }
@@ -356,7 +358,7 @@ public:
     fastbloom::hasher begin_hash() const noexcept { return fastbloom::hasher(key_); }
 
     // The hashes of many items, whose bytes lie one behind the other: item i is those from
-    // offsets[i] up to offsets[i + 1]. It answers false, and writes nothing, where the offsets
+    // offsets[i] up to offsets[i + 1]. It returns false, and writes nothing, where the offsets
     // don't tell as many items within the bytes.
     [[nodiscard]] bool hash_items(const void *bytes, std::size_t size,
                                   const std::uint64_t *offsets, std::size_t num_offsets,
@@ -384,10 +386,10 @@ public:
 
     // Calls on many hashes that tell of each, in a bit set that the caller owns: `bit_of(found, i)`
     // is that of hashes[i]. Where there are more hashes than bits, or the filter has no words, they
-    // answer false and change nothing. Otherwise each bit past the hashes goes off.
+    // return false and change nothing. Otherwise each bit past the hashes is cleared.
     //
-    // The first looks them up: a bit is on where its hash is contained. The second inserts them,
-    // one after the other: a bit is on where its hash was not contained just before its insert.
+    // The first looks them up: a bit is set where its hash is contained. The second inserts them,
+    // one after the other: a bit is set where its hash was not contained just before its insert.
     [[nodiscard]] bool contains_hashes(const std::uint64_t *hashes, std::size_t count,
                                        std::uint64_t *found, std::size_t num_found) const noexcept {
         return fastbloom_contains_hashes(words_, num_words_, num_hashes_,
@@ -450,7 +452,7 @@ public:
                key_ == other.key_;
     }
 
-    // Takes the items of the other in, or keeps only what may be in both. They answer false, and
+    // Takes the items of the other in, or keeps only what may be in both. They return false, and
     // change nothing, where the shapes differ or there are no words.
     [[nodiscard]] bool unite(const filter &other) noexcept {
         if (!same_shape(other) || num_words_ == 0) return false;
@@ -464,7 +466,7 @@ public:
                fastbloom_intersect(words_, num_words_, other.words_, other.num_words_);
     }
 
-    // The same as operators, which answer likewise.
+    // The same as operators, which return the same.
     [[nodiscard]] bool operator|=(const filter &other) noexcept { return unite(other); }
     [[nodiscard]] bool operator&=(const filter &other) noexcept { return intersect(other); }
 
@@ -483,7 +485,7 @@ public:
     std::uint32_t num_hashes() const noexcept { return num_hashes_; }
     const key_bytes &key() const noexcept { return key_; }
 
-    // How many bits are on.
+    // How many bits are set.
     std::size_t count_ones() const noexcept { return fastbloom_count_ones(words_, num_words_); }
 
     // Two bounds of the rate of false positives to expect once this many items are in the filter:
@@ -514,7 +516,7 @@ public:
     }
 
     // Two bounds of the number of items: in the filter, in the union of both, which isn't made, and
-    // in common to both. It is the number at which as many bits are expected to be on. Nothing is
+    // in common to both. It is the number at which as many bits are expected to be set. Nothing is
     // claimed of how far the number of items that were inserted may lie from it. There are none
     // where the shapes differ or there are no words.
     std::optional<item_bounds> estimated_items() const noexcept {
@@ -566,7 +568,7 @@ private:
     friend class shared_filter;
     friend class mapped_filter;
 
-    // The bounds that a call of the library hands out, unless it answers false.
+    // The bounds that a call of the library hands out, unless it returns false.
     template <typename Call> static std::optional<item_bounds> items(Call call) noexcept {
         std::size_t low = 0, high = 0;
         if (!call(low, high)) return std::nullopt;

@@ -27,7 +27,7 @@ namespace fastbloom {
 class shared_blocked_filter;
 class mapped_blocked_filter;
 
-// A set of byte strings that never misses a member, and now and then takes something else for one.
+// A set of byte strings with no false negatives, and with false positives at a chosen rate.
 class blocked_filter {
 public:
     // No words: it contains nothing.
@@ -129,8 +129,9 @@ public:
         return made;
     }
 
-    // Inserts an item, and returns whether it was contained, maybe by mistake. A null pointer is no
-    // text, and nor is 0, which stands for one: a number goes in by its bytes or its hash.
+    // Inserts an item, and returns whether it was contained before, which may be a false positive.
+    // A null pointer is no text, and nor is 0, which stands for one: a number goes in by its bytes
+    // or its hash.
     bool insert(std::string_view item) noexcept { return insert(item.data(), item.size()); }
     bool insert(std::nullptr_t) = delete;
     bool insert(const void *bytes, std::size_t size) noexcept {
@@ -138,7 +139,8 @@ public:
                                         detail::not_null(bytes), size);
     }
 
-    // Whether an item is contained, maybe by mistake. False means that it was never inserted.
+    // Whether an item is contained. False means that it was never inserted. True may be a false
+    // positive.
     bool contains(std::string_view item) const noexcept {
         return contains(item.data(), item.size());
     }
@@ -258,7 +260,7 @@ public:
                fastbloom_intersect(words_, num_words_, other.words_, other.num_words_);
     }
 
-    // The same as operators, which answer likewise.
+    // The same as operators, which return the same.
     [[nodiscard]] bool operator|=(const blocked_filter &other) noexcept { return unite(other); }
     [[nodiscard]] bool operator&=(const blocked_filter &other) noexcept {
         return intersect(other);

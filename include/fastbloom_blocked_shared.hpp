@@ -22,8 +22,8 @@
 
 namespace fastbloom {
 
-// A set of byte strings that threads share. It never misses a member, and now and then takes
-// something else for one.
+// A set of byte strings that threads share, with no false negatives, and with false positives at a
+// chosen rate.
 class shared_blocked_filter {
 public:
     // No words: it contains nothing.
@@ -105,8 +105,8 @@ public:
                                                detail::not_null(bytes), size);
     }
 
-    // Whether an item is contained, maybe by mistake. While no call clears bits, false means that
-    // no insert of it had returned when this call began.
+    // Whether an item is contained. True may be a false positive. While no call clears bits, false
+    // means that no insert of it had returned when this call began.
     bool contains(std::string_view item) const noexcept {
         return contains(item.data(), item.size());
     }
@@ -214,7 +214,7 @@ public:
         return same_shape(other) && fastbloom_shared_intersect(words_, other.words_);
     }
 
-    // The same as operators, which answer likewise.
+    // The same as operators, which return the same.
     [[nodiscard]] bool operator|=(const shared_blocked_filter &other) const noexcept {
         return unite(other);
     }

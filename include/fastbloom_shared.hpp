@@ -23,8 +23,8 @@
 
 namespace fastbloom {
 
-// A set of byte strings that threads share. It never misses a member, and now and then takes
-// something else for one.
+// A set of byte strings that threads share, with no false negatives, and with false positives at a
+// chosen rate.
 class shared_filter {
 public:
     // No words: it contains nothing.
@@ -108,8 +108,8 @@ public:
                                        size);
     }
 
-    // Whether an item is contained, maybe by mistake. While no call clears bits, false means that
-    // no insert of it had returned when this call began.
+    // Whether an item is contained. True may be a false positive. While no call clears bits, false
+    // means that no insert of it had returned when this call began.
     bool contains(std::string_view item) const noexcept {
         return contains(item.data(), item.size());
     }
@@ -221,7 +221,7 @@ public:
         return same_shape(other) && fastbloom_shared_intersect(words_, other.words_);
     }
 
-    // The same as operators, which answer likewise.
+    // The same as operators, which return the same.
     [[nodiscard]] bool operator|=(const shared_filter &other) const noexcept {
         return unite(other);
     }

@@ -1,7 +1,7 @@
 /* What an insert by hash costs: `bench [KEYS [HASHES [ROUNDS]]]`, into ten bits a key.
  *
- * It prints how many inserts answered true and the nanoseconds of one, and then what a hash costs
- * where 1,000 are inserted at once: of all rounds the best, each into a filter with no bit on. The
+ * It prints how many inserts returned true and the nanoseconds of one, and then what a hash costs
+ * where 1,000 are inserted at once: of all rounds the best, each into a filter with no bit set. The
  * lines behind are of the calls for a filter that threads share, by one thread: an insert, one of
  * 1,000 that are inserted at once, and a look-up that finds its hash, alone and among 1,000 at
  * once, beside those of the plain filter. The loops and hashes are those of the bench in Rattle. */
@@ -37,7 +37,7 @@ static double smaller(double one, double other) {
     return one < other ? one : other;
 }
 
-/* Inserts the keys one a call, and answers how many inserts answered true. */
+/* Inserts the keys one a call, and returns how many inserts returned true. */
 static uint64_t insert_one_a_call(struct filter filter, uint64_t keys) {
     uint64_t answers = 0;
     for (uint64_t key = 0; key < keys; key++)
@@ -76,7 +76,7 @@ static uint64_t insert_shared_at_once(struct filter filter, uint64_t keys) {
     return done;
 }
 
-/* Looks the keys up, each of which was inserted, and answers how many are found. */
+/* Looks the keys up, each of which was inserted, and returns how many are found. */
 static uint64_t find_plain(struct filter filter, uint64_t keys) {
     uint64_t found = 0;
     for (uint64_t key = 0; key < keys; key++)
@@ -117,7 +117,7 @@ static uint64_t find_shared_at_once(struct filter filter, uint64_t keys) {
     return found;
 }
 
-/* Prints the nanoseconds of a key, of all rounds the best, and what the last round answered. */
+/* Prints the nanoseconds of a key, of all rounds the best, and what the last round returned. */
 static void measure(const char *name, uint64_t (*call)(struct filter, uint64_t),
                     struct filter filter, uint64_t keys, uint64_t rounds, bool clears) {
     uint64_t answers = 0;

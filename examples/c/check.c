@@ -1,6 +1,6 @@
 /* Calls each function, and compares with values from outside: `check SESSIONS HEX FOLDER`.
  *
- * The lines that it prints are those of the other languages' checks. Its answers by hash are those
+ * The lines that it prints are those of the other languages' checks. Its results by hash are those
  * of the original crate, fastbloom 0.17.0, in the sessions; its hashes those of the crate siphasher
  * 0.3.10. A model in Python, which uses no library, computed the file in HEX. The check writes that
  * file into FOLDER. */
@@ -67,7 +67,7 @@ static void plans(void) {
     CHECK(fastbloom_expected_rate(1, 0, 0, &low, &high) == 0 && low == 0 && high == 0);
     CHECK(fastbloom_expected_rate((size_t)1 << 58, 7, 1, &low, &high) == FASTBLOOM_TOO_MANY_WORDS);
     CHECK(low == 0 && high == (uint64_t)1 << 63);
-    /* One of 64 bits is on: one hash of 64. */
+    /* One of 64 bits is set: one hash of 64. */
     CHECK(fastbloom_expected_rate(1, 1, 1, &low, &high) == 0 && low == high);
     CHECK(low == (uint64_t)1 << 57);
     CHECK(fastbloom_rate_bounds(0, 7, 1, &low, &high) == FASTBLOOM_EMPTY_WORDS);
@@ -79,7 +79,7 @@ static void plans(void) {
     CHECK(low == (uint64_t)1 << 57);
     CHECK(fastbloom_rate_bounds(16, 7, 100, &low, &high) == 0);
     CHECK(low == 67513609598153215 && high == 68936744759523058);
-    /* Of 192 bits 100 are on, and of 64 one, two or all. */
+    /* Of 192 bits 100 are set, and of 64 one, two or all. */
     uint64_t words_on[3] = {UINT64_MAX, UINT64_MAX >> 28, 0};
     CHECK(fastbloom_rate_now(words_on, 3, 7, &low, &high));
     CHECK(low == 95891723822588019 && high == 95891723822588021);
@@ -151,7 +151,7 @@ static void items_together(void) {
     CHECK(hashes[0] == 42 && hashes[1] == 42 && hashes[2] == 42);
 }
 
-/* Bytes in pieces have the hash of the whole: three pieces of up to 24 bytes, cut anywhere, and
+/* Bytes in pieces have the hash of the whole: three pieces of up to 24 bytes, parted anywhere, and
  * 1,000 bytes in pieces of each size. The hash of the pieces so far leaves the hasher as it is, and
  * a copy goes on by itself. */
 static void pieces(void) {
@@ -287,7 +287,7 @@ static void whole(void) {
     }
 }
 
-/* No words, and other than as many, answer false and change nothing. */
+/* Of no words, and of other numbers of words, each call returns false and changes nothing. */
 static void refused(void) {
     uint64_t state = 5, a[9], b[9], was[9];
     for (size_t i = 0; i < 9; i++) was[i] = a[i] = drawn(&state), b[i] = drawn(&state);
@@ -385,7 +385,7 @@ static void many(size_t num_words) {
     free(one_by_one);
 }
 
-/* How many positions are on. */
+/* How many positions are set. */
 static void counts(void) {
     uint64_t words[3] = {0, 0, 0};
     CHECK(fastbloom_count_ones(words, 3) == 0 && fastbloom_count_ones(words, 0) == 0);

@@ -20,7 +20,7 @@ struct block {
     uint64_t offsets[BLOCK + 1];
 };
 
-/* Says what went wrong, and answers the status of the program. */
+/* Says what went wrong, and returns the status of the program. */
 static int refuse(const char *name, uint8_t code) {
     fprintf(stderr, "dedup: %s: %s\n", name, fastbloom_strerror(code));
     return 1;
@@ -75,7 +75,7 @@ static uint8_t take_lines(const fastbloom_filter *filter) {
     size_t room = 0;
     uint8_t code = FASTBLOOM_OK;
     for (ssize_t size; code == FASTBLOOM_OK && (size = getline(&line, &room, stdin)) > 0;) {
-        if (line[size - 1] != '\n') line[size++] = '\n'; /* in the place of the last zero */
+        if (line[size - 1] != '\n') line[size++] = '\n'; /* over the last zero */
         if (!add_line(&block, line, (size_t)size))
             code = FASTBLOOM_MEMORY;
         else if (block.count == BLOCK && !write_new(&block, filter))

@@ -6,7 +6,7 @@
 #include <stdlib.h>
 #include <string.h>
 
-/* Says what is wrong with a file, and answers the status of the program. */
+/* Says what is wrong with a file, and returns the status of the program. */
 static int refuse(const char *path, uint8_t code) {
     fprintf(stderr, "file: %s: %s\n", path, fastbloom_strerror(code));
     return 1;

@@ -3,7 +3,7 @@
  * Each library has a filter for this many keys at the rate 1/1000, and both get the same keys of 16
  * bytes. Each round inserts all keys into an empty filter, looks each of them up (hit), and then as
  * many others (miss). A row tells the nanoseconds of one call, of all rounds the best, and how many
- * calls answered true: those of `miss` are false positives. Keys are made in blocks, which isn't
+ * calls returned true: those of `miss` are false positives. Keys are made in blocks, which isn't
  * timed. It compiles where <bloom.h> is there. */
 #define _POSIX_C_SOURCE 199309L
 #include "fastbloom.h"
@@ -27,7 +27,7 @@ struct filter {
     uint32_t num_hashes;
 };
 
-/* Makes the calls of a block of keys, and answers how many answered true. */
+/* Makes the calls of a block of keys, and returns how many returned true. */
 typedef uint64_t calls(void *filter, const struct key *keys, size_t count);
 
 struct row {
@@ -139,7 +139,7 @@ static void print_rows(const struct library *library, uint64_t keys) {
                library->rows[i].best / (double)keys, library->rows[i].answers);
 }
 
-/* Measures both in turn, prints the rows, and answers whether each key was found. */
+/* Measures both in turn, prints the rows, and returns whether each key was found. */
 static bool compare(struct library libraries[2], uint64_t keys, uint64_t rounds) {
     for (uint64_t round = 0; round < rounds; round++)
         for (int i = 0; i < 2; i++) measure_round(&libraries[i], keys);

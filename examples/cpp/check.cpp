@@ -44,7 +44,7 @@ static filter empty(const fastbloom::key_bytes &key = {}) {
     return *std::move(made);
 }
 
-// The filter that each language builds; what it answers is printed.
+// The filter that each language builds; what its calls return is printed.
 static filter items() {
     filter seen = empty(), at_once = empty();
     std::vector<std::uint64_t> hashes;
@@ -71,7 +71,7 @@ static filter items() {
     return seen;
 }
 
-// Bytes in pieces, cut anywhere, have the hash of the whole; a copy goes on by itself.
+// Bytes in pieces, parted anywhere, have the hash of the whole; a copy goes on by itself.
 static void pieces() {
     const std::string text = "crab, lobster, prawn, krill and barnacle";
     const filter seen = empty(counting_key());
@@ -127,7 +127,7 @@ static void many() {
 #endif
 }
 
-// One of 64 bits is on: one hash of 64.
+// One of 64 bits is set: one hash of 64.
 static void counts() {
     auto made = filter::with_shape(1, 1);
     CHECK(made && made->count_ones() == 0);

@@ -39,7 +39,7 @@ int main() {
     for (auto &thread : threads) thread.join();
     // end of example
 
-    // What was on in the part alone is on after an intersection with it.
+    // What was set in the part alone is set after an intersection with it.
     if (!fastbloom_intersect(both.data(), both.size(), first.data(), first.size())) return 4;
     auto sum = [](const std::vector<std::uint64_t> &counts) {
         return std::accumulate(counts.begin(), counts.end(), std::uint64_t{0});

@@ -35,7 +35,7 @@ def parts_done(dask_scheduler):
 
 
 def kill_one(client):
-    """Kills a worker that holds a filter. It answers how many it killed, 0 or 1."""
+    """Kills a worker that holds a filter. It returns how many it killed, 0 or 1."""
     holding = [address for address, keys in client.has_what().items() if keys]
     # One that was killed before may still be listed.
     pids = client.run(os.getpid, workers=holding, on_error="ignore") if holding else {}

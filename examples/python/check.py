@@ -26,7 +26,7 @@ def why_refused(call, *arguments, **options):
 
 
 def items():
-    """The filter that each language builds; what it answers is printed."""
+    """The filter that each language builds; what its calls return is printed."""
     seen = Filter(1000, "1/1000")
     for name in NAMES[:1000]:
         seen.add(name)

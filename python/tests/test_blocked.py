@@ -94,7 +94,7 @@ def shared(lines, num_hashes):
 
 
 def number_of(make, session):
-    """All answers of a session and then all words, folded into one number."""
+    """All results of a session and then all words, folded into one number."""
     lines = 16384 + session if session % 50 == 49 else 1 + session % 7
     seen = make(lines, 1 + session % 13)
     told = [seen.add_hash(drawn(session, index)) for index in range(20)]

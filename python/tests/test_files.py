@@ -109,7 +109,7 @@ class Files(unittest.TestCase):
             self.assertIn("whale", seen)
 
     def test_a_loaded_file_may_be_written_and_cut(self):
-        """A process that touches a mapping of a file that was cut ends by a signal."""
+        """A process that touches a mapping of a file that was truncated ends by a signal."""
         self.path.write_bytes(WORKED)
         code = ("import sys; from fastbloom import Filter\n"
                 "seen = Filter.load(sys.argv[1])\n"

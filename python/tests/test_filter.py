@@ -1,4 +1,4 @@
-"""What a filter takes, answers and refuses."""
+"""What a filter takes, returns and refuses."""
 
 import array
 import copy
@@ -74,7 +74,7 @@ def of_words(words, hashes):
 
 
 def drawn_words(draw, num_words):
-    """Words of which a drawn part of the bits is on, but not all."""
+    """Words of which a drawn part of the bits is set, but not all."""
     bits = [False] * (64 * num_words)
     for place in draw.sample(range(len(bits)), draw.randrange(len(bits))):
         bits[place] = True
@@ -335,7 +335,7 @@ class Sizes(unittest.TestCase):
         self.assertEqual(seen.count_ones(), 0)
 
     def test_the_expected_rate_lies_between_its_bounds(self):
-        # One hash, and one of 64 bits is on.
+        # One hash, and one of 64 bits is set.
         one = Filter(1000, "99/100")
         self.assertEqual((one.num_words, one.num_hashes), (1, 1))
         self.assertEqual(one.expected_rate(0), (0, 0))

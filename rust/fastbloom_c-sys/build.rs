@@ -24,7 +24,7 @@ fn variable(name: &str) -> Option<OsString> {
     env::var_os(name).filter(|value| !value.is_empty())
 }
 
-/// What pkg-config prints, where it is there and has an answer.
+/// What pkg-config prints, where it is there and prints something.
 fn pkg_config(words: &[&str]) -> Option<String> {
     let command = variable("PKG_CONFIG").unwrap_or_else(|| "pkg-config".into());
     let output = Command::new(command).args(words).output().ok()?;

@@ -1,6 +1,6 @@
-/* Hands NULL with the length 0 to each call that takes a pointer and a length, and wants the
- * answers for no words, no hashes and no bytes. It is linked with the library, and with
- * null_calls.c in its place, whose calls refuse a null pointer. */
+/* Hands NULL with the length 0 to each call that takes a pointer and a length, and wants what the
+ * call returns for no words, no hashes and no bytes. It is linked with the library, and then with
+ * null_calls.c instead, whose calls refuse a null pointer. */
 #include <stdio.h>
 
 #include "fastbloom.h"

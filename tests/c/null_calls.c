@@ -1,5 +1,5 @@
 /* The calls of the library as null.c makes them: each ends the program where a pointer is null, and
- * answers what null.c wants. It is compiled as C, and linked with null.c as C and as C++. */
+ * returns what null.c wants. It is compiled as C, and linked with null.c as C and as C++. */
 #ifndef FASTBLOOM_NO_WRAPPERS
 #define FASTBLOOM_NO_WRAPPERS
 #endif

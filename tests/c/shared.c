@@ -106,7 +106,7 @@ static uint64_t miss_some(const uint64_t *hashes, size_t count) {
     return each + (count - ones_in(found, room));
 }
 
-/* Inserts a quarter of the keys, from a place of this thread's own. So each key comes twice. */
+/* Inserts a quarter of the keys, from a first key of this thread's own. So each key comes twice. */
 static void *insert_part(void *at) {
     size_t me = (size_t)at;
     uint64_t hashes[TOGETHER], first = num_keys / THREADS * me, count = num_keys / (THREADS / 2);

@@ -18,7 +18,7 @@ fn empty() -> Result<BloomFilter, Error> {
     BloomFilter::with_false_pos(Rate::new(1, 1000)?).expected_items(1000)
 }
 
-/// The filter that each language builds; what it answers is printed.
+/// The filter that each language builds; what its calls return is printed.
 fn items() -> Result<BloomFilter, Error> {
     let mut seen = empty()?;
     for number in 0..1000 {

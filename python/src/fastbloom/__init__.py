@@ -1,4 +1,4 @@
-"""Bloom filters: sets that never miss a member, and now and then take something else for one.
+"""Bloom filters: sets with no false negatives, and with false positives at a chosen rate.
 
     seen = Filter(1_000_000, "1/1000")
     seen.add("crab")           # False: it is new

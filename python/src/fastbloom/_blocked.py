@@ -110,14 +110,17 @@ class BlockedFilter:
 
     @alone
     def add(self, item: Item) -> bool:
-        """Adds an item, and returns whether it was contained, maybe by mistake."""
+        """Adds an item, and returns whether it was contained before.
+
+        True may be a false positive.
+        """
         data = bytes_of(item)
         return library.blocked_insert(
             self._at, self._num_words, self._num_hashes, self._key, data, len(data))
 
     @alone
     def __contains__(self, item: Item) -> bool:
-        """Whether an item is contained, maybe by mistake. False: it was never added."""
+        """Whether an item is contained. False: it was never added. True may be a false positive."""
         data = bytes_of(item)
         return library.blocked_contains(
             self._at, self._num_words, self._num_hashes, self._key, data, len(data))

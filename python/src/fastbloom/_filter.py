@@ -185,7 +185,7 @@ def _add_attributes(made: Filter, added: Tuple[Dict[str, Any], Dict[str, Any]]) 
 
 
 class Filter:
-    """A set of texts or bytes that never misses a member, and may take something else for one.
+    """A set of texts or bytes with no false negatives, and with false positives at a chosen rate.
 
     Items are `str`, which count as their UTF-8 bytes, and bytes-like objects. Everything else
     raises TypeError, and a `str` that has no UTF-8 raises UnicodeEncodeError. Threads may call one
@@ -254,14 +254,17 @@ class Filter:
 
     @alone
     def add(self, item: Item) -> bool:
-        """Adds an item, and answers whether it was contained, maybe by mistake."""
+        """Adds an item, and returns whether it was contained before.
+
+        True may be a false positive.
+        """
         data = bytes_of(item)
         return library.insert(
             self._at, self._num_words, self._num_hashes, self._key, data, len(data))
 
     @alone
     def __contains__(self, item: Item) -> bool:
-        """Whether an item is contained, maybe by mistake. False: it was never added."""
+        """Whether an item is contained. False: it was never added. True may be a false positive."""
         data = bytes_of(item)
         return library.contains(
             self._at, self._num_words, self._num_hashes, self._key, data, len(data))
@@ -351,7 +354,7 @@ class Filter:
 
     @alone
     def count_ones(self) -> int:
-        """How many of its bits are on."""
+        """How many of its bits are set."""
         return library.count_ones(self._at, self._num_words)
 
     def expected_rate(self, items: int) -> Tuple[Fraction, Fraction]:
@@ -386,8 +389,8 @@ class Filter:
     def exact_false_positive_rate(self) -> Tuple[Fraction, Fraction]:
         """Two bounds of the rate of false positives of the filter as it is.
 
-        It is the part of all look-ups, where each position is drawn alike, that it answers with
-        True. The bounds are proved, and are fractions of 2^63.
+        It is the part of all look-ups, where each position is drawn alike, that return True. The
+        bounds are proved, and are fractions of 2^63.
         """
         low, high = ctypes.c_uint64(), ctypes.c_uint64()
         library.rate_now(self._at, self._num_words, self._num_hashes, low, high)
@@ -399,10 +402,10 @@ class Filter:
 
     @alone
     def estimate(self) -> Estimate:
-        """Two bounds of the number of items in it. The upper one is None where all bits are on.
+        """Two bounds of the number of items in it. The upper one is None where all bits are set.
 
-        It is the number of items at which as many bits are expected to be on. Nothing is claimed of
-        how far the number of items that were added may lie from it. The bounds are proved.
+        It is the number of items at which as many bits are expected to be set. Nothing is claimed
+        of how far the number of items that were added may lie from it. The bounds are proved.
         """
         low, high = ctypes.c_size_t(), ctypes.c_size_t()
         library.estimate(self._at, self._num_words, self._num_hashes, low, high)
@@ -702,8 +705,8 @@ class Filter:
 
         A file that is `mapped` is read as its words are needed, and processes share its pages; but
         one with a seal is read whole, to check it. What this process adds stays its own. The file
-        isn't to be cut or written while it is mapped, as by `cp`: the filter would lose members, or
-        the process end by a signal. `save` puts a new file in its place.
+        isn't to be truncated or written while it is mapped, as by `cp`: the filter would lose
+        members, or the process end by a signal. `save` replaces it by a new file.
         """
         with open(path, "rb") as file:
             head, size = file.read(_HEAD), os.fstat(file.fileno()).st_size

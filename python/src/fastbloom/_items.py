@@ -49,7 +49,7 @@ def plain_bytes(value: Buffer, wanted: str) -> bytes:
 
 
 def _has_data(value: Any, view: memoryview) -> bool:
-    """Whether a buffer is neither a single number, nor has pointers in the place of values."""
+    """Whether a buffer is neither a single number, nor has pointers instead of values."""
     if view.ndim == 0 or getattr(value, "ndim", 1) == 0:
         return False
     # The names of a record's fields stand between colons.

@@ -46,12 +46,12 @@ _BYTES, _MANY = ctypes.c_char_p, ctypes.POINTER(ctypes.c_uint64)
 _TO_SIZE, _TO_HASHES = ctypes.POINTER(ctypes.c_size_t), ctypes.POINTER(ctypes.c_uint32)
 
 
-def _call(name: str, answer: Any, *kinds: Any, library: ctypes.CDLL = _KEEPING) -> Any:
+def _call(name: str, result: Any, *kinds: Any, library: ctypes.CDLL = _KEEPING) -> Any:
     try:
         call = getattr(library, "fastbloom_" + name)
     except AttributeError as error:
         raise ImportError(f"{_FILE} is no library of fastbloom, or an older one: {error}") from None
-    call.restype, call.argtypes = answer, kinds
+    call.restype, call.argtypes = result, kinds
     return call
 
 
@@ -126,14 +126,14 @@ class SharedWords(ctypes.Structure):
     _fields_ = [("words", ctypes.c_void_p), ("num_words", ctypes.c_size_t)]
 
 
-def _shared(name: str, answer: Any, *kinds: Any) -> Any:
+def _shared(name: str, result: Any, *kinds: Any) -> Any:
     """A call on words that are shared, which needs no lock."""
-    return _call("shared_" + name, answer, SharedWords, *kinds, library=_LETTING_GO)
+    return _call("shared_" + name, result, SharedWords, *kinds, library=_LETTING_GO)
 
 
-def _blocked_shared(name: str, answer: Any, *kinds: Any) -> Any:
+def _blocked_shared(name: str, result: Any, *kinds: Any) -> Any:
     """A call on a blocked filter's words that are shared."""
-    return _call("blocked_shared_" + name, answer, SharedWords, *kinds, library=_LETTING_GO)
+    return _call("blocked_shared_" + name, result, SharedWords, *kinds, library=_LETTING_GO)
 
 
 shared_insert_hash: Callable[..., bool] = _shared("insert_hash", _BOOL, _HASHES, _HASH)

@@ -13,7 +13,7 @@ from ._mask import Mask
 
 AT_ONCE = 4096  # items that are hashed, and then added or looked up, by one call
 
-# A place and a length, as the calls of the library take them.
+# An address and a length, as the calls of the library take them.
 Hashes = Tuple[Any, int]
 
 

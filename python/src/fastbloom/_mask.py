@@ -6,7 +6,7 @@ import operator
 from typing import Any, Iterator, List, Sequence, Union, overload
 
 # The bits of a byte, from the lowest one.
-_BITS = [[byte >> place & 1 == 1 for place in range(8)] for byte in range(256)]
+_BITS = [[byte >> index & 1 == 1 for index in range(8)] for byte in range(256)]
 
 
 class Mask(Sequence[bool]):
@@ -40,12 +40,12 @@ class Mask(Sequence[bool]):
     def __getitem__(self, at: Union[int, slice]) -> Union[bool, List[bool]]:
         if isinstance(at, slice):
             return self.tolist()[at]
-        place = operator.index(at)
-        if place < 0:
-            place += self._count
-        if not 0 <= place < self._count:
+        index = operator.index(at)
+        if index < 0:
+            index += self._count
+        if not 0 <= index < self._count:
             raise IndexError("there is no such value")
-        return self._bits[place // 8] >> place % 8 & 1 == 1
+        return self._bits[index // 8] >> index % 8 & 1 == 1
 
     def __iter__(self) -> Iterator[bool]:
         return iter(self.tolist())

@@ -127,7 +127,7 @@ class SharedFilter:
         return library.shared_insert(self._words, self._num_hashes, self._key, data, len(data))
 
     def __contains__(self, item: Item) -> bool:
-        """Whether an item is contained, maybe by mistake.
+        """Whether an item is contained. True may be a false positive.
 
         While no call clears bits, False means that no add of it had returned when this call began.
         """

@@ -2,8 +2,8 @@
 //! words that the caller owns. The crate `fastbloom_c` has safe calls over these.
 //!
 //! A filter is an array of `num_words` words of 64 bits, and a number of hashes, where none counts
-//! as one. An array of zeros is the empty filter. No words are no filter: each call that answers a
-//! `bool` answers false for them, and changes nothing. No call unwinds, and none allocates memory,
+//! as one. An array of zeros is the empty filter. No words are no filter: each call that returns a
+//! `bool` returns false for them, and changes nothing. No call unwinds, and none allocates memory,
 //! waits, or keeps a pointer, but for those on files.
 //!
 //! # Safety
@@ -12,8 +12,9 @@
 //!
 //! - No pointer is null, even where a length is 0. Pointers to `u64`, `u32` and `usize` are
 //!   aligned.
-//! - Each pointer is to memory of the length that is given, at most 2^63 - 1 bytes, which stays in
-//!   its place while the call runs. A key has 16 bytes, and a head 64. What is read is initialized.
+//! - Each pointer is to memory of the length that is given, at most 2^63 - 1 bytes, which stays
+//!   where it is while the call runs. A key has 16 bytes, and a head 64. What is read is
+//!   initialized.
 //! - Memory that a call may write, which a `*mut` points to, overlaps with nothing else that the
 //!   call is given.
 //! - While a call runs that may write words, no other thread or process touches them. While a call
@@ -139,7 +140,7 @@ extern "C" {
     /// A status code in words, also one that the library doesn't know. The text stays where it is.
     pub fn fastbloom_strerror(code: u8) -> *const c_char;
 
-    /// The numbers of words and of hashes for this many items at the rate `num / den`. It answers
+    /// The numbers of words and of hashes for this many items at the rate `num / den`. It returns
     /// [`FASTBLOOM_OK`]; or [`FASTBLOOM_ZERO_RATE`], [`FASTBLOOM_SIZE_OVERFLOW`] or
     /// [`FASTBLOOM_TOO_MANY_WORDS`], and then both numbers are 0.
     #[must_use]
@@ -155,7 +156,7 @@ extern "C" {
     pub fn fastbloom_num_bits(num_words: usize) -> usize;
 
     /// Two bounds of the rate of false positives to expect once this many items are in the filter,
-    /// as fractions of 2^63. It answers [`FASTBLOOM_OK`]; or [`FASTBLOOM_EMPTY_WORDS`] or
+    /// as fractions of 2^63. It returns [`FASTBLOOM_OK`]; or [`FASTBLOOM_EMPTY_WORDS`] or
     /// [`FASTBLOOM_TOO_MANY_WORDS`], and then the bounds are 0 and 2^63.
     #[must_use]
     pub fn fastbloom_expected_rate(
@@ -181,9 +182,9 @@ extern "C" {
     pub fn fastbloom_hash(key: *const u8, bytes: *const u8, len: usize) -> u64;
 
     /// The hashes of many items, whose bytes lie one behind the other: item i is those from
-    /// `offsets[i]` up to `offsets[i + 1]`. It answers true. Where there isn't one offset more than
+    /// `offsets[i]` up to `offsets[i + 1]`. It returns true. Where there isn't one offset more than
     /// hashes (or none of both), or an offset is less than the one before it or more than `len`, it
-    /// answers false and writes nothing.
+    /// returns false and writes nothing.
     #[must_use]
     pub fn fastbloom_hash_items(
         key: *const u8,
@@ -205,7 +206,7 @@ extern "C" {
     /// hasher that wasn't begun has a hash of no meaning.
     pub fn fastbloom_hasher_finish(hasher: *const fastbloom_hasher) -> u64;
 
-    /// Turns on all positions of a hash, and answers whether all were on just before.
+    /// Sets all positions of a hash, and returns whether all were set just before.
     pub fn fastbloom_insert_hash(
         words: *mut u64,
         num_words: usize,
@@ -213,7 +214,7 @@ extern "C" {
         hash: u64,
     ) -> bool;
 
-    /// Turns on all positions of each of `count` hashes, and answers true.
+    /// Sets all positions of each of `count` hashes, and returns true.
     pub fn fastbloom_insert_hashes(
         words: *mut u64,
         num_words: usize,
@@ -222,7 +223,7 @@ extern "C" {
         count: usize,
     ) -> bool;
 
-    /// Whether all positions of a hash are on.
+    /// Whether all positions of a hash are set.
     pub fn fastbloom_contains_hash(
         words: *const u64,
         num_words: usize,
@@ -230,9 +231,9 @@ extern "C" {
         hash: u64,
     ) -> bool;
 
-    /// Looks `count` hashes up, and answers true: bit `i % 64` of word `i / 64` of `found` goes on
-    /// where all positions of hash `i` are on, and every other bit goes off. Where there are more
-    /// hashes than bits, it answers false and changes nothing.
+    /// Looks `count` hashes up, and returns true: bit `i % 64` of word `i / 64` of `found` is set
+    /// where all positions of hash `i` are set, and every other bit is cleared. Where there are
+    /// more hashes than bits, it returns false and changes nothing.
     #[must_use]
     pub fn fastbloom_contains_hashes(
         words: *const u64,
@@ -244,9 +245,9 @@ extern "C" {
         num_found: usize,
     ) -> bool;
 
-    /// Inserts `count` hashes, one after the other, and answers true: bit `i % 64` of word `i / 64`
-    /// of `fresh` goes on where not all positions of hash `i` were on just before its insert, and
-    /// every other bit goes off. Where there are more hashes than bits, it answers false and
+    /// Inserts `count` hashes, one after the other, and returns true: bit `i % 64` of word `i / 64`
+    /// of `fresh` is set where not all positions of hash `i` were set just before its insert, and
+    /// every other bit is cleared. Where there are more hashes than bits, it returns false and
     /// changes nothing.
     #[must_use]
     pub fn fastbloom_insert_hashes_tell_new(
@@ -279,11 +280,11 @@ extern "C" {
         len: usize,
     ) -> bool;
 
-    /// Turns every position off.
+    /// Clears every position.
     pub fn fastbloom_clear(words: *mut u64, num_words: usize) -> bool;
 
-    /// Turns on every position that is on in the other filter, and answers true. Where the numbers
-    /// of words differ, it answers false and changes nothing.
+    /// Sets every position that is set in the other filter, and returns true. Where the numbers of
+    /// words differ, it returns false and changes nothing.
     #[must_use]
     pub fn fastbloom_union(
         words: *mut u64,
@@ -292,8 +293,8 @@ extern "C" {
         num_other: usize,
     ) -> bool;
 
-    /// Turns off every position that is off in the other filter, and answers true. Where the
-    /// numbers of words differ, it answers false and changes nothing.
+    /// Clears every position that is clear in the other filter, and returns true. Where the numbers
+    /// of words differ, it returns false and changes nothing.
     #[must_use]
     pub fn fastbloom_intersect(
         words: *mut u64,
@@ -310,12 +311,12 @@ extern "C" {
         num_other: usize,
     ) -> bool;
 
-    /// The number of positions that are on, or 0 where `num_words` is more than 2^58 - 1.
+    /// The number of positions that are set, or 0 where `num_words` is more than 2^58 - 1.
     pub fn fastbloom_count_ones(words: *const u64, num_words: usize) -> usize;
 
-    /// Two bounds of the number of items at which as many positions are expected to be on, and
+    /// Two bounds of the number of items at which as many positions are expected to be set, and
     /// true. `high` is `usize::MAX` where there is no upper bound. For no words, and for more than
-    /// 2^58 - 1, it answers false, and both bounds are 0.
+    /// 2^58 - 1, it returns false, and both bounds are 0.
     #[must_use]
     pub fn fastbloom_estimate(
         words: *const u64,
@@ -326,7 +327,7 @@ extern "C" {
     ) -> bool;
 
     /// As [`fastbloom_estimate`], of the union of two filters. Where the numbers of words differ,
-    /// it answers false too.
+    /// it returns false too.
     #[must_use]
     pub fn fastbloom_estimate_union(
         words: *const u64,
@@ -339,7 +340,7 @@ extern "C" {
     ) -> bool;
 
     /// As [`fastbloom_estimate`], of what two filters have in common. Where the numbers of words
-    /// differ, it answers false too.
+    /// differ, it returns false too.
     #[must_use]
     pub fn fastbloom_estimate_common(
         words: *const u64,
@@ -352,7 +353,7 @@ extern "C" {
     ) -> bool;
 
     /// Two bounds of the part of the items of two filters that both have, as fractions of 2^63. It
-    /// answers as [`fastbloom_estimate_common`].
+    /// returns what [`fastbloom_estimate_common`] does.
     #[must_use]
     pub fn fastbloom_jaccard(
         words: *const u64,
@@ -364,8 +365,8 @@ extern "C" {
         high: *mut u64,
     ) -> bool;
 
-    /// Two bounds of the rate of false positives of the filter as it is, as fractions of 2^63. Where
-    /// `num_words` is 0 or more than 2^58 - 1, it answers false, and both bounds are 0.
+    /// Two bounds of the rate of false positives of the filter as it is, as fractions of 2^63.
+    /// Where `num_words` is 0 or more than 2^58 - 1, it returns false, and both bounds are 0.
     #[must_use]
     pub fn fastbloom_rate_now(
         words: *const u64,
@@ -627,7 +628,7 @@ extern "C" {
         key: *const u8,
     ) -> u64;
 
-    /// Writes the 64 bytes of the head of a file. It answers [`FASTBLOOM_OK`]; or
+    /// Writes the 64 bytes of the head of a file. It returns [`FASTBLOOM_OK`]; or
     /// [`FASTBLOOM_EMPTY_WORDS`] or [`FASTBLOOM_TOO_MANY_WORDS`], and then it writes nothing.
     #[must_use]
     pub fn fastbloom_head_write(
@@ -638,7 +639,7 @@ extern "C" {
         head: *mut u8,
     ) -> u8;
 
-    /// Reads the 64 bytes of the head of a file, and answers [`FASTBLOOM_OK`]; or the first reason
+    /// Reads the 64 bytes of the head of a file, and returns [`FASTBLOOM_OK`]; or the first reason
     /// for which these bytes are no head, and then it writes nothing.
     #[must_use]
     pub fn fastbloom_head_read(
@@ -680,7 +681,7 @@ extern "C" {
     ) -> u8;
 
     /// Reads a file into words of its own, which [`fastbloom_unload`] frees. Null limits allow any
-    /// number of words that the file has, and 64 hashes. It answers [`FASTBLOOM_OK`]; or why the
+    /// number of words that the file has, and 64 hashes. It returns [`FASTBLOOM_OK`]; or why the
     /// file is refused, and then the filter has no words. The path ends in a zero byte.
     #[must_use]
     pub fn fastbloom_load(
@@ -692,7 +693,7 @@ extern "C" {
     /// Frees what [`fastbloom_load`] read. The filter then has no words.
     pub fn fastbloom_unload(filter: *mut fastbloom_filter);
 
-    /// Maps a file, which [`fastbloom_unmap`] undoes. It answers as [`fastbloom_load`], and
+    /// Maps a file, which [`fastbloom_unmap`] undoes. It returns what [`fastbloom_load`] does, and
     /// [`FASTBLOOM_SEALED`] where a file that is to be shared has a seal. While it is mapped nobody
     /// writes into it in another way, or makes it shorter.
     #[must_use]
@@ -706,7 +707,7 @@ extern "C" {
     /// Undoes [`fastbloom_map`]. The filter then has no words.
     pub fn fastbloom_unmap(filter: *mut fastbloom_filter);
 
-    /// Writes a file, whole or not at all, with a seal or without one. It answers
+    /// Writes a file, whole or not at all, with a seal or without one. It returns
     /// [`FASTBLOOM_OK`]; or [`FASTBLOOM_EMPTY_WORDS`], [`FASTBLOOM_TOO_MANY_WORDS`],
     /// [`FASTBLOOM_MEMORY`] or [`FASTBLOOM_OUTPUT`], and then the old file is as it was.
     #[must_use]

@@ -129,12 +129,12 @@ impl BlockedBloomFilter {
         BlockedBuilderWithFalsePositiveRate { rate, key: [0; 16] }
     }
 
-    /// Inserts an item, and returns whether it was contained, maybe by mistake.
+    /// Inserts an item, and returns whether it was contained before, which may be a false positive.
     pub fn insert(&mut self, val: &(impl AsRef<[u8]> + ?Sized)) -> bool {
         raw_blocked::insert(&mut self.lines, self.num_hashes, &self.key, val.as_ref())
     }
 
-    /// Whether an item is contained, maybe by mistake. False: it was never inserted.
+    /// Whether an item is contained. False: it was never inserted. True may be a false positive.
     #[must_use]
     pub fn contains(&self, val: &(impl AsRef<[u8]> + ?Sized)) -> bool {
         raw_blocked::contains(&self.lines, self.num_hashes, &self.key, val.as_ref())
@@ -196,7 +196,7 @@ impl BlockedBloomFilter {
         told
     }
 
-    /// Tells for each hash whether it is contained, maybe by mistake.
+    /// Tells for each hash whether it is contained. True may be a false positive.
     #[must_use]
     pub fn contains_hashes(&self, hashes: &[u64]) -> Vec<bool> {
         let mut told = Vec::with_capacity(hashes.len());

@@ -80,8 +80,8 @@ impl<W: AsRef<[AtomicU64]>> AtomicBlockedBloomFilter<W> {
         raw_blocked::shared_insert(self.as_slice(), self.num_hashes, &self.key, val.as_ref())
     }
 
-    /// Whether an item is contained, maybe by mistake. While no call clears bits, false means that no
-    /// insert of it had returned when this call began.
+    /// Whether an item is contained. True may be a false positive. While no call clears bits, false
+    /// means that no insert of it had returned when this call began.
     #[must_use]
     pub fn contains(&self, val: &(impl AsRef<[u8]> + ?Sized)) -> bool {
         raw_blocked::shared_contains(self.as_slice(), self.num_hashes, &self.key, val.as_ref())
@@ -114,7 +114,7 @@ impl<W: AsRef<[AtomicU64]>> AtomicBlockedBloomFilter<W> {
         self.tell(hashes, raw_blocked::shared_insert_hashes_tell_new)
     }
 
-    /// Tells for each hash whether it is contained, maybe by mistake.
+    /// Tells for each hash whether it is contained. True may be a false positive.
     #[must_use]
     pub fn contains_hashes(&self, hashes: &[u64]) -> Vec<bool> {
         self.tell(hashes, raw_blocked::shared_contains_hashes)

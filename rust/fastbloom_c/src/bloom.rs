@@ -17,8 +17,7 @@ pub fn hash(key: &[u8; 16], val: &(impl AsRef<[u8]> + ?Sized)) -> u64 {
     raw::hash(key, val.as_ref())
 }
 
-/// A set of texts and bytes that never misses a member, and now and then takes something else for
-/// one.
+/// A set of texts and bytes with no false negatives, and with false positives at a chosen rate.
 ///
 /// It has at least one word. Filters are equal where their words, their numbers of hashes and their
 /// keys are. `Debug` doesn't show the key.
@@ -42,7 +41,7 @@ pub struct BloomFilter {
 }
 
 impl BloomFilter {
-    /// Inserts an item, and answers whether it was contained, maybe by mistake.
+    /// Inserts an item, and returns whether it was contained before, which may be a false positive.
     ///
     /// ```
     /// # use fastbloom_c::BloomFilter;
@@ -55,7 +54,7 @@ impl BloomFilter {
         raw::insert(&mut self.words, self.num_hashes, &self.key, val.as_ref())
     }
 
-    /// Whether an item is contained, maybe by mistake. False: it was never inserted.
+    /// Whether an item is contained. False: it was never inserted. True may be a false positive.
     ///
     /// ```
     /// # use fastbloom_c::BloomFilter;
@@ -288,7 +287,7 @@ impl BloomFilter {
     }
 
     /// Two bounds of the rate of false positives of the filter as it is: the part of all look-ups,
-    /// where each position is drawn alike, that it answers with true.
+    /// where each position is drawn alike, that return true.
     ///
     /// ```
     /// # use fastbloom_c::BloomFilter;

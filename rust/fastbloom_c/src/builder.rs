@@ -9,8 +9,8 @@ const ZERO_KEY: raw::Key = [0; 16];
 const LN_TWO: u128 = 6_243_314_768_165_359;
 
 /// The number of hashes that suits this many bits and items, where 0 items count as 1: the product
-/// of ln 2 and the bits for each item, rounded half up. The library has no call for it. In what
-/// `fastbloom_plan` answers the numbers have the same relation.
+/// of ln 2 and the bits for each item, rounded half up. The library has no call for it. The numbers
+/// that `fastbloom_plan` returns have the same relation.
 fn hashes_for(num_bits: usize, items: usize) -> u32 {
     let unit = (items.max(1) as u128) << 53;
     let hashes = (2 * num_bits as u128 * LN_TWO + unit) / (2 * unit);
@@ -49,7 +49,7 @@ pub struct BuilderWithFalsePositiveRate {
 }
 
 impl BloomFilter {
-    /// A builder of a filter with at least this many bits, all of which are off.
+    /// A builder of a filter with at least this many bits, all of which are clear.
     ///
     /// ```
     /// # use fastbloom_c::{BloomFilter, Error};

@@ -97,7 +97,7 @@ impl Error {
         })
     }
 
-    /// What a number says that a call of the library answers.
+    /// What a number says that a call of the library returns.
     pub(crate) fn check(code: u8) -> Result<(), Error> {
         Err(match code {
             fastbloom_c_sys::FASTBLOOM_OK => return Ok(()),

@@ -1,5 +1,5 @@
-//! Bloom filters: sets of texts and bytes that never miss a member, and now and then take something
-//! else for one.
+//! Bloom filters: sets of texts and bytes with no false negatives, and with false positives at a
+//! chosen rate.
 //!
 //! ```
 //! use fastbloom_c::{BloomFilter, Error, Rate};
@@ -45,16 +45,16 @@
 //! # Keys
 //!
 //! The key is zero unless [`seed`](BuilderWithBits::seed) sets another one. Where others choose the
-//! items, draw it: who knows the key can choose items that fill the filter, or that it takes for
-//! members. `Debug` doesn't show the key. A file has it.
+//! items, draw it: who knows the key can choose items that fill the filter, or that are false
+//! positives. `Debug` doesn't show the key. A file has it.
 //!
 //! # Threads
 //!
 //! A [`BloomFilter`] is `Send` and `Sync`: a call that changes it takes `&mut self`, and threads
-//! look up at once through `&self`. An [`AtomicBloomFilter`] is for threads that insert at once: each
-//! call takes `&self`, and none waits for another. Where one thread inserts, take the first, whose
-//! inserts are quicker. A [`BlockedBloomFilter`] and an
-//! [`AtomicBlockedBloomFilter`] are as these two.
+//! look up at once through `&self`. An [`AtomicBloomFilter`] is for threads that insert at once:
+//! each call takes `&self`, and none waits for another. Where one thread inserts, take the first,
+//! whose inserts are quicker. A [`BlockedBloomFilter`] and an [`AtomicBlockedBloomFilter`] are as
+//! these two.
 //!
 //! # Panics
 //!

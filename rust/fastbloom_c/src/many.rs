@@ -78,7 +78,7 @@ impl BloomFilter {
         told
     }
 
-    /// Tells for each hash whether it is contained, maybe by mistake.
+    /// Tells for each hash whether it is contained. True may be a false positive.
     ///
     /// ```
     /// # use fastbloom_c::BloomFilter;

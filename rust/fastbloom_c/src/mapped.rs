@@ -104,7 +104,7 @@ impl MappedFilter {
         mapping.map(MappedFilter)
     }
 
-    /// Whether an item is contained, maybe by mistake; never false for one that was inserted.
+    /// Whether an item is contained. False: it was never inserted. True may be a false positive.
     #[must_use]
     pub fn contains(&self, val: &(impl AsRef<[u8]> + ?Sized)) -> bool {
         raw::contains(self.as_slice(), self.num_hashes(), self.key(), val.as_ref())

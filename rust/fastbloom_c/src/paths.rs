@@ -9,7 +9,7 @@ use std::path::{Path, PathBuf};
 use std::process;
 use std::sync::atomic::{AtomicU64, Ordering};
 
-/// A new file beside another one, which is removed unless it takes that one's place.
+/// A new file beside another one, which is removed unless it replaces that one.
 struct Part {
     path: PathBuf,
     file: File,
@@ -88,8 +88,8 @@ pub(crate) fn save(path: &Path, write: impl FnOnce(&mut File) -> io::Result<()>)
 }
 
 impl BloomFilter {
-    /// Writes the file of this filter, sealed, whole or not at all: a new file beside the one at the
-    /// path, which then takes its place, and has its owner and mode.
+    /// Writes the file of this filter, sealed, whole or not at all. A new file is written beside
+    /// the one at the path, gets its owner and mode, and then replaces it.
     ///
     /// ```
     /// # use fastbloom_c::BloomFilter;

@@ -170,7 +170,7 @@ impl Bracket {
     /// ```
     /// use fastbloom_c::BloomFilter;
     ///
-    /// // One item turns on at most one of 64 bits.
+    /// // One item sets at most one of 64 bits.
     /// let seen = BloomFilter::with_num_bits(64)?.hashes(1);
     /// assert_eq!(seen.expected_false_pos(1).to_f64(), 1.0 / 64.0);
     /// # Ok::<(), fastbloom_c::Error>(())

@@ -141,7 +141,7 @@ pub fn finish_hash(hashing: &Hashing) -> u64 {
     unsafe { sys::fastbloom_hasher_finish(hashing) }
 }
 
-/// Inserts a hash, and answers whether it was contained.
+/// Inserts a hash, and returns whether it was contained before.
 pub fn insert_hash(words: &mut [u64], num_hashes: u32, hash: u64) -> bool {
     // SAFETY: the words are a slice of this length, which is borrowed for writing.
     unsafe { sys::fastbloom_insert_hash(words.as_mut_ptr(), words.len(), num_hashes, hash) }
@@ -209,7 +209,7 @@ pub fn insert_hashes_tell_new(
     }
 }
 
-/// Inserts the hash of the bytes, and answers whether it was contained.
+/// Inserts the hash of the bytes, and returns whether it was contained before.
 pub fn insert(words: &mut [u64], num_hashes: u32, key: &Key, bytes: &[u8]) -> bool {
     // SAFETY: the key has sixteen bytes, and the others are slices of their lengths. The words are
     // borrowed for writing, so that the others lie elsewhere.

@@ -86,8 +86,8 @@ impl<W: AsRef<[AtomicU64]>> AtomicBloomFilter<W> {
         raw_shared::insert(self.as_slice(), self.num_hashes, &self.key, val.as_ref())
     }
 
-    /// Whether an item is contained, maybe by mistake. While no call clears bits, false means that no
-    /// insert of it had returned when this call began.
+    /// Whether an item is contained. True may be a false positive. While no call clears bits, false
+    /// means that no insert of it had returned when this call began.
     #[must_use]
     pub fn contains(&self, val: &(impl AsRef<[u8]> + ?Sized)) -> bool {
         raw_shared::contains(self.as_slice(), self.num_hashes, &self.key, val.as_ref())

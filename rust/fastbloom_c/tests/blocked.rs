@@ -30,7 +30,7 @@ fn row(session: u64, indices: std::ops::Range<u64>) -> Vec<u64> {
     indices.map(|index| drawn(session, index)).collect()
 }
 
-/// Answers as words of 64 bits.
+/// Results of calls as words of 64 bits.
 fn words_of(told: &[bool]) -> impl Iterator<Item = u64> + '_ {
     let word_of = |part: &[bool]| {
         part.iter()
@@ -40,7 +40,7 @@ fn words_of(told: &[bool]) -> impl Iterator<Item = u64> + '_ {
     told.chunks(64).map(word_of)
 }
 
-/// All answers of a session and then all words, folded into one number.
+/// All results of a session and then all words, folded into one number.
 fn number_of(session: u64) -> u64 {
     let lines = match session % 50 {
         49 => 16384 + session,

@@ -36,7 +36,7 @@ impl Read for Slow<'_> {
     }
 }
 
-/// What each way to read answers, where all agree.
+/// What each way to read returns, where all agree.
 fn read(file: &[u8]) -> Result<BloomFilter, Error> {
     let answer = BloomFilter::from_bytes(file);
     assert_eq!(BloomFilter::read_file(&mut &*file), answer);

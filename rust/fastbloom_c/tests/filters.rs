@@ -1,4 +1,4 @@
-//! What filters hold and answer. The values are from outside: SipHash-1-3 of Rust itself, a model
+//! What filters hold and return. The values are from outside: SipHash-1-3 of Rust itself, a model
 //! in Python, and values worked by hand.
 
 use fastbloom_c::{hash, BloomFilter, Error, Hasher, Rate};
