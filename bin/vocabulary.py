@@ -1,66 +1,74 @@
-"""The words that a reader of this repository meets: one for each thing.
+"""One word for each thing, in all texts for readers.
 
-`faults_of` tells where a text for readers has a word in place of which another one is used here.
-Texts for readers are the documents, the comments of documentation in Rattle and Rust, the comments
-of C and C++, the docstrings and comments of the Python package, and the help of the programs.
-Blocks of code and what stands between backticks are none: names stay as they are, and texts that
-programs print are quoted so.
+A text for readers is a document, a comment of documentation in Rattle or Rust, a comment in C or
+C++, a docstring or comment of the Python package, or the help of a program. `faults_of` tells where
+such a text uses a word for which this repository has another one. It reads no blocks of code, and
+nothing between backticks: names may have any words, and texts that programs print are quoted so.
 """
 
 import ast
 import functools
 import re
 
-# What stands before `answers` where that is a noun.
-OF_A_NOUN = ('the', 'an', 'its', 'their', 'whose', 'all', 'these', 'those', 'of', 'same', 'equal', 'each',
-             'every', 'no', 'two', 'such', 'other', 'more', 'right')
-IS_A_VERB = r'\b(?=answer)' + ''.join(rf'(?<!\b{word} )' for word in OF_A_NOUN)
-# What of a filter is a position.
-OF_A_PLACE = r'(?:hash(?:es)?|bits?|chains?|query|queries|words)'
-# What may be truncated.
+
+
+def not_behind(*words):
+    """An expression of a place that stands behind none of these words."""
+    return ''.join(rf'(?<!\b{word} )' for word in words)
+
+
+# Where `answers` is no noun, and what may follow it then.
+VERB = r'\b(?=answer)' + not_behind(
+    'the', 'an', 'its', 'their', 'whose', 'all', 'these', 'those', 'of', 'same', 'equal', 'each', 'every',
+    'no', 'two', 'such', 'other', 'more', 'right')
+OBJECT = (r'(?:\[?`|(?:true|false|whether|which|what|how|the|its|each|every|alike|likewise|as|with|an?|one'
+          r'|exactly|nothing|none|no|\d+)\b)')
+# What is set or cleared, what may be truncated, and what has positions.
+BITS = r'(?:it|them|one|none|both|(?:[\w\'`]+ ){0,3}?(?:bits?|positions?|words?))'
 FILES = r'(?:files?|filters?|heads?|texts?|inputs?|words)'
-# Each word by its expression, and what is said in place of it.
-WORDS = [
-    (r'\b(?=turn)(?<!\bin )(?<!\bits )(?<!\bby )turn(?:s|ed|ing)? (?:(?:it|them|one|none|both|(?:[\w\'`]+ ){0,3}?'
-     r'(?:bits?|positions?|words?)) )?(?:on|off)\b', 'set, or clear'),
+HASHES = r'(?:hash(?:es)?|bits?|chains?|query|queries|words)'
+# Expressions of words, and what to say.
+WORDS = [(re.compile(word, re.IGNORECASE), better) for word, better in [
+    (r'\b(?=turn)' + not_behind('in', 'its', 'by') + rf'turn(?:s|ed|ing)? (?:{BITS} )?(?:on|off)\b',
+     'set, or clear'),
     (r'\bby mistake\b', 'a false positive'),
-    (IS_A_VERB + r'answer(?:s|ed|ing)? (?:\[?`|(?:true|false|whether|which|what|how|the|its|each|every|alike'
-     r'|likewise|as|with|an?|one|exactly|nothing|none|no|\d+)\b)', 'returns, or of a program: replies'),
+    (rf'{VERB}answer(?:s|ed|ing)? {OBJECT}', 'returns, or of a program: replies'),
     (rf'\b{FILES}\b(?:,? (?:that|which))? (?:is|are|was|were) cut\b(?! into\b)', 'truncated'),
     (rf'\bcut (?:or (?:an? )?\w+ )?{FILES}\b', 'truncated'),
-    (rf'\b(?=place)(?<!\bin )places?(?: i)? (?:of|among) (?:[\w\'`,.]+ ){{0,3}}?{OF_A_PLACE}\b', 'position'),
-]
-WORDS = [(re.compile(word, re.IGNORECASE), instead) for word, instead in WORDS]
+    (r'\b(?=place)' + not_behind('in') + rf'places?(?: i)? (?:of|among) (?:[\w\'`,.]+ ){{0,3}}?{HASHES}\b',
+     'position'),
+]]
 # Texts that programs print, and that stay as they are.
 FIXED = ('| the file is cut |', 'that may be held back by mistake')
-# Files of Rattle whose strings are the help of a program.
+# Files in Rattle whose strings are the help of a program.
 HELP = ('/command_line.rt', '/bloom/src/texts.rt')
 
 FENCE = re.compile(r'\s*(`{3,}|~{3,})')
 CODE = re.compile(r'(`+)(?!`).+?(?<!`)\1(?!`)')
+TARGET = re.compile(r'\]\([^()]*\)')
 
 
-def blanked(pattern, text, mark):
-    """A text of the same length, with a mark in place of each letter of what fits."""
+def masked(pattern, mark, text):
+    """A text of the same length, in which a mark stands for each letter of what fits a pattern."""
     return pattern.sub(lambda found: mark * len(found.group()), text)
 
 
 def faults_in(path, lines):
-    """What is wrong in one paragraph, of lines with their numbers."""
+    """The faults of a paragraph, which is lines with their numbers."""
     text, numbers = '', []
     for number, line in lines:
         numbers += [number] * (len(line) + 1)
         text += line + ' '
     for fixed in FIXED:
         text = text.replace(fixed, '|' * len(fixed))
-    text = blanked(re.compile(r'\]\([^()]*\)'), blanked(CODE, text, '`'), ']')
-    for word, instead in WORDS:
+    text = masked(TARGET, ']', masked(CODE, '`', text))
+    for word, better in WORDS:
         for found in word.finditer(text):
-            yield f'{path}:{numbers[found.start()]}: "{found.group().strip("`[ ")}": say {instead}'
+            yield f'{path}:{numbers[found.start()]}: "{found.group().strip("`[ ")}": say {better}'
 
 
-def without_code(lines):
-    """Lines with their numbers, but blocks of code, and paragraphs of them."""
+def paragraphs_of(lines):
+    """The paragraphs of lines with their numbers, without blocks of code."""
     end, paragraph = None, []
     for number, line in lines:
         fence = FENCE.match(line)
@@ -68,7 +76,7 @@ def without_code(lines):
             end = None if fence and line.strip() == end else end
             continue
         end = fence and fence.group(1)
-        # A row of a table, a heading and an item of a list begin something new.
+        # A row of a table, a heading and an item of a list are paragraphs of their own.
         is_new = re.match(r'\s*(?:[-*|#]|\d+\. )', line)
         if paragraph and (is_new or end or not line.strip()):
             yield paragraph
@@ -94,7 +102,7 @@ def runs_of(lines, mark):
 
 
 def comments_of_c(text):
-    """The comments between /* and */, and the runs of those after //."""
+    """The comments between /* and */, and the runs of lines behind //."""
     for found in re.finditer(r'/\*(.*?)\*/', text, re.DOTALL):
         first = text.count('\n', 0, found.start()) + 1
         yield [(first + at, re.sub(r'^\s*\*', '', line))
@@ -111,8 +119,7 @@ def comments_of_python(text):
 
 
 def strings_of(text):
-    """What stands between quotes, if it's more than a word."""
-    for found in re.finditer(r'"((?:[^"\\]|\\.)* (?:[^"\\]|\\.)*)"', text):
+    for found in re.finditer(r'"((?:[^"\\]|\\.)*)"', text):
         first = text.count('\n', 0, found.start()) + 1
         yield [(first + at, line) for at, line in enumerate(found.group(1).split('\n'))]
 
@@ -133,6 +140,6 @@ def texts_of(path, text):
 
 @functools.lru_cache(maxsize=None)
 def faults_of(path, text):
-    """What is wrong in a file."""
-    return [fault for lines in texts_of(path, text) for paragraph in without_code(lines)
+    """The faults of a file."""
+    return [fault for lines in texts_of(path, text) for paragraph in paragraphs_of(lines)
             for fault in faults_in(path, paragraph)]
