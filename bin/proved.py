@@ -38,18 +38,22 @@ class Crate:
             shutil.copytree(source, made, copy_function=copy)
 
 
-def crates_of(tree):
-    """The repository's crates by name, lowest first."""
+def rows_of(tree):
+    """The rows of crates.txt by the names of their crates, and what each of these uses."""
     with open(f'{tree}/crates.txt', encoding='utf-8') as it:
         rows = [row for row in (line.partition('#')[0].strip() for line in it) if row]
-    rows = {re.split(r'[\s:]', row)[0]: row for row in rows}
-    crates = {}
+    return {re.split(r'[\s:]', row)[0]: (row, row.partition(':')[2].split()) for row in rows}
+
+
+def crates_of(tree):
+    """The repository's crates by name, lowest first."""
+    rows, crates = rows_of(tree), {}
 
     def add(name):
         if name not in crates:
-            uses = [it for it in rows[name].partition(':')[2].split() if it in rows]
-            below = [lower for it in uses for lower in (*add(it).libraries, it)]
-            crates[name] = Crate(name, rows[name], list(dict.fromkeys(below)))
+            row, uses = rows[name]
+            below = [lower for it in uses if it in rows for lower in (*add(it).libraries, it)]
+            crates[name] = Crate(name, row, list(dict.fromkeys(below)))
         return crates[name]
 
     for name in rows:

@@ -140,13 +140,14 @@ def handed_on(*words):
         for name in ('old', 'new'):
             write(f'{top}/crates/{name}/wrong-bodies/a.edit', 'text')
         write(f'{top}/crates/old/wrong-bodies/RECORD', 'text')
-        calls = [f'bin/{name}' for name in os.listdir(BIN) if os.path.isfile(f'{BIN}/{name}')]
+        check = f'{os.path.dirname(BIN)}/.ci/run'
+        calls = set(re.findall(r'\b(?:bin|dev)/[\w-]+', bytes_of(check).decode()))
         for file in ('rt', *calls):
             told = f'echo {file} "$@" >> {top}/log'
             write(f'{top}/{file}', f'#!/bin/sh\n{told}\necho 1 passed, 0 failed\n')
             os.chmod(f'{top}/{file}', 0o755)
         os.mkdir(f'{top}/.ci')
-        shutil.copy(f'{os.path.dirname(BIN)}/.ci/run', f'{top}/.ci/run')
+        shutil.copy(check, f'{top}/.ci/run')
         env = {**os.environ, 'PATH': f'{top}:{os.environ["PATH"]}'}
         run = subprocess.run([f'{top}/.ci/run', *words], env=env, capture_output=True, text=True)
         called = bytes_of(f'{top}/log').decode() if os.path.exists(f'{top}/log') else ''

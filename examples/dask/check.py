@@ -20,12 +20,13 @@ import dask.bag
 from dask import delayed
 from distributed import Client
 
+TOP = Path(__file__).resolve().parents[2]
+sys.path.insert(0, str(TOP / "examples/dask"))
 import bloom_dask
 from fastbloom import Filter
 from machines import MARK, PATIENCE, cluster, is_open, namespaces, none_left, started, wait_for
 
-HERE = Path(__file__).resolve().parent
-SHARDS = [sys.executable, HERE / "shards.py"]
+SHARDS = [sys.executable, TOP / "examples/dask/shards.py"]
 KEYS, FILES, LINES = 1_000_000, 64, 50_000_000
 SIZE = ["--items", KEYS, "--rate", "1/1000"]
 
@@ -98,8 +99,8 @@ def on_other_machines(checks):
     folder, out = checks.folder, checks.folder / "killed.bloom"
     with namespaces() as (near, far, here, there):
         with cluster(folder, near, far, here, there) as address:
-            status, output, errors = run(*near, sys.executable, HERE / "killing.py", address,
-                                         checks.keys, KEYS, out)
+            status, output, errors = run(*near, sys.executable, TOP / "examples/dask/killing.py",
+                                         address, checks.keys, KEYS, out)
             killed, parts, done = map(int, output.split()) if status == 0 else (0, 0, 0)
             checks.check(f"{killed} workers are killed, and {done} tasks do {parts} parts",
                          (0, "", 3, FILES + 1, True), (status, errors, killed, parts, done > parts))
@@ -273,12 +274,18 @@ def refusals(checks, client, frame, built):
         checks.check(f"refused: {what}", wanted, why(call))
 
 
+def files_here():
+    """The files beside this one, and beside the module that it tests."""
+    folders = {Path(it).resolve().parent for it in (__file__, bloom_dask.__file__)}
+    return sorted(it for folder in folders for it in folder.rglob("*"))
+
+
 def main(summaries):
     # Nobody asks for the time-outs of connections to workers that were killed.
     logging.getLogger("asyncio").setLevel(logging.CRITICAL)
     signal.signal(signal.SIGTERM, lambda number, _: sys.exit(128 + number))
     signal.signal(signal.SIGINT, signal.default_int_handler)  # it may be ignored, and so inherited
-    tree = sorted(HERE.rglob("*"))
+    tree = files_here()
     with tempfile.TemporaryDirectory(prefix="test-dask-") as folder:
         os.environ.update({MARK: str(os.getpid()), "TMPDIR": folder})
         os.chdir(folder)
@@ -290,7 +297,7 @@ def main(summaries):
             except Exception as error:
                 checks.check(f"{part.__name__} ends well", None, error)
         checks.check("no process is left", [], none_left())
-    checks.check("no file is left in the tree", tree, sorted(HERE.rglob("*")))
+    checks.check("no file is left in the tree", tree, files_here())
     print(f"test-dask: {checks.passed} passed, {checks.failed} failed")
     sys.exit(checks.failed > 0)
 

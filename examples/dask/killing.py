@@ -13,6 +13,7 @@ from pathlib import Path
 from distributed import Client
 from distributed.diagnostics.plugin import SchedulerPlugin
 
+sys.path.insert(0, str(Path(__file__).resolve().parents[2] / "examples/dask"))
 import bloom_dask
 from machines import PATIENCE, WORKERS
 

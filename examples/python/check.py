@@ -91,7 +91,7 @@ def mapped(seen, path):
 
 def worked(folder):
     """The file in hexadecimal digits is read and written."""
-    wanted = bytes.fromhex((Path(__file__).resolve().parents[1] / "file.hex").read_text())
+    wanted = bytes.fromhex((Path(__file__).resolve().parents[2] / "examples/file.hex").read_text())
     path = folder / "worked.bloom"
     path.write_bytes(wanted)
     read = Filter.load(path)
