@@ -207,7 +207,8 @@ impl MappedBlockedFilter {
         raw_blocked::lines(self.as_slice())
     }
 
-    /// Whether an item is contained, maybe by mistake; never false for one that was inserted.
+    /// Whether an item is contained. It may be a false positive, and is never false for one that was
+    /// inserted.
     #[must_use]
     pub fn contains(&self, val: &(impl AsRef<[u8]> + ?Sized)) -> bool {
         raw_blocked::contains(self.lines(), self.num_hashes(), self.key(), val.as_ref())
