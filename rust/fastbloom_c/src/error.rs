@@ -118,7 +118,7 @@ impl Error {
             fastbloom_c_sys::FASTBLOOM_PART_OF_A_LINE => Error::PartOfALine,
             fastbloom_c_sys::FASTBLOOM_BLOCKED => Error::Blocked,
             fastbloom_c_sys::FASTBLOOM_NOT_BLOCKED => Error::NotBlocked,
-            _ => unreachable!("the library answers no other number"),
+            _ => unreachable!("the library returns no other number"),
         })
     }
 }

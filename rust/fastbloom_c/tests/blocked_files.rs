@@ -41,7 +41,7 @@ impl Drop for Place {
     }
 }
 
-/// What each way to read answers, where all agree.
+/// What each way to read returns, where all agree.
 fn read(place: &Place, file: &[u8]) -> Result<BlockedBloomFilter, Error> {
     let answer = BlockedBloomFilter::from_bytes(file);
     assert_eq!(BlockedBloomFilter::read_file(&mut &*file), answer);
