@@ -46,6 +46,9 @@ class Tests:
         if not re.search(r'^test result: .* [1-9]\d* (?:passed|failed)', said, re.MULTILINE):
             raise Unrun(' / '.join(said.rstrip('\n').split('\n')[-3:]))
         failed = re.search(r'^test (\S+) \.\.\. FAILED\n\s*(.*)', said, re.MULTILINE)
+        # (a machine that is busy or stands still tells nothing of a body)
+        if failed and 'time limit' in failed[2]:
+            raise Unrun(f'{failed[1]}: {failed[2]}')
         return ' '.join([*flags, f'{failed[1]}: {failed[2]}']) if failed else ''
 
 
