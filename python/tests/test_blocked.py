@@ -17,7 +17,7 @@ from fastbloom import (
 
 WORD = 2**64
 
-# What bin/blocked-model says of these sessions.
+# What dev/blocked-model says of these sessions.
 WANTED = {
     0: 10201929447077217113,
     1: 9114022726019433226,
@@ -35,7 +35,7 @@ WANTED = {
 
 COUNTING_KEY = bytes(range(16))
 # One line, three hashes, and the key bytes 0 to 15, of `crab` and `lobster`: the file that
-# bin/blocked-model --file makes, and docs/FILE.md explains.
+# dev/blocked-model --file makes, and docs/FILE.md explains.
 WORKED = bytes.fromhex(
     "66626c6f6f6d0031 0300000000000000 0800000000000000 0001020304050607 08090a0b0c0d0e0f"
     "cb93f2d0c688fbf4 0100000000000000 0000000000000000 0000000000000000 0000000000040000"

@@ -1,4 +1,4 @@
-/* Blocked filters: `blocked` makes the sessions that bin/blocked-model tells of, and prints the
+/* Blocked filters: `blocked` makes the sessions that dev/blocked-model tells of, and prints the
  * number of each, in which all results and words are folded. The words begin in the midst of a line
  * of the cache, and words behind the last line have to stay as they are. By the calls on words that
  * threads share one thread alone has to get the same. Then it tries the calls by bytes, plans, and

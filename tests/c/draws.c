@@ -1,4 +1,4 @@
-/* Measures how near the premise of the proved rates comes to what filters do, as bin/draws has it
+/* Measures how near the premise of the proved rates comes to what filters do, as dev/draws has it
  * compiled and called. A line of its output is a row of a table. */
 #include <math.h>
 #include <stdio.h>

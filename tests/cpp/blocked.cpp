@@ -1,5 +1,5 @@
 // Blocked filters by the classes of C++: `blocked HEX FOLDER [FILE..]` makes the sessions that
-// bin/blocked-model tells of, and prints the number of each, in which all results and words are
+// dev/blocked-model tells of, and prints the number of each, in which all results and words are
 // folded. The class of filters that threads share gets the same by one thread. Then it tries what
 // the classes add to the calls of C, and files. HEX is the worked file in hexadecimal digits. It
 // leaves the file of item0 to item999 in FOLDER/cpp.blocked, and wants it in each FILE.

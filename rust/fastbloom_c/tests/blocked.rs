@@ -3,7 +3,7 @@
 use fastbloom_c::{AtomicBlockedBloomFilter, BlockedBloomFilter, Error, Rate};
 use std::sync::atomic::AtomicU64;
 
-/// What bin/blocked-model says of these sessions.
+/// What dev/blocked-model says of these sessions.
 const WANTED: [(u64, u64); 11] = [
     (0, 10201929447077217113),
     (1, 9114022726019433226),

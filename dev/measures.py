@@ -1,6 +1,6 @@
 """What the programs, the library for C and the bench cost, beside what people use in their place.
 
-bin/bench-against prints tables of it, and bin/pictures draws it. A row is a dictionary. What is
+dev/bench-against prints tables of it, and dev/pictures draws it. A row is a dictionary. What is
 left out for want of a tool is told in a line.
 """
 
@@ -242,11 +242,11 @@ def compile_peers(room):
         raise Failed("no <bloom.h>: libbloom is left out")
     folder = build_library()
     run = subprocess.run([*compiler, "-std=c99", "-O2", "-Wall", "-Wextra", "-Wpedantic", "-Werror",
-                          f"-I{folder}/include", f"{TOP}/examples/c/peers.c", f"-L{folder}",
+                          f"-I{folder}/include", f"{TOP}/tests/c/peers.c", f"-L{folder}",
                           "-lfastbloom_c", f"-Wl,-rpath,{folder}", "-lbloom", "-o", f"{room}/peers"],
                          check=False)
     if run.returncode:
-        raise Failed("examples/c/peers.c doesn't compile")
+        raise Failed("tests/c/peers.c doesn't compile")
     return f"{room}/peers"
 
 
@@ -358,7 +358,7 @@ def time_threads(keys, rounds):
     return rows
 
 
-# What bin/bench-against --peers measures
+# What dev/bench-against --peers measures
 
 def compare_peers(lines, sizes, runs, word=""):
     """Makes the rows of each subject whose name goes on with the word behind `peers-`.

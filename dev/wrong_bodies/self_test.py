@@ -1,4 +1,4 @@
-"""The test of `bin/wrong-bodies` itself."""
+"""The test of `dev/wrong-bodies` itself."""
 import contextlib
 import glob
 import io
@@ -151,7 +151,7 @@ def handed_on(*words):
         env = {**os.environ, 'PATH': f'{top}:{os.environ["PATH"]}'}
         run = subprocess.run([f'{top}/.ci/run', *words], env=env, capture_output=True, text=True)
         called = bytes_of(f'{top}/log').decode() if os.path.exists(f'{top}/log') else ''
-        tries = re.findall(r'^bin/wrong-bodies (--record )?((?:new |old ?)+)$', called, re.M)
+        tries = re.findall(r'^dev/wrong-bodies (--record )?((?:new |old ?)+)$', called, re.M)
         return run.returncode, tries, 'wrong bodies of new' in run.stdout
 
 

@@ -13,7 +13,7 @@ BIN = os.path.dirname(os.path.dirname(os.path.realpath(__file__)))
 UNUSED = ('by_tests.py', 'self_test.py', 'standing.py')
 HEAD = """\
 # Each of these bodies was refused. The last line is a checksum of the lines above it and of all
-# that the bodies were tried on. `bin/wrong-bodies --record` writes this file, and nobody edits it.
+# that the bodies were tried on. `dev/wrong-bodies --record` writes this file, and nobody edits it.
 """
 
 

@@ -1,6 +1,6 @@
 """What the programs of this repository print for --help, taken apart.
 
-bin/manuals and bin/completions make manual pages and completions of it. Such a text has an about,
+dev/manuals and dev/completions make manual pages and completions of it. Such a text has an about,
 a line 'Usage: ..', and sections, each a line that ends in a colon above entries:
 
   -c, --count <N>  How often [default: 1]

@@ -81,7 +81,7 @@ fn refused() -> Result<(), Error> {
 /// The file in hexadecimal digits is written and read.
 fn worked() -> Result<(), Box<dyn std::error::Error>> {
     let mut wanted = Vec::new();
-    for line in include_str!("../../file.hex").lines() {
+    for line in include_str!("../../../examples/file.hex").lines() {
         wanted.extend(u64::from_str_radix(line, 16)?.to_be_bytes());
     }
     let seed = u128::from_be_bytes(counting_key());

@@ -99,7 +99,7 @@ def on_other_machines(checks):
     folder, out = checks.folder, checks.folder / "killed.bloom"
     with namespaces() as (near, far, here, there):
         with cluster(folder, near, far, here, there) as address:
-            status, output, errors = run(*near, sys.executable, TOP / "examples/dask/killing.py",
+            status, output, errors = run(*near, sys.executable, TOP / "tests/dask/killing.py",
                                          address, checks.keys, KEYS, out)
             killed, parts, done = map(int, output.split()) if status == 0 else (0, 0, 0)
             checks.check(f"{killed} workers are killed, and {done} tasks do {parts} parts",
