@@ -1,9 +1,12 @@
 mod AnswerFacts
 mod AskingLemmas
+mod BlockedLemmas
+mod BothLemmas
 mod ComparingFacts
 mod ComparingLemmas
 mod CutLemmas
 mod CuttingLemmas
+mod FilledLemmas
 mod InputFacts
 mod InputLemmas
 mod KeyLemmas

@@ -8,7 +8,7 @@ shards-init g c = uniting-none c.args.first
 -- one more filter is given and united
 pub shards-preserved : goal.shards-preserved
 shards-preserved g c = let did = c.in-Ok-add.ensures in
-    uniting-next c.shards.invariant c.in-Ok.is did.fits did.key did.unites
+    uniting-next c.shards.invariant c.in-Ok.is did.fits did.unites
     c.saturating_add-number.ensures
 
 -- the iterator has ended
@@ -16,7 +16,8 @@ pub returns-clause-whole : goal.returns-clause-whole
 returns-clause-whole g c =
     uniting-all c.shards.invariant g.I.IntoIter.Iterator.next_gives _
     c.into_iter-shard-iterator.ensures.into_iter_gives c.shards.yielded_by c.in-None.ensures.steps
-    c.equality_of_filters.ensures.words c.fill_of_any_cutting.ensures c.filled_contains.ensures
+    c.equality_of_filters.ensures.words c.equality_of_filters.ensures.content
+    c.fill_of_any_cutting.ensures c.filled_contains.ensures c.test_of_hash.ensures
     c.as_slice-words.ensures.range
 
 -- the iterator gave an error
@@ -31,4 +32,4 @@ pub returns-in-Err-add-clause-refused : goal.returns-in-Err-add-clause-refused
 returns-in-Err-add-clause-refused g c =
     uniting-misfit c.shards.invariant g.I.IntoIter.Iterator.next_gives _
     c.into_iter-shard-iterator.ensures.into_iter_gives c.shards.yielded_by c.in-Some.ensures.steps
-    c.in-Ok.is c.in-Err-add.is c.add.ensures.shape c.add.ensures.other c.add.ensures.order
+    c.in-Ok.is c.in-Err-add.ensures.differs
