@@ -1,5 +1,6 @@
 mod AnswerFacts
 mod AskingLemmas
+mod BlockedFacts
 mod BlockedLemmas
 mod BothLemmas
 mod ComparingFacts

@@ -28,6 +28,6 @@ pub use kinds::AnyFilter;
 pub use loading::load;
 pub use shards::{Shelf, unite_named};
 pub use sizes::shape_for;
-pub use stop::{Stop, twice, unsaid, unshaped, written};
+pub use stop::{Stop, no_json, twice, unsaid, unshaped, written};
 pub use summary::{build, cut};
 pub use unions::{Difference, Refusal, add, unite};
