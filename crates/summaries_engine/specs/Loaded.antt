@@ -58,7 +58,8 @@ IsToldOf name file_error.Memory stop = IsMemory stop
 IsToldOf name (file_error.Input kind) stop = IsUnreadAs kind name stop
 IsToldOf name _ stop = SaysNone name stop
 
--- the layout that a whole head tells. A file that ends within its head is refused, whatever it tells
+-- the layout that a whole head tells. A file that ends within its head is refused, whatever it
+-- tells
 abbrev pub layout_told : List ℕ → Layout
 layout_told bytes =
     if nat_le 64 (length bytes) && nat_eq (number_at bytes 6) 1 then Lines else Whole

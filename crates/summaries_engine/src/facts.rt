@@ -155,10 +155,10 @@ pub fn blocked_facts_of(
     ensures { IfOk result (λ text. string_bytes text ≡ blocked_text filter.now form) }
 {
     let (bits, hashes) = (filter.num_bits(), filter.num_hashes());
-    let (k0, k1) = filter.hasher().key();
-    let key = key_line(alloc, k0, k1)?;
-    let ones = filter.count_ones();
-    let set = set_line(alloc, ones, share(ones, bits))?;
+    let (low, high) = filter.hasher().key();
+    let key = key_line(alloc, low, high)?;
+    let count = filter.count_ones();
+    let set = set_line(alloc, count, share(count, bits))?;
     let name = name_of(form);
     format!(in alloc; "kind: blocked\nform: {name}\nbits: {bits}\nhashes: {hashes}\n{key}{set}")
 }

@@ -89,7 +89,7 @@ fn load_blocked<R: Read>(
 {
     match BlockedBloomFilter::read_file(alloc, &mut start.chain(input)) {
         Ok(read) => Ok(read),
-        Err(error) => Err(unloaded(name, error)),
+        Err(why) => Err(unloaded(name, why)),
     }
 }
 

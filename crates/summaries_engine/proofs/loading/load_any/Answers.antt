@@ -3,7 +3,7 @@ use Rattle.summaries_engine.proofs.LoadedLemmas.{in-file-form, in-no-file-form, 
 use Rattle.summaries_engine.proofs.UnloadedLemmas.{layout-right, text-right}
 use Rattle.summaries_engine.proofs.loading.load_any.Goals as goal
 
--- a file of the form
+-- a file of the form, and text
 pub returns-in_ok-filter-clause-form : goal.returns-in_ok-filter-clause-form
 returns-in_ok-filter-clause-form g c =
     let read = c.read_full.ensures in
@@ -11,7 +11,6 @@ returns-in_ok-filter-clause-form g c =
     (read-first _ _ _ _ _ c.in-Ok.is read.room read.count read.taken read.end)
     c.in_ok-filter.ensures.file c.form_of.ensures
 
--- text
 pub returns-in_ok-filter-2-clause-form : goal.returns-in_ok-filter-2-clause-form
 returns-in_ok-filter-2-clause-form g c =
     let read = c.read_full.ensures in

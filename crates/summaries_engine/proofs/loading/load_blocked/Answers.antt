@@ -7,5 +7,5 @@ use Rattle.summaries_engine.proofs.loading.load_blocked.Goals as goal
 -- what is told of the file's error
 pub returns-in-Err-clause-right : goal.returns-in-Err-clause-right
 returns-in-Err-clause-right g c =
-    file-right Lines c.args.start.now c.args.name.now _ _ c.in-Err.error _ _ c.chain.ensures.bytes
+    file-right Lines c.args.start.now c.args.name.now _ _ c.in-Err.why _ _ c.chain.ensures.bytes
     (ap result_err c.in-Err.is) c.read_file.ensures.refused c.unloaded.ensures.told
