@@ -59,14 +59,16 @@ hashes-left : HashesAll 10 (Some (97 ∷ [])) (Some (98 ∷ [])) [] (0x4074_48d2
 hashes-left did = cc (did.whole.none_left)
 
 -- whether the filter of "a" contains each
-pub found-a : (f : DefaultFilter) → IsFilter f 268500992 0 → contains f (hash_in (Classic f) (97 ∷ [])) ≡ true
+pub found-a : (f : DefaultFilter) → IsFilter f 268500992 0
+    → contains f (hash_in (Classic f) (97 ∷ [])) ≡ true
 unfolding content chain are_in
 found-a f is =
     ap (contains f) (hash-in f 268500992 0 (97 ∷ []) is ∙ hash-a)
     ∙ ap (λ w. are_in (64 * length w) f.hashes 0x4074_48d2_b89b_1813 (content w)) is.words
     ∙ ap (λ k. are_in 64 k 0x4074_48d2_b89b_1813 (content (268500992 ∷ []))) is.hashes
 
-found-b : (f : DefaultFilter) → IsFilter f 268500992 0 → contains f (hash_in (Classic f) (98 ∷ [])) ≡ false
+found-b : (f : DefaultFilter) → IsFilter f 268500992 0
+    → contains f (hash_in (Classic f) (98 ∷ [])) ≡ false
 unfolding content chain are_in
 found-b f is =
     ap (contains f) (hash-in f 268500992 0 (98 ∷ []) is ∙ hash-b)
@@ -90,7 +92,8 @@ text-zero f is = rw (found-b f is, found-a f is) refl
 
 -- a key that is in may not be told as absent
 absent-found : (f : DefaultFilter) → IsFilter f 268500992 0
-    → AnswersAll (Classic f) Absent 10 (Some (97 ∷ [])) (Some []) (Some []) (Some (97 ∷ 10 ∷ [])) → ⊥
+    → AnswersAll (Classic f) Absent 10 (Some (97 ∷ [])) (Some []) (Some []) (Some (97 ∷ 10 ∷ []))
+    → ⊥
 unfolding lines_by
 absent-found f is did = none did.keys did.whole.are_lines did.text
   where
@@ -150,7 +153,8 @@ answers-less f is did = none did.keys did.whole.are_lines did.text
         → told_text (Classic g) Found 10 ((97 ∷ []) ∷ []) ≡ 97 ∷ 10 ∷ []
     written g has = rw (found-a g has) refl
 
-    none : (keys : List (List ℕ)) → (97 ∷ []) ∷ [] ≡ keys → [] ≡ told_text (Classic f) Found 10 keys → ⊥
+    none : (keys : List (List ℕ)) → (97 ∷ []) ∷ [] ≡ keys
+        → [] ≡ told_text (Classic f) Found 10 keys → ⊥
     none keys same text =
         let wrong : 0 ≡ 2 =
         ap length (text ∙ ap (told_text (Classic f) Found 10) (sym same) ∙ written f is) in

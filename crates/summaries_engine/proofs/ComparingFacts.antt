@@ -110,7 +110,8 @@ tells-kinds text told = told
 
 -- filters whose keys differ aren't compared; here one lies under the first word of its key
 compares-keys : (text : List ℕ)
-    → ComparesNamed (λ name f. name ≡ (key_of (parts_of f).hasher).0 ∷ []) (0 ∷ []) (1 ∷ []) text → ⊥
+    → ComparesNamed (λ name f. name ≡ (key_of (parts_of f).hasher).0 ∷ []) (0 ∷ []) (1 ∷ []) text
+    → ⊥
 compares-keys text is =
     let wrong : ◌≡◌ {A = List ℕ} (0 ∷ []) (1 ∷ []) =
     is.is_first ∙ ap (λ pair. pair.0 ∷ []) is.fits.key ∙ sym is.is_second in cc

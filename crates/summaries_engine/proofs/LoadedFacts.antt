@@ -163,5 +163,6 @@ module _ (bytes : List ℕ) (said : Error) where
       → IsFileOfKind bytes did.filter
   hashes-own did sealed = (subst (λ form. IsInForm form did.filter bytes) sealed did.is).file
 
-  hashes-allowed : (did : HasHashesOf bytes (codes "a") 64 said) → (parts_of did.filter).hashes ≡ 64 → ⊥
+  hashes-allowed : (did : HasHashesOf bytes (codes "a") 64 said)
+      → (parts_of did.filter).hashes ≡ 64 → ⊥
   hashes-allowed did is = omega (arith, did.many, is)

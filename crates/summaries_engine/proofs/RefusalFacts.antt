@@ -94,7 +94,8 @@ misfit f g word kind is more = record {
 
 -- a filter of another shape doesn't come before the one that is refused
 misfit-before : (f g : AnyFilter) (given : List (Result AnyFilter ℕ)) (number : ℕ)
-    (how : Difference) (did : IsMisfit f given number how) → did.others ≡ g ∷ [] → (parts_of f).hashes ≡ 2
+    (how : Difference) (did : IsMisfit f given number how) → did.others ≡ g ∷ []
+    → (parts_of f).hashes ≡ 2
     → (parts_of g).hashes ≡ 3 → ⊥
 misfit-before f g given number how did is two three =
     let fits : Fits f g = subst (All (Fits f)) is did.fit 0 g (omega arith) in

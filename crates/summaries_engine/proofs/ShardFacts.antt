@@ -11,7 +11,8 @@ use Rattle.summaries_engine.specs.Summaries.{HaveSameKey, HaveSameKeys, IsSummar
 use Rattle.summaries_engine.proofs.SummaryFacts.{IsFilter, each-part, shape}
 
 module _ (f g made : DefaultFilter) (one : IsFilter f 268500992 0)
-    (other : IsFilter g 281492156579840 0) (unites : UnitesShards (Classic f ∷ Classic g ∷ []) (Classic made)) where
+    (other : IsFilter g 281492156579840 0) (unites : UnitesShards (Classic f ∷ Classic g ∷ [])
+    (Classic made)) where
   -- what is set in either filter is set in the union
   bit-of-either : (p : ℕ) → content made.words p ≡ content f.words p || (content g.words p || false)
   bit-of-either p = unites.union.bits p
@@ -38,13 +39,15 @@ module _ (f g made : DefaultFilter) (one : IsFilter f 268500992 0)
       (each-part f g one other) (1, lit< tt, refl)
 
 -- a first filter and one that was given are united
-given-unites : (f g made : DefaultFilter) → UnitesGiven {E = ℕ} (Classic f) (Ok (Classic g) ∷ []) (Classic made)
+given-unites : (f g made : DefaultFilter)
+    → UnitesGiven {E = ℕ} (Classic f) (Ok (Classic g) ∷ []) (Classic made)
     → UnitesShards (Classic f ∷ Classic g ∷ []) (Classic made)
 given-unites f g made did = of did.others did.all_read did.unites
   where
     of : (others : List AnyFilter)
         → ◌≡◌ {A = List (Result AnyFilter ℕ)} (Ok (Classic g) ∷ []) (map Ok others)
-        → UnitesShards (Classic f ∷ others) (Classic made) → UnitesShards (Classic f ∷ Classic g ∷ []) (Classic made)
+        → UnitesShards (Classic f ∷ others) (Classic made)
+        → UnitesShards (Classic f ∷ Classic g ∷ []) (Classic made)
     of [] is unites = cc (is)
     of (h ∷ []) is unites =
         let same : ◌≡◌ {A = AnyFilter} h (Classic g) = cc (is) in

@@ -71,7 +71,8 @@ pub hash-in : (f : DefaultFilter) (word low : ℕ) (key : List ℕ) → IsFilter
 hash-in f word low key is = ap (λ pair. sip pair.0 pair.1 key) is.key
 
 -- the summary of "a"
-pub summary-a : (f : DefaultFilter) → IsFilter f 268500992 0 → IsSummaryOf shape ((97 ∷ []) ∷ []) (Classic f)
+pub summary-a : (f : DefaultFilter) → IsFilter f 268500992 0
+    → IsSummaryOf shape ((97 ∷ []) ∷ []) (Classic f)
 summary-a f is = record {
   words = ap length is.words;
   num_hashes = is.hashes;

@@ -70,7 +70,8 @@ union-keyed : (f made : DefaultFilter) → IsFilter f 268500992 0 → IsFilter m
     → IsUnionOf (Classic f ∷ []) (Classic made) → ⊥
 union-keyed f made one is did =
     let wrong : 1 ≡ 0 =
-    ap (λ pair. pair.0) (sym is.key ∙ All-head (HaveSameKey (Classic made)) (Classic f) [] did.key ∙ one.key) in
+    ap (λ pair. pair.0) (sym is.key ∙ All-head (HaveSameKey (Classic made)) (Classic f) [] did.key
+    ∙ one.key) in
     omega (arith, wrong)
 
 -- the order makes no difference, nor does a key that comes twice
@@ -100,7 +101,8 @@ other-keys same =
     grind (arith, common_steps, there.1, there.2)
 
 -- a filter that wasn't read isn't among those united
-not-read : (f made : DefaultFilter) (error : ℕ) → UnitesGiven (Classic f) (Err error ∷ []) (Classic made) → ⊥
+not-read : (f made : DefaultFilter) (error : ℕ)
+    → UnitesGiven (Classic f) (Err error ∷ []) (Classic made) → ⊥
 not-read f made error did = none did.others did.all_read
   where
     none : (others : List DefaultFilter) → (Err error ∷ []) ≡ map Ok others → ⊥

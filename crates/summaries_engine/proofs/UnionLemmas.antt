@@ -21,7 +21,10 @@ pub union-first : (f : AnyFilter) → IsUnionOf (f ∷ []) f
 union-first f = record {
   bits = λ p. or_comm false (content (parts_of f).words p);
   kind = All-from_recursion (HaveSameKind f) (f ∷ []) (refl, tt);
-  shape = All-from_recursion (HaveSameShape f) (f ∷ []) (record { words = refl; hashes = refl }, tt);
+  shape = All-from_recursion (HaveSameShape f) (f ∷ []) (
+    record { words = refl; hashes = refl },
+    tt,
+  );
   key = All-from_recursion (HaveSameKey f) (f ∷ []) (refl, tt);
 }
 

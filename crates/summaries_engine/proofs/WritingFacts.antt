@@ -40,7 +40,8 @@ asking-write f read from stop over = inr (record {
 -- the key was written, and not its end
 key-alone : (f : DefaultFilter) (stop : Stop) → IsFilter f 268500992 0
     → IsUnwritten stop
-    → StopsWriting (Classic f) Found 10 [] (Some (97 ∷ 10 ∷ [])) (Some (5 ∷ [])) (Some (5 ∷ 97 ∷ [])) stop
+    → StopsWriting (Classic f) Found 10 [] (Some (97 ∷ 10 ∷ [])) (Some (5 ∷ [])) (Some (5 ∷ 97 ∷
+    [])) stop
 unfolding lines_by
 key-alone f stop is over = record {
   keys = (97 ∷ []) ∷ [];
@@ -72,11 +73,13 @@ byte-wrong : (f : DefaultFilter) (stop : Stop) → IsFilter f 268500992 0
 unfolding lines_by
 byte-wrong f said is stop =
     other-byte f is stop.keys stop.first.later stop.first.cut
-    (subst (Begins (told_text (Classic f) Found 10 stop.keys)) (sym stop.part.appended) stop.part.begins)
+    (subst (Begins (told_text (Classic f) Found 10 stop.keys)) (sym stop.part.appended)
+    stop.part.begins)
 
 -- none of the keys is too long
 writing-long : (f : DefaultFilter) (read from to : Option (List ℕ)) (stop : Stop)
-    (did : StopsWriting (Classic f) Found 10 [] read from to stop) (key : List ℕ) → did.keys ≡ key ∷ []
+    (did : StopsWriting (Classic f) Found 10 [] read from to stop) (key : List ℕ)
+    → did.keys ≡ key ∷ []
     → length key ≡ 65537 → ⊥
 writing-long f read from to said stop key is long =
     omega (arith, long, subst (AreShort 65536) is stop.short 0 [] (omega arith))
@@ -86,7 +89,8 @@ writing-none : (f : DefaultFilter) (stop : Stop)
     → StopsWriting (Classic f) Found 10 [] (Some []) (Some []) (Some (97 ∷ [])) stop → ⊥
 unfolding lines_by
 writing-none f said stop = none stop.keys stop.first.later stop.first.cut
-    (subst (Begins (told_text (Classic f) Found 10 stop.keys)) (sym stop.part.appended) stop.part.begins)
+    (subst (Begins (told_text (Classic f) Found 10 stop.keys)) (sym stop.part.appended)
+    stop.part.begins)
   where
     none : (keys later : List (List ℕ)) → [] ≡ keys ++ later
         → Begins (told_text (Classic f) Found 10 keys) (97 ∷ []) → ⊥

@@ -63,8 +63,8 @@ fn lines_of(
     )
 }
 
-/// Lines that tell how many items two Bloom filters have, how many their union has and how many they have
-/// in common, and which part of all items that is, in percent. Each is two bounds.
+/// Lines that tell how many items two Bloom filters have, how many their union has and how many
+/// they have in common, and which part of all items that is, in percent. Each is two bounds.
 ///
 /// # Errors
 /// Out of memory.

@@ -129,9 +129,9 @@ fn all_lines_of(
     format!(in alloc; "{lines}{rate}")
 }
 
-/// Lines that tell a Bloom filter's form, its numbers of bits and of hashes, the sixteen bytes of its
-/// key, how many bits are set, with their share in percent, and the bounds of its items and of its
-/// rate of false positives as it is.
+/// Lines that tell a Bloom filter's form, its numbers of bits and of hashes, the sixteen bytes of
+/// its key, how many bits are set, with their share in percent, and the bounds of its items and of
+/// its rate of false positives as it is.
 ///
 /// # Errors
 /// Out of memory.

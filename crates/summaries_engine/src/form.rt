@@ -49,7 +49,8 @@ fn write_file<W: Write>(filter: &AnyFilter, output: &mut W) -> std::io::Result<(
     output.flush()
 }
 
-/// Writes a Bloom filter as one line of text, all of which is made before its first byte is written.
+/// Writes a Bloom filter as one line of text, all of which is made before its first byte is
+/// written.
 ///
 /// # Errors
 /// Out of memory for the text, and where a write or the flush fails.

@@ -5,8 +5,8 @@ use fastbloom::DefaultHasher;
 use fastbloom::blocked_laws::test_of_hash;
 use fastbloom::laws::{equality_of_filters, fill_of_any_cutting, filled_contains};
 
-/// The union of filters of one kind of parts is the filter of all keys, in whatever order, number and nesting
-/// the parts come. So a part that is done again changes nothing.
+/// The union of filters of parts, all of one kind, is the filter of all keys, in whatever order,
+/// number and nesting the parts come. So a part that is done again changes nothing.
 pub fn union_of_any_parts()
     ensures summary { TreeSummaryLaw }
     // The words are those of any filter of the same keys, of which none is left out.

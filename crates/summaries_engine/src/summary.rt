@@ -55,9 +55,9 @@ fn unfilled(error: FilterError) -> Stop
     }
 }
 
-/// The Bloom filter of all keys of the inputs of these names, under the zero key. The byte `END` ends a
-/// key, and so does the end of an input. At most this many workers fill the filter, each with a
-/// part of the keys, which `cut` gives it, and a filter of its own.
+/// The Bloom filter of all keys of the inputs of these names, under the zero key. The byte `END`
+/// ends a key, and so does the end of an input. At most this many workers fill the filter, each
+/// with a part of the keys, which `cut` gives it, and a filter of its own.
 ///
 /// # Errors
 /// At the first input that can't be had or read, or has a key that is too long, out of memory, and
