@@ -1,7 +1,12 @@
 -- How many bits are set in both of two filters.
-use Rattle.std.proofs.Common.{◌≡◌, ◌≤◌, ℕ, zero, suc, ◌+◌, Bool, true, false, ◌||◌, refl, arith}
+use Rattle.std.proofs.Common.{◌≡◌, ◌≤◌, ℕ, zero, suc, ◌+◌, ◌*◌, Bool, true, false, ◌||◌, refl, ap, ◌∙◌, arith}
 use Rattle.std.specs.Prelude.{◌&&◌, if◌then◌else◌}
+use Rattle.bloom_parts.specs.Content.{content}
 use Rattle.bloom_parts.specs.Counts.{count_on}
+use Rattle.fastbloom.specs.Data.{DefaultFilter}
+use Rattle.fastbloom.specs.Filter.{SameShape, num_bits_of}
+use Rattle.fastbloom.specs.Ones.{ones_of, ones_of_either}
+use Rattle.summaries_engine.specs.Comparing.{ones_of_both}
 
 -- one position more
 one-more : (a b : Bool) (either both one other : ℕ) → either + both ≡ one + other
@@ -34,3 +39,13 @@ unfolding count_on
 count-less A B zero = omega arith
 count-less A B (suc n) =
     less-more (A n) (B n) (count_on (λ p. A p && B p) n) (count_on A n) (count-less A B n)
+
+-- of two filters of one shape, by how many bits are set in each
+pub ones-both : (f g : DefaultFilter) → SameShape f g
+    → (ones_of_either f g + ones_of_both f g ≡ ones_of f + ones_of g)
+    × (ones_of_both f g ≤ ones_of f)
+ones-both f g same = (
+  count-both (content f.words) (content g.words) (num_bits_of f)
+      ∙ ap (λ w. ones_of f + count_on (content g.words) (64 * w)) same.words,
+  count-less (content f.words) (content g.words) (num_bits_of f),
+)

@@ -126,17 +126,17 @@ layout-first all rest buffer n read = by (cases_lt n 64)
         ap length read.taken ∙ length-append (take n buffer) rest
         ∙ ap (λ k. k + length rest) short
 
-    same : {a b c d : Bool} → a ≡ c → b ≡ d → choose a b ≡ choose c d
-    same {c = c} one two = ap (λ a. choose a _) one ∙ ap (choose c) two
+    same : (a b c d : Bool) → a ≡ c → b ≡ d → choose a b ≡ choose c d
+    same a b c d one two = ap (λ x. choose x b) one ∙ ap (choose c) two
 
-    none : {a b : Bool} → a ≡ false → choose a b ≡ Whole
-    none is = ap (λ a. choose a _) is
+    not-whole : (a b : Bool) → a ≡ false → choose a b ≡ Whole
+    not-whole a b is = ap (λ x. choose x b) is
 
     by : (n < 64) ⊎ (64 ≤ n) → head_layout n buffer ≡ layout_told all
     by (inl fewer) =
         let ended : length rest ≡ 0 = ap length (read.end (omega (arith, fewer, read.room))) in
-        none {b = nat_eq (number_at buffer 6) 1} (other (eqb_tells n 64))
-        ∙ sym (none {b = nat_eq (number_at all 6) 1}
+        not-whole (nat_eq n 64) (nat_eq (number_at buffer 6) 1) (other (eqb_tells n 64))
+        ∙ sym (not-whole (nat_le 64 (length all)) (nat_eq (number_at all 6) 1)
         (lt-leb 64 (length all) (omega (arith, size, ended, fewer))))
       where
         other : ((nat_eq n 64 ≡ true) × (n ≡ 64)) ⊎ ((nat_eq n 64 ≡ false) × (n ≢ 64))
@@ -151,7 +151,8 @@ layout-first all rest buffer n read = by (cases_lt n 64)
         let number : number_at all 6 ≡ number_at buffer 6 =
         ap (λ bytes. number_at bytes 6) all_is
         ∙ number-first 6 buffer rest (omega (arith, read.room)) in
-        same (eq-eqb n 64 full ∙ sym (le-leb 64 (length all) (omega (arith, size, full))))
+        same (nat_eq n 64) (nat_eq (number_at buffer 6) 1) (nat_le 64 (length all))
+        (nat_eq (number_at all 6) 1) (eq-eqb n 64 full ∙ sym (le-leb 64 (length all) (omega (arith, size, full))))
         (ap (λ k. nat_eq k 1) (sym number))
 
 -- bytes whose first don't begin as those of a file don't begin so

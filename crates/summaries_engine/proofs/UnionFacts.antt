@@ -8,6 +8,7 @@ use Rattle.std.proofs.lemmas.List.Elements.{All-from_recursion, All-head}
 use Rattle.bloom_parts.specs.Content.{content}
 use Rattle.bloom_plain.proofs.CaseLemmas.{content-case, content-past}
 use Rattle.fastbloom.specs.Data.{DefaultFilter}
+use Rattle.summaries_engine.specs.declared.kinds.AnyFilter.{AnyFilter}
 use Rattle.summaries_engine.specs.declared.kinds.AnyFilter.TheVariants.{Classic}
 use Rattle.summaries_engine.specs.Kinds.{HaveSameKind, HaveSameShape}
 use Rattle.summaries_engine.specs.Summaries.{HaveSameKeys, HaveSameKey, IsUnionOf, UnitesGiven}
@@ -105,7 +106,7 @@ not-read : (f made : DefaultFilter) (error : ℕ)
     → UnitesGiven (Classic f) (Err error ∷ []) (Classic made) → ⊥
 not-read f made error did = none did.others did.all_read
   where
-    none : (others : List DefaultFilter) → (Err error ∷ []) ≡ map Ok others → ⊥
+    none : (others : List AnyFilter) → (Err error ∷ []) ≡ map Ok others → ⊥
     none [] is = cc
     none (g ∷ others) is = cc
 

@@ -1,5 +1,5 @@
 -- Filters that are united, and the keys of which they are summaries.
-use Rattle.std.proofs.Common.{◌≡◌, ℕ, Bool, false, ◌||◌, List, [], ◌∷◌, ◌++◌, map, refl, sym, ◌∙◌, ap}
+use Rattle.std.proofs.Common.{◌≡◌, ℕ, Bool, false, ◌||◌, List, [], ◌∷◌, ◌++◌, get_or, map, refl, sym, ◌∙◌, ap}
 use Rattle.std.proofs.Math.Bool.{or_comm}
 use Rattle.std.proofs.lemmas.List.{map-append}
 use Rattle.std.proofs.lemmas.List.Elements.{All-append, All-from_recursion, All-head, All-tail}
@@ -45,15 +45,15 @@ union-next filters old other new so_far fits united =
           (λ i d within. sym united.kind ∙ so_far.kind i d within)
           (All-from_recursion (HaveSameKind new) (other ∷ []) (sym united.kind ∙ fits.kind, tt));
       shape = All-append (HaveSameShape new) filters (other ∷ [])
-          (λ i d within. moved (so_far.shape i d within))
-          (All-from_recursion (HaveSameShape new) (other ∷ []) (moved {f = other} fits.shape, tt));
+          (λ i d within. moved (get_or filters i d) (so_far.shape i d within))
+          (All-from_recursion (HaveSameShape new) (other ∷ []) (moved other fits.shape, tt));
       key = All-append (HaveSameKey new) filters (other ∷ [])
           (λ i d within. key ∙ so_far.key i d within)
           (All-from_recursion (HaveSameKey new) (other ∷ []) (key ∙ fits.key, tt));
     }
   where
-    moved : {f : AnyFilter} → HaveSameShape old f → HaveSameShape new f
-    moved has = record {
+    moved : (f : AnyFilter) → HaveSameShape old f → HaveSameShape new f
+    moved f has = record {
       words = sym united.parts.shape.words ∙ has.words;
       hashes = sym united.parts.shape.hashes ∙ has.hashes;
     }

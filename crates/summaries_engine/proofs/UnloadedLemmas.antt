@@ -1,5 +1,5 @@
 -- Files from which no filter is loaded: what is said of them is right.
-use Rattle.std.proofs.Common.{◌≡◌, ◌⊎◌, inl, inr, ℕ, ◌<◌, false, List, ◌++◌, take, Option, Some, None, IfSome, sym, subst}
+use Rattle.std.proofs.Common.{◌≡◌, ◌⊎◌, inl, inr, ℕ, ◌<◌, false, List, ◌++◌, take, Option, Some, None, IfSome, sym, subst, ◌∙◌}
 use Rattle.std.specs.declared.io.ErrorKind.{ErrorKind}
 use Rattle.std.specs.Fmt.{option_append}
 use Rattle.std.specs.List.{starts_with}
@@ -104,7 +104,7 @@ layout-right (Some all) (Some rest) buffer n name stop layout read is right =
     of (subst (λ bytes. IsRightIn layout bytes name stop) (sym read.taken) right)
   where
     of : IsRightIn layout all name stop → IsRightOf all name stop
-    of (inl elsewhere) = inl elsewhere
+    of (inl told) = inl told
     of (inr (refused, says)) = inr (
       (λ begins. subst (λ l. (error : FileError) × (refusal_in l all ≡ Some error))
           (is ∙ layout-first all rest buffer n read) refused),

@@ -98,6 +98,24 @@ fn bit_lines_of(
     )
 }
 
+// How many bits are set in either of two blocked filters.
+fn ones_in_either(first: &BlockedBloomFilter, second: &BlockedBloomFilter) -> usize
+    requires { SameShape first.now second.now }
+    ensures { result ≡ ones_of_either first.now second.now }
+{
+    slices::count_either(first.as_slice(), second.as_slice())
+}
+
+// How many bits are set in both.
+fn ones_in_both(first: &BlockedBloomFilter, second: &BlockedBloomFilter) -> usize
+    requires { SameShape first.now second.now }
+    ensures { result ≡ ones_of_both first.now second.now }
+{
+    let (one, other) = (first.count_ones(), second.count_ones());
+    let either = ones_in_either(first, second);
+    one - (either - other)
+}
+
 /// Lines that tell how many bits are set in each of two blocked filters, in either and in both. The
 /// estimates of Bloom filters aren't true of them.
 ///
@@ -113,9 +131,8 @@ pub fn compared_blocked(
         ≡ bits_text (ones_of first.now) (ones_of second.now)
         (ones_of_either first.now second.now) (ones_of_both first.now second.now)) }
 {
-    let (one, other) = (first.count_ones(), second.count_ones());
-    let either = slices::count_either(first.as_slice(), second.as_slice());
-    bit_lines_of(alloc, one, other, either, one - (either - other))
+    let (either, both) = (ones_in_either(first, second), ones_in_both(first, second));
+    bit_lines_of(alloc, first.count_ones(), second.count_ones(), either, both)
 }
 
 // The lines that tell two filters of one kind and shape.

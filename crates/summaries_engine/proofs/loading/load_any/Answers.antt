@@ -26,7 +26,7 @@ returns-in_err-filter-clause-right g c =
     rw is
     (layout-right _ _ _ c.in-Ok.count _ _ _
     (read-first _ _ _ _ _ c.in-Ok.is read.room read.count read.taken read.end)
-    c.layout_of.ensures c.in_err-filter.ensures.right)
+    c.layout_of-layout.ensures c.in_err-filter.ensures.right)
 
 -- text that isn't read
 pub returns-in_err-filter-2-clause-right : goal.returns-in_err-filter-2-clause-right
