@@ -1,5 +1,5 @@
 -- How many bits are set in both of two filters.
-use Rattle.std.proofs.Common.{◌≡◌, ◌≤◌, ℕ, zero, suc, ◌+◌, ◌*◌, Bool, true, false, ◌||◌, refl, ap, ◌∙◌, arith}
+use Rattle.std.proofs.Common.{◌≡◌, ◌≤◌, ℕ, zero, suc, ◌+◌, ◌-◌, ◌*◌, Bool, true, false, ◌||◌, refl, ap, ◌∙◌, arith}
 use Rattle.std.specs.Prelude.{◌&&◌, if◌then◌else◌}
 use Rattle.bloom_parts.specs.Content.{content}
 use Rattle.bloom_parts.specs.Counts.{count_on}
@@ -49,3 +49,14 @@ ones-both f g same = (
       ∙ ap (λ w. ones_of f + count_on (content g.words) (64 * w)) same.words,
   count-less (content f.words) (content g.words) (num_bits_of f),
 )
+
+-- and what is left of the first, once what only it has is taken away
+pub ones-left : (f g : DefaultFilter) (one other either : ℕ) → SameShape f g
+    → one ≡ ones_of f → other ≡ ones_of g → either ≡ ones_of_either f g
+    → (other ≤ either) × (either - other ≤ one) × (one - (either - other) ≡ ones_of_both f g)
+ones-left f g one other either same is_one is_other is_either =
+    let are = ones-both f g same in (
+      omega (arith, are.0, are.1, is_one, is_other, is_either),
+      omega (arith, are.0, are.1, is_one, is_other, is_either),
+      omega (arith, are.0, are.1, is_one, is_other, is_either),
+    )

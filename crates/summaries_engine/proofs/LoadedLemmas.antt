@@ -152,7 +152,8 @@ layout-first all rest buffer n read = by (cases_lt n 64)
         ap (λ bytes. number_at bytes 6) all_is
         ∙ number-first 6 buffer rest (omega (arith, read.room)) in
         same (nat_eq n 64) (nat_eq (number_at buffer 6) 1) (nat_le 64 (length all))
-        (nat_eq (number_at all 6) 1) (eq-eqb n 64 full ∙ sym (le-leb 64 (length all) (omega (arith, size, full))))
+        (nat_eq (number_at all 6) 1) (eq-eqb n 64 full
+        ∙ sym (le-leb 64 (length all) (omega (arith, size, full))))
         (ap (λ k. nat_eq k 1) (sym number))
 
 -- bytes whose first don't begin as those of a file don't begin so

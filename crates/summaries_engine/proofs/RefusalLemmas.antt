@@ -50,7 +50,8 @@ pub union-fits : (first whole : AnyFilter) (others : List AnyFilter)
 union-fits first whole others union = λ i d within. record {
   kind = sym (All-head (HaveSameKind whole) first others union.kind)
       ∙ All-tail (HaveSameKind whole) first others union.kind i d within;
-  shape = shape-of whole first (get_or others i d) (All-head (HaveSameShape whole) first others union.shape)
+  shape = shape-of whole first (get_or others i d)
+      (All-head (HaveSameShape whole) first others union.shape)
       (All-tail (HaveSameShape whole) first others union.shape i d within);
   key = sym (All-head (HaveSameKey whole) first others union.key)
       ∙ All-tail (HaveSameKey whole) first others union.key i d within;

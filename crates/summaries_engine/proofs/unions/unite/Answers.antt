@@ -5,11 +5,14 @@ use Rattle.summaries_engine.proofs.unions.unite.Goals as goal
 pub shards-init : goal.shards-init
 shards-init g c = uniting-none c.args.first
 
--- one more filter is given and united
+-- one more filter, of either kind, is given and united
+pub shards-preserved-in-Ok-add : goal.shards-preserved-in-Ok-add
+shards-preserved-in-Ok-add g c = let did = c.in-Ok-add.ensures in
+    uniting-next c.shards.invariant c.in-Ok.is did.fits did.unites c.saturating_add-number.ensures
+
 pub shards-preserved : goal.shards-preserved
 shards-preserved g c = let did = c.in-Ok-add.ensures in
-    uniting-next c.shards.invariant c.in-Ok.is did.fits did.unites
-    c.saturating_add-number.ensures
+    uniting-next c.shards.invariant c.in-Ok.is did.fits did.unites c.saturating_add-number.ensures
 
 -- the iterator has ended
 pub returns-clause-whole : goal.returns-clause-whole
