@@ -20,6 +20,8 @@ pub const RATE: &str = "rate";
 
 pub const WORKERS: &str = "workers";
 
+pub const BLOCKED: &str = "blocked";
+
 pub const JSON: &str = "json";
 
 pub const MOST_HASHES: &str = "hashes-up-to";

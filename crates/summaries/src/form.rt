@@ -1,13 +1,13 @@
 //! Filters in files, in either form.
 ghost use Rattle.std.specs.Prelude.{◌≤◌, IfErr, IfOk};
 ghost use Rattle.summaries_engine.specs.Answers.{IsKeyed};
+ghost use Rattle.summaries_engine.specs.Kinds.{parts_of};
 ghost use Rattle.summaries_engine.specs.Loaded.{IsUnloaded};
 
 use crate::key_files::STANDARD;
-use fastbloom::BloomFilter;
 use std::fs;
 use std::rt::Files;
-use summaries_engine::{Form, Shelf, Stop, load, unread};
+use summaries_engine::{AnyFilter, Form, Shelf, Stop, load, unread};
 
 /// The filter of a file, or of standard input, by its name as it is told, and its form. It may have
 /// at most this many hashes.
@@ -19,9 +19,9 @@ pub fn load_named<R: Files + Input + AllocGlobal>(
     rt: &R,
     name: &str,
     most: u32,
-) -> Result<(BloomFilter, Form), Stop>
+) -> Result<(AnyFilter, Form), Stop>
     ensures keyed { IfOk result (λ read. IsKeyed read.0) }
-    ensures few { IfOk result (λ read. read.0.hashes ≤ most) }
+    ensures few { IfOk result (λ read. (parts_of read.0).hashes ≤ most) }
     ensures failed { IfErr result (IsUnloaded name.now most) }
 {
     if name == STANDARD {
@@ -43,12 +43,12 @@ pub struct Disk<'a, R> {
 
 impl<'a, R: Files + Input + AllocGlobal> Shelf for Disk<'a, R> {
     // What files hold is known to no contract; but a filter that is loaded has few hashes.
-    ghost has = { λ disk name filter. filter.hashes ≤ disk.most };
+    ghost has = { λ disk name filter. (parts_of filter).hashes ≤ disk.most };
 
     // Each error but that of memory tells the name.
     ghost fails = { λ disk name stop. IsUnloaded name disk.most stop };
 
-    fn load(&self, name: &str) -> Result<BloomFilter, Stop> {
+    fn load(&self, name: &str) -> Result<AnyFilter, Stop> {
         let (filter, _form) = load_named(self.rt, name, self.most)?;
         Ok(filter)
     }

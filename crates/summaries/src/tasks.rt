@@ -1,54 +1,83 @@
 //! The tasks that the program's words ask for.
+ghost use Rattle.std.specs.Prelude.{IfOk};
+ghost use Rattle.summaries_engine.specs.Sizes.{IsEmpty};
 
 use crate::command_line::{
-    ABSENT, BITS, FILE, FILTER, HASHES, ITEMS, JSON, MOST_HASHES, OTHER, RATE, WORKERS, ZERO,
+    ABSENT, BITS, BLOCKED, FILE, FILTER, HASHES, ITEMS, JSON, MOST_HASHES, OTHER, RATE, WORKERS,
+    ZERO,
 };
 use crate::form::{Disk, load_named};
 use crate::key_files::{KeyFiles, STANDARD, called, called_inputs};
 use crate::rates::rate_of;
 use clap::ArgMatches;
-use fastbloom::{BloomFilter, FilterError, Shape};
+use fastbloom::{BlockedBloomFilter, FilterError, Rate, Shape};
+use std::alloc::Global;
 use std::io::{BufWriter, Write};
 use std::rt::Files;
 use std::thread::Threads;
 use summaries_engine::{
-    Shelf, Stop, Told, ask, build, compare_named, facts_of, put, put_file, shape_for, twice,
-    unite_named, unsaid, unshaped, written,
+    AnyFilter, Shelf, Stop, Told, ask, blocked_facts_of, blocked_for, blocked_with_bits, build,
+    build_blocked, compare_named, facts_of, no_json, put, put_file, shape_for, twice, unite_named,
+    unsaid, unshaped, written,
 };
 
-fn shape_by_rate(matches: &ArgMatches, items: u64) -> Result<Shape, Stop> {
+// How large a filter is to be.
+#[derive(Clone, Copy)]
+enum Size {
+    // For this many keys, at a rate.
+    Keys(usize, Rate),
+    // Of this many bits and hashes.
+    Bits(usize, u32),
+}
+
+fn size_by_rate(matches: &ArgMatches, items: u64) -> Result<Size, Stop> {
     let Some(text) = matches.get_str(RATE) else {
         return Err(unsaid(RATE));
     };
     let Some(rate) = rate_of(text) else {
         return Err(unsaid(RATE));
     };
-    made(shape_for(items as usize, rate))
+    Ok(Size::Keys(items as usize, rate))
 }
 
-fn shape_by_bits(matches: &ArgMatches) -> Result<Shape, Stop> {
+fn size_by_bits(matches: &ArgMatches) -> Result<Size, Stop> {
     let Some(bits) = matches.get_one::<u64>(BITS) else {
         return Err(unsaid(BITS));
     };
     let Some(hashes) = matches.get_one::<u32>(HASHES) else {
         return Err(unsaid(HASHES));
     };
-    made(Shape::new(bits as usize, hashes))
+    Ok(Size::Bits(bits as usize, hashes))
 }
 
-// A shape, or that there is none.
-fn made(shape: Result<Shape, FilterError>) -> Result<Shape, Stop> {
-    match shape {
-        Ok(shape) => Ok(shape),
-        Err(error) => Err(unshaped(error)),
+// The size that the words ask for: by keys and a rate, or by bits and hashes.
+fn size_of(matches: &ArgMatches) -> Result<Size, Stop> {
+    match matches.get_one::<u64>(ITEMS) {
+        Some(items) => size_by_rate(matches, items),
+        None => size_by_bits(matches),
     }
 }
 
-// The shape that the words ask for: by keys and a rate, or by bits and hashes.
-fn shape_of(matches: &ArgMatches) -> Result<Shape, Stop> {
-    match matches.get_one::<u64>(ITEMS) {
-        Some(items) => shape_by_rate(matches, items),
-        None => shape_by_bits(matches),
+// The shape of a Bloom filter of a size.
+fn shape_of(size: Size) -> Result<Shape, Stop> {
+    let shape = match size {
+        Size::Keys(keys, rate) => shape_for(keys, rate),
+        Size::Bits(bits, hashes) => Shape::new(bits, hashes),
+    };
+    shape.map_err(unshaped)
+}
+
+// The empty blocked filter of a size.
+fn empty_blocked(alloc: Global, size: Size) -> Result<BlockedBloomFilter, Stop>
+    ensures { IfOk result IsEmpty }
+{
+    let made = match size {
+        Size::Keys(keys, rate) => blocked_for(alloc, keys, rate),
+        Size::Bits(bits, hashes) => blocked_with_bits(alloc, bits, hashes),
+    };
+    match made {
+        Ok(empty) => Ok(empty),
+        Err(error) => Err(unshaped(error)),
     }
 }
 
@@ -56,10 +85,13 @@ fn shape_of(matches: &ArgMatches) -> Result<Shape, Stop> {
 fn write<R: Print + AllocGlobal>(
     rt: &R,
     matches: &ArgMatches,
-    filter: &BloomFilter,
+    filter: &AnyFilter,
 ) -> Result<(), Stop> {
     if matches.get_flag(JSON) {
-        return put(rt.alloc(), filter, &mut std::io::writer(rt));
+        return match filter {
+            AnyFilter::Classic(filter) => put(rt.alloc(), filter, &mut std::io::writer(rt)),
+            AnyFilter::Blocked(_) => Err(no_json()),
+        };
     }
     match put_file(filter, &mut std::io::writer(rt)) {
         Ok(()) => Ok(()),
@@ -67,13 +99,13 @@ fn write<R: Print + AllocGlobal>(
     }
 }
 
-// Builds the filter of the keys of these inputs, and writes it.
-fn build_of<R: Files + Input + Print + AllocGlobal + Threads>(
+// The Bloom filter of the keys of these inputs.
+fn classic_of<R: Files + Input + AllocGlobal + Threads>(
     rt: &R,
     matches: &ArgMatches,
     names: &[&str],
-) -> Result<(), Stop> {
-    let shape = shape_of(matches)?;
+) -> Result<AnyFilter, Stop> {
+    let shape = shape_of(size_of(matches)?)?;
     let Some(workers) = matches.get_one::<u16>(WORKERS) else {
         return Err(unsaid(WORKERS));
     };
@@ -83,6 +115,36 @@ fn build_of<R: Files + Input + Print + AllocGlobal + Threads>(
         build::<0, _, _>(rt, rt.alloc(), shape, workers, &files, names)?
     } else {
         build::<10, _, _>(rt, rt.alloc(), shape, workers, &files, names)?
+    };
+    Ok(AnyFilter::Classic(filter))
+}
+
+// The blocked filter of the keys of these inputs, which one thread fills.
+fn blocked_of<R: Files + Input + AllocGlobal>(
+    rt: &R,
+    matches: &ArgMatches,
+    names: &[&str],
+) -> Result<AnyFilter, Stop> {
+    let empty = empty_blocked(rt.alloc(), size_of(matches)?)?;
+    let files = KeyFiles { rt };
+    let filter = if matches.get_flag(ZERO) {
+        build_blocked::<0, _>(rt.alloc(), empty, &files, names)?
+    } else {
+        build_blocked::<10, _>(rt.alloc(), empty, &files, names)?
+    };
+    Ok(AnyFilter::Blocked(filter))
+}
+
+// Builds the filter of the keys of these inputs, and writes it.
+fn build_of<R: Files + Input + Print + AllocGlobal + Threads>(
+    rt: &R,
+    matches: &ArgMatches,
+    names: &[&str],
+) -> Result<(), Stop> {
+    let filter = if matches.get_flag(BLOCKED) {
+        blocked_of(rt, matches, names)?
+    } else {
+        classic_of(rt, matches, names)?
     };
     write(rt, matches, &filter)
 }
@@ -190,7 +252,11 @@ fn run_info<R: Files + Input + Print + AllocGlobal>(
         return Err(unsaid(FILTER));
     };
     let (filter, form) = load_named(rt, called(name), u32::MAX)?;
-    match facts_of(rt.alloc(), &filter, form) {
+    let facts = match &filter {
+        AnyFilter::Classic(filter) => facts_of(rt.alloc(), filter, form),
+        AnyFilter::Blocked(filter) => blocked_facts_of(rt.alloc(), filter, form),
+    };
+    match facts {
         Ok(facts) => print_facts(rt, facts.as_str()),
         Err(_) => Err(Stop::Memory),
     }

@@ -11,6 +11,7 @@ use Rattle.fastbloom.specs.Data.{DefaultFilter}
 use Rattle.fastbloom.specs.Filter.{contains}
 use Rattle.lines.specs.Lines.{lines_by}
 use Rattle.lines.specs.Reading.{AreShort}
+use Rattle.summaries_engine.specs.declared.kinds.AnyFilter.TheVariants.{Classic}
 use Rattle.summaries_engine.specs.declared.answers.Told.TheVariants.{Found, Absent}
 use Rattle.summaries_engine.specs.Answers.{IsKeyed, HashesAll, told_text, AnswersAll}
 use Rattle.summaries_engine.specs.Summaries.{hash_in}
@@ -58,14 +59,16 @@ hashes-left : HashesAll 10 (Some (97 ∷ [])) (Some (98 ∷ [])) [] (0x4074_48d2
 hashes-left did = cc (did.whole.none_left)
 
 -- whether the filter of "a" contains each
-pub found-a : (f : DefaultFilter) → IsFilter f 268500992 0 → contains f (hash_in f (97 ∷ [])) ≡ true
+pub found-a : (f : DefaultFilter) → IsFilter f 268500992 0
+    → contains f (hash_in (Classic f) (97 ∷ [])) ≡ true
 unfolding content chain are_in
 found-a f is =
     ap (contains f) (hash-in f 268500992 0 (97 ∷ []) is ∙ hash-a)
     ∙ ap (λ w. are_in (64 * length w) f.hashes 0x4074_48d2_b89b_1813 (content w)) is.words
     ∙ ap (λ k. are_in 64 k 0x4074_48d2_b89b_1813 (content (268500992 ∷ []))) is.hashes
 
-found-b : (f : DefaultFilter) → IsFilter f 268500992 0 → contains f (hash_in f (98 ∷ [])) ≡ false
+found-b : (f : DefaultFilter) → IsFilter f 268500992 0
+    → contains f (hash_in (Classic f) (98 ∷ [])) ≡ false
 unfolding content chain are_in
 found-b f is =
     ap (contains f) (hash-in f 268500992 0 (98 ∷ []) is ∙ hash-b)
@@ -74,34 +77,35 @@ found-b f is =
 
 -- the second of "b" and "a" is written, with an end
 text-a : (f : DefaultFilter) → IsFilter f 268500992 0
-    → told_text f Found 10 ((98 ∷ []) ∷ (97 ∷ []) ∷ []) ≡ 97 ∷ 10 ∷ []
+    → told_text (Classic f) Found 10 ((98 ∷ []) ∷ (97 ∷ []) ∷ []) ≡ 97 ∷ 10 ∷ []
 text-a f is = rw (found-b f is, found-a f is) refl
 
 -- of the same keys the first is told as absent
 text-absent : (f : DefaultFilter) → IsFilter f 268500992 0
-    → told_text f Absent 10 ((98 ∷ []) ∷ (97 ∷ []) ∷ []) ≡ 98 ∷ 10 ∷ []
+    → told_text (Classic f) Absent 10 ((98 ∷ []) ∷ (97 ∷ []) ∷ []) ≡ 98 ∷ 10 ∷ []
 text-absent f is = rw (found-b f is, found-a f is) refl
 
 -- a key is written with a zero byte where that ends keys
 text-zero : (f : DefaultFilter) → IsFilter f 268500992 0
-    → told_text f Found 0 ((98 ∷ []) ∷ (97 ∷ []) ∷ []) ≡ 97 ∷ 0 ∷ []
+    → told_text (Classic f) Found 0 ((98 ∷ []) ∷ (97 ∷ []) ∷ []) ≡ 97 ∷ 0 ∷ []
 text-zero f is = rw (found-b f is, found-a f is) refl
 
 -- a key that is in may not be told as absent
 absent-found : (f : DefaultFilter) → IsFilter f 268500992 0
-    → AnswersAll f Absent 10 (Some (97 ∷ [])) (Some []) (Some []) (Some (97 ∷ 10 ∷ [])) → ⊥
+    → AnswersAll (Classic f) Absent 10 (Some (97 ∷ [])) (Some []) (Some []) (Some (97 ∷ 10 ∷ []))
+    → ⊥
 unfolding lines_by
 absent-found f is did = none did.keys did.whole.are_lines did.text
   where
     written : (g : DefaultFilter) → IsFilter g 268500992 0
-        → told_text g Absent 10 ((97 ∷ []) ∷ []) ≡ []
+        → told_text (Classic g) Absent 10 ((97 ∷ []) ∷ []) ≡ []
     written g has = rw (found-a g has) refl
 
     none : (keys : List (List ℕ)) → (97 ∷ []) ∷ [] ≡ keys
-        → 97 ∷ 10 ∷ [] ≡ told_text f Absent 10 keys → ⊥
+        → 97 ∷ 10 ∷ [] ≡ told_text (Classic f) Absent 10 keys → ⊥
     none keys same text =
         let wrong : 2 ≡ 0 =
-        ap length (text ∙ ap (told_text f Absent 10) (sym same) ∙ written f is) in
+        ap length (text ∙ ap (told_text (Classic f) Absent 10) (sym same) ∙ written f is) in
         omega (arith, wrong)
 
 -- where a zero byte ends keys, byte 10 is one of the key's
@@ -122,7 +126,7 @@ hashes-lost did = cc (did.hashed)
 
 -- both keys were asked for
 answers-a : (f : DefaultFilter) → IsFilter f 268500992 0
-    → AnswersAll f Found 10 (Some (98 ∷ 10 ∷ 97 ∷ 10 ∷ [])) (Some [])
+    → AnswersAll (Classic f) Found 10 (Some (98 ∷ 10 ∷ 97 ∷ 10 ∷ [])) (Some [])
     (Some (5 ∷ [])) (Some (5 ∷ 97 ∷ 10 ∷ []))
 unfolding lines_by
 answers-a f is = record {
@@ -134,41 +138,42 @@ answers-a f is = record {
 
 -- none of them is too long
 answers-long : (f : DefaultFilter) (read left from to : Option (List ℕ))
-    (did : AnswersAll f Found 10 read left from to) (key : List ℕ) → did.keys ≡ key ∷ []
+    (did : AnswersAll (Classic f) Found 10 read left from to) (key : List ℕ) → did.keys ≡ key ∷ []
     → length key ≡ 65537 → ⊥
 answers-long f read left from to did key is long =
     omega (arith, long, subst (AreShort 65536) is did.short 0 [] (omega arith))
 
 -- a key that is in may not be left out
 answers-less : (f : DefaultFilter) → IsFilter f 268500992 0
-    → AnswersAll f Found 10 (Some (97 ∷ [])) (Some []) (Some []) (Some []) → ⊥
+    → AnswersAll (Classic f) Found 10 (Some (97 ∷ [])) (Some []) (Some []) (Some []) → ⊥
 unfolding lines_by
 answers-less f is did = none did.keys did.whole.are_lines did.text
   where
     written : (g : DefaultFilter) → IsFilter g 268500992 0
-        → told_text g Found 10 ((97 ∷ []) ∷ []) ≡ 97 ∷ 10 ∷ []
+        → told_text (Classic g) Found 10 ((97 ∷ []) ∷ []) ≡ 97 ∷ 10 ∷ []
     written g has = rw (found-a g has) refl
 
-    none : (keys : List (List ℕ)) → (97 ∷ []) ∷ [] ≡ keys → [] ≡ told_text f Found 10 keys → ⊥
+    none : (keys : List (List ℕ)) → (97 ∷ []) ∷ [] ≡ keys
+        → [] ≡ told_text (Classic f) Found 10 keys → ⊥
     none keys same text =
         let wrong : 0 ≡ 2 =
-        ap length (text ∙ ap (told_text f Found 10) (sym same) ∙ written f is) in
+        ap length (text ∙ ap (told_text (Classic f) Found 10) (sym same) ∙ written f is) in
         omega (arith, wrong)
 
 -- a filter whose hasher has taken in nothing is keyed
 keyed : (f : DefaultFilter)
     → f.hasher.hasher ≡ record { low = 3; high = 4; words = start 3 4; held = []; count = 0 }
-    → IsKeyed f
+    → IsKeyed (Classic f)
 unfolding whole_words rest
 keyed f is = rw is (record { low = refl; high = refl; words = refl; held = refl; count = refl })
 
 -- a filter whose hasher has taken in a byte isn't keyed
-keyed-byte : (f : DefaultFilter) → f.hasher.hasher.count ≡ 1 → IsKeyed f → ⊥
+keyed-byte : (f : DefaultFilter) → f.hasher.hasher.count ≡ 1 → IsKeyed (Classic f) → ⊥
 keyed-byte f is has = omega (arith, is, has.count)
 
 -- nothing may be left to read when all keys were asked for
 answers-left : (f : DefaultFilter) (from to : Option (List ℕ))
-    → AnswersAll f Found 10 (Some (97 ∷ [])) (Some (98 ∷ [])) from to → ⊥
+    → AnswersAll (Classic f) Found 10 (Some (97 ∷ [])) (Some (98 ∷ [])) from to → ⊥
 answers-left f from to did = cc (did.whole.none_left)
 
 -- the hash of another key isn't that of "a"

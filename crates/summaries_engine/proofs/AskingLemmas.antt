@@ -6,8 +6,8 @@ use Rattle.std.proofs.KnownBytes.{Appends-nil, Appends-trans}
 use Rattle.std.proofs.Common.{◌∙◌, ap, length}
 use Rattle.std.specs.Prelude.{IfOk, Result}
 use Rattle.std.specs.Io.KnownBytes.{Appends}
-use Rattle.fastbloom.specs.Data.{DefaultFilter}
-use Rattle.fastbloom.specs.Filter.{contains}
+use Rattle.summaries_engine.specs.declared.kinds.AnyFilter.{AnyFilter}
+use Rattle.summaries_engine.specs.Kinds.{has_hash}
 use Rattle.lines.specs.Reading.{Waiting, Ends, KnowsEnd, TakesShortBy, left_of}
 use Rattle.lines.proofs.TakenLemmas.{IsReadWhole-from}
 use Rattle.summaries_engine.specs.declared.answers.Told.{Told}
@@ -16,16 +16,16 @@ use Rattle.summaries_engine.specs.Summaries.{hash_in}
 use Rattle.summaries_engine.proofs.KeyLemmas.{HasRead, one-more, read-next, read-none}
 
 -- the text of further keys
-pub told_text-append : (f : DefaultFilter) (told : Told) (end : ℕ) (keys more : List (List ℕ))
+pub told_text-append : (f : AnyFilter) (told : Told) (end : ℕ) (keys more : List (List ℕ))
     → told_text f told end (keys ++ more) ≡ told_text f told end keys ++ told_text f told end more
 told_text-append f told end keys more =
-    let tells : List ℕ → Bool = λ k. is_told told (contains f (hash_in f k)) in
+    let tells : List ℕ → Bool = λ k. is_told told (has_hash f (hash_in f k)) in
     let line : List ℕ → List ℕ = λ k. k ++ end ∷ [] in
     ap (flat_map line) (filter-append tells keys more)
     ∙ flat_map-append line (filter tells keys) (filter tells more)
 
 -- the keys so far were answered
-pub record IsAnswering (f : DefaultFilter) (told : Told) (end : ℕ) (read : Option (List ℕ))
+pub record IsAnswering (f : AnyFilter) (told : Told) (end : ℕ) (read : Option (List ℕ))
     (reader : Waiting) (left : Option (List ℕ)) (number : ℕ) (from to : Option (List ℕ)) : Type 0
   where
     pub keys : List (List ℕ)
@@ -34,7 +34,7 @@ pub record IsAnswering (f : DefaultFilter) (told : Told) (end : ℕ) (read : Opt
     pub text : Appends from to (told_text f told end keys)
 
 -- no key yet
-pub answering-none : {f : DefaultFilter} (told : Told) (end : ℕ) {E : Type 0}
+pub answering-none : {f : AnyFilter} (told : Told) (end : ℕ) {E : Type 0}
     {read from : Option (List ℕ)} {result : Result Waiting E} {reader : Waiting}
     → result ≡ Ok reader → IfOk result (λ new. new.bytes ≡ [])
     → IfOk result (λ new. new.ended ≡ false) → IfOk result (λ new. new.longest ≡ 65536)
@@ -47,7 +47,7 @@ answering-none told end {from = from} made empty opened longest = record {
 }
 
 -- one key more, whose answer was written
-pub answering-next : {f : DefaultFilter} {told : Told} {end : ℕ}
+pub answering-next : {f : AnyFilter} {told : Told} {end : ℕ}
     {read left rest from to more : Option (List ℕ)} {old : Waiting} {number : ℕ} {key : List ℕ}
     → IsAnswering f told end read old left number from to → (new : Waiting)
     → TakesShortBy end old.longest (left_of old left) (left_of new rest) new.line
@@ -68,7 +68,7 @@ answering-next {f = f} {told = told} {end = end} {read = read} {left = left} {re
     }
 
 -- all keys were answered
-pub answering-end : {f : DefaultFilter} {told : Told} {end : ℕ}
+pub answering-end : {f : AnyFilter} {told : Told} {end : ℕ}
     {read left from to : Option (List ℕ)} {old : Waiting} {number : ℕ}
     → IsAnswering f told end read old left number from to → (new : Waiting)
     (rest : Option (List ℕ)) → Ends (left_of old left) (left_of new rest)

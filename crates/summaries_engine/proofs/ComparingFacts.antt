@@ -8,7 +8,9 @@ use Rattle.bloom_parts.specs.Keys.{key_of}
 use Rattle.bloom_parts.specs.declared.math.bracket.Bracket.{Bracket}
 use Rattle.bloom_parts.specs.declared.math.estimate.Estimate.{Estimate}
 use Rattle.summaries_engine.specs.declared.stop.Stop.TheVariants.{Memory, Worker}
-use Rattle.summaries_engine.specs.Comparing.{ComparesNamed, StopsComparing, TellsBoth, compared_text, least_share, likeness_text, most_share}
+use Rattle.summaries_engine.specs.declared.kinds.AnyFilter.TheVariants.{Classic, Blocked}
+use Rattle.summaries_engine.specs.Comparing.{ComparesNamed, StopsComparing, TellsBoth, TellsTwo, compared_text, least_share, likeness_text, most_share}
+use Rattle.summaries_engine.specs.Kinds.{parts_of}
 use Rattle.summaries_engine.proofs.NamedFacts.{counted}
 use Rattle.summaries_engine.proofs.TextFacts.{filter, from, from_to}
 
@@ -77,29 +79,48 @@ tells-second rest told =
 
 -- a filter lies under its word
 compares : (text : List ℕ) → TellsBoth (filter 1) (filter 6) text
-    → ComparesNamed (λ name f. name ≡ f.words) (1 ∷ []) (6 ∷ []) text
+    → ComparesNamed (λ name f. name ≡ (parts_of f).words) (1 ∷ []) (6 ∷ []) text
 compares text tells_both = record {
-  first = filter 1;
-  second = filter 6;
+  first = Classic (filter 1);
+  second = Classic (filter 6);
   is_first = refl;
   is_second = refl;
-  shape = record { words = refl; hashes = refl };
-  key = refl;
+  fits = record { kind = refl; shape = record { words = refl; hashes = refl }; key = refl };
   tells = tells_both;
 }
 
+-- of blocked filters the bits are told that are set in each, in either and in both
+tells-blocked : TellsTwo (Blocked (filter 3)) (Blocked (filter 6))
+    (codes "bits set in first: 2\nbits set in second: 2\n"
+    ++ codes "bits set in union: 3\nbits set in both: 1\n")
+unfolding content count_on digits
+tells-blocked = refl
+
+-- what both have isn't what either has
+tells-either : TellsTwo (Blocked (filter 3)) (Blocked (filter 6))
+    (codes "bits set in first: 2\nbits set in second: 2\n"
+    ++ codes "bits set in union: 3\nbits set in both: 3\n") → ⊥
+unfolding content count_on digits
+tells-either told =
+    let digit : ◌≡◌ {A = ℕ} 51 49 = ap (λ t. get_or t 82 0) told in absurd (omega (arith, digit))
+
+-- filters of two kinds are told by no text
+tells-kinds : (text : List ℕ) → TellsTwo (Classic (filter 1)) (Blocked (filter 1)) text → ⊥
+tells-kinds text told = told
+
 -- filters whose keys differ aren't compared; here one lies under the first word of its key
 compares-keys : (text : List ℕ)
-    → ComparesNamed (λ name f. name ≡ (key_of f.hasher).0 ∷ []) (0 ∷ []) (1 ∷ []) text → ⊥
+    → ComparesNamed (λ name f. name ≡ (key_of (parts_of f).hasher).0 ∷ []) (0 ∷ []) (1 ∷ []) text
+    → ⊥
 compares-keys text is =
     let wrong : ◌≡◌ {A = List ℕ} (0 ∷ []) (1 ∷ []) =
-    is.is_first ∙ ap (λ pair. pair.0 ∷ []) is.key ∙ sym is.is_second in cc
+    is.is_first ∙ ap (λ pair. pair.0 ∷ []) is.fits.key ∙ sym is.is_second in cc
 
 -- filters with two and with three hashes aren't compared
 compares-shapes : (text : List ℕ) → ComparesNamed counted (2 ∷ []) (3 ∷ []) text → ⊥
 compares-shapes text is =
     let wrong : ◌≡◌ {A = List ℕ} (2 ∷ []) (3 ∷ []) =
-    is.is_first ∙ ap (λ n. n ∷ []) is.shape.hashes ∙ sym is.is_second in cc
+    is.is_first ∙ ap (λ n. n ∷ []) is.fits.shape.hashes ∙ sym is.is_second in cc
 
 -- memory may be out, and no worker is asked for
 stops-memory : StopsComparing counted (λ name stop. ⊥) (2 ∷ []) (3 ∷ []) Memory

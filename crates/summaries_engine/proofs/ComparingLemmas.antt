@@ -1,25 +1,13 @@
 -- Why the filters of two names aren't compared.
 use Rattle.std.proofs.Common.{◌≡◌, ℕ, List, [], ◌∷◌, inr, inl, refl}
 use Rattle.std.proofs.lemmas.List.Elements.{All-nil}
-use Rattle.std.specs.Prelude.{Err, Result}
-use Rattle.fastbloom.specs.Data.{DefaultFilter}
-use Rattle.fastbloom.specs.Filter.{SameShape}
+use Rattle.summaries_engine.specs.declared.kinds.AnyFilter.{AnyFilter}
 use Rattle.summaries_engine.specs.declared.stop.Stop.{Stop}
 use Rattle.summaries_engine.specs.declared.unions.Difference.{Difference}
-use Rattle.summaries_engine.specs.declared.unions.Difference.TheVariants.{Shape, Key}
 use Rattle.summaries_engine.specs.Comparing.{StopsComparing}
 use Rattle.summaries_engine.specs.Named.{Named, LoadedBefore, misfit_text}
 use Rattle.summaries_engine.specs.Refusals.{DiffersBy, Fits}
 use Rattle.summaries_engine.specs.Stops.{IsBad, Says}
-use Rattle.summaries_engine.specs.Summaries.{HaveSameKey}
-
--- what a test of two filters says of their difference
-pub differs-by : {T : Type 0} (f g : DefaultFilter) (how : Difference) {told : Result T Difference}
-    → told ≡ Err how → (told ≡ Err Shape → SameShape f g → ⊥)
-    → (told ≡ Err Key → HaveSameKey f g → ⊥) → (told ≡ Err Key → SameShape f g)
-    → DiffersBy f g how
-differs-by f g Shape is shape key order = shape is
-differs-by f g Key is shape key order = (order is, key is)
 
 module _ (has : Named) (fails : List ℕ → Stop → Type 0) (one other : List ℕ) where
   -- the first filter couldn't be loaded
@@ -32,7 +20,7 @@ module _ (has : Named) (fails : List ℕ → Stop → Type 0) (one other : List 
     failed = failed;
   })))
 
-  module _ (first : DefaultFilter) (here : has one first) where
+  module _ (first : AnyFilter) (here : has one first) where
     -- the first was loaded, and the second is asked for
     second-asked : LoadedBefore has (one ∷ other ∷ []) (first ∷ []) other
     second-asked = record { before = one ∷ []; after = []; are = refl; loaded = (here, tt) }
@@ -49,7 +37,7 @@ module _ (has : Named) (fails : List ℕ → Stop → Type 0) (one other : List 
     })))
 
     -- the second filter differs from the first
-    pub differs-second : {stop : Stop} (second : DefaultFilter) (how : Difference)
+    pub differs-second : {stop : Stop} (second : AnyFilter) (how : Difference)
         → has other second → DiffersBy first second how
         → IsBad (Says (misfit_text how other one)) stop
         → StopsComparing has fails one other stop

@@ -5,7 +5,7 @@ use Rattle.std.proofs.lemmas.Grind.{flat_map-append}
 use Rattle.std.proofs.lemmas.List.{length-map, map-append, take_more}
 use Rattle.std.specs.Io.KnownBytes.{Appends}
 use Rattle.bloom_parts.specs.Sip.{sip}
-use Rattle.fastbloom.specs.Data.{DefaultFilter}
+use Rattle.summaries_engine.specs.declared.kinds.AnyFilter.{AnyFilter}
 use Rattle.lines.proofs.WritingLemmas.{part-second}
 use Rattle.lines.specs.Writing.{AppendsPart}
 use Rattle.summaries_engine.specs.declared.answers.Told.{Told}
@@ -41,14 +41,14 @@ pub record AreHashed (lies : Lies) (end : ℕ) (names : List (List ℕ)) (count 
   pub hashed : hashes ≡ map (sip 0 0) (joined parts)
 
 -- the inputs of the first of these names were answered
-pub record AreAnswered (lies : Lies) (f : DefaultFilter) (told : Told) (end : ℕ)
+pub record AreAnswered (lies : Lies) (f : AnyFilter) (told : Told) (end : ℕ)
     (names : List (List ℕ)) (count : ℕ) (from to : Option (List ℕ)) : Type 0 where
   pub parts : List (List (List ℕ))
   pub keys : HaveKeys lies end (take count names) parts
   pub text : Appends from to (told_text f told end (joined parts))
 
 -- answers to keys behind those to earlier keys
-answers-after : (f : DefaultFilter) (told : Told) (end : ℕ) (name : List ℕ)
+answers-after : (f : AnyFilter) (told : Told) (end : ℕ) (name : List ℕ)
     (earlier : List (List ℕ)) (read from mid to : Option (List ℕ)) (stop : Stop)
     → Appends from mid (told_text f told end earlier)
     → StopsAnswers f told end name [] read mid to stop
@@ -127,7 +127,7 @@ module _ (lies : Lies) (end : ℕ) (names : List (Bor (List ℕ))) (count : ℕ)
   }
 
   -- one input more was answered
-  pub answered-more : {f : DefaultFilter} {told : Told} {read left from to more : Option (List ℕ)}
+  pub answered-more : {f : AnyFilter} {told : Told} {read left from to more : Option (List ℕ)}
       → AreAnswered lies f told end (texts names) count from to
       → lies (get_or names count other).now read → AnswersAll f told end read left to more
       → AreAnswered lies f told end (texts names) (count + 1) from more
@@ -184,7 +184,7 @@ module _ (lies : Lies) (end : ℕ) (names : List (Bor (List ℕ))) (count : ℕ)
         (λ keys name. StopsInput lies fails end name stop) (inr (read, there, stopped))
 
     -- asking stops at an input that isn't had
-    pub asking-unopened : {f : DefaultFilter} {told : Told} {from to : Option (List ℕ)}
+    pub asking-unopened : {f : AnyFilter} {told : Told} {from to : Option (List ℕ)}
         → AreAnswered lies f told end (texts names) count from to
         → fails (get_or names count other).now stop
         → StopsAsking lies fails f told end (texts names) from to stop
@@ -194,7 +194,7 @@ module _ (lies : Lies) (end : ℕ) (names : List (Bor (List ℕ))) (count : ℕ)
         (inl (failed, so_far.text))
 
     -- asking stops within an input
-    pub asking-stopped : {f : DefaultFilter} {told : Told} {from mid to read : Option (List ℕ)}
+    pub asking-stopped : {f : AnyFilter} {told : Told} {from mid to read : Option (List ℕ)}
         → AreAnswered lies f told end (texts names) count from mid
         → lies (get_or names count other).now read
         → StopsAnswers f told end (get_or names count other).now [] read mid to stop

@@ -1,9 +1,13 @@
 mod AnswerFacts
 mod AskingLemmas
+mod BlockedFacts
+mod BlockedLemmas
+mod BothLemmas
 mod ComparingFacts
 mod ComparingLemmas
 mod CutLemmas
 mod CuttingLemmas
+mod FilledLemmas
 mod InputFacts
 mod InputLemmas
 mod KeyLemmas

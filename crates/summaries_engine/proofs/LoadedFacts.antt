@@ -5,14 +5,15 @@ use Rattle.std.specs.Fmt.{digits}
 use Rattle.std.specs.Fmt.Cut.{EndsInDots}
 use Rattle.anyhow.specs.Error.{HasMessage, error_message}
 use Rattle.anyhow.specs.declared.error.Error.{Error}
-use Rattle.fastbloom.specs.Data.{DefaultFilter}
-use Rattle.fastbloom.specs.File.{IsFileOf}
+use Rattle.summaries_engine.specs.declared.kinds.AnyFilter.{AnyFilter}
 use Rattle.bloom_plain.specs.declared.file.error.FileError.TheVariants.{Seal}
-use Rattle.bloom_plain.specs.FileRefusals.{file_refusal, number_at}
+use Rattle.bloom_plain.specs.FileLayouts.{refusal_in}
+use Rattle.bloom_plain.specs.FileRefusals.{number_at}
 use Rattle.lines.specs.Writing.{Begins}
 use Rattle.summaries_engine.specs.declared.form.Form.TheVariants.{Sealed, Unsealed, Json}
 use Rattle.summaries_engine.specs.declared.stop.Stop.TheVariants.{Memory, Worker, Input, Bad, Output}
-use Rattle.summaries_engine.specs.Loaded.{HasHashesOf, HasManyHashes, HoldsNone, IsInForm, IsRightOf, IsRightWith, IsUnloaded, IsUnread, file_form, hashes_text, mark_bytes}
+use Rattle.summaries_engine.specs.Kinds.{IsFileOfKind, parts_of}
+use Rattle.summaries_engine.specs.Loaded.{HasHashesOf, HasManyHashes, HoldsNone, IsInForm, IsRightOf, IsRightWith, IsUnloaded, IsUnread, file_form, hashes_text, layout_told, head_layout, IsRightIn, mark_bytes}
 use Rattle.summaries_engine.proofs.StopFacts.{says-other}
 
 -- the mark is the name and a zero
@@ -27,7 +28,7 @@ form-none = refl
 form-one : file_form 1 ≡ Sealed
 form-one = refl
 
-module _ (bytes : List ℕ) (f : DefaultFilter) (file : IsFileOf bytes f) where
+module _ (bytes : List ℕ) (f : AnyFilter) (file : IsFileOfKind bytes f) where
   -- a file with a seal
   sealed : number_at bytes 5 ≡ 7 → IsInForm Sealed f bytes
   sealed is = record { file = file; seal = λ none. omega (arith, is, none) }
@@ -45,22 +46,22 @@ module _ (bytes : List ℕ) (f : DefaultFilter) (file : IsFileOf bytes f) where
   unsealed-one is form = omega (arith, is, form.seal)
 
 -- a file of one filter is none of another
-form-other : (bytes : List ℕ) (f : DefaultFilter) → (IsFileOf bytes f → ⊥)
+form-other : (bytes : List ℕ) (f : AnyFilter) → (IsFileOfKind bytes f → ⊥)
     → IsInForm Sealed f bytes → ⊥
 form-other bytes f other form = other form.file
 
 -- braces are text
-text-brace : (f : DefaultFilter) → IsInForm Json f (123 ∷ 125 ∷ [])
+text-brace : (f : AnyFilter) → IsInForm Json f (123 ∷ 125 ∷ [])
 text-brace f begins =
     let wrong : 123 ≡ 102 = ap (λ l. get_or l 0 0) begins.cut in omega (arith, wrong)
 
 -- the first six bytes of a file are text
-text-six : (f : DefaultFilter) → IsInForm Json f (codes "fbloom")
+text-six : (f : AnyFilter) → IsInForm Json f (codes "fbloom")
 text-six f begins =
     let rest : [] ≡ 0 ∷ begins.rest = ap (drop 6) begins.cut in cc
 
 -- what begins with the mark isn't text, whatever its version
-text-mark : (f : DefaultFilter) → IsInForm Json f (mark_bytes ++ 50 ∷ []) → ⊥
+text-mark : (f : AnyFilter) → IsInForm Json f (mark_bytes ++ 50 ∷ []) → ⊥
 text-mark f is = is (record { rest = 50 ∷ []; cut = refl })
 
 -- what is said of a filter of 65 hashes, where 64 are allowed
@@ -125,11 +126,11 @@ unread-worker (inl (inr (inr none))) = none
 unread-worker (inr many) = many
 
 -- a file with a wrong seal holds no filter
-holds-seal : (bytes : List ℕ) → file_refusal bytes ≡ Some Seal → HoldsNone bytes
+holds-seal : (bytes : List ℕ) → refusal_in (layout_told bytes) bytes ≡ Some Seal → HoldsNone bytes
 holds-seal bytes refused = λ begins. (Seal, refused)
 
-module _ (bytes : List ℕ) (begins : Begins bytes mark_bytes) (good : file_refusal bytes ≡ None)
-    (said : Error) where
+module _ (bytes : List ℕ) (begins : Begins bytes mark_bytes)
+    (good : refusal_in (layout_told bytes) bytes ≡ None) (said : Error) where
   -- a good file holds one
   holds-good : HoldsNone bytes → ⊥
   holds-good none =
@@ -146,7 +147,7 @@ right-room bytes = inl (λ bad. bad)
 
 module _ (bytes : List ℕ) (said : Error) where
   -- a sealed file of a filter of 65 hashes
-  hashes-more : (f : DefaultFilter) → IsInForm Sealed f bytes → f.hashes ≡ 65
+  hashes-more : (f : AnyFilter) → IsInForm Sealed f bytes → (parts_of f).hashes ≡ 65
       → HasMessage (Some (hashes_text (codes "a") 65 64)) said
       → IsRightWith bytes (codes "a") 64 (Bad said)
   hashes-more f is more says = inr (record {
@@ -159,8 +160,9 @@ module _ (bytes : List ℕ) (said : Error) where
 
   -- the filter is that of the bytes, and its own hashes are told
   hashes-own : (did : HasHashesOf bytes (codes "a") 64 said) → did.form ≡ Sealed
-      → IsFileOf bytes did.filter
+      → IsFileOfKind bytes did.filter
   hashes-own did sealed = (subst (λ form. IsInForm form did.filter bytes) sealed did.is).file
 
-  hashes-allowed : (did : HasHashesOf bytes (codes "a") 64 said) → did.filter.hashes ≡ 64 → ⊥
+  hashes-allowed : (did : HasHashesOf bytes (codes "a") 64 said)
+      → (parts_of did.filter).hashes ≡ 64 → ⊥
   hashes-allowed did is = omega (arith, did.many, is)

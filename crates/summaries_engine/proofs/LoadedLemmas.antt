@@ -1,20 +1,25 @@
 -- Files that are read from their first bytes on: what those tell of the whole.
 use Rattle.std.proofs.Common.{◌≡◌, ◌≢◌, ◌⊎◌, ℕ, zero, suc, ◌+◌, ◌*◌, ◌<◌, ◌≤◌, true, false, List, [], ◌∷◌, ◌++◌, length, length-append, take, drop, Option, Some, None, IfSome, refl, sym, subst, ap, ◌∙◌, inl, inr, arith, take_all}
-use Rattle.std.proofs.lemmas.Bool.{cases_lt}
+use Rattle.std.proofs.lemmas.Bool.{cases_lt, eq-eqb, le-leb, lt-leb}
 use Rattle.std.proofs.lemmas.Bool.Decides.{Decides-eqb, eqb_tells}
 use Rattle.std.proofs.lemmas.List.{length-take-le, take-append-drop, take-append-le}
 use Rattle.std.proofs.lemmas.Slice.Eq.{starts_is}
-use Rattle.std.specs.Prelude.{nat_eq, IfOk, Ok, Result}
+use Rattle.std.specs.Prelude.{nat_eq, nat_le, ◌&&◌, if◌then◌else◌, Bool, IfOk, Ok, Result}
 use Rattle.std.specs.Io.KnownBytes.{Consumes, IsAtEnd}
 use Rattle.std.specs.List.{starts_with}
 use Rattle.bloom_parts.specs.Sip.{whole_words}
-use Rattle.fastbloom.specs.Data.{DefaultFilter}
-use Rattle.fastbloom.specs.File.{IsFileOf, bytes_of, head_numbers, head_of}
+use Rattle.bloom_plain.specs.declared.file.layout.Layout.{Layout}
+use Rattle.bloom_plain.specs.declared.file.layout.Layout.TheVariants.{Whole, Lines}
+use Rattle.bloom_plain.specs.FileLayouts.{numbers_in}
+use Rattle.fastbloom.specs.File.{bytes_of, head_numbers, head_of}
 use Rattle.bloom_plain.specs.FileRefusals.{number_at}
 use Rattle.lines.specs.Writing.{Begins}
 use Rattle.summaries_engine.specs.declared.form.Form.{Form}
 use Rattle.summaries_engine.specs.declared.form.Form.TheVariants.{Json}
-use Rattle.summaries_engine.specs.Loaded.{IsInForm, file_form, mark_bytes}
+use Rattle.summaries_engine.specs.declared.kinds.AnyFilter.{AnyFilter}
+use Rattle.summaries_engine.specs.declared.kinds.AnyFilter.TheVariants.{Classic, Blocked}
+use Rattle.summaries_engine.specs.Kinds.{IsFileOfKind}
+use Rattle.summaries_engine.specs.Loaded.{IsInForm, file_form, head_layout, layout_told, mark_bytes}
 
 -- a number of the first bytes is that of all bytes
 number-first : (i : ℕ) (front more : List ℕ) → 8 * i + 8 ≤ length front
@@ -33,16 +38,21 @@ number-first i (a ∷ b ∷ c ∷ d ∷ e ∷ f ∷ []) more room = omega (arith
 number-first i (a ∷ b ∷ c ∷ d ∷ e ∷ f ∷ g ∷ []) more room = omega (arith, room)
 
 -- a file of a filter has at least the 64 bytes of its head
-file-long : (bytes : List ℕ) (f : DefaultFilter) → IsFileOf bytes f → 64 ≤ length bytes
+file-long : (bytes : List ℕ) (f : AnyFilter) → IsFileOfKind bytes f → 64 ≤ length bytes
 unfolding bytes_of
-file-long bytes f file =
+file-long bytes (Classic f) file =
     let size : length bytes ≡ 64 + length (bytes_of f.words) =
     ap length file.is
     ∙ length-append (bytes_of (head_numbers (head_of f) file.seal)) (bytes_of f.words) in
     omega (arith, size)
+file-long bytes (Blocked f) file =
+    let size : length bytes ≡ 64 + length (bytes_of f.words) =
+    ap length file.parts.is
+    ∙ length-append (bytes_of (numbers_in Lines (head_of f) file.parts.seal)) (bytes_of f.words) in
+    omega (arith, size)
 
 -- a file of a filter is in the form that its seal tells
-seal-form : (seal : ℕ) (bytes : List ℕ) (f : DefaultFilter) → IsFileOf bytes f
+seal-form : (seal : ℕ) (bytes : List ℕ) (f : AnyFilter) → IsFileOfKind bytes f
     → number_at bytes 5 ≡ seal → IsInForm (file_form seal) f bytes
 seal-form seal bytes f file is = by (eqb_tells seal 0)
   where
@@ -71,9 +81,9 @@ read-first read old new buffer n is room count taken end = record {
 }
 
 -- a file whose first bytes were read, and then it, is in the form that those bytes tell
-pub in-file-form : (old new : Option (List ℕ)) (buffer : List ℕ) (n : ℕ) (f : DefaultFilter)
+pub in-file-form : (old new : Option (List ℕ)) (buffer : List ℕ) (n : ℕ) (f : AnyFilter)
     (form : Form) → HasRead old new buffer n
-    → IfSome new (λ rest. IsFileOf (take n buffer ++ rest) f)
+    → IfSome new (λ rest. IsFileOfKind (take n buffer ++ rest) f)
     → form ≡ file_form (number_at buffer 5) → IfSome old (IsInForm form f)
 in-file-form None new buffer n f form read file is = tt
 in-file-form (Some all) None buffer n f form read file is = absurd read.taken
@@ -82,8 +92,8 @@ in-file-form (Some all) (Some rest) buffer n f form read file is =
     (seal-form (number_at buffer 5) all f whole (ap (λ bytes. number_at bytes 5) all-is
     ∙ number-first 5 buffer rest (omega (arith, read.room))))
   where
-    whole : IsFileOf all f
-    whole = subst (λ bytes. IsFileOf bytes f) (sym read.taken) file
+    whole : IsFileOfKind all f
+    whole = subst (λ bytes. IsFileOfKind bytes f) (sym read.taken) file
 
     front : take n buffer ≡ buffer
     front = full (cases_lt n (length buffer))
@@ -99,6 +109,52 @@ in-file-form (Some all) (Some rest) buffer n f form read file is =
 
     all-is : all ≡ buffer ++ rest
     all-is = read.taken ∙ ap (λ l. l ++ rest) front
+
+-- the layout that the first bytes tell is that of the whole
+pub layout-first : (all rest : List ℕ) (buffer : List ℕ) (n : ℕ)
+    → HasRead (Some all) (Some rest) buffer n → head_layout n buffer ≡ layout_told all
+layout-first all rest buffer n read = by (cases_lt n 64)
+  where
+    choose : Bool → Bool → Layout
+    choose whole lines = if whole && lines then Lines else Whole
+
+    short : length (take n buffer) ≡ n
+    short = length-take-le n buffer read.count
+
+    size : length all ≡ n + length rest
+    size =
+        ap length read.taken ∙ length-append (take n buffer) rest
+        ∙ ap (λ k. k + length rest) short
+
+    same : (a b c d : Bool) → a ≡ c → b ≡ d → choose a b ≡ choose c d
+    same a b c d one two = ap (λ x. choose x b) one ∙ ap (choose c) two
+
+    not-whole : (a b : Bool) → a ≡ false → choose a b ≡ Whole
+    not-whole a b is = ap (λ x. choose x b) is
+
+    by : (n < 64) ⊎ (64 ≤ n) → head_layout n buffer ≡ layout_told all
+    by (inl fewer) =
+        let ended : length rest ≡ 0 = ap length (read.end (omega (arith, fewer, read.room))) in
+        not-whole (nat_eq n 64) (nat_eq (number_at buffer 6) 1) (other (eqb_tells n 64))
+        ∙ sym (not-whole (nat_le 64 (length all)) (nat_eq (number_at all 6) 1)
+        (lt-leb 64 (length all) (omega (arith, size, ended, fewer))))
+      where
+        other : ((nat_eq n 64 ≡ true) × (n ≡ 64)) ⊎ ((nat_eq n 64 ≡ false) × (n ≢ 64))
+            → nat_eq n 64 ≡ false
+        other (inl is) = absurd (omega (arith, fewer, is.1))
+        other (inr not) = not.0
+    by (inr enough) =
+        let full : n ≡ 64 = omega (arith, enough, read.count, read.room) in
+        let front : take n buffer ≡ buffer =
+        take_all n buffer (omega (arith, enough, read.room)) in
+        let all_is : all ≡ buffer ++ rest = read.taken ∙ ap (λ l. l ++ rest) front in
+        let number : number_at all 6 ≡ number_at buffer 6 =
+        ap (λ bytes. number_at bytes 6) all_is
+        ∙ number-first 6 buffer rest (omega (arith, read.room)) in
+        same (nat_eq n 64) (nat_eq (number_at buffer 6) 1) (nat_le 64 (length all))
+        (nat_eq (number_at all 6) 1) (eq-eqb n 64 full
+        ∙ sym (le-leb 64 (length all) (omega (arith, size, full))))
+        (ap (λ k. nat_eq k 1) (sym number))
 
 -- bytes whose first don't begin as those of a file don't begin so
 pub no-mark : (all rest : List ℕ) (buffer : List ℕ) (n : ℕ)
@@ -132,7 +188,7 @@ no-mark all rest buffer n read other begins = wrong (cases_lt n 7)
         cc (sym other ∙ holds)
 
 -- such bytes aren't a file of the form
-pub in-no-file-form : (old new : Option (List ℕ)) (buffer : List ℕ) (n : ℕ) (f : DefaultFilter)
+pub in-no-file-form : (old new : Option (List ℕ)) (buffer : List ℕ) (n : ℕ) (f : AnyFilter)
     → HasRead old new buffer n → starts_with nat_eq (take n buffer) mark_bytes ≡ false
     → IfSome old (IsInForm Json f)
 in-no-file-form None new buffer n f read other = tt

@@ -3,7 +3,7 @@ use Rattle.std.proofs.Common.{◌≡◌, ◌<◌, ◌+◌, ◌-◌, ◌^◌, ℕ
 use Rattle.std.proofs.lemmas.List.{get_or-map, length-map}
 use Rattle.std.specs.Prelude.{All}
 use Rattle.summaries_engine.specs.declared.stop.Stop.{Stop}
-use Rattle.fastbloom.specs.Data.{DefaultFilter}
+use Rattle.summaries_engine.specs.declared.kinds.AnyFilter.{AnyFilter}
 use Rattle.summaries_engine.specs.declared.unions.Difference.{Difference}
 use Rattle.summaries_engine.specs.Named.{Named, AreNamed, LoadedBefore, StopsAtMisfit, misfit_text}
 use Rattle.summaries_engine.specs.Refusals.{DiffersBy, Fits}
@@ -16,7 +16,7 @@ few-names names few =
     subst (λ n. n < 2 ^ 64) (sym (length-map names (λ name. name.now))) few
 
 -- there are as many filters as names
-pub named-length : (has : Named) (names : List (List ℕ)) (filters : List DefaultFilter)
+pub named-length : (has : Named) (names : List (List ℕ)) (filters : List AnyFilter)
     → AreNamed has names filters → length filters ≡ length names
 named-length has [] [] are = refl
 named-length has [] (f ∷ filters) are = absurd are
@@ -47,11 +47,11 @@ number-at number others all before after name few are counted behind =
     (omega (arith, few, long, counted, behind), omega (arith, few, long, counted, behind))
 
 -- where the filter of a name differs from the first, the number is that of the name
-pub record MisfitAt (has : Named) (names : List (List ℕ)) (first : DefaultFilter) (number : ℕ)
+pub record MisfitAt (has : Named) (names : List (List ℕ)) (first : AnyFilter) (number : ℕ)
     (how : Difference) : Type 0 where
-  pub filters : List DefaultFilter
+  pub filters : List AnyFilter
   pub name : List ℕ
-  pub shard : DefaultFilter
+  pub shard : AnyFilter
   pub reaches : LoadedBefore has names (first ∷ filters) name
   pub fit : All (Fits first) filters
   pub loaded : has name shard
@@ -60,7 +60,7 @@ pub record MisfitAt (has : Named) (names : List (List ℕ)) (first : DefaultFilt
   pub is_name : get_or names number [] ≡ name
 
 -- what is said names it and the first
-pub misfit-said : (has : Named) (names : List (Bor (List ℕ))) (first : DefaultFilter) (number : ℕ)
+pub misfit-said : (has : Named) (names : List (Bor (List ℕ))) (first : AnyFilter) (number : ℕ)
     (how : Difference) (other : Bor (List ℕ)) (name : List ℕ) (stop : Stop)
     → MisfitAt has (map (λ name. name.now) names) first number how → number < length names
     → get_or (map (λ name. name.now) names) 0 [] ≡ name

@@ -3,7 +3,7 @@ use Rattle.std.proofs.Common.{◌≡◌, ◌<◌, ◌^◌, ℕ, List, [], ◌∷
 use Rattle.std.specs.Prelude.{Err, Result, MatchResult}
 use Rattle.std.specs.Iterator.{Yields}
 use Rattle.std.specs.Iterator.Runs.{WholeRun, YieldsRun}
-use Rattle.fastbloom.specs.Data.{DefaultFilter}
+use Rattle.summaries_engine.specs.declared.kinds.AnyFilter.{AnyFilter}
 use Rattle.summaries_engine.specs.declared.unions.Difference.{Difference}
 use Rattle.summaries_engine.specs.declared.unions.Refusal.{Refusal}
 use Rattle.summaries_engine.specs.declared.unions.Refusal.TheVariants.{Unread, Differs}
@@ -15,7 +15,7 @@ use Rattle.summaries_engine.proofs.MisfitLemmas.{MisfitAt, name-behind, named-le
 module _ {I S : Type 0} (E : Type 0) (has : S → Named) (fails : S → List ℕ → E → Type 0)
     (shelf : I → S) (names : I → List (List ℕ)) where
   -- what was given to the end, if all of it are filters, has the names that were left
-  named-to-end : (filters : List DefaultFilter) (from to end : I)
+  named-to-end : (filters : List AnyFilter) (from to end : I)
       → Yields (GivesNext {E = E} has fails shelf names) from (map Ok filters) to
       → GivesNext {E = E} has fails shelf names to None end
       → AreNamed (has (shelf from)) (names from) filters
@@ -34,11 +34,11 @@ module _ {I S : Type 0} (E : Type 0) (has : S → Named) (fails : S → List ℕ
       )
 
   -- a first filter, and those of a whole run, have the first name and those that were left
-  pub named-run : (first made : DefaultFilter) (name : List ℕ) (start : I) (on : S)
+  pub named-run : (first made : AnyFilter) (name : List ℕ) (start : I) (on : S)
       (all : List (List ℕ)) → shelf start ≡ on → name ∷ names start ≡ all → has on name first
       → WholeRun (GivesNext {E = E} has fails shelf names) start
       (λ run. UnitesGiven first run.items made)
-      → (filters : List DefaultFilter) × AreNamed (has on) all filters × UnitesShards filters made
+      → (filters : List AnyFilter) × AreNamed (has on) all filters × UnitesShards filters made
   unfolding YieldsRun
   named-run first made name start on all there these here whole =
       let run = whole.0 in
@@ -58,7 +58,7 @@ module _ {I S : Type 0} (E : Type 0) (has : S → Named) (fails : S → List ℕ
       )
 
   -- what was given up to the last that was asked for has the first of the names that were left
-  named-up-to : (filters : List DefaultFilter) (last : Result DefaultFilter E) (from to : I)
+  named-up-to : (filters : List AnyFilter) (last : Result AnyFilter E) (from to : I)
       → Yields (GivesNext {E = E} has fails shelf names) from (map Ok filters ++ last ∷ []) to
       → (name : List ℕ) × LoadedBefore (has (shelf from)) (names from) filters name
       × MatchResult last (has (shelf from) name) (fails (shelf from) name)
@@ -84,11 +84,11 @@ module _ {I S : Type 0} (E : Type 0) (has : S → Named) (fails : S → List ℕ
         subst (λ s. MatchResult last (has s later.0) (fails s later.0)) step.0 later.2,
       )
 
-  module _ (first : DefaultFilter) (name : List ℕ) (start : I) (on : S) (all : List (List ℕ))
+  module _ (first : AnyFilter) (name : List ℕ) (start : I) (on : S) (all : List (List ℕ))
       (there : shelf start ≡ on) (these : name ∷ names start ≡ all) (here : has on name first)
     where
       -- with a first filter before it
-      reaches-behind : (filters : List DefaultFilter) (last : List ℕ)
+      reaches-behind : (filters : List AnyFilter) (last : List ℕ)
           → LoadedBefore (has (shelf start)) (names start) filters last
           → LoadedBefore (has on) all (first ∷ filters) last
       reaches-behind filters last reaches = record {

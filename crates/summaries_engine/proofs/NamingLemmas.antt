@@ -5,7 +5,7 @@ use Rattle.std.proofs.lemmas.List.{length-map}
 use Rattle.std.specs.List.{IsFirstAndRest}
 use Rattle.std.specs.Prelude.{MatchOption, Result}
 use Rattle.std.specs.Iterator.Runs.{WholeRun}
-use Rattle.fastbloom.specs.Data.{DefaultFilter}
+use Rattle.summaries_engine.specs.declared.kinds.AnyFilter.{AnyFilter}
 use Rattle.summaries_engine.specs.declared.shards.Shards.{Shards}
 use Rattle.summaries_engine.specs.declared.stop.Stop.{Stop}
 use Rattle.summaries_engine.specs.declared.unions.Difference.{Difference}
@@ -24,7 +24,7 @@ texts names = map (λ name. name.now) names
 
 -- what a call of the iterator over names gives
 abbrev Gives : {S : Type 0} → (S → Named) → (S → List ℕ → Stop → Type 0) → Shards S
-    → Option (Result DefaultFilter Stop) → Shards S → Type 0
+    → Option (Result AnyFilter Stop) → Shards S → Type 0
 Gives has fails =
     GivesNext has fails (λ shards. shards.shelf.now) (λ shards. texts shards.names.rest.now)
 
@@ -57,7 +57,7 @@ module _ {S : Type 0} (has : S → Named) (fails : S → List ℕ → Stop → T
   }))
 
   module _ {iter : Iter (Bor (List ℕ))} (left : iter.rest.now ≡ others.now) {shelf : Bor S}
-      {first : DefaultFilter} (here : has shelf.now name.now.now first) where
+      {first : AnyFilter} (here : has shelf.now name.now.now first) where
     -- the first name and those that the iterator has left are all
     left-behind : (it : Shards S) → it ≡ record { shelf = shelf; names = iter }
         → name.now.now ∷ texts it.names.rest.now ≡ texts names
@@ -66,10 +66,10 @@ module _ {S : Type 0} (has : S → Named) (fails : S → List ℕ → Stop → T
         ∙ sym (ap texts first-and-others)
 
     -- what was united are the filters of all names
-    pub named-whole : {made : DefaultFilter}
+    pub named-whole : {made : AnyFilter}
         → (it : Shards S) × (it ≡ record { shelf = shelf; names = iter })
         × WholeRun (Gives has fails) it (λ run. UnitesGiven first run.items made)
-        → (filters : List DefaultFilter) × AreNamed (has shelf.now) (texts names) filters
+        → (filters : List AnyFilter) × AreNamed (has shelf.now) (texts names) filters
         × UnitesShards filters made
     named-whole {made = made} whole =
         named-run Stop has fails (λ shards. shards.shelf.now)

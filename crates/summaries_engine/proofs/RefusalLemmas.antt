@@ -1,16 +1,16 @@
 -- Filters that aren't united, and keys that are too long.
-use Rattle.std.proofs.Common.{◌≡◌, ℕ, ◌+◌, ◌-◌, ◌^◌, min, codes, decimal, arith, length, length-append, List, [], ◌∷◌, ◌++◌, Option, Some, refl, sym, subst, ◌∙◌}
+use Rattle.std.proofs.Common.{◌≡◌, ℕ, ◌+◌, ◌-◌, ◌^◌, min, codes, decimal, arith, length, length-append, get_or, List, [], ◌∷◌, ◌++◌, Option, Some, refl, sym, subst, ◌∙◌}
 use Rattle.std.proofs.lemmas.Fmt.{decimal-digits_of}
 use Rattle.std.proofs.lemmas.List.Elements.{All-head, All-tail}
-use Rattle.std.specs.Prelude.{All, Err, Result}
+use Rattle.std.specs.Prelude.{All, Result}
 use Rattle.std.specs.Iterator.{Yields}
 use Rattle.anyhow.specs.Error.{HasMessage}
 use Rattle.anyhow.specs.declared.error.Error.{Error}
-use Rattle.fastbloom.specs.Data.{DefaultFilter}
-use Rattle.fastbloom.specs.Filter.{SameShape}
+use Rattle.summaries_engine.specs.declared.kinds.AnyFilter.{AnyFilter}
 use Rattle.summaries_engine.specs.declared.unions.Difference.{Difference}
 use Rattle.summaries_engine.specs.declared.unions.Difference.TheVariants as difference
 use Rattle.summaries_engine.specs.declared.unions.Refusal.{Refusal}
+use Rattle.summaries_engine.specs.Kinds.{HaveSameKind, HaveSameShape}
 use Rattle.summaries_engine.specs.Refusals.{DiffersBy, Fits, IsRefusedFor, RefusesGiven, too_long_text}
 use Rattle.summaries_engine.specs.Summaries.{HaveSameKey, IsUnionOf}
 
@@ -24,9 +24,9 @@ yields-more steps start last end (x ∷ items) item came next =
     (came.0, came.1, yields-more steps came.0 last end items item came.2 next)
 
 -- where the item is the last that was asked for, it is what the refusal is about
-pub stops : {I E : Type 0} (steps : I → Option (Result DefaultFilter E) → I → Type 0)
-    (start last end : I) (items : List (Result DefaultFilter E)) (item : Result DefaultFilter E)
-    (first : DefaultFilter) (refusal : Refusal E) → Yields steps start items last
+pub stops : {I E : Type 0} (steps : I → Option (Result AnyFilter E) → I → Type 0)
+    (start last end : I) (items : List (Result AnyFilter E)) (item : Result AnyFilter E)
+    (first : AnyFilter) (refusal : Refusal E) → Yields steps start items last
     → steps last (Some item) end → IsRefusedFor first (items ++ item ∷ []) refusal
     → RefusesGiven steps start first refusal
 stops steps start last end items item first refusal came next refused = record {
@@ -37,49 +37,55 @@ stops steps start last end items item first refusal came next refused = record {
 }
 
 -- two filters of a third one's shape have one shape
-shape-of : (whole first f : DefaultFilter) → SameShape whole first → SameShape whole f
-    → SameShape first f
+shape-of : (whole first f : AnyFilter) → HaveSameShape whole first → HaveSameShape whole f
+    → HaveSameShape first f
 shape-of whole first f fits has = record {
   words = sym fits.words ∙ has.words;
   hashes = sym fits.hashes ∙ has.hashes;
 }
 
 -- the filters of a union fit the first of them
-pub union-fits : (first whole : DefaultFilter) (others : List DefaultFilter)
+pub union-fits : (first whole : AnyFilter) (others : List AnyFilter)
     → IsUnionOf (first ∷ others) whole → All (Fits first) others
 union-fits first whole others union = λ i d within. record {
-  shape = shape-of whole first _ (All-head (SameShape whole) first others union.shape)
-      (All-tail (SameShape whole) first others union.shape i d within);
+  kind = sym (All-head (HaveSameKind whole) first others union.kind)
+      ∙ All-tail (HaveSameKind whole) first others union.kind i d within;
+  shape = shape-of whole first (get_or others i d)
+      (All-head (HaveSameShape whole) first others union.shape)
+      (All-tail (HaveSameShape whole) first others union.shape i d within);
   key = sym (All-head (HaveSameKey whole) first others union.key)
       ∙ All-tail (HaveSameKey whole) first others union.key i d within;
 }
 
--- what differs from the union so far differs from the first
-differs-from : (first whole shard : DefaultFilter) (how : Difference)
-    (answer : Result (Unit {0}) Difference) → answer ≡ Err how
-    → (answer ≡ Err difference.Shape → SameShape whole shard → ⊥)
-    → (answer ≡ Err difference.Key → HaveSameKey whole shard → ⊥)
-    → (answer ≡ Err difference.Key → SameShape whole shard)
-    → SameShape whole first → HaveSameKey whole first → DiffersBy first shard how
-differs-from first whole shard difference.Shape answer is shape key order fits same = λ has.
-    shape is (record { words = fits.words ∙ has.words; hashes = fits.hashes ∙ has.hashes })
-differs-from first whole shard difference.Key answer is shape key order fits same =
-    (shape-of whole first shard fits (order is), λ has. key is (same ∙ has))
+-- what differs from a filter differs from one that fits it
+differs-from : (first whole shard : AnyFilter) (how : Difference) → Fits whole first
+    → DiffersBy whole shard how → DiffersBy first shard how
+differs-from first whole shard difference.Kind fits differs = λ has. differs (fits.kind ∙ has)
+differs-from first whole shard difference.Shape fits differs = (
+  sym fits.kind ∙ differs.0,
+  λ has. differs.1 (record {
+    words = fits.shape.words ∙ has.words;
+    hashes = fits.shape.hashes ∙ has.hashes;
+  }),
+)
+differs-from first whole shard difference.Key fits differs = (
+  sym fits.kind ∙ differs.0,
+  shape-of whole first shard fits.shape differs.1,
+  λ has. differs.2 (fits.key ∙ has),
+)
 
 -- what differs from the union of the first and others differs from the first
-pub misfit-differs : (first whole shard : DefaultFilter) (others : List DefaultFilter)
-    (how : Difference) (answer : Result (Unit {0}) Difference) → answer ≡ Err how
-    → (answer ≡ Err difference.Shape → SameShape whole shard → ⊥)
-    → (answer ≡ Err difference.Key → HaveSameKey whole shard → ⊥)
-    → (answer ≡ Err difference.Key → SameShape whole shard)
-    → IsUnionOf (first ∷ others) whole → DiffersBy first shard how
-misfit-differs first whole shard others how answer is shape key order union =
-    differs-from first whole shard how answer is shape key order
-    (All-head (SameShape whole) first others union.shape)
-    (All-head (HaveSameKey whole) first others union.key)
+pub misfit-differs : (first whole shard : AnyFilter) (others : List AnyFilter) (how : Difference)
+    → DiffersBy whole shard how → IsUnionOf (first ∷ others) whole → DiffersBy first shard how
+misfit-differs first whole shard others how differs union =
+    differs-from first whole shard how (record {
+      kind = All-head (HaveSameKind whole) first others union.kind;
+      shape = All-head (HaveSameShape whole) first others union.shape;
+      key = All-head (HaveSameKey whole) first others union.key;
+    }) differs
 
 -- the count of one filter more
-pub counted-more : (most number next : ℕ) (others : List DefaultFilter) (shard : DefaultFilter)
+pub counted-more : (most number next : ℕ) (others : List AnyFilter) (shard : AnyFilter)
     → number ≡ min (length others + 1) most → next ≡ min (number + 1) most
     → next ≡ min (length (others ++ shard ∷ []) + 1) most
 counted-more most number next others shard so_far more =

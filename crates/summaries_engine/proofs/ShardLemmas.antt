@@ -8,12 +8,13 @@ use Rattle.std.proofs.iter.runs.Made.{run_of_exit}
 use Rattle.std.proofs.lemmas.List.{length-map, get_or-map, get_or_default}
 use Rattle.bloom_parts.specs.Content.{AreWords}
 use Rattle.bloom_parts.specs.Sip.{sip}
-use Rattle.bloom_parts.specs.declared.hasher.CloneBuildHasher.{CloneBuildHasher}
-use Rattle.bloom_parts.specs.declared.hasher.sip.RandomDefaultHasher.{RandomDefaultHasher}
-use Rattle.fastbloom.specs.Data.{DefaultFilter}
-use Rattle.fastbloom.specs.Fill.{HaveSameHashes, IsFilledWith, AnyCuttingLaw, FilledContainsLaw}
-use Rattle.fastbloom.specs.Laws.{EqualityLaw}
-use Rattle.summaries_engine.specs.Summaries.{hash_in, joined, HaveSameKeys, IsUnionOf, UnitesShards, UnitesGiven}
+use Rattle.summaries_engine.specs.declared.kinds.AnyFilter.{AnyFilter}
+use Rattle.fastbloom.specs.Fill.{HaveSameHashes, AnyCuttingLaw, FilledContainsLaw}
+use Rattle.fastbloom.specs.Laws.{EqualContentLaw, EqualityLaw}
+use Rattle.fastbloom.specs.Lines.{LineSubsetLaw}
+use Rattle.summaries_engine.specs.Kinds.{parts_of}
+use Rattle.summaries_engine.specs.Summaries.{IsFilled, hash_in, joined, HaveSameKeys, IsUnionOf, UnitesShards, UnitesGiven}
+use Rattle.summaries_engine.proofs.FilledLemmas.{Builder, filled-alike, filled-contains}
 use Rattle.summaries_engine.proofs.UnionLemmas.{summary-joined}
 
 module _ (hash : List ℕ → ℕ) where
@@ -50,35 +51,32 @@ module _ (hash : List ℕ → ℕ) where
         (hash-of-key keys one.0 ((same one.0).1 one.1)),
   )
 
--- the hashers of default filters
-abbrev pub Builder : Type 0
-Builder = CloneBuildHasher RandomDefaultHasher
-
 -- the union of filters has all that is said of it
-pub unites-shards : (first : DefaultFilter) (others : List DefaultFilter) (made : DefaultFilter)
-    → EqualityLaw Builder → AnyCuttingLaw Builder → FilledContainsLaw Builder
-    → AreWords made.words → IsUnionOf (first ∷ others) made → UnitesShards (first ∷ others) made
-unites-shards first others made equality cutting contains_all words union = record {
+pub unites-shards : (first : AnyFilter) (others : List AnyFilter) (made : AnyFilter)
+    → EqualityLaw Builder → EqualContentLaw Builder → AnyCuttingLaw Builder
+    → FilledContainsLaw Builder → LineSubsetLaw → AreWords (parts_of made).words
+    → IsUnionOf (first ∷ others) made → UnitesShards (first ∷ others) made
+unites-shards first others made equality contents cutting contains_all subset words union = record {
   union = union;
   summary = λ shape parts each. summary-joined shape made first others parts each union;
-  same = λ shape parts keys whole each filled fit key same.
+  same = λ shape parts keys whole each filled fit kind key same.
       let hash = hash_in made in
-      let as_made : IsFilledWith shape (map hash keys) whole =
-      subst (λ pair. IsFilledWith shape (map (sip pair.0 pair.1) keys) whole) key filled in
-      (equality made whole).0
-      (cutting shape made whole (map hash (joined parts)) (map hash keys) words fit
-      (summary-joined shape made first others parts each union) as_made
-      (hashes-same hash (joined parts) keys same));
+      let as_made : IsFilled shape (map hash keys) whole =
+      subst (λ pair. IsFilled shape (map (sip pair.0 pair.1) keys) whole) key filled in
+      filled-alike equality contents cutting shape made whole (map hash (joined parts))
+      (map hash keys) words fit kind (summary-joined shape made first others parts each union)
+      as_made (hashes-same hash (joined parts) keys same);
   found = λ shape parts key each given.
-      contains_all shape made (map (hash_in made) (joined parts)) (hash_in made key)
+      filled-contains contains_all subset shape made (map (hash_in made) (joined parts))
+      (hash_in made key)
       (summary-joined shape made first others parts each union)
       (hash-of-key (hash_in made) (joined parts) key given);
 }
 
 -- when the iterator has ended, those were all filters
-pub unites-whole : {I E : Type 0} (steps : I → Option (Result DefaultFilter E) → I → Type 0)
-    (start last end : I) (first : DefaultFilter) (items : List (Result DefaultFilter E))
-    (made : DefaultFilter) → Yields steps start items last → steps last None end
+pub unites-whole : {I E : Type 0} (steps : I → Option (Result AnyFilter E) → I → Type 0)
+    (start last end : I) (first : AnyFilter) (items : List (Result AnyFilter E))
+    (made : AnyFilter) → Yields steps start items last → steps last None end
     → UnitesGiven first items made
     → WholeRun steps start (λ run. UnitesGiven first run.items made)
 unites-whole steps start last end first items made came ended did =

@@ -6,7 +6,7 @@ use Rattle.std.specs.Prelude.{nat_le}
 use Rattle.std.specs.Fmt.Cut.{EndsInDots}
 use Rattle.anyhow.specs.Error.{AddsCause, HasMessage, IsMadeOf, error_causes, error_left_out, error_message, keeps_message}
 use Rattle.anyhow.specs.declared.error.Error.{Error}
-use Rattle.fastbloom.specs.Data.{DefaultFilter}
+use Rattle.summaries_engine.specs.declared.kinds.AnyFilter.{AnyFilter}
 use Rattle.lines.specs.Lines.{lines_by}
 use Rattle.lines.specs.Reading.{AreShort, IsReadFromBy}
 use Rattle.summaries_engine.specs.declared.answers.Told.{Told}
@@ -136,7 +136,7 @@ hashing-bad : (end : ℕ) (read : Option (List ℕ)) (said : Error) → error_me
     → StopsHashing end (codes "k") read (Bad said) → ⊥
 hashing-bad end read said told stop = bad-no end read stop.keys said told stop.reason
 
-answers-no : (f : DefaultFilter) (which : Told) (end : ℕ) (earlier : List (List ℕ))
+answers-no : (f : AnyFilter) (which : Told) (end : ℕ) (earlier : List (List ℕ))
     (read from to : Option (List ℕ)) (said : Error) → error_message said ≡ codes "no"
     → StopsAnswers f which end (codes "k") earlier read from to (Input said) → ⊥
 answers-no f which end earlier read from to said told (inl stop) =

@@ -1,7 +1,7 @@
 -- Keys of one input that weren't taken to their end.
 use Rattle.std.proofs.Common.{◌≡◌, inl, inr, ℕ, ◌-◌, ◌^◌, ◌≤◌, codes, List, [], ◌∷◌, ◌++◌, length, Option, Some, None, refl, sym, subst, ◌∙◌}
 use Rattle.std.proofs.lemmas.List.Elements.{All-nil}
-use Rattle.fastbloom.specs.Data.{DefaultFilter}
+use Rattle.summaries_engine.specs.declared.kinds.AnyFilter.{AnyFilter}
 use Rattle.lines.specs.Lines.{lines_by}
 use Rattle.lines.specs.Reading.{Waiting, KnowsEnd, TakesLongBy, TakesShortBy, IsReadFromBy, left_of}
 use Rattle.lines.specs.Writing.{AppendsPart}
@@ -77,7 +77,7 @@ module _ {end : ℕ} {name : List ℕ} {read left : Option (List ℕ)} {reader :
   }
 
   -- asking stops for a reason why the keys so far aren't taken on
-  pub asking-stops : {f : DefaultFilter} {told : Told} {from to : Option (List ℕ)}
+  pub asking-stops : {f : AnyFilter} {told : Told} {from to : Option (List ℕ)}
       → IsAnswering f told end read reader left number from to
       → Why end name read reader left number stop
       → StopsAnswers f told end name [] read from to stop
@@ -96,7 +96,7 @@ pub hashing-room : {end : ℕ} {name : List ℕ} {read left : Option (List ℕ)}
 hashing-room so_far = hashing-stops so_far (why-read (inl tt))
 
 -- a write failed within the answer to the next key
-pub asking-cut : {f : DefaultFilter} {told : Told} {end : ℕ} {name : List ℕ}
+pub asking-cut : {f : AnyFilter} {told : Told} {end : ℕ} {name : List ℕ}
     {read left from to more : Option (List ℕ)} {old : Waiting} {number : ℕ} {key : List ℕ}
     {stop : Stop} → IsAnswering f told end read old left number from to → (new : Waiting)
     (rest : Option (List ℕ))

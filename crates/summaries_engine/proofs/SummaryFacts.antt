@@ -11,6 +11,7 @@ use Rattle.bloom_plain.proofs.CaseLemmas.{content-case, positions-past}
 use Rattle.fastbloom.specs.Data.{DefaultFilter}
 use Rattle.fastbloom.specs.Fill.{positions_of_all}
 use Rattle.fastbloom.specs.declared.parallel.shape.Shape.{Shape}
+use Rattle.summaries_engine.specs.declared.kinds.AnyFilter.TheVariants.{Classic}
 use Rattle.summaries_engine.specs.Summaries.{AreSummariesOf, HaveSameKey, IsSummaryOf, hash_in, joined}
 
 -- one word and two hashes
@@ -66,11 +67,12 @@ bits-b = content-case (281492156579840 ∷ [])
 
 -- a filter's hash of a key is that under its own key
 pub hash-in : (f : DefaultFilter) (word low : ℕ) (key : List ℕ) → IsFilter f word low
-    → hash_in f key ≡ sip low 0 key
+    → hash_in (Classic f) key ≡ sip low 0 key
 hash-in f word low key is = ap (λ pair. sip pair.0 pair.1 key) is.key
 
 -- the summary of "a"
-pub summary-a : (f : DefaultFilter) → IsFilter f 268500992 0 → IsSummaryOf shape ((97 ∷ []) ∷ []) f
+pub summary-a : (f : DefaultFilter) → IsFilter f 268500992 0
+    → IsSummaryOf shape ((97 ∷ []) ∷ []) (Classic f)
 summary-a f is = record {
   words = ap length is.words;
   num_hashes = is.hashes;
@@ -81,7 +83,7 @@ summary-a f is = record {
 
 -- the summary of "b"
 pub summary-b : (f : DefaultFilter) → IsFilter f 281492156579840 0
-    → IsSummaryOf shape ((98 ∷ []) ∷ []) f
+    → IsSummaryOf shape ((98 ∷ []) ∷ []) (Classic f)
 summary-b f is = record {
   words = ap length is.words;
   num_hashes = is.hashes;
@@ -92,7 +94,7 @@ summary-b f is = record {
 
 -- a bit of the word is set where the summary of these keys has it
 pub at : (f : DefaultFilter) (word low : ℕ) (keys : List (List ℕ)) (p : ℕ) → IsFilter f word low
-    → IsSummaryOf shape keys f
+    → IsSummaryOf shape keys (Classic f)
     → content (word ∷ []) p ≡ positions_of_all 64 2 (map (λ key. sip low 0 key) keys) p
 at f word low keys p is did =
     ap (λ w. content w p) (sym is.words) ∙ did.bits p
@@ -100,7 +102,7 @@ at f word low keys p is did =
 
 -- the summary of "a" isn't that of "b"
 summary-other : (f : DefaultFilter) → IsFilter f 268500992 0
-    → IsSummaryOf shape ((98 ∷ []) ∷ []) f → ⊥
+    → IsSummaryOf shape ((98 ∷ []) ∷ []) (Classic f) → ⊥
 unfolding content positions chain
 summary-other f is did =
     let wrong : true ≡ false =
@@ -109,7 +111,7 @@ summary-other f is did =
 
 -- the same word under another key isn't the summary of "a"
 summary-keyed : (f : DefaultFilter) → IsFilter f 268500992 1
-    → IsSummaryOf shape ((97 ∷ []) ∷ []) f → ⊥
+    → IsSummaryOf shape ((97 ∷ []) ∷ []) (Classic f) → ⊥
 unfolding content positions chain
 summary-keyed f is did =
     let wrong : true ≡ false =
@@ -118,27 +120,27 @@ summary-keyed f is did =
 
 -- two filters are the summaries of two parts
 pub each-part : (f g : DefaultFilter) → IsFilter f 268500992 0 → IsFilter g 281492156579840 0
-    → AreSummariesOf shape (((97 ∷ []) ∷ []) ∷ ((98 ∷ []) ∷ []) ∷ []) (f ∷ g ∷ [])
+    → AreSummariesOf shape (((97 ∷ []) ∷ []) ∷ ((98 ∷ []) ∷ []) ∷ []) (Classic f ∷ Classic g ∷ [])
 each-part f g one other = (summary-a f one, (summary-b g other, tt))
 
 -- two filters aren't the summaries of one part
 part-left_out : (f g : DefaultFilter)
-    → AreSummariesOf shape (((97 ∷ []) ∷ []) ∷ []) (f ∷ g ∷ []) → ⊥
+    → AreSummariesOf shape (((97 ∷ []) ∷ []) ∷ []) (Classic f ∷ Classic g ∷ []) → ⊥
 part-left_out f g each = each.1
 
 -- a part of which there is no filter isn't left out
 filter-left_out : (f : DefaultFilter)
-    → AreSummariesOf shape (((97 ∷ []) ∷ []) ∷ ((98 ∷ []) ∷ []) ∷ []) (f ∷ []) → ⊥
+    → AreSummariesOf shape (((97 ∷ []) ∷ []) ∷ ((98 ∷ []) ∷ []) ∷ []) (Classic f ∷ []) → ⊥
 filter-left_out f each = each.1
 
 -- the first filter is the summary of the first part
 part-other : (f : DefaultFilter) → IsFilter f 268500992 0
-    → AreSummariesOf shape (((98 ∷ []) ∷ []) ∷ []) (f ∷ []) → ⊥
+    → AreSummariesOf shape (((98 ∷ []) ∷ []) ∷ []) (Classic f ∷ []) → ⊥
 part-other f is each = summary-other f is each.0
 
 -- both words of a filter's key are the key of the hash
 hash-both : (f : DefaultFilter) (low high : ℕ) (key : List ℕ) → key_of f.hasher ≡ (low, high)
-    → hash_in f key ≡ sip low high key
+    → hash_in (Classic f) key ≡ sip low high key
 hash-both f low high key is = ap (λ pair. sip pair.0 pair.1 key) is
 
 -- the keys of two parts, of which the second has two
@@ -148,6 +150,6 @@ joined-parts = refl
 
 -- keys that differ in their second word alone aren't the same
 key-second : (f g : DefaultFilter) → key_of f.hasher ≡ (1, 2) → key_of g.hasher ≡ (1, 3)
-    → HaveSameKey f g → ⊥
+    → HaveSameKey (Classic f) (Classic g) → ⊥
 key-second f g one other same =
     let wrong : 2 ≡ 3 = ap (λ pair. pair.1) (sym one ∙ same ∙ other) in omega (arith, wrong)

@@ -10,7 +10,9 @@ use Rattle.bloom_parts.specs.Sip.{sip}
 use Rattle.bloom_plain.proofs.CaseLemmas.{content-case, content-past}
 use Rattle.fastbloom.specs.Data.{DefaultFilter}
 use Rattle.fastbloom.specs.Fill.{positions_of_all}
-use Rattle.fastbloom.specs.Filter.{Unites, contains}
+use Rattle.fastbloom.specs.Filter.{contains}
+use Rattle.summaries_engine.specs.declared.kinds.AnyFilter.TheVariants.{Classic}
+use Rattle.summaries_engine.specs.Kinds.{UnitesParts}
 use Rattle.summaries_engine.specs.Summaries.{HaveSameKey, HaveSameKeys, IsSummaryOf, hash_in}
 use Rattle.summaries_engine.specs.Trees.{Tree, Part, United, keys_of, Makes, TreeSummaryLaw, AnyPartsLaw, AnyPartFoundLaw}
 use Rattle.summaries_engine.proofs.SummaryFacts.{IsFilter, shape, summary-a, summary-b, at, hash-a, hash-b}
@@ -32,17 +34,20 @@ keys-repeated = refl
 united-words : (one other word : ℕ)
     → ((p : ℕ) → content (word ∷ []) p ≡ (content (one ∷ []) p || content (other ∷ []) p))
     → (f g made : DefaultFilter) → IsFilter f one 0 → IsFilter g other 0 → IsFilter made word 0
-    → made.hasher ≡ f.hasher → Unites f g made
+    → made.hasher ≡ f.hasher → UnitesParts (Classic f) (Classic g) (Classic made)
 united-words one other word both f g made is_one is_other is hasher = record {
-  bits = λ p.
-      ap (λ w. content w p) is.words ∙ both p
-      ∙ ap (λ w. content w p || content (other ∷ []) p) (sym is_one.words)
-      ∙ ap (λ w. content f.words p || content w p) (sym is_other.words);
-  shape = record {
-    words = ap length (is_one.words) ∙ sym (ap length is.words);
-    hashes = is_one.hashes ∙ sym is.hashes;
+  kind = refl;
+  parts = record {
+    bits = λ p.
+        ap (λ w. content w p) is.words ∙ both p
+        ∙ ap (λ w. content w p || content (other ∷ []) p) (sym is_one.words)
+        ∙ ap (λ w. content f.words p || content w p) (sym is_other.words);
+    shape = record {
+      words = ap length (is_one.words) ∙ sym (ap length is.words);
+      hashes = is_one.hashes ∙ sym is.hashes;
+    };
+    hasher = hasher;
   };
-  hasher = hasher;
 }
 
 -- the word of "a" and that of "b" are in the word of both
@@ -77,43 +82,46 @@ module _ (f g : DefaultFilter) (one : IsFilter f 268500992 0)
   -- a tree with a part that comes twice makes the filter of both keys
   makes-repeated : (both made : DefaultFilter) → IsFilter both 281492425080832 0
       → IsFilter made 281492425080832 0 → both.hasher ≡ f.hasher → made.hasher ≡ both.hasher
-      → Makes shape repeated made
+      → Makes shape repeated (Classic made)
   makes-repeated both made is_both is from_f from_both = (
-    both,
-    f,
+    Classic both,
+    Classic f,
     (
-      f,
-      g,
+      Classic f,
+      Classic g,
       summary-a f one,
       summary-b g other,
+      refl,
       one.key ∙ sym other.key,
       united-words 268500992 281492156579840 281492425080832 bits-both f g both one other is_both
           from_f,
     ),
     summary-a f one,
+    refl,
     is_both.key ∙ sym one.key,
     united-words 281492425080832 268500992 281492425080832 bits-again both f made is_both one is
         from_both,
   )
 
   -- a tree that lacks the part of "b" makes the filter of "a" alone
-  makes-left_out : Makes shape left_out f
+  makes-left_out : Makes shape left_out (Classic f)
   makes-left_out = (
-    f,
-    f,
+    Classic f,
+    Classic f,
     summary-a f one,
     summary-a f one,
+    refl,
     refl,
     united-words 268500992 268500992 268500992 bits-twice f f f one one one refl,
   )
 
 -- the filter of "a" alone isn't made by a tree that has the part of "b"
 makes-less : TreeSummaryLaw → (made : DefaultFilter) → IsFilter made 268500992 0
-    → Makes shape repeated made → ⊥
+    → Makes shape repeated (Classic made) → ⊥
 unfolding content positions chain
 makes-less law made is did =
-    let summary : IsSummaryOf shape ((97 ∷ []) ∷ (98 ∷ []) ∷ (97 ∷ []) ∷ []) made =
-    law shape repeated made did in
+    let summary : IsSummaryOf shape ((97 ∷ []) ∷ (98 ∷ []) ∷ (97 ∷ []) ∷ []) (Classic made) =
+    law shape repeated (Classic made) did in
     let wrong : false ≡ true =
     at made 268500992 0 ((97 ∷ []) ∷ (98 ∷ []) ∷ (97 ∷ []) ∷ []) 34 is summary
     ∙ ap (λ h. positions_of_all 64 2 (h ∷ sip 0 0 (98 ∷ []) ∷ h ∷ []) 34) hash-a
@@ -121,12 +129,13 @@ makes-less law made is did =
     (0x4074_48d2_b89b_1813 ∷ h ∷ 0x4074_48d2_b89b_1813 ∷ []) 34) hash-b in cc
 
 -- a tree with a part that comes twice makes the words of the filter of all keys, in another order
-parts-repeated : AnyPartsLaw → (made whole : DefaultFilter) → Makes shape repeated made
-    → IsSummaryOf shape ((98 ∷ []) ∷ (97 ∷ []) ∷ []) whole
-    → AreWords made.words → AreWords whole.words → HaveSameKey whole made
+parts-repeated : AnyPartsLaw → (made whole : DefaultFilter) → Makes shape repeated (Classic made)
+    → IsSummaryOf shape ((98 ∷ []) ∷ (97 ∷ []) ∷ []) (Classic whole)
+    → AreWords made.words → AreWords whole.words → HaveSameKey (Classic whole) (Classic made)
     → (made.words ≡ whole.words) × (made.hashes ≡ whole.hashes)
 parts-repeated law made whole did filled words fit key =
-    law shape repeated ((98 ∷ []) ∷ (97 ∷ []) ∷ []) made whole did filled words fit key same-keys
+    law shape repeated ((98 ∷ []) ∷ (97 ∷ []) ∷ []) (Classic made) (Classic whole) did filled words
+    fit refl key same-keys
 
 -- a tree that lacks a part has other keys
 keys-left_out : HaveSameKeys (keys_of left_out) ((97 ∷ []) ∷ (98 ∷ []) ∷ []) → ⊥
@@ -137,7 +146,7 @@ keys-left_out same =
 -- what it makes hasn't the words of the filter of all keys
 parts-left_out : (f whole : DefaultFilter) → IsFilter f 268500992 0
     → whole.hashes ≡ 2 → key_of whole.hasher ≡ (0, 0)
-    → IsSummaryOf shape ((97 ∷ []) ∷ (98 ∷ []) ∷ []) whole → f.words ≡ whole.words → ⊥
+    → IsSummaryOf shape ((97 ∷ []) ∷ (98 ∷ []) ∷ []) (Classic whole) → f.words ≡ whole.words → ⊥
 unfolding content positions chain
 parts-left_out f whole is hashes key filled same =
     let alike : IsFilter whole 268500992 0 =
@@ -148,6 +157,6 @@ parts-left_out f whole is hashes key filled same =
     ∙ ap (λ h. positions_of_all 64 2 (0x4074_48d2_b89b_1813 ∷ h ∷ []) 34) hash-b in cc
 
 -- the key of the second part is found
-found-second : AnyPartFoundLaw → (made : DefaultFilter) → Makes shape repeated made
-    → contains made (hash_in made (98 ∷ [])) ≡ true
-found-second law made did = law shape repeated made (98 ∷ []) did (1, lit< tt, refl)
+found-second : AnyPartFoundLaw → (made : DefaultFilter) → Makes shape repeated (Classic made)
+    → contains made (hash_in (Classic made) (98 ∷ [])) ≡ true
+found-second law made did = law shape repeated (Classic made) (98 ∷ []) did (1, lit< tt, refl)

@@ -8,13 +8,15 @@ use Rattle.std.proofs.lemmas.List.Elements.{All-from_recursion, All-head}
 use Rattle.bloom_parts.specs.Content.{content}
 use Rattle.bloom_plain.proofs.CaseLemmas.{content-case, content-past}
 use Rattle.fastbloom.specs.Data.{DefaultFilter}
-use Rattle.fastbloom.specs.Filter.{SameShape}
+use Rattle.summaries_engine.specs.declared.kinds.AnyFilter.{AnyFilter}
+use Rattle.summaries_engine.specs.declared.kinds.AnyFilter.TheVariants.{Classic}
+use Rattle.summaries_engine.specs.Kinds.{HaveSameKind, HaveSameShape}
 use Rattle.summaries_engine.specs.Summaries.{HaveSameKeys, HaveSameKey, IsUnionOf, UnitesGiven}
 use Rattle.summaries_engine.proofs.SummaryFacts.{IsFilter}
 
 -- the union of both
 union-both : (f g made : DefaultFilter) → IsFilter f 268500992 0 → IsFilter g 281492156579840 0
-    → IsFilter made 281492425080832 0 → IsUnionOf (f ∷ g ∷ []) made
+    → IsFilter made 281492425080832 0 → IsUnionOf (Classic f ∷ Classic g ∷ []) (Classic made)
 unfolding content
 union-both f g made one other is = record {
   bits = λ p.
@@ -26,7 +28,9 @@ union-both f g made one other is = record {
       ∙ ap (λ b. b || false) (content-past (281492156579840 ∷ []) q past)) p
       ∙ ap (λ w. content w p || (content (281492156579840 ∷ []) p || false)) (sym one.words)
       ∙ ap (λ w. content f.words p || (content w p || false)) (sym other.words);
-  shape = All-from_recursion (SameShape made) (f ∷ g ∷ []) (
+  kind = All-from_recursion (HaveSameKind (Classic made)) (Classic f ∷ Classic g ∷ [])
+      (refl, (refl, tt));
+  shape = All-from_recursion (HaveSameShape (Classic made)) (Classic f ∷ Classic g ∷ []) (
     record {
       words = ap length is.words ∙ ap length (sym one.words);
       hashes = is.hashes ∙ sym one.hashes;
@@ -39,13 +43,13 @@ union-both f g made one other is = record {
       tt,
     ),
   );
-  key = All-from_recursion (HaveSameKey made) (f ∷ g ∷ [])
+  key = All-from_recursion (HaveSameKey (Classic made)) (Classic f ∷ Classic g ∷ [])
       (is.key ∙ sym one.key, (is.key ∙ sym other.key, tt));
 }
 
 -- no filter may be left out of a union
 union-less : (f g made : DefaultFilter) → IsFilter f 268500992 0 → IsFilter g 281492156579840 0
-    → IsFilter made 268500992 0 → IsUnionOf (f ∷ g ∷ []) made → ⊥
+    → IsFilter made 268500992 0 → IsUnionOf (Classic f ∷ Classic g ∷ []) (Classic made) → ⊥
 unfolding content
 union-less f g made one other is did =
     let wrong : false ≡ true =
@@ -55,7 +59,7 @@ union-less f g made one other is did =
 
 -- the intersection, which is empty, isn't the union
 union-none : (f g made : DefaultFilter) → IsFilter f 268500992 0 → IsFilter g 281492156579840 0
-    → IsFilter made 0 0 → IsUnionOf (f ∷ g ∷ []) made → ⊥
+    → IsFilter made 0 0 → IsUnionOf (Classic f ∷ Classic g ∷ []) (Classic made) → ⊥
 unfolding content
 union-none f g made one other is did =
     let wrong : false ≡ true =
@@ -64,10 +68,11 @@ union-none f g made one other is did =
 
 -- a filter under another key isn't the union
 union-keyed : (f made : DefaultFilter) → IsFilter f 268500992 0 → IsFilter made 268500992 1
-    → IsUnionOf (f ∷ []) made → ⊥
+    → IsUnionOf (Classic f ∷ []) (Classic made) → ⊥
 union-keyed f made one is did =
     let wrong : 1 ≡ 0 =
-    ap (λ pair. pair.0) (sym is.key ∙ All-head (HaveSameKey made) f [] did.key ∙ one.key) in
+    ap (λ pair. pair.0) (sym is.key ∙ All-head (HaveSameKey (Classic made)) (Classic f) [] did.key
+    ∙ one.key) in
     omega (arith, wrong)
 
 -- the order makes no difference, nor does a key that comes twice
@@ -97,26 +102,27 @@ other-keys same =
     grind (arith, common_steps, there.1, there.2)
 
 -- a filter that wasn't read isn't among those united
-not-read : (f made : DefaultFilter) (error : ℕ) → UnitesGiven f (Err error ∷ []) made → ⊥
+not-read : (f made : DefaultFilter) (error : ℕ)
+    → UnitesGiven (Classic f) (Err error ∷ []) (Classic made) → ⊥
 not-read f made error did = none did.others did.all_read
   where
-    none : (others : List DefaultFilter) → (Err error ∷ []) ≡ map Ok others → ⊥
+    none : (others : List AnyFilter) → (Err error ∷ []) ≡ map Ok others → ⊥
     none [] is = cc
     none (g ∷ others) is = cc
 
 -- the second filter has the union's shape too
 union-shape : (f g made : DefaultFilter) → g.hashes ≡ 2 → made.hashes ≡ 3
-    → IsUnionOf (f ∷ g ∷ []) made → ⊥
+    → IsUnionOf (Classic f ∷ Classic g ∷ []) (Classic made) → ⊥
 union-shape f g made two three did =
-    let same = did.shape 1 f (lit< tt) in
+    let same = did.shape 1 (Classic f) (lit< tt) in
     omega (arith, two, three, same.hashes)
 
 -- the second filter has the union's key too
 union-key : (f g made : DefaultFilter) (word : ℕ) → IsFilter g word 0 → IsFilter made word 1
-    → IsUnionOf (f ∷ g ∷ []) made → ⊥
+    → IsUnionOf (Classic f ∷ Classic g ∷ []) (Classic made) → ⊥
 union-key f g made word other is did =
     let wrong : 1 ≡ 0 =
-    ap (λ pair. pair.0) (sym is.key ∙ did.key 1 f (lit< tt) ∙ other.key) in
+    ap (λ pair. pair.0) (sym is.key ∙ did.key 1 (Classic f) (lit< tt) ∙ other.key) in
     omega (arith, wrong)
 
 -- a key of the second list alone isn't in the first

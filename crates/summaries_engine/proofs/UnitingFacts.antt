@@ -3,12 +3,12 @@ use Rattle.std.proofs.Common.{◌≡◌, ℕ, ◌+◌, inl, inr, List, [], ◌�
 use Rattle.std.proofs.lemmas.List.Elements.{All-nil}
 use Rattle.anyhow.specs.Error.{error_message}
 use Rattle.anyhow.specs.declared.error.Error.{Error}
-use Rattle.fastbloom.specs.Data.{DefaultFilter}
-use Rattle.fastbloom.specs.Filter.{SameShape}
+use Rattle.summaries_engine.specs.declared.kinds.AnyFilter.{AnyFilter}
 use Rattle.summaries_engine.specs.declared.stop.Stop.{Stop}
 use Rattle.summaries_engine.specs.declared.stop.Stop.TheVariants.{Bad}
 use Rattle.summaries_engine.specs.declared.unions.Difference.{Difference}
 use Rattle.summaries_engine.specs.declared.unions.Difference.TheVariants as difference
+use Rattle.summaries_engine.specs.Kinds.{HaveSameKind, HaveSameShape, parts_of}
 use Rattle.summaries_engine.specs.Named.{AreNamed, FitFirst, StopsAtMisfit, StopsUniting, StopsUnloaded, misfit_text}
 use Rattle.summaries_engine.specs.Refusals.{DiffersBy, Fits}
 use Rattle.summaries_engine.specs.Stops.{Says}
@@ -43,8 +43,8 @@ uniting-one name why (inr (inr stop)) = of stop.reaches.before stop.reaches.are 
         ))
 
 -- the second filter couldn't be loaded
-unloaded-second : (fails : List ℕ → Error → Type 0) (f : DefaultFilter) (said : Error)
-    → f.hashes ≡ 2 → fails (3 ∷ []) said
+unloaded-second : (fails : List ℕ → Error → Type 0) (f : AnyFilter) (said : Error)
+    → (parts_of f).hashes ≡ 2 → fails (3 ∷ []) said
     → StopsUnloaded counted fails ((2 ∷ []) ∷ (3 ∷ []) ∷ []) said
 unloaded-second fails f said two failed = record {
   filters = f ∷ [];
@@ -60,15 +60,15 @@ unloaded-second fails f said two failed = record {
 }
 
 -- the second filter fits the first where the third couldn't be loaded
-unloaded-before : (fails : List ℕ → Error → Type 0) (f g : DefaultFilter) (names : List (List ℕ))
+unloaded-before : (fails : List ℕ → Error → Type 0) (f g : AnyFilter) (names : List (List ℕ))
     (said : Error) (stop : StopsUnloaded counted fails names said) → stop.filters ≡ f ∷ g ∷ []
-    → f.hashes ≡ 2 → g.hashes ≡ 3 → ⊥
+    → (parts_of f).hashes ≡ 2 → (parts_of g).hashes ≡ 3 → ⊥
 unloaded-before fails f g names said stop is two three =
     let fits : Fits f g = subst FitFirst is stop.fit 0 g (omega arith) in
     let wrong : 2 ≡ 3 = sym two ∙ fits.shape.hashes ∙ three in omega (arith, wrong)
 
 -- the error is of no other name
-unloaded-other : (f : DefaultFilter) (said : Error)
+unloaded-other : (f : AnyFilter) (said : Error)
     → StopsUnloaded counted (λ name error. name ≡ 4 ∷ []) ((2 ∷ []) ∷ (3 ∷ []) ∷ []) said → ⊥
 unloaded-other f said stop = of stop.reaches.before stop.reaches.are stop.failed
   where
@@ -86,7 +86,7 @@ unloaded-other f said stop = of stop.reaches.before stop.reaches.are stop.failed
         ))
 
 -- the second filter has another shape
-misfit-second : (f g : DefaultFilter) (said : Error) → f.hashes ≡ 2 → g.hashes ≡ 3
+misfit-second : (f g : AnyFilter) (said : Error) → (parts_of f).hashes ≡ 2 → (parts_of g).hashes ≡ 3
     → DiffersBy f g difference.Shape
     → Says ((3 ∷ []) ++ (codes ": its shape isn't that of " ++ (2 ∷ []))) said
     → StopsAtMisfit counted ((2 ∷ []) ∷ (3 ∷ []) ∷ []) (Bad said)
@@ -119,7 +119,11 @@ misfit-key (byte ∷ name) first same = misfit-key name first (ap (λ t. rest t)
     rest [] = []
     rest (x ∷ xs) = xs
 
--- what is said of a filter of another shape, and of one of another key
+-- what is said of a filter of another kind, of another shape, and of one of another key
+text-kind : misfit_text difference.Kind (codes "b") (codes "a")
+    ≡ codes "b: its kind isn't that of a"
+text-kind = refl
+
 text-shape : misfit_text difference.Shape (codes "b") (codes "a")
     ≡ codes "b: its shape isn't that of a"
 text-shape = refl
@@ -129,17 +133,29 @@ text-key = refl
 
 -- the filter that differs lies under the name that is told
 misfit-lies : (names : List (List ℕ)) (why : Stop) (stop : StopsAtMisfit counted names why)
-    → stop.name ≡ stop.shard.hashes ∷ []
+    → stop.name ≡ (parts_of stop.shard).hashes ∷ []
 misfit-lies names why stop = stop.loaded
 
 -- a filter of the first one's shape isn't refused for its shape
 misfit-differs : (names : List (List ℕ)) (why : Stop) (stop : StopsAtMisfit counted names why)
-    → stop.how ≡ difference.Shape → SameShape stop.first stop.shard → ⊥
+    → stop.how ≡ difference.Shape → HaveSameShape stop.first stop.shard → ⊥
 misfit-differs names why stop how same =
+    (subst (DiffersBy stop.first stop.shard) how stop.differs).1 same
+
+-- nor is one of its kind refused for its kind
+misfit-kind : (names : List (List ℕ)) (why : Stop) (stop : StopsAtMisfit counted names why)
+    → stop.how ≡ difference.Kind → HaveSameKind stop.first stop.shard → ⊥
+misfit-kind names why stop how same =
     subst (DiffersBy stop.first stop.shard) how stop.differs same
 
 -- every text of a filter that differs is longer than "no"
 longer : (how : Difference) (name first : List ℕ) → codes "no" ≡ misfit_text how name first → ⊥
+longer difference.Kind name first same =
+    let text = codes ": its kind isn't that of " in
+    let count : 2 ≡ length name + length (text ++ first) =
+    ap length same ∙ length-append name (text ++ first) in
+    let long : length (text ++ first) ≡ 25 + length first = length-append text first in
+    omega (arith, count, long)
 longer difference.Shape name first same =
     let text = codes ": its shape isn't that of " in
     let count : 2 ≡ length name + length (text ++ first) =

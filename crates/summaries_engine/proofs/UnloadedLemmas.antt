@@ -1,5 +1,5 @@
 -- Files from which no filter is loaded: what is said of them is right.
-use Rattle.std.proofs.Common.{◌≡◌, ◌⊎◌, inl, inr, ℕ, ◌<◌, false, List, ◌++◌, take, Option, Some, None, IfSome, sym, subst}
+use Rattle.std.proofs.Common.{◌≡◌, ◌⊎◌, inl, inr, ℕ, ◌<◌, false, List, ◌++◌, take, Option, Some, None, IfSome, sym, subst, ◌∙◌}
 use Rattle.std.specs.declared.io.ErrorKind.{ErrorKind}
 use Rattle.std.specs.Fmt.{option_append}
 use Rattle.std.specs.List.{starts_with}
@@ -8,15 +8,16 @@ use Rattle.anyhow.specs.Error.{HasMessage}
 use Rattle.anyhow.specs.declared.error.Error.{Error}
 use Rattle.bloom_plain.specs.declared.file.error.FileError.{FileError}
 use Rattle.bloom_plain.specs.declared.file.error.FileError.TheVariants as file_error
-use Rattle.bloom_plain.specs.FileReads.{IsReadAs}
-use Rattle.bloom_plain.specs.FileRefusals.{file_refusal}
-use Rattle.fastbloom.specs.Data.{DefaultFilter}
+use Rattle.bloom_plain.specs.declared.file.layout.Layout.{Layout}
+use Rattle.bloom_plain.specs.FileLayouts.{IsReadIn, refusal_in}
 use Rattle.summaries_engine.specs.declared.form.Form.{Form}
+use Rattle.summaries_engine.specs.declared.kinds.AnyFilter.{AnyFilter}
 use Rattle.summaries_engine.specs.declared.stop.Stop.{Stop}
 use Rattle.summaries_engine.specs.declared.stop.Stop.TheVariants.{Memory, Worker, Input, Bad, Output}
-use Rattle.summaries_engine.specs.Loaded.{HasHashesOf, IsInForm, IsRightOf, IsRightWith, IsToldOf, IsUnread, hashes_text, mark_bytes}
+use Rattle.summaries_engine.specs.Kinds.{parts_of}
+use Rattle.summaries_engine.specs.Loaded.{HasHashesOf, IsInForm, IsRightIn, IsRightOf, IsRightWith, IsToldOf, IsUnread, SaysNone, hashes_text, head_layout, layout_told, mark_bytes}
 use Rattle.summaries_engine.specs.Stops.{IsBad, IsInput, IsMemory, IsUnreadAs}
-use Rattle.summaries_engine.proofs.LoadedLemmas.{HasRead, no-mark}
+use Rattle.summaries_engine.proofs.LoadedLemmas.{HasRead, layout-first, no-mark}
 
 -- memory and a failed read aren't said of what was read
 pub elsewhere : (P : Error → Type 0) (stop : Stop) → IsMemory stop ⊎ IsInput P stop
@@ -38,58 +39,77 @@ unread-elsewhere kind name (Bad said) told bad = told.other told.memory
 unread-elsewhere kind name (Output said) told bad = bad
 
 -- an error that is neither memory nor a failed read is the refusal of the bytes
-refusal-of : (bytes : List ℕ) (error : FileError) → (error ≡ file_error.Memory → ⊥)
-    → ((kind : ErrorKind) → error ≡ file_error.Input kind → ⊥) → IsReadAs bytes (Some error)
-    → file_refusal bytes ≡ Some error
-refusal-of bytes error memory input (inl is) = sym is
-refusal-of bytes error memory input (inr (inl is)) =
+refusal-of : (layout : Layout) (bytes : List ℕ) (error : FileError)
+    → (error ≡ file_error.Memory → ⊥) → ((kind : ErrorKind) → error ≡ file_error.Input kind → ⊥)
+    → IsReadIn layout bytes (Some error) → refusal_in layout bytes ≡ Some error
+refusal-of layout bytes error memory input (inl is) = sym is
+refusal-of layout bytes error memory input (inr (inl is)) =
     let same : error ≡ file_error.Memory = cc (is.0) in absurd (memory same)
-refusal-of bytes error memory input (inr (inr is)) =
+refusal-of layout bytes error memory input (inr (inr is)) =
     let same : error ≡ file_error.Input is.0 = cc (is.1) in absurd (input is.0 same)
 
-module _ (bytes name : List ℕ) where
+module _ (layout : Layout) (bytes name : List ℕ) where
   -- what is told of a file's error is right
   told-right : (error : FileError) (stop : Stop) → IsToldOf name error stop
-      → IsReadAs bytes (Some error) → IsRightOf bytes name stop
+      → IsReadIn layout bytes (Some error) → IsRightIn layout bytes name stop
   told-right file_error.NotAFilter stop told read =
-      inr ((λ begins. (_, refusal-of bytes _ (λ is. cc) (λ kind is. cc) read)), told)
+      inr ((_, refusal-of layout bytes _ (λ is. cc) (λ kind is. cc) read), told)
   told-right file_error.Version stop told read =
-      inr ((λ begins. (_, refusal-of bytes _ (λ is. cc) (λ kind is. cc) read)), told)
+      inr ((_, refusal-of layout bytes _ (λ is. cc) (λ kind is. cc) read), told)
   told-right file_error.HashCount stop told read =
-      inr ((λ begins. (_, refusal-of bytes _ (λ is. cc) (λ kind is. cc) read)), told)
+      inr ((_, refusal-of layout bytes _ (λ is. cc) (λ kind is. cc) read), told)
   told-right file_error.EmptyWords stop told read =
-      inr ((λ begins. (_, refusal-of bytes _ (λ is. cc) (λ kind is. cc) read)), told)
+      inr ((_, refusal-of layout bytes _ (λ is. cc) (λ kind is. cc) read), told)
   told-right file_error.TooManyWords stop told read =
-      inr ((λ begins. (_, refusal-of bytes _ (λ is. cc) (λ kind is. cc) read)), told)
+      inr ((_, refusal-of layout bytes _ (λ is. cc) (λ kind is. cc) read), told)
   told-right file_error.Cut stop told read =
-      inr ((λ begins. (_, refusal-of bytes _ (λ is. cc) (λ kind is. cc) read)), told)
+      inr ((_, refusal-of layout bytes _ (λ is. cc) (λ kind is. cc) read), told)
   told-right file_error.TooLong stop told read =
-      inr ((λ begins. (_, refusal-of bytes _ (λ is. cc) (λ kind is. cc) read)), told)
+      inr ((_, refusal-of layout bytes _ (λ is. cc) (λ kind is. cc) read), told)
   told-right file_error.Reserved stop told read =
-      inr ((λ begins. (_, refusal-of bytes _ (λ is. cc) (λ kind is. cc) read)), told)
+      inr ((_, refusal-of layout bytes _ (λ is. cc) (λ kind is. cc) read), told)
   told-right file_error.Blocked stop told read =
-      inr ((λ begins. (_, refusal-of bytes _ (λ is. cc) (λ kind is. cc) read)), told)
+      inr ((_, refusal-of layout bytes _ (λ is. cc) (λ kind is. cc) read), told)
   told-right file_error.NotBlocked stop told read =
-      inr ((λ begins. (_, refusal-of bytes _ (λ is. cc) (λ kind is. cc) read)), told)
+      inr ((_, refusal-of layout bytes _ (λ is. cc) (λ kind is. cc) read), told)
   told-right file_error.PartOfALine stop told read =
-      inr ((λ begins. (_, refusal-of bytes _ (λ is. cc) (λ kind is. cc) read)), told)
+      inr ((_, refusal-of layout bytes _ (λ is. cc) (λ kind is. cc) read), told)
   told-right file_error.Seal stop told read =
-      inr ((λ begins. (_, refusal-of bytes _ (λ is. cc) (λ kind is. cc) read)), told)
+      inr ((_, refusal-of layout bytes _ (λ is. cc) (λ kind is. cc) read), told)
   told-right file_error.Memory stop told read =
       inl (elsewhere (λ said. Unit {0}) stop (inl told))
   told-right (file_error.Input kind) stop told read =
       inl (unread-elsewhere kind name stop told)
 
 -- what is told of a file's error is right, where its first bytes were read before
-pub file-right : (start name : List ℕ) (rest known : Option (List ℕ)) (error : FileError)
-    (stop : Stop) (read : Option FileError) → known ≡ option_append (Some start) rest
-    → read ≡ Some error → IfSome known (λ bytes. IsReadAs bytes read) → IsToldOf name error stop
-    → IfSome rest (λ rest. IsRightOf (start ++ rest) name stop)
-file-right start name None known error stop read joined is refused told = tt
-file-right start name (Some rest) known error stop read joined is refused told =
-    told-right (start ++ rest) name error stop told
-    (subst (λ r. IsReadAs (start ++ rest) r) is
-    (subst (λ k. IfSome k (λ bytes. IsReadAs bytes read)) joined refused))
+pub file-right : (layout : Layout) (start name : List ℕ) (rest known : Option (List ℕ))
+    (error : FileError) (stop : Stop) (read : Option FileError)
+    → known ≡ option_append (Some start) rest → read ≡ Some error
+    → IfSome known (λ bytes. IsReadIn layout bytes read) → IsToldOf name error stop
+    → IfSome rest (λ rest. IsRightIn layout (start ++ rest) name stop)
+file-right layout start name None known error stop read joined is refused told = tt
+file-right layout start name (Some rest) known error stop read joined is refused told =
+    told-right layout (start ++ rest) name error stop told
+    (subst (λ r. IsReadIn layout (start ++ rest) r) is
+    (subst (λ k. IfSome k (λ bytes. IsReadIn layout bytes read)) joined refused))
+
+-- what is told of a file is right where it was read in the layout that it tells
+pub layout-right : (old new : Option (List ℕ)) (buffer : List ℕ) (n : ℕ) (name : List ℕ)
+    (stop : Stop) (layout : Layout) → HasRead old new buffer n → layout ≡ head_layout n buffer
+    → IfSome new (λ rest. IsRightIn layout (take n buffer ++ rest) name stop)
+    → IfSome old (λ bytes. IsRightOf bytes name stop)
+layout-right None new buffer n name stop layout read is right = tt
+layout-right (Some all) None buffer n name stop layout read is right = absurd read.taken
+layout-right (Some all) (Some rest) buffer n name stop layout read is right =
+    of (subst (λ bytes. IsRightIn layout bytes name stop) (sym read.taken) right)
+  where
+    of : IsRightIn layout all name stop → IsRightOf all name stop
+    of (inl told) = inl told
+    of (inr (refused, says)) = inr (
+      (λ begins. subst (λ l. (error : FileError) × (refusal_in l all ≡ Some error))
+          (is ∙ layout-first all rest buffer n read) refused),
+      says,
+    )
 
 -- what is told of text is right
 pub text-right : (old new : Option (List ℕ)) (buffer : List ℕ) (n : ℕ) (name : List ℕ)
@@ -107,14 +127,15 @@ text-right (Some all) (Some rest) buffer n name stop read other (inr (inr none))
 
 -- a filter has more hashes than are allowed
 pub many-right : (old : Option (List ℕ)) (name : List ℕ) (most : ℕ) (stop : Stop)
-    (filter : DefaultFilter) (form : Form) → IfSome old (IsInForm form filter)
-    → most < filter.hashes
-    → IsBad (HasMessage (Some (hashes_text name filter.hashes most))) stop
+    (filter : AnyFilter) (form : Form) → IfSome old (IsInForm form filter)
+    → most < (parts_of filter).hashes
+    → IsBad (HasMessage (Some (hashes_text name (parts_of filter).hashes most))) stop
     → IfSome old (λ bytes. IsRightWith bytes name most stop)
 many-right None name most stop filter form is many says = tt
 many-right (Some bytes) name most stop filter form is many says = inr (of stop says)
   where
-    of : (stop : Stop) → IsBad (HasMessage (Some (hashes_text name filter.hashes most))) stop
+    of : (stop : Stop)
+        → IsBad (HasMessage (Some (hashes_text name (parts_of filter).hashes most))) stop
         → IsBad (HasHashesOf bytes name most) stop
     of Memory says = says
     of Worker says = says

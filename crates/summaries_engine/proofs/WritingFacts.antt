@@ -8,6 +8,7 @@ use Rattle.fastbloom.specs.Data.{DefaultFilter}
 use Rattle.lines.specs.Lines.{lines_by}
 use Rattle.lines.specs.Reading.{AreShort}
 use Rattle.lines.specs.Writing.{Begins}
+use Rattle.summaries_engine.specs.declared.kinds.AnyFilter.TheVariants.{Classic}
 use Rattle.summaries_engine.specs.Answers.{told_text}
 use Rattle.summaries_engine.specs.declared.answers.Told.TheVariants.{Found}
 use Rattle.summaries_engine.specs.declared.stop.Stop.{Stop}
@@ -18,12 +19,12 @@ use Rattle.summaries_engine.proofs.SummaryFacts.{IsFilter}
 
 -- the text of the one key that is in
 text : (f : DefaultFilter) → IsFilter f 268500992 0
-    → told_text f Found 10 ((97 ∷ []) ∷ []) ≡ 97 ∷ 10 ∷ []
+    → told_text (Classic f) Found 10 ((97 ∷ []) ∷ []) ≡ 97 ∷ 10 ∷ []
 text f is = rw (found-a f is) refl
 
 -- a write that fails at once stops the answers before the first key
 asking-write : (f : DefaultFilter) (read from : Option (List ℕ)) (stop : Stop)
-    → IsUnwritten stop → StopsAnswers f Found 10 (codes "k") [] read from from stop
+    → IsUnwritten stop → StopsAnswers (Classic f) Found 10 (codes "k") [] read from from stop
 asking-write f read from stop over = inr (record {
   keys = [];
   first = from-none 10 read;
@@ -39,7 +40,8 @@ asking-write f read from stop over = inr (record {
 -- the key was written, and not its end
 key-alone : (f : DefaultFilter) (stop : Stop) → IsFilter f 268500992 0
     → IsUnwritten stop
-    → StopsWriting f Found 10 [] (Some (97 ∷ 10 ∷ [])) (Some (5 ∷ [])) (Some (5 ∷ 97 ∷ [])) stop
+    → StopsWriting (Classic f) Found 10 [] (Some (97 ∷ 10 ∷ [])) (Some (5 ∷ [])) (Some (5 ∷ 97 ∷
+    [])) stop
 unfolding lines_by
 key-alone f stop is over = record {
   keys = (97 ∷ []) ∷ [];
@@ -55,51 +57,54 @@ key-alone f stop is over = record {
 
 -- the answers to the first keys of one line "a" begin with no other byte
 other-byte : (f : DefaultFilter) → IsFilter f 268500992 0 → (keys later : List (List ℕ))
-    → (97 ∷ []) ∷ [] ≡ keys ++ later → Begins (told_text f Found 10 keys) (98 ∷ []) → ⊥
+    → (97 ∷ []) ∷ [] ≡ keys ++ later → Begins (told_text (Classic f) Found 10 keys) (98 ∷ []) → ⊥
 other-byte f is [] later cut begins = cc (begins.cut)
 other-byte f is (key ∷ []) later cut begins =
     let key_is : ◌≡◌ {A = List ℕ} (97 ∷ []) key = cc (cut) in
     let wrong : 97 ≡ 98 =
     ap (λ l. get_or l 0 0)
-    (sym (text f is) ∙ ap (λ k. told_text f Found 10 (k ∷ [])) key_is ∙ begins.cut) in
+    (sym (text f is) ∙ ap (λ k. told_text (Classic f) Found 10 (k ∷ [])) key_is ∙ begins.cut) in
     omega (arith, wrong)
 other-byte f is (key ∷ more ∷ keys) later cut begins = cc (cut)
 
 -- a byte of no answer may not be written
 byte-wrong : (f : DefaultFilter) (stop : Stop) → IsFilter f 268500992 0
-    → StopsWriting f Found 10 [] (Some (97 ∷ 10 ∷ [])) (Some []) (Some (98 ∷ [])) stop → ⊥
+    → StopsWriting (Classic f) Found 10 [] (Some (97 ∷ 10 ∷ [])) (Some []) (Some (98 ∷ [])) stop → ⊥
 unfolding lines_by
 byte-wrong f said is stop =
     other-byte f is stop.keys stop.first.later stop.first.cut
-    (subst (Begins (told_text f Found 10 stop.keys)) (sym stop.part.appended) stop.part.begins)
+    (subst (Begins (told_text (Classic f) Found 10 stop.keys)) (sym stop.part.appended)
+    stop.part.begins)
 
 -- none of the keys is too long
 writing-long : (f : DefaultFilter) (read from to : Option (List ℕ)) (stop : Stop)
-    (did : StopsWriting f Found 10 [] read from to stop) (key : List ℕ) → did.keys ≡ key ∷ []
+    (did : StopsWriting (Classic f) Found 10 [] read from to stop) (key : List ℕ)
+    → did.keys ≡ key ∷ []
     → length key ≡ 65537 → ⊥
 writing-long f read from to said stop key is long =
     omega (arith, long, subst (AreShort 65536) is stop.short 0 [] (omega arith))
 
 -- the keys are the reader's: of one that has none nothing is written
 writing-none : (f : DefaultFilter) (stop : Stop)
-    → StopsWriting f Found 10 [] (Some []) (Some []) (Some (97 ∷ [])) stop → ⊥
+    → StopsWriting (Classic f) Found 10 [] (Some []) (Some []) (Some (97 ∷ [])) stop → ⊥
 unfolding lines_by
 writing-none f said stop = none stop.keys stop.first.later stop.first.cut
-    (subst (Begins (told_text f Found 10 stop.keys)) (sym stop.part.appended) stop.part.begins)
+    (subst (Begins (told_text (Classic f) Found 10 stop.keys)) (sym stop.part.appended)
+    stop.part.begins)
   where
     none : (keys later : List (List ℕ)) → [] ≡ keys ++ later
-        → Begins (told_text f Found 10 keys) (97 ∷ []) → ⊥
+        → Begins (told_text (Classic f) Found 10 keys) (97 ∷ []) → ⊥
     none [] later cut begins = cc (begins.cut)
     none (key ∷ keys) later cut begins = cc (cut)
 
 -- behind the keys of a reader that has none nothing may be written, whatever the reason
 asking-none : (f : DefaultFilter) (stop : Stop)
-    → StopsAnswers f Found 10 (codes "k") [] (Some []) (Some []) (Some (97 ∷ [])) stop → ⊥
+    → StopsAnswers (Classic f) Found 10 (codes "k") [] (Some []) (Some []) (Some (97 ∷ [])) stop → ⊥
 unfolding lines_by
 asking-none f said (inl stop) = none stop.keys stop.first.later stop.first.cut stop.done
   where
     none : (keys later : List (List ℕ)) → [] ≡ keys ++ later
-        → 97 ∷ [] ≡ told_text f Found 10 keys → ⊥
+        → 97 ∷ [] ≡ told_text (Classic f) Found 10 keys → ⊥
     none [] later cut text = cc (text)
     none (key ∷ keys) later cut text = cc (cut)
 asking-none f said (inr stop) = writing-none f said stop

@@ -4,16 +4,17 @@ use Rattle.std.specs.Prelude.{◌≡◌, ℕ, Bool, not, List, [], ◌∷◌, �
 use Rattle.std.specs.Io.KnownBytes.{Appends}
 use Rattle.bloom_parts.specs.Keys.{HasKey, key_of}
 use Rattle.bloom_parts.specs.Sip.{sip}
-use Rattle.fastbloom.specs.Data.{DefaultFilter}
-use Rattle.fastbloom.specs.Filter.{contains}
 use Rattle.lines.specs.Reading.{AreShort, IsReadWholeBy}
 use Rattle.summaries_engine.specs.declared.answers.Told.{Told}
 use Rattle.summaries_engine.specs.declared.answers.Told.TheVariants.{Found, Absent}
+use Rattle.summaries_engine.specs.declared.kinds.AnyFilter.{AnyFilter}
+use Rattle.summaries_engine.specs.Kinds.{has_hash, parts_of}
 use Rattle.summaries_engine.specs.Summaries.{hash_in}
 
 -- the hashers of a filter have the filter's key, and have taken in nothing
-abbrev pub IsKeyed : DefaultFilter → Type 0
-IsKeyed f = HasKey f.hasher (key_of f.hasher).0 (key_of f.hasher).1
+abbrev pub IsKeyed : AnyFilter → Type 0
+IsKeyed f =
+    HasKey (parts_of f).hasher (key_of (parts_of f).hasher).0 (key_of (parts_of f).hasher).1
 
 -- the hashes, under the zero key, of all keys that a reader had follow those that were there, and
 -- none of the keys is too long
@@ -29,13 +30,13 @@ is_told Found contained = contained
 is_told Absent contained = not contained
 
 -- the keys that are told of a filter, in order, each with its end
-abbrev pub told_text : DefaultFilter → Told → ℕ → List (List ℕ) → List ℕ
+abbrev pub told_text : AnyFilter → Told → ℕ → List (List ℕ) → List ℕ
 told_text f told end keys =
     flat_map (λ key. key ++ end ∷ [])
-    (filter (λ key. is_told told (contains f (hash_in f key))) keys)
+    (filter (λ key. is_told told (has_hash f (hash_in f key))) keys)
 
 -- each key that a reader had was asked for, none is too long, and those that are told were written
-pub record AnswersAll (f : DefaultFilter) (told : Told) (end : ℕ) (read left : Option (List ℕ))
+pub record AnswersAll (f : AnyFilter) (told : Told) (end : ℕ) (read left : Option (List ℕ))
     (from to : Option (List ℕ)) : Type 0 where
   pub keys : List (List ℕ)
   pub whole : IsReadWholeBy end read left keys

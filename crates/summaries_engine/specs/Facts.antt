@@ -80,6 +80,15 @@ lines_text f form items =
 abbrev pub facts_text : DefaultFilter → Form → Estimate → List ℕ
 facts_text f form items = lines_text f form items ++ rate_of_text f
 
+-- the lines of a blocked filter in a form. The estimates of a Bloom filter aren't true of lines
+abbrev pub blocked_text : DefaultFilter → Form → List ℕ
+blocked_text f form =
+    codes "kind: blocked\nform: " ++ (form_text form
+    ++ (codes "\nbits: " ++ (decimal (num_bits_of f)
+    ++ (codes "\nhashes: " ++ (decimal f.hashes
+    ++ (codes "\n" ++ (key_text (key_of f.hasher).0 (key_of f.hasher).1
+    ++ set_text (ones_of f) (share_of (ones_of f) (num_bits_of f)))))))))
+
 -- a text tells a filter in a form, with an estimate of its items
 pub record TellsFilter (f : DefaultFilter) (form : Form) (text : List ℕ) : Type 0 where
   pub items : Estimate

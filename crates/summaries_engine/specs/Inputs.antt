@@ -3,10 +3,10 @@
 use Rattle.std.specs.Prelude.{◌≡◌, ◌⊎◌, ℕ, List, [], ◌∷◌, ◌++◌, Option, ⊤, map}
 use Rattle.std.specs.Io.KnownBytes.{Appends}
 use Rattle.bloom_parts.specs.Sip.{sip}
-use Rattle.fastbloom.specs.Data.{DefaultFilter}
 use Rattle.fastbloom.specs.declared.parallel.shape.Shape.{Shape}
 use Rattle.lines.specs.Reading.{AreShort, IsReadWholeBy}
 use Rattle.summaries_engine.specs.declared.answers.Told.{Told}
+use Rattle.summaries_engine.specs.declared.kinds.AnyFilter.{AnyFilter}
 use Rattle.summaries_engine.specs.declared.stop.Stop.{Stop}
 use Rattle.summaries_engine.specs.Answers.{told_text}
 use Rattle.summaries_engine.specs.Stops.{IsMemory, IsWorker, StopsAnswers, StopsHashing}
@@ -40,7 +40,7 @@ pub record HashesInputs (lies : Lies) (end : ℕ) (names : List (List ℕ)) (has
     pub hashed : hashes ≡ map (sip 0 0) (joined parts)
 
 -- all keys of all inputs were asked for, and those that are told were written
-pub record AnswersInputs (lies : Lies) (f : DefaultFilter) (told : Told) (end : ℕ)
+pub record AnswersInputs (lies : Lies) (f : AnyFilter) (told : Told) (end : ℕ)
     (names : List (List ℕ)) (from to : Option (List ℕ)) : Type 0 where
   pub parts : List (List (List ℕ))
   pub keys : HaveKeys lies end names parts
@@ -48,7 +48,7 @@ pub record AnswersInputs (lies : Lies) (f : DefaultFilter) (told : Told) (end : 
 
 -- exactly the bits of all keys of all inputs are set in a filter of this shape
 pub record SummarizesInputs (lies : Lies) (end : ℕ) (names : List (List ℕ)) (shape : Shape)
-    (f : DefaultFilter) : Type 0 where
+    (f : AnyFilter) : Type 0 where
   pub parts : List (List (List ℕ))
   pub keys : HaveKeys lies end names parts
   pub summary : IsSummaryOf shape (joined parts) f
@@ -81,7 +81,7 @@ StopsBuilding lies fails end names stop =
 
 -- an input can't be had, and the replies for the keys before it are written; or the run stopped
 -- within it
-abbrev pub StopsAnswered : Lies → (List ℕ → Stop → Type 0) → DefaultFilter → Told → ℕ
+abbrev pub StopsAnswered : Lies → (List ℕ → Stop → Type 0) → AnyFilter → Told → ℕ
     → Option (List ℕ) → Option (List ℕ) → List (List ℕ) → List ℕ → Stop → Type 0
 StopsAnswered lies fails f told end from to keys name stop =
     (fails name stop × Appends from to (told_text f told end keys))
@@ -89,7 +89,7 @@ StopsAnswered lies fails f told end from to keys name stop =
     × StopsAnswers f told end name keys read from to stop)
 
 -- the run stopped before the replies for all keys of all inputs were written
-abbrev pub StopsAsking : Lies → (List ℕ → Stop → Type 0) → DefaultFilter → Told → ℕ
+abbrev pub StopsAsking : Lies → (List ℕ → Stop → Type 0) → AnyFilter → Told → ℕ
     → List (List ℕ) → Option (List ℕ) → Option (List ℕ) → Stop → Type 0
 StopsAsking lies fails f told end names from to stop =
     StopsAt lies end names

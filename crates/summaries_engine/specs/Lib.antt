@@ -2,6 +2,7 @@ pub mod Answers
 pub mod Comparing
 pub mod Facts
 pub mod Inputs
+pub mod Kinds
 pub mod Loaded
 pub mod Named
 pub mod Refusals

@@ -1,17 +1,20 @@
 -- Filters that are read from files, in either form, and what is said where one isn't. The forms and
 -- the texts are this project's own.
-use Rattle.std.specs.Prelude.{◌≡◌, ◌≢◌, ◌⊎◌, ℕ, ◌<◌, codes, decimal, List, [], ◌∷◌, ◌++◌, Some, nat_eq, if◌then◌else◌}
+use Rattle.std.specs.Prelude.{◌≡◌, ◌≢◌, ◌⊎◌, ℕ, ◌<◌, ◌&&◌, codes, decimal, length, List, [], ◌∷◌, ◌++◌, Some, nat_eq, nat_le, if◌then◌else◌}
 use Rattle.anyhow.specs.Error.{HasMessage}
 use Rattle.anyhow.specs.declared.error.Error.{Error}
-use Rattle.fastbloom.specs.Data.{DefaultFilter}
-use Rattle.fastbloom.specs.File.{IsFileOf}
 use Rattle.bloom_plain.specs.declared.file.error.FileError.{FileError}
 use Rattle.bloom_plain.specs.declared.file.error.FileError.TheVariants as file_error
-use Rattle.bloom_plain.specs.FileRefusals.{file_refusal, number_at}
+use Rattle.bloom_plain.specs.declared.file.layout.Layout.{Layout}
+use Rattle.bloom_plain.specs.declared.file.layout.Layout.TheVariants.{Whole, Lines}
+use Rattle.bloom_plain.specs.FileLayouts.{refusal_in}
+use Rattle.bloom_plain.specs.FileRefusals.{number_at}
 use Rattle.lines.specs.Writing.{Begins}
 use Rattle.summaries_engine.specs.declared.form.Form.{Form}
 use Rattle.summaries_engine.specs.declared.form.Form.TheVariants.{Sealed, Unsealed, Json}
+use Rattle.summaries_engine.specs.declared.kinds.AnyFilter.{AnyFilter}
 use Rattle.summaries_engine.specs.declared.stop.Stop.{Stop}
+use Rattle.summaries_engine.specs.Kinds.{IsFileOfKind, parts_of}
 use Rattle.summaries_engine.specs.Stops.{IsBad, IsInput, IsMemory, IsUnreadAs}
 
 -- the bytes with which each file of the form begins, whatever its version: `fbloom` and 0
@@ -19,17 +22,17 @@ abbrev pub mark_bytes : List ℕ
 mark_bytes = 102 ∷ 98 ∷ 108 ∷ 111 ∷ 111 ∷ 109 ∷ 0 ∷ []
 
 -- the bytes are a file of the filter, with a seal
-pub record IsSealedFile (bytes : List ℕ) (f : DefaultFilter) : Type 0 where
-  pub file : IsFileOf bytes f
+pub record IsSealedFile (bytes : List ℕ) (f : AnyFilter) : Type 0 where
+  pub file : IsFileOfKind bytes f
   pub seal : number_at bytes 5 ≢ 0
 
 -- the bytes are a file of the filter, with no seal
-pub record IsUnsealedFile (bytes : List ℕ) (f : DefaultFilter) : Type 0 where
-  pub file : IsFileOf bytes f
+pub record IsUnsealedFile (bytes : List ℕ) (f : AnyFilter) : Type 0 where
+  pub file : IsFileOfKind bytes f
   pub seal : number_at bytes 5 ≡ 0
 
 -- the bytes are a filter in this form. Of text only this is said, that it isn't a file of the form
-abbrev pub IsInForm : Form → DefaultFilter → List ℕ → Type 0
+abbrev pub IsInForm : Form → AnyFilter → List ℕ → Type 0
 IsInForm Sealed f bytes = IsSealedFile bytes f
 IsInForm Unsealed f bytes = IsUnsealedFile bytes f
 IsInForm Json f bytes = Begins bytes mark_bytes → ⊥
@@ -55,9 +58,27 @@ IsToldOf name file_error.Memory stop = IsMemory stop
 IsToldOf name (file_error.Input kind) stop = IsUnreadAs kind name stop
 IsToldOf name _ stop = SaysNone name stop
 
--- bytes hold no filter: a file of the form is refused. Of text nothing is said
+-- the layout that a whole head tells. A file that ends within its head is refused, whatever it
+-- tells
+abbrev pub layout_told : List ℕ → Layout
+layout_told bytes =
+    if nat_le 64 (length bytes) && nat_eq (number_at bytes 6) 1 then Lines else Whole
+
+-- bytes hold no filter: a file of the form is refused where the layout is read that it tells. Of
+-- text nothing is said
 abbrev pub HoldsNone : List ℕ → Type 0
-HoldsNone bytes = Begins bytes mark_bytes → (error : FileError) × (file_refusal bytes ≡ Some error)
+HoldsNone bytes = Begins bytes mark_bytes
+    → (error : FileError) × (refusal_in (layout_told bytes) bytes ≡ Some error)
+
+-- the layout that the first bytes of a file tell, of which this many were read into 64
+abbrev pub head_layout : ℕ → List ℕ → Layout
+head_layout count head = if nat_eq count 64 && nat_eq (number_at head 6) 1 then Lines else Whole
+
+-- that these bytes hold no filter is said only where they are refused as a file of this layout
+abbrev pub IsRightIn : Layout → List ℕ → List ℕ → Stop → Type 0
+IsRightIn layout bytes name stop =
+    (IsBad (λ said. Unit {0}) stop → ⊥)
+    ⊎ (((error : FileError) × (refusal_in layout bytes ≡ Some error)) × SaysNone name stop)
 
 -- that these bytes hold no filter is said only where it is true
 abbrev pub IsRightOf : List ℕ → List ℕ → Stop → Type 0
@@ -82,11 +103,11 @@ IsUnloaded name most stop = IsUnread name stop ⊎ IsBad (HasManyHashes name mos
 
 -- the error tells the name and how many hashes the filter of these bytes has: more than are allowed
 pub record HasHashesOf (bytes name : List ℕ) (most : ℕ) (said : Error) : Type 0 where
-  pub filter : DefaultFilter
+  pub filter : AnyFilter
   pub form : Form
   pub is : IsInForm form filter bytes
-  pub many : most < filter.hashes
-  pub says : HasMessage (Some (hashes_text name filter.hashes most)) said
+  pub many : most < (parts_of filter).hashes
+  pub says : HasMessage (Some (hashes_text name (parts_of filter).hashes most)) said
 
 -- that these bytes hold no filter, or one with more hashes than are allowed, is said only where it
 -- is true, and by the number of hashes of that filter

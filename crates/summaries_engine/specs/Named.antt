@@ -1,6 +1,6 @@
 -- Filters that have names, and what an iterator over names gives. A name is its list of bytes.
 use Rattle.std.specs.Prelude.{◌≡◌, ◌⊎◌, ℕ, codes, List, [], ◌∷◌, ◌++◌, get_or, All, Option, Result, MatchOption, MatchResult, ⊤}
-use Rattle.fastbloom.specs.Data.{DefaultFilter}
+use Rattle.summaries_engine.specs.declared.kinds.AnyFilter.{AnyFilter}
 use Rattle.summaries_engine.specs.declared.stop.Stop.{Stop}
 use Rattle.summaries_engine.specs.declared.unions.Difference.{Difference}
 use Rattle.summaries_engine.specs.declared.unions.Difference.TheVariants as difference
@@ -9,10 +9,10 @@ use Rattle.summaries_engine.specs.Stops.{IsBad, Says}
 
 -- which filters lie under which names
 abbrev pub Named : Type 1
-Named = List ℕ → DefaultFilter → Type 0
+Named = List ℕ → AnyFilter → Type 0
 
 -- each filter lies under the name with its index, and there are no others
-abbrev pub AreNamed : Named → List (List ℕ) → List DefaultFilter → Type 0
+abbrev pub AreNamed : Named → List (List ℕ) → List AnyFilter → Type 0
 AreNamed has [] [] = ⊤
 AreNamed has [] (f ∷ filters) = ⊥
 AreNamed has (name ∷ names) [] = ⊥
@@ -21,14 +21,14 @@ AreNamed has (name ∷ names) (f ∷ filters) = has name f × AreNamed has names
 -- a call gave the filter of the first name that was left, or its error, and left the other names;
 -- or the call gave nothing, where no name was left
 abbrev pub GivesNext : {I S E : Type 0} → (S → Named) → (S → List ℕ → E → Type 0) → (I → S)
-    → (I → List (List ℕ)) → I → Option (Result DefaultFilter E) → I → Type 0
+    → (I → List (List ℕ)) → I → Option (Result AnyFilter E) → I → Type 0
 GivesNext has fails shelf names from given to = (shelf to ≡ shelf from)
     × MatchOption given ((names from ≡ []) × (names to ≡ []))
     (λ read. (name : List ℕ) × (names from ≡ name ∷ names to)
     × MatchResult read (has (shelf from) name) (fails (shelf from) name))
 
 -- these filters lie under the names before this one
-pub record LoadedBefore (has : Named) (names : List (List ℕ)) (filters : List DefaultFilter)
+pub record LoadedBefore (has : Named) (names : List (List ℕ)) (filters : List AnyFilter)
     (name : List ℕ) : Type 0 where
   pub before : List (List ℕ)
   pub after : List (List ℕ)
@@ -36,14 +36,14 @@ pub record LoadedBefore (has : Named) (names : List (List ℕ)) (filters : List 
   pub loaded : AreNamed has before filters
 
 -- the filters behind the first fit it
-abbrev pub FitFirst : List DefaultFilter → Type 0
+abbrev pub FitFirst : List AnyFilter → Type 0
 FitFirst [] = ⊤
 FitFirst (first ∷ others) = All (Fits first) others
 
 -- filters that fit the first lie under the names before one, and that one's error is said
 pub record StopsUnloaded {E : Type 0} (has : Named) (fails : List ℕ → E → Type 0)
     (names : List (List ℕ)) (said : E) : Type 0 where
-  pub filters : List DefaultFilter
+  pub filters : List AnyFilter
   pub name : List ℕ
   pub reaches : LoadedBefore has names filters name
   pub fit : FitFirst filters
@@ -51,6 +51,7 @@ pub record StopsUnloaded {E : Type 0} (has : Named) (fails : List ℕ → E → 
 
 -- what is said of a filter that differs from the first, by both names
 abbrev pub misfit_text : Difference → List ℕ → List ℕ → List ℕ
+misfit_text difference.Kind name first = name ++ (codes ": its kind isn't that of " ++ first)
 misfit_text difference.Shape name first =
     name ++ (codes ": its shape isn't that of " ++ first)
 misfit_text difference.Key name first = name ++ (codes ": its key isn't that of " ++ first)
@@ -58,10 +59,10 @@ misfit_text difference.Key name first = name ++ (codes ": its key isn't that of 
 -- the filter of a name differs from that of the first, which those before it fit, and both names
 -- are said
 pub record StopsAtMisfit (has : Named) (names : List (List ℕ)) (stop : Stop) : Type 0 where
-  pub first : DefaultFilter
-  pub filters : List DefaultFilter
+  pub first : AnyFilter
+  pub filters : List AnyFilter
   pub name : List ℕ
-  pub shard : DefaultFilter
+  pub shard : AnyFilter
   pub how : Difference
   pub reaches : LoadedBefore has names (first ∷ filters) name
   pub fit : All (Fits first) filters

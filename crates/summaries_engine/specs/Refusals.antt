@@ -2,47 +2,50 @@
 -- first, and the keys, are numbered from 1; both numbers stay at 2^64 - 1. This project's own.
 use Rattle.std.specs.Prelude.{◌≡◌, ℕ, ◌+◌, ◌-◌, ◌^◌, min, codes, decimal, List, [], ◌∷◌, ◌++◌, length, map, All, Ok, Err, Result, Option}
 use Rattle.std.specs.Iterator.{Yields}
-use Rattle.fastbloom.specs.Data.{DefaultFilter}
-use Rattle.fastbloom.specs.Filter.{SameShape}
+use Rattle.summaries_engine.specs.declared.kinds.AnyFilter.{AnyFilter}
 use Rattle.summaries_engine.specs.declared.unions.Difference.{Difference}
 use Rattle.summaries_engine.specs.declared.unions.Difference.TheVariants as difference
 use Rattle.summaries_engine.specs.declared.unions.Refusal.{Refusal}
 use Rattle.summaries_engine.specs.declared.unions.Refusal.TheVariants.{Unread, Differs}
+use Rattle.summaries_engine.specs.Kinds.{HaveSameKind, HaveSameShape}
 use Rattle.summaries_engine.specs.Summaries.{HaveSameKey}
 
--- a filter has the shape and the key of the first
-pub record Fits (first f : DefaultFilter) : Type 0 where
-  pub shape : SameShape first f
+-- a filter has the kind, the shape and the key of the first
+pub record Fits (first f : AnyFilter) : Type 0 where
+  pub kind : HaveSameKind first f
+  pub shape : HaveSameShape first f
   pub key : HaveSameKey first f
 
--- a filter differs from the first in its shape, or else in its key
-abbrev pub DiffersBy : DefaultFilter → DefaultFilter → Difference → Type 0
-DiffersBy first f difference.Shape = SameShape first f → ⊥
-DiffersBy first f difference.Key = SameShape first f × (HaveSameKey first f → ⊥)
+-- a filter differs from the first in its kind, or else in its shape, or else in its key
+abbrev pub DiffersBy : AnyFilter → AnyFilter → Difference → Type 0
+DiffersBy first f difference.Kind = HaveSameKind first f → ⊥
+DiffersBy first f difference.Shape = HaveSameKind first f × (HaveSameShape first f → ⊥)
+DiffersBy first f difference.Key =
+    HaveSameKind first f × HaveSameShape first f × (HaveSameKey first f → ⊥)
 
 -- the last of what was given is the filter of this number, and differs from the first; those before
 -- it fit the first
-pub record IsMisfit {E : Type 0} (first : DefaultFilter) (given : List (Result DefaultFilter E))
+pub record IsMisfit {E : Type 0} (first : AnyFilter) (given : List (Result AnyFilter E))
     (number : ℕ) (how : Difference) : Type 0 where
-  pub others : List DefaultFilter
-  pub shard : DefaultFilter
+  pub others : List AnyFilter
+  pub shard : AnyFilter
   pub came : given ≡ map Ok others ++ Ok shard ∷ []
   pub fit : All (Fits first) others
   pub differs : DiffersBy first shard how
   pub counted : number ≡ min (length others + 1) (2 ^ 64 - 1)
 
 -- the last of what was given is the error, or the filter that differs; those before fit the first
-abbrev pub IsRefusedFor : {E : Type 0} → DefaultFilter → List (Result DefaultFilter E)
+abbrev pub IsRefusedFor : {E : Type 0} → AnyFilter → List (Result AnyFilter E)
     → Refusal E → Type 0
 IsRefusedFor first given (Unread error) =
-    (others : List DefaultFilter) × (given ≡ map Ok others ++ Err error ∷ [])
+    (others : List AnyFilter) × (given ≡ map Ok others ++ Err error ∷ [])
     × All (Fits first) others
 IsRefusedFor first given (Differs number how) = IsMisfit first given number how
 
 -- an iterator gave such a list, and was asked for no more; its last item is refused
-pub record RefusesGiven {I E : Type 0} (steps : I → Option (Result DefaultFilter E) → I → Type 0)
-    (start : I) (first : DefaultFilter) (refusal : Refusal E) : Type 0 where
-  pub given : List (Result DefaultFilter E)
+pub record RefusesGiven {I E : Type 0} (steps : I → Option (Result AnyFilter E) → I → Type 0)
+    (start : I) (first : AnyFilter) (refusal : Refusal E) : Type 0 where
+  pub given : List (Result AnyFilter E)
   pub end : I
   pub came : Yields steps start given end
   pub refused : IsRefusedFor first given refusal

@@ -9,10 +9,10 @@ use Rattle.std.specs.declared.io.ErrorKind.{ErrorKind}
 use Rattle.std.specs.declared.io.ErrorKind.TheVariants.{OutOfMemory}
 use Rattle.bloom_parts.specs.declared.error.FilterError.{FilterError}
 use Rattle.bloom_parts.specs.declared.error.FilterError.TheVariants as filter_error
-use Rattle.fastbloom.specs.Data.{DefaultFilter}
 use Rattle.lines.specs.Reading.{AreShort, IsReadFromBy, IsReadToLongBy}
 use Rattle.lines.specs.Writing.{AppendsPart}
 use Rattle.summaries_engine.specs.declared.answers.Told.{Told}
+use Rattle.summaries_engine.specs.declared.kinds.AnyFilter.{AnyFilter}
 use Rattle.summaries_engine.specs.declared.stop.Stop.{Stop}
 use Rattle.summaries_engine.specs.declared.stop.Stop.TheVariants.{Memory, Worker, Input, Bad, Output}
 use Rattle.summaries_engine.specs.Answers.{told_text}
@@ -113,7 +113,7 @@ StopsHashing end name read stop = StopsAfter end name read (λ keys. Unit {0}) s
 
 -- a write failed within the replies for earlier keys and these first keys, none of which is too
 -- long: what was written is a beginning of their text
-pub record StopsWriting (f : DefaultFilter) (told : Told) (end : ℕ) (earlier : List (List ℕ))
+pub record StopsWriting (f : AnyFilter) (told : Told) (end : ℕ) (earlier : List (List ℕ))
     (read from to : Option (List ℕ)) (stop : Stop) : Type 0 where
   pub keys : List (List ℕ)
   pub first : IsReadFromBy end read keys
@@ -123,7 +123,7 @@ pub record StopsWriting (f : DefaultFilter) (told : Told) (end : ℕ) (earlier :
 
 -- the run stopped after the replies for earlier keys and these first keys were written, or within a
 -- reply, where a write failed
-abbrev pub StopsAnswers : DefaultFilter → Told → ℕ → List ℕ → List (List ℕ) → Option (List ℕ)
+abbrev pub StopsAnswers : AnyFilter → Told → ℕ → List ℕ → List (List ℕ) → Option (List ℕ)
     → Option (List ℕ) → Option (List ℕ) → Stop → Type 0
 StopsAnswers f told end name earlier read from to stop =
     StopsAfter end name read

@@ -4,9 +4,9 @@
 use Rattle.std.specs.Prelude.{◌≡◌, ℕ, true, List, ◌++◌}
 use Rattle.std.specs.List.{Contains}
 use Rattle.bloom_parts.specs.Content.{AreWords}
-use Rattle.fastbloom.specs.Data.{DefaultFilter}
-use Rattle.fastbloom.specs.Filter.{Unites, contains}
 use Rattle.fastbloom.specs.declared.parallel.shape.Shape.{Shape}
+use Rattle.summaries_engine.specs.declared.kinds.AnyFilter.{AnyFilter}
+use Rattle.summaries_engine.specs.Kinds.{HaveSameKind, UnitesParts, has_hash, parts_of}
 use Rattle.summaries_engine.specs.Summaries.{HaveSameKey, HaveSameKeys, IsSummaryOf, hash_in}
 
 -- a tree of unions: one part of the keys, or two trees that are united. The same part or tree may
@@ -21,29 +21,30 @@ keys_of (Part keys) = keys
 keys_of (United one other) = keys_of one ++ keys_of other
 
 -- a tree made this filter: of one part it is the summary, and of two trees the union of what they
--- made, under one key
-abbrev pub Makes : Shape → Tree → DefaultFilter → Type 0
+-- made, of one kind and under one key
+abbrev pub Makes : Shape → Tree → AnyFilter → Type 0
 Makes shape (Part keys) made = IsSummaryOf shape keys made
 Makes shape (United one other) made =
-    (f : DefaultFilter) × (g : DefaultFilter) × Makes shape one f × Makes shape other g
-    × HaveSameKey f g × Unites f g made
+    (f : AnyFilter) × (g : AnyFilter) × Makes shape one f × Makes shape other g
+    × HaveSameKind f g × HaveSameKey f g × UnitesParts f g made
 
 -- what a tree made is the summary of the keys of all its parts
 abbrev pub TreeSummaryLaw : Type 0
-TreeSummaryLaw = (shape : Shape) (tree : Tree) (made : DefaultFilter)
+TreeSummaryLaw = (shape : Shape) (tree : Tree) (made : AnyFilter)
     → Makes shape tree made → IsSummaryOf shape (keys_of tree) made
 
--- what a tree made has the words and the number of hashes of the filter of all keys, where each key
--- comes in at least one part, and nothing else does
+-- what a tree made has the words and the number of hashes of the filter of its kind and all keys,
+-- where each key comes in at least one part, and nothing else does
 abbrev pub AnyPartsLaw : Type 0
-AnyPartsLaw = (shape : Shape) (tree : Tree) (keys : List (List ℕ)) (made whole : DefaultFilter)
+AnyPartsLaw = (shape : Shape) (tree : Tree) (keys : List (List ℕ)) (made whole : AnyFilter)
     → Makes shape tree made → IsSummaryOf shape keys whole
-    → AreWords made.words → AreWords whole.words
-    → HaveSameKey whole made → HaveSameKeys (keys_of tree) keys
-    → (made.words ≡ whole.words) × (made.hashes ≡ whole.hashes)
+    → AreWords (parts_of made).words → AreWords (parts_of whole).words
+    → HaveSameKind whole made → HaveSameKey whole made → HaveSameKeys (keys_of tree) keys
+    → ((parts_of made).words ≡ (parts_of whole).words)
+    × ((parts_of made).hashes ≡ (parts_of whole).hashes)
 
 -- what a tree made contains each key of each part
 abbrev pub AnyPartFoundLaw : Type 0
-AnyPartFoundLaw = (shape : Shape) (tree : Tree) (made : DefaultFilter) (key : List ℕ)
+AnyPartFoundLaw = (shape : Shape) (tree : Tree) (made : AnyFilter) (key : List ℕ)
     → Makes shape tree made → Contains (keys_of tree) key
-    → contains made (hash_in made key) ≡ true
+    → has_hash made (hash_in made key) ≡ true

@@ -8,8 +8,8 @@ ghost use Rattle.summaries_engine.specs.Stops.{IsUnwritten, StopsAnswers};
 
 use crate::inputs::Inputs;
 use crate::keys::{LONGEST, hash_of, too_long, too_many, unread};
+use crate::kinds::AnyFilter;
 use crate::stop::{Stop, cause};
-use fastbloom::BloomFilter;
 use lines::{LineReaderBy, Next, put_line_by};
 use std::alloc::Global;
 use std::io::{Read, Write};
@@ -35,7 +35,7 @@ fn is_told(told: Told, is_contained: bool) -> bool
 
 // Writes a key if it is told.
 fn answer_key<const END: u8, O: Write>(
-    filter: &BloomFilter,
+    filter: &AnyFilter,
     told: Told,
     key: &[u8],
     output: &mut O,
@@ -59,7 +59,7 @@ fn answer_key<const END: u8, O: Write>(
 // Writes those keys of one input that `told` chooses.
 fn ask_input<const END: u8, I: Read, O: Write>(
     alloc: Global,
-    filter: &BloomFilter,
+    filter: &AnyFilter,
     told: Told,
     name: &str,
     input: &mut I,
@@ -95,7 +95,7 @@ fn ask_input<const END: u8, I: Read, O: Write>(
 /// output ends within the text of the last key.
 pub fn ask<const END: u8, S: Inputs, O: Write>(
     alloc: Global,
-    filter: &BloomFilter,
+    filter: &AnyFilter,
     told: Told,
     inputs: &S,
     names: &[&str],

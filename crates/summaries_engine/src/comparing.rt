@@ -1,13 +1,19 @@
 //! What is told of two filters.
 ghost use Rattle.std.specs.Prelude.{◌≡◌, ◌≤◌, IfErr, IfOk, string_bytes};
 ghost use Rattle.fastbloom.specs.Filter.{SameShape};
-ghost use Rattle.summaries_engine.specs.Comparing.{ComparesNamed, StopsComparing, TellsBoth, compared_text, least_share, likeness_text, most_share};
+ghost use Rattle.fastbloom.specs.Ones.{ones_of, ones_of_either};
+ghost use Rattle.summaries_engine.specs.Comparing.{ComparesNamed, StopsComparing, TellsBoth, TellsTwo, bits_text, compared_text, least_share, likeness_text, most_share, ones_of_both};
+ghost use Rattle.summaries_engine.specs.Refusals.{Fits};
 
 use crate::facts::items_of;
+use crate::kinds::AnyFilter;
 use crate::shards::{Shelf, misfit};
 use crate::stop::Stop;
 use crate::unions::check_fit;
-use fastbloom::{BloomFilter, Bracket, Estimate, estimated_common, estimated_part};
+use bloom_parts::slices;
+use fastbloom::{
+    BlockedBloomFilter, BloomFilter, Bracket, Estimate, estimated_common, estimated_part,
+};
 use std::alloc::{AllocError, Global};
 
 // What is one in a bracket.
@@ -57,8 +63,8 @@ fn lines_of(
     )
 }
 
-/// Lines that tell how many items two filters have, how many their union has and how many they have
-/// in common, and which part of all items that is, in percent. Each is two bounds.
+/// Lines that tell how many items two Bloom filters have, how many their union has and how many
+/// they have in common, and which part of all items that is, in percent. Each is two bounds.
 ///
 /// # Errors
 /// Out of memory.
@@ -76,11 +82,82 @@ pub fn compared(
     lines_of(alloc, one, other, all, common, estimated_part(common, all))
 }
 
-/// The lines that tell the filters of two names.
+// The lines of how many bits are set in each of two filters, in either and in both.
+fn bit_lines_of(
+    alloc: Global,
+    first: usize,
+    second: usize,
+    either: usize,
+    both: usize,
+) -> Result<String, AllocError>
+    ensures { IfOk result (λ text. string_bytes text ≡ bits_text first second either both) }
+{
+    format!(in alloc;
+        "bits set in first: {first}\nbits set in second: {second}\n\
+         bits set in union: {either}\nbits set in both: {both}\n"
+    )
+}
+
+// How many bits are set in either of two blocked filters.
+fn ones_in_either(first: &BlockedBloomFilter, second: &BlockedBloomFilter) -> usize
+    requires { SameShape first.now second.now }
+    ensures { result ≡ ones_of_either first.now second.now }
+{
+    slices::count_either(first.as_slice(), second.as_slice())
+}
+
+// How many bits are set in both.
+fn ones_in_both(first: &BlockedBloomFilter, second: &BlockedBloomFilter) -> usize
+    requires { SameShape first.now second.now }
+    ensures { result ≡ ones_of_both first.now second.now }
+{
+    let (one, other) = (first.count_ones(), second.count_ones());
+    let either = ones_in_either(first, second);
+    one - (either - other)
+}
+
+/// Lines that tell how many bits are set in each of two blocked filters, in either and in both. The
+/// estimates of Bloom filters aren't true of them.
+///
+/// # Errors
+/// Out of memory.
+pub fn compared_blocked(
+    alloc: Global,
+    first: &BlockedBloomFilter,
+    second: &BlockedBloomFilter,
+) -> Result<String, AllocError>
+    requires { SameShape first.now second.now }
+    ensures { IfOk result (λ text. string_bytes text
+        ≡ bits_text (ones_of first.now) (ones_of second.now)
+        (ones_of_either first.now second.now) (ones_of_both first.now second.now)) }
+{
+    let (either, both) = (ones_in_either(first, second), ones_in_both(first, second));
+    bit_lines_of(alloc, first.count_ones(), second.count_ones(), either, both)
+}
+
+// The lines that tell two filters of one kind and shape.
+fn lines_of_two(alloc: Global, first: &AnyFilter, second: &AnyFilter) -> Result<String, AllocError>
+    requires { Fits first.now second.now }
+    ensures { IfOk result (λ text. TellsTwo first.now second.now (string_bytes text)) }
+{
+    match first {
+        AnyFilter::Classic(first) => match second {
+            AnyFilter::Classic(second) => compared(alloc, first, second),
+            AnyFilter::Blocked(_) => unreachable!(),
+        },
+        AnyFilter::Blocked(first) => match second {
+            AnyFilter::Classic(_) => unreachable!(),
+            AnyFilter::Blocked(second) => compared_blocked(alloc, first, second),
+        },
+    }
+}
+
+/// The lines that tell the filters of two names: of Bloom filters those of `compared`, and of
+/// blocked ones those of `compared_blocked`.
 ///
 /// # Errors
 /// Out of memory, and as `unite_named`: at the first name whose filter can't be loaded, or where
-/// the second has another shape or key than the first.
+/// the second has another kind, shape or key than the first.
 pub fn compare_named<S: Shelf>(
     alloc: Global,
     shelf: &S,
@@ -97,7 +174,7 @@ pub fn compare_named<S: Shelf>(
     if let Err(how) = check_fit(&first, &second) {
         return Err(misfit(other, one, how));
     }
-    match compared(alloc, &first, &second) {
+    match lines_of_two(alloc, &first, &second) {
         Ok(text) => Ok(text),
         Err(_) => Err(Stop::Memory),
     }

@@ -1,10 +1,10 @@
 //! What is told of a filter.
 ghost use Rattle.std.specs.Prelude.{◌≡◌, ◌≤◌, ◌<◌, ◌*◌, ◌/◌, ◌^◌, IfOk, string_bytes};
 ghost use Rattle.std.specs.Int.{div_ceil};
-ghost use Rattle.summaries_engine.specs.Facts.{TellsFilter, billionths_text, facts_text, form_text, items_text, key_text, lines_text, rate_of_text, set_text, share_of};
+ghost use Rattle.summaries_engine.specs.Facts.{TellsFilter, billionths_text, blocked_text, facts_text, form_text, items_text, key_text, lines_text, rate_of_text, set_text, share_of};
 
 use crate::form::Form;
-use fastbloom::{BloomFilter, Estimate};
+use fastbloom::{BlockedBloomFilter, BloomFilter, Estimate};
 use std::alloc::{AllocError, Global};
 
 // What a form is called.
@@ -129,9 +129,9 @@ fn all_lines_of(
     format!(in alloc; "{lines}{rate}")
 }
 
-/// Lines that tell a filter's form, its numbers of bits and of hashes, the sixteen bytes of its
-/// key, how many bits are set, with their share in percent, and the bounds of its items and of its
-/// rate of false positives as it is.
+/// Lines that tell a Bloom filter's form, its numbers of bits and of hashes, the sixteen bytes of
+/// its key, how many bits are set, with their share in percent, and the bounds of its items and of
+/// its rate of false positives as it is.
 ///
 /// # Errors
 /// Out of memory.
@@ -139,4 +139,26 @@ pub fn facts_of(alloc: Global, filter: &BloomFilter, form: Form) -> Result<Strin
     ensures { IfOk result (λ text. TellsFilter filter.now form (string_bytes text)) }
 {
     all_lines_of(alloc, filter, form, filter.estimated_items())
+}
+
+/// Lines that tell that a filter is blocked, its form, its numbers of bits and of hashes, the
+/// sixteen bytes of its key, and how many bits are set, with their share in percent. The estimates
+/// of a Bloom filter aren't true of it.
+///
+/// # Errors
+/// Out of memory.
+pub fn blocked_facts_of(
+    alloc: Global,
+    filter: &BlockedBloomFilter,
+    form: Form,
+) -> Result<String, AllocError>
+    ensures { IfOk result (λ text. string_bytes text ≡ blocked_text filter.now form) }
+{
+    let (bits, hashes) = (filter.num_bits(), filter.num_hashes());
+    let (low, high) = filter.hasher().key();
+    let key = key_line(alloc, low, high)?;
+    let count = filter.count_ones();
+    let set = set_line(alloc, count, share(count, bits))?;
+    let name = name_of(form);
+    format!(in alloc; "kind: blocked\nform: {name}\nbits: {bits}\nhashes: {hashes}\n{key}{set}")
 }

@@ -2,9 +2,10 @@
 ghost use Rattle.std.specs.Prelude.{codes, IfErr, OnOk, OnErr};
 ghost use Rattle.std.specs.Io.KnownBytes.{Appends};
 ghost use Rattle.lines.specs.Writing.{AppendsPart};
-ghost use Rattle.fastbloom.specs.File.{file_of};
+ghost use Rattle.summaries_engine.specs.Kinds.{file_of_kind};
 ghost use Rattle.summaries_engine.specs.Stops.{IsUnput, SaysOver};
 
+use crate::kinds::AnyFilter;
 use crate::stop::{Stop, cause, written};
 use fastbloom::BloomFilter;
 use std::alloc::Global;
@@ -25,11 +26,11 @@ pub enum Form {
 ///
 /// # Errors
 /// Where a write or the flush fails. Then a beginning of the file was written.
-pub fn put_file<W: Write>(filter: &BloomFilter, output: &mut W) -> anyhow::Result<()>
+pub fn put_file<W: Write>(filter: &AnyFilter, output: &mut W) -> anyhow::Result<()>
     ensures whole { OnOk result
-        (Appends (W.contents output.old) (W.contents output.new) (file_of filter.now)) }
+        (Appends (W.contents output.old) (W.contents output.new) (file_of_kind filter.now)) }
     ensures part { OnErr result
-        (AppendsPart (file_of filter.now) (W.contents output.old) (W.contents output.new)) }
+        (AppendsPart (file_of_kind filter.now) (W.contents output.old) (W.contents output.new)) }
     ensures failed { IfErr result (SaysOver (codes "the filter can't be written")) }
 {
     match write_file(filter, output) {
@@ -38,17 +39,18 @@ pub fn put_file<W: Write>(filter: &BloomFilter, output: &mut W) -> anyhow::Resul
     }
 }
 
-fn write_file<W: Write>(filter: &BloomFilter, output: &mut W) -> std::io::Result<()>
+fn write_file<W: Write>(filter: &AnyFilter, output: &mut W) -> std::io::Result<()>
     ensures whole { OnOk result
-        (Appends (W.contents output.old) (W.contents output.new) (file_of filter.now)) }
+        (Appends (W.contents output.old) (W.contents output.new) (file_of_kind filter.now)) }
     ensures part { OnErr result
-        (AppendsPart (file_of filter.now) (W.contents output.old) (W.contents output.new)) }
+        (AppendsPart (file_of_kind filter.now) (W.contents output.old) (W.contents output.new)) }
 {
     filter.write_file(output)?;
     output.flush()
 }
 
-/// Writes a filter as one line of text, all of which is made before its first byte is written.
+/// Writes a Bloom filter as one line of text, all of which is made before its first byte is
+/// written.
 ///
 /// # Errors
 /// Out of memory for the text, and where a write or the flush fails.

@@ -2,11 +2,13 @@
 #![tactic(auto)]
 
 mod answers;
+mod blocked;
 mod comparing;
 mod facts;
 mod form;
 mod inputs;
 mod keys;
+mod kinds;
 pub mod laws;
 mod loading;
 mod shards;
@@ -16,14 +18,16 @@ mod summary;
 mod unions;
 
 pub use answers::{Told, ask};
-pub use comparing::{compare_named, compared};
-pub use facts::facts_of;
+pub use blocked::{blocked_for, blocked_with_bits, build_blocked};
+pub use comparing::{compare_named, compared, compared_blocked};
+pub use facts::{blocked_facts_of, facts_of};
 pub use form::{Form, put, put_file};
 pub use inputs::Inputs;
 pub use keys::{LONGEST, hash_of, hashes_of, unread};
+pub use kinds::AnyFilter;
 pub use loading::load;
 pub use shards::{Shelf, unite_named};
 pub use sizes::shape_for;
-pub use stop::{Stop, twice, unsaid, unshaped, written};
+pub use stop::{Stop, no_json, twice, unsaid, unshaped, written};
 pub use summary::{build, cut};
 pub use unions::{Difference, Refusal, add, unite};

@@ -1,17 +1,23 @@
 //! Filters of readers that have names, in either form.
 ghost use Rattle.std.specs.Prelude.{◌≡◌, ◌++◌, ◌<◌, ◌≤◌, codes, IfErr, IfOk, IfSome, Some};
 ghost use Rattle.anyhow.specs.Error.{HasMessage};
+ghost use Rattle.bloom_plain.specs.declared.file.layout.Layout.TheVariants.{Whole, Lines};
+ghost use Rattle.fastbloom.specs.BlockedFile.{IsLineFileOf};
 ghost use Rattle.fastbloom.specs.File.{IsFileOf};
+ghost use Rattle.summaries_engine.specs.declared.kinds.AnyFilter.TheVariants.{Classic, Blocked};
 ghost use Rattle.bloom_plain.specs.FileRefusals.{number_at};
 ghost use Rattle.summaries_engine.specs.Answers.{IsKeyed};
-ghost use Rattle.summaries_engine.specs.Loaded.{IsInForm, IsRightOf, IsRightWith, IsToldOf, IsUnloaded, IsUnread, SaysNone, file_form, hashes_text};
+ghost use Rattle.summaries_engine.specs.Kinds.{IsFileOfKind, parts_of};
+ghost use Rattle.summaries_engine.specs.Loaded.{IsInForm, IsRightIn, IsRightOf, IsRightWith, IsToldOf, IsUnloaded, IsUnread, SaysNone, file_form, hashes_text, head_layout};
 ghost use Rattle.summaries_engine.specs.Stops.{IsBad};
 
 use crate::form::Form;
 use crate::keys::unread;
+use crate::kinds::AnyFilter;
 use crate::stop::Stop;
 use anyhow::anyhow;
-use fastbloom::{BloomFilter, FileError, FilterData};
+use fastbloom::file::Layout;
+use fastbloom::{BlockedBloomFilter, BloomFilter, FileError, FilterData};
 use lines::read_full;
 use std::alloc::Global;
 use std::io;
@@ -47,19 +53,19 @@ fn untold(name: &str, error: io::Error) -> Stop
     }
 }
 
-// Reads a file of the form, of which the first bytes were read.
-fn load_file<R: Read>(
+// Reads the file of a Bloom filter, of which the first bytes were read.
+fn load_classic<R: Read>(
     alloc: Global,
     name: &str,
     start: &[u8],
     input: &mut R,
 ) -> Result<BloomFilter, Stop>
-    ensures keyed { IfOk result IsKeyed }
+    ensures keyed { IfOk result (λ filter. IsKeyed (Classic filter)) }
     ensures file { IfOk result (λ filter. IfSome (R.remaining input.old)
         (λ rest. IsFileOf (start.now ++ rest) filter)) }
     ensures failed { IfErr result (IsUnread name.now) }
     ensures right { IfErr result (λ stop. IfSome (R.remaining input.old)
-        (λ rest. IsRightOf (start.now ++ rest) name.now stop)) }
+        (λ rest. IsRightIn Whole (start.now ++ rest) name.now stop)) }
 {
     match BloomFilter::read_file(alloc, &mut start.chain(input)) {
         Ok(filter) => Ok(filter),
@@ -67,14 +73,61 @@ fn load_file<R: Read>(
     }
 }
 
+// Reads the file of a blocked filter, of which the first bytes were read.
+fn load_blocked<R: Read>(
+    alloc: Global,
+    name: &str,
+    start: &[u8],
+    input: &mut R,
+) -> Result<BlockedBloomFilter, Stop>
+    ensures keyed { IfOk result (λ filter. IsKeyed (Blocked filter)) }
+    ensures file { IfOk result (λ filter. IfSome (R.remaining input.old)
+        (λ rest. IsLineFileOf (start.now ++ rest) filter)) }
+    ensures failed { IfErr result (IsUnread name.now) }
+    ensures right { IfErr result (λ stop. IfSome (R.remaining input.old)
+        (λ rest. IsRightIn Lines (start.now ++ rest) name.now stop)) }
+{
+    match BlockedBloomFilter::read_file(alloc, &mut start.chain(input)) {
+        Ok(read) => Ok(read),
+        Err(why) => Err(unloaded(name, why)),
+    }
+}
+
+// Reads a file of the form whose words lie so, of which the first bytes were read.
+fn load_file<R: Read>(
+    alloc: Global,
+    name: &str,
+    layout: Layout,
+    start: &[u8],
+    input: &mut R,
+) -> Result<AnyFilter, Stop>
+    ensures keyed { IfOk result IsKeyed }
+    ensures file { IfOk result (λ filter. IfSome (R.remaining input.old)
+        (λ rest. IsFileOfKind (start.now ++ rest) filter)) }
+    ensures failed { IfErr result (IsUnread name.now) }
+    ensures right { IfErr result (λ stop. IfSome (R.remaining input.old)
+        (λ rest. IsRightIn layout (start.now ++ rest) name.now stop)) }
+{
+    match layout {
+        Layout::Whole => {
+            let filter = load_classic(alloc, name, start, input)?;
+            Ok(AnyFilter::Classic(filter))
+        }
+        Layout::Lines => {
+            let filter = load_blocked(alloc, name, start, input)?;
+            Ok(AnyFilter::Blocked(filter))
+        }
+    }
+}
+
 // The filter of a JSON text.
-fn filter_of(alloc: Global, name: &str, text: &str) -> Result<BloomFilter, Stop>
+fn filter_of(alloc: Global, name: &str, text: &str) -> Result<AnyFilter, Stop>
     ensures keyed { IfOk result IsKeyed }
     ensures failed { IfErr result (IsUnread name.now) }
 {
     match serde_json::from_str::<FilterData>(alloc, text) {
         Ok(data) => match BloomFilter::from_data(data) {
-            Ok(made) => Ok(made),
+            Ok(made) => Ok(AnyFilter::Classic(made)),
             Err(error) => Err(no_filter(name, anyhow::Error::from(error))),
         },
         Err(error) => {
@@ -92,7 +145,7 @@ fn load_text<R: Read>(
     name: &str,
     start: &[u8],
     input: &mut R,
-) -> Result<BloomFilter, Stop>
+) -> Result<AnyFilter, Stop>
     ensures keyed { IfOk result IsKeyed }
     ensures failed { IfErr result (IsUnread name.now) }
 {
@@ -124,8 +177,30 @@ fn form_of(head: &[u8; 64]) -> Form
     }
 }
 
+// The number in the head of a file that tells the layout of its words.
+fn layout_number(head: &[u8; 64]) -> u64
+    ensures { result ≡ number_at head.now 6 }
+{
+    let (numbers, _rest) = head.as_chunks::<8>();
+    match numbers.get(6) {
+        Some(number) => u64::from_le_bytes(*number),
+        None => 0,
+    }
+}
+
+// The layout that a head tells, of which this many bytes were read.
+fn layout_of(count: usize, head: &[u8; 64]) -> Layout
+    ensures { result ≡ head_layout count head.now }
+{
+    if count == 64 && layout_number(head) == 1 {
+        Layout::Lines
+    } else {
+        Layout::Whole
+    }
+}
+
 // Reads a filter in the form that its first bytes tell.
-fn load_any<R: Read>(alloc: Global, name: &str, input: &mut R) -> Result<(BloomFilter, Form), Stop>
+fn load_any<R: Read>(alloc: Global, name: &str, input: &mut R) -> Result<(AnyFilter, Form), Stop>
     ensures keyed { IfOk result (λ read. IsKeyed read.0) }
     ensures form { IfOk result (λ read. IfSome (R.remaining input.old) (IsInForm read.1 read.0)) }
     ensures failed { IfErr result (IsUnread name.now) }
@@ -138,7 +213,8 @@ fn load_any<R: Read>(alloc: Global, name: &str, input: &mut R) -> Result<(BloomF
         Err(error) => return Err(unread(name, error)),
     };
     if start[..count].starts_with(b"fbloom\0") {
-        let filter = load_file(alloc, name, &start[..count], input)?;
+        let layout = layout_of(count, &start);
+        let filter = load_file(alloc, name, layout, &start[..count], input)?;
         Ok((filter, form_of(&start)))
     } else {
         let filter = load_text(alloc, name, &start[..count], input)?;
@@ -154,7 +230,8 @@ fn too_many_hashes(name: &str, hashes: u32, most: u32) -> Stop
 }
 
 /// The filter of a reader, to its end, and the form in which it lay. A reader whose first bytes are
-/// `fbloom` and 0 has a file of the form, and each other one JSON text.
+/// `fbloom` and 0 has a file of the form, which tells the filter's kind, and each other one JSON
+/// text, of a Bloom filter.
 ///
 /// A file of the form is read block by block, so that its bytes never lie in memory beside the
 /// words of its filter.
@@ -167,9 +244,9 @@ pub fn load<R: Read>(
     name: &str,
     most: u32,
     input: &mut R,
-) -> Result<(BloomFilter, Form), Stop>
+) -> Result<(AnyFilter, Form), Stop>
     ensures keyed { IfOk result (λ read. IsKeyed read.0) }
-    ensures few { IfOk result (λ read. read.0.hashes ≤ most) }
+    ensures few { IfOk result (λ read. (parts_of read.0).hashes ≤ most) }
     ensures form { IfOk result (λ read. IfSome (R.remaining input.old) (IsInForm read.1 read.0)) }
     ensures failed { IfErr result (IsUnloaded name.now most) }
     // It is told only of bytes that are refused, or whose filter has that many hashes.

@@ -6,26 +6,26 @@ ghost use Rattle.summaries_engine.specs.Named.{AreNamed, GivesNext, StopsUniting
 ghost use Rattle.summaries_engine.specs.Stops.{IsBad, Says};
 ghost use Rattle.summaries_engine.specs.Summaries.{UnitesShards};
 
+use crate::kinds::AnyFilter;
 use crate::stop::Stop;
 use crate::unions::{Difference, Refusal, unite};
 use anyhow::anyhow;
-use fastbloom::BloomFilter;
 use std::slice;
 
 /// Where filters lie under names.
 pub trait Shelf {
     ghost use Rattle.std.specs.Prelude.{ℕ, List};
-    ghost use Rattle.fastbloom.specs.Data.{DefaultFilter};
+    ghost use Rattle.summaries_engine.specs.declared.kinds.AnyFilter.{AnyFilter};
     ghost use Rattle.summaries_engine.specs.declared.stop.Stop.{Stop};
 
     /// Which filters lie under which names.
-    ghost has: { Self → List ℕ → DefaultFilter → Type 0 };
+    ghost has: { Self → List ℕ → AnyFilter → Type 0 };
 
     /// Why the filter of a name isn't had.
     ghost fails: { Self → List ℕ → Stop → Type 0 };
 
     /// The filter of this name.
-    fn load(&self, name: &str) -> Result<BloomFilter, Stop>
+    fn load(&self, name: &str) -> Result<AnyFilter, Stop>
         ensures keyed { IfOk result IsKeyed }
         ensures named { IfOk result (has self.now name.now) }
         ensures failed { IfErr result (fails self.now name.now) };
@@ -39,14 +39,14 @@ struct Shards<'a, 'n, S> {
 }
 
 impl<'a, 'n, S: Shelf> Iterator for Shards<'a, 'n, S> {
-    type Item = Result<BloomFilter, Stop>;
+    type Item = Result<AnyFilter, Stop>;
 
     ghost next_gives = { GivesNext S.has S.fails (λ shards. shards.shelf.now)
         (λ shards. map (λ name. name.now) shards.names.rest.now) };
 
     ghost remaining = { item_count (λ shards. shards.names.rest.now) };
 
-    fn next(&mut self) -> Option<Result<BloomFilter, Stop>> {
+    fn next(&mut self) -> Option<Result<AnyFilter, Stop>> {
         let name = self.names.next()?;
         Some(self.shelf.load(name))
     }
@@ -57,6 +57,7 @@ pub fn misfit(name: &str, first: &str, how: Difference) -> Stop
     ensures { IsBad (Says (misfit_text how name.now first.now)) result }
 {
     Stop::Bad(match how {
+        Difference::Kind => anyhow!("{name}: its kind isn't that of {first}"),
         Difference::Shape => anyhow!("{name}: its shape isn't that of {first}"),
         Difference::Key => anyhow!("{name}: its key isn't that of {first}"),
     })
@@ -65,8 +66,9 @@ pub fn misfit(name: &str, first: &str, how: Difference) -> Stop
 /// The union of the filters of these names. At most two are in memory at once.
 ///
 /// # Errors
-/// At the first name whose filter can't be loaded, or has another shape or key than the first.
-pub fn unite_named<S: Shelf>(shelf: &S, names: &[&str]) -> Result<BloomFilter, Stop>
+/// At the first name whose filter can't be loaded, or has another kind, shape or key than the
+/// first.
+pub fn unite_named<S: Shelf>(shelf: &S, names: &[&str]) -> Result<AnyFilter, Stop>
     // One filter lies under each name, and this is their union, by the theorem of shards.
     ensures whole { IfOk result (λ made. (filters : _)
         × AreNamed (S.has shelf.now) (map (λ name. name.now) names.now) filters

@@ -51,6 +51,13 @@ pub fn twice(name: &str) -> Stop
     Stop::Bad(anyhow!("{name}: it can be read only once"))
 }
 
+/// That a blocked filter has no JSON text.
+pub fn no_json() -> Stop
+    ensures { IsBad (Says (codes "a blocked filter isn't written as JSON")) result }
+{
+    Stop::Bad(anyhow!("a blocked filter isn't written as JSON"))
+}
+
 /// Why there is no shape.
 pub fn unshaped(error: FilterError) -> Stop
     ensures memory { error ≡ FilterError.Memory → IsMemory result }

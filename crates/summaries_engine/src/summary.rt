@@ -1,7 +1,8 @@
-//! The filter of all keys of inputs, filled by workers.
+//! The Bloom filter of all keys of inputs, filled by workers.
 ghost use Rattle.std.specs.Prelude.{◌≡◌, ◌<◌, ◌≤◌, ◌⊎◌, All, IfErr, IfOk, IsOkUnless, length, map};
 ghost use Rattle.std.specs.List.{concat};
 ghost use Rattle.bloom_parts.specs.Keys.{HasKey};
+ghost use Rattle.summaries_engine.specs.declared.kinds.AnyFilter.TheVariants.{Classic};
 ghost use Rattle.summaries_engine.specs.Answers.{IsKeyed};
 ghost use Rattle.summaries_engine.specs.Inputs.{StopsBuilding, SummarizesInputs};
 ghost use Rattle.summaries_engine.specs.Stops.{IsUnfilled};
@@ -54,9 +55,9 @@ fn unfilled(error: FilterError) -> Stop
     }
 }
 
-/// The filter of all keys of the inputs of these names, under the zero key. The byte `END` ends a
-/// key, and so does the end of an input. At most this many workers fill the filter. Each has a part
-/// of the keys, which `cut` gives it, and a filter of its own.
+/// The Bloom filter of all keys of the inputs of these names, under the zero key. The byte `END`
+/// ends a key, and so does the end of an input. At most this many workers fill the filter. Each has
+/// a part of the keys, which `cut` gives it, and a filter of its own.
 ///
 /// # Errors
 /// At the first input that can't be had or read, or has a key that is too long, out of memory, and
@@ -70,10 +71,10 @@ pub fn build<const END: u8, R: Threads, S: Inputs>(
     names: &[&str],
 ) -> Result<BloomFilter, Stop>
     requires { 0 < workers }
-    ensures summary { IfOk result (SummarizesInputs (S.has inputs.now) END
-        (map (λ name. name.now) names.now) shape) }
+    ensures summary { IfOk result (λ filter. SummarizesInputs (S.has inputs.now) END
+        (map (λ name. name.now) names.now) shape (Classic filter)) }
     ensures key { IfOk result (λ filter. HasKey filter.hasher 0 0) }
-    ensures keyed { IfOk result IsKeyed }
+    ensures keyed { IfOk result (λ filter. IsKeyed (Classic filter)) }
     // Why there is none.
     ensures stops { IfErr result (StopsBuilding (S.has inputs.now) (S.fails inputs.now) END
         (map (λ name. name.now) names.now)) }

@@ -1,17 +1,21 @@
 //! Filters of shards, united.
-ghost use Rattle.std.specs.Prelude.{◌≡◌, IfOk, IfErr, OnOk, OnErr, Err};
+ghost use Rattle.std.specs.Prelude.{◌≡◌, IfOk, IfErr, OnOk, OnErr};
 ghost use Rattle.std.specs.Iterator.{IsFiniteIterable};
 ghost use Rattle.std.specs.Iterator.Runs.{WholeRun};
-ghost use Rattle.fastbloom.specs.Filter.{SameShape, Unites};
-ghost use Rattle.summaries_engine.specs.Refusals.{RefusesGiven};
-ghost use Rattle.summaries_engine.specs.Summaries.{HaveSameKey, UnitesGiven};
+ghost use Rattle.summaries_engine.specs.Kinds.{UnitesParts};
+ghost use Rattle.summaries_engine.specs.Refusals.{DiffersBy, Fits, RefusesGiven};
+ghost use Rattle.summaries_engine.specs.Summaries.{UnitesGiven};
 
+use crate::kinds::AnyFilter;
+use fastbloom::DefaultHasher;
+use fastbloom::blocked_laws::test_of_hash;
 use fastbloom::laws::{equality_of_filters, fill_of_any_cutting, filled_contains};
-use fastbloom::{BloomFilter, DefaultHasher};
 
 /// How a filter differs from those with which it was to be united.
 #[derive(Clone, Copy)]
 pub enum Difference {
+    /// One of them is blocked, and the other isn't.
+    Kind,
     /// The numbers of words or of hashes differ.
     Shape,
     /// The keys of their hashers differ.
@@ -27,18 +31,18 @@ pub enum Refusal<E> {
     Differs(usize, Difference),
 }
 
-/// Whether a filter has the shape and the key of the first.
+/// Whether a filter has the kind, the shape and the key of the first.
 ///
 /// # Errors
-/// `Shape` where the shapes differ, and else `Key` where the keys do.
-pub fn check_fit(first: &BloomFilter, other: &BloomFilter) -> Result<(), Difference>
-    ensures fits { OnOk result (SameShape first.now other.now) }
-    ensures key { OnOk result (HaveSameKey first.now other.now) }
-    ensures shape { result ≡ Err Difference.Shape → ¬ SameShape first.now other.now }
-    ensures other { result ≡ Err Difference.Key → ¬ HaveSameKey first.now other.now }
-    // The shape comes first.
-    ensures order { result ≡ Err Difference.Key → SameShape first.now other.now }
+/// `Kind` where the kinds differ, else `Shape` where the shapes do, and else `Key` where the keys
+/// do.
+pub fn check_fit(first: &AnyFilter, other: &AnyFilter) -> Result<(), Difference>
+    ensures fits { OnOk result (Fits first.now other.now) }
+    ensures differs { IfErr result (DiffersBy first.now other.now) }
 {
+    if !first.same_kind(other) {
+        return Err(Difference::Kind);
+    }
     if !first.same_shape(other) {
         return Err(Difference::Shape);
     }
@@ -48,19 +52,16 @@ pub fn check_fit(first: &BloomFilter, other: &BloomFilter) -> Result<(), Differe
     Ok(())
 }
 
-/// Sets each bit that is set in a shard's filter, if its shape and key are the same.
+/// Sets each bit that is set in a shard's filter, if its kind, shape and key are the same.
 ///
 /// # Errors
-/// `Shape` where the shapes differ, and else `Key` where the keys do.
-pub fn add(whole: &mut BloomFilter, shard: &BloomFilter) -> Result<(), Difference>
-    ensures unites { OnOk result (Unites whole.old shard.now whole.new) }
-    ensures fits { OnOk result (SameShape whole.old shard.now) }
-    ensures key { OnOk result (HaveSameKey whole.old shard.now) }
+/// `Kind` where the kinds differ, else `Shape` where the shapes do, and else `Key` where the keys
+/// do.
+pub fn add(whole: &mut AnyFilter, shard: &AnyFilter) -> Result<(), Difference>
+    ensures unites { OnOk result (UnitesParts whole.old shard.now whole.new) }
+    ensures fits { OnOk result (Fits whole.old shard.now) }
     // A refusal leaves the whole as it was.
-    ensures shape { result ≡ Err Difference.Shape → ¬ SameShape whole.old shard.now }
-    ensures other { result ≡ Err Difference.Key → ¬ HaveSameKey whole.old shard.now }
-    // The shape comes first.
-    ensures order { result ≡ Err Difference.Key → SameShape whole.old shard.now }
+    ensures differs { IfErr result (DiffersBy whole.old shard.now) }
     ensures kept { OnErr result (whole.new ≡ whole.old) }
 {
     check_fit(whole, shard)?;
@@ -72,11 +73,11 @@ pub fn add(whole: &mut BloomFilter, shard: &BloomFilter) -> Result<(), Differenc
 ///
 /// # Errors
 /// `Unread` with the first error that the iterator gives, and `Differs` at the first filter of
-/// another shape or key, whichever comes first.
-pub fn unite<E: Drop, I: IntoIterator<Item = Result<BloomFilter, E>>>(
-    first: BloomFilter,
+/// another kind, shape or key, whichever comes first.
+pub fn unite<E: Drop, I: IntoIterator<Item = Result<AnyFilter, E>>>(
+    first: AnyFilter,
     others: I,
-) -> Result<BloomFilter, Refusal<E>>
+) -> Result<AnyFilter, Refusal<E>>
     // The iterator ends.
     requires { IsFiniteIterable
         I.into_iter_gives I.IntoIter.can_next I.IntoIter.remaining others }
@@ -90,6 +91,7 @@ pub fn unite<E: Drop, I: IntoIterator<Item = Result<BloomFilter, E>>>(
     equality_of_filters::<DefaultHasher>();
     fill_of_any_cutting::<DefaultHasher>();
     filled_contains::<DefaultHasher>();
+    test_of_hash();
     let mut whole = first;
     let mut number = 1usize;
     'shards: for shard in others {

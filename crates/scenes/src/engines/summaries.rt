@@ -6,10 +6,10 @@ use super::faulty::{
     Writing,
 };
 use crate::telling::{has_text, tell_row};
-use fastbloom::{BloomFilter, Shape};
+use fastbloom::Shape;
 use std::alloc::Global;
 use std::thread::Threads;
-use summaries_engine::{Inputs, Stop, Told, ask, build, load, put, put_file};
+use summaries_engine::{AnyFilter, Inputs, Stop, Told, ask, build, load, no_json, put, put_file};
 
 // The files of filters of 64 bits and two hashes, of the key "a", and of "a" and "b". Their words
 // were worked out by another program, from the papers on SipHash and on the multiply and shift.
@@ -90,21 +90,22 @@ enum Act {
 }
 
 // The filter of the keys of two inputs.
-fn built<R: Threads + AllocGlobal>(rt: &R, odd: &Odd) -> Result<BloomFilter, Stop> {
-    match Shape::new(64, 2) {
-        Ok(shape) => build::<10, _, _>(rt, rt.alloc(), shape, 2, odd, &["first", "odd"]),
-        Err(_refusal) => Err(Stop::Memory),
-    }
+fn built<R: Threads + AllocGlobal>(rt: &R, odd: &Odd) -> Result<AnyFilter, Stop> {
+    let Ok(shape) = Shape::new(64, 2) else {
+        return Err(Stop::Memory);
+    };
+    let filter = build::<10, _, _>(rt, rt.alloc(), shape, 2, odd, &["first", "odd"])?;
+    Ok(AnyFilter::Classic(filter))
 }
 
 // The filter of an input.
-fn loaded(alloc: Global, odd: &Odd) -> Result<BloomFilter, Stop> {
+fn loaded(alloc: Global, odd: &Odd) -> Result<AnyFilter, Stop> {
     let (filter, _form) = load(alloc, "odd", 64, &mut odd.open("odd")?)?;
     Ok(filter)
 }
 
 // Writes the file of a filter, if it was made.
-fn write_made(made: Result<BloomFilter, Stop>, output: &mut Sink) -> Result<(), Stop> {
+fn write_made(made: Result<AnyFilter, Stop>, output: &mut Sink) -> Result<(), Stop> {
     match made {
         Ok(filter) => put_file(&filter, output).map_err(Stop::Output),
         Err(stop) => Err(stop),
@@ -116,7 +117,7 @@ fn carry_out<R: Threads + AllocGlobal>(
     rt: &R,
     act: Act,
     odd: &Odd,
-    filter: &BloomFilter,
+    filter: &AnyFilter,
     output: &mut Sink,
 ) -> Result<(), Stop>
     requires { IsKeyed filter.now }
@@ -126,7 +127,10 @@ fn carry_out<R: Threads + AllocGlobal>(
         Act::Ask => ask::<10, _, _>(rt.alloc(), filter, Told::Found, odd, &["odd"], output),
         Act::Load => write_made(loaded(rt.alloc(), odd), output),
         Act::Put => put_file(filter, output).map_err(Stop::Output),
-        Act::PutText => put(rt.alloc(), filter, output),
+        Act::PutText => match filter {
+            AnyFilter::Classic(filter) => put(rt.alloc(), filter, output),
+            AnyFilter::Blocked(_) => Err(no_json()),
+        },
     }
 }
 
@@ -259,7 +263,7 @@ const ACTS: &'static [Row] = &[
 ];
 
 // Whether an act over the first bytes of its input writes and tells what its row says.
-fn is_right<R: Threads + AllocGlobal>(rt: &R, row: &Row, end: usize, filter: &BloomFilter) -> bool
+fn is_right<R: Threads + AllocGlobal>(rt: &R, row: &Row, end: usize, filter: &AnyFilter) -> bool
     requires { IsKeyed filter.now }
 {
     let (act, input, reading, writing, output, text) = *row;
@@ -276,7 +280,7 @@ fn is_right<R: Threads + AllocGlobal>(rt: &R, row: &Row, end: usize, filter: &Bl
 
 // The same for each beginning of its input behind which a read may fail: any, or the whole, where
 // keys are written before it or no read fails.
-fn are_right<R: Threads + AllocGlobal>(rt: &R, row: &Row, filter: &BloomFilter) -> bool
+fn are_right<R: Threads + AllocGlobal>(rt: &R, row: &Row, filter: &AnyFilter) -> bool
     requires { IsKeyed filter.now }
 {
     let (_act, input, _reading, _writing, output, text) = *row;

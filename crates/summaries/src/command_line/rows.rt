@@ -1,7 +1,8 @@
 //! The arguments of each command.
 
 use super::{
-    ABSENT, BITS, FILE, FILTER, HASHES, ITEMS, JSON, MOST_HASHES, OTHER, RATE, WORKERS, ZERO,
+    ABSENT, BITS, BLOCKED, FILE, FILTER, HASHES, ITEMS, JSON, MOST_HASHES, OTHER, RATE, WORKERS,
+    ZERO,
 };
 use clap::ArgAction;
 use clap::builder::ValueParser;
@@ -110,6 +111,13 @@ const BUILD: &'static [Row] = &[
         &[],
         &[],
     ),
+    (
+        BLOCKED,
+        Kind::Flag,
+        "All bits of a key lie in 64 bytes: quicker where the filter is large",
+        &[],
+        &[JSON],
+    ),
     JSON_ROW,
     ZERO_ROW,
     FILE_ROW,
@@ -121,7 +129,7 @@ const UNITE: &'static [Row] = &[
     (
         FILTER,
         Kind::Words(ArgAction::Append, 1, usize::MAX),
-        "Files with filters of one shape and key; - is standard input",
+        "Files with filters of one kind, shape and key; - is standard input",
         &[],
         &[],
     ),
@@ -146,7 +154,7 @@ const COMPARE: &'static [Row] = &[
     (
         OTHER,
         WORD,
-        "A file with another filter of the same shape and key; - is standard input",
+        "A file with another filter of the same kind, shape and key; - is standard input",
         &[],
         &[],
     ),

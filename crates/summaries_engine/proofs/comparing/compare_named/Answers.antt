@@ -1,5 +1,5 @@
 use Rattle.std.proofs.Common.{◌≡◌, Err, rules}
-use Rattle.summaries_engine.proofs.ComparingLemmas.{differs-by, differs-second, unloaded-first, unloaded-second}
+use Rattle.summaries_engine.proofs.ComparingLemmas.{differs-second, unloaded-first, unloaded-second}
 use Rattle.summaries_engine.proofs.comparing.compare_named.Goals as goal
 
 -- the first filter couldn't be loaded
@@ -24,6 +24,4 @@ pub returns-in-Err-clause-stops : goal.returns-in-Err-clause-stops
 returns-in-Err-clause-stops g c =
     differs-second (g.S.Shelf.has c.args.shelf.now) (g.S.Shelf.fails c.args.shelf.now)
     c.args.one.now c.args.other.now _ c.in_ok-first.ensures.named _ _ c.in_ok-second.ensures.named
-    (differs-by _ _ _ c.in-Err.is c.check_fit.ensures.shape c.check_fit.ensures.other
-    c.check_fit.ensures.order)
-    c.misfit.ensures
+    c.in-Err.ensures.differs c.misfit.ensures

@@ -1,0 +1,164 @@
+-- Filters of either kind that were filled with hashes.
+use Rattle.std.proofs.Common.{◌≡◌, inl, inr, ℕ, ◌*◌, ◌/◌, Bool, true, false, ◌||◌, List, [], ◌∷◌, ◌++◌, length, refl, sym, ◌∙◌, ap, arith}
+use Rattle.std.proofs.lemmas.Bool.{or_cases}
+use Rattle.std.proofs.lemmas.List.Elements.{Contains-append_right}
+use Rattle.std.proofs.lemmas.List.Folds.{list_any-append, list_any_at}
+use Rattle.std.specs.List.{Contains, list_any}
+use Rattle.bloom_parts.specs.Content.{content, AreWords}
+use Rattle.bloom_parts.specs.declared.hasher.CloneBuildHasher.{CloneBuildHasher}
+use Rattle.bloom_parts.specs.declared.hasher.sip.RandomDefaultHasher.{RandomDefaultHasher}
+use Rattle.bloom_plain.specs.declared.file.layout.Layout.{Layout}
+use Rattle.bloom_plain.specs.declared.file.layout.Layout.TheVariants.{Whole, Lines}
+use Rattle.fastbloom.specs.Fill.{AnyCuttingLaw, FilledContainsLaw, HaveSameHashes, hashes_of, positions_of_all, words_of}
+use Rattle.fastbloom.specs.Laws.{EqualContentLaw, EqualityLaw}
+use Rattle.fastbloom.specs.Lines.{LineSubsetLaw, are_in_line, line_positions}
+use Rattle.fastbloom.specs.declared.parallel.shape.Shape.{Shape}
+use Rattle.fastbloom.proofs.FillLemmas.{positions_of_all-append}
+use Rattle.summaries_engine.specs.declared.kinds.AnyFilter.{AnyFilter}
+use Rattle.summaries_engine.specs.declared.kinds.AnyFilter.TheVariants.{Classic, Blocked}
+use Rattle.summaries_engine.specs.Kinds.{HaveSameKind, UnitesParts, has_hash, layout_of, parts_of}
+use Rattle.summaries_engine.specs.Summaries.{IsFilled}
+
+-- the hashers of default filters
+abbrev pub Builder : Type 0
+Builder = CloneBuildHasher RandomDefaultHasher
+
+-- the positions of hashes in filters of this layout and shape
+abbrev pub positions_in : Layout → Shape → List ℕ → ℕ → Bool
+positions_in Whole shape hashes p =
+    positions_of_all (64 * words_of shape) (hashes_of shape) hashes p
+positions_in Lines shape hashes p =
+    list_any (λ hash. line_positions (words_of shape / 8) (hashes_of shape) hash p) hashes
+
+-- no hash has positions
+pub positions-none : (layout : Layout) (shape : Shape) (p : ℕ)
+    → positions_in layout shape [] p ≡ false
+positions-none Whole shape p = refl
+positions-none Lines shape p = refl
+
+-- the positions of two lists of hashes, one after the other
+pub positions-append : (layout : Layout) (shape : Shape) (xs ys : List ℕ) (p : ℕ)
+    → positions_in layout shape (xs ++ ys) p
+    ≡ (positions_in layout shape xs p || positions_in layout shape ys p)
+positions-append Whole shape xs ys p =
+    positions_of_all-append (64 * words_of shape) (hashes_of shape) xs ys p
+positions-append Lines shape xs ys p =
+    list_any-append (λ hash. line_positions (words_of shape / 8) (hashes_of shape) hash p) xs ys
+
+-- what is said of a filter of either kind that was filled
+pub record HasFilled (shape : Shape) (hashes : List ℕ) (f : AnyFilter) : Type 0 where
+  pub words : length (parts_of f).words ≡ words_of shape
+  pub num_hashes : (parts_of f).hashes ≡ hashes_of shape
+  pub bits : (p : ℕ) → content (parts_of f).words p ≡ positions_in (layout_of f) shape hashes p
+
+pub filled-is : (shape : Shape) (hashes : List ℕ) (f : AnyFilter) → IsFilled shape hashes f
+    → HasFilled shape hashes f
+filled-is shape hashes (Classic f) filled = record {
+  words = filled.words;
+  num_hashes = filled.num_hashes;
+  bits = filled.bits;
+}
+filled-is shape hashes (Blocked f) filled = record {
+  words = filled.words;
+  num_hashes = filled.num_hashes;
+  bits = filled.bits;
+}
+
+pub filled-from : (shape : Shape) (hashes : List ℕ) (f : AnyFilter) → HasFilled shape hashes f
+    → IsFilled shape hashes f
+filled-from shape hashes (Classic f) has = record {
+  words = has.words;
+  num_hashes = has.num_hashes;
+  bits = has.bits;
+}
+filled-from shape hashes (Blocked f) has = record {
+  words = has.words;
+  num_hashes = has.num_hashes;
+  bits = has.bits;
+}
+
+-- a union adds the hashes of the other
+pub filled-union : (shape : Shape) (old other new : AnyFilter) (hashes others : List ℕ)
+    → IsFilled shape hashes old → IsFilled shape others other → HaveSameKind old other
+    → UnitesParts old other new → IsFilled shape (hashes ++ others) new
+filled-union shape old other new hashes others filled added kind united =
+    let one = filled-is shape hashes old filled in
+    let two = filled-is shape others other added in
+    let layout = layout_of old in
+    filled-from shape (hashes ++ others) new (record {
+      words = sym united.parts.shape.words ∙ one.words;
+      num_hashes = sym united.parts.shape.hashes ∙ one.num_hashes;
+      bits = λ p. united.parts.bits p
+          ∙ ap (λ b. b || content (parts_of other).words p) (one.bits p)
+          ∙ ap (λ b. positions_in layout shape hashes p || b)
+          (two.bits p ∙ ap (λ l. positions_in l shape others p) (sym kind))
+          ∙ sym (positions-append layout shape hashes others p)
+          ∙ ap (λ l. positions_in l shape (hashes ++ others) p) united.kind;
+    })
+
+-- two truth values that imply each other are equal
+both-ways : (a b : Bool) → (a ≡ true → b ≡ true) → (b ≡ true → a ≡ true) → a ≡ b
+both-ways true b to from = sym (to refl)
+both-ways false true to from = from refl
+both-ways false false to from = refl
+
+-- a test that one of these passes is passed by one of those among which these are
+any-among : (test : ℕ → Bool) (xs ys : List ℕ) → ((h : ℕ) → Contains xs h → Contains ys h)
+    → list_any test xs ≡ true → list_any test ys ≡ true
+any-among test [] ys among on = cc
+any-among test (x ∷ xs) ys among on =
+    elim (or_cases (test x) (list_any test xs) on) [
+      | inl here ↦ let there = among x (0, omega arith, refl) in
+          list_any_at test ys there.0 x there.1 (ap test there.2 ∙ here)
+      | inr later ↦ any-among test xs ys
+          (λ h given. among h (Contains-append_right (x ∷ []) xs h given)) later
+    ]
+
+-- the same hashes pass a test, in whatever order and number they come
+any-same : (test : ℕ → Bool) (hashes others : List ℕ) → HaveSameHashes hashes others
+    → list_any test hashes ≡ list_any test others
+any-same test hashes others same =
+    both-ways (list_any test hashes) (list_any test others)
+    (any-among test hashes others (λ h. (same h).0))
+    (any-among test others hashes (λ h. (same h).1))
+
+-- filters of one kind that were filled with the same hashes are equal
+pub filled-alike : EqualityLaw Builder → EqualContentLaw Builder → AnyCuttingLaw Builder
+    → (shape : Shape) (f g : AnyFilter) (hashes others : List ℕ)
+    → AreWords (parts_of f).words → AreWords (parts_of g).words → HaveSameKind g f
+    → IsFilled shape hashes f → IsFilled shape others g → HaveSameHashes hashes others
+    → ((parts_of f).words ≡ (parts_of g).words) × ((parts_of f).hashes ≡ (parts_of g).hashes)
+filled-alike equality contents cutting shape (Classic f) (Classic g) hashes others f_words g_words
+    kind one other same =
+    (equality f g).0 (cutting shape f g hashes others f_words g_words one other same)
+filled-alike equality contents cutting shape (Classic f) (Blocked g) hashes others f_words g_words
+    kind one other same = cc
+filled-alike equality contents cutting shape (Blocked f) (Classic g) hashes others f_words g_words
+    kind one other same = cc
+filled-alike equality contents cutting shape (Blocked f) (Blocked g) hashes others f_words g_words
+    kind one other same =
+    (equality f g).0
+    ((contents f g f_words g_words (record {
+      words = one.words ∙ sym other.words;
+      hashes = one.num_hashes ∙ sym other.num_hashes;
+    })).1
+    (λ p. one.bits p
+    ∙ any-same (λ hash. line_positions (words_of shape / 8) (hashes_of shape) hash p) hashes others
+    same
+    ∙ sym (other.bits p)))
+
+-- a filled filter contains each of its hashes
+pub filled-contains : FilledContainsLaw Builder → LineSubsetLaw → (shape : Shape) (f : AnyFilter)
+    (hashes : List ℕ) (hash : ℕ) → IsFilled shape hashes f → Contains hashes hash
+    → has_hash f hash ≡ true
+filled-contains contains_all subset shape (Classic f) hashes hash filled given =
+    contains_all shape f hashes hash filled given
+filled-contains contains_all subset shape (Blocked f) hashes hash filled given =
+    let lines = words_of shape / 8 in
+    let k = hashes_of shape in
+    ap (λ w. are_in_line (w / 8) f.hashes hash (content f.words)) filled.words
+    ∙ ap (λ h. are_in_line lines h hash (content f.words)) filled.num_hashes
+    ∙ (subset lines k hash (content f.words)).1
+    (λ p here. filled.bits p
+    ∙ list_any_at (λ h. line_positions lines k h p) hashes given.0 hash given.1
+    (ap (λ h. line_positions lines k h p) given.2 ∙ here))

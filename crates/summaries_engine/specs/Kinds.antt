@@ -1,0 +1,50 @@
+-- Filters of either kind. A Bloom filter and a blocked one have the same parts: words, a number of
+-- hashes and a hasher. The kinds differ in where the positions of a hash lie. This project's own.
+use Rattle.std.specs.Prelude.{◌≡◌, ℕ, Bool, List}
+use Rattle.bloom_plain.specs.declared.file.layout.Layout.{Layout}
+use Rattle.bloom_plain.specs.declared.file.layout.Layout.TheVariants.{Whole, Lines}
+use Rattle.fastbloom.specs.Blocked.{contains_in_line}
+use Rattle.fastbloom.specs.BlockedFile.{IsLineFileOf, line_file_of}
+use Rattle.fastbloom.specs.Data.{DefaultFilter}
+use Rattle.fastbloom.specs.File.{IsFileOf, file_of}
+use Rattle.fastbloom.specs.Filter.{SameShape, Unites, contains}
+use Rattle.summaries_engine.specs.declared.kinds.AnyFilter.{AnyFilter}
+use Rattle.summaries_engine.specs.declared.kinds.AnyFilter.TheVariants.{Classic, Blocked}
+
+-- the parts of a filter, whatever its kind
+abbrev pub parts_of : AnyFilter → DefaultFilter
+parts_of (Classic f) = f
+parts_of (Blocked f) = f
+
+-- the layout of a filter's words
+abbrev pub layout_of : AnyFilter → Layout
+layout_of (Classic f) = Whole
+layout_of (Blocked f) = Lines
+
+-- whether all positions of a hash are set
+abbrev pub has_hash : AnyFilter → ℕ → Bool
+has_hash (Classic f) hash = contains f hash
+has_hash (Blocked f) hash = contains_in_line f hash
+
+-- the file of a filter, which is sealed
+abbrev pub file_of_kind : AnyFilter → List ℕ
+file_of_kind (Classic f) = file_of f
+file_of_kind (Blocked f) = line_file_of f
+
+-- the bytes are a file of the filter, with the right seal or none
+abbrev pub IsFileOfKind : List ℕ → AnyFilter → Type 0
+IsFileOfKind bytes (Classic f) = IsFileOf bytes f
+IsFileOfKind bytes (Blocked f) = IsLineFileOf bytes f
+
+-- two filters are of one kind
+abbrev pub HaveSameKind : AnyFilter → AnyFilter → Type 0
+HaveSameKind f g = layout_of f ≡ layout_of g
+
+-- two filters have as many words and as many hashes
+abbrev pub HaveSameShape : AnyFilter → AnyFilter → Type 0
+HaveSameShape f g = SameShape (parts_of f) (parts_of g)
+
+-- a union took the old filter to the new, which is of the same kind
+pub record UnitesParts (old other new : AnyFilter) : Type 0 where
+  pub kind : HaveSameKind old new
+  pub parts : Unites (parts_of old) (parts_of other) (parts_of new)
