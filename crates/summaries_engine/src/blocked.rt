@@ -37,7 +37,7 @@ pub fn blocked_with_bits(
 }
 
 /// The empty blocked filter that the library's builders make for this many keys, where 0 counts as
-/// 1, at this rate of mistakes, under the zero key.
+/// 1, at this rate of false positives, under the zero key.
 ///
 /// # Errors
 /// `SizeOverflow` for 2^64 bits or more, `TooManyWords` for more than 2^58 - 8 words, and `Memory`
