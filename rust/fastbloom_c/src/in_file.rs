@@ -140,6 +140,7 @@ fn read_units<U: Unit>(
         .try_reserve_exact(sure / U::WORDS)
         .map_err(|_| Error::Memory)?;
     while left > 0 {
+        // (every part but the last has whole units)
         let count = AT_ONCE.min(left);
         let bytes = &mut buffer[..8 * count];
         if fill(input, bytes)? < bytes.len() {
