@@ -60,11 +60,14 @@ fn size_of(matches: &ArgMatches) -> Result<Size, Stop> {
 
 // The shape of a Bloom filter of a size.
 fn shape_of(size: Size) -> Result<Shape, Stop> {
-    let shape = match size {
+    let made = match size {
         Size::Keys(keys, rate) => shape_for(keys, rate),
         Size::Bits(bits, hashes) => Shape::new(bits, hashes),
     };
-    shape.map_err(unshaped)
+    match made {
+        Ok(shape) => Ok(shape),
+        Err(error) => Err(unshaped(error)),
+    }
 }
 
 // The empty blocked filter of a size.
