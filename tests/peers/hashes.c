@@ -1,5 +1,5 @@
 /* What inserts and look-ups by hash cost in a classic and a blocked filter: `hashes [KEYS [ROUNDS
- * [THREADS]]]`.
+ * [THREADS [WORD]]]]`, those whose library has the word in its name.
  *
  * Both have ten bits a key and seven hashes, and get the same hashes: the finish of splitmix64 of
  * the numbers from 0 on. Each round inserts all keys into an empty filter, looks each of them up
@@ -186,6 +186,7 @@ int main(int argc, char **argv) {
     uint64_t keys = argc > 1 ? strtoull(argv[1], NULL, 10) : 1000000;
     uint64_t rounds = argc > 2 ? strtoull(argv[2], NULL, 10) : 3;
     size_t threads = argc > 3 ? (size_t)strtoull(argv[3], NULL, 10) : 4;
+    const char *word = argc > 4 ? argv[4] : "";
     struct row rows[] = {
         {"classic", "insert", insert, 0, 0, 0},
         {"classic", "hit", look_up, 0, 0, 0},
@@ -209,6 +210,7 @@ int main(int argc, char **argv) {
         for (size_t i = 0; i < sizeof rows / sizeof rows[0]; i++) {
             struct row *row = &rows[i];
             uint64_t found = 0;
+            if (strstr(row->library, word) == NULL) continue;
             if (strcmp(row->call, "insert") == 0)
                 memset(filter.words, 0, filter.num_words * 8);
             double spent = strstr(row->library, "shared") != NULL
@@ -217,11 +219,13 @@ int main(int argc, char **argv) {
             keep(row, spent, found);
         }
     printf("%-14s %-6s %9s %11s %9s\n", "library", "call", "keys", "nanoseconds", "true");
-    for (size_t i = 0; i < sizeof rows / sizeof rows[0]; i++)
+    bool all_found = true;
+    for (size_t i = 0; i < sizeof rows / sizeof rows[0]; i++) {
+        if (strstr(rows[i].library, word) == NULL) continue;
         printf("%-14s %-6s %9" PRIu64 " %11.2f %9" PRIu64 "\n", rows[i].library, rows[i].call, keys,
                rows[i].best / (double)keys, rows[i].found);
-    bool found = rows[1].found == keys && rows[4].found == keys && rows[7].found == keys
-        && rows[10].found == keys;
+        if (strcmp(rows[i].call, "hit") == 0 && rows[i].found != keys) all_found = false;
+    }
     free(filter.words);
-    return found ? 0 : 1;
+    return all_found ? 0 : 1;
 }
