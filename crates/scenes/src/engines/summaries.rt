@@ -46,6 +46,15 @@ const CHANGED: &[u8] = b"fbloom\01\x02\0\0\0\0\0\0\0\
     \0\0\0\0\0\0\0\0\0\0\0\0\0\0\0\0\
     \0\0\x01\x10\0\0\0\x01";
 
+// The file of the blocked filter of one line and two hashes with the key "a", by the model of
+// `bin/blocked-model`.
+const LINES: &[u8] = b"fbloom\01\x02\0\0\0\0\0\0\0\x08\0\0\0\0\0\0\0\
+    \0\0\0\0\0\0\0\0\0\0\0\0\0\0\0\0a/0v\xc1\xee\xc9\x18\
+    \x01\0\0\0\0\0\0\0\0\0\0\0\0\0\0\0\0\0\0\0\0\0\0\0\
+    \0\0\0\0\0\0\0\0\0\0\0\0\0\0\0\0\0\x02\0\x10\0\0\0\0\
+    \0\0\0\0\0\0\0\0\0\0\0\0\0\0\0\0\0\0\0\0\0\0\0\0\
+    \0\0\0\0\0\0\0\0";
+
 const TEXT: &[u8] =
     b"{\"bits\":{\"bits\":[268500992]},\"num_hashes_minus_one\":1,\"k0\":0,\"k1\":0}\n";
 
@@ -178,6 +187,16 @@ const ACTS: &'static [Row] = &[
     (Act::Load, A, FAILING, ROOMY, b"", UNREAD),
     (Act::Load, BOTH, WHOLE, ROOMY, BOTH, ""),
     (Act::Load, TEXT, SLOW, NARROW, A, ""),
+    (Act::Load, LINES, SLOW, NARROW, LINES, ""),
+    (Act::Load, LINES, FAILING, ROOMY, b"", UNREAD),
+    (
+        Act::Load,
+        LINES,
+        WHOLE,
+        UNFLUSHED,
+        LINES,
+        "the filter can't be written: broken pipe",
+    ),
     (
         Act::Load,
         CUT,
