@@ -1,17 +1,17 @@
 -- What calls on blocked filters do, at values from outside: cases that hold, and cases that differ
 -- from one of these in one thing and don't hold. In one line hash 1 has the positions 162 and 13,
 -- so that with two hashes it sets the words 8192 and 17179869184.
-use Rattle.std.proofs.Common.{◌≡◌, ◌≤◌, ◌<◌, ◌+◌, ◌^◌, ℕ, Bool, true, false, ◌||◌, ◌&&◌, not, List, [], ◌∷◌, length, nat_lt, slice_index, refl, ap, sym, ◌∙◌, arith, lit<}
+use Rattle.std.proofs.Common.{◌≡◌, ◌≤◌, ◌<◌, ◌+◌, ◌^◌, ℕ, Bool, true, false, ◌||◌, ◌&&◌, not, [], ◌∷◌, nat_lt, slice_index, refl, ap, sym, ◌∙◌, arith, lit<}
 use Rattle.std.proofs.lemmas.Bool.{both_ways, le-ltb}
 use Rattle.bloom_parts.specs.Chain.{chain}
 use Rattle.bloom_parts.specs.Content.{content}
 use Rattle.bloom_parts.specs.Places.{positions, are_in}
 use Rattle.bloom_parts.proofs.PublishedLemmas.{content-zeros, content-past}
-use Rattle.bloom_plain.specs.Filter.{Filter, SameShape}
+use Rattle.bloom_plain.specs.Filter.{Filter}
 use Rattle.bloom_plain.proofs.CaseLemmas.{alike_below, content-case}
 use Rattle.bloom_blocked.specs.Lines.{line_positions, are_in_line}
 use Rattle.bloom_blocked.specs.Many.{positions_of_all, all_are_in_lines, after_first, TellsFound, TellsNew}
-use Rattle.bloom_blocked.specs.Blocked.{num_lines_of, contains_in_line, positions_in_line, InsertsInLine, InsertsAllInLines, InsertsItemsInLines}
+use Rattle.bloom_blocked.specs.Blocked.{num_lines_of, contains_in_line, InsertsInLine, InsertsAllInLines, InsertsItemsInLines}
 use Rattle.bloom_blocked.proofs.BitLemmas.{bits-next, word-where}
 use Rattle.bloom_blocked.proofs.PositionLemmas.{line_range_law}
 

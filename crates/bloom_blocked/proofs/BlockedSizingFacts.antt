@@ -1,5 +1,5 @@
 -- Sizes in lines, numbers of hashes and refusals: cases at both sides of each bound.
-use Rattle.std.proofs.Common.{◌≡◌, ℕ, ◌-◌, ◌^◌, Some, None, refl}
+use Rattle.std.proofs.Common.{◌≡◌, ◌-◌, ◌^◌, Some, None, refl}
 use Rattle.bloom_parts.specs.declared.error.FilterError.TheVariants.{ZeroBits, TooManyWords, SizeOverflow}
 use Rattle.bloom_blocked.specs.declared.error.LinesError.TheVariants as lines
 use Rattle.bloom_blocked.specs.BlockedSizing.{lines_for, line_words_for, bits_in_lines, hashes_in_lines, line_bits_refusal, line_size_refusal}

@@ -1,5 +1,5 @@
 -- What builders of blocked filters make.
-use Rattle.std.proofs.Common.{◌≡◌, ℕ, ◌^◌, max, List, replicate, Option, Some, sym, ◌∙◌, ap, subst}
+use Rattle.std.proofs.Common.{◌≡◌, ℕ, ◌^◌, max, List, replicate, Option, Some, ◌∙◌, ap, subst}
 use Rattle.std.proofs.Math.Nat.{max_comm}
 use Rattle.std.proofs.lemmas.Bool.{le-leb}
 use Rattle.std.specs.Iterator.Runs.{WholeRun}

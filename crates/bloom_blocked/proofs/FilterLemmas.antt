@@ -8,7 +8,7 @@ use Rattle.std.specs.Iterator.{Yields}
 use Rattle.std.specs.Iterator.Runs.{WholeRun}
 use Rattle.std.proofs.iter.runs.Made.{run_of_exit}
 use Rattle.bloom_parts.specs.Content.{content}
-use Rattle.bloom_plain.specs.Filter.{Filter, SameShape}
+use Rattle.bloom_plain.specs.Filter.{Filter}
 use Rattle.bloom_blocked.specs.Lines.{line_positions}
 use Rattle.bloom_blocked.specs.Many.{positions_of_all}
 use Rattle.bloom_blocked.specs.Blocked.{num_lines_of, InsertsInLine, InsertsAllInLines, InsertsItemsInLines, QueuesInLines}

@@ -1,16 +1,14 @@
 -- The laws of blocked filters.
-use Rattle.std.proofs.Common.{◌≡◌, ℕ, ◌/◌, Bool, true, false, ◌||◌, ◌&&◌, List, [], ◌∷◌, length, refl, sym, ◌∙◌, ap, subst, inl, inr, arith}
+use Rattle.std.proofs.Common.{◌≡◌, ℕ, ◌/◌, true, ◌&&◌, List, [], ◌∷◌, length, sym, ◌∙◌, ap, subst, inl, inr, arith}
 use Rattle.std.proofs.lemmas.Bool.{or_cases, or_left, or_right}
-use Rattle.std.proofs.Math.Bool.{or-false, or_assoc}
 use Rattle.bloom_parts.specs.Content.{content}
-use Rattle.bloom_parts.specs.Places.{place, IsPart}
+use Rattle.bloom_parts.specs.Places.{IsPart}
 use Rattle.bloom_parts.proofs.PublishedLemmas.{are_in-off}
 use Rattle.bloom_parts.specs.Keys.{key_of}
 use Rattle.bloom_plain.specs.Data.{DefaultFilter}
 use Rattle.bloom_plain.specs.Filter.{Filter, SameShape}
-use Rattle.bloom_blocked.specs.Lines.{line_of, inner_of, in_line, line_positions, are_in_line}
-use Rattle.bloom_blocked.specs.Many.{positions_of_all}
-use Rattle.bloom_blocked.specs.Blocked.{num_lines_of, contains_in_line, InsertsInLine, InsertsAllInLines}
+use Rattle.bloom_blocked.specs.Lines.{line_of, inner_of, in_line, are_in_line}
+use Rattle.bloom_blocked.specs.Blocked.{num_lines_of, contains_in_line, InsertsAllInLines}
 use Rattle.bloom_blocked.specs.BlockedData.{AnswerAlikeInLines, LineDataLaw}
 use Rattle.bloom_blocked.specs.BlockedLaws.{InsertInLineLaw, KeptByInsertInLineLaw, KeptByInsertsInLinesLaw, KeptByUnionOfLinesLaw, UnionOfLinesLaw, IntersectionOfLinesLaw, ClearOfLinesLaw, InsertsOneByOne, OneByOneLaw}
 use Rattle.bloom_blocked.proofs.PositionLemmas.{line-greater, line-inserted, line-both}

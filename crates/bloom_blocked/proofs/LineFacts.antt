@@ -2,7 +2,7 @@
 -- differ from one of these in one thing and don't hold. A program in Python that knows the
 -- description alone made the numbers: with four hashes the greatest hash has the positions 1373,
 -- 1522, 1199 and 1082 in three lines, and hash 1 has 162, 13, 336 and 453 in one.
-use Rattle.std.proofs.Common.{◌≡◌, ℕ, zero, suc, ◌+◌, ◌*◌, ◌<◌, Bool, true, false, List, [], ◌∷◌, refl, arith, lit<, lit≤}
+use Rattle.std.proofs.Common.{◌≡◌, ℕ, zero, suc, ◌<◌, Bool, true, false, [], ◌∷◌, refl, arith, lit<, lit≤}
 use Rattle.bloom_parts.specs.Chain.{chain}
 use Rattle.bloom_parts.specs.Content.{content}
 use Rattle.bloom_parts.specs.Places.{positions, are_in}

@@ -6,8 +6,6 @@ use Rattle.bloom_parts.specs.Chain.{chain}
 use Rattle.bloom_parts.specs.Content.{AreWords, content}
 use Rattle.bloom_parts.specs.Places.{are_in}
 use Rattle.bloom_parts.specs.Sip.{sip, start, round, absorb, answer, whole_words, rest}
-use Rattle.bloom_parts.specs.declared.hasher.CloneBuildHasher.{CloneBuildHasher}
-use Rattle.bloom_parts.specs.declared.hasher.sip.RandomDefaultHasher.{RandomDefaultHasher}
 use Rattle.bloom_plain.specs.declared.file.error.FileError.TheVariants.{Blocked, NotBlocked}
 use Rattle.bloom_plain.specs.declared.file.layout.Layout.TheVariants.{Lines}
 use Rattle.bloom_plain.specs.Data.{DefaultFilter}

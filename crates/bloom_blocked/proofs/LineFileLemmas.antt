@@ -5,7 +5,7 @@ use Rattle.bloom_parts.specs.Sip.{whole_words}
 use Rattle.bloom_plain.specs.declared.file.head.Head.{Head}
 use Rattle.bloom_plain.specs.declared.file.layout.Layout.TheVariants.{Lines}
 use Rattle.bloom_plain.specs.Data.{DefaultFilter}
-use Rattle.bloom_plain.specs.File.{FitsWords, IsFileOf, head_of}
+use Rattle.bloom_plain.specs.File.{FitsWords, head_of}
 use Rattle.bloom_plain.specs.FileLayouts.{IsFileIn, numbers_in}
 use Rattle.bloom_plain.specs.Filter.{IsShape}
 use Rattle.bloom_plain.proofs.FileLawLemmas.{blocked-refused, file-parts, not_blocked-refused, numbers-of, readable}

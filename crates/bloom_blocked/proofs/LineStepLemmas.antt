@@ -1,9 +1,9 @@
 -- Steps on the words of a line, one after the other.
-use Rattle.std.proofs.Common.{◌≡◌, ◌≢◌, ◌↔◌, ◌⊎◌, ℕ, zero, suc, ◌+◌, ◌*◌, ◌/◌, ◌%◌, ◌^◌, ◌<◌, ◌≤◌, min, Bool, true, false, ◌&&◌, add-one, ltb, if◌then◌else◌, bit_and, List, get_or, slice_index, refl, sym, subst, ◌∙◌, ap, arith, inl, inr, lit<}
+use Rattle.std.proofs.Common.{◌≡◌, ◌↔◌, ℕ, zero, suc, ◌+◌, ◌*◌, ◌/◌, ◌%◌, ◌^◌, ◌<◌, ◌≤◌, min, Bool, true, ◌&&◌, add-one, ltb, if◌then◌else◌, bit_and, List, slice_index, refl, sym, subst, ◌∙◌, ap, arith, inl, inr, lit<}
 use Rattle.std.specs.Int.{bit_at}
 use Rattle.std.proofs.lemmas.Bool.{cases_lt, lt-ltb, le-ltb, and_parts, and_from, eqb-true, eq-eqb}
 use Rattle.std.proofs.lemmas.Nat.Bits.{bit_at-lt, bit_at-zero, bit_at_and, same_from_bits_below}
-use Rattle.bloom_parts.specs.Content.{bit_is_on, content, AreWords}
+use Rattle.bloom_parts.specs.Content.{bit_is_on, content}
 use Rattle.bloom_parts.specs.Made.{SharedWords, FoundByLoad}
 use Rattle.bloom_parts.specs.Places.{positions}
 use Rattle.bloom_parts.proofs.PublishedLemmas.{range_law}

@@ -4,7 +4,7 @@ use Rattle.std.proofs.lemmas.Bool.{or_right, and_parts, and_from, eqb-true, eq-e
 use Rattle.bloom_parts.specs.Chain.{chain}
 use Rattle.bloom_parts.specs.Places.{place, positions, are_in, IsPart}
 use Rattle.bloom_parts.proofs.PublishedLemmas.{position-from, position-to, place-position, part-from, part-to, range_law}
-use Rattle.bloom_blocked.specs.Lines.{line_of, inner_of, in_line, line_positions, LinePositionsLaw, are_in_line, LineSubsetLaw, LineRangeLaw, OneLineLaw}
+use Rattle.bloom_blocked.specs.Lines.{line_of, inner_of, in_line, line_positions, LinePositionsLaw, are_in_line, LineSubsetLaw, LineRangeLaw}
 use Rattle.bloom_blocked.proofs.LineLemmas.{place-below, inner-fits}
 
 -- what holds of a position of a hash: its line, and its place there

@@ -1,7 +1,7 @@
 -- What calls on shared blocked filters are said to do: cases that hold, and cases that differ from
 -- one of these in one thing and don't hold. Hash 0 lies in line 0, and its positions are all
 -- position 0.
-use Rattle.std.proofs.Common.{◌≡◌, ◌∙◌, ℕ, ◌<◌, ◌≤◌, Bool, true, false, List, [], ◌∷◌, length, Some, slice_get, refl, ap, sym, arith, lit<}
+use Rattle.std.proofs.Common.{◌≡◌, ℕ, ◌<◌, Bool, true, false, [], ◌∷◌, length, Some, slice_get, refl, ap, arith, lit<}
 use Rattle.std.proofs.lemmas.Bool.{both_ways}
 use Rattle.bloom_parts.specs.Chain.{chain}
 use Rattle.bloom_parts.specs.Content.{bit_is_on, content}
@@ -9,7 +9,7 @@ use Rattle.bloom_parts.specs.Made.{SharedWords}
 use Rattle.bloom_parts.specs.Places.{positions}
 use Rattle.bloom_plain.specs.Builders.{Start}
 use Rattle.bloom_plain.specs.Filter.{Filter}
-use Rattle.bloom_steps.specs.declared.steps.vocabulary.Step.TheVariants.{Load, Or, Take, Zero}
+use Rattle.bloom_steps.specs.declared.steps.vocabulary.Step.TheVariants.{Load, Take, Zero}
 use Rattle.bloom_steps.specs.Scripts.{Taken}
 use Rattle.bloom_blocked.specs.BlockedLaws.{InsertsOneByOne}
 use Rattle.bloom_blocked.specs.BlockedSizing.{sized_in_lines}

@@ -1,9 +1,9 @@
 -- Sizes in lines.
-use Rattle.std.proofs.Common.{◌≡◌, ◌≤◌, ◌<◌, ℕ, ◌+◌, ◌-◌, ◌*◌, ◌^◌, ap, refl, sym, ◌∙◌, arith}
+use Rattle.std.proofs.Common.{◌≡◌, ◌≤◌, ◌<◌, ℕ, ◌+◌, ◌-◌, ◌*◌, ◌^◌, ap, refl, ◌∙◌, arith}
 use Rattle.std.specs.Int.{div_ceil}
 use Rattle.std.proofs.lemmas.Grind.{div_ceil_times}
 use Rattle.bloom_parts.specs.Sizing.{IsSizeFor, IsTooLarge}
-use Rattle.bloom_blocked.specs.BlockedSizing.{IsSizeInLines, IsTooLargeInLines, bits_in_lines, hundredths_more}
+use Rattle.bloom_blocked.specs.BlockedSizing.{IsTooLargeInLines, bits_in_lines, hundredths_more}
 
 -- a size in lines is no less than that of a Bloom filter
 no-less : (plain items : ℕ) → plain ≤ bits_in_lines plain items

@@ -1,14 +1,14 @@
 -- From the steps of a store that lends a span to the calls on a line, and on all words.
-use Rattle.std.proofs.Common.{◌≡◌, ◌∙◌, ℕ, ◌+◌, Bool, List, [], ◌∷◌, Option, Some, None, ap, refl, subst, sym, arith}
+use Rattle.std.proofs.Common.{◌≡◌, ◌∙◌, ℕ, Bool, List, [], ◌∷◌, Option, Some, None, ap, subst, sym, arith}
 use Rattle.std.proofs.lemmas.Option.{none-some}
 use Rattle.bloom_parts.specs.Made.{SharedWords}
 use Rattle.bloom_steps.specs.declared.steps.vocabulary.Call.{Call}
 use Rattle.bloom_steps.specs.declared.steps.vocabulary.Call.TheVariants.{Contains}
 use Rattle.bloom_steps.specs.declared.steps.vocabulary.Step.{Step}
 use Rattle.bloom_steps.specs.declared.steps.vocabulary.Step.TheVariants.{Load, Or, And, Zero, Other, Take}
-use Rattle.bloom_steps.specs.LiveSteps.{IsMade, Lent, MakesCallOn, MakesStep}
+use Rattle.bloom_steps.specs.LiveSteps.{IsMade, MakesCallOn, MakesStep}
 use Rattle.bloom_steps.specs.Plans.{plan_of}
-use Rattle.bloom_steps.specs.Scripts.{Taken, Linked, IsScript, Drives, Fulfils, answer_of}
+use Rattle.bloom_steps.specs.Scripts.{Taken, Linked, IsScript, Drives, Fulfils}
 use Rattle.bloom_steps.proofs.LiveLemmas.{drives-call, contains-answers}
 use Rattle.bloom_blocked.specs.Lines.{inner_of}
 use Rattle.bloom_blocked.specs.LineSteps.{IsMadeFrom, LooksInLine, MakesStepInSpan, Span, start_of, step_from}

@@ -1,5 +1,5 @@
 -- Why words are refused that are no lines. The order of the reasons is this project's choice.
-use Rattle.std.specs.Prelude.{ℕ, ◌%◌, ◌^◌, Option, Some, None, nat_eq, nat_le, not, if◌then◌else◌}
+use Rattle.std.specs.Prelude.{ℕ, ◌%◌, ◌^◌, Option, Some, None, nat_eq, nat_le, if◌then◌else◌}
 use Rattle.bloom_blocked.specs.declared.error.LinesError.{LinesError}
 use Rattle.bloom_blocked.specs.declared.error.LinesError.TheVariants.{EmptyWords, TooManyWords, PartOfALine, HashCount}
 

@@ -2,7 +2,7 @@
 -- one word (`bloom_steps`), and leads from its turn to the next one. A look-up is a look-up of the
 -- inner hash in the line's eight words, as in a Bloom filter of 512 bits. An insert makes one step
 -- for each word that has positions. This project's own.
-use Rattle.std.specs.Prelude.{◌≡◌, ◌≢◌, ◌⊎◌, ◌↔◌, ◌<◌, ℕ, zero, suc, ◌+◌, ◌*◌, ◌/◌, ◌^◌, Bool, true, List, Option, Some}
+use Rattle.std.specs.Prelude.{◌≡◌, ◌≢◌, ◌⊎◌, ◌↔◌, ◌<◌, ℕ, zero, suc, ◌+◌, ◌*◌, ◌/◌, ◌^◌, Bool, true, List, Some}
 use Rattle.std.specs.Int.{bit_at}
 use Rattle.bloom_parts.specs.Content.{bit_is_on}
 use Rattle.bloom_parts.specs.Made.{SharedWords, FoundByOr, InTurn}

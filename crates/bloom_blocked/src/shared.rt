@@ -1,5 +1,5 @@
 //! The blocked Bloom filter that threads share, and change without waiting for one another.
-ghost use Rattle.std.specs.Prelude.{◌≡◌, ◌%◌, ◌*◌, ◌^◌, ◌<◌, ◌≤◌, All, IfOk, IsOkUnless, length};
+ghost use Rattle.std.specs.Prelude.{◌≡◌, ◌%◌, ◌*◌, ◌^◌, ◌<◌, ◌≤◌, All, IfOk, IsOkUnless};
 ghost use Rattle.bloom_blocked.specs.SharedBlocked.{BeganAsLines, MakesCallOnLines, MakesInsertInLine, MakesLookUpInLine, WasInsertedInLine};
 
 mod items;

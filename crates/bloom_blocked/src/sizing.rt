@@ -1,5 +1,5 @@
 //! How many lines a blocked filter has, and how many hashes.
-ghost use Rattle.std.specs.Prelude.{◌≡◌, ◌*◌, ◌%◌, ◌^◌, ◌<◌, ◌≤◌, ◌+◌, length, count_by, nat_lt, IfOk, IfErr};
+ghost use Rattle.std.specs.Prelude.{◌≡◌, ◌*◌, ◌^◌, ◌<◌, ◌≤◌, ◌+◌, length, count_by, nat_lt, IfOk, IfErr};
 ghost use Rattle.std.specs.Result.{result_err};
 ghost use Rattle.bloom_parts.specs.Rates.{num_of, den_of};
 ghost use Rattle.bloom_blocked.specs.BlockedSizing.{IsSizeInLines, IsTooLargeInLines, hashes_in_lines, hundredths_more, line_words_for, line_size_refusal};

@@ -1,5 +1,5 @@
 //! Calls by hash over words that lie anywhere. Eight words are a line.
-ghost use Rattle.std.specs.Prelude.{◌≡◌, ℕ, ◌+◌, ◌*◌, ◌/◌, ◌^◌, ◌<◌, ◌≤◌, ◌||◌, length};
+ghost use Rattle.std.specs.Prelude.{◌≡◌, ℕ, ◌+◌, ◌*◌, ◌/◌, ◌≤◌, ◌||◌, length};
 ghost use Rattle.bloom_parts.specs.Content.{content, AreWords};
 ghost use Rattle.bloom_blocked.specs.Lines.{line_of, inner_of, line_positions, are_in_line};
 

@@ -19,10 +19,10 @@ mod DrawTableFacts
 mod EndLemmas
 mod EstimateFacts
 mod EstimateLemmas
-mod EstimatedLemmas
 mod FalsePositiveFacts
 mod FillLemmas
 mod FormulaLemmas
+mod FoundBoundsLemmas
 mod HalvingFacts
 mod HalvingLemmas
 mod HashedLemmas

@@ -4,7 +4,7 @@ use Rattle.std.proofs.Common.{◌≡◌, ℕ, ◌*◌, ◌^◌, Bool, true, fals
 use Rattle.bloom_parts.specs.Chain.{chain}
 use Rattle.bloom_parts.specs.Places.{positions, are_in}
 use Rattle.bloom_parts.specs.Operations as operation
-use Rattle.bloom_parts.specs.Operations.{Operation, state_after, reply}
+use Rattle.bloom_parts.specs.Operations.{state_after, reply}
 
 -- the set of 3 alone
 abbrev three : ℕ → Bool

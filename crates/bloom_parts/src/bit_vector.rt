@@ -15,7 +15,7 @@ mod words;
 
 use crate::error::FilterError;
 use crate::slices;
-pub use crate::slices::by_hash::word_and_bit_of_hash;
+pub use crate::slices::one_bit::word_and_bit_of_hash;
 pub use atomic::{AtomicBitVec, AtomicWords};
 pub use gathered::gather;
 pub use lent::{LentWords, Turn};

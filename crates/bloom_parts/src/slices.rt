@@ -7,8 +7,8 @@ ghost use Rattle.std.specs.Int.Count.{ones};
 ghost use Rattle.bloom_parts.specs.Content.{content};
 ghost use Rattle.bloom_parts.specs.Counts.{count_on};
 
-pub(crate) mod by_hash;
 mod kernels;
+pub(crate) mod one_bit;
 mod positions;
 
 use kernels::{and_words, clear_words, or_words, same_words};

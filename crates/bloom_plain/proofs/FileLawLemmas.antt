@@ -4,7 +4,7 @@ use Rattle.std.specs.Prelude.{◌⊎◌, slice_index}
 use Rattle.std.specs.Option.{option_or}
 use Rattle.std.proofs.lemmas.Grind.{common_steps}
 use Rattle.bloom_parts.specs.Content.{AreWords}
-use Rattle.bloom_parts.specs.Keys.{HasKey, key_of}
+use Rattle.bloom_parts.specs.Keys.{HasKey}
 use Rattle.bloom_parts.specs.Sip.{sip, whole_words}
 use Rattle.bloom_parts.specs.declared.hasher.CloneBuildHasher.{CloneBuildHasher}
 use Rattle.bloom_parts.specs.declared.hasher.sip.RandomDefaultHasher.{RandomDefaultHasher}

@@ -1,7 +1,7 @@
 -- Files of lines, and what they have in common with files of words that are no lines, at values
 -- from outside. They were made by a program in Python (`dev/blocked-model`). The worked filter has
 -- one line, 3 hashes and the key bytes 0 to 15, and `crab` and `lobster` were inserted into it.
-use Rattle.std.proofs.Common.{◌≡◌, ℕ, List, [], ◌∷◌, ◌++◌, length, get_or, None, Some, refl, sym, ap, subst, ◌∙◌, append-nil, arith, inl, inr}
+use Rattle.std.proofs.Common.{◌≡◌, ℕ, List, [], ◌∷◌, ◌++◌, get_or, Some, refl, ap, arith, inr}
 use Rattle.bloom_parts.specs.Sip.{sip, start, round, absorb, answer, whole_words, rest}
 use Rattle.bloom_plain.specs.declared.file.head.Head.{Head}
 use Rattle.bloom_plain.specs.declared.file.layout.Layout.TheVariants.{Whole, Lines}

@@ -5,7 +5,7 @@ ghost use Rattle.std.specs.Result.{result_err};
 ghost use Rattle.std.specs.Int.{w128, to_be_bytes};
 ghost use Rattle.bloom_parts.specs.Keys.{HasKey, key_low, key_high};
 ghost use Rattle.bloom_plain.specs.Filter.{contains};
-ghost use Rattle.bloom_plain.specs.Growing.{plan_of, IsKeyed, IsGrown, any_contains, has, newest_room};
+ghost use Rattle.bloom_plain.specs.Growing.{plan_of, IsKeyed, any_contains, has, newest_room};
 ghost use Rattle.bloom_plain.specs.GrowingInserts.{IsBegun, Begins, Adds, Takes, RefusesNumber, RefusesInsert};
 
 mod error;

@@ -1,12 +1,12 @@
 -- Why a run ended, from the call that failed on.
-use Rattle.std.proofs.Common.{◌≡◌, ◌≢◌, ◌≤◌, ℕ, List, [], ◌∷◌, ◌++◌, length, Option, None, Some, refl, sym, ◌∙◌}
+use Rattle.std.proofs.Common.{◌≤◌, ℕ, List, [], ◌∷◌, ◌++◌, length, Option, None, Some, refl, sym, ◌∙◌}
 use Rattle.std.specs.Prelude.{IfSome}
 use Rattle.std.specs.declared.io.ErrorKind.{ErrorKind}
 use Rattle.bloom_plain.specs.declared.growing.error.GrowingError.{GrowingError}
 use Rattle.lines.specs.Reading.{Ends}
 use Rattle.duplicates_engine.specs.declared.fault.Fault.{Fault}
 use Rattle.duplicates_engine.specs.declared.fault.Fault.TheVariants.{TooLong, Memory, Full, Open, Input, Output}
-use Rattle.duplicates_engine.specs.Causes.{TellsRead, FailsToOpen, FailsBehind, IsOfStep, AreOfFirst, StopsAtOpen, StopsAtLine, RefusesLine, IsCaused}
+use Rattle.duplicates_engine.specs.Causes.{TellsRead, FailsToOpen, FailsBehind, IsOfStep, AreOfFirst, RefusesLine, IsCaused}
 use Rattle.duplicates_engine.specs.Faults.{IsOfSystem, IsOfWriter}
 use Rattle.duplicates_engine.specs.Inputs.{AreFirstRead}
 

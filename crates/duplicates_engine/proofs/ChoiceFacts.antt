@@ -1,14 +1,8 @@
 -- Which lines a run writes: of each relation cases that hold, and near ones that don't.
-use Rattle.std.proofs.Common.{◌≡◌, ◌⊎◌, inl, inr, ◌<◌, ◌≤◌, ℕ, zero, suc, Bool, true, false, cond, List, [], ◌∷◌, ◌++◌, length, get_or, map, take, Some, None, refl, sym, ◌∙◌, ap, subst, arith}
+use Rattle.std.proofs.Common.{◌≡◌, ◌⊎◌, inl, inr, ◌<◌, ℕ, zero, suc, Bool, true, false, cond, List, [], ◌∷◌, length, get_or, map, refl, sym, ◌∙◌, ap, arith}
 use Rattle.std.specs.Prelude.{codes, nat_lt}
-use Rattle.std.proofs.lemmas.List.Elements.{All-from_recursion}
-use Rattle.lines.specs.Lines.{lines_by}
-use Rattle.lines.specs.Reading.{AreShort}
-use Rattle.duplicates_engine.specs.declared.fault.Fault.TheVariants.{Memory}
-use Rattle.duplicates_engine.specs.declared.options.Options.{Options}
-use Rattle.duplicates_engine.specs.declared.options.Written.{Written}
 use Rattle.duplicates_engine.specs.declared.options.Written.TheVariants.{New, HeldBack, Nothing}
-use Rattle.duplicates_engine.specs.Choices.{lines_at, IsNewAt, IsLongerAt, WritesNew, LeavesOutNew, IsChoice, WritesChoice, WritesChoiceUntil}
+use Rattle.duplicates_engine.specs.Choices.{lines_at, IsNewAt, IsLongerAt, WritesNew, LeavesOutNew, IsChoice}
 use Rattle.duplicates_engine.specs.Kept.{lines_text}
 
 -- three lines, of which the third came before

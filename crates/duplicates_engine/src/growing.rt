@@ -1,5 +1,4 @@
 //! A filter that grows as a sieve.
-ghost use Rattle.std.specs.Prelude.{◌≡◌, ℕ, List, true, IfOk, OnOk, OnErr, IfErr};
 ghost use Rattle.duplicates_engine.specs.Grown.{grown_has, grown_refuses, grown_takes};
 
 use crate::sieve::Sieve;

@@ -1,5 +1,5 @@
 //! An input that is open.
-ghost use Rattle.std.specs.Prelude.{◌≡◌, ◌↔◌, true, false, [], IfOk, IfErr, IfSome, IsOkUnless, OnOk, MatchOption};
+ghost use Rattle.std.specs.Prelude.{◌≡◌, IfOk, IfErr, IsOkUnless, OnOk, MatchOption};
 ghost use Rattle.std.specs.Io.KnownBytes.{Keeps};
 ghost use Rattle.lines.specs.Reading.{KnowsEnd, left_of};
 ghost use Rattle.duplicates_engine.specs.Causes.{FailsBehind, FailsToOpen, IsOfStep};

@@ -1,5 +1,4 @@
 //! A plain filter as a sieve.
-ghost use Rattle.std.specs.Prelude.{◌≡◌, ℕ, List, true, IfOk, OnOk, OnErr};
 ghost use Rattle.duplicates_engine.specs.Plain.{has_line, inserts_line};
 
 use crate::sieve::Sieve;

@@ -3,7 +3,6 @@ mod BlockedPlanFacts
 mod BlockedPlanLemmas
 mod BlockedSharedFacts
 mod EstimateFacts
-mod EstimateLemmas
 mod FileFacts
 mod ItemFacts
 mod ItemLemmas
@@ -13,5 +12,6 @@ mod NoWordLemmas
 mod PieceFacts
 mod PlanFacts
 mod RateFacts
+mod SameBitsLemmas
 mod SharedFacts
 mod SharedLemmas

@@ -2,7 +2,7 @@
 //!
 //! Words behind the last whole line are no part of the filter, and no call changes them. Fewer than
 //! eight words are no filter: a call returns false and changes nothing. `num_hashes` 0 counts as 1.
-ghost use Rattle.std.specs.Prelude.{◌≡◌, ℕ, ◌*◌, ◌/◌, ◌<◌, ◌≤◌, ◌||◌, false, length, max};
+ghost use Rattle.std.specs.Prelude.{◌≡◌, ℕ, ◌/◌, ◌<◌, ◌≤◌, ◌||◌, false, length, max};
 ghost use Rattle.bloom_parts.specs.Content.{content};
 ghost use Rattle.bloom_parts.specs.Keys.{key_low, key_high};
 ghost use Rattle.bloom_parts.specs.Sip.{sip};

@@ -1,5 +1,5 @@
 //! Calls on many hashes, on words that threads share.
-ghost use Rattle.std.specs.Prelude.{◌≡◌, ◌↔◌, ◌*◌, ◌≤◌, ◌<◌, false, IsTrue, length, max};
+ghost use Rattle.std.specs.Prelude.{◌≡◌, ◌↔◌, ◌*◌, ◌≤◌, false, IsTrue, length, max};
 ghost use Rattle.fastbloom_c.specs.Shared.{MakesInserts, TellsInserts, TellsLooks};
 ghost use Rattle.passed_words.specs.Passed.{MakeFilter, vector_of};
 

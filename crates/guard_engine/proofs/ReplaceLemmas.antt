@@ -1,5 +1,5 @@
 -- An entry that is put in place of what its key has, in an open batch.
-use Rattle.std.proofs.Common.{◌≡◌, ◌⊎◌, inl, inr, ℕ, Bool, true, false, List, refl, sym, subst, ◌∙◌}
+use Rattle.std.proofs.Common.{◌≡◌, inl, inr, ℕ, true, false, List, refl, sym, subst, ◌∙◌}
 use Rattle.std.proofs.lemmas.Bool.{both_ways}
 use Rattle.bloom_plain.specs.Data.{DefaultFilter}
 use Rattle.bloom_plain.specs.Filter.{contains}
@@ -7,7 +7,7 @@ use Rattle.guard_engine.specs.Guarded.{Covers, Entries, Gains, Lacks, Stays, key
 use Rattle.guard_engine.specs.Guarding.{Watches}
 use Rattle.guard_engine.specs.Replaced.{Replaces, ReplacesInBatch, Swaps}
 use Rattle.guard_engine.specs.Stores.{Adds, IsInBatch, Keeps, Sight}
-use Rattle.guard_engine.proofs.EntryLemmas.{Covers-stays, Stays-after}
+use Rattle.guard_engine.proofs.EntryLemmas.{Stays-after}
 use Rattle.guard_engine.proofs.PutLinesLemmas.{Stays-same}
 
 -- ---- entries

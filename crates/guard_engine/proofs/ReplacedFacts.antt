@@ -1,5 +1,5 @@
 -- What becomes of a key whose value is replaced: cases that hold, and near ones that don't.
-use Rattle.std.proofs.Common.{◌≡◌, inl, inr, true, false, [], ◌∷◌, refl}
+use Rattle.std.proofs.Common.{inl, inr, true, false, [], ◌∷◌, refl}
 use Rattle.guard_engine.specs.Replaced.{IsReplaced, Replaces}
 use Rattle.guard_engine.proofs.GuardedFacts.{beside, each, none, one}
 

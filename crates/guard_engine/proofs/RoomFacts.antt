@@ -2,7 +2,7 @@
 use Rattle.std.proofs.Common.{◌≡◌, ◌^◌, ◌-◌, ℕ, true, false, refl, inl, inr, ap, arith}
 use Rattle.std.specs.Prelude.{⊤}
 use Rattle.guard_parts.specs.declared.room.Room.{Room}
-use Rattle.guard_engine.specs.Room.{AllTell, CountsKeys, HasRoom, added_beside, more_keys, room_for}
+use Rattle.guard_engine.specs.Room.{CountsKeys, HasRoom, added_beside, more_keys, room_for}
 
 -- a filter that was made for ten keys and has this many
 abbrev of_ten : ℕ → Room

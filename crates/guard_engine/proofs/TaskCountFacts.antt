@@ -1,5 +1,5 @@
 -- What a task counts, and one that failed: cases that hold, and near ones that don't.
-use Rattle.std.proofs.Common.{◌≡◌, ℕ, inl, inr, true, false, [], ◌∷◌, Some, refl, ap, subst, lit<, arith}
+use Rattle.std.proofs.Common.{◌≡◌, ℕ, inl, inr, true, false, [], ◌∷◌, Some, refl, subst, lit<, arith}
 use Rattle.guard_engine.specs.declared.commands.Answer.{Answer}
 use Rattle.guard_engine.specs.declared.commands.Answer.TheVariants as answers
 use Rattle.guard_engine.specs.declared.commands.Trouble.TheVariants as troubles

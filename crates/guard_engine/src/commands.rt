@@ -1,5 +1,5 @@
 //! Tasks and the replies to them, over any store.
-ghost use Rattle.std.specs.Prelude.{◌≡◌, ◌↔◌, Ok, IfErr, IfOk, OnErr, IsTrue, Some};
+ghost use Rattle.std.specs.Prelude.{◌≡◌, ◌↔◌, Ok, IfErr, IfOk, IsTrue, Some};
 ghost use Rattle.std.specs.Fmt.{WritesOnOk};
 ghost use Rattle.guard_engine.specs.Answers.{CountsFailed, CountsRoom, CountsTask, FillsTask, IsAbsence, IsAnswerTo, IsNo, IsTroubleOf, Leaves};
 ghost use Rattle.bloom_parts.specs.declared.math.bracket.Bracket.{Bracket};

@@ -1,5 +1,5 @@
 //! What a guard stands before.
-ghost use Rattle.std.specs.Prelude.{ℕ, List, map, string_bytes, vec_items, IfOk, OnOk, OnErr, MatchOption};
+ghost use Rattle.std.specs.Prelude.{map, string_bytes, vec_items, IfOk, OnOk, OnErr, MatchOption};
 ghost use Rattle.guard_engine.specs.Guarded.{Lacks, Lists};
 ghost use Rattle.guard_engine.specs.Stores.{Adds, Begins, Commits, Fails, IsInBatch, IsReady, Keeps, Removes, Sight, TakesBack};
 

@@ -1,6 +1,6 @@
 //! What is told of a task that wasn't carried out to its end.
 ghost use Rattle.std.specs.Prelude.{◌≡◌, option_map, Some};
-ghost use Rattle.std.specs.Fmt.{DisplaysOnOk, WritesOnOk};
+ghost use Rattle.std.specs.Fmt.{DisplaysOnOk};
 ghost use Rattle.guard_engine.specs.Told.{at_line_text, bad_text, fault_of, fault_of_why, stop_text, subject_of, subject_of_why, tail_text, told_text, unread_text};
 
 use crate::commands::Trouble;

@@ -1,10 +1,10 @@
 -- What a load finds by a name, and why nothing: cases that hold, and near ones that don't.
-use Rattle.std.proofs.Common.{◌≡◌, ◌⊎◌, inl, inr, ℕ, true, false, List, [], Some, None, refl, ap, sym, ◌∙◌, arith}
+use Rattle.std.proofs.Common.{◌≡◌, inl, inr, ℕ, true, false, List, [], Some, None, refl, ap, sym, ◌∙◌, arith}
 use Rattle.bloom_plain.specs.Data.{DefaultFilter}
 use Rattle.bloom_plain.specs.declared.file.error.FileError.TheVariants.{Cut}
 use Rattle.bloom_plain.specs.FileRefusals.{file_refusal}
 use Rattle.guard_parts.specs.Filters.{IsFaultIn, IsFoundIn, IsRefusedFor, IsSealedFile, form_refusal}
-use Rattle.guard_parts.specs.Rooms.{filter_part, room_in, room_part, room_refusal}
+use Rattle.guard_parts.specs.Rooms.{filter_part, room_in, room_part}
 use Rattle.guard_parts.specs.declared.room.Room.{Room}
 use Rattle.guard_parts.specs.declared.filter_file.FilterFault.TheVariants as faults
 use Rattle.guard_parts.specs.declared.filter_file.FormFault.TheVariants.{Form, NoSeal}

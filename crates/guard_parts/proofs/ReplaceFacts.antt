@@ -1,10 +1,9 @@
 -- What becomes of a file while it is replaced: cases that hold, and ones that differ in one thing.
-use Rattle.std.proofs.Common.{◌≡◌, ℕ, List, [], ◌∷◌, Some, None, inl, inr, ⊎_elim, refl, arith}
+use Rattle.std.proofs.Common.{◌≡◌, ℕ, [], ◌∷◌, Some, None, inl, inr, ⊎_elim, refl, arith}
 use Rattle.std.specs.Prelude.{⊤}
 use Rattle.guard_parts.specs.Filters.{MayLack, Passes, Replaces}
 use Rattle.guard_parts.specs.Folders.{Content, Elapses, Keeps, Sight}
 use Rattle.guard_parts.specs.declared.folder.Name.TheVariants.{Standing, New}
-use Rattle.guard_parts.proofs.ReplaceLemmas.{passes-call}
 
 -- a folder whose names have had this content since they were there
 abbrev shows : Content → ℕ → Sight

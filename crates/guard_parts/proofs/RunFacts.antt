@@ -1,6 +1,6 @@
 -- Runs over a folder of the operating system: the premise that its medium is known could hold, and
 -- could fail; and what each call of a save is for.
-use Rattle.std.proofs.Common.{◌≡◌, ℕ, true, false, List, [], ◌∷◌, Some, None, inl, inr, ⊎_elim, refl, arith}
+use Rattle.std.proofs.Common.{◌≡◌, ℕ, true, List, [], ◌∷◌, Some, None, inl, inr, ⊎_elim, refl, arith}
 use Rattle.guard_parts.specs.Folders.{Content}
 use Rattle.guard_parts.specs.declared.folder.Name.TheVariants.{Standing, New}
 use Rattle.guard_parts.specs.Calls.{Call, Reads, Writes, SyncsFile, Renames, SyncsFolder, Removes}

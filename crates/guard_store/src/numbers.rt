@@ -1,6 +1,5 @@
 //! Whether a name has its number to itself.
-ghost use Rattle.std.specs.Prelude.{◌≡◌, IsTrue, IfOk, OnOk, OnErr, [], ◌∷◌};
-ghost use Rattle.sqlite.specs.declared.types.Value.TheVariants.{Text};
+ghost use Rattle.std.specs.Prelude.{IsTrue, IfOk, OnOk, OnErr, []};
 ghost use Rattle.sqlite.specs.Held.{state};
 ghost use Rattle.guard_engine.specs.Stores.{Fails, Keeps};
 ghost use Rattle.guard_store.specs.Answers.{HasOwnNumber, IsOneText};

@@ -1,5 +1,5 @@
 //! Calls on words at a pointer, each made of atomic operations on single words.
-ghost use Rattle.std.specs.Prelude.{◌≡◌, ℕ, ◌*◌, ◌≤◌, ◌<◌, length, Bool, Option, Some, None};
+ghost use Rattle.std.specs.Prelude.{◌≡◌, ◌≤◌, ◌<◌, length, Option, Some, None};
 ghost use Rattle.bloom_steps.specs.declared.steps.vocabulary.Call.TheVariants as call;
 ghost use Rattle.bloom_steps.specs.LiveSteps.{MakesCallOn, TakesWordsOf};
 ghost use Rattle.bloom_steps.specs.Loaded.{CountsLoaded, WereLoaded};

@@ -1,5 +1,5 @@
 //! Calls by hash on the line of a hash, among words at a pointer.
-ghost use Rattle.std.specs.Prelude.{◌≡◌, ◌↔◌, ℕ, ◌+◌, ◌<◌, ◌≤◌, ◌^◌, true, length};
+ghost use Rattle.std.specs.Prelude.{◌≡◌, ◌↔◌, ℕ, ◌+◌, ◌<◌, ◌≤◌, true, length};
 ghost use Rattle.bloom_parts.specs.Content.{content, AreWords};
 ghost use Rattle.bloom_parts.specs.Places.{positions};
 ghost use Rattle.bloom_blocked.specs.Lines.{inner_of};

@@ -1,5 +1,4 @@
 //! Files by their names, and standard input.
-ghost use Rattle.std.specs.Prelude.{IfErr};
 ghost use Rattle.summaries_engine.specs.Stops.{IsUnreadable};
 
 use either::{Either, Left, Right};

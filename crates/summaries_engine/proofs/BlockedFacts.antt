@@ -1,8 +1,8 @@
 -- Filters of both kinds, and what is made and told of blocked ones: cases that hold, and some that
 -- nearly do. In one line and with two hashes key "a" (byte 97) has the positions 201 and 220, by
--- `bin/blocked-model`, so that 268435968 is its fourth word. As a Bloom filter of as many bits it
+-- `dev/blocked-model`, so that 268435968 is its fourth word. As a Bloom filter of as many bits it
 -- has others, of which 128 is the first.
-use Rattle.std.proofs.Common.{◌≡◌, ◌≤◌, ℕ, ◌*◌, Bool, true, false, ◌||◌, List, [], ◌∷◌, ◌++◌, length, get_or, replicate, codes, None, Some, refl, sym, subst, ap, ◌∙◌, lit<, lit≤, arith, inl, inr}
+use Rattle.std.proofs.Common.{◌≡◌, ◌≤◌, ℕ, ◌*◌, Bool, true, false, ◌||◌, List, [], ◌∷◌, ◌++◌, length, replicate, codes, None, Some, refl, sym, subst, ap, ◌∙◌, lit<, lit≤, arith, inl, inr}
 use Rattle.std.proofs.lemmas.List.Elements.{All-head}
 use Rattle.std.specs.Fmt.{char_count, digits, padded_integral}
 use Rattle.anyhow.specs.declared.error.Error.{Error}
@@ -28,7 +28,7 @@ use Rattle.fastbloom.specs.File.{IsFileOf, file_of}
 use Rattle.fastbloom.specs.Lines.{LineRangeLaw, line_positions}
 use Rattle.fastbloom.specs.Many.{positions_of_all}
 use Rattle.fastbloom.specs.declared.parallel.shape.Shape.{Shape}
-use Rattle.summaries_engine.specs.declared.form.Form.TheVariants.{Sealed, Json}
+use Rattle.summaries_engine.specs.declared.form.Form.TheVariants.{Sealed}
 use Rattle.summaries_engine.specs.declared.kinds.AnyFilter.TheVariants.{Classic, Blocked}
 use Rattle.summaries_engine.specs.declared.stop.Stop.TheVariants as stop
 use Rattle.summaries_engine.specs.Facts.{blocked_text}

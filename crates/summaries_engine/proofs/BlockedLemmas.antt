@@ -1,5 +1,5 @@
 -- Blocked filters of all keys of inputs.
-use Rattle.std.proofs.Common.{◌≡◌, ℕ, ◌*◌, ◌/◌, max, ◌||◌, List, length, map, replicate, refl, sym, subst, ◌∙◌, ap}
+use Rattle.std.proofs.Common.{◌≡◌, ℕ, ◌*◌, ◌/◌, max, ◌||◌, List, length, map, replicate, sym, subst, ◌∙◌, ap}
 use Rattle.std.proofs.lemmas.List.{length-replicate}
 use Rattle.bloom_parts.specs.Content.{content}
 use Rattle.bloom_parts.specs.Keys.{HasKey, key_of}

@@ -1,5 +1,5 @@
 -- Why the filters of two names aren't compared.
-use Rattle.std.proofs.Common.{◌≡◌, ℕ, List, [], ◌∷◌, inr, inl, refl}
+use Rattle.std.proofs.Common.{ℕ, List, [], ◌∷◌, inr, inl, refl}
 use Rattle.std.proofs.lemmas.List.Elements.{All-nil}
 use Rattle.summaries_engine.specs.declared.kinds.AnyFilter.{AnyFilter}
 use Rattle.summaries_engine.specs.declared.stop.Stop.{Stop}

@@ -13,7 +13,7 @@ use Rattle.lines.specs.Writing.{Begins}
 use Rattle.summaries_engine.specs.declared.form.Form.TheVariants.{Sealed, Unsealed, Json}
 use Rattle.summaries_engine.specs.declared.stop.Stop.TheVariants.{Memory, Worker, Input, Bad, Output}
 use Rattle.summaries_engine.specs.Kinds.{IsFileOfKind, parts_of}
-use Rattle.summaries_engine.specs.Loaded.{HasHashesOf, HasManyHashes, HoldsNone, IsInForm, IsRightOf, IsRightWith, IsUnloaded, IsUnread, file_form, hashes_text, layout_told, head_layout, IsRightIn, mark_bytes}
+use Rattle.summaries_engine.specs.Loaded.{HasHashesOf, HasManyHashes, HoldsNone, IsInForm, IsRightOf, IsRightWith, IsUnloaded, IsUnread, file_form, hashes_text, layout_told, mark_bytes}
 use Rattle.summaries_engine.proofs.StopFacts.{says-other}
 
 -- the mark is the name and a zero

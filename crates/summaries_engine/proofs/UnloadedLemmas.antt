@@ -15,7 +15,7 @@ use Rattle.summaries_engine.specs.declared.kinds.AnyFilter.{AnyFilter}
 use Rattle.summaries_engine.specs.declared.stop.Stop.{Stop}
 use Rattle.summaries_engine.specs.declared.stop.Stop.TheVariants.{Memory, Worker, Input, Bad, Output}
 use Rattle.summaries_engine.specs.Kinds.{parts_of}
-use Rattle.summaries_engine.specs.Loaded.{HasHashesOf, IsInForm, IsRightIn, IsRightOf, IsRightWith, IsToldOf, IsUnread, SaysNone, hashes_text, head_layout, layout_told, mark_bytes}
+use Rattle.summaries_engine.specs.Loaded.{HasHashesOf, IsInForm, IsRightIn, IsRightOf, IsRightWith, IsToldOf, IsUnread, hashes_text, head_layout, mark_bytes}
 use Rattle.summaries_engine.specs.Stops.{IsBad, IsInput, IsMemory, IsUnreadAs}
 use Rattle.summaries_engine.proofs.LoadedLemmas.{HasRead, layout-first, no-mark}
 

@@ -1,5 +1,5 @@
 //! What is told of two filters.
-ghost use Rattle.std.specs.Prelude.{◌≡◌, ◌≤◌, IfErr, IfOk, string_bytes};
+ghost use Rattle.std.specs.Prelude.{◌≡◌, IfErr, IfOk, string_bytes};
 ghost use Rattle.fastbloom.specs.Filter.{SameShape};
 ghost use Rattle.fastbloom.specs.Ones.{ones_of, ones_of_either};
 ghost use Rattle.summaries_engine.specs.Comparing.{ComparesNamed, StopsComparing, TellsBoth, TellsTwo, bits_text, compared_text, least_share, likeness_text, most_share, ones_of_both};

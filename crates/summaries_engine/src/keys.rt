@@ -1,5 +1,5 @@
 //! Keys: the lines of inputs, without their ends.
-ghost use Rattle.std.specs.Prelude.{◌≡◌, ℕ, Some, codes, ◌++◌, map, IfErr, IfOk, OnOk};
+ghost use Rattle.std.specs.Prelude.{◌≡◌, ℕ, codes, ◌++◌, map, IfErr, IfOk, OnOk};
 ghost use Rattle.std.specs.IoError.{error_kind};
 ghost use Rattle.bloom_parts.specs.Keys.{HasKey};
 ghost use Rattle.bloom_parts.specs.Sip.{sip};

@@ -1,5 +1,5 @@
 //! Filters of readers that have names, in either form.
-ghost use Rattle.std.specs.Prelude.{◌≡◌, ◌++◌, ◌<◌, ◌≤◌, codes, IfErr, IfOk, IfSome, Some};
+ghost use Rattle.std.specs.Prelude.{◌≡◌, ◌++◌, ◌<◌, ◌≤◌, IfErr, IfOk, IfSome, Some};
 ghost use Rattle.anyhow.specs.Error.{HasMessage};
 ghost use Rattle.bloom_plain.specs.declared.file.layout.Layout.TheVariants.{Whole, Lines};
 ghost use Rattle.fastbloom.specs.BlockedFile.{IsLineFileOf};

@@ -5,7 +5,6 @@ ghost use Rattle.bloom_parts.specs.Places.{positions, are_in};
 
 use super::BitVec;
 use crate::slices;
-use crate::slices::by_hash;
 
 impl BitVec {
     /// Sets the first `num_hashes` positions of a hash, and returns whether all of them were set

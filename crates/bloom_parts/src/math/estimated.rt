@@ -1,6 +1,6 @@
 //! How many items a filter has, by how many of its bits are set.
 ghost use Rattle.std.specs.Prelude.{◌≡◌, ◌-◌, ◌*◌, ◌^◌, ◌<◌, ◌≤◌, IfSome, None, Some};
-ghost use Rattle.bloom_parts.specs.Brackets.{density_low, density_high};
+ghost use Rattle.bloom_parts.specs.Brackets.{density_low};
 ghost use Rattle.bloom_parts.specs.Estimates.{EstimatesItems};
 
 use super::estimate::Estimate;

@@ -5,7 +5,7 @@ ghost use Rattle.bloom_parts.specs.Content.{content};
 ghost use Rattle.bloom_parts.specs.Places.{positions, are_in};
 ghost use Rattle.bloom_parts.specs.Stretches.{Advances, TurnsOnNext, TellsNext};
 
-use super::by_hash::{check_hash, turn_on_hash};
+use super::one_bit::{check_hash, set_hash};
 use crate::hasher::DoubleHasher;
 
 // Sets the next position of a hash. Returns 0 exactly if it was set before.
@@ -14,7 +14,7 @@ fn turn_on_next(words: &mut [u64], chain: &mut DoubleHasher) -> u64
     ensures turns_on { TurnsOnNext 1 chain.old words.old words.new result }
     ensures moved { Advances 1 chain.old chain.new }
 {
-    turn_on_hash(words, chain.next())
+    set_hash(words, chain.next())
 }
 
 /// Sets all positions of a hash, and returns whether all of them were set before.

@@ -2,7 +2,6 @@
 ghost use Rattle.std.specs.Prelude.{◌≡◌, ◌≤◌, ◌<◌, ◌^◌, ◌&&◌, not, length, None, IfOk};
 ghost use Rattle.std.specs.Result.{result_err};
 ghost use Rattle.bloom_parts.specs.Hashed.{Hashed};
-ghost use Rattle.bloom_parts.specs.Sip.{sip};
 ghost use Rattle.bloom_plain.specs.declared.file.layout.Layout.{Layout as ALayout};
 ghost use Rattle.bloom_plain.specs.File.{bytes_of, head_numbers, seal_of};
 ghost use Rattle.bloom_plain.specs.FileLayouts.{head_refusal_in, layout_refusal, lines_refusal, numbers_in, right_seal, right_seal_in, sealed_bytes};

@@ -1,10 +1,9 @@
 //! The calls that take items. Each is the call of the item's source hash.
-ghost use Rattle.std.specs.Prelude.{◌≡◌, ℕ, List, IsTrue, IfOk, OnErr};
-ghost use Rattle.std.specs.List.{concat};
+ghost use Rattle.std.specs.Prelude.{◌≡◌, IsTrue, IfOk, OnErr};
 ghost use Rattle.std.specs.Result.{result_err};
 ghost use Rattle.bloom_plain.specs.Growing.{has};
 ghost use Rattle.bloom_plain.specs.GrowingInserts.{Takes, RefusesInsert};
-ghost use Rattle.bloom_plain.specs.SourceHash.{source_hash_of, IsFunctionOfBytes};
+ghost use Rattle.bloom_plain.specs.SourceHash.{source_hash_of};
 
 use super::{GrowingError, GrowingFilter};
 use bloom_parts::hasher::{DefaultHasher, RandomDefaultHasher};

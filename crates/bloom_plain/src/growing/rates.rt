@@ -1,5 +1,5 @@
 //! The rate of false positives of a filter that grows.
-ghost use Rattle.std.specs.Prelude.{◌≡◌, ◌^◌, ◌<◌, length, map};
+ghost use Rattle.std.specs.Prelude.{◌^◌, ◌<◌, length, map};
 ghost use Rattle.bloom_plain.specs.Growing.{room_at};
 ghost use Rattle.bloom_plain.specs.GrowingRates.{BoundsAny, part_now, parts_now, parts_full, parts_grown};
 

@@ -2,7 +2,7 @@
 use Rattle.std.proofs.Common.{◌≡◌, ◌∷◌, [], List, ℕ, Bool, refl, arith, lit<}
 use Rattle.bloom_parts.specs.Content.{content}
 use Rattle.bloom_parts.specs.Operations as operation
-use Rattle.bloom_steps.specs.declared.steps.vocabulary.Step.TheVariants.{Or, Zero}
+use Rattle.bloom_steps.specs.declared.steps.vocabulary.Step.TheVariants.{Zero}
 use Rattle.bloom_steps.specs.declared.steps.vocabulary.Step.TheVariants as step
 use Rattle.bloom_steps.specs.declared.steps.vocabulary.Call.TheVariants.{Take}
 use Rattle.bloom_steps.specs.declared.steps.vocabulary.End.TheVariants.{Running, Done}

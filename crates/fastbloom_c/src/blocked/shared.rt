@@ -3,7 +3,7 @@
 //! Each call is made of atomic operations on the words of one line, as the clauses say. Where there
 //! are fewer than eight words, or more than 2^58 - 1, a call returns false and does nothing.
 //! `num_hashes` 0 counts as 1.
-ghost use Rattle.std.specs.Prelude.{◌≡◌, ◌↔◌, ◌<◌, ◌≤◌, false, IsTrue, max};
+ghost use Rattle.std.specs.Prelude.{◌≡◌, ◌↔◌, ◌<◌, false, IsTrue, max};
 ghost use Rattle.bloom_parts.specs.Keys.{key_low, key_high};
 ghost use Rattle.bloom_parts.specs.Sip.{sip};
 ghost use Rattle.bloom_blocked.specs.LineSteps.{LooksInLine, SetsInLine};

@@ -1,5 +1,5 @@
 //! Calls on many hashes, on a blocked filter that threads share.
-ghost use Rattle.std.specs.Prelude.{◌≡◌, ◌↔◌, ◌*◌, ◌≤◌, ◌<◌, false, IsTrue, length, max};
+ghost use Rattle.std.specs.Prelude.{◌≡◌, ◌↔◌, ◌*◌, ◌≤◌, false, IsTrue, length, max};
 ghost use Rattle.fastbloom_c.specs.BlockedShared.{SetsInLines, TellsLooksInLines, TellsSetsInLines};
 ghost use Rattle.passed_words.specs.Passed.{MakeLines, vector_of};
 

@@ -1,4 +1,4 @@
-use Rattle.fastbloom_c.proofs.EstimateLemmas.{same-bits}
+use Rattle.fastbloom_c.proofs.SameBitsLemmas.{same-bits}
 use Rattle.fastbloom_c.proofs.estimates.items_in_both.Goals as goal
 
 pub returns : goal.returns

@@ -1,4 +1,4 @@
-use Rattle.std.proofs.Common.{◌≡◌, ◌≤◌, ◌*◌, ◌/◌, ◌+◌, length, min, arith, rules}
+use Rattle.std.proofs.Common.{◌≡◌, ◌≤◌, ◌*◌, ◌+◌, length, min, arith, rules}
 use Rattle.std.proofs.Math.Seq.{take-length}
 use Rattle.bloom_parts.specs.Content.{content}
 use Rattle.bloom_blocked.proofs.ManyLemmas.{many-stretch}

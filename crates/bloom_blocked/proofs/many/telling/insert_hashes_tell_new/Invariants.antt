@@ -1,4 +1,4 @@
-use Rattle.std.proofs.Common.{◌≡◌, ◌*◌, ◌/◌, ◌&&◌, ◌||◌, ℕ, not, length, nat_lt, slice_index, min}
+use Rattle.std.proofs.Common.{◌≡◌, ◌*◌, ◌/◌, ◌&&◌, ℕ, not, length, nat_lt, slice_index, min}
 use Rattle.bloom_parts.specs.Content.{content}
 use Rattle.bloom_blocked.specs.Lines.{are_in_line}
 use Rattle.bloom_blocked.specs.Many.{after_first}

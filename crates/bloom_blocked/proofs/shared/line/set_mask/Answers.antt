@@ -1,5 +1,4 @@
 use Rattle.std.proofs.Common.{inr}
-use Rattle.bloom_blocked.proofs.LineStepLemmas.{empty-mask}
 use Rattle.bloom_blocked.proofs.shared.line.set_mask.Goals as goal
 
 pub returns : goal.returns

@@ -1,7 +1,7 @@
 use Rattle.std.proofs.Common.{◌*◌, arith}
 use Rattle.bloom_parts.proofs.DensityLemmas.{density-none}
 use Rattle.bloom_parts.proofs.EstimateLemmas.{bounds-ordered}
-use Rattle.bloom_parts.proofs.EstimatedLemmas.{estimates-items}
+use Rattle.bloom_parts.proofs.FoundBoundsLemmas.{estimates-items}
 use Rattle.bloom_parts.proofs.math.estimated.estimated_items.Goals as goal
 
 -- no bit is expected to be set of no items

@@ -9,10 +9,10 @@ returns-clause-turns_on c = λ hash i at.
     let old = content c.args.words.now in
     let here = ap (index_of n) (c.next.ensures.value hash i at) in
     record {
-      answers = c.turn_on_hash.ensures.reply ∙ ap old here ∙ sym (are_in_from-one n i hash old);
+      answers = c.set_hash.ensures.reply ∙ ap old here ∙ sym (are_in_from-one n i hash old);
       bits = λ p.
-          c.turn_on_hash.ensures.content p
+          c.set_hash.ensures.content p
           ∙ ap (λ q. old p || eqb p q) here
           ∙ ap (λ b. old p || b) (sym (positions_from-one n i hash p));
-      shape = c.turn_on_hash.ensures.shape;
+      shape = c.set_hash.ensures.shape;
     }

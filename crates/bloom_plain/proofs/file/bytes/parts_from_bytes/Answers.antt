@@ -1,4 +1,4 @@
-use Rattle.std.proofs.Common.{ap, arith, length, sym, ◌∙◌}
+use Rattle.std.proofs.Common.{ap, arith, length, sym}
 use Rattle.bloom_plain.specs.declared.file.head.Head.{Head}
 use Rattle.bloom_plain.proofs.AcceptedLemmas.{accepted, body-size, end-good, head-good, head-size}
 use Rattle.bloom_plain.proofs.file.bytes.parts_from_bytes.Goals as goal

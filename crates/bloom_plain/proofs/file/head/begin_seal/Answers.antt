@@ -1,4 +1,4 @@
-use Rattle.std.proofs.Common.{[], length-take, length-drop, take, drop, arith}
+use Rattle.std.proofs.Common.{[], length-take, arith}
 use Rattle.bloom_plain.proofs.file.head.begin_seal.Goals as goal
 
 pub slice_bounds-write-end : goal.slice_bounds-write-end

@@ -36,7 +36,7 @@ pub(crate) fn check_hash(words: &[u64], hash: u64) -> bool
 }
 
 // Sets the position where a hash lies, and returns the bit that this changed in its word.
-pub(crate) fn turn_on_hash(words: &mut [u64], hash: u64) -> u64
+pub(crate) fn set_hash(words: &mut [u64], hash: u64) -> u64
     requires { 1 ≤ length words.old }
     ensures changed { let position = index_of (64 * length words.old) hash in
         result ≡ (if content words.old position then 0 else 2 ^ (position % 64)) }

@@ -1,6 +1,6 @@
 use Rattle.std.proofs.Common.{refl}
 use Rattle.bloom_parts.proofs.ContentLemmas.{content-test, get_or-itself}
-use Rattle.bloom_parts.proofs.slices.by_hash.check_hash.Goals as goal
+use Rattle.bloom_parts.proofs.slices.one_bit.check_hash.Goals as goal
 
 pub returns : goal.returns
 returns c =

@@ -1,6 +1,6 @@
 use Rattle.std.proofs.Common.{eqb, refl, ap, ◌∙◌}
 use Rattle.bloom_parts.proofs.ContentLemmas.{content-change, content-set, get_or-itself, no-change}
-use Rattle.bloom_parts.proofs.slices.by_hash.turn_on_hash.Goals as goal
+use Rattle.bloom_parts.proofs.slices.one_bit.set_hash.Goals as goal
 
 pub returns-clause-changed : goal.returns-clause-changed
 returns-clause-changed c =
