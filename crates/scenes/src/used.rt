@@ -1,23 +1,23 @@
 //! The examples of README and of docs/CALLING.md: each does what its comments say.
 
 use crate::telling::tell_row;
+use examples::builders::{by_bits_and_hashes, by_bits_and_items, by_rate_and_items, by_words};
+use examples::clauses::remember;
+use examples::estimates::{are_alike, bounds_of};
+use examples::files::{load, save};
+use examples::keys::drawn_key;
+use examples::lists::replies;
+use examples::readme::{plain_filter, seated_filter, shared_filter};
+use examples::rotated::rotate;
+use examples::saved::{Parts, parts_of};
+use examples::seated::insert_hashes;
+use examples::sets::keep_common;
+use examples::shared::count_found;
+use examples::{filled, growing, plain, saved};
 use fastbloom::{AtomicBloomFilter, BloomFilter, FilterError, SeatedBloomFilter};
 use std::alloc::Global;
 use std::fs;
 use std::thread::Threads;
-use uses::builders::{by_bits_and_hashes, by_bits_and_items, by_rate_and_items, by_words};
-use uses::clauses::remember;
-use uses::estimates::{are_alike, bounds_of};
-use uses::files::{load, save};
-use uses::keys::drawn_key;
-use uses::lists::replies;
-use uses::readme::{plain_filter, seated_filter, shared_filter};
-use uses::rotated::rotate;
-use uses::saved::{Parts, parts_of};
-use uses::seated::insert_hashes;
-use uses::sets::keep_common;
-use uses::shared::count_found;
-use uses::{filled, growing, plain, saved};
 
 // The word of hash 1, whose two positions among 64 are 0 and 20.
 const WORD_OF_ONE: u64 = 1 + (1 << 20);

@@ -3,13 +3,13 @@ ghost use Rattle.std.specs.Prelude.{◌≡◌, ◌+◌, ◌≤◌, All, IfOk, ve
 ghost use Rattle.std.specs.Arc.{arc_value};
 
 use crate::drawn::{spread, spread_from};
+use examples::two::found_by_both;
 use fastbloom::{BloomFilter, FilterError, Pass, SeatedBloomFilter};
 use std::alloc::Global;
 use std::snapshot::Snapshot;
 use std::sync::Arc;
 use std::thread;
 use std::thread::{Promise, PromisedHandle, Threads};
-use uses::two::found_by_both;
 
 const HASHES: u64 = 1000;
 

@@ -2,7 +2,7 @@
 //! inserted is found.
 ghost use Rattle.std.specs.Prelude.{◌≡◌, ◌⊎◌, Contains, IfOk, IfSome, true};
 ghost use Rattle.std.specs.Arc.{arc_value};
-ghost use Rattle.uses.specs.Known.{KnowsAll};
+ghost use Rattle.examples.specs.Known.{KnowsAll};
 
 use fastbloom::{FilterError, Pass, SeatedBloomFilter};
 use std::alloc::Global;

@@ -1,5 +1,5 @@
 use Rattle.std.proofs.Common.{◌≡◌}
-use Rattle.uses.proofs.seated.insert_hashes.Given as goal
+use Rattle.examples.proofs.seated.insert_hashes.Given as goal
 
 -- the pass stays of its filter
 abbrev pub invariant-hashes : goal.invariant-hashes

@@ -1,6 +1,6 @@
 use Rattle.std.proofs.Common.{◌∙◌}
-use Rattle.uses.proofs.KnownLemmas.{promised, sure-after}
-use Rattle.uses.proofs.two.found_by_both.Goals as goal
+use Rattle.examples.proofs.KnownLemmas.{promised, sure-after}
+use Rattle.examples.proofs.two.found_by_both.Goals as goal
 
 -- each pass that came back knows what its thread inserted, and they met
 pub returns : goal.returns

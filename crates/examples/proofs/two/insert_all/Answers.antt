@@ -1,7 +1,7 @@
 use Rattle.std.proofs.Common.{◌≡◌, ◌∙◌, get_or, arith}
 use Rattle.std.proofs.lemmas.Grind.{common_steps}
-use Rattle.uses.proofs.KnownLemmas.{known-next, known-all}
-use Rattle.uses.proofs.two.insert_all.Goals as goal
+use Rattle.examples.proofs.KnownLemmas.{known-next, known-all}
+use Rattle.examples.proofs.two.insert_all.Goals as goal
 
 -- the next hash is known too
 pub hashes-preserved : goal.hashes-preserved

@@ -1,6 +1,6 @@
 use Rattle.std.proofs.Common.{◌≡◌, take}
-use Rattle.uses.specs.Known.{KnowsAll}
-use Rattle.uses.proofs.two.insert_all.Given as goal
+use Rattle.examples.specs.Known.{KnowsAll}
+use Rattle.examples.proofs.two.insert_all.Given as goal
 
 -- the pass knows the hashes so far
 abbrev pub invariant-hashes : goal.invariant-hashes

@@ -6,7 +6,7 @@ use Rattle.bloom_parts.specs.Chain.{chain}
 use Rattle.bloom_parts.specs.Places.{positions}
 use Rattle.fastbloom.specs.Passes.{SeatedFilter, Sight}
 use Rattle.fastbloom.specs.Sets.{set_of}
-use Rattle.uses.specs.Known.{KnowsAll}
+use Rattle.examples.specs.Known.{KnowsAll}
 
 -- every pass knows all of no hashes
 knows_all-none : (f : SeatedFilter) (pass : Sight) → KnowsAll f pass []

@@ -5,7 +5,7 @@ use Rattle.std.proofs.lemmas.List.{take_more, take_all}
 use Rattle.std.proofs.lemmas.List.Elements.{Contains-push_cases}
 use Rattle.bloom_parts.specs.Content.{content}
 use Rattle.fastbloom.specs.Passes.{SeatedFilter, Sight, Knows, IsSure, known_of, seated_positions, InsertsAs, Meets}
-use Rattle.uses.specs.Known.{KnowsAll}
+use Rattle.examples.specs.Known.{KnowsAll}
 
 -- a pass knows what it inserts, and what it knew
 insert-known : (f : SeatedFilter) (old new : Sight) (hash : ℕ) (answer : Bool)
