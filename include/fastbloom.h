@@ -238,7 +238,10 @@ FASTBLOOM_MUST_USE bool fastbloom_rate_now(const uint64_t *words, size_t num_wor
 
 /* A blocked filter: its words are lines of eight, and all positions of a hash lie in one line. So a
  * call on a hash touches one line of the cache where the words begin at a multiple of 64 bytes, as
- * those of aligned_alloc(64, 8 * num_words) do. Words may begin elsewhere, which takes longer.
+ * those of aligned_alloc(64, 8 * num_words) do. Words may begin elsewhere, which takes longer. Words
+ * of more than some megabytes are best in huge pages: aligned_alloc(1 << 21, SIZE) gives such memory
+ * on Linux, with SIZE a multiple of 1 << 21, where madvise(words, SIZE, MADV_HUGEPAGE) is called
+ * before they are written.
  *
  * The number of words is a multiple of 8. Words behind the last whole line are no part of the
  * filter, and stay as they are. Fewer than 8 words are no filter: each call that returns a bool

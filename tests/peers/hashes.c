@@ -6,8 +6,8 @@
  * (hit), and then as many others (miss), one by one and many at once; then threads insert all keys
  * into an empty filter that they share. A row tells the nanoseconds of one call, of all rounds the
  * best, and how many calls returned true: those of `miss` are false positives. Hashes are made in
- * blocks, which isn't timed. The words begin at a multiple of 2 MiB, for which the system is asked
- * for huge pages where HUGE_PAGES is set. */
+ * blocks, which isn't timed. The words are in huge pages, as fastbloom.h advises, unless SMALL_PAGES
+ * is set. */
 #define _GNU_SOURCE
 #include "fastbloom.h"
 
@@ -177,7 +177,7 @@ static uint64_t *make_words(size_t num_words) {
     size_t bytes = (num_words * 8 + PAGE - 1) / PAGE * PAGE;
     uint64_t *words = aligned_alloc(PAGE, bytes);
     if (words == NULL) exit(1);
-    if (getenv("HUGE_PAGES") != NULL) madvise(words, bytes, MADV_HUGEPAGE);
+    if (getenv("SMALL_PAGES") == NULL) madvise(words, bytes, MADV_HUGEPAGE);
     memset(words, 0, bytes);
     return words;
 }
