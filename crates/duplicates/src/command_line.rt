@@ -21,6 +21,8 @@ const SKIP_LONGER: &str = "skip-longer";
 
 const FIXED: &str = "fixed";
 
+const BLOCKED: &str = "blocked";
+
 const HELD_BACK: &str = "held-back";
 
 const COUNT: &str = "count";
@@ -44,6 +46,8 @@ pub struct Request<'n, 's> {
     pub skips_longer: bool,
     /// Whether one filter for these many lines is kept, however many come.
     pub fixed: bool,
+    /// Whether that filter is a blocked one.
+    pub blocked: bool,
     /// Whether the lines that are held back are written, and not the new ones.
     pub held_back: bool,
     /// Whether only the counts are written.
@@ -71,7 +75,7 @@ enum Kind {
 type Row = (&'static str, Kind, &'static str, &'static [&'static str]);
 
 // The arguments, in the order of the help.
-const ARGUMENTS: [Row; 10] = [
+const ARGUMENTS: [Row; 11] = [
     (
         ITEMS,
         Kind::Option("N", "1000000", ValueParser::Unsigned(1, 1_000_000_000_000)),
@@ -100,6 +104,12 @@ const ARGUMENTS: [Row; 10] = [
         FIXED,
         Kind::Flag,
         "Keeps one filter for N lines, and tells where more come",
+        &[],
+    ),
+    (
+        BLOCKED,
+        Kind::Flag,
+        "As --fixed, by a blocked filter, which is quicker from some megabytes on",
         &[],
     ),
     (
@@ -227,7 +237,8 @@ pub fn request_of<'n, 's>(matches: &'n ArgMatches<'s>) -> Option<Request<'n, 's>
         rate: rate_of(matches.get_str(RATE)?)?,
         longest: matches.get_one::<u64>(LONGEST)? as usize,
         skips_longer: matches.get_flag(SKIP_LONGER),
-        fixed: matches.get_flag(FIXED),
+        fixed: matches.get_flag(FIXED) || matches.get_flag(BLOCKED),
+        blocked: matches.get_flag(BLOCKED),
         held_back: matches.get_flag(HELD_BACK),
         count: matches.get_flag(COUNT),
         zero: matches.get_flag(ZERO),

@@ -4,6 +4,7 @@ use crate::command_line::Request;
 use crate::files::{Files, name_of_output};
 use crate::gauge::Gauge;
 use crate::telling::{DONE, OVERFULL, Teller, tell_fault, tell_no_room, tell_output};
+use bloom_blocked::BlockedBloomFilter;
 use bloom_plain::{BloomFilter, FilterError, GrowingError, GrowingFilter};
 use duplicates_engine::{Fault, Options, Sieve, Total, Written, keep_new};
 use std::io;
@@ -122,7 +123,12 @@ pub fn run(rt: &HostRuntime, request: &Request) -> Result<u8, &'static str> {
         return Ok(tell_output(rt, name));
     }
     let items = request.items as usize;
-    let refusal = if request.fixed {
+    let refusal = if request.blocked {
+        match BlockedBloomFilter::with_false_pos(request.rate).expected_items(rt.alloc(), items) {
+            Ok(mut filter) => return Ok(sift(rt, request, &mut filter)),
+            Err(refusal) => GrowingError::Filter(refusal),
+        }
+    } else if request.fixed {
         match BloomFilter::with_false_pos(request.rate).expected_items(rt.alloc(), items) {
             Ok(mut filter) => return Ok(sift(rt, request, &mut filter)),
             Err(refusal) => GrowingError::Filter(refusal),

@@ -1,3 +1,4 @@
+mod BlockedFacts
 mod CauseFacts
 mod CauseLemmas
 mod ChoiceFacts

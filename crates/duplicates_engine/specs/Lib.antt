@@ -1,3 +1,4 @@
+pub mod Blocked
 pub mod Causes
 pub mod Choices
 pub mod Faults

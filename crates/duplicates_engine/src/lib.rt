@@ -1,6 +1,7 @@
 //! Writes each line of its inputs that is certainly new, by a sieve of those before it.
 #![tactic(auto)]
 
+mod blocked;
 mod counted;
 mod fault;
 mod growing;
