@@ -7,6 +7,7 @@ left out for want of a tool is told in a line.
 import collections
 import csv
 import datetime
+import json
 import os
 import platform
 import re
@@ -20,8 +21,11 @@ from help_text import TOP, Failed, built
 
 PICTURES = f"{TOP}/docs/pictures"
 PEERS = f"{TOP}/tests/peers"
-# Where Debian's packages put sources of Go, and Guava.
-GO, GUAVA = "/usr/share/gocode", "/usr/share/java/guava.jar"
+# Where Debian's packages put sources of Go, Guava, and sources of Rust.
+GO, GUAVA, RUST = "/usr/share/gocode", "/usr/share/java/guava.jar", "/usr/share/cargo/registry"
+CRATE = "fastbloom-0.17.0"
+# Keys beside the Rust crate, and rounds of a run.
+CRATE_SIZES = ((10**4, 200), (10**6, 3))
 MASK = 2**64 - 1
 TIMER = "/usr/bin/time"
 ENVIRONMENT = {**os.environ, "LC_ALL": "C"}
@@ -344,24 +348,73 @@ def read_rows(text):
     return rows
 
 
-def time_threads(keys, rounds):
-    """What an operation costs where threads share a filter, or each has one, which are united."""
-    bench = built("bench", "0", "0")
-    run = subprocess.run([bench, str(keys), str(rounds), "by "], text=True, check=False,
+def run_bench(program, keys, rounds, *word):
+    """The rows of a run of the bench, or of a program that prints such rows."""
+    run = subprocess.run([program, str(keys), str(rounds), *word], text=True, check=False,
                          stdout=subprocess.PIPE)
     if run.returncode:
-        raise Failed(f"bin/bench ended with status {run.returncode}")
+        raise Failed(f"{os.path.basename(program)} ended with status {run.returncode}")
+    return read_rows(run.stdout)
+
+
+def time_threads(keys, rounds):
+    """What an operation costs where threads share a filter, or each has one, which are united."""
+    found = run_bench(built("bench", "0", "0"), keys, rounds, "by ")
     rows = [{"call": BY_THREADS[call], "threads": number, "picoseconds": time_of_one}
-            for (call, number), (time_of_one, _) in read_rows(run.stdout).items() if call in BY_THREADS]
+            for (call, number), (time_of_one, _) in found.items() if call in BY_THREADS]
     if not rows:
         raise Failed("bin/bench printed no rows of threads")
     return rows
 
 
+# The Rust crate
+
+def compile_crate(room):
+    """The program over the Rust crate, whose sources Debian's packages have."""
+    sources = os.path.abspath(os.environ.get("CARGO_REGISTRY", RUST))
+    if not os.path.isdir(f"{sources}/{CRATE}"):
+        raise Failed(f"no {CRATE} in {sources}, which CARGO_REGISTRY may name")
+    # Cargo writes beside the program's sources, so it gets a copy of them.
+    shutil.copytree(f"{PEERS}/crate", f"{room}/crate",
+                    ignore=shutil.ignore_patterns("target", "Cargo.lock"))
+    compiled(["cargo"], "tests/peers/crate", [
+        "build", "--release", "--offline", "--quiet", "--manifest-path", f"{room}/crate/Cargo.toml",
+        "--target-dir", f"{room}/target", "--config", 'source.crates-io.replace-with="debian"',
+        "--config", f"source.debian.directory={json.dumps(sources)}"])
+    return f"{room}/target/release/crate"
+
+
+def compare_crate(runs):
+    """What calls cost beside the Rust crate, in turn. Below the ratio 1 this project is faster."""
+    rows = []
+    with tempfile.TemporaryDirectory() as room:
+        crate = compile_crate(room)
+        bench = built("bench", "0", "0")
+        for keys, rounds in CRATE_SIZES:
+            own, others = [], []
+            for number in range(runs):
+                own.append(run_bench(bench, keys, rounds))
+                others.append(run_bench(crate, keys, rounds))
+                tell(f"run {number + 1} of {runs}, {os.getloadavg()[0]:.1f} processes at work")
+            rows += [compare_row(row, keys, [it.get(row) for it in own], [it[row] for it in others])
+                     for row in others[0]]
+    return rows
+
+
+def compare_row(row, keys, own, others):
+    """A row of the table: the best times of both, and whether they counted alike in each run."""
+    if None in own:
+        raise Failed(f"bin/bench has no row {row[0]} {row[1]}")
+    (best, _), (other, _) = min(own), min(others)
+    alike = all(mine[1] == theirs[1] for mine, theirs in zip(own, others))
+    return {"call": row[0], "number": row[1], "keys": keys, "picoseconds": best, "crate": other,
+            "ratio": f"{best / max(other, 1):.2f}", "counts": "equal" if alike else "differ"}
+
+
 # What dev/bench-against --peers measures
 
 def compare_peers(lines, sizes, runs, word=""):
-    """Makes the rows of each subject whose name goes on with the word behind `peers-`.
+    """Makes the rows of each subject, or of that whose name has just the word behind `peers-`.
 
     Each has a line that tells what the rows are.
     """
@@ -375,10 +428,12 @@ def compare_peers(lines, sizes, runs, word=""):
          lambda: compare_library(sizes, runs)),
         ("peers-hashes", f"calls by hash at ten bits a key, seven hashes: best of {runs} runs",
          lambda: compare_hashes(sizes, runs)),
+        ("peers-crate", f"calls of the bench beside those of {CRATE}: best of {runs} runs",
+         lambda: compare_crate(runs)),
         ("peers-threads", f"bin/bench {lines} {runs}: one operation, best of {runs} rounds",
          lambda: time_threads(lines, runs)))
     for name, what, make_rows in subjects:
-        if not name.startswith(f"peers-{word}"):
+        if word and name != f"peers-{word}":
             continue
         tell(name)
         try:
