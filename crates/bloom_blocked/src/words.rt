@@ -3,7 +3,7 @@ ghost use Rattle.std.specs.Prelude.{◌≡◌, ℕ, ◌+◌, ◌*◌, ◌/◌, �
 ghost use Rattle.bloom_parts.specs.Content.{content, AreWords};
 ghost use Rattle.bloom_blocked.specs.Lines.{line_of, inner_of, line_positions, are_in_line};
 
-use bloom_parts::slices::{contains_positions, insert_positions};
+use bloom_parts::slices::{contains_in_few_words, insert_in_few_words};
 
 /// The number of words in a line.
 pub const LINE: usize = 8;
@@ -50,7 +50,7 @@ pub fn insert_hash(words: &mut [u64], num_hashes: u32, hash: u64) -> bool
     ensures shape { length words.new ≡ length words.old }
 {
     let at = line_start(words.len(), hash);
-    insert_positions(&mut words[at..at + LINE], num_hashes, inner(hash))
+    insert_in_few_words(&mut words[at..at + LINE], num_hashes, inner(hash))
 }
 
 /// Whether all positions of a hash are set. True may be a false positive.
@@ -60,5 +60,5 @@ pub fn contains_hash(words: &[u64], num_hashes: u32, hash: u64) -> bool
     ensures { result ≡ are_in_line (length words.now / 8) num_hashes hash (content words.now) }
 {
     let at = line_start(words.len(), hash);
-    contains_positions(&words[at..at + LINE], num_hashes, inner(hash))
+    contains_in_few_words(&words[at..at + LINE], num_hashes, inner(hash))
 }

@@ -7,10 +7,12 @@ ghost use Rattle.std.specs.Int.Count.{ones};
 ghost use Rattle.bloom_parts.specs.Content.{content};
 ghost use Rattle.bloom_parts.specs.Counts.{count_on};
 
+mod few_words;
 mod kernels;
 pub(crate) mod one_bit;
 mod positions;
 
+pub use few_words::{contains_in_few_words, insert_in_few_words};
 use kernels::{and_words, clear_words, or_words, same_words};
 pub use positions::{contains_by_count, contains_positions, insert_positions};
 

@@ -11,7 +11,7 @@ use crate::line_store::LineStore;
 use crate::words::RawWords;
 use bloom_blocked::words::{LINE, inner, line_start};
 use bloom_parts::bit_vector::Turn;
-use bloom_parts::slices::insert_positions;
+use bloom_parts::slices::insert_in_few_words;
 use bloom_steps::{Call, drive};
 
 // The same words, with the fact that each has 64 bits: a slice of a local array lacks it.
@@ -30,7 +30,7 @@ fn masks_of(num_hashes: u32, hash: u64) -> [u64; LINE]
     ensures range { AreWords result }
 {
     let mut masks = [0; LINE];
-    insert_positions(&mut masks, num_hashes, inner(hash));
+    insert_in_few_words(&mut masks, num_hashes, inner(hash));
     let _words = with_range(&masks);
     masks
 }

@@ -8,7 +8,7 @@ ghost use Rattle.bloom_blocked.specs.LineSteps.{HasAll, LooksInLine, SetsInLine,
 use super::span_store::SpanStore;
 use crate::words::{LINE, inner, line_start, with_range};
 use bloom_parts::bit_vector::{AtomicBitVec, LentWords, Turn};
-use bloom_parts::slices::insert_positions;
+use bloom_parts::slices::insert_in_few_words;
 use bloom_steps::{Call, drive};
 
 // The words of a line where the positions of a hash are set, and no other.
@@ -19,7 +19,7 @@ fn masks_of(num_hashes: u32, hash: u64) -> [u64; LINE]
     ensures range { AreWords result }
 {
     let mut masks = [0; LINE];
-    insert_positions(&mut masks, num_hashes, inner(hash));
+    insert_in_few_words(&mut masks, num_hashes, inner(hash));
     let _words = with_range(&masks);
     masks
 }

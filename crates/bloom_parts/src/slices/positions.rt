@@ -9,7 +9,7 @@ use super::one_bit::{check_hash, set_hash};
 use crate::hasher::DoubleHasher;
 
 // Sets the next position of a hash. Returns 0 exactly if it was set before.
-fn turn_on_next(words: &mut [u64], chain: &mut DoubleHasher) -> u64
+pub(super) fn turn_on_next(words: &mut [u64], chain: &mut DoubleHasher) -> u64
     requires { 1 ≤ length words.old }
     ensures turns_on { TurnsOnNext 1 chain.old words.old words.new result }
     ensures moved { Advances 1 chain.old chain.new }
@@ -56,7 +56,7 @@ fn next_is_on(words: &[u64], chain: &mut DoubleHasher) -> bool
 
 // Whether the next `count` positions of a hash are set. It counts, which needs no branch.
 #[inline(always)]
-fn all_are_on(words: &[u64], chain: &mut DoubleHasher, count: u32) -> bool
+pub(super) fn all_are_on(words: &[u64], chain: &mut DoubleHasher, count: u32) -> bool
     requires { 1 ≤ length words.now }
     ensures found { TellsNext count chain.old words.now result }
     ensures moved { Advances count chain.old chain.new }

@@ -6,5 +6,5 @@ use Rattle.passed_words.proofs.line.masks_of.Goals as goal
 
 pub returns-clause-bits : goal.returns-clause-bits
 returns-clause-bits c = λ q.
-    (rw (c.inner.ensures) at c.insert_positions.ensures.content) q
+    (rw (c.inner.ensures) at c.insert_in_few_words.ensures.content) q
     ∙ ap (λ b. b || positions 512 c.args.num_hashes (inner_of c.args.hash) q) (content-zeros 8 q)
