@@ -63,7 +63,7 @@ module _ {H : Type 0} (h : hasher.Ghosts H) (build : ℕ → H) (line : List ℕ
   has-one : has_line_in_lines h build (filter 8192 0) line → ⊥
   has-one has =
       let at : contains_in_line (filter 8192 0) 1 ≡ true
-          = subst (λ hash. contains_in_line (filter 8192 0) hash ≡ true) is has in
+      = subst (λ hash. contains_in_line (filter 8192 0) hash ≡ true) is has in
       let wrong : false ≡ true = sym one ∙ at in cc
 
   -- the line is new to a zero filter, and then has its positions
@@ -78,7 +78,7 @@ module _ {H : Type 0} (h : hasher.Ghosts H) (build : ℕ → H) (line : List ℕ
   unfolding content positions chain
   inserts-one did =
       let at : InsertsInLine (filter 0 0) 1 (filter 8192 0) false
-          = subst (λ hash. InsertsInLine (filter 0 0) hash (filter 8192 0) false) is did in
+      = subst (λ hash. InsertsInLine (filter 0 0) hash (filter 8192 0) false) is did in
       let wrong : false ≡ true = at.bits 162 in cc
 
   -- an insert into a filter that has the line never says that it is new
@@ -87,5 +87,5 @@ module _ {H : Type 0} (h : hasher.Ghosts H) (build : ℕ → H) (line : List ℕ
   inserts-new did =
       let full : Filter ℕ = filter 8192 17179869184 in
       let at : InsertsInLine full 1 full false
-          = subst (λ hash. InsertsInLine full hash full false) is did in
+      = subst (λ hash. InsertsInLine full hash full false) is did in
       let wrong : false ≡ true = at.answers ∙ both in cc
