@@ -1,5 +1,5 @@
 /* What inserts and look-ups by hash cost in a classic and a blocked filter: `hashes [KEYS [ROUNDS
- * [THREADS [WORD]]]]`, those whose library has the word in its name.
+ * [WORD]]]`, those whose library has the word in its name.
  *
  * Both have ten bits a key and seven hashes, and get the same hashes: the finish of splitmix64 of
  * the numbers from 0 on. Each round inserts all keys into an empty filter, looks each of them up
@@ -19,7 +19,7 @@
 #include <sys/mman.h>
 #include <time.h>
 
-enum { BLOCK = 1024, HASHES = 7, PAGE = 1 << 21, MOST_THREADS = 64 };
+enum { BLOCK = 1024, HASHES = 7, PAGE = 1 << 21, MOST_THREADS = 4 };
 
 struct filter {
     uint64_t *words;
@@ -33,6 +33,7 @@ struct row {
     const char *library, *call;
     calls *make;
     uint64_t first; /* in keys: 0, or 1 for others than those that were inserted */
+    size_t threads; /* 0 where the call isn't one of threads */
     double best;
     uint64_t found;
 };
@@ -185,25 +186,28 @@ static uint64_t *make_words(size_t num_words) {
 int main(int argc, char **argv) {
     uint64_t keys = argc > 1 ? strtoull(argv[1], NULL, 10) : 1000000;
     uint64_t rounds = argc > 2 ? strtoull(argv[2], NULL, 10) : 3;
-    size_t threads = argc > 3 ? (size_t)strtoull(argv[3], NULL, 10) : 4;
-    const char *word = argc > 4 ? argv[4] : "";
+    const char *word = argc > 3 ? argv[3] : "";
     struct row rows[] = {
-        {"classic", "insert", insert, 0, 0, 0},
-        {"classic", "hit", look_up, 0, 0, 0},
-        {"classic", "miss", look_up, 1, 0, 0},
-        {"classic-many", "insert", insert_many, 0, 0, 0},
-        {"classic-many", "hit", look_up_many, 0, 0, 0},
-        {"classic-many", "miss", look_up_many, 1, 0, 0},
-        {"blocked", "insert", insert_in_line, 0, 0, 0},
-        {"blocked", "hit", look_up_in_line, 0, 0, 0},
-        {"blocked", "miss", look_up_in_line, 1, 0, 0},
-        {"blocked-many", "insert", insert_many_in_lines, 0, 0, 0},
-        {"blocked-many", "hit", look_up_many_in_lines, 0, 0, 0},
-        {"blocked-many", "miss", look_up_many_in_lines, 1, 0, 0},
-        {"classic-shared", "insert", share_many, 0, 0, 0},
-        {"blocked-shared", "insert", share_many_in_lines, 0, 0, 0},
+        {"classic", "insert", insert, 0, 0, 0, 0},
+        {"classic", "hit", look_up, 0, 0, 0, 0},
+        {"classic", "miss", look_up, 1, 0, 0, 0},
+        {"classic-many", "insert", insert_many, 0, 0, 0, 0},
+        {"classic-many", "hit", look_up_many, 0, 0, 0, 0},
+        {"classic-many", "miss", look_up_many, 1, 0, 0, 0},
+        {"blocked", "insert", insert_in_line, 0, 0, 0, 0},
+        {"blocked", "hit", look_up_in_line, 0, 0, 0, 0},
+        {"blocked", "miss", look_up_in_line, 1, 0, 0, 0},
+        {"blocked-many", "insert", insert_many_in_lines, 0, 0, 0, 0},
+        {"blocked-many", "hit", look_up_many_in_lines, 0, 0, 0, 0},
+        {"blocked-many", "miss", look_up_many_in_lines, 1, 0, 0, 0},
+        {"classic-shared", "by 1", share_many, 0, 1, 0, 0},
+        {"classic-shared", "by 2", share_many, 0, 2, 0, 0},
+        {"classic-shared", "by 4", share_many, 0, 4, 0, 0},
+        {"blocked-shared", "by 1", share_many_in_lines, 0, 1, 0, 0},
+        {"blocked-shared", "by 2", share_many_in_lines, 0, 2, 0, 0},
+        {"blocked-shared", "by 4", share_many_in_lines, 0, 4, 0, 0},
     };
-    if (keys == 0 || rounds == 0 || threads == 0 || threads > MOST_THREADS) return 2;
+    if (keys == 0 || rounds == 0) return 2;
     struct filter filter = {NULL, (keys * 10 + 511) / 512 * 8};
     filter.words = make_words(filter.num_words);
     for (uint64_t round = 0; round < rounds; round++)
@@ -211,10 +215,10 @@ int main(int argc, char **argv) {
             struct row *row = &rows[i];
             uint64_t found = 0;
             if (strstr(row->library, word) == NULL) continue;
-            if (strcmp(row->call, "insert") == 0)
+            if (strcmp(row->call, "insert") == 0 || row->threads != 0)
                 memset(filter.words, 0, filter.num_words * 8);
-            double spent = strstr(row->library, "shared") != NULL
-                ? measure_threads(row->make, filter, keys, threads)
+            double spent = row->threads != 0
+                ? measure_threads(row->make, filter, keys, row->threads)
                 : measure(row->make, filter, keys * row->first, keys, &found);
             keep(row, spent, found);
         }
