@@ -9,8 +9,8 @@ use crate::fills::{THREE, Watching, gate_for, parts_of};
 use crate::telling::{NO_ROOM, WRONG, say, word_of};
 use bloom_parts::bit_vector::{AtomicBitVec, BitVec};
 use fastbloom::{
-    BloomFilter, Call, Event, FilterError, GrowingError, GrowingFilter, Pass, Rate,
-    SeatedBloomFilter, Shape, fill, run,
+    AtomicBlockedBloomFilter, BlockedBloomFilter, BloomFilter, Call, Event, FilterError,
+    GrowingError, GrowingFilter, Pass, Rate, SeatedBloomFilter, Shape, fill, run,
 };
 use std::alloc::Global;
 use std::sync::Arc;
@@ -72,6 +72,38 @@ fn a_filter_that_grows_is_whole_or_refused(rt: HostRuntime) {
     let begun = by_builders(begun(rt.alloc()));
     assert!(rt; say(&rt, "GrowingFilter::new", word_of(&begun)));
     assert!(rt; say(&rt, "insert_hash that grows", grows(rt.alloc())));
+}
+
+// A line that threads share, with hash 1.
+fn shared_line(alloc: Global) -> Result<AtomicBlockedBloomFilter, FilterError> {
+    let mut plain = BlockedBloomFilter::with_num_bits(alloc, 512)?.hashes(2);
+    plain.insert_hash(1);
+    AtomicBlockedBloomFilter::from_plain(alloc, plain)
+}
+
+// Whether a take gives the words of hash 1 and leaves none, or leaves them all.
+fn taken(alloc: Global, filter: &AtomicBlockedBloomFilter) -> Result<bool, FilterError> {
+    match filter.take_words(alloc) {
+        Ok(words) => {
+            let line = [8192, 0, 17179869184, 0, 0, 0, 0, 0];
+            Ok((words.as_slice() == line.as_slice()) & (filter.count_ones() == 0))
+        }
+        Err(refusal) => {
+            if filter.count_ones() != 2 {
+                return Ok(false);
+            }
+            Err(refusal)
+        }
+    }
+}
+
+#[test]
+fn a_take_of_lines_is_whole_or_refused(rt: HostRuntime) {
+    let ended = match shared_line(rt.alloc()) {
+        Ok(filter) => word_of(&taken(rt.alloc(), &filter)),
+        Err(_refusal) => NO_ROOM,
+    };
+    assert!(rt; say(&rt, "blocked take_words", ended));
 }
 
 // A filter that stands by.

@@ -7,7 +7,7 @@ use Rattle.anyhow.specs.declared.error.Error.{Error}
 use Rattle.bloom_parts.specs.declared.error.FilterError.TheVariants as filter_error
 use Rattle.bloom_plain.specs.declared.file.error.FileError.TheVariants as file_error
 use Rattle.summaries_engine.specs.declared.stop.Stop.TheVariants.{Memory, Worker, Input, Bad, Output}
-use Rattle.summaries_engine.specs.Loaded.{IsToldOf}
+use Rattle.summaries_engine.specs.Loaded.{IsToldOf, IsToldOfText}
 use Rattle.summaries_engine.specs.Stops.{IsUnfilled, IsUnput, IsUnreadAs, SaysOver}
 use Rattle.summaries_engine.proofs.StopFacts.{says-other}
 
@@ -38,7 +38,30 @@ unput-memory = inl tt
 told-input : IsToldOf (codes "a") (file_error.Input kind.BrokenPipe) Memory → ⊥
 told-input told = told.other (λ is. cc)
 
+-- nor of a text whose read failed, nor of one that isn't UTF-8
+text-pipe : IsToldOfText kind.BrokenPipe (codes "a") Memory → ⊥
+text-pipe told = (told.other (λ is. cc)).other (λ is. cc)
+
+text-bytes : IsToldOfText kind.InvalidData (codes "a") Memory → ⊥
+text-bytes told = told.none refl
+
+-- there was no memory for a text that is read
+text-memory : IsToldOfText kind.OutOfMemory (codes "a") Memory
+text-memory = record {
+  none = λ is. cc;
+  other = λ no. record { memory = λ is. tt; other = λ other. absurd (other refl) };
+}
+
 module _ (said : Error) where
+  -- a text that isn't UTF-8 holds no filter
+  text-none : HasMessage (Some (codes "a: it holds no filter")) said
+      → IsToldOfText kind.InvalidData (codes "a") (Bad said)
+  text-none says = record { none = λ is. says; other = λ no. absurd (no refl) }
+
+  -- a broken pipe isn't said to be no filter
+  text-not-none : IsToldOfText kind.BrokenPipe (codes "a") (Bad said) → ⊥
+  text-not-none told = (told.other (λ is. cc)).other (λ is. cc)
+
   -- a broken pipe is told by its input
   kind-said : SaysOver (codes "k: it can't be read") said
       → IsUnreadAs kind.BrokenPipe (codes "k") (Input said)

@@ -1,6 +1,8 @@
 -- Filters that are read from files, in either form, and what is said where one isn't. The forms and
 -- the texts are this project's own.
 use Rattle.std.specs.Prelude.{◌≡◌, ◌≢◌, ◌⊎◌, ℕ, ◌<◌, ◌&&◌, codes, decimal, length, List, [], ◌∷◌, ◌++◌, Some, nat_eq, nat_le, if◌then◌else◌}
+use Rattle.std.specs.declared.io.ErrorKind.{ErrorKind}
+use Rattle.std.specs.declared.io.ErrorKind.TheVariants.{InvalidData}
 use Rattle.anyhow.specs.Error.{HasMessage}
 use Rattle.anyhow.specs.declared.error.Error.{Error}
 use Rattle.bloom_plain.specs.declared.file.error.FileError.{FileError}
@@ -57,6 +59,12 @@ abbrev pub IsToldOf : List ℕ → FileError → Stop → Type 0
 IsToldOf name file_error.Memory stop = IsMemory stop
 IsToldOf name (file_error.Input kind) stop = IsUnreadAs kind name stop
 IsToldOf name _ stop = SaysNone name stop
+
+-- what is told where no text is read for an error of this kind: bytes that aren't UTF-8 are no
+-- filter
+pub record IsToldOfText (kind : ErrorKind) (name : List ℕ) (stop : Stop) : Type 0 where
+  pub none : kind ≡ InvalidData → SaysNone name stop
+  pub other : (kind ≡ InvalidData → ⊥) → IsUnreadAs kind name stop
 
 -- the layout that a whole head tells. A file that ends within its head is refused, whatever it
 -- tells

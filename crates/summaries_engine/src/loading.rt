@@ -1,5 +1,6 @@
 //! Filters of readers that have names, in either form.
 ghost use Rattle.std.specs.Prelude.{◌≡◌, ◌++◌, ◌<◌, ◌≤◌, IfErr, IfOk, IfSome, Some};
+ghost use Rattle.std.specs.IoError.{error_kind};
 ghost use Rattle.anyhow.specs.Error.{HasMessage};
 ghost use Rattle.bloom_plain.specs.declared.file.layout.Layout.TheVariants.{Whole, Lines};
 ghost use Rattle.fastbloom.specs.BlockedFile.{IsLineFileOf};
@@ -8,7 +9,7 @@ ghost use Rattle.summaries_engine.specs.declared.kinds.AnyFilter.TheVariants.{Cl
 ghost use Rattle.bloom_plain.specs.FileRefusals.{number_at};
 ghost use Rattle.summaries_engine.specs.Answers.{IsKeyed};
 ghost use Rattle.summaries_engine.specs.Kinds.{IsFileOfKind, parts_of};
-ghost use Rattle.summaries_engine.specs.Loaded.{IsInForm, IsRightIn, IsRightOf, IsRightWith, IsToldOf, IsUnloaded, IsUnread, SaysNone, file_form, hashes_text, head_layout};
+ghost use Rattle.summaries_engine.specs.Loaded.{IsInForm, IsRightIn, IsRightOf, IsRightWith, IsToldOf, IsToldOfText, IsUnloaded, IsUnread, SaysNone, file_form, hashes_text, head_layout};
 ghost use Rattle.summaries_engine.specs.Stops.{IsBad};
 
 use crate::form::Form;
@@ -44,7 +45,8 @@ fn unloaded(name: &str, error: FileError) -> Stop
 
 // What is told where no text is read: what isn't UTF-8 is none.
 fn untold(name: &str, error: io::Error) -> Stop
-    ensures { IsUnread name.now result }
+    ensures told { IsToldOfText (error_kind error) name.now result }
+    ensures failed { IsUnread name.now result }
 {
     if error.kind() == ErrorKind::InvalidData {
         no_filter(name, anyhow::Error::from(error))

@@ -187,6 +187,7 @@ const ACTS: &'static [Row] = &[
     (Act::Load, A, FAILING, ROOMY, b"", UNREAD),
     (Act::Load, BOTH, WHOLE, ROOMY, BOTH, ""),
     (Act::Load, TEXT, SLOW, NARROW, A, ""),
+    (Act::Load, TEXT, FAILING, ROOMY, b"", UNREAD),
     (Act::Load, LINES, SLOW, NARROW, LINES, ""),
     (Act::Load, LINES, FAILING, ROOMY, b"", UNREAD),
     (
