@@ -81,6 +81,16 @@ def ar(files, seconds):
     return b''.join(output)
 
 
+def members_of_ar(data):
+    """The bytes of each file of an archive that `ar` made, by their names."""
+    at, found = 8, {}
+    while at < len(data):
+        name, size = data[at:at + 16].decode().rstrip(), int(data[at + 48:at + 58])
+        found[name] = data[at + 60:at + 60 + size]
+        at += 60 + size + size % 2
+    return found
+
+
 def deb(fields, members, seconds, more):
     """The bytes of a package of Debian's with these fields, whose members are paths from the root.
 

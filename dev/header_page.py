@@ -6,7 +6,7 @@ speaks of. What a section is called stands in SECTIONS, by the first call or typ
 
 import re
 
-from help_text import TOP, Failed
+from help_text import INSTALLED, TOP, Failed
 
 # The first name below each section's title.
 SECTIONS = {
@@ -94,9 +94,12 @@ def page(plain, date):
         waiting = []
     if left:
         raise Failed(f"include/fastbloom.h has no {', '.join(left)}")
+    others = [f".BR {plain(INSTALLED[it])} (1)" for it in ("bloom", "summaries")]
     # The last comment speaks of all calls.
-    return lines + [".SH NULL POINTERS", *waiting, ".SH SEE ALSO", ".BR bloom (1),",
-                    ".BR summaries (1)"]
+    lines += [".SH NULL POINTERS", *waiting, ".SH SEE ALSO", f"{others[0]},", others[1]]
+    # A section begins a paragraph by itself.
+    return [line for before, line in zip(["", *lines], lines)
+            if line != ".PP" or not before.startswith(".SH ")]
 
 
 def is_code(line):

@@ -607,15 +607,15 @@ public:
     }
     bool contains(std::nullptr_t) const = delete;
     bool contains(const void *bytes, std::size_t size) const noexcept {
-        return fastbloom_contains(words(), num_words(), num_hashes(), file_.filter().key,
+        return fastbloom_contains(address(), num_words(), num_hashes(), file_.filter().key,
                                   detail::not_null(bytes), size);
     }
     bool contains_hash(std::uint64_t hash) const noexcept {
-        return fastbloom_contains_hash(words(), num_words(), num_hashes(), hash);
+        return fastbloom_contains_hash(address(), num_words(), num_hashes(), hash);
     }
     [[nodiscard]] bool contains_hashes(const std::uint64_t *hashes, std::size_t count,
                                        std::uint64_t *found, std::size_t num_found) const noexcept {
-        return fastbloom_contains_hashes(words(), num_words(), num_hashes(),
+        return fastbloom_contains_hashes(address(), num_words(), num_hashes(),
                                          detail::not_null_words(hashes), count,
                                          detail::not_null_words(found), num_found);
     }
@@ -626,12 +626,17 @@ public:
     bool contains(std::span<const std::uint8_t> item) const noexcept {
         return contains(item.data(), item.size());
     }
+    [[nodiscard]] bool contains_hashes(std::span<const std::uint64_t> hashes,
+                                       std::span<std::uint64_t> found) const noexcept {
+        return contains_hashes(hashes.data(), hashes.size(), found.data(), found.size());
+    }
+    std::span<const std::uint64_t> words() const noexcept { return {data(), num_words()}; }
 #endif
 
     // A filter with words of its own, which are equal to these.
     result<filter> clone() const noexcept {
         auto made = filter::with_shape(num_words(), num_hashes(), key());
-        if (made) std::memcpy(made->words_, words(), 8 * num_words());
+        if (made) std::memcpy(made->words_, address(), 8 * num_words());
         return made;
     }
 
@@ -642,7 +647,7 @@ public:
     const std::uint64_t *data() const noexcept { return file_.filter().words; }
 
 private:
-    const std::uint64_t *words() const noexcept { return detail::not_null_words(data()); }
+    const std::uint64_t *address() const noexcept { return detail::not_null_words(data()); }
 
     detail::mapping file_;
 };

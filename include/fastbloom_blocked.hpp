@@ -170,6 +170,15 @@ public:
         return fastbloom_blocked_contains_hash(words_, num_words_, num_hashes_, hash);
     }
 
+    // The hashes of many items, whose bytes lie one behind the other, as by `filter`.
+    [[nodiscard]] bool hash_items(const void *bytes, std::size_t size,
+                                  const std::uint64_t *offsets, std::size_t num_offsets,
+                                  std::uint64_t *hashes, std::size_t count) const noexcept {
+        return fastbloom_hash_items(key_.data(), detail::not_null(bytes), size,
+                                    detail::not_null_words(offsets), num_offsets,
+                                    detail::not_null_words(hashes), count);
+    }
+
     // Inserts many hashes, which costs less than a call for each.
     void insert_hashes(const std::uint64_t *hashes, std::size_t count) noexcept {
         if (count != 0)
@@ -222,6 +231,12 @@ public:
     }
     std::uint64_t hash(std::span<const std::uint8_t> item) const noexcept {
         return hash(item.data(), item.size());
+    }
+    [[nodiscard]] bool hash_items(std::span<const std::uint8_t> bytes,
+                                  std::span<const std::uint64_t> offsets,
+                                  std::span<std::uint64_t> hashes) const noexcept {
+        return hash_items(bytes.data(), bytes.size(), offsets.data(), offsets.size(),
+                          hashes.data(), hashes.size());
     }
     void insert_hashes(std::span<const std::uint64_t> hashes) noexcept {
         insert_hashes(hashes.data(), hashes.size());
@@ -339,15 +354,15 @@ public:
     }
     bool contains(std::nullptr_t) const = delete;
     bool contains(const void *bytes, std::size_t size) const noexcept {
-        return fastbloom_blocked_contains(words(), num_words(), num_hashes(), file_.filter().key,
+        return fastbloom_blocked_contains(address(), num_words(), num_hashes(), file_.filter().key,
                                           detail::not_null(bytes), size);
     }
     bool contains_hash(std::uint64_t hash) const noexcept {
-        return fastbloom_blocked_contains_hash(words(), num_words(), num_hashes(), hash);
+        return fastbloom_blocked_contains_hash(address(), num_words(), num_hashes(), hash);
     }
     [[nodiscard]] bool contains_hashes(const std::uint64_t *hashes, std::size_t count,
                                        std::uint64_t *found, std::size_t num_found) const noexcept {
-        return fastbloom_blocked_contains_hashes(words(), num_words(), num_hashes(),
+        return fastbloom_blocked_contains_hashes(address(), num_words(), num_hashes(),
                                                  detail::not_null_words(hashes), count,
                                                  detail::not_null_words(found), num_found);
     }
@@ -358,12 +373,17 @@ public:
     bool contains(std::span<const std::uint8_t> item) const noexcept {
         return contains(item.data(), item.size());
     }
+    [[nodiscard]] bool contains_hashes(std::span<const std::uint64_t> hashes,
+                                       std::span<std::uint64_t> found) const noexcept {
+        return contains_hashes(hashes.data(), hashes.size(), found.data(), found.size());
+    }
+    std::span<const std::uint64_t> words() const noexcept { return {data(), num_words()}; }
 #endif
 
     // A filter with words of its own, which are equal to these.
     result<blocked_filter> clone() const noexcept {
         auto made = blocked_filter::with_lines(num_lines(), num_hashes(), key());
-        if (made) std::memcpy(made->words_, words(), 8 * num_words());
+        if (made) std::memcpy(made->words_, address(), 8 * num_words());
         return made;
     }
 
@@ -375,7 +395,7 @@ public:
     const std::uint64_t *data() const noexcept { return file_.filter().words; }
 
 private:
-    const std::uint64_t *words() const noexcept { return detail::not_null_words(data()); }
+    const std::uint64_t *address() const noexcept { return detail::not_null_words(data()); }
 
     detail::mapping file_;
 };

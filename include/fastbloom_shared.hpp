@@ -136,6 +136,15 @@ public:
         return fastbloom_shared_contains_hash(words_, num_hashes_, hash);
     }
 
+    // The hashes of many items, whose bytes lie one behind the other, as by `filter`.
+    [[nodiscard]] bool hash_items(const void *bytes, std::size_t size,
+                                  const std::uint64_t *offsets, std::size_t num_offsets,
+                                  std::uint64_t *hashes, std::size_t count) const noexcept {
+        return fastbloom_hash_items(key_.data(), detail::not_null(bytes), size,
+                                    detail::not_null_words(offsets), num_offsets,
+                                    detail::not_null_words(hashes), count);
+    }
+
     // Inserts each item of a range: a container or a view of what `insert` takes.
     template <typename Items> void insert_range(Items &&items) const {
         std::uint64_t hashes[256];
@@ -189,6 +198,12 @@ public:
     }
     std::uint64_t hash(std::span<const std::uint8_t> item) const noexcept {
         return hash(item.data(), item.size());
+    }
+    [[nodiscard]] bool hash_items(std::span<const std::uint8_t> bytes,
+                                  std::span<const std::uint64_t> offsets,
+                                  std::span<std::uint64_t> hashes) const noexcept {
+        return hash_items(bytes.data(), bytes.size(), offsets.data(), offsets.size(),
+                          hashes.data(), hashes.size());
     }
     void insert_hashes(std::span<const std::uint64_t> hashes) const noexcept {
         insert_hashes(hashes.data(), hashes.size());

@@ -185,6 +185,29 @@ class Blocked(unittest.TestCase):
         self.assertEqual(list(seen.view()), seen.words())
         self.assertRaises(TypeError, seen.view().__setitem__, 0, 1)
 
+    def test_pickles_hand_the_words_out(self):
+        seen = BlockedFilter(10_000, "1/1000", COUNTING_KEY)
+        seen.update(str(number) for number in range(1000))
+        buffers = []
+        data = pickle.dumps(seen, 5, buffer_callback=buffers.append)
+        self.assertLess(len(data), 500)
+        # Nothing was copied: what is added shows.
+        self.assertEqual([bytes(it.raw()) for it in buffers], [bytes(seen.view())])
+        seen.add("whale")
+        self.assertEqual(bytes(buffers[0].raw()), bytes(seen.view()))
+        for given in (buffers, [bytes(buffers[0].raw())], [bytearray(buffers[0].raw())]):
+            read = pickle.loads(data, buffers=given)
+            self.assertEqual((read, read.key), (seen, seen.key))
+            read.clear()
+            self.assertIn("whale", seen)
+
+    def test_a_pickle_of_no_filter_is_refused(self):
+        restored = fastbloom._blocked._restored
+        for hashes, words in ((0, bytes(64)), (2**32, bytes(64)), (1, b""), (1, bytes(65))):
+            self.assertRaises(ValueError, restored, BlockedFilter, hashes, bytes(16), words)
+        self.assertRaises(ValueError, restored, BlockedFilter, 1, bytes(15), bytes(64))
+        self.assertRaises(TypeError, restored, BlockedFilter, 1, bytes(16), 64)
+
     def test_what_is_refused(self):
         seen = small("crab")
         for other in (BlockedFilter(10, "1/1000"), BlockedFilter(1000, "1/1000", bytes(15) + b"1")):

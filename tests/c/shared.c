@@ -244,7 +244,7 @@ static void try_large(void) {
 }
 
 int main(int argc, char **argv) {
-    int runs = argc > 1 ? atoi(argv[1]) : 20;
+    int runs = argc > 1 ? atoi(argv[1]) : 40;
     num_keys = argc > 2 ? strtoull(argv[2], NULL, 10) : 1000000;
     uint64_t *words = calloc(NUM_WORDS, sizeof *words), *loaded = calloc(NUM_WORDS, sizeof *words);
     uint64_t *plain[4];

@@ -34,6 +34,36 @@ static_assert(std::is_nothrow_move_assignable_v<blocked_filter>);
 static_assert(!std::is_copy_constructible_v<shared_blocked_filter>);
 static_assert(std::is_nothrow_move_assignable_v<shared_blocked_filter>);
 
+// Whether a call compiles. 0 and nullptr are no items, of any class.
+#define COMPILES(name, call)                                                                       \
+    template <typename Filter, typename = void> struct name : std::false_type {};                  \
+    template <typename Filter>                                                                     \
+    struct name<Filter, std::void_t<decltype(std::declval<Filter &>().call)>> : std::true_type {};
+COMPILES(inserts_text, insert("0"))
+COMPILES(inserts_zero, insert(0))
+COMPILES(inserts_null, insert(nullptr))
+COMPILES(finds_text, contains("0"))
+COMPILES(finds_zero, contains(0))
+COMPILES(finds_null, contains(nullptr))
+COMPILES(hashes_text, hash("0"))
+COMPILES(hashes_zero, hash(0))
+COMPILES(hashes_null, hash(nullptr))
+
+template <typename Filter> static constexpr bool finds_texts_alone() {
+    return finds_text<Filter>() && !finds_zero<Filter>() && !finds_null<Filter>();
+}
+template <typename Filter> static constexpr bool takes_texts_alone() {
+    return finds_texts_alone<Filter>() && inserts_text<Filter>() && !inserts_zero<Filter>() &&
+           !inserts_null<Filter>() && hashes_text<Filter>() && !hashes_zero<Filter>() &&
+           !hashes_null<Filter>();
+}
+static_assert(takes_texts_alone<fastbloom::filter>());
+static_assert(takes_texts_alone<fastbloom::shared_filter>());
+static_assert(takes_texts_alone<blocked_filter>());
+static_assert(takes_texts_alone<shared_blocked_filter>());
+static_assert(finds_texts_alone<fastbloom::mapped_filter>());
+static_assert(finds_texts_alone<fastbloom::mapped_blocked_filter>());
+
 // The number of an index that a session draws, by splitmix64.
 static std::uint64_t drawn(std::uint64_t session, std::uint64_t index) {
     std::uint64_t word = (session << 32) + index + 0x9e3779b97f4a7c15u;
@@ -108,6 +138,21 @@ static void try_items() {
     CHECK(reinterpret_cast<std::uintptr_t>(seen.data()) % 64 == 0);
 }
 
+// Items that lie one behind the other have the hash of each, in every class.
+template <typename Filter> static void try_hash_items(const Filter &seen) {
+    const std::vector<std::uint8_t> bytes{'c', 'r', 'a', 'b', 'e', 'e', 'l'};
+    const std::vector<std::uint64_t> offsets{0, 4, 7};
+    std::vector<std::uint64_t> hashes(2);
+    CHECK(seen.hash_items(bytes.data(), 7, offsets.data(), 3, hashes.data(), 2));
+    CHECK(hashes[0] == seen.hash("crab") && hashes[1] == seen.hash("eel"));
+    CHECK(!seen.hash_items(bytes.data(), 6, offsets.data(), 3, hashes.data(), 2));
+    CHECK(seen.hash_items(nullptr, 0, nullptr, 0, nullptr, 0));
+#ifdef __cpp_lib_span
+    hashes = {0, 0};
+    CHECK(seen.hash_items(bytes, offsets, hashes) && hashes[1] == seen.hash("eel"));
+#endif
+}
+
 static void try_shared() {
     const blocked_filter both = of_items({"crab", "lobster"});
     shared_blocked_filter seen(of_items({"crab"})), other(of_items({"lobster"}));
@@ -128,6 +173,13 @@ static void try_shared() {
     CHECK(two->contains_hashes(&hash, 1, bits.data(), 1) && bits[0] == 1);
     CHECK(two->insert_hashes_tell_new(&hash, 1, bits.data(), 1) && bits[0] == 0);
     CHECK(!two->unite(seen) && !two->intersect(seen));
+#ifdef __cpp_lib_span
+    const auto three = shared_blocked_filter::over(lent, 2);
+    CHECK(three && three->num_lines() == 3 && three->contains("crab") && !three->insert("eel"));
+    CHECK(two->contains("eel"));
+    lent.pop_back();
+    CHECK(shared_blocked_filter::over(lent, 2).status() == status::part_of_a_line);
+#endif
     CHECK(shared_blocked_filter::over(nullptr, 0, 1).status() == status::empty_words);
     const shared_blocked_filter none, moved(std::move(seen));
     CHECK(!none.insert("crab") && !none.contains("crab") && !none.load() && !seen.insert("crab"));
@@ -246,6 +298,12 @@ static void try_files(const std::string &path) {
     std::uint64_t found = 0;
     CHECK(moved.contains_hash(hash) && moved.contains_hashes(&hash, 1, &found, 1) && found == 1);
     CHECK(*moved.clone() == seen && mapped->num_words() == 0 && !mapped->contains("crab"));
+#ifdef __cpp_lib_span
+    CHECK(moved.words().data() == moved.data() && moved.words().size() == seen.num_words());
+    const std::vector<std::uint64_t> hashes{seen.hash("crab"), seen.hash("whale")};
+    std::vector<std::uint64_t> bits{~std::uint64_t{0}};
+    CHECK(moved.contains_hashes(hashes, bits) && bits[0] == 1 && mapped->words().empty());
+#endif
     CHECK(fastbloom::filter::load(path.c_str()).status() == status::blocked);
     CHECK(fastbloom::mapped_filter::map(path.c_str()).status() == status::blocked);
     CHECK(fastbloom::shared_filter::map(path.c_str()).status() == status::blocked);
@@ -293,6 +351,10 @@ int main(int argc, char **argv) {
                     session % 4 == 3 ? "\n" : "");
     }
     try_items();
+    try_hash_items(*fastbloom::filter::make(1, 1000, 10, counting_key()));
+    try_hash_items(*fastbloom::shared_filter::make(1, 1000, 10, counting_key()));
+    try_hash_items(*blocked_filter::make(1, 1000, 10, counting_key()));
+    try_hash_items(*shared_blocked_filter::make(1, 1000, 10, counting_key()));
     try_shared();
     try_refusals();
     try_worked(argv[1], std::string(argv[2]) + "/cpp_blocked.bloom");

@@ -180,6 +180,16 @@ static void sets(const filter &seen) {
     CHECK(even == empty() && !even.contains("item1"));
 }
 
+// The operators of filters that threads share.
+static void shared_sets() {
+    const shared_filter one(empty()), other(empty()), keyed(empty(counting_key()));
+    CHECK(!one.insert("crab") && !other.insert("lobster"));
+    CHECK((one |= other) && one.contains("crab") && one.contains("lobster"));
+    CHECK((one &= other) && !one.contains("crab") && *one.load() == *other.load());
+    CHECK(!(one |= keyed) && !(one &= keyed) && *one.load() == *other.load());
+    CHECK(!(shared_filter{} |= shared_filter{}) && !(shared_filter{} &= shared_filter{}));
+}
+
 // Moves, clones, and filters with no words.
 static void owners(const filter &seen) {
     auto cloned = seen.clone();
@@ -255,6 +265,13 @@ static void files(const std::string &folder, const filter &seen) {
     const fastbloom::mapped_filter moved = *std::move(mapped);
     CHECK(moved.contains_hash(seen.hash("item2")) && *moved.clone() == seen);
     CHECK(mapped->num_words() == 0 && !mapped->contains("item1") && !mapped->clone());
+#ifdef __cpp_lib_span
+    CHECK(moved.words().data() == moved.data() && moved.words().size() == seen.num_words());
+    CHECK(mapped->words().empty());
+    const std::vector<std::uint64_t> hashes{seen.hash("item2"), seen.hash("crab, lobster")};
+    std::vector<std::uint64_t> found{~std::uint64_t{0}};
+    CHECK(moved.contains_hashes(hashes, found) && found[0] == 1);
+#endif
     CHECK(filter::load(path.c_str(), 1).status() == status::too_many_hashes);
     CHECK(filter::load(folder.c_str()).status() == status::input);
     CHECK(seen.save(folder.c_str()) == status::output);
@@ -350,6 +367,7 @@ int main(int argc, char **argv) {
     counts();
     estimates();
     sets(seen);
+    shared_sets();
     owners(seen);
     spans();
     ranges();

@@ -4,6 +4,7 @@ from __future__ import annotations
 
 import ctypes
 import os
+import pickle
 import typing
 from typing import (
     TYPE_CHECKING, Any, Callable, Iterable, List, Optional, Tuple, Type, TypeVar, Union)
@@ -25,11 +26,17 @@ else:  # for typing.get_type_hints, also before Python 3.11
 _LINE = 64  # bytes; a line of the cache has as many
 
 
-def _restored(cls: Type[BlockedFilter], num_hashes: int, key: bytes, words: bytes) -> BlockedFilter:
-    """The filter that was pickled."""
+def _restored(cls: Type[BlockedFilter], num_hashes: int, key: bytes,
+              words: Buffer) -> BlockedFilter:
+    """The filter that was pickled. Its words are copied: they may be another filter's."""
+    lines = memoryview(words).cast("B")
+    if not 1 <= num_hashes < 2**32:
+        raise ValueError("hashes are from 1 to 2^32 - 1")
+    if not lines.nbytes or lines.nbytes % _LINE:
+        raise ValueError("words are whole lines")
     made = cls.__new__(cls)
-    made._set(len(words) // _LINE, num_hashes, key)
-    made._view[:] = words
+    made._set(lines.nbytes // _LINE, num_hashes, key)
+    made._view[:] = lines
     return made
 
 
@@ -294,6 +301,13 @@ class BlockedFilter:
     def __reduce__(self) -> Tuple[Any, ...]:
         """Pickles the words, the number of hashes and the key."""
         return _restored, (type(self), self._num_hashes, self._key, self._words())
+
+    def __reduce_ex__(self, protocol: Any) -> Any:
+        """From protocol 5 on it hands out the words themselves, as a `Filter` does."""
+        if protocol < 5 or type(self).__reduce__ is not BlockedFilter.__reduce__:
+            return self.__reduce__()
+        words = pickle.PickleBuffer(self._view.toreadonly())
+        return _restored, (type(self), self._num_hashes, self._key, words)
 
     def __sizeof__(self) -> int:
         """The bytes of memory, those of its words included."""

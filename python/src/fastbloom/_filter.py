@@ -153,7 +153,7 @@ def _restored(cls: Type[Filter], data: bytes) -> Filter:
 
 def _restored_words(cls: Type[Filter], num_hashes: int, key: bytes, words: Buffer) -> Filter:
     """The filter that was pickled as words, which are copied: they may be another filter's."""
-    memory = bytearray(plain_bytes(words, "words are a bytes-like object"))
+    memory = bytearray(memoryview(words))
     if not 1 <= num_hashes < 2**32:
         raise ValueError("hashes are from 1 to 2^32 - 1")
     if not memory or len(memory) % 8:

@@ -66,10 +66,10 @@ def _hashed(part: List[Any], data: bytes, key: bytes) -> Hashes:
 
 
 def words_of(hashes: Buffer) -> Hashes:
-    """The words of 64 bits of a buffer, and how many. Others raise TypeError."""
+    """The unsigned words of 64 bits of a buffer, and how many. Others raise TypeError."""
     with memoryview(hashes) as view:
         if view.ndim == 0 or view.itemsize != 8 or view.format not in ("Q", "L", "<Q", "<L", "=Q", "=L"):
-            raise TypeError("hashes are a buffer of words of 64 bits")
+            raise TypeError("hashes are a buffer of unsigned words of 64 bits")
         if not view.contiguous:
             raise TypeError("hashes lie one behind the other")
         count = view.nbytes // 8
