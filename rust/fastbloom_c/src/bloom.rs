@@ -182,6 +182,12 @@ impl BloomFilter {
     }
 
     /// The number of positions that an item has.
+    ///
+    /// ```
+    /// # use fastbloom_c::BloomFilter;
+    /// assert_eq!(BloomFilter::with_num_bits(1024)?.hashes(4).num_hashes(), 4);
+    /// # Ok::<(), fastbloom_c::Error>(())
+    /// ```
     #[must_use]
     pub fn num_hashes(&self) -> u32 {
         self.num_hashes
