@@ -486,6 +486,61 @@ impl<W: AsRef<[AtomicU64]>> AtomicBlockedBloomFilter<W> {
     }
 }
 
+/// Inserts each item, as [`insert_all`](AtomicBlockedBloomFilter::insert_all).
+///
+/// ```
+/// # use fastbloom_c::{AtomicBlockedBloomFilter, BlockedBloomFilter};
+/// let plain = BlockedBloomFilter::with_num_bits(1024)?.hashes(4);
+/// let mut seen = AtomicBlockedBloomFilter::from(plain);
+/// seen.extend(["crab", "lobster"]);
+/// assert!(seen.contains("crab") && seen.contains("lobster"));
+/// # Ok::<(), fastbloom_c::Error>(())
+/// ```
+impl<T: AsRef<[u8]>, W: AsRef<[AtomicU64]>> Extend<T> for AtomicBlockedBloomFilter<W> {
+    fn extend<I: IntoIterator<Item = T>>(&mut self, items: I) {
+        self.insert_all(items);
+    }
+}
+
+/// Inserts each item into a filter that others share.
+///
+/// ```
+/// # use fastbloom_c::{AtomicBlockedBloomFilter, BlockedBloomFilter};
+/// let plain = BlockedBloomFilter::with_num_bits(1024)?.hashes(4);
+/// let seen = AtomicBlockedBloomFilter::from(plain);
+/// (&seen).extend(["crab", "lobster"]);
+/// assert!(seen.contains("crab") && seen.contains("lobster"));
+/// # Ok::<(), fastbloom_c::Error>(())
+/// ```
+impl<T: AsRef<[u8]>, W: AsRef<[AtomicU64]>> Extend<T> for &AtomicBlockedBloomFilter<W> {
+    fn extend<I: IntoIterator<Item = T>>(&mut self, items: I) {
+        self.insert_all(items);
+    }
+}
+
+/// A shared filter with lines of its own. The words are loaded one after the other, so where other
+/// threads change the filter meanwhile, the clone may be what it was at no one instant.
+///
+/// ```
+/// # use fastbloom_c::{AtomicBlockedBloomFilter, BlockedBloomFilter};
+/// let plain = BlockedBloomFilter::with_num_bits(1024)?.hashes(4);
+/// let seen = AtomicBlockedBloomFilter::from(plain);
+/// let other = seen.clone();
+/// assert_eq!(other, seen);
+/// other.insert("crab");
+/// assert!(!seen.contains("crab"));
+/// # Ok::<(), fastbloom_c::Error>(())
+/// ```
+///
+/// # Panics
+/// Where there is no memory. [`load`](AtomicBlockedBloomFilter::load) tells this by an error.
+impl Clone for AtomicBlockedBloomFilter {
+    fn clone(&self) -> Self {
+        let plain = self.load();
+        AtomicBlockedBloomFilter::from(plain.unwrap_or_else(|refused| panic!("a clone: {refused}")))
+    }
+}
+
 /// Whether shapes are equal, and the words as they are loaded, one after the other.
 ///
 /// ```

@@ -173,6 +173,14 @@ pub struct Bracket {
 }
 
 impl Bracket {
+    /// The bounds that the library tells of a filter.
+    pub(crate) fn of_filter(told: Option<(u64, u64)>) -> Bracket {
+        match told {
+            Some((low, high)) => Bracket { low, high },
+            None => unreachable!("a filter has from 1 to 2^58 - 1 words"),
+        }
+    }
+
     /// The lower bound.
     ///
     /// ```

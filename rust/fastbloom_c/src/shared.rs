@@ -1,7 +1,7 @@
 //! The filter that threads share, and change without waiting for one another.
 
 use crate::many::{push_bits, Bits, AT_ONCE};
-use crate::{hash, raw, raw_shared, BloomFilter, Error};
+use crate::{hash, raw, raw_shared, BloomFilter, Bracket, Error};
 use std::fmt;
 use std::sync::atomic::{AtomicU64, Ordering};
 
@@ -384,6 +384,38 @@ impl<W: AsRef<[AtomicU64]>> AtomicBloomFilter<W> {
         raw_shared::count_ones(self.as_slice())
     }
 
+    /// Two bounds of the classical formula of the rate of false positives, once this many items are
+    /// in the filter, as [`BloomFilter::expected_false_pos`].
+    ///
+    /// ```
+    /// # use fastbloom_c::{AtomicBloomFilter, BloomFilter};
+    /// let plain = BloomFilter::with_num_bits(64)?.hashes(1);
+    /// let seen = AtomicBloomFilter::from(plain);
+    /// // One item sets one of 64 bits.
+    /// assert_eq!(seen.expected_false_pos(1).to_f64(), 1.0 / 64.0);
+    /// # Ok::<(), fastbloom_c::Error>(())
+    /// ```
+    #[must_use]
+    pub fn expected_false_pos(&self, num_items: usize) -> Bracket {
+        let told = raw::expected_rate(self.as_slice().len(), self.num_hashes, num_items);
+        Bracket::of_filter(told.ok())
+    }
+
+    /// Two bounds of the mean rate of false positives, once this many items are in the filter.
+    ///
+    /// ```
+    /// # use fastbloom_c::{AtomicBloomFilter, BloomFilter};
+    /// let plain = BloomFilter::with_num_bits(1024)?.hashes(4);
+    /// let wanted = plain.false_pos_bounds(100);
+    /// assert_eq!(AtomicBloomFilter::from(plain).false_pos_bounds(100), wanted);
+    /// # Ok::<(), fastbloom_c::Error>(())
+    /// ```
+    #[must_use]
+    pub fn false_pos_bounds(&self, num_items: usize) -> Bracket {
+        let told = raw::rate_bounds(self.as_slice().len(), self.num_hashes, num_items);
+        Bracket::of_filter(told.ok())
+    }
+
     /// The number of positions that an item has.
     ///
     /// ```
@@ -434,6 +466,61 @@ impl<W: AsRef<[AtomicU64]>> AtomicBloomFilter<W> {
     #[must_use]
     pub fn as_slice(&self) -> &[AtomicU64] {
         self.words.as_ref()
+    }
+}
+
+/// Inserts each item, as [`insert_all`](AtomicBloomFilter::insert_all).
+///
+/// ```
+/// # use fastbloom_c::{AtomicBloomFilter, BloomFilter};
+/// let plain = BloomFilter::with_num_bits(1024)?.hashes(4);
+/// let mut seen = AtomicBloomFilter::from(plain);
+/// seen.extend(["crab", "lobster"]);
+/// assert!(seen.contains("crab") && seen.contains("lobster"));
+/// # Ok::<(), fastbloom_c::Error>(())
+/// ```
+impl<T: AsRef<[u8]>, W: AsRef<[AtomicU64]>> Extend<T> for AtomicBloomFilter<W> {
+    fn extend<I: IntoIterator<Item = T>>(&mut self, items: I) {
+        self.insert_all(items);
+    }
+}
+
+/// Inserts each item into a filter that others share.
+///
+/// ```
+/// # use fastbloom_c::{AtomicBloomFilter, BloomFilter};
+/// let plain = BloomFilter::with_num_bits(1024)?.hashes(4);
+/// let seen = AtomicBloomFilter::from(plain);
+/// (&seen).extend(["crab", "lobster"]);
+/// assert!(seen.contains("crab") && seen.contains("lobster"));
+/// # Ok::<(), fastbloom_c::Error>(())
+/// ```
+impl<T: AsRef<[u8]>, W: AsRef<[AtomicU64]>> Extend<T> for &AtomicBloomFilter<W> {
+    fn extend<I: IntoIterator<Item = T>>(&mut self, items: I) {
+        self.insert_all(items);
+    }
+}
+
+/// A shared filter with words of its own. The words are loaded one after the other, so where other
+/// threads change the filter meanwhile, the clone may be what it was at no one instant.
+///
+/// ```
+/// # use fastbloom_c::{AtomicBloomFilter, BloomFilter};
+/// let plain = BloomFilter::with_num_bits(1024)?.hashes(4);
+/// let seen = AtomicBloomFilter::from(plain);
+/// let other = seen.clone();
+/// assert_eq!(other, seen);
+/// other.insert("crab");
+/// assert!(!seen.contains("crab"));
+/// # Ok::<(), fastbloom_c::Error>(())
+/// ```
+///
+/// # Panics
+/// Where there is no memory. [`load`](AtomicBloomFilter::load) tells this by an error.
+impl Clone for AtomicBloomFilter {
+    fn clone(&self) -> Self {
+        let plain = self.load();
+        AtomicBloomFilter::from(plain.unwrap_or_else(|refused| panic!("a clone: {refused}")))
     }
 }
 
