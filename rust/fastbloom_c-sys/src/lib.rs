@@ -6,6 +6,24 @@
 //! `bool` returns false for them, and changes nothing. No call unwinds, and none allocates memory,
 //! waits, or keeps a pointer, but for those on files.
 //!
+//! ```
+//! use fastbloom_c_sys::{fastbloom_contains, fastbloom_insert, fastbloom_plan, FASTBLOOM_OK};
+//!
+//! let (mut num_words, mut num_hashes) = (0, 0);
+//! // SAFETY: both numbers may be written.
+//! let code = unsafe { fastbloom_plan(1, 1000, 1_000_000, &mut num_words, &mut num_hashes) };
+//! assert_eq!(code, FASTBLOOM_OK);
+//!
+//! let (mut words, key, item) = (vec![0; num_words], [0; 16], b"crab");
+//! let (at, key) = (words.as_mut_ptr(), key.as_ptr());
+//! // SAFETY: the words are a vector of this length, the key has sixteen bytes, the item is a slice
+//! // of its length, and no other thread has the words.
+//! unsafe {
+//!     assert!(!fastbloom_insert(at, num_words, num_hashes, key, item.as_ptr(), item.len()));
+//!     assert!(fastbloom_contains(at, num_words, num_hashes, key, item.as_ptr(), item.len()));
+//! }
+//! ```
+//!
 //! # Safety
 //!
 //! The caller of each function keeps these rules:

@@ -78,6 +78,14 @@ pub struct BlockedBuilderWithFalsePositiveRate {
 impl BlockedBloomFilter {
     /// A builder of a filter with at least this many bits, rounded up to whole lines of 512.
     ///
+    /// ```
+    /// # use fastbloom_c::{BlockedBloomFilter, Error};
+    /// let seen = BlockedBloomFilter::with_num_bits(513)?.hashes(4);
+    /// assert_eq!(seen.num_bits(), 1024); // two lines
+    /// assert_eq!(BlockedBloomFilter::with_num_bits(0).unwrap_err(), Error::ZeroBits);
+    /// # Ok::<(), fastbloom_c::Error>(())
+    /// ```
+    ///
     /// # Errors
     /// [`Error::ZeroBits`], [`Error::TooManyWords`] or [`Error::Memory`].
     pub fn with_num_bits(num_bits: usize) -> Result<BlockedBuilderWithBits, Error> {
@@ -125,22 +133,51 @@ impl BlockedBloomFilter {
     /// A builder of a filter with this rate of false positives. One of 1 and above gives the smallest
     /// filter. That the rate is met was measured, and isn't proved: where a
     /// [`BloomFilter`](crate::BloomFilter) has more than 32 bits for each item, it isn't met.
+    ///
+    /// ```
+    /// # use fastbloom_c::{BlockedBloomFilter, Rate};
+    /// let builder = BlockedBloomFilter::with_false_pos(Rate::new(1, 1000)?);
+    /// assert!(builder.items(["crab"])?.contains("crab"));
+    /// # Ok::<(), fastbloom_c::Error>(())
+    /// ```
     pub fn with_false_pos(rate: Rate) -> BlockedBuilderWithFalsePositiveRate {
         BlockedBuilderWithFalsePositiveRate { rate, key: [0; 16] }
     }
 
     /// Inserts an item, and returns whether it was contained before, which may be a false positive.
+    ///
+    /// ```
+    /// # use fastbloom_c::BlockedBloomFilter;
+    /// let mut seen = BlockedBloomFilter::with_num_bits(1024)?.hashes(4);
+    /// assert!(!seen.insert("crab"));
+    /// assert!(seen.insert(b"crab")); // the same bytes
+    /// # Ok::<(), fastbloom_c::Error>(())
+    /// ```
     pub fn insert(&mut self, val: &(impl AsRef<[u8]> + ?Sized)) -> bool {
         raw_blocked::insert(&mut self.lines, self.num_hashes, &self.key, val.as_ref())
     }
 
     /// Whether an item is contained. False: it was never inserted. True may be a false positive.
+    ///
+    /// ```
+    /// # use fastbloom_c::BlockedBloomFilter;
+    /// let seen = BlockedBloomFilter::with_num_bits(1024)?.items(["crab"]);
+    /// assert!(seen.contains("crab") && !seen.contains("lobster"));
+    /// # Ok::<(), fastbloom_c::Error>(())
+    /// ```
     #[must_use]
     pub fn contains(&self, val: &(impl AsRef<[u8]> + ?Sized)) -> bool {
         raw_blocked::contains(&self.lines, self.num_hashes, &self.key, val.as_ref())
     }
 
     /// The hash of an item: SipHash-1-3 of exactly its bytes under the filter's key.
+    ///
+    /// ```
+    /// # use fastbloom_c::{hash, BlockedBloomFilter};
+    /// let seen = BlockedBloomFilter::with_num_bits(1024)?.hashes(4);
+    /// assert_eq!(seen.source_hash("crab"), hash(seen.key(), "crab"));
+    /// # Ok::<(), fastbloom_c::Error>(())
+    /// ```
     #[must_use]
     pub fn source_hash(&self, val: &(impl AsRef<[u8]> + ?Sized)) -> u64 {
         hash(&self.key, val)
@@ -160,12 +197,27 @@ impl BlockedBloomFilter {
     }
 
     /// As [`contains`](Self::contains), by the hash.
+    ///
+    /// ```
+    /// # use fastbloom_c::BlockedBloomFilter;
+    /// let full = BlockedBloomFilter::from_words(&[u64::MAX; 8])?.hashes(4);
+    /// assert!(full.contains_hash(7));
+    /// # Ok::<(), fastbloom_c::Error>(())
+    /// ```
     #[must_use]
     pub fn contains_hash(&self, hash: u64) -> bool {
         raw_blocked::contains_hash(&self.lines, self.num_hashes, hash)
     }
 
     /// Inserts each hash, by one call of the library.
+    ///
+    /// ```
+    /// # use fastbloom_c::BlockedBloomFilter;
+    /// let mut seen = BlockedBloomFilter::with_num_bits(1024)?.hashes(4);
+    /// seen.insert_hashes(&[5, 6]);
+    /// assert!(seen.contains_hash(5) && seen.contains_hash(6));
+    /// # Ok::<(), fastbloom_c::Error>(())
+    /// ```
     pub fn insert_hashes(&mut self, hashes: &[u64]) {
         raw_blocked::insert_hashes(&mut self.lines, self.num_hashes, hashes);
     }
@@ -197,6 +249,14 @@ impl BlockedBloomFilter {
     }
 
     /// Tells for each hash whether it is contained. True may be a false positive.
+    ///
+    /// ```
+    /// # use fastbloom_c::BlockedBloomFilter;
+    /// let mut seen = BlockedBloomFilter::with_num_bits(1024)?.hashes(4);
+    /// seen.insert_hashes(&[5, 6]);
+    /// assert_eq!(seen.contains_hashes(&[6, 5]), [true, true]);
+    /// # Ok::<(), fastbloom_c::Error>(())
+    /// ```
     #[must_use]
     pub fn contains_hashes(&self, hashes: &[u64]) -> Vec<bool> {
         let mut told = Vec::with_capacity(hashes.len());
@@ -211,6 +271,14 @@ impl BlockedBloomFilter {
 
     /// Inserts each item of an iterator, many by one call of the library. Where the iterator panics,
     /// some of the items before may not be inserted.
+    ///
+    /// ```
+    /// # use fastbloom_c::BlockedBloomFilter;
+    /// let mut seen = BlockedBloomFilter::with_num_bits(1024)?.hashes(4);
+    /// seen.insert_all(["crab", "lobster"]);
+    /// assert!(seen.contains("crab") && seen.contains("lobster"));
+    /// # Ok::<(), fastbloom_c::Error>(())
+    /// ```
     pub fn insert_all<T: AsRef<[u8]>>(&mut self, items: impl IntoIterator<Item = T>) {
         let mut hashes = Vec::with_capacity(AT_ONCE);
         for item in items {
@@ -224,12 +292,29 @@ impl BlockedBloomFilter {
     }
 
     /// Removes every item.
+    ///
+    /// ```
+    /// # use fastbloom_c::BlockedBloomFilter;
+    /// let mut seen = BlockedBloomFilter::with_num_bits(1024)?.items(["crab"]);
+    /// seen.clear();
+    /// assert_eq!(seen.count_ones(), 0);
+    /// # Ok::<(), fastbloom_c::Error>(())
+    /// ```
     pub fn clear(&mut self) {
         raw_blocked::clear(&mut self.lines);
     }
 
     /// Whether [`union`](Self::union) and [`intersect`](Self::intersect) take the other filter: it
     /// has as many words and hashes, and the same key.
+    ///
+    /// ```
+    /// # use fastbloom_c::BlockedBloomFilter;
+    /// let seen = BlockedBloomFilter::with_num_bits(512)?.hashes(2);
+    /// assert!(seen.same_shape(&seen.clone()));
+    /// assert!(!seen.same_shape(&BlockedBloomFilter::with_num_bits(513)?.hashes(2)));
+    /// assert!(!seen.same_shape(&BlockedBloomFilter::with_num_bits(512)?.seed(&1).hashes(2)));
+    /// # Ok::<(), fastbloom_c::Error>(())
+    /// ```
     #[must_use]
     pub fn same_shape(&self, other: &BlockedBloomFilter) -> bool {
         self.lines.len() == other.lines.len()
@@ -238,6 +323,15 @@ impl BlockedBloomFilter {
     }
 
     /// Takes the items of the other filter in.
+    ///
+    /// ```
+    /// # use fastbloom_c::BlockedBloomFilter;
+    /// let mut seen = BlockedBloomFilter::with_num_bits(1024)?.items(["crab", "lobster"]);
+    /// let other = BlockedBloomFilter::with_num_bits(1024)?.items(["lobster", "whale"]);
+    /// seen.union(&other)?;
+    /// assert!(["crab", "lobster", "whale"].iter().all(|name| seen.contains(name)));
+    /// # Ok::<(), fastbloom_c::Error>(())
+    /// ```
     ///
     /// # Errors
     /// [`Error::OtherShape`] where the filters differ in words, hashes or keys.
@@ -251,6 +345,15 @@ impl BlockedBloomFilter {
 
     /// Keeps only what may be in both filters.
     ///
+    /// ```
+    /// # use fastbloom_c::BlockedBloomFilter;
+    /// let mut seen = BlockedBloomFilter::with_num_bits(1024)?.items(["crab", "lobster"]);
+    /// let other = BlockedBloomFilter::with_num_bits(1024)?.items(["lobster", "whale"]);
+    /// seen.intersect(&other)?;
+    /// assert!(seen.contains("lobster") && !seen.contains("crab"));
+    /// # Ok::<(), fastbloom_c::Error>(())
+    /// ```
+    ///
     /// # Errors
     /// [`Error::OtherShape`] where the filters differ in words, hashes or keys.
     pub fn intersect(&mut self, other: &BlockedBloomFilter) -> Result<(), Error> {
@@ -262,35 +365,75 @@ impl BlockedBloomFilter {
     }
 
     /// The number of positions that an item has.
+    ///
+    /// ```
+    /// # use fastbloom_c::BlockedBloomFilter;
+    /// assert_eq!(BlockedBloomFilter::with_num_bits(1024)?.hashes(4).num_hashes(), 4);
+    /// # Ok::<(), fastbloom_c::Error>(())
+    /// ```
     #[must_use]
     pub fn num_hashes(&self) -> u32 {
         self.num_hashes
     }
 
     /// The number of bits, 512 for each line.
+    ///
+    /// ```
+    /// # use fastbloom_c::BlockedBloomFilter;
+    /// assert_eq!(BlockedBloomFilter::with_num_bits(1)?.hashes(4).num_bits(), 512);
+    /// # Ok::<(), fastbloom_c::Error>(())
+    /// ```
     #[must_use]
     pub fn num_bits(&self) -> usize {
         64 * self.as_slice().len()
     }
 
     /// The key, which decides the hash of an item. It may be secret.
+    ///
+    /// ```
+    /// # use fastbloom_c::BlockedBloomFilter;
+    /// let seen = BlockedBloomFilter::with_num_bits(512)?.seed(&42).hashes(1);
+    /// assert_eq!(u128::from_be_bytes(*seen.key()), 42);
+    /// # Ok::<(), fastbloom_c::Error>(())
+    /// ```
     #[must_use]
     pub fn key(&self) -> &[u8; 16] {
         &self.key
     }
 
     /// The words, eight in a line. They begin where a line of the cache does.
+    ///
+    /// ```
+    /// # use fastbloom_c::BlockedBloomFilter;
+    /// let seen = BlockedBloomFilter::from_words(&[5, 6, 0, 0, 0, 0, 0, 0])?.hashes(1);
+    /// assert_eq!(seen.as_slice(), [5, 6, 0, 0, 0, 0, 0, 0]);
+    /// # Ok::<(), fastbloom_c::Error>(())
+    /// ```
     #[must_use]
     pub fn as_slice(&self) -> &[u64] {
         raw_blocked::words(&self.lines)
     }
 
     /// The words, by value.
+    ///
+    /// ```
+    /// # use fastbloom_c::BlockedBloomFilter;
+    /// let seen = BlockedBloomFilter::from_words(&[5, 6, 0, 0, 0, 0, 0, 0])?.hashes(1);
+    /// assert_eq!(seen.iter().sum::<u64>(), 11);
+    /// # Ok::<(), fastbloom_c::Error>(())
+    /// ```
     pub fn iter(&self) -> impl ExactSizeIterator<Item = u64> + '_ {
         self.as_slice().iter().copied()
     }
 
     /// The number of bits that are set.
+    ///
+    /// ```
+    /// # use fastbloom_c::BlockedBloomFilter;
+    /// let seen = BlockedBloomFilter::from_words(&[5, 6, 0, 0, 0, 0, 0, 0])?.hashes(1);
+    /// assert_eq!(seen.count_ones(), 4);
+    /// # Ok::<(), fastbloom_c::Error>(())
+    /// ```
     #[must_use]
     pub fn count_ones(&self) -> usize {
         raw::count_ones(self.as_slice())
@@ -299,6 +442,14 @@ impl BlockedBloomFilter {
 
 impl BlockedBuilderWithBits {
     /// Sets the key: the sixteen big-endian bytes of the seed.
+    ///
+    /// ```
+    /// # use fastbloom_c::BlockedBloomFilter;
+    /// let key = *b"sixteen bytes...";
+    /// let seed = u128::from_be_bytes(key);
+    /// assert_eq!(BlockedBloomFilter::with_num_bits(512)?.seed(&seed).hashes(1).key(), &key);
+    /// # Ok::<(), fastbloom_c::Error>(())
+    /// ```
     #[must_use]
     pub fn seed(self, seed: &u128) -> Self {
         BlockedBuilderWithBits {
@@ -308,6 +459,14 @@ impl BlockedBuilderWithBits {
     }
 
     /// The filter with this many hashes, where 0 counts as 1.
+    ///
+    /// ```
+    /// # use fastbloom_c::BlockedBloomFilter;
+    /// let builder = BlockedBloomFilter::with_num_bits(512)?;
+    /// assert_eq!(builder.clone().hashes(4).num_hashes(), 4);
+    /// assert_eq!(builder.hashes(0).num_hashes(), 1);
+    /// # Ok::<(), fastbloom_c::Error>(())
+    /// ```
     #[must_use]
     pub fn hashes(self, num_hashes: u32) -> BlockedBloomFilter {
         BlockedBloomFilter {
@@ -356,6 +515,13 @@ impl BlockedBuilderWithBits {
 
 impl BlockedBuilderWithFalsePositiveRate {
     /// Sets the key: the sixteen big-endian bytes of the seed.
+    ///
+    /// ```
+    /// # use fastbloom_c::{BlockedBloomFilter, Rate};
+    /// let builder = BlockedBloomFilter::with_false_pos(Rate::new(1, 1000)?).seed(&42);
+    /// assert_eq!(u128::from_be_bytes(*builder.expected_items(10)?.key()), 42);
+    /// # Ok::<(), fastbloom_c::Error>(())
+    /// ```
     #[must_use]
     pub fn seed(self, seed: &u128) -> Self {
         BlockedBuilderWithFalsePositiveRate {
@@ -365,6 +531,13 @@ impl BlockedBuilderWithFalsePositiveRate {
     }
 
     /// The empty filter for this many items, where 0 counts as 1.
+    ///
+    /// ```
+    /// # use fastbloom_c::{BlockedBloomFilter, Rate};
+    /// let builder = BlockedBloomFilter::with_false_pos(Rate::new(1, 1000)?);
+    /// assert_eq!(builder.expected_items(1000)?.count_ones(), 0); // it is empty
+    /// # Ok::<(), fastbloom_c::Error>(())
+    /// ```
     ///
     /// # Errors
     /// [`Error::SizeOverflow`], [`Error::TooManyWords`] or [`Error::Memory`].
@@ -379,6 +552,14 @@ impl BlockedBuilderWithFalsePositiveRate {
     }
 
     /// The filter of these items.
+    ///
+    /// ```
+    /// # use fastbloom_c::{BlockedBloomFilter, Rate};
+    /// let builder = BlockedBloomFilter::with_false_pos(Rate::new(1, 1000)?);
+    /// let seen = builder.items(["42", "🦀"])?;
+    /// assert!(seen.contains("42") && seen.contains("🦀"));
+    /// # Ok::<(), fastbloom_c::Error>(())
+    /// ```
     ///
     /// # Errors
     /// As [`expected_items`](Self::expected_items).
@@ -396,6 +577,14 @@ impl BlockedBuilderWithFalsePositiveRate {
 }
 
 /// Inserts each item, as [`insert_all`](BlockedBloomFilter::insert_all).
+///
+/// ```
+/// # use fastbloom_c::BlockedBloomFilter;
+/// let mut seen = BlockedBloomFilter::with_num_bits(1024)?.hashes(4);
+/// seen.extend("crab and lobster".split(' '));
+/// assert!(seen.contains("lobster"));
+/// # Ok::<(), fastbloom_c::Error>(())
+/// ```
 impl<T: AsRef<[u8]>> Extend<T> for BlockedBloomFilter {
     fn extend<I: IntoIterator<Item = T>>(&mut self, items: I) {
         self.insert_all(items);

@@ -29,6 +29,14 @@ impl InFile for BlockedBloomFilter {
 
 impl BlockedBloomFilter {
     /// The head of this filter's file, as [`BloomFilter::head`](crate::BloomFilter::head).
+    ///
+    /// ```
+    /// # use fastbloom_c::BlockedBloomFilter;
+    /// let seen = BlockedBloomFilter::with_num_bits(512)?.items(["crab"]);
+    /// assert_eq!(seen.head(true), seen.to_bytes()[..64]);
+    /// assert_eq!(seen.head(false)[40..48], [0; 8]);
+    /// # Ok::<(), fastbloom_c::Error>(())
+    /// ```
     #[must_use]
     pub fn head(&self, sealed: bool) -> [u8; 64] {
         in_file::head(self, sealed)
@@ -50,6 +58,15 @@ impl BlockedBloomFilter {
 
     /// The filter of a file's bytes, which has at most 64 hashes.
     ///
+    /// ```
+    /// # use fastbloom_c::{BlockedBloomFilter, BloomFilter, Error};
+    /// let plain = BloomFilter::with_num_bits(512)?.items(["crab"]).to_bytes();
+    /// assert_eq!(BlockedBloomFilter::from_bytes(&plain), Err(Error::NotBlocked));
+    /// let lines = BlockedBloomFilter::with_num_bits(512)?.items(["crab"]).to_bytes();
+    /// assert!(BlockedBloomFilter::from_bytes(&lines)?.contains("crab"));
+    /// # Ok::<(), fastbloom_c::Error>(())
+    /// ```
+    ///
     /// # Errors
     /// As [`BloomFilter::from_bytes`](crate::BloomFilter::from_bytes); but [`Error::NotBlocked`]
     /// where the filter isn't blocked, and then [`Error::PartOfALine`].
@@ -58,6 +75,15 @@ impl BlockedBloomFilter {
     }
 
     /// As [`from_bytes`](Self::from_bytes), with at most this many hashes.
+    ///
+    /// ```
+    /// # use fastbloom_c::{BlockedBloomFilter, Error};
+    /// let bytes = BlockedBloomFilter::with_num_bits(512)?.hashes(65).to_bytes();
+    /// assert_eq!(BlockedBloomFilter::from_bytes(&bytes), Err(Error::TooManyHashes));
+    /// let allowed = BlockedBloomFilter::from_bytes_with_hashes(&bytes, 65)?;
+    /// assert_eq!(allowed.num_hashes(), 65);
+    /// # Ok::<(), fastbloom_c::Error>(())
+    /// ```
     ///
     /// # Errors
     /// As [`from_bytes`](Self::from_bytes).
@@ -70,13 +96,30 @@ impl BlockedBloomFilter {
 
     /// Writes the file of this filter, sealed.
     ///
+    /// ```
+    /// # use fastbloom_c::BlockedBloomFilter;
+    /// let seen = BlockedBloomFilter::with_num_bits(1024)?.items(["crab"]);
+    /// let mut file = Vec::new();
+    /// seen.write_file(&mut file)?;
+    /// assert_eq!(file, seen.to_bytes());
+    /// # Ok::<(), Box<dyn std::error::Error>>(())
+    /// ```
+    ///
     /// # Errors
     /// That of a write that failed.
     pub fn write_file(&self, output: &mut impl Write) -> io::Result<()> {
-        in_file::write(self, output)
+        in_file::write(self, output, true)
     }
 
     /// Reads a file to its end, which has at most 64 hashes. Memory is asked for as words come.
+    ///
+    /// ```
+    /// # use fastbloom_c::BlockedBloomFilter;
+    /// let seen = BlockedBloomFilter::with_num_bits(512)?.items(["crab"]);
+    /// let bytes = seen.to_bytes();
+    /// assert_eq!(BlockedBloomFilter::read_file(&mut &bytes[..])?, seen);
+    /// # Ok::<(), Box<dyn std::error::Error>>(())
+    /// ```
     ///
     /// # Errors
     /// As [`from_bytes`](Self::from_bytes), but [`Error::Memory`] may come before [`Error::Cut`]
@@ -101,10 +144,43 @@ impl BlockedBloomFilter {
     /// # Errors
     /// That of the file system. What was at the path is then still there.
     pub fn save(&self, path: impl AsRef<Path>) -> io::Result<()> {
-        save(path.as_ref(), |file| self.write_file(file))
+        save(path.as_ref(), |file| in_file::write(self, file, true))
+    }
+
+    /// As [`save`](Self::save), without a seal: a file that
+    /// [`AtomicBlockedBloomFilter::map`](crate::AtomicBlockedBloomFilter::map) takes. No reader
+    /// finds out whether its words were changed.
+    ///
+    /// ```
+    /// # use fastbloom_c::BlockedBloomFilter;
+    /// # let name = format!("unsealed_lines.{}.bloom", std::process::id());
+    /// # let path = std::env::temp_dir().join(name);
+    /// let seen = BlockedBloomFilter::with_num_bits(1024)?.hashes(4);
+    /// seen.save_unsealed(&path)?;
+    /// assert_eq!(std::fs::read(&path)?[..64], seen.head(false));
+    /// assert_eq!(BlockedBloomFilter::load(&path)?, seen);
+    /// # std::fs::remove_file(&path)?;
+    /// # Ok::<(), Box<dyn std::error::Error>>(())
+    /// ```
+    ///
+    /// # Errors
+    /// As [`save`](Self::save).
+    pub fn save_unsealed(&self, path: impl AsRef<Path>) -> io::Result<()> {
+        save(path.as_ref(), |file| in_file::write(self, file, false))
     }
 
     /// Reads the file at a path, as [`read_file`](Self::read_file).
+    ///
+    /// ```
+    /// # use fastbloom_c::{BlockedBloomFilter, Error};
+    /// # let path = std::env::temp_dir().join(format!("load_lines.{}.bloom", std::process::id()));
+    /// let refused = BlockedBloomFilter::load(&path).unwrap_err();
+    /// assert!(matches!(refused, Error::Input(_))); // there is no file yet
+    /// BlockedBloomFilter::with_num_bits(1024)?.items(["crab"]).save(&path)?;
+    /// assert!(BlockedBloomFilter::load(&path)?.contains("crab"));
+    /// # std::fs::remove_file(&path)?;
+    /// # Ok::<(), Box<dyn std::error::Error>>(())
+    /// ```
     ///
     /// # Errors
     /// As `read_file`; and [`Error::Input`] where the file can't be opened.

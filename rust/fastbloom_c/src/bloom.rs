@@ -182,6 +182,12 @@ impl BloomFilter {
     }
 
     /// The number of positions that an item has.
+    ///
+    /// ```
+    /// # use fastbloom_c::BloomFilter;
+    /// assert_eq!(BloomFilter::with_num_bits(1024)?.hashes(4).num_hashes(), 4);
+    /// # Ok::<(), fastbloom_c::Error>(())
+    /// ```
     #[must_use]
     pub fn num_hashes(&self) -> u32 {
         self.num_hashes
@@ -263,10 +269,8 @@ impl BloomFilter {
     /// ```
     #[must_use]
     pub fn expected_false_pos(&self, num_items: usize) -> Bracket {
-        match raw::expected_rate(self.words.len(), self.num_hashes, num_items) {
-            Ok((low, high)) => Bracket { low, high },
-            Err(_) => unreachable!("a filter has from 1 to 2^58 - 1 words"),
-        }
+        let told = raw::expected_rate(self.words.len(), self.num_hashes, num_items);
+        Bracket::of_filter(told.ok())
     }
 
     /// Two bounds of the mean rate of false positives, once this many items are in the filter.
@@ -280,10 +284,8 @@ impl BloomFilter {
     /// ```
     #[must_use]
     pub fn false_pos_bounds(&self, num_items: usize) -> Bracket {
-        match raw::rate_bounds(self.words.len(), self.num_hashes, num_items) {
-            Ok((low, high)) => Bracket { low, high },
-            Err(_) => unreachable!("a filter has from 1 to 2^58 - 1 words"),
-        }
+        let told = raw::rate_bounds(self.words.len(), self.num_hashes, num_items);
+        Bracket::of_filter(told.ok())
     }
 
     /// Two bounds of the rate of false positives of the filter as it is: the part of all look-ups,
@@ -297,10 +299,7 @@ impl BloomFilter {
     /// ```
     #[must_use]
     pub fn false_pos_now(&self) -> Bracket {
-        match raw::rate_now(&self.words, self.num_hashes) {
-            Some((low, high)) => Bracket { low, high },
-            None => unreachable!("a filter has from 1 to 2^58 - 1 words"),
-        }
+        Bracket::of_filter(raw::rate_now(&self.words, self.num_hashes))
     }
 }
 

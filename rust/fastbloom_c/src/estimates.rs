@@ -27,12 +27,28 @@ impl Estimate {
     }
 
     /// The lower bound.
+    ///
+    /// ```
+    /// # use fastbloom_c::BloomFilter;
+    /// // One of 64 bits is set, by one hash.
+    /// let one = BloomFilter::from_vec(vec![1])?.hashes(1).estimated_items();
+    /// assert_eq!(one.low(), 1);
+    /// # Ok::<(), fastbloom_c::Error>(())
+    /// ```
     #[must_use]
     pub fn low(&self) -> usize {
         self.low
     }
 
     /// The upper bound, or `None` where no number of items is too many.
+    ///
+    /// ```
+    /// # use fastbloom_c::BloomFilter;
+    /// // One of 64 bits is set, by one hash.
+    /// let one = BloomFilter::from_vec(vec![1])?.hashes(1).estimated_items();
+    /// assert_eq!(one.high(), Some(1));
+    /// # Ok::<(), fastbloom_c::Error>(())
+    /// ```
     #[must_use]
     pub fn high(&self) -> Option<usize> {
         self.high

@@ -98,7 +98,7 @@ impl BloomFilter {
     /// # Errors
     /// That of a write that failed.
     pub fn write_file(&self, output: &mut impl Write) -> io::Result<()> {
-        in_file::write(self, output)
+        in_file::write(self, output, true)
     }
 
     /// Reads a file to its end, which has at most 64 hashes. Memory is asked for as words come.

@@ -88,9 +88,9 @@ pub(crate) fn to_bytes(filter: &impl InFile) -> Vec<u8> {
     bytes
 }
 
-/// Writes the file of a filter, sealed.
-pub(crate) fn write(filter: &impl InFile, output: &mut impl Write) -> io::Result<()> {
-    output.write_all(&head(filter, true))?;
+/// Writes the file of a filter, with a seal or without one.
+pub(crate) fn write(filter: &impl InFile, output: &mut impl Write, sealed: bool) -> io::Result<()> {
+    output.write_all(&head(filter, sealed))?;
     let mut buffer = [0; 8 * AT_ONCE];
     for words in filter.parts().0.chunks(AT_ONCE) {
         for (place, word) in buffer.chunks_exact_mut(8).zip(words) {

@@ -92,6 +92,20 @@ pub struct MappedFilter(Mapping);
 impl MappedFilter {
     /// Maps the file at a path. A file with a seal is read once, whole, to compare it.
     ///
+    /// ```
+    /// # use fastbloom_c::{BloomFilter, Error, MappedFilter};
+    /// # let path = std::env::temp_dir().join(format!("mapped_open.{}.bloom", std::process::id()));
+    /// BloomFilter::with_num_bits(1024)?.hashes(4).save(&path)?;
+    /// // SAFETY: nobody else knows the file.
+    /// assert_eq!(unsafe { MappedFilter::open(&path)? }.num_bits(), 1024);
+    /// std::fs::write(&path, "a text, and no filter")?;
+    /// // SAFETY: as above.
+    /// let refused = unsafe { MappedFilter::open(&path) }.unwrap_err();
+    /// assert_eq!(refused, Error::NotAFilter);
+    /// # std::fs::remove_file(&path)?;
+    /// # Ok::<(), Box<dyn std::error::Error>>(())
+    /// ```
+    ///
     /// # Errors
     /// As [`BloomFilter::read_file`]; and [`Error::Input`] where the file can't be opened or mapped.
     ///
@@ -105,42 +119,125 @@ impl MappedFilter {
     }
 
     /// Whether an item is contained. False: it was never inserted. True may be a false positive.
+    ///
+    /// ```
+    /// # use fastbloom_c::{BloomFilter, MappedFilter};
+    /// # let name = format!("mapped_contains.{}.bloom", std::process::id());
+    /// # let path = std::env::temp_dir().join(name);
+    /// BloomFilter::with_num_bits(64)?.items(["crab"]).save(&path)?;
+    /// // SAFETY: nobody else knows the file.
+    /// let seen = unsafe { MappedFilter::open(&path)? };
+    /// assert!(seen.contains("crab") && !seen.contains("lobster"));
+    /// # std::fs::remove_file(&path)?;
+    /// # Ok::<(), Box<dyn std::error::Error>>(())
+    /// ```
     #[must_use]
     pub fn contains(&self, val: &(impl AsRef<[u8]> + ?Sized)) -> bool {
         raw::contains(self.as_slice(), self.num_hashes(), self.key(), val.as_ref())
     }
 
     /// The hash of an item: SipHash-1-3 of exactly its bytes under the filter's key.
+    ///
+    /// ```
+    /// # use fastbloom_c::{BloomFilter, MappedFilter};
+    /// # let name = format!("mapped_source_hash.{}.bloom", std::process::id());
+    /// # let path = std::env::temp_dir().join(name);
+    /// BloomFilter::with_num_bits(64)?.seed(&42).items(["crab"]).save(&path)?;
+    /// // SAFETY: nobody else knows the file.
+    /// let seen = unsafe { MappedFilter::open(&path)? };
+    /// assert_eq!(seen.source_hash("crab"), fastbloom_c::hash(seen.key(), "crab"));
+    /// # std::fs::remove_file(&path)?;
+    /// # Ok::<(), Box<dyn std::error::Error>>(())
+    /// ```
     #[must_use]
     pub fn source_hash(&self, val: &(impl AsRef<[u8]> + ?Sized)) -> u64 {
         hash(self.key(), val)
     }
 
     /// As [`contains`](Self::contains), by the hash.
+    ///
+    /// ```
+    /// # use fastbloom_c::{BloomFilter, MappedFilter};
+    /// # let name = format!("mapped_contains_hash.{}.bloom", std::process::id());
+    /// # let path = std::env::temp_dir().join(name);
+    /// BloomFilter::with_num_bits(64)?.items(["crab"]).save(&path)?;
+    /// // SAFETY: nobody else knows the file.
+    /// let seen = unsafe { MappedFilter::open(&path)? };
+    /// assert!(seen.contains_hash(seen.source_hash("crab")));
+    /// # std::fs::remove_file(&path)?;
+    /// # Ok::<(), Box<dyn std::error::Error>>(())
+    /// ```
     #[must_use]
     pub fn contains_hash(&self, hash: u64) -> bool {
         raw::contains_hash(self.as_slice(), self.num_hashes(), hash)
     }
 
     /// The number of hashes, which isn't 0.
+    ///
+    /// ```
+    /// # use fastbloom_c::{BloomFilter, MappedFilter};
+    /// # let name = format!("mapped_num_hashes.{}.bloom", std::process::id());
+    /// # let path = std::env::temp_dir().join(name);
+    /// BloomFilter::with_num_bits(1024)?.hashes(4).save(&path)?;
+    /// // SAFETY: nobody else knows the file.
+    /// let seen = unsafe { MappedFilter::open(&path)? };
+    /// assert_eq!(seen.num_hashes(), 4);
+    /// # std::fs::remove_file(&path)?;
+    /// # Ok::<(), Box<dyn std::error::Error>>(())
+    /// ```
     #[must_use]
     pub fn num_hashes(&self) -> u32 {
         self.0 .0.num_hashes
     }
 
     /// The number of bits.
+    ///
+    /// ```
+    /// # use fastbloom_c::{BloomFilter, MappedFilter};
+    /// # let name = format!("mapped_num_bits.{}.bloom", std::process::id());
+    /// # let path = std::env::temp_dir().join(name);
+    /// BloomFilter::with_num_bits(1000)?.hashes(4).save(&path)?;
+    /// // SAFETY: nobody else knows the file.
+    /// let seen = unsafe { MappedFilter::open(&path)? };
+    /// assert_eq!(seen.num_bits(), 1024);
+    /// # std::fs::remove_file(&path)?;
+    /// # Ok::<(), Box<dyn std::error::Error>>(())
+    /// ```
     #[must_use]
     pub fn num_bits(&self) -> usize {
         raw::num_bits(self.as_slice().len())
     }
 
     /// The key.
+    ///
+    /// ```
+    /// # use fastbloom_c::{BloomFilter, MappedFilter};
+    /// # let path = std::env::temp_dir().join(format!("mapped_key.{}.bloom", std::process::id()));
+    /// BloomFilter::with_num_bits(1024)?.seed(&42).hashes(4).save(&path)?;
+    /// // SAFETY: nobody else knows the file.
+    /// let seen = unsafe { MappedFilter::open(&path)? };
+    /// assert_eq!(u128::from_be_bytes(*seen.key()), 42);
+    /// # std::fs::remove_file(&path)?;
+    /// # Ok::<(), Box<dyn std::error::Error>>(())
+    /// ```
     #[must_use]
     pub fn key(&self) -> &[u8; 16] {
         &self.0 .0.key
     }
 
     /// The words, as they lie in the file.
+    ///
+    /// ```
+    /// # use fastbloom_c::{BloomFilter, MappedFilter};
+    /// # let name = format!("mapped_as_slice.{}.bloom", std::process::id());
+    /// # let path = std::env::temp_dir().join(name);
+    /// BloomFilter::from_vec(vec![5, 6])?.hashes(1).save(&path)?;
+    /// // SAFETY: nobody else knows the file.
+    /// let seen = unsafe { MappedFilter::open(&path)? };
+    /// assert_eq!(seen.as_slice(), [5, 6]);
+    /// # std::fs::remove_file(&path)?;
+    /// # Ok::<(), Box<dyn std::error::Error>>(())
+    /// ```
     #[must_use]
     pub fn as_slice(&self) -> &[u64] {
         // SAFETY: `open` mapped it to be read.
@@ -148,6 +245,19 @@ impl MappedFilter {
     }
 
     /// A filter with words of its own.
+    ///
+    /// ```
+    /// # use fastbloom_c::{BloomFilter, MappedFilter};
+    /// # let name = format!("mapped_to_filter.{}.bloom", std::process::id());
+    /// # let path = std::env::temp_dir().join(name);
+    /// let saved = BloomFilter::with_num_bits(64)?.items(["crab"]);
+    /// saved.save(&path)?;
+    /// // SAFETY: nobody else knows the file.
+    /// let mapped = unsafe { MappedFilter::open(&path)? };
+    /// assert_eq!(mapped.to_filter()?, saved);
+    /// # std::fs::remove_file(&path)?;
+    /// # Ok::<(), Box<dyn std::error::Error>>(())
+    /// ```
     ///
     /// # Errors
     /// [`Error::Memory`].
@@ -189,6 +299,21 @@ pub struct MappedBlockedFilter(Mapping);
 impl MappedBlockedFilter {
     /// Maps the file at a path. A file with a seal is read once, whole, to compare it.
     ///
+    /// ```
+    /// # use fastbloom_c::{BlockedBloomFilter, Error, MappedBlockedFilter};
+    /// # let name = format!("mapped_lines_open.{}.bloom", std::process::id());
+    /// # let path = std::env::temp_dir().join(name);
+    /// BlockedBloomFilter::with_num_bits(1024)?.hashes(4).save(&path)?;
+    /// // SAFETY: nobody else knows the file.
+    /// assert_eq!(unsafe { MappedBlockedFilter::open(&path)? }.num_bits(), 1024);
+    /// std::fs::write(&path, "a text, and no filter")?;
+    /// // SAFETY: as above.
+    /// let refused = unsafe { MappedBlockedFilter::open(&path) }.unwrap_err();
+    /// assert_eq!(refused, Error::NotAFilter);
+    /// # std::fs::remove_file(&path)?;
+    /// # Ok::<(), Box<dyn std::error::Error>>(())
+    /// ```
+    ///
     /// # Errors
     /// As [`BlockedBloomFilter::read_file`]; and [`Error::Input`] where the file can't be opened or
     /// mapped.
@@ -209,42 +334,126 @@ impl MappedBlockedFilter {
 
     /// Whether an item is contained. It may be a false positive, and is never false for one that was
     /// inserted.
+    ///
+    /// ```
+    /// # use fastbloom_c::{BlockedBloomFilter, MappedBlockedFilter};
+    /// # let name = format!("mapped_lines_contains.{}.bloom", std::process::id());
+    /// # let path = std::env::temp_dir().join(name);
+    /// BlockedBloomFilter::with_num_bits(512)?.items(["crab"]).save(&path)?;
+    /// // SAFETY: nobody else knows the file.
+    /// let seen = unsafe { MappedBlockedFilter::open(&path)? };
+    /// assert!(seen.contains("crab") && !seen.contains("lobster"));
+    /// # std::fs::remove_file(&path)?;
+    /// # Ok::<(), Box<dyn std::error::Error>>(())
+    /// ```
     #[must_use]
     pub fn contains(&self, val: &(impl AsRef<[u8]> + ?Sized)) -> bool {
         raw_blocked::contains(self.lines(), self.num_hashes(), self.key(), val.as_ref())
     }
 
     /// The hash of an item: SipHash-1-3 of exactly its bytes under the filter's key.
+    ///
+    /// ```
+    /// # use fastbloom_c::{BlockedBloomFilter, MappedBlockedFilter};
+    /// # let name = format!("mapped_lines_source_hash.{}.bloom", std::process::id());
+    /// # let path = std::env::temp_dir().join(name);
+    /// BlockedBloomFilter::with_num_bits(512)?.seed(&42).items(["crab"]).save(&path)?;
+    /// // SAFETY: nobody else knows the file.
+    /// let seen = unsafe { MappedBlockedFilter::open(&path)? };
+    /// assert_eq!(seen.source_hash("crab"), fastbloom_c::hash(seen.key(), "crab"));
+    /// # std::fs::remove_file(&path)?;
+    /// # Ok::<(), Box<dyn std::error::Error>>(())
+    /// ```
     #[must_use]
     pub fn source_hash(&self, val: &(impl AsRef<[u8]> + ?Sized)) -> u64 {
         hash(self.key(), val)
     }
 
     /// As [`contains`](Self::contains), by the hash.
+    ///
+    /// ```
+    /// # use fastbloom_c::{BlockedBloomFilter, MappedBlockedFilter};
+    /// # let name = format!("mapped_lines_contains_hash.{}.bloom", std::process::id());
+    /// # let path = std::env::temp_dir().join(name);
+    /// BlockedBloomFilter::with_num_bits(512)?.items(["crab"]).save(&path)?;
+    /// // SAFETY: nobody else knows the file.
+    /// let seen = unsafe { MappedBlockedFilter::open(&path)? };
+    /// assert!(seen.contains_hash(seen.source_hash("crab")));
+    /// # std::fs::remove_file(&path)?;
+    /// # Ok::<(), Box<dyn std::error::Error>>(())
+    /// ```
     #[must_use]
     pub fn contains_hash(&self, hash: u64) -> bool {
         raw_blocked::contains_hash(self.lines(), self.num_hashes(), hash)
     }
 
     /// The number of hashes, which isn't 0.
+    ///
+    /// ```
+    /// # use fastbloom_c::{BlockedBloomFilter, MappedBlockedFilter};
+    /// # let name = format!("mapped_lines_num_hashes.{}.bloom", std::process::id());
+    /// # let path = std::env::temp_dir().join(name);
+    /// BlockedBloomFilter::with_num_bits(1024)?.hashes(4).save(&path)?;
+    /// // SAFETY: nobody else knows the file.
+    /// let seen = unsafe { MappedBlockedFilter::open(&path)? };
+    /// assert_eq!(seen.num_hashes(), 4);
+    /// # std::fs::remove_file(&path)?;
+    /// # Ok::<(), Box<dyn std::error::Error>>(())
+    /// ```
     #[must_use]
     pub fn num_hashes(&self) -> u32 {
         self.0 .0.num_hashes
     }
 
     /// The number of bits, 512 for each line.
+    ///
+    /// ```
+    /// # use fastbloom_c::{BlockedBloomFilter, MappedBlockedFilter};
+    /// # let name = format!("mapped_lines_num_bits.{}.bloom", std::process::id());
+    /// # let path = std::env::temp_dir().join(name);
+    /// BlockedBloomFilter::with_num_bits(1000)?.hashes(4).save(&path)?;
+    /// // SAFETY: nobody else knows the file.
+    /// let seen = unsafe { MappedBlockedFilter::open(&path)? };
+    /// assert_eq!(seen.num_bits(), 1024);
+    /// # std::fs::remove_file(&path)?;
+    /// # Ok::<(), Box<dyn std::error::Error>>(())
+    /// ```
     #[must_use]
     pub fn num_bits(&self) -> usize {
         64 * self.as_slice().len()
     }
 
     /// The key.
+    ///
+    /// ```
+    /// # use fastbloom_c::{BlockedBloomFilter, MappedBlockedFilter};
+    /// # let name = format!("mapped_lines_key.{}.bloom", std::process::id());
+    /// # let path = std::env::temp_dir().join(name);
+    /// BlockedBloomFilter::with_num_bits(1024)?.seed(&42).hashes(4).save(&path)?;
+    /// // SAFETY: nobody else knows the file.
+    /// let seen = unsafe { MappedBlockedFilter::open(&path)? };
+    /// assert_eq!(u128::from_be_bytes(*seen.key()), 42);
+    /// # std::fs::remove_file(&path)?;
+    /// # Ok::<(), Box<dyn std::error::Error>>(())
+    /// ```
     #[must_use]
     pub fn key(&self) -> &[u8; 16] {
         &self.0 .0.key
     }
 
     /// The words, as they lie in the file, eight in a line.
+    ///
+    /// ```
+    /// # use fastbloom_c::{BlockedBloomFilter, MappedBlockedFilter};
+    /// # let name = format!("mapped_lines_as_slice.{}.bloom", std::process::id());
+    /// # let path = std::env::temp_dir().join(name);
+    /// BlockedBloomFilter::from_words(&[0, 1, 2, 3, 4, 5, 6, 7])?.hashes(1).save(&path)?;
+    /// // SAFETY: nobody else knows the file.
+    /// let seen = unsafe { MappedBlockedFilter::open(&path)? };
+    /// assert_eq!(seen.as_slice(), [0, 1, 2, 3, 4, 5, 6, 7]);
+    /// # std::fs::remove_file(&path)?;
+    /// # Ok::<(), Box<dyn std::error::Error>>(())
+    /// ```
     #[must_use]
     pub fn as_slice(&self) -> &[u64] {
         // SAFETY: `open` mapped it to be read.
@@ -252,6 +461,19 @@ impl MappedBlockedFilter {
     }
 
     /// A filter with words of its own.
+    ///
+    /// ```
+    /// # use fastbloom_c::{BlockedBloomFilter, MappedBlockedFilter};
+    /// # let name = format!("mapped_lines_to_filter.{}.bloom", std::process::id());
+    /// # let path = std::env::temp_dir().join(name);
+    /// let saved = BlockedBloomFilter::with_num_bits(512)?.items(["crab"]);
+    /// saved.save(&path)?;
+    /// // SAFETY: nobody else knows the file.
+    /// let mapped = unsafe { MappedBlockedFilter::open(&path)? };
+    /// assert_eq!(mapped.to_filter()?, saved);
+    /// # std::fs::remove_file(&path)?;
+    /// # Ok::<(), Box<dyn std::error::Error>>(())
+    /// ```
     ///
     /// # Errors
     /// [`Error::Memory`].
@@ -273,6 +495,19 @@ impl fmt::Debug for MappedBlockedFilter {
 
 /// The words of a file that is mapped to be shared, for an [`AtomicBloomFilter`] or an
 /// [`AtomicBlockedBloomFilter`].
+///
+/// ```
+/// use fastbloom_c::{AtomicBloomFilter, BloomFilter, MappedWords};
+///
+/// # let name = format!("mapped_words.{}.bloom", std::process::id());
+/// # let path = std::env::temp_dir().join(name);
+/// BloomFilter::with_num_bits(1024)?.hashes(4).save_unsealed(&path)?;
+/// // SAFETY: nobody else knows the file.
+/// let seen: AtomicBloomFilter<MappedWords> = unsafe { AtomicBloomFilter::map(&path)? };
+/// assert_eq!(seen.as_slice().len(), 16);
+/// # std::fs::remove_file(&path)?;
+/// # Ok::<(), Box<dyn std::error::Error>>(())
+/// ```
 pub struct MappedWords(Mapping);
 
 impl AsRef<[AtomicU64]> for MappedWords {
@@ -293,6 +528,18 @@ impl AtomicBloomFilter<MappedWords> {
     /// Maps a file without a seal, whose words all processes share that map it so: what one inserts
     /// the others find, and the file has it.
     ///
+    /// ```
+    /// # use fastbloom_c::{AtomicBloomFilter, BloomFilter};
+    /// # let path = std::env::temp_dir().join(format!("shared_map.{}.bloom", std::process::id()));
+    /// BloomFilter::with_num_bits(1024)?.hashes(4).save_unsealed(&path)?;
+    /// // SAFETY: nobody else knows the file.
+    /// let seen = unsafe { AtomicBloomFilter::map(&path)? };
+    /// assert!(!seen.insert("crab"));
+    /// assert!(BloomFilter::load(&path)?.contains("crab")); // the file has it
+    /// # std::fs::remove_file(&path)?;
+    /// # Ok::<(), Box<dyn std::error::Error>>(())
+    /// ```
+    ///
     /// # Errors
     /// As [`BloomFilter::read_file`]; [`Error::Sealed`]; and [`Error::Input`] where the file can't be
     /// opened or mapped.
@@ -312,6 +559,19 @@ impl AtomicBloomFilter<MappedWords> {
 
 impl AtomicBlockedBloomFilter<MappedWords> {
     /// Maps the file of a blocked filter without a seal, as [`AtomicBloomFilter::map`].
+    ///
+    /// ```
+    /// # use fastbloom_c::{AtomicBlockedBloomFilter, BlockedBloomFilter};
+    /// # let name = format!("shared_map_lines.{}.bloom", std::process::id());
+    /// # let path = std::env::temp_dir().join(name);
+    /// BlockedBloomFilter::with_num_bits(1024)?.hashes(4).save_unsealed(&path)?;
+    /// // SAFETY: nobody else knows the file.
+    /// let seen = unsafe { AtomicBlockedBloomFilter::map(&path)? };
+    /// assert!(!seen.insert("crab"));
+    /// assert!(BlockedBloomFilter::load(&path)?.contains("crab")); // the file has it
+    /// # std::fs::remove_file(&path)?;
+    /// # Ok::<(), Box<dyn std::error::Error>>(())
+    /// ```
     ///
     /// # Errors
     /// As [`BlockedBloomFilter::read_file`]; [`Error::Sealed`]; and [`Error::Input`] where the file

@@ -29,6 +29,14 @@ impl BitOrAssign<&BloomFilter> for BloomFilter {
 
 /// As [`intersect`](BloomFilter::intersect).
 ///
+/// ```
+/// # use fastbloom_c::BloomFilter;
+/// let mut seen = BloomFilter::with_num_bits(1024)?.items(["crab", "lobster"]);
+/// seen &= &BloomFilter::with_num_bits(1024)?.items(["lobster", "whale"]);
+/// assert!(seen.contains("lobster") && !seen.contains("crab"));
+/// # Ok::<(), fastbloom_c::Error>(())
+/// ```
+///
 /// # Panics
 /// As `|=`.
 impl BitAndAssign<&BloomFilter> for BloomFilter {
@@ -61,6 +69,14 @@ impl BitOr for &BloomFilter {
 }
 
 /// A filter of what both may contain.
+///
+/// ```
+/// # use fastbloom_c::BloomFilter;
+/// let one = BloomFilter::from_vec(vec![0b0110])?.hashes(1);
+/// let other = BloomFilter::from_vec(vec![0b0011])?.hashes(1);
+/// assert_eq!((&one & &other).as_slice(), [0b0010]);
+/// # Ok::<(), fastbloom_c::Error>(())
+/// ```
 ///
 /// # Panics
 /// As `|=`.

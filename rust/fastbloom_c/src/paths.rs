@@ -1,6 +1,6 @@
 //! Files by their paths, written whole or not at all.
 
-use crate::{BloomFilter, Error};
+use crate::{in_file, BloomFilter, Error};
 use std::ffi::OsString;
 use std::fs::{self, File, Metadata, OpenOptions, Permissions};
 use std::io;
@@ -104,10 +104,42 @@ impl BloomFilter {
     /// # Errors
     /// That of the file system. What was at the path is then still there.
     pub fn save(&self, path: impl AsRef<Path>) -> io::Result<()> {
-        save(path.as_ref(), |file| self.write_file(file))
+        save(path.as_ref(), |file| in_file::write(self, file, true))
+    }
+
+    /// As [`save`](Self::save), without a seal: a file that
+    /// [`AtomicBloomFilter::map`](crate::AtomicBloomFilter::map) takes. No reader finds out whether
+    /// its words were changed.
+    ///
+    /// ```
+    /// # use fastbloom_c::BloomFilter;
+    /// # let path = std::env::temp_dir().join(format!("unsealed.{}.bloom", std::process::id()));
+    /// let seen = BloomFilter::with_num_bits(1024)?.hashes(4);
+    /// seen.save_unsealed(&path)?;
+    /// assert_eq!(std::fs::read(&path)?[..64], seen.head(false));
+    /// assert_eq!(BloomFilter::load(&path)?, seen);
+    /// # std::fs::remove_file(&path)?;
+    /// # Ok::<(), Box<dyn std::error::Error>>(())
+    /// ```
+    ///
+    /// # Errors
+    /// As [`save`](Self::save).
+    pub fn save_unsealed(&self, path: impl AsRef<Path>) -> io::Result<()> {
+        save(path.as_ref(), |file| in_file::write(self, file, false))
     }
 
     /// Reads the file at a path, as [`read_file`](Self::read_file).
+    ///
+    /// ```
+    /// # use fastbloom_c::{BloomFilter, Error};
+    /// # let path = std::env::temp_dir().join(format!("load.{}.bloom", std::process::id()));
+    /// let refused = BloomFilter::load(&path).unwrap_err();
+    /// assert!(matches!(refused, Error::Input(_))); // there is no file yet
+    /// BloomFilter::with_num_bits(64)?.items(["crab"]).save(&path)?;
+    /// assert!(BloomFilter::load(&path)?.contains("crab"));
+    /// # std::fs::remove_file(&path)?;
+    /// # Ok::<(), Box<dyn std::error::Error>>(())
+    /// ```
     ///
     /// # Errors
     /// As `read_file`; and [`Error::Input`] where the file can't be opened.

@@ -19,12 +19,24 @@ pub struct Hasher(raw::Hashing);
 
 impl Hasher {
     /// Begins with no bytes, under the key.
+    ///
+    /// ```
+    /// # use fastbloom_c::{hash, Hasher};
+    /// assert_eq!(Hasher::new(&[7; 16]).finish(), hash(&[7; 16], ""));
+    /// ```
     #[must_use]
     pub fn new(key: &[u8; 16]) -> Hasher {
         Hasher(raw::begin_hash(key))
     }
 
     /// Takes in a piece.
+    ///
+    /// ```
+    /// # use fastbloom_c::{hash, Hasher};
+    /// let mut hasher = Hasher::new(&[0; 16]);
+    /// hasher.update("cr").update(b"ab");
+    /// assert_eq!(hasher.finish(), hash(&[0; 16], "crab"));
+    /// ```
     pub fn update(&mut self, piece: &(impl AsRef<[u8]> + ?Sized)) -> &mut Hasher {
         raw::update_hash(&mut self.0, piece.as_ref());
         self

@@ -27,6 +27,12 @@ pub struct Rate {
 impl Rate {
     /// The rate `num / den`. It may be 1 and above, which gives the smallest filter.
     ///
+    /// ```
+    /// # use fastbloom_c::{Error, Rate};
+    /// assert_eq!(Rate::new(1, 1000), "0.001".parse());
+    /// assert_eq!(Rate::new(1, 0), Err(Error::ZeroRate));
+    /// ```
+    ///
     /// # Errors
     /// [`Error::ZeroRate`] where a part is zero.
     pub fn new(num: u64, den: u64) -> Result<Rate, Error> {
@@ -37,11 +43,23 @@ impl Rate {
     }
 
     /// The upper part, as given.
+    ///
+    /// ```
+    /// # use fastbloom_c::Rate;
+    /// assert_eq!(Rate::new(2, 2000)?.num(), 2);
+    /// # Ok::<(), fastbloom_c::Error>(())
+    /// ```
     pub fn num(&self) -> u64 {
         self.num
     }
 
     /// The lower part, as given.
+    ///
+    /// ```
+    /// # use fastbloom_c::Rate;
+    /// assert_eq!(Rate::new(2, 2000)?.den(), 2000);
+    /// # Ok::<(), fastbloom_c::Error>(())
+    /// ```
     pub fn den(&self) -> u64 {
         self.den
     }
@@ -155,12 +173,36 @@ pub struct Bracket {
 }
 
 impl Bracket {
+    /// The bounds that the library tells of a filter.
+    pub(crate) fn of_filter(told: Option<(u64, u64)>) -> Bracket {
+        match told {
+            Some((low, high)) => Bracket { low, high },
+            None => unreachable!("a filter has from 1 to 2^58 - 1 words"),
+        }
+    }
+
     /// The lower bound.
+    ///
+    /// ```
+    /// # use fastbloom_c::BloomFilter;
+    /// // Half of the bits are set.
+    /// let seen = BloomFilter::from_vec(vec![u64::MAX, 0])?.hashes(1);
+    /// assert_eq!(seen.false_pos_now().low(), 1 << 62);
+    /// # Ok::<(), fastbloom_c::Error>(())
+    /// ```
     pub fn low(&self) -> u64 {
         self.low
     }
 
     /// The upper bound.
+    ///
+    /// ```
+    /// # use fastbloom_c::BloomFilter;
+    /// // Half of the bits are set.
+    /// let seen = BloomFilter::from_vec(vec![u64::MAX, 0])?.hashes(1);
+    /// assert_eq!(seen.false_pos_now().high(), 1 << 62);
+    /// # Ok::<(), fastbloom_c::Error>(())
+    /// ```
     pub fn high(&self) -> u64 {
         self.high
     }

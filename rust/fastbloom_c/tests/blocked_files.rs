@@ -211,9 +211,8 @@ fn a_mapped_file_is_read_as_the_filter_that_was_saved() {
 
 #[test]
 fn threads_fill_one_mapped_file_and_no_insert_is_lost() {
-    let (place, empty) = (Place::new("shared"), seen(0));
-    let file = [&empty.head(false)[..], &vec![0; empty.num_bits() / 8]].concat();
-    fs::write(&place.0, file).expect("room");
+    let place = Place::new("shared");
+    seen(0).save_unsealed(&place.0).expect("room");
     thread::scope(|scope| {
         for part in 0..4 {
             let path = &place.0;

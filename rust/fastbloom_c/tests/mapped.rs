@@ -2,7 +2,7 @@
 
 use fastbloom_c::{AtomicBloomFilter, BloomFilter, Error, MappedFilter};
 use std::fs::{self, OpenOptions};
-use std::io::{ErrorKind, Write};
+use std::io::ErrorKind;
 use std::path::PathBuf;
 use std::thread;
 
@@ -61,11 +61,7 @@ fn a_mapped_file_is_read_as_the_filter_that_was_saved() {
 #[test]
 fn threads_fill_one_mapped_file_and_no_insert_is_lost() {
     let place = Place::new("shared");
-    let mut file = fs::File::create(&place.0).unwrap();
-    let empty = filter_of(0);
-    file.write_all(&empty.head(false)).unwrap();
-    file.write_all(&vec![0; empty.num_bits() / 8]).unwrap();
-    drop(file);
+    filter_of(0).save_unsealed(&place.0).unwrap();
     thread::scope(|scope| {
         for part in 0..4u32 {
             let path = &place.0;

@@ -163,6 +163,29 @@ fn one_thread_gets_what_a_plain_filter_gives() {
 }
 
 #[test]
+fn threads_extend_one_filter_and_a_clone_has_words_of_its_own() {
+    let seen = AtomicBloomFilter::from(empty(3));
+    thread::scope(|scope| {
+        for me in 0..THREADS {
+            let mut seen = &seen;
+            scope.spawn(move || seen.extend((0..100).map(|item| format!("{me}, {item}"))));
+        }
+    });
+    let mut plain = empty(3);
+    plain.extend((0..800).map(|item| format!("{}, {}", item / 100, item % 100)));
+    assert_eq!(seen.load().expect("room"), plain);
+    let other = seen.clone().seed(&0);
+    assert_eq!(other, seen);
+    seen.clear();
+    assert_eq!(BloomFilter::from(other), plain);
+    let rates = [seen.expected_false_pos(800), seen.false_pos_bounds(800)];
+    assert_eq!(
+        rates,
+        [plain.expected_false_pos(800), plain.false_pos_bounds(800)]
+    );
+}
+
+#[test]
 fn words_that_make_no_filter_are_refused() {
     let none: [AtomicU64; 0] = [];
     let refused = AtomicBloomFilter::from_words(&none[..], 1).map(|_| ());
