@@ -200,12 +200,12 @@ int main(int argc, char **argv) {
         {"blocked-many", "insert", insert_many_in_lines, 0, 0, 0, 0},
         {"blocked-many", "hit", look_up_many_in_lines, 0, 0, 0, 0},
         {"blocked-many", "miss", look_up_many_in_lines, 1, 0, 0, 0},
-        {"classic-shared", "by 1", share_many, 0, 1, 0, 0},
-        {"classic-shared", "by 2", share_many, 0, 2, 0, 0},
-        {"classic-shared", "by 4", share_many, 0, 4, 0, 0},
-        {"blocked-shared", "by 1", share_many_in_lines, 0, 1, 0, 0},
-        {"blocked-shared", "by 2", share_many_in_lines, 0, 2, 0, 0},
-        {"blocked-shared", "by 4", share_many_in_lines, 0, 4, 0, 0},
+        {"classic-shared", "by-1", share_many, 0, 1, 0, 0},
+        {"classic-shared", "by-2", share_many, 0, 2, 0, 0},
+        {"classic-shared", "by-4", share_many, 0, 4, 0, 0},
+        {"blocked-shared", "by-1", share_many_in_lines, 0, 1, 0, 0},
+        {"blocked-shared", "by-2", share_many_in_lines, 0, 2, 0, 0},
+        {"blocked-shared", "by-4", share_many_in_lines, 0, 4, 0, 0},
     };
     if (keys == 0 || rounds == 0) return 2;
     struct filter filter = {NULL, (keys * 10 + 511) / 512 * 8};
