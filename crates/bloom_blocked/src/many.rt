@@ -3,21 +3,24 @@
 //! processor asks for many of these lines at once. The memory then brings them side by side. Words
 //! that don't begin at a line of the cache have each of their lines in two of these, and both are
 //! asked for.
-ghost use Rattle.std.specs.Prelude.{◌≡◌, ℕ, ◌+◌, ◌*◌, ◌/◌, ◌^◌, ◌<◌, ◌≤◌, ◌||◌, ◌∷◌, [], if◌then◌else◌, length};
-ghost use Rattle.bloom_parts.specs.Content.{content};
-ghost use Rattle.bloom_blocked.specs.Lines.{are_in_line};
+ghost use Rattle.std.specs.Prelude.{◌≡◌, ℕ, ◌+◌, ◌*◌, ◌/◌, ◌^◌, ◌<◌, ◌≤◌, ◌||◌, ◌==◌, ◌∷◌, [], if◌then◌else◌, length};
+ghost use Rattle.bloom_parts.specs.Content.{content, index_of};
+ghost use Rattle.bloom_parts.specs.Places.{positions};
+ghost use Rattle.bloom_blocked.specs.Lines.{line_positions, are_in_line};
 ghost use Rattle.bloom_blocked.specs.Many.{positions_of_all, all_are_in_lines, TellsFound};
 
 mod telling;
 
-use crate::words::{LINE, contains_hash, inner, insert_hash, line_start};
+use crate::words::{LINE, contains_hash, inner, line_start};
+use bloom_parts::bit_vector::word_and_bit_of_hash;
+use bloom_parts::hasher::DoubleHasher;
 use bloom_parts::slices::{clear, contains_by_count};
 pub use telling::insert_hashes_tell_new;
 
-/// From this many words on, which are one mebibyte, 64 hashes are taken together.
+/// From this many words on, which are one mebibyte, the ends of lines are read first.
 pub const MANY_WORDS: usize = 1 << 17;
 
-/// How many hashes are taken together where the words are one mebibyte or more.
+/// How many hashes are taken together.
 pub const TOGETHER: usize = 64;
 
 // Whether the first and the last word of the line of each of these hashes are full. The compiler
@@ -58,60 +61,92 @@ fn all_are_set(words: &[u64], num_hashes: u32, hashes: &[u64]) -> bool
     found == hashes.len()
 }
 
-// Sets all positions of each of these hashes, one after the other.
+// Sets the position where a hash lies, and clears in `common` what was clear in its word.
+fn set_position(words: &mut [u64], hash: u64, common: &mut u64)
+    requires { 1 ≤ length words.old }
+    ensures content { (p : ℕ) → content words.new p
+        ≡ (content words.old p || p == index_of (64 * length words.old) hash) }
+    ensures shape { length words.new ≡ length words.old }
+{
+    let (word, bit) = word_and_bit_of_hash(words.len(), hash);
+    let before = words[word];
+    *common &= before;
+    words[word] = before | 1 << bit;
+}
+
+// Sets all positions of a hash, and clears in `common` what was clear in one of their words.
 #[inline(always)]
-fn insert_each(words: &mut [u64], num_hashes: u32, hashes: &[u64])
+fn set_positions(words: &mut [u64], num_hashes: u32, hash: u64, common: &mut u64)
+    requires { 1 ≤ length words.old }
+    ensures content { (p : ℕ) → content words.new p
+        ≡ (content words.old p || positions (64 * length words.old) num_hashes hash p) }
+    ensures shape { length words.new ≡ length words.old }
+{
+    let mut chain = DoubleHasher::new(hash);
+    'places: for _place in 0..num_hashes {
+        set_position(words, chain.next(), common);
+    }
+}
+
+// The same for a hash whose positions lie in its line.
+#[inline(always)]
+fn set_in_line(words: &mut [u64], num_hashes: u32, hash: u64, common: &mut u64)
+    requires { 8 ≤ length words.old }
+    ensures content { (p : ℕ) → content words.new p
+        ≡ (content words.old p || line_positions (length words.old / 8) num_hashes hash p) }
+    ensures shape { length words.new ≡ length words.old }
+{
+    let at = line_start(words.len(), hash);
+    set_positions(&mut words[at..at + LINE], num_hashes, inner(hash), common);
+}
+
+// Sets all positions of each of these hashes, one after the other. Returns whether each of their
+// words was full just before. To tell that, the compiler reads a word into a register, where it sets
+// a bit in fewer steps than in memory.
+#[inline(always)]
+fn insert_each(words: &mut [u64], num_hashes: u32, hashes: &[u64]) -> bool
     requires { 8 ≤ length words.old }
     ensures content { (p : ℕ) → content words.new p ≡ (content words.old p
         || positions_of_all (length words.old / 8) num_hashes hashes.now p) }
     ensures shape { length words.new ≡ length words.old }
 {
+    let mut common = u64::MAX;
     'hashes: for hash in hashes {
-        insert_hash(words, num_hashes, *hash);
+        set_in_line(words, num_hashes, *hash, &mut common);
     }
+    common == u64::MAX
 }
 
-// Sets all positions of each of these hashes. Where the ends of all their lines are full, as in a
-// filter that was overfilled, and all positions are set, nothing is written.
-fn insert_unless_full(words: &mut [u64], num_hashes: u32, hashes: &[u64])
+// Sets all positions of each of these hashes. Where all of them are set already, as in a filter that
+// was overfilled, nothing is written. Whether they are is looked up where `look_up` says so, or where
+// the ends of all lines of large words are full. Returns whether to look up the next hashes too.
+fn insert_unless_full(words: &mut [u64], num_hashes: u32, hashes: &[u64], look_up: bool) -> bool
     requires { 8 ≤ length words.old }
     ensures content { (p : ℕ) → content words.new p ≡ (content words.old p
         || positions_of_all (length words.old / 8) num_hashes hashes.now p) }
     ensures shape { length words.new ≡ length words.old }
 {
-    if ends_are_full(words, hashes) && all_are_set(words, num_hashes, hashes) {
-        return;
+    let ends = words.len() >= MANY_WORDS && ends_are_full(words, hashes);
+    if (ends || look_up) && all_are_set(words, num_hashes, hashes) {
+        return true;
     }
-    insert_each(words, num_hashes, hashes);
+    insert_each(words, num_hashes, hashes)
 }
 
-// Sets all positions of each of these hashes, 64 hashes at a time.
-fn insert_together(words: &mut [u64], num_hashes: u32, hashes: &[u64])
-    requires { 8 ≤ length words.old }
-    ensures content { (p : ℕ) → content words.new p ≡ (content words.old p
-        || positions_of_all (length words.old / 8) num_hashes hashes.now p) }
-    ensures shape { length words.new ≡ length words.old }
-{
-    let turns = hashes.len() / TOGETHER;
-    'turns: for turn in 0..turns {
-        let at = TOGETHER * turn;
-        insert_unless_full(words, num_hashes, &hashes[at..at + TOGETHER]);
-    }
-    insert_unless_full(words, num_hashes, &hashes[TOGETHER * turns..]);
-}
-
-/// Sets all positions of each of these hashes.
+/// Sets all positions of each of these hashes, 64 hashes at a time.
 pub fn insert_hashes(words: &mut [u64], num_hashes: u32, hashes: &[u64])
     requires { 8 ≤ length words.old }
     ensures content { (p : ℕ) → content words.new p ≡ (content words.old p
         || positions_of_all (length words.old / 8) num_hashes hashes.now p) }
     ensures shape { length words.new ≡ length words.old }
 {
-    if words.len() >= MANY_WORDS {
-        insert_together(words, num_hashes, hashes);
-    } else {
-        insert_each(words, num_hashes, hashes);
+    let turns = hashes.len() / TOGETHER;
+    let mut look_up = false;
+    'turns: for turn in 0..turns {
+        let at = TOGETHER * turn;
+        look_up = insert_unless_full(words, num_hashes, &hashes[at..at + TOGETHER], look_up);
     }
+    insert_unless_full(words, num_hashes, &hashes[TOGETHER * turns..], look_up);
 }
 
 // The mask of a bit, or 0.

@@ -2,7 +2,7 @@ use Rattle.std.proofs.Common.{◌≡◌, ◌+◌, ◌*◌, ◌/◌, length, ◌�
 use Rattle.std.proofs.Math.Seq.{take-length}
 use Rattle.bloom_parts.specs.Content.{content}
 use Rattle.bloom_blocked.proofs.ManyLemmas.{many-stretch}
-use Rattle.bloom_blocked.proofs.many.insert_together.Goals as goal
+use Rattle.bloom_blocked.proofs.many.insert_hashes.Goals as goal
 
 pub turns-preserved : goal.turns-preserved
 turns-preserved c =
@@ -12,8 +12,8 @@ turns-preserved c =
       content = rw (next)
           (many-stretch _ _ (content c.args.words.now) (content c.turns.words) _
           c.args.hashes.now at (at + 64) (omega arith) c.turns.invariant.content
-          (rw (← c.turns.invariant.shape) c.insert_unless_full.ensures.content));
-      shape = c.insert_unless_full.ensures.shape ∙ c.turns.invariant.shape;
+          (rw (← c.turns.invariant.shape) c.insert_unless_full-look_up.ensures.content));
+      shape = c.insert_unless_full-look_up.ensures.shape ∙ c.turns.invariant.shape;
     }
 
 pub returns-clause-content : goal.returns-clause-content
@@ -24,5 +24,5 @@ returns-clause-content c =
     (content c.args.words.now) (content c.turns.words) _ hashes
     (64 * (length hashes / 64)) (length hashes) (omega arith)
     (rw (all) at c.turns.invariant.content)
-    (rw (c.turns.invariant.shape) at c.insert_unless_full-2.ensures.content) in
+    (rw (c.turns.invariant.shape) at c.insert_unless_full.ensures.content) in
     rw (take-length hashes) at whole

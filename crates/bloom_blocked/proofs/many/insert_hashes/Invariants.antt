@@ -1,7 +1,7 @@
 use Rattle.std.proofs.Common.{◌≡◌, ◌*◌, ◌/◌, ◌||◌, ℕ, length, take}
 use Rattle.bloom_parts.specs.Content.{content}
 use Rattle.bloom_blocked.specs.Many.{positions_of_all}
-use Rattle.bloom_blocked.proofs.many.insert_together.Given as goal
+use Rattle.bloom_blocked.proofs.many.insert_hashes.Given as goal
 
 -- the positions of the hashes of the turns so far were set
 abbrev pub invariant-turns : goal.invariant-turns
