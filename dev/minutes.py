@@ -1,10 +1,10 @@
-#!/usr/bin/env python3
-# Tells what each crate costs of a check: dev/minutes [COMMAND..], by default `rt ci`. It runs the
-# command, and prints at the end the minutes of a processor by crate: for its proof, for the program
-# that is built from it and run, for its tests, and for the must-fail edits; and the minutes of the
-# clock during which something of the crate was at work. Processes are looked at five times a
-# second, so what is told of a long one is exact to a few parts in a hundred. Costs that belong to
-# no crate are in the row `other`.
+# Tells what each crate costs of the full check, or of another command. `.ci/run --minutes
+# [COMMAND..]` runs this. It runs the command, and prints at the end the minutes of a processor by
+# crate: for its proof, for the program that is built from it and run, for its tests, and for its
+# edits, in must-fail/ and those that dev/wrong-bodies tries; and the minutes of the clock during
+# which something of the crate was at work. Processes are looked at five times a second, so what is
+# told of a long one is exact to a few parts in a hundred. Costs that belong to no crate are in the
+# row `other`.
 
 import os
 import resource
@@ -56,9 +56,18 @@ def seconds_of(number, below):
     return own + sum(seconds_of(it, below) for it in below.get(number, ()))
 
 
+def words_of(number):
+    return read(f"/proc/{number}/cmdline").decode(errors="replace").split("\0")
+
+
+def tries_edits(number):
+    """Whether a process is dev/wrong-bodies, whose copies of crates look like the crates."""
+    return any(os.path.basename(it) == "wrong-bodies" for it in words_of(number))
+
+
 def label(number):
     """The crate and the kind of work of a process, or None where its words don't say."""
-    words = read(f"/proc/{number}/cmdline").decode(errors="replace").split("\0")
+    words = words_of(number)
     if "--crate-name" in words:
         crate = words[words.index("--crate-name") + 1]
         try:
@@ -94,19 +103,20 @@ class Costs:
         """Takes what has been used so far. So many seconds have passed since the last look."""
         began, below = look()
         at_work = set()
-        self.go(self.root, began, below, at_work)
+        self.go(self.root, began, below, at_work, tries_edits(self.root))
         for crate in at_work:
             self.clock[crate] = self.clock.get(crate, 0) + passed
 
-    def go(self, number, began, below, at_work):
-        """Looks for labelled processes from this one down."""
+    def go(self, number, began, below, at_work, are_edited):
+        """Looks for labelled processes from this one down. Their crates may be edited ones."""
         for child in below.get(number, ()):
             key = child, began[child]
             # A process that starts another program keeps its number and changes its words.
             said = label(child) or self.labels.get(key)
             if said is None:
-                self.go(child, began, below, at_work)
+                self.go(child, began, below, at_work, are_edited or tries_edits(child))
                 continue
+            said = (said[0], "edits") if are_edited else said
             if key not in self.labels:
                 # A shell may have started others before it became this process.
                 self.before[key] = sum(map(int, fields(child)[13:15])) / TICKS
@@ -141,10 +151,10 @@ def report(costs, clocks, total, clock):
 
 
 def main():
-    words, folder = (sys.argv[1:], None) if sys.argv[1:] else (["rt", "ci"], TOP)
+    words = sys.argv[1:] or [f"{TOP}/.ci/run"]
     start = time.monotonic()
     try:
-        command = subprocess.Popen(words, cwd=folder)
+        command = subprocess.Popen(words)
     except OSError as error:
         sys.exit(f"minutes: {words[0]} doesn't start: {error.strerror}")
     # An interrupt ends the command, and the table tells what it cost until then.
