@@ -47,7 +47,7 @@ const CHANGED: &[u8] = b"fbloom\01\x02\0\0\0\0\0\0\0\
     \0\0\x01\x10\0\0\0\x01";
 
 // The file of the blocked filter of one line and two hashes with the key "a", by the model of
-// `bin/blocked-model`.
+// `dev/blocked-model`.
 const LINES: &[u8] = b"fbloom\01\x02\0\0\0\0\0\0\0\x08\0\0\0\0\0\0\0\
     \0\0\0\0\0\0\0\0\0\0\0\0\0\0\0\0a/0v\xc1\xee\xc9\x18\
     \x01\0\0\0\0\0\0\0\0\0\0\0\0\0\0\0\0\0\0\0\0\0\0\0\
