@@ -1,10 +1,14 @@
-//! A run whose own request for memory may be refused. Its reader and writer take none.
+//! Runs whose own requests for memory may be refused. Their readers and writers take none.
 use super::bloom::filter_of;
 use super::faulty::{ROOMY, Seen, Sink, Source, WHOLE};
+use super::summaries::Odd;
 use crate::telling::{NO_ROOM, WRONG, say};
 use bloom_engine::{Fault, serve};
 use bloom_plain::BloomFilter;
+use fastbloom::Shape;
 use std::alloc::Global;
+use std::thread::Threads;
+use summaries_engine::{Stop, build};
 
 // How a run ended, if it left what it is to.
 fn word_of(ended: Result<(), Fault>, is_left: bool) -> &'static str {
@@ -48,4 +52,34 @@ fn a_run_is_whole_or_refused_before_its_first_line(rt: HostRuntime) {
     let seen = Seen::new();
     let mut output = Sink::new(rt.alloc(), ROOMY, &seen);
     assert!(rt; say(&rt, "serve", served(rt.alloc(), &mut output, &seen)));
+}
+
+// How two workers' build of the filter of the keys "a" and "b" ended. A thread's start asks for no
+// memory, so no worker is refused.
+fn built<R: Threads>(rt: &R, alloc: Global) -> &'static str {
+    let Ok(shape) = Shape::new(64, 2) else {
+        return WRONG;
+    };
+    let seen = Seen::new();
+    let odd = Odd {
+        keys: b"b",
+        reading: WHOLE,
+        seen: &seen,
+    };
+    match build::<10, _, _>(rt, alloc, shape, 2, &odd, &["first", "odd"]) {
+        Ok(filter) => {
+            if has_word(&filter, 281492425080832) {
+                "whole"
+            } else {
+                WRONG
+            }
+        }
+        Err(Stop::Memory) => "Memory",
+        Err(_stop) => WRONG,
+    }
+}
+
+#[test]
+fn a_build_is_whole_or_refused_for_memory(rt: HostRuntime) {
+    assert!(rt; say(&rt, "build", built(&rt, rt.alloc())));
 }

@@ -62,10 +62,10 @@ const UNREAD: &'static str = "odd: it can't be read: broken pipe";
 
 // Inputs, each of which gives its keys as told.
 #[derive(Drop)]
-struct Odd<'a> {
-    keys: &'a [u8],
-    reading: Reading,
-    seen: &'a Seen,
+pub(super) struct Odd<'a> {
+    pub(super) keys: &'a [u8],
+    pub(super) reading: Reading,
+    pub(super) seen: &'a Seen,
 }
 
 impl<'a> Inputs for Odd<'a> {
