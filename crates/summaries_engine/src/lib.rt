@@ -29,5 +29,5 @@ pub use loading::load;
 pub use shards::{Shelf, unite_named};
 pub use sizes::shape_for;
 pub use stop::{Stop, no_json, twice, unsaid, unshaped, written};
-pub use summary::{build, cut};
+pub use summary::{build, build_through, cut};
 pub use unions::{Difference, Refusal, add, unite};

@@ -79,6 +79,34 @@ pub fn build<const END: u8, R: Threads, S: Inputs>(
     ensures stops { IfErr result (StopsBuilding (S.has inputs.now) (S.fails inputs.now) END
         (map (λ name. name.now) names.now)) }
 {
+    let Ok(gate) = Arc::new(alloc, Open) else {
+        return Err(Stop::Memory);
+    };
+    build_through::<END, R, Open, S>(rt, alloc, gate, shape, workers, inputs, names)
+}
+
+/// The same, where each worker passes this gate before it begins.
+///
+/// # Errors
+/// As `build`.
+pub fn build_through<const END: u8, R: Threads, G: Gate + Send + Sync + Drop + 'static, S: Inputs>(
+    rt: &R,
+    alloc: Global,
+    gate: Arc<G, Global>,
+    shape: Shape,
+    workers: usize,
+    inputs: &S,
+    names: &[&str],
+) -> Result<BloomFilter, Stop>
+    requires { 0 < workers }
+    ensures summary { IfOk result (λ filter. SummarizesInputs (S.has inputs.now) END
+        (map (λ name. name.now) names.now) shape (Classic filter)) }
+    ensures key { IfOk result (λ filter. HasKey filter.hasher 0 0) }
+    ensures keyed { IfOk result (λ filter. IsKeyed (Classic filter)) }
+    // Why there is none.
+    ensures stops { IfErr result (StopsBuilding (S.has inputs.now) (S.fails inputs.now) END
+        (map (λ name. name.now) names.now)) }
+{
     let hashes = hashes_of::<END, S>(alloc, inputs, names)?;
     let Ok(parts) = cut(alloc, hashes.as_slice(), workers) else {
         return Err(Stop::Memory);
@@ -86,9 +114,6 @@ pub fn build<const END: u8, R: Threads, S: Inputs>(
     drop(hashes);
     // Each part has a worker of its own.
     prove!(parts.len() <= workers);
-    let Ok(gate) = Arc::new(alloc, Open) else {
-        return Err(Stop::Memory);
-    };
     match fill(rt, alloc, gate, shape, parts) {
         Ok(filter) => Ok(filter),
         Err(error) => Err(unfilled(error)),

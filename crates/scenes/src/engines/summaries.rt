@@ -1,15 +1,21 @@
 //! Filters of keys over odd readers and writers.
+ghost use Rattle.std.specs.Prelude.{◌<◌};
 ghost use Rattle.summaries_engine.specs.Answers.{IsKeyed};
 
 use super::faulty::{
     FAILING, FULL, NARROW, ROOMY, Reading, SLOW, STUCK, Seen, Sink, Source, UNFLUSHED, WHOLE,
     Writing,
 };
+use crate::fills::{Watching, gate_for};
 use crate::telling::{has_text, tell_row};
-use fastbloom::Shape;
+use fastbloom::{FilterError, Shape};
 use std::alloc::Global;
+use std::sync::Arc;
+use std::sync::atomic::Ordering;
 use std::thread::Threads;
-use summaries_engine::{AnyFilter, Inputs, Stop, Told, ask, build, load, no_json, put, put_file};
+use summaries_engine::{
+    AnyFilter, Inputs, Stop, Told, ask, build, build_through, load, no_json, put, put_file,
+};
 
 // The files of filters of 64 bits and two hashes, of the key "a", and of "a" and "b". Their words
 // were worked out by another program, from the papers on SipHash and on the multiply and shift.
@@ -324,4 +330,37 @@ fn acts_write_and_stop_as_they_are_to(rt: HostRuntime) {
     for (i, row) in ACTS.iter().enumerate() {
         assert!(rt; tell_row(&rt, i, are_right(&rt, row, &filter)));
     }
+}
+
+// A gate that awaits no second worker, seen twice.
+fn gate_of(alloc: Global) -> Result<(Arc<Watching, Global>, Arc<Watching, Global>), FilterError> {
+    let gate = Arc::new(alloc, gate_for(1))?;
+    let seen = Arc::try_clone(&gate)?;
+    Ok((gate, seen))
+}
+
+// How many workers fill the filter of the keys "a", "b" and "c" where at most this many may.
+fn workers_of<R: Threads>(rt: &R, alloc: Global, most: usize) -> Option<u64>
+    requires { 0 < most }
+{
+    let (gate, seen) = gate_of(alloc).ok()?;
+    let shape = Shape::new(64, 2).ok()?;
+    let keys = Seen::new();
+    let odd = Odd {
+        keys: b"b\nc",
+        reading: WHOLE,
+        seen: &keys,
+    };
+    match build_through::<10, _, _, _>(rt, alloc, gate, shape, most, &odd, &["first", "odd"]) {
+        Ok(_filter) => Some(seen.passes.load(Ordering::SeqCst)),
+        Err(_stop) => None,
+    }
+}
+
+#[test]
+fn keys_are_divided_among_as_many_workers_as_asked_for(rt: HostRuntime) {
+    assert!(rt; workers_of(&rt, rt.alloc(), 1) == Some(1));
+    assert!(rt; workers_of(&rt, rt.alloc(), 2) == Some(2));
+    assert!(rt; workers_of(&rt, rt.alloc(), 3) == Some(3));
+    assert!(rt; workers_of(&rt, rt.alloc(), 8) == Some(3));
 }
