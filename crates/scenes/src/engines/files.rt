@@ -40,9 +40,37 @@ fn finds(alloc: Global, folder: MemoryFolder, filter: &BloomFilter) -> bool {
     }
 }
 
+// The bytes of the file of a filter.
+fn file_of(alloc: Global, filter: &BloomFilter) -> Option<Vec<u8>> {
+    let (folder, _is_saved) = saved(alloc, MemoryFolder::new(alloc), filter);
+    match &folder.standing().now {
+        Some(bytes) => bytes.as_slice().to_vec(alloc).ok(),
+        None => None,
+    }
+}
+
+// Whether a file is one of two, whole.
+fn is_either(file: &Option<Vec<u8>>, one: &[u8], other: &[u8]) -> bool {
+    match file {
+        Some(bytes) => (bytes.as_slice() == one) | (bytes.as_slice() == other),
+        None => false,
+    }
+}
+
+// Whether each file that a crash may leave is one of two, whole.
+fn leaves_either(folder: &MemoryFolder, one: &[u8], other: &[u8]) -> bool {
+    let slot = folder.standing();
+    let mut leaves = !slot.is_any & is_either(&slot.now, one, other);
+    for file in slot.others.as_slice() {
+        leaves = leaves & is_either(file, one, other);
+    }
+    leaves
+}
+
 // The calls of a save are, in their order: remove, write, sync, rename, sync of the folder. After
 // how many of them some fail, and how many; whether the save comes about then, and whether the new
-// filter is found, or else the old one. A removal that fails may have met no file.
+// filter is found, or else the old one. Where all later calls fail, that is a crash. A removal that
+// fails may have met no file.
 const SAVES: &'static [(u64, u64, bool, bool)] = &[
     (0, 1, true, true),
     (1, 1, false, false),
@@ -63,16 +91,20 @@ fn is_safe(alloc: Global, row: &(u64, u64, bool, bool)) -> Result<bool, FilterEr
     let (calls, failures, comes_about, is_new) = *row;
     let old = filter_with(alloc, 1)?;
     let new = filter_with(alloc, 2)?;
+    let (Some(old_file), Some(new_file)) = (file_of(alloc, &old), file_of(alloc, &new)) else {
+        return Ok(false);
+    };
     let (mut folder, _is_saved) = saved(alloc, MemoryFolder::new(alloc), &old);
     folder.fail_after(calls, failures);
     let (mut folder, is_saved) = saved(alloc, folder, &new);
+    let is_whole = leaves_either(&folder, old_file.as_slice(), new_file.as_slice());
     folder.fail_after(0, 0);
     let is_found = if is_new {
         finds(alloc, folder, &new)
     } else {
         finds(alloc, folder, &old)
     };
-    Ok((is_saved == comes_about) & is_found)
+    Ok((is_saved == comes_about) & is_whole & is_found)
 }
 
 #[test]
