@@ -101,8 +101,8 @@ fn set_in_line(words: &mut [u64], num_hashes: u32, hash: u64, common: &mut u64)
 }
 
 // Sets all positions of each of these hashes, one after the other. Returns whether each of their
-// words was full just before. To tell that, the compiler reads a word into a register, where it sets
-// a bit in fewer steps than in memory.
+// words was full just before. To tell that, the compiler reads a word into a register, where a bit
+// is set in fewer steps than in memory.
 #[inline(always)]
 fn insert_each(words: &mut [u64], num_hashes: u32, hashes: &[u64]) -> bool
     requires { 8 ≤ length words.old }
@@ -117,8 +117,8 @@ fn insert_each(words: &mut [u64], num_hashes: u32, hashes: &[u64]) -> bool
     common == u64::MAX
 }
 
-// Sets all positions of each of these hashes. Where all of them are set already, as in a filter that
-// was overfilled, nothing is written. Whether they are is looked up where `look_up` says so, or where
+// Sets all positions of each of these hashes. Where all are set already, as in a filter that was
+// overfilled, nothing is written. Whether they are is looked up where `look_up` says so, and where
 // the ends of all lines of large words are full. Returns whether to look up the next hashes too.
 fn insert_unless_full(words: &mut [u64], num_hashes: u32, hashes: &[u64], look_up: bool) -> bool
     requires { 8 ≤ length words.old }
