@@ -312,10 +312,12 @@ def compare_hashes(sizes, runs):
             # Of more keys only blocked filters are measured, by a part of their names: a round of
             # the others takes minutes.
             words = [] if keys <= 10**7 else ["blo"]
+            # More than one, since the first of a process is slower.
+            rounds = "3" if keys <= 10**6 else "2"
             for _ in range(runs):
                 for program in programs:
                     if not words or program[0] != "java":
-                        take_best(best, rows_of([*program, str(keys), "1", *words]))
+                        take_best(best, rows_of([*program, str(keys), rounds, *words]))
     return list(best.values())
 
 
