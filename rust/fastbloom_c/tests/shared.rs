@@ -2,11 +2,10 @@
 
 use fastbloom_c::{AtomicBloomFilter, BloomFilter, Error};
 use std::sync::atomic::AtomicU64;
-use std::sync::{Arc, Barrier};
+use std::sync::{Arc, Barrier, LazyLock};
 use std::thread;
 
 const THREADS: u64 = 8;
-const HASHES: u64 = 1_000_000;
 const WORDS: usize = 30_011;
 const TOGETHER: usize = 1000;
 
@@ -23,6 +22,11 @@ fn runs() -> usize {
     std::env::var("FASTBLOOM_RUNS").map_or(20, |runs| runs.parse().expect("a number"))
 }
 
+/// How many hashes threads insert. A slow checker is given fewer.
+static HASHES: LazyLock<u64> = LazyLock::new(|| {
+    std::env::var("FASTBLOOM_HASHES").map_or(1_000_000, |hashes| hashes.parse().expect("a number"))
+});
+
 /// The hash of a number, spread evenly: the finish of splitmix64.
 fn hash_of(number: u64) -> u64 {
     let word = number.wrapping_add(0x9e37_79b9_7f4a_7c15);
@@ -38,9 +42,9 @@ fn empty(num_hashes: u32) -> BloomFilter {
 
 /// Inserts part of the hashes, each of which another thread inserts too, and counts the new ones.
 fn insert_part<W: AsRef<[AtomicU64]>>(seen: &AtomicBloomFilter<W>, me: u64, way: usize) -> usize {
-    let part = HASHES / (THREADS / 2);
+    let part = *HASHES / (THREADS / 2);
     let numbers: Vec<_> = (0..part)
-        .map(|i| hash_of((HASHES / THREADS * me + i) % HASHES))
+        .map(|i| hash_of((*HASHES / THREADS * me + i) % *HASHES))
         .collect();
     let mut fresh = 0;
     for hashes in numbers.chunks(TOGETHER) {
@@ -61,7 +65,7 @@ fn insert_part<W: AsRef<[AtomicU64]>>(seen: &AtomicBloomFilter<W>, me: u64, way:
 fn threads_insert_at_once_and_lose_no_bit() {
     let plain = [1, 3].map(|num_hashes| {
         let mut plain = empty(num_hashes);
-        (0..HASHES).for_each(|number| {
+        (0..*HASHES).for_each(|number| {
             plain.insert_hash(hash_of(number));
         });
         plain
@@ -98,7 +102,7 @@ fn threads_insert_at_once_and_lose_no_bit() {
 #[test]
 fn what_is_taken_and_what_is_left_is_all() {
     let mut all = empty(2);
-    (0..HASHES).for_each(|number| {
+    (0..*HASHES).for_each(|number| {
         all.insert_hash(hash_of(number));
     });
     for _ in 0..runs() / 5 + 1 {
@@ -109,7 +113,7 @@ fn what_is_taken_and_what_is_left_is_all() {
                 .map(|me| {
                     let seen = &seen;
                     scope.spawn(move || {
-                        for number in (0..HASHES).filter(|n| n % THREADS == me) {
+                        for number in (0..*HASHES).filter(|n| n % THREADS == me) {
                             seen.insert_hash(hash_of(number));
                         }
                     })
