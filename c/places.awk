@@ -35,7 +35,7 @@ function choose_place(   at, head, depth, place, least) {
     if (cost(place) < least) { least = cost(place); places[section] = place }
 }
 
-# The sections. Where no place is better, one begins at 20, which measured best.
+# The sections. Where no place is better, one begins at 20, which is as good as any other.
 $1 ~ /^[0-9]+$/ && $2 ~ /^\.text\./ { names[count++] = $2; places[$2] = 20 }
 
 /^Disassembly of section / {
