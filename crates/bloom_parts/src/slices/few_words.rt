@@ -29,8 +29,9 @@ pub fn insert_in_few_words(words: &mut [u64], num_hashes: u32, hash: u64) -> boo
 
 /// Whether all positions of a hash are set.
 ///
-/// The first three are taken together, which tells apart most hashes that were never inserted. So
-/// are all others, since no position waits long for its word.
+/// The first three are taken together, which tells apart most hashes that were never inserted. Of
+/// seven and more the next four are taken without a loop, since ten bits an item ask for seven.
+/// All others are taken together too, since no position waits long for its word.
 #[inline(always)]
 pub fn contains_in_few_words(words: &[u64], num_hashes: u32, hash: u64) -> bool
     requires { 1 ≤ length words.now }
@@ -43,5 +44,11 @@ pub fn contains_in_few_words(words: &[u64], num_hashes: u32, hash: u64) -> bool
     if !all_are_on(words, &mut chain, 3) {
         return false;
     }
-    all_are_on(words, &mut chain, num_hashes - 3)
+    if num_hashes < 7 {
+        return all_are_on(words, &mut chain, num_hashes - 3);
+    }
+    if !all_are_on(words, &mut chain, 4) {
+        return false;
+    }
+    all_are_on(words, &mut chain, num_hashes - 7)
 }

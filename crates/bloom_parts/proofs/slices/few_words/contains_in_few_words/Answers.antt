@@ -1,4 +1,4 @@
-use Rattle.std.proofs.Common.{arith}
+use Rattle.std.proofs.Common.{ℕ, ◌-◌, refl, arith}
 use Rattle.bloom_parts.proofs.LookLemmas.{tells-all, tells-off, tells_next-then}
 use Rattle.bloom_parts.proofs.slices.few_words.contains_in_few_words.Goals as goal
 
@@ -10,9 +10,26 @@ returns-then-not-all_are_on c =
     tells-off _ _ c.new-chain.ensures 3 (omega (arith, c.if-num_hashes-lt4.false))
     c.if-not-all_are_on.ensures.found
 
-pub returns : goal.returns
-returns c =
+pub returns-then-num_hashes-lt7 : goal.returns-then-num_hashes-lt7
+returns-then-num_hashes-lt7 c =
     tells-all _ _ c.new-chain.ensures _
     (tells_next-then 3 _ _ _ _ _ _ _ (omega (arith, c.if-num_hashes-lt4.false))
     c.if-not-all_are_on.ensures.moved c.if-not-all_are_on.ensures.found
-    c.all_are_on-3.ensures.found)
+    c.all_are_on-then-num_hashes-lt7.ensures.found)
+
+pub returns-then-not-all_are_on-2 : goal.returns-then-not-all_are_on-2
+returns-then-not-all_are_on-2 c =
+    tells-off _ _ c.new-chain.ensures 7 (omega (arith, c.if-num_hashes-lt7.false))
+    (tells_next-then 3 4 _ _ _ _ _ _ refl
+    c.if-not-all_are_on.ensures.moved c.if-not-all_are_on.ensures.found
+    c.if-not-all_are_on-2.ensures.found)
+
+pub returns : goal.returns
+returns c =
+    let k : ℕ = c.args.num_hashes in
+    tells-all _ _ c.new-chain.ensures _
+    (tells_next-then 3 (k - 3) k _ _ _ _ _ (omega (arith, c.if-num_hashes-lt4.false))
+    c.if-not-all_are_on.ensures.moved c.if-not-all_are_on.ensures.found
+    (tells_next-then 4 (k - 7) (k - 3) _ _ _ _ _ (omega (arith, c.if-num_hashes-lt7.false))
+    c.if-not-all_are_on-2.ensures.moved c.if-not-all_are_on-2.ensures.found
+    c.all_are_on-4.ensures.found))
