@@ -33,6 +33,23 @@ WANTED = {
 }
 
 
+class Slotted(BlockedFilter):
+    """A subclass with attributes in slots, of which one is private and one isn't set."""
+
+    __slots__ = ("name", "__kept", "unset")
+
+    def __init__(self, name):
+        super().__init__(1000, "1/1000")
+        self.name, self.__kept = [name], name
+
+    def kept(self):
+        return self.__kept
+
+
+class Both(Slotted):
+    """A subclass of it that has all attributes."""
+
+
 COUNTING_KEY = bytes(range(16))
 # One line, three hashes, and the key bytes 0 to 15, of `crab` and `lobster`: the file that
 # dev/blocked-model --file makes, and docs/FILE.md explains.
@@ -184,6 +201,20 @@ class Blocked(unittest.TestCase):
             self.assertNotIn("whale", seen)
         self.assertEqual(list(seen.view()), seen.words())
         self.assertRaises(TypeError, seen.view().__setitem__, 0, 1)
+
+    def test_copies_keep_what_a_subclass_adds(self):
+        for cls in (Slotted, Both):
+            seen = cls("fish")
+            if cls is Both:
+                seen.more = "shell"
+            copies = [pickle.loads(pickle.dumps(seen, number)) for number in range(2, 6)]
+            for other in [seen.copy(), copy.copy(seen), copy.deepcopy(seen), *copies]:
+                self.assertIs(type(other), cls)
+                self.assertEqual((other, other.name, other.kept()), (seen, ["fish"], "fish"))
+                self.assertFalse(hasattr(other, "unset"))
+                self.assertEqual(getattr(other, "more", None), "shell" if cls is Both else None)
+            self.assertIs(copy.copy(seen).name, seen.name)
+            self.assertIsNot(copy.deepcopy(seen).name, seen.name)
 
     def test_pickles_hand_the_words_out(self):
         seen = BlockedFilter(10_000, "1/1000", COUNTING_KEY)

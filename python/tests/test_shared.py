@@ -11,7 +11,7 @@ import unittest
 from multiprocessing import shared_memory
 from pathlib import Path
 
-from fastbloom import Filter, Refusal, SharedFilter
+from fastbloom import Filter, Refusal, SharedBlockedFilter, SharedFilter
 
 RUNS = int(os.environ.get("FASTBLOOM_RUNS", "20"))
 HASHES, THREADS, WORKERS, WORDS = 1_000_000, 8, 4, 30_011
@@ -230,6 +230,22 @@ class Calls(unittest.TestCase):
         with self.assertRaises(Refusal):
             seen.load()
         memory.close()
+
+    def test_a_number_that_releases_the_words_changes_nothing(self):
+        for filters, size in ((SharedFilter, 8), (SharedBlockedFilter, 64)):
+            memory = bytearray(size)
+            for name in ("add_hash", "contains_hash"):
+                seen = filters.over(memory, 1)
+
+                class Index:
+                    def __index__(self):
+                        seen.release()
+                        memory[:] = b"\xff" * size
+                        return 5
+
+                memory[:] = bytes(size)
+                self.assertFalse(getattr(seen, name)(Index()))
+                self.assertEqual(memory, b"\xff" * size)
 
 
 if __name__ == "__main__":

@@ -2,6 +2,7 @@
 
 from __future__ import annotations
 
+import copy
 import ctypes
 import os
 import pickle
@@ -12,7 +13,8 @@ from typing import (
 from . import _library as library
 from ._files import Path, map_file, write_file
 from ._filter import (
-    _CUT, _HEAD, _SEAL, Refusal, _check, _check_file, _hash_value, _number_of_items, _parts)
+    _CUT, _HEAD, _SEAL, Refusal, _add_attributes, _attributes_of, _check, _check_file, _hash_value,
+    _number_of_items, _parts, _state_of)
 from ._items import Buffer, Item, Rate, bytes_of, check_many, plain_bytes
 from ._locks import alone, alone_with, new_lock
 from ._many import Hashes, each_part, told, words_of
@@ -284,30 +286,38 @@ class BlockedFilter:
     def _copy_words(self, memory: bytearray, offset: int) -> None:
         memoryview(memory)[offset:] = self._view
 
-    def copy(self) -> Self:
-        """A filter with words of its own, which are equal to these."""
+    def _copy(self) -> Self:
         made = type(self).__new__(type(self))
         made._set(self.num_lines, self._num_hashes, self._key)
         made._view[:] = self._words()
         return made
 
+    def copy(self) -> Self:
+        """A filter with words of its own, which are equal to these."""
+        made = self._copy()
+        _add_attributes(made, _attributes_of(self, BlockedFilter))
+        return made
+
     __copy__ = copy
 
     def __deepcopy__(self, memo: Any) -> Self:
-        made = self.copy()
+        made = self._copy()
         memo[id(self)] = made
+        _add_attributes(made, copy.deepcopy(_attributes_of(self, BlockedFilter), memo))
         return made
 
     def __reduce__(self) -> Tuple[Any, ...]:
-        """Pickles the words, the number of hashes and the key."""
-        return _restored, (type(self), self._num_hashes, self._key, self._words())
+        """Pickles the words, the number of hashes and the key, and what a subclass adds."""
+        made = type(self), self._num_hashes, self._key, self._words()
+        return _restored, made, _state_of(self, BlockedFilter)
 
     def __reduce_ex__(self, protocol: Any) -> Any:
         """From protocol 5 on it hands out the words themselves, as a `Filter` does."""
         if protocol < 5 or type(self).__reduce__ is not BlockedFilter.__reduce__:
             return self.__reduce__()
         words = pickle.PickleBuffer(self._view.toreadonly())
-        return _restored, (type(self), self._num_hashes, self._key, words)
+        made = type(self), self._num_hashes, self._key, words
+        return _restored, made, _state_of(self, BlockedFilter)
 
     def __sizeof__(self) -> int:
         """The bytes of memory, those of its words included."""

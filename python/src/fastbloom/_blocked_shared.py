@@ -151,11 +151,13 @@ class SharedBlockedFilter:
 
     def add_hash(self, value: int) -> bool:
         """As `add`, by the hash. One out of range raises ValueError."""
-        return library.blocked_shared_insert_hash(self._words, self._num_hashes, _hash_value(value))
+        value = _hash_value(value)  # whose `__index__` may release the words
+        return library.blocked_shared_insert_hash(self._words, self._num_hashes, value)
 
     def contains_hash(self, value: int) -> bool:
         """As `in`, by the hash. One out of range raises ValueError."""
-        return library.blocked_shared_contains_hash(self._words, self._num_hashes, _hash_value(value))
+        value = _hash_value(value)
+        return library.blocked_shared_contains_hash(self._words, self._num_hashes, value)
 
     # Many items
 

@@ -163,11 +163,11 @@ def _restored_words(cls: Type[Filter], num_hashes: int, key: bytes, words: Buffe
     return made
 
 
-def _attributes_of(made: Filter) -> Tuple[Dict[str, Any], Dict[str, Any]]:
-    """What a subclass adds: its attributes, and those of them that have slots."""
+def _attributes_of(made: object, base: type) -> Tuple[Dict[str, Any], Dict[str, Any]]:
+    """What a subclass of the base adds: its attributes, and those of them that have slots."""
     slots = {}
     for cls in type(made).__mro__:
-        names = () if cls is Filter else vars(cls).get("__slots__", ())
+        names = () if cls is base else vars(cls).get("__slots__", ())
         for name in (names,) if isinstance(names, str) else names:
             if name.startswith("__") and not name.endswith("__"):
                 name = f"_{cls.__name__.lstrip('_')}{name}"  # how Python keeps a private name
@@ -176,7 +176,13 @@ def _attributes_of(made: Filter) -> Tuple[Dict[str, Any], Dict[str, Any]]:
     return getattr(made, "__dict__", {}), slots
 
 
-def _add_attributes(made: Filter, added: Tuple[Dict[str, Any], Dict[str, Any]]) -> None:
+def _state_of(made: object, base: type) -> Any:
+    """What a subclass of the base adds, as pickle takes it."""
+    attributes, slots = _attributes_of(made, base)
+    return (attributes or None, slots) if slots else attributes or None
+
+
+def _add_attributes(made: object, added: Tuple[Dict[str, Any], Dict[str, Any]]) -> None:
     attributes, slots = added
     if attributes:
         made.__dict__.update(attributes)
@@ -607,7 +613,7 @@ class Filter:
     def copy(self) -> Self:
         """A filter with words of its own, which are equal to these."""
         other = self._copy()
-        _add_attributes(other, _attributes_of(self))
+        _add_attributes(other, _attributes_of(self, Filter))
         return other
 
     __copy__ = copy
@@ -615,12 +621,12 @@ class Filter:
     def __deepcopy__(self, memo: Any) -> Self:
         other = self._copy()
         memo[id(self)] = other
-        _add_attributes(other, copy.deepcopy(_attributes_of(self), memo))
+        _add_attributes(other, copy.deepcopy(_attributes_of(self, Filter), memo))
         return other
 
     def __reduce__(self) -> Tuple[Any, ...]:
         """Pickles the bytes of the file, which have the key, and what a subclass adds."""
-        return _restored, (type(self), self.to_bytes()), self._state()
+        return _restored, (type(self), self.to_bytes()), _state_of(self, Filter)
 
     def __reduce_ex__(self, protocol: Any) -> Any:
         """From protocol 5 on it hands out the words themselves, which `buffer_callback` may take.
@@ -630,12 +636,8 @@ class Filter:
         if protocol < 5 or type(self).__reduce__ is not Filter.__reduce__:
             return self.__reduce__()
         words = pickle.PickleBuffer(self._view.toreadonly())
-        return _restored_words, (type(self), self._num_hashes, self._key, words), self._state()
-
-    def _state(self) -> Any:
-        """What a subclass adds, as pickle takes it."""
-        attributes, slots = _attributes_of(self)
-        return (attributes or None, slots) if slots else attributes or None
+        made = type(self), self._num_hashes, self._key, words
+        return _restored_words, made, _state_of(self, Filter)
 
     def __sizeof__(self) -> int:
         """The bytes of memory, those of its words included."""

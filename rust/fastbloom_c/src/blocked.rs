@@ -1,6 +1,6 @@
 //! The filter whose positions of one item lie in one line of the cache.
 
-use crate::many::{push_bits, Bits, AT_ONCE};
+use crate::many::{insert_all, push_bits, Bits, AT_ONCE};
 use crate::raw_blocked::{self, Line, LINE};
 use crate::{hash, raw, Error, Rate};
 use std::fmt;
@@ -270,7 +270,7 @@ impl BlockedBloomFilter {
     }
 
     /// Inserts each item of an iterator, many by one call of the library. Where the iterator panics,
-    /// some of the items before may not be inserted.
+    /// the items before are inserted.
     ///
     /// ```
     /// # use fastbloom_c::BlockedBloomFilter;
@@ -280,15 +280,8 @@ impl BlockedBloomFilter {
     /// # Ok::<(), fastbloom_c::Error>(())
     /// ```
     pub fn insert_all<T: AsRef<[u8]>>(&mut self, items: impl IntoIterator<Item = T>) {
-        let mut hashes = Vec::with_capacity(AT_ONCE);
-        for item in items {
-            hashes.push(self.source_hash(item.as_ref()));
-            if hashes.len() == AT_ONCE {
-                self.insert_hashes(&hashes);
-                hashes.clear();
-            }
-        }
-        self.insert_hashes(&hashes);
+        let key = self.key;
+        insert_all(&key, items, |hashes| self.insert_hashes(hashes));
     }
 
     /// Removes every item.

@@ -1,6 +1,6 @@
 //! The blocked filter that threads share, and change without waiting for one another.
 
-use crate::many::{push_bits, Bits, AT_ONCE};
+use crate::many::{insert_all, push_bits, Bits, AT_ONCE};
 use crate::raw_blocked::{self, AtomicLine, LINE};
 use crate::{hash, raw, raw_shared, BlockedBloomFilter, Error};
 use std::fmt;
@@ -240,7 +240,7 @@ impl<W: AsRef<[AtomicU64]>> AtomicBlockedBloomFilter<W> {
     }
 
     /// Inserts each item of an iterator, many by one call of the library. Where the iterator panics,
-    /// some of the items before may not be inserted.
+    /// the items before are inserted.
     ///
     /// ```
     /// # use fastbloom_c::{AtomicBlockedBloomFilter, BlockedBloomFilter};
@@ -251,15 +251,7 @@ impl<W: AsRef<[AtomicU64]>> AtomicBlockedBloomFilter<W> {
     /// # Ok::<(), fastbloom_c::Error>(())
     /// ```
     pub fn insert_all<T: AsRef<[u8]>>(&self, items: impl IntoIterator<Item = T>) {
-        let mut hashes = Vec::with_capacity(AT_ONCE);
-        for item in items {
-            hashes.push(self.source_hash(item.as_ref()));
-            if hashes.len() == AT_ONCE {
-                self.insert_hashes(&hashes);
-                hashes.clear();
-            }
-        }
-        self.insert_hashes(&hashes);
+        insert_all(&self.key, items, |hashes| self.insert_hashes(hashes));
     }
 
     /// Removes every item, one word after the other.

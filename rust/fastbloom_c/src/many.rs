@@ -13,15 +13,15 @@ pub(crate) fn push_bits(told: &mut Vec<bool>, bits: &Bits, count: usize) {
 }
 
 /// Hashes that aren't inserted yet. They are when it is dropped, as by a panic.
-struct Pending<'a> {
-    filter: &'a mut BloomFilter,
+struct Pending<F: FnMut(&[u64])> {
+    insert: F,
     hashes: [u64; AT_ONCE],
     count: usize,
 }
 
-impl Pending<'_> {
-    fn push(&mut self, item: &[u8]) {
-        self.hashes[self.count] = self.filter.source_hash(item);
+impl<F: FnMut(&[u64])> Pending<F> {
+    fn push(&mut self, hash: u64) {
+        self.hashes[self.count] = hash;
         self.count += 1;
         if self.count == AT_ONCE {
             self.insert();
@@ -29,15 +29,31 @@ impl Pending<'_> {
     }
 
     fn insert(&mut self) {
-        let hashes = &self.hashes[..self.count];
-        self.filter.insert_hashes(hashes);
+        (self.insert)(&self.hashes[..self.count]);
         self.count = 0;
     }
 }
 
-impl Drop for Pending<'_> {
+impl<F: FnMut(&[u64])> Drop for Pending<F> {
     fn drop(&mut self) {
         self.insert();
+    }
+}
+
+/// Inserts the hash of each item by a call for many. Where the iterator panics, those of the items
+/// before are inserted.
+pub(crate) fn insert_all<T: AsRef<[u8]>>(
+    key: &[u8; 16],
+    items: impl IntoIterator<Item = T>,
+    insert: impl FnMut(&[u64]),
+) {
+    let mut pending = Pending {
+        insert,
+        hashes: [0; AT_ONCE],
+        count: 0,
+    };
+    for item in items {
+        pending.push(hash(key, &item));
     }
 }
 
@@ -110,14 +126,8 @@ impl BloomFilter {
     /// # Ok::<(), fastbloom_c::Error>(())
     /// ```
     pub fn insert_all<T: AsRef<[u8]>>(&mut self, items: impl IntoIterator<Item = T>) {
-        let mut pending = Pending {
-            filter: self,
-            hashes: [0; AT_ONCE],
-            count: 0,
-        };
-        for item in items {
-            pending.push(item.as_ref());
-        }
+        let key = self.key;
+        insert_all(&key, items, |hashes| self.insert_hashes(hashes));
     }
 }
 

@@ -1,7 +1,10 @@
 //! What filters hold and return. The values are from outside: SipHash-1-3 of Rust itself, a model
 //! in Python, and values worked by hand.
 
-use fastbloom_c::{hash, BloomFilter, Error, Hasher, Rate};
+use fastbloom_c::{
+    hash, AtomicBlockedBloomFilter, AtomicBloomFilter, BlockedBloomFilter, BloomFilter, Error,
+    Hasher, Rate,
+};
 
 const ZERO_KEY: [u8; 16] = [0; 16];
 
@@ -425,6 +428,36 @@ fn items_that_panic_leave_those_before_them() {
         let extends = std::panic::AssertUnwindSafe(|| extended.extend(items));
         assert!(std::panic::catch_unwind(extends).is_err());
         assert_eq!((&all, &extended), (&wanted, &wanted));
+    }
+}
+
+/// So it is with the other kinds.
+#[test]
+fn items_that_panic_leave_those_before_them_in_each_kind() {
+    let lines = || {
+        BlockedBloomFilter::from_words(&[0; 800])
+            .expect("lines")
+            .hashes(3)
+    };
+    for last in [0, 1, 1023, 1024, 1500] {
+        let stops = format!("item{last}");
+        let items = || names(0..2000).inspect(|name| assert_ne!(*name, stops));
+        let (mut wanted, mut in_lines) = (thousand(), lines());
+        names(0..last).for_each(|name| {
+            wanted.insert(&name);
+            in_lines.insert(&name);
+        });
+        let mut all = lines();
+        let shared = AtomicBloomFilter::from(thousand());
+        let shared_lines = AtomicBlockedBloomFilter::from(lines());
+        let inserts = std::panic::AssertUnwindSafe(|| all.insert_all(items()));
+        assert!(std::panic::catch_unwind(inserts).is_err());
+        let inserts = std::panic::AssertUnwindSafe(|| shared.insert_all(items()));
+        assert!(std::panic::catch_unwind(inserts).is_err());
+        let inserts = std::panic::AssertUnwindSafe(|| shared_lines.insert_all(items()));
+        assert!(std::panic::catch_unwind(inserts).is_err());
+        assert_eq!((all, BloomFilter::from(shared)), (in_lines.clone(), wanted));
+        assert_eq!(BlockedBloomFilter::from(shared_lines), in_lines);
     }
 }
 
