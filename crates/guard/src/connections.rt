@@ -6,6 +6,7 @@ ghost use Rattle.sqlite.specs.State.{HasCleanDisk};
 ghost use Rattle.sqlite_trees.specs.Tree.{Trees};
 ghost use Rattle.sqlite_wal.specs.Files.{image_at};
 
+use crate::drawing::give_number;
 use crate::left::Left;
 use crate::locks::{close_gate, lock_alone};
 use crate::names::Names;
@@ -34,7 +35,7 @@ pub trait Connector {
     ghost holds: { Self.Lock → Trees → Type 0 };
 
     /// Opens a connection to a file, which is made where there is none. One with no byte is no
-    /// store where `takes_empty` is false.
+    /// store where `takes_empty` is false; else a store that has no number gets one.
     fn open(rt: &HostRuntime, names: &Names, takes_empty: bool) -> Result<Opened<Self>, StoreFault>
         ensures found { IfOk result (λ it. HasCleanDisk (state Self.Pages.Store it.0)
             → (db : Trees) → holds it.1 db → (state Self.Pages.Store it.0).committed.trees ≡ db) };
@@ -87,6 +88,9 @@ impl Connector for OnDisk {
     ) -> Result<(Connection<FileStore<FileFrom<Wary>>>, Option<File>), StoreFault> {
         let lock = lock_alone(rt, names, takes_empty)?;
         let makes_log = makes_log(rt, names);
+        if takes_empty {
+            give_number(rt, names)?;
+        }
         match Connection::open_from(rt, names.store.as_str(), true, Wary) {
             Ok(conn) => {
                 let is_taken = is_entry_schema(conn.schema())

@@ -11,7 +11,8 @@ pub type FilterFault = guard_parts::FilterFault<HostFault>;
 /// The file that keeps a store's filter.
 pub type StoreFilter<'a, W> = FilterFile<HostFolder<'a, W>>;
 
-/// The file of a store's filter. One that is of another store is refused.
+/// The file of a store's filter. One that is of another store is refused, also where only its
+/// number tells so.
 pub fn filter_file<'a, W: Left>(
     rt: &'a HostRuntime,
     names: &'a Names,
@@ -24,7 +25,7 @@ pub fn filter_file<'a, W: Left>(
         standing: names.filter.as_str(),
         fresh: names.new_filter.as_str(),
         folder: names.folder.as_str(),
-        like: names.store.as_str(),
+        store: names.store.as_str(),
     };
     FilterFile::new(rt.alloc(), HostFolder::new(rt, paths, world), is_of_another)
 }

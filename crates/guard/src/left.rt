@@ -4,8 +4,9 @@ ghost use Rattle.guard_engine.specs.Guarded.{Entries};
 
 use guard_parts::{Unknown, World};
 
-/// A folder in which a guard of a store left its filter: each filter that may be found there has
-/// each key of the store. Code over any `W: Left` is proved for any such store.
+/// A folder in which a guard of a store left its filter: each filter that may be found there, and
+/// has the number of the store, has each key of it. Code over any `W: Left` is proved for any such
+/// store. Of a filter with another number nothing is supposed.
 pub trait Left: World {
     /// What the store has at first.
     ghost has: { Entries };
@@ -26,6 +27,7 @@ impl Left for Unknown {
           others = λ _ _. ⊥;
           left = λ _. None;
           was_done = λ _. false;
+          store = 0;
         })
         (λ _ _. ⊤) refl (λ c no. no) };
 }

@@ -4,6 +4,7 @@
 mod command_line;
 mod connections;
 mod copies;
+mod drawing;
 mod filter_file;
 mod guards;
 mod input_file;

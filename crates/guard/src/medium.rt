@@ -36,6 +36,9 @@ pub trait Medium {
         ensures left { IfOk result (λ table. Self.Table.is_known table
             → Stays Self.World.has (Self.Table.sight table).has) };
 
+    /// Gives the store of these names a number, if it has none. It waits as `over` does.
+    fn draw(rt: &HostRuntime, names: &Names, wait: u64) -> Result<(), StoreFault>;
+
     /// All entries: each key with its value.
     fn entries(table: &mut Self::Table) -> Result<Vec<(String, String)>, StoreFault>
         ensures known { Self.Table.is_known table.new → Self.Table.is_known table.old }
@@ -83,6 +86,10 @@ impl<C: Connector> Medium for Files<C> {
 
     fn found(rt: &HostRuntime, names: &Names, wait: u64) -> Result<FileTable<C>, StoreFault> {
         FileTable::found(rt, names, wait)
+    }
+
+    fn draw(rt: &HostRuntime, names: &Names, wait: u64) -> Result<(), StoreFault> {
+        FileTable::<C>::draw(rt, names, wait)
     }
 
     fn entries(table: &mut FileTable<C>) -> Result<Vec<(String, String)>, StoreFault> {

@@ -77,6 +77,11 @@ fn delete<'a, M: Medium>(
     options: Options,
     key: &str,
 ) -> u8 {
+    if names.has_store(rt) {
+        if let Err(fault) = M::draw(rt, names, options.wait) {
+            return tell_store(rt, names, &fault);
+        }
+    }
     let mut guard = match open_reader::<M>(rt, names, world, options) {
         Ok(guard) => guard,
         Err(status) => return status,

@@ -7,6 +7,7 @@ ghost use Rattle.sqlite_trees.specs.Tree.{Trees};
 use crate::connections::{Connector, Opened};
 use crate::names::Names;
 use guard_engine::Store;
+use guard_parts::store_number;
 use guard_store::{EntryTable, Unfit, is_empty};
 use sqlite::{Error, ErrorCode};
 use std::thread;
@@ -180,6 +181,20 @@ impl<C: Connector> FileTable<C> {
             }
             Err(unfit) => Err(StoreFault::Unfit(unfit)),
         }
+    }
+
+    /// Gives the store of a file a number, if it has none. It waits as `over` does.
+    ///
+    /// # Errors
+    /// Where the file can't be opened or written.
+    pub fn draw(rt: &HostRuntime, names: &Names, wait: u64) -> Result<(), StoreFault> {
+        if store_number(rt, names.store.as_str()) != Ok(0) {
+            return Ok(());
+        }
+        let (conn, lock) = open_within::<C>(rt, names, true, wait)?;
+        drop(conn);
+        drop(lock);
+        Ok(())
     }
 
     /// Whether the table was made as the file was opened.

@@ -4,7 +4,7 @@ use Rattle.bloom_plain.specs.Data.{AnswerAlike, DefaultFilter}
 use Rattle.bloom_plain.specs.File.{FileLaw, IsFileOf}
 use Rattle.guard_parts.specs.Filters.{HadSince, IsSealedFile, MayHave, MayTell, Passes, Replaces}
 use Rattle.guard_parts.specs.Folders.{Content, Sight}
-use Rattle.guard_parts.specs.Rooms.{filter_part, room_in, room_part}
+use Rattle.guard_parts.specs.Rooms.{IsOwn, filter_part, room_in, room_part}
 use Rattle.guard_parts.specs.declared.folder.Name.TheVariants.{Standing}
 use Rattle.guard_parts.specs.declared.room.Room.{Room}
 
@@ -25,7 +25,12 @@ module _ (law : FileLaw) (bytes : List ℕ) (filter : DefaultFilter)
       → MayHave new other → AnswerAlike filter other ⊎ MayHave old other
   saved-now old new other replaces has =
       ⊎_elim
-      (λ before. inr (record { bytes = has.bytes; found = before; is_file = has.is_file }))
+      (λ before. inr (record {
+        bytes = has.bytes;
+        found = before;
+        is_file = has.is_file;
+        is_own = subst (λ n. IsOwn n has.bytes) replaces.store has.is_own;
+      }))
       (λ is. inl (alike-content law bytes has.bytes filter other is_file has.is_file.is_file is))
       (replaces.now (Some has.bytes) has.found)
 
@@ -35,7 +40,12 @@ module _ (law : FileLaw) (bytes : List ℕ) (filter : DefaultFilter)
       → AnswerAlike filter other ⊎ HadSince old since other
   saved-since old new other since replaces le had =
       ⊎_elim
-      (λ before. inr (record { bytes = had.bytes; found = before; is_file = had.is_file }))
+      (λ before. inr (record {
+        bytes = had.bytes;
+        found = before;
+        is_file = had.is_file;
+        is_own = subst (λ n. IsOwn n had.bytes) replaces.store had.is_own;
+      }))
       (λ is. inl (alike-content law bytes had.bytes filter other is_file had.is_file.is_file is))
       (replaces.each since (Some had.bytes) le had.found)
 
@@ -78,11 +88,12 @@ module _ (s : Sight) (items read : List ℕ) (at : Some items ≡ s.now Standing
     (there : s.may_find Standing (s.now Standing)) (same : read ≡ items) where
   -- so may its filter
   pub may-have : (filter : DefaultFilter) → IsSealedFile (filter_part read) filter
-      → MayHave s filter
-  may-have filter is_file = record {
+      → IsOwn s.store read → MayHave s filter
+  may-have filter is_file is_own = record {
     bytes = items;
     found = subst (s.may_find Standing) (sym at) there;
     is_file = subst (λ b. IsSealedFile (filter_part b) filter) same is_file;
+    is_own = subst (IsOwn s.store) same is_own;
   }
 
   -- and its room may be told
@@ -100,6 +111,16 @@ read-now old new filter passes has = record {
   bytes = has.bytes;
   found = passes.now (Some has.bytes) has.found;
   is_file = has.is_file;
+  is_own = subst (λ n. IsOwn n has.bytes) passes.store has.is_own;
+}
+
+-- and the rooms that may be told
+pub told-still : (old new : Sight) (room : Room) → Passes old new → MayTell new room
+    → MayTell old room
+told-still old new room passes tells = record {
+  bytes = tells.bytes;
+  found = passes.now (Some tells.bytes) tells.found;
+  told = tells.told;
 }
 
 -- what a crash at any moment of that leaves
@@ -109,4 +130,5 @@ read-since old new since filter passes le had = record {
   bytes = had.bytes;
   found = passes.each since (Some had.bytes) le had.found;
   is_file = had.is_file;
+  is_own = subst (λ n. IsOwn n had.bytes) passes.store had.is_own;
 }

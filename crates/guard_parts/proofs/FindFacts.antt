@@ -3,62 +3,81 @@ use Rattle.std.proofs.Common.{◌≡◌, inl, inr, ℕ, true, false, List, [], S
 use Rattle.bloom_plain.specs.Data.{DefaultFilter}
 use Rattle.bloom_plain.specs.declared.file.error.FileError.TheVariants.{Cut}
 use Rattle.bloom_plain.specs.FileRefusals.{file_refusal}
-use Rattle.guard_parts.specs.Filters.{IsFaultIn, IsFoundIn, IsRefusedFor, IsSealedFile, form_refusal}
-use Rattle.guard_parts.specs.Rooms.{filter_part, room_in, room_part}
+use Rattle.guard_parts.specs.Filters.{HasOwn, IsFaultIn, IsFoundIn, IsRefusedFor, IsRefusedIn, IsSealedFile, form_refusal}
+use Rattle.guard_parts.specs.Rooms.{IsOwn, filter_part, room_in, room_part}
 use Rattle.guard_parts.specs.declared.room.Room.{Room}
 use Rattle.guard_parts.specs.declared.filter_file.FilterFault.TheVariants as faults
 use Rattle.guard_parts.specs.declared.filter_file.FormFault.TheVariants.{Form, NoSeal}
 
 -- where there is no file no filter is found, whosever it would be
-found-none : IsFoundIn true None None × IsFoundIn false None None
+found-none : IsFoundIn true 7 None None × IsFoundIn false 7 None None
 found-none = (refl, refl)
 
 -- a file isn't told as missing
-found-missed : (bytes : List ℕ) → IsFoundIn false (Some bytes) None → ⊥
+found-missed : (bytes : List ℕ) → IsFoundIn false 7 (Some bytes) None → ⊥
 found-missed bytes is = is
 
 -- where there is no file no filter comes from elsewhere
 found-nowhere : (filter : DefaultFilter) (room : Room)
-    → IsFoundIn false None (Some (filter, room)) → ⊥
+    → IsFoundIn false 7 None (Some (filter, room)) → ⊥
 found-nowhere filter room is = cc
 
 -- the store's own file has its filter, with the room that its last bytes tell
 found-own : (bytes : List ℕ) (filter : DefaultFilter) → IsSealedFile (filter_part bytes) filter
-    → IsFoundIn false (Some bytes) (Some (filter, room_in (room_part bytes)))
-found-own bytes filter is_file = (refl, is_file, refl)
+    → IsOwn 7 bytes → IsFoundIn false 7 (Some bytes) (Some (filter, room_in (room_part bytes)))
+found-own bytes filter is_file is_own = (refl, is_file, refl, is_own)
+
+-- a file that has another number isn't taken
+found-number : (bytes : List ℕ) (filter : DefaultFilter) (room : Room) → IsOwn 7 bytes
+    → IsFoundIn false 8 (Some bytes) (Some (filter, room)) → ⊥
+found-number bytes filter room is_own is =
+    let e : 7 ≡ 8 = sym is_own.1 ∙ is.3.1 in omega (arith, e)
+
+-- nor is one that is beside a store that has no number
+found-no_number : (bytes : List ℕ) (filter : DefaultFilter) (room : Room)
+    → IsFoundIn false 0 (Some bytes) (Some (filter, room)) → ⊥
+found-no_number bytes filter room is = is.3.0 refl
 
 -- the filter of another store isn't taken
 found-other : (bytes : List ℕ) (filter : DefaultFilter) (room : Room)
-    → IsFoundIn true (Some bytes) (Some (filter, room)) → ⊥
+    → IsFoundIn true 7 (Some bytes) (Some (filter, room)) → ⊥
 found-other bytes filter room is = let e = is.0 in cc
 
 -- another room isn't found
 found-room : (filter : DefaultFilter)
-    → IsFoundIn false (Some []) (Some (filter, record { total = 0; taken = 1 })) → ⊥
+    → IsFoundIn false 7 (Some []) (Some (filter, record { total = 0; taken = 1 })) → ⊥
 found-room filter is =
     let one : 1 ≡ 0 = ap (λ (r : Room). r.taken) is.2 in
     absurd (omega (arith, one))
 
 -- a file that is another store's is told as that
-fault-other : IsFaultIn {E = ℕ} true (Some []) faults.OtherStore
-fault-other = refl
+fault-other : IsFaultIn {E = ℕ} true 7 (Some []) faults.OtherStore
+fault-other = inl refl
+
+-- so is one that would be taken, but for its number
+fault-number : (bytes : List ℕ) → IsRefusedIn bytes None → IsOwn 7 bytes
+    → IsFaultIn {E = ℕ} false 8 (Some bytes) faults.OtherStore
+fault-number bytes taken is_own =
+    inr (taken, λ is. let e : 7 ≡ 8 = sym is_own.1 ∙ is.1 in omega (arith, e))
 
 -- the store's own isn't
-fault-own : IsFaultIn {E = ℕ} false (Some []) faults.OtherStore → ⊥
-fault-own is = cc
+fault-own : (bytes : List ℕ) → IsOwn 7 bytes
+    → IsFaultIn {E = ℕ} false 7 (Some bytes) faults.OtherStore → ⊥
+fault-own bytes is_own (inl is) = cc
+fault-own bytes is_own (inr is) = is.1 is_own
 
 -- nor is a file that isn't there
-fault-nowhere : IsFaultIn {E = ℕ} true None faults.OtherStore → ⊥
+fault-nowhere : IsFaultIn {E = ℕ} true 7 None faults.OtherStore → ⊥
 fault-nowhere is = is
 
 -- bytes that aren't taken are told by why they aren't
 fault-bytes : (bytes : List ℕ) → file_refusal (filter_part bytes) ≡ Some Cut
-    → IsFaultIn {E = ℕ} false (Some bytes) (faults.Refused (Form Cut))
+    → IsFaultIn {E = ℕ} false 7 (Some bytes) (faults.Refused (Form Cut))
 fault-bytes bytes is = (refl, inl (inl (sym (ap (form_refusal (filter_part bytes)) is))))
 
 -- and by no other reason
 fault-seal : (bytes : List ℕ) → file_refusal (filter_part bytes) ≡ Some Cut
-    → IsFaultIn {E = ℕ} false (Some bytes) (faults.Refused NoSeal) → ⊥
+    → IsFaultIn {E = ℕ} false 7 (Some bytes) (faults.Refused NoSeal) → ⊥
 fault-seal bytes is fault = elim fault.1 [
   | inl file ↦ of_seal file
   | inr room ↦ of_none room.0
@@ -76,9 +95,20 @@ fault-seal bytes is fault = elim fault.1 [
     of_none (inr memory) = let e = memory.0 in cc
 
 -- of another store's file its bytes aren't told
-fault-bytes_other : IsFaultIn {E = ℕ} true (Some []) (faults.Refused (Form Cut)) → ⊥
+fault-bytes_other : IsFaultIn {E = ℕ} true 7 (Some []) (faults.Refused (Form Cut)) → ⊥
 fault-bytes_other is = let e = is.0 in cc
 
 -- a read may fail of any name
-fault-read : (error : ℕ) → IsFaultIn true None (faults.Unread error)
+fault-read : (error : ℕ) → IsFaultIn true 7 None (faults.Unread error)
 fault-read error = tt
+
+-- a load doesn't tell what a save does
+fault-save : IsFaultIn {E = ℕ} false 0 (Some []) faults.NoNumber → ⊥
+fault-save is = is
+
+-- a file of the store's number is its own, and no file isn't
+own-file : (bytes : List ℕ) → IsOwn 7 bytes → HasOwn 7 (Some bytes)
+own-file bytes is_own = is_own
+
+own-no_file : HasOwn 7 None → ⊥
+own-no_file is = is

@@ -5,7 +5,8 @@ use Rattle.guard_parts.specs.Filters.{MayLack, Passes, Replaces}
 use Rattle.guard_parts.specs.Folders.{Content, Elapses, Keeps, Sight}
 use Rattle.guard_parts.specs.declared.folder.Name.TheVariants.{Standing, New}
 
--- a folder whose names have had this content since they were there
+-- a folder whose names have had this content since they were there, and whose store has the number
+-- 1
 abbrev shows : Content → ℕ → Sight
 shows content moment = record {
   now = λ name. content;
@@ -13,6 +14,7 @@ shows content moment = record {
   may_find = λ name c. c ≡ content;
   moment = moment;
   found_since = λ since name c. c ≡ content;
+  store = 1;
 }
 
 -- two files
@@ -30,6 +32,7 @@ replaces = record {
   later = omega arith;
   each = λ since c le found. inr found;
   now = λ c found. inr found;
+  store = refl;
 }
 
 -- the old file is found still
@@ -38,6 +41,7 @@ replaces-not = record {
   later = omega arith;
   each = λ since c le found. inl found;
   now = λ c found. inl found;
+  store = refl;
 }
 
 -- no file is found
@@ -57,6 +61,10 @@ replaces-within is = ⊎_elim (λ e. cc) (λ e. cc) (is.each 0 (Some []) (omega 
 replaces-before : Replaces (shows old 1) (shows new 0) new → ⊥
 replaces-before is = let no = is.later in omega (arith, no)
 
+-- the store gets another number
+replaces-number : Replaces (shows old 0) (record (shows new 1) { store = 2 }) new → ⊥
+replaces-number is = let e = is.store in omega (arith, e)
+
 -- ---- a file that stays
 
 -- nothing changes
@@ -65,6 +73,7 @@ passes = record {
   later = omega arith;
   each = λ since c le found. found;
   now = λ c found. found;
+  store = refl;
 }
 
 -- another file is found
@@ -79,6 +88,10 @@ passes-within is = let e = is.each 0 new (omega arith) refl in cc
 -- time goes back
 passes-before : Passes (shows old 1) (shows old 0) → ⊥
 passes-before is = let no = is.later in omega (arith, no)
+
+-- the store gets another number
+passes-number : Passes (shows old 0) (record (shows old 1) { store = 2 }) → ⊥
+passes-number is = let e = is.store in omega (arith, e)
 
 -- ---- a name
 
@@ -106,7 +119,12 @@ elapses = record {
   later = omega arith;
   each = λ since name c le found. inl found;
   stays = λ since name c le found. found;
+  store = refl;
 }
+
+-- the store gets another number
+elapses-number : Elapses (shows old 0) (record (shows old 1) { store = 2 }) → ⊥
+elapses-number is = let e = is.store in omega (arith, e)
 
 -- what was found before is forgotten
 elapses-forgets : Elapses (shows old 0) (shows new 1) → ⊥

@@ -27,6 +27,7 @@ passes-call old new counts time keeps = record {
       (λ now. counts since Standing c le (keeps.found c now))
       (time.each since Standing c le found);
   now = keeps.found;
+  store = time.store;
 }
 
 -- one after the other
@@ -36,6 +37,7 @@ passes-then old mid new first second = record {
   each = λ since c le found. first.each since c le
       (second.each since c (omega (arith, le, first.later)) found);
   now = λ c found. first.now c (second.now c found);
+  store = second.store ∙ first.store;
 }
 
 -- a call that may put a file with this content in place of the one that stands
@@ -52,6 +54,7 @@ replaces-call old new moved content counts time step is =
           (now c at_end))
           (time.each since Standing c le found);
       now = now;
+      store = time.store;
     }
 
 -- a file that stayed may count as one that was replaced
@@ -61,6 +64,7 @@ replaces-passes old new content passes = record {
   later = passes.later;
   each = λ since c le found. inl (passes.each since c le found);
   now = λ c found. inl (passes.now c found);
+  store = passes.store;
 }
 
 -- it stayed, and then may have been replaced
@@ -71,6 +75,7 @@ passes-replaces old mid new content first second = record {
   each = λ since c le found. ⊎_elim (λ before. inl (first.each since c le before)) (λ e. inr e)
       (second.each since c (omega (arith, le, first.later)) found);
   now = λ c found. ⊎_elim (λ before. inl (first.now c before)) (λ e. inr e) (second.now c found);
+  store = second.store ∙ first.store;
 }
 
 -- it may have been replaced, and then stayed
@@ -81,4 +86,5 @@ replaces-then old mid new content first second = record {
   each = λ since c le found. first.each since c le
       (second.each since c (omega (arith, le, first.later)) found);
   now = λ c found. first.now c (second.now c found);
+  store = second.store ∙ first.store;
 }

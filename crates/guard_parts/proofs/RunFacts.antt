@@ -3,7 +3,8 @@
 use Rattle.std.proofs.Common.{◌≡◌, ℕ, true, List, [], ◌∷◌, Some, None, inl, inr, ⊎_elim, refl, arith}
 use Rattle.guard_parts.specs.Folders.{Content}
 use Rattle.guard_parts.specs.declared.folder.Name.TheVariants.{Standing, New}
-use Rattle.guard_parts.specs.Calls.{Call, Reads, Writes, SyncsFile, Renames, SyncsFolder, Removes}
+use Rattle.guard_parts.specs.Calls.{Call, Reads, Writes, SyncsFile, Renames, SyncsFolder, Removes, ReadsNumber}
+use Rattle.guard_parts.specs.Empty.{empty}
 use Rattle.guard_parts.specs.Replay.{FoundSince, IsHonest, MayFind, Start, at, replay}
 
 -- the calls of a save, the newest first
@@ -29,6 +30,14 @@ honest-lie start bytes honest = let is = honest.1 in cc
 honest-none : (start : Start) (bytes : List ℕ)
     → IsHonest start (Reads Standing None ∷ save bytes) → ⊥
 honest-none start bytes honest = let is = honest.1 in cc
+
+-- a read of the store's number tells it
+honest-number : (start : Start) → IsHonest start (ReadsNumber start.store ∷ [])
+honest-number start = (tt, refl)
+
+-- and no other
+honest-no_number : IsHonest (record empty { store = 7 }) (ReadsNumber 0 ∷ []) → ⊥
+honest-no_number honest = let is = honest.1 in omega (arith, is)
 
 -- after a save nothing else may be found
 save-alone : (start : Start) (bytes : List ℕ) (c : Content)

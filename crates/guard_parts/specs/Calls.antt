@@ -12,3 +12,4 @@ pub data Call : Type 0 where
   Renames : Name → Name → Bool → Call
   SyncsFolder : Bool → Call
   Removes : Name → Bool → Call
+  ReadsNumber : ℕ → Call

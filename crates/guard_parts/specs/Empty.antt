@@ -1,4 +1,4 @@
--- A folder in memory begins empty, and what fails doesn't come about.
+-- A folder in memory begins empty, and what fails doesn't come about. Its store has the number 1.
 use Rattle.std.specs.Prelude.{false, None}
 use Rattle.guard_parts.specs.Replay.{Start}
 
@@ -9,4 +9,5 @@ empty = record {
   others = λ _ _. ⊥;
   left = λ _. None;
   was_done = λ _. false;
+  store = 1;
 }

@@ -13,7 +13,7 @@ use Rattle.guard_parts.specs.declared.folder.Name.TheVariants.{Standing}
 use Rattle.guard_parts.specs.declared.room.Room.{Room}
 use Rattle.guard_parts.specs.Folders.{Content, Sight}
 use Rattle.guard_parts.specs.Numbers.{number_in}
-use Rattle.guard_parts.specs.Rooms.{filter_part, room_in, room_part, room_refusal}
+use Rattle.guard_parts.specs.Rooms.{IsOwn, filter_part, room_in, room_part, room_refusal}
 
 -- the bytes are a file of the filter that has a seal
 pub record IsSealedFile (bytes : List ℕ) (filter : DefaultFilter) : Type 0 where
@@ -49,33 +49,43 @@ IsRefusedIn bytes (Some fault) =
     IsRefusedFor (filter_part bytes) (Some fault)
     ⊎ (IsRefusedFor (filter_part bytes) None × (room_refusal (room_part bytes) ≡ Some fault))
 
--- what is found by a name with this content: no filter where there is no file, and that of a file
--- that isn't another store's, with its room
-abbrev pub IsFoundIn : Bool → Content → Option (DefaultFilter × Room) → Type 0
-IsFoundIn is_of_another None found = found ≡ None
-IsFoundIn is_of_another (Some bytes) None = ⊥
-IsFoundIn is_of_another (Some bytes) (Some found) =
+-- what is found by a name with this content, beside a store of this number: no filter where there
+-- is no file, and that of a file that isn't another store's and has the number, with its room
+abbrev pub IsFoundIn : Bool → ℕ → Content → Option (DefaultFilter × Room) → Type 0
+IsFoundIn is_of_another store None found = found ≡ None
+IsFoundIn is_of_another store (Some bytes) None = ⊥
+IsFoundIn is_of_another store (Some bytes) (Some found) =
     (is_of_another ≡ false) × IsSealedFile (filter_part bytes) found.0
-    × (found.1 ≡ room_in (room_part bytes))
+    × (found.1 ≡ room_in (room_part bytes)) × IsOwn store bytes
 
--- why nothing is found by a name with this content. A read that failed says nothing of it. A file
--- that is another store's is told as that, whatever its bytes are, and any other as why its bytes
--- aren't taken; where there is no file, neither is told
-abbrev pub IsFaultIn : {E : Type 0} → Bool → Content → FilterFault E → Type 0
-IsFaultIn is_of_another content (faults.Unread error) = ⊤
-IsFaultIn is_of_another None faults.OtherStore = ⊥
-IsFaultIn is_of_another (Some bytes) faults.OtherStore = is_of_another ≡ true
-IsFaultIn is_of_another None (faults.Refused fault) = ⊥
-IsFaultIn is_of_another (Some bytes) (faults.Refused fault) =
+-- why nothing is found by a name with this content, beside a store of this number. A read that
+-- failed says nothing of it. A file that is known as another store's is told as that, whatever its
+-- bytes are, and any other as why its bytes aren't taken, or as another store's where they would
+-- be, but for the number; where there is no file, neither is told
+abbrev pub IsFaultIn : {E : Type 0} → Bool → ℕ → Content → FilterFault E → Type 0
+IsFaultIn is_of_another store content (faults.Unread error) = ⊤
+IsFaultIn is_of_another store None faults.OtherStore = ⊥
+IsFaultIn is_of_another store (Some bytes) faults.OtherStore =
+    (is_of_another ≡ true) ⊎ (IsRefusedIn bytes None × (¬ IsOwn store bytes))
+IsFaultIn is_of_another store None (faults.Refused fault) = ⊥
+IsFaultIn is_of_another store (Some bytes) (faults.Refused fault) =
     (is_of_another ≡ false) × IsRefusedIn bytes (Some fault)
-IsFaultIn is_of_another content (faults.Unsaved error) = ⊥
-IsFaultIn is_of_another content faults.Memory = ⊥
+IsFaultIn is_of_another store content (faults.Unsaved error) = ⊥
+IsFaultIn is_of_another store content faults.NoNumber = ⊥
+IsFaultIn is_of_another store content faults.Memory = ⊥
 
--- bytes may be found by the file's name that have a sealed file of the filter
+-- there is a file, and it belongs to the store that has this number
+abbrev pub HasOwn : ℕ → Content → Type 0
+HasOwn store None = ⊥
+HasOwn store (Some bytes) = IsOwn store bytes
+
+-- bytes may be found by the file's name that have a sealed file of the filter, and the number of
+-- the store
 pub record MayHave (s : Sight) (filter : DefaultFilter) : Type 0 where
   pub bytes : List ℕ
   pub found : s.may_find Standing (Some bytes)
   pub is_file : IsSealedFile (filter_part bytes) filter
+  pub is_own : IsOwn s.store bytes
 
 -- bytes may be found by the file's name that tell this room
 pub record MayTell (s : Sight) (room : Room) : Type 0 where
@@ -88,6 +98,7 @@ pub record HadSince (s : Sight) (since : ℕ) (filter : DefaultFilter) : Type 0 
   pub bytes : List ℕ
   pub found : s.found_since since Standing (Some bytes)
   pub is_file : IsSealedFile (filter_part bytes) filter
+  pub is_own : IsOwn s.store bytes
 
 -- the name may lead to no file
 abbrev pub MayLack : Sight → Type 0
@@ -99,6 +110,7 @@ pub record Passes (old new : Sight) : Type 0 where
   pub each : (since : ℕ) (c : Content) → since ≤ old.moment → new.found_since since Standing c
       → old.found_since since Standing c
   pub now : (c : Content) → new.may_find Standing c → old.may_find Standing c
+  pub store : new.store ≡ old.store
 
 -- from old to new the file may have been replaced by one with this content: a crash at any moment
 -- leaves what might be found before, or this one
@@ -107,3 +119,4 @@ pub record Replaces (old new : Sight) (content : Content) : Type 0 where
   pub each : (since : ℕ) (c : Content) → since ≤ old.moment → new.found_since since Standing c
       → old.found_since since Standing c ⊎ (c ≡ content)
   pub now : (c : Content) → new.may_find Standing c → old.may_find Standing c ⊎ (c ≡ content)
+  pub store : new.store ≡ old.store

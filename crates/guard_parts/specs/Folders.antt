@@ -1,5 +1,5 @@
--- A folder in which one file is replaced: what its names hold now, and what may be found by them
--- after a crash.
+-- A folder in which one file is replaced, which belongs to a store: what its names hold now, and
+-- what may be found by them after a crash.
 use Rattle.std.specs.Prelude.{◌≡◌, ◌⊎◌, ◌≤◌, ℕ, List, Option, Vec}
 use Rattle.std.specs.Option.{option_map}
 use Rattle.std.specs.declared.alloc.Global.{Global}
@@ -21,6 +21,8 @@ pub record Sight : Type 1 where
   pub moment : ℕ
   -- what might have been found by the name, had a crash come at some moment from that one on
   pub found_since : ℕ → Name → Content → Type 0
+  -- the number of the store that the file belongs to, 0 where it has none
+  pub store : ℕ
 
 -- from old to new nothing happened to a name
 pub record Keeps (old new : Sight) (name : Name) : Type 0 where
@@ -33,13 +35,14 @@ abbrev pub KeepsAll : Sight → Sight → Type 0
 KeepsAll old new = (name : Name) → Keeps old new name
 
 -- time goes on from old to new: a crash on the way leaves what it might have left before, or what
--- it may leave at the end
+-- it may leave at the end. The store keeps its number
 pub record Elapses (old new : Sight) : Type 0 where
   pub later : old.moment ≤ new.moment
   pub each : (since : ℕ) (name : Name) (c : Content) → since ≤ old.moment
       → new.found_since since name c → old.found_since since name c ⊎ new.may_find name c
   pub stays : (since : ℕ) (name : Name) (c : Content) → since ≤ old.moment
       → old.found_since since name c → new.found_since since name c
+  pub store : new.store ≡ old.store
 
 -- the bytes that a read returned
 abbrev pub bytes_in : Option (Vec ℕ Global) → Content

@@ -3,16 +3,18 @@ use Rattle.std.specs.Prelude.{◌≡◌, ◌⊎◌, ◌≤◌, ℕ, Bool, true, 
 use Rattle.guard_parts.specs.Folders.{Content, Sight}
 use Rattle.guard_parts.specs.declared.folder.Name.{Name}
 use Rattle.guard_parts.specs.declared.folder.Name.TheVariants.{Standing, New}
-use Rattle.guard_parts.specs.Calls.{Call, Reads, FailsToRead, Writes, SyncsFile, Renames, SyncsFolder, Removes}
+use Rattle.guard_parts.specs.Calls.{Call, Reads, FailsToRead, Writes, SyncsFile, Renames, SyncsFolder, Removes, ReadsNumber}
 
 -- What no code can read: what the names held at first, what else might be found by them, what a
--- write that failed left, and whether a rename or a removal that failed came about. The numbers
--- count the calls before.
+-- write that failed left, and whether a rename or a removal that failed came about; and the number
+-- of the store that the file belongs to, of which reads tell. The other numbers count the calls
+-- before.
 pub record Start : Type 1 where
   pub now : Name → Content
   pub others : Name → Content → Type 0
   pub left : ℕ → Content
   pub was_done : ℕ → Bool
+  pub store : ℕ
 
 -- one name: what it holds, whether these bytes are on the disk, and what else may be found by it
 pub record Slot : Type 1 where
@@ -70,6 +72,7 @@ when false done left = left
 abbrev pub after : Start → ℕ → Call → State → State
 after start n (Reads name found) s = s
 after start n FailsToRead s = s
+after start n (ReadsNumber number) s = s
 after start n (Writes name bytes ok) s =
     put name (unsettled (if ok then Some bytes else start.left n)) s
 after start n (SyncsFile name ok) s = put name (synced ok (at s name)) s
@@ -105,14 +108,18 @@ sight_of start calls = record {
   may_find = λ name. MayFind (at (replay start calls) name);
   moment = length calls;
   found_since = FoundSince start calls;
+  store = start.store;
 }
 
--- a read returned what the name held
-abbrev pub IsTrueCall : State → Call → Type 0
-IsTrueCall s (Reads name found) = found ≡ (at s name).now
-IsTrueCall s _ = ⊤
+-- a read returned what the name held, or the store's number, whichever it was of
+abbrev pub IsTrueCall : ℕ → State → Call → Type 0
+IsTrueCall store s (Reads name found) = found ≡ (at s name).now
+IsTrueCall store s (ReadsNumber number) = number ≡ store
+IsTrueCall store s _ = ⊤
 
--- each read returned what the name held: the medium returned what was written
+-- each read returned what the name held, or the store's number: the medium returned what was
+-- written
 abbrev pub IsHonest : Start → List Call → Type 0
 IsHonest start [] = ⊤
-IsHonest start (call ∷ earlier) = IsHonest start earlier × IsTrueCall (replay start earlier) call
+IsHonest start (call ∷ earlier) =
+    IsHonest start earlier × IsTrueCall start.store (replay start earlier) call

@@ -1,13 +1,14 @@
 //! A filter that is kept in a file.
-ghost use Rattle.std.specs.Prelude.{◌≡◌, ◌≤◌, ◌++◌, ℕ, None, Some, IfErr, IfOk, IfSome, OnOk};
+ghost use Rattle.std.specs.Prelude.{◌≡◌, ◌⊎◌, ◌≤◌, ◌↔◌, ◌++◌, ℕ, None, Some, IfErr, IfOk, IfSome, IsTrue, OnErr, OnOk};
 ghost use Rattle.std.specs.Result.{result_err};
-ghost use Rattle.bloom_plain.specs.Data.{DefaultFilter};
+ghost use Rattle.bloom_plain.specs.Data.{AnswerAlike, DefaultFilter};
 ghost use Rattle.bloom_plain.specs.File.{IsFileOf};
-ghost use Rattle.guard_parts.specs.Filters.{HadSince, IsFaultIn, IsFoundIn, IsRefusedFor, IsRefusedIn, IsSealedFile, MayHave, MayLack, MayTell, Passes, Replaces};
-ghost use Rattle.guard_parts.specs.Folders.{Content};
+ghost use Rattle.guard_parts.specs.Filters.{HadSince, HasOwn, IsFaultIn, IsFoundIn, IsRefusedFor, IsRefusedIn, IsSealedFile, MayHave, MayLack, MayTell, Passes, Replaces};
+ghost use Rattle.guard_parts.specs.Folders.{Content, bytes_in};
 ghost use Rattle.guard_parts.specs.Numbers.{number_in};
-ghost use Rattle.guard_parts.specs.Rooms.{filter_part, room_bytes, room_in, room_part, room_refusal};
+ghost use Rattle.guard_parts.specs.Rooms.{IsOwn, filter_part, room_bytes, room_in, room_part, room_refusal, store_in};
 ghost use Rattle.guard_parts.specs.declared.folder.Name.TheVariants.{Standing, New};
+ghost use Rattle.guard_parts.specs.declared.room.Room.{Room as ARoom};
 
 use crate::folder::{Folder, Name};
 use crate::kept::Kept;
@@ -22,8 +23,8 @@ use std::fmt::Display;
 // The most hashes that a filter may have: each costs time at every look-up.
 const MOST_HASHES: u64 = 64;
 
-// How many bytes at the end of a file tell its room.
-const ROOM: usize = 24;
+// How many bytes at the end of a file tell its room and its store.
+const ROOM: usize = 32;
 
 /// Why the bytes of a file aren't taken for a guard's filter.
 #[derive(Clone, Copy, Debug, PartialEq, Eq, Drop)]
@@ -49,8 +50,10 @@ pub enum FilterFault<E> {
     OtherStore,
     /// What the file has isn't taken.
     Refused(FormFault),
-    /// The file can't be written, or made durable.
+    /// The file can't be written, or made durable, or the number of its store can't be read.
     Unsaved(E),
+    /// The store has no number, so no filter could be told to be its own.
+    NoNumber,
     /// There is no memory for the bytes of the file.
     Memory,
 }
@@ -83,6 +86,7 @@ impl<E: Display> Display for FilterFault<E> {
             FilterFault::OtherStore => f.write_str("it is another store's"),
             FilterFault::Refused(fault) => write!(f, "{fault}"),
             FilterFault::Unsaved(error) => write!(f, "it can't be saved: {error}"),
+            FilterFault::NoNumber => f.write_str("it can't be saved: the store has no number"),
             FilterFault::Memory => f.write_str("it can't be saved: out of memory"),
         }
     }
@@ -146,7 +150,10 @@ fn room_of(bytes: &[u8]) -> Result<Room, FormFault>
     ensures refused { result_err result ≡ room_refusal bytes.now }
 {
     let (total, taken) = (number_in(bytes, 0), number_in(bytes, 1));
-    if number_in(bytes, 2) == total.saturating_add(taken) {
+    let sum = total
+        .saturating_add(taken)
+        .saturating_add(number_in(bytes, 2));
+    if number_in(bytes, 3) == sum {
         Ok(Room { total, taken })
     } else {
         Err(FormFault::Room)
@@ -170,29 +177,91 @@ fn filled_of(alloc: Global, bytes: &[u8]) -> Result<(BloomFilter, Room), FormFau
     }
 }
 
-// Puts the bytes that tell a room behind others.
-fn add_room(bytes: &mut Vec<u8>, room: Room) -> Result<(), AllocError>
-    ensures { OnOk result (bytes.new.items ≡ bytes.old.items ++ room_bytes room) }
+// Whether the file of a guard belongs to a store with this number. None belongs to one that has no
+// number.
+fn is_own(store: u64, bytes: &[u8]) -> bool
+    ensures { IsTrue result ↔ IsOwn store bytes.now }
 {
+    let (_file, end) = bytes.split_at(bytes.len().saturating_sub(ROOM));
+    if store == 0 {
+        return false;
+    }
+    number_in(end, 2) == store
+}
+
+// Puts the bytes that tell a room and a store behind others.
+fn add_room(bytes: &mut Vec<u8>, room: Room, store: u64) -> Result<(), AllocError>
+    ensures { OnOk result (bytes.new.items ≡ bytes.old.items ++ room_bytes room store) }
+{
+    let sum = room.total.saturating_add(room.taken).saturating_add(store);
     bytes.extend_from_slice(&u64::to_le_bytes(room.total))?;
     bytes.extend_from_slice(&u64::to_le_bytes(room.taken))?;
-    bytes.extend_from_slice(&u64::to_le_bytes(room.total.saturating_add(room.taken)))?;
+    bytes.extend_from_slice(&u64::to_le_bytes(store))?;
+    bytes.extend_from_slice(&u64::to_le_bytes(sum))?;
     Ok(())
 }
 
-// The file of a guard: that of the filter, and its room.
-fn file_with(alloc: Global, filter: &BloomFilter, room: Room) -> Result<Vec<u8>, FilterError>
+// The file of a guard: that of the filter, its room, and the number of its store.
+fn file_with(
+    alloc: Global,
+    filter: &BloomFilter,
+    room: Room,
+    store: u64,
+) -> Result<Vec<u8>, FilterError>
     ensures file { IfOk result (λ bytes. IsFileOf (filter_part bytes.items) filter.now) }
     ensures room { IfOk result (λ bytes. room_in (room_part bytes.items) ≡ room) }
+    ensures store { IfOk result (λ bytes. store_in (room_part bytes.items) ≡ store) }
 {
     room.is_narrow();
     let mut bytes = match filter.to_bytes(alloc) {
         Ok(bytes) => bytes,
         Err(error) => return Err(error),
     };
-    match add_room(&mut bytes, room) {
+    match add_room(&mut bytes, room, store) {
         Ok(()) => Ok(bytes),
         Err(_) => Err(FilterError::Memory),
+    }
+}
+
+// Reads the number of the store, and then the file. What the file says was true of the store when
+// its number was read, also where another store is put in its place between.
+fn read_both<D: Folder>(folder: &mut D) -> Result<(u64, Option<Vec<u8>>), D::Error>
+    ensures known { D.is_known folder.new → D.is_known folder.old }
+    ensures passes { D.is_known folder.new → Passes (D.sight folder.old) (D.sight folder.new) }
+    ensures number { D.is_known folder.new → IfOk result
+        (λ it. it.0 ≡ (D.sight folder.old).store) }
+    ensures found { D.is_known folder.new → IfOk result
+        (λ it. bytes_in it.1 ≡ (D.sight folder.old).now Standing) }
+{
+    let number = folder.number()?;
+    let found = folder.read(Name::Standing)?;
+    Ok((number, found))
+}
+
+// The bytes of a filter's file, with the number that its store has.
+fn bytes_of<D: Folder>(
+    folder: &mut D,
+    alloc: Global,
+    filter: &BloomFilter,
+    room: Room,
+) -> Result<Vec<u8>, FilterFault<D::Error>>
+    ensures known { D.is_known folder.new → D.is_known folder.old }
+    ensures passes { D.is_known folder.new → Passes (D.sight folder.old) (D.sight folder.new) }
+    ensures file { IfOk result (λ bytes. IsFileOf (filter_part bytes.items) filter.now) }
+    ensures room { IfOk result (λ bytes. room_in (room_part bytes.items) ≡ room) }
+    ensures own { D.is_known folder.new → IfOk result
+        (λ bytes. IsOwn (D.sight folder.old).store bytes.items) }
+{
+    let store = match folder.number() {
+        Ok(store) => store,
+        Err(error) => return Err(FilterFault::Unsaved(error)),
+    };
+    if store == 0 {
+        return Err(FilterFault::NoNumber);
+    }
+    match file_with(alloc, filter, room, store) {
+        Ok(bytes) => Ok(bytes),
+        Err(_) => Err(FilterFault::Memory),
     }
 }
 
@@ -258,12 +327,14 @@ impl<D: Folder + Drop> Kept for FilterFile<D> {
       bytes = had.bytes;
       found = D.Folder.only_now it.folder Standing (Some had.bytes) had.found;
       is_file = had.is_file;
+      is_own = had.is_own;
     } };
 
     ghost counts_now = { λ it since filter le has. record {
       bytes = has.bytes;
       found = D.Folder.counts_now it.folder since Standing (Some has.bytes) le has.found;
       is_file = has.is_file;
+      is_own = has.is_own;
     } };
 
     type Error = FilterFault<D::Error>;
@@ -290,19 +361,26 @@ impl<D: Folder + Drop> Kept for FilterFile<D> {
         // No filter is found just where there is no file, also where a file that is there would be
         // another store's.
         ensures taken { D.is_known self.new.folder → IfOk result
-            (IsFoundIn self.old.is_of_another ((D.sight self.old.folder).now Standing)) }
+            (IsFoundIn self.old.is_of_another (D.sight self.old.folder).store
+            ((D.sight self.old.folder).now Standing)) }
         ensures fault { D.is_known self.new.folder → IfErr result
-            (IsFaultIn self.old.is_of_another ((D.sight self.old.folder).now Standing)) }
+            (IsFaultIn self.old.is_of_another (D.sight self.old.folder).store
+            ((D.sight self.old.folder).now Standing)) }
         ensures same { self.new.is_of_another ≡ self.old.is_of_another }
     {
-        match self.folder.read(Name::Standing) {
-            Ok(None) => Ok(None),
-            Ok(Some(bytes)) => {
+        match read_both(&mut self.folder) {
+            Ok((_, None)) => Ok(None),
+            Ok((store, Some(bytes))) => {
                 if self.is_of_another {
                     return Err(FilterFault::OtherStore);
                 }
                 match filled_of(self.alloc, &bytes) {
-                    Ok(found) => Ok(Some(found)),
+                    Ok(found) => {
+                        if !is_own(store, &bytes) {
+                            return Err(FilterFault::OtherStore);
+                        }
+                        Ok(Some(found))
+                    }
                     Err(fault) => Err(FilterFault::Refused(fault)),
                 }
             }
@@ -310,11 +388,37 @@ impl<D: Folder + Drop> Kept for FilterFile<D> {
         }
     }
 
-    fn save(&mut self, filter: &BloomFilter, room: Room) -> Result<(), FilterFault<D::Error>> {
+    fn save(&mut self, filter: &BloomFilter, room: Room) -> Result<(), FilterFault<D::Error>>
+        ensures known { D.is_known self.new.folder → D.is_known self.old.folder }
+        ensures told { D.is_known self.new.folder → OnOk result ((other : ARoom)
+            → MayTell (D.sight self.new.folder) other → other ≡ room) }
+        ensures told_err { D.is_known self.new.folder → OnErr result ((other : ARoom)
+            → MayTell (D.sight self.new.folder) other
+            → (other ≡ room) ⊎ MayTell (D.sight self.old.folder) other) }
+        ensures ok { D.is_known self.new.folder → OnOk result ((other : DefaultFilter)
+            → MayHave (D.sight self.new.folder) other → AnswerAlike filter.now other) }
+        ensures there { D.is_known self.new.folder → OnOk result
+            (¬ MayLack (D.sight self.new.folder)) }
+        ensures err { D.is_known self.new.folder → OnErr result ((other : DefaultFilter)
+            → MayHave (D.sight self.new.folder) other
+            → AnswerAlike filter.now other ⊎ MayHave (D.sight self.old.folder) other) }
+        ensures gone { D.is_known self.new.folder → MayLack (D.sight self.new.folder)
+            → MayLack (D.sight self.old.folder) }
+        ensures time { D.is_known self.new.folder
+            → (D.sight self.old.folder).moment ≤ (D.sight self.new.folder).moment }
+        ensures crash { D.is_known self.new.folder → (since : ℕ) (other : DefaultFilter)
+            → since ≤ (D.sight self.old.folder).moment
+            → HadSince (D.sight self.new.folder) since other
+            → AnswerAlike filter.now other ⊎ HadSince (D.sight self.old.folder) since other }
+        // The file has the number of its store.
+        ensures own { D.is_known self.new.folder → OnOk result ((c : Content)
+            → (D.sight self.new.folder).may_find Standing c
+            → HasOwn (D.sight self.old.folder).store c) }
+    {
         file_reads_back::<u64>();
-        let bytes = match file_with(self.alloc, filter, room) {
+        let bytes = match bytes_of(&mut self.folder, self.alloc, filter, room) {
             Ok(bytes) => bytes,
-            Err(_) => return Err(FilterFault::Memory),
+            Err(fault) => return Err(fault),
         };
         match replace_or_clear(&mut self.folder, &bytes) {
             Ok(()) => {

@@ -12,8 +12,8 @@ pub enum Name {
     New,
 }
 
-/// A folder with one file and its successor, on a medium that may fail, or return what wasn't
-/// written.
+/// A folder with one file and its successor, which belong to a store, on a medium that may fail, or
+/// return what wasn't written.
 ///
 /// What a call says holds where the medium is known after it. POSIX means IEEE Std 1003.1; what a
 /// crash leaves it says of `fsync` alone, and the rest is what journaling file systems keep.
@@ -35,6 +35,15 @@ pub trait Folder {
         // specified by the write()".
         ensures found { is_known self.new → IfOk result
             (λ found. bytes_in found ≡ (sight self.old).now name) }
+        ensures same { is_known self.new → KeepsAll (sight self.old) (sight self.new) };
+
+    /// Reads the number of the store that the file belongs to, which is 0 where it has none.
+    fn number(&mut self) -> Result<u64, Self::Error>
+        ensures known { is_known self.new → is_known self.old }
+        ensures time { is_known self.new → Elapses (sight self.old) (sight self.new) }
+        // read, as above. Who owns the store writes its number once.
+        ensures found { is_known self.new → IfOk result
+            (λ number. number ≡ (sight self.old).store) }
         ensures same { is_known self.new → KeepsAll (sight self.old) (sight self.new) };
 
     /// Makes a file of this name, which has none, with these bytes. Nothing is on the disk yet.

@@ -8,7 +8,7 @@ ghost use Rattle.guard_parts.specs.Replay.{IsHonest, sight_of};
 use crate::folder::{Folder, Name};
 use crate::noted::Record;
 use crate::world::World;
-use lines::Reason;
+use lines::{Reason, read_some};
 use std::fmt::Display;
 use std::fs::{File, OpenOptions};
 use std::io::{ErrorKind, Read, Write};
@@ -25,8 +25,8 @@ pub struct Paths<'a> {
     pub fresh: &'a str,
     /// The folder that has both.
     pub folder: &'a str,
-    /// A file whose access the successor gets, if it is there.
-    pub like: &'a str,
+    /// The store that the file belongs to. Its access is the successor's.
+    pub store: &'a str,
 }
 
 /// Why a call of the system failed.
@@ -71,25 +71,50 @@ fn path_of<'a>(paths: &Paths<'a>, name: Name) -> &'a str {
     }
 }
 
-// Reads a file whole, if there is one. A device isn't opened, since that may wait.
-fn read_whole(rt: &HostRuntime, path: &str) -> Result<Option<Vec<u8>>, HostFault> {
+// Whether there is a file. A device is refused, since its open may wait.
+fn is_there(rt: &HostRuntime, path: &str) -> Result<bool, HostFault> {
     match fs::metadata(rt, path) {
         Ok(found) => {
-            if !found.is_file() {
-                return Err(HostFault::NoFile);
+            if found.is_file() {
+                Ok(true)
+            } else {
+                Err(HostFault::NoFile)
             }
         }
-        Err(error) => {
-            return match error.kind() {
-                ErrorKind::NotFound => Ok(None),
-                kind => Err(HostFault::Failed(Reason(kind))),
-            };
-        }
+        Err(error) => match error.kind() {
+            ErrorKind::NotFound => Ok(false),
+            kind => Err(HostFault::Failed(Reason(kind))),
+        },
+    }
+}
+
+// Reads a file whole, if there is one.
+fn read_whole(rt: &HostRuntime, path: &str) -> Result<Option<Vec<u8>>, HostFault> {
+    if !is_there(rt, path)? {
+        return Ok(None);
     }
     let mut file = File::open(rt, path)?;
     let mut bytes = Vec::new(rt.alloc());
     file.read_to_end(&mut bytes)?;
     Ok(Some(bytes))
+}
+
+/// The number of a store: SQLite's user version, the four bytes at 60 of its file, of which the
+/// highest comes first. It is 0 where there is no file, or where that ends before.
+///
+/// # Errors
+/// Where the file can't be read. A device isn't opened.
+pub fn store_number(rt: &HostRuntime, path: &str) -> Result<u64, HostFault> {
+    if !is_there(rt, path)? {
+        return Ok(0);
+    }
+    let mut file = File::open(rt, path)?;
+    let mut head = [0u8; 64];
+    if read_some(&mut file, &mut head)? < head.len() {
+        return Ok(0);
+    }
+    let number = [head[60], head[61], head[62], head[63]];
+    Ok(u64::from(u32::from_be_bytes(number)))
 }
 
 // Makes a file with these bytes, and with the access of another. A link isn't followed.
@@ -157,9 +182,18 @@ impl<W: World> Folder for HostFolder<'_, W> {
         answer
     }
 
+    fn number(&mut self) -> Result<u64, HostFault> {
+        let answer = store_number(self.rt, self.paths.store);
+        match answer {
+            Ok(number) => self.log.reads_number(number),
+            Err(_) => self.log.fails_to_read(),
+        }
+        answer
+    }
+
     fn write_new(&mut self, name: Name, bytes: &[u8]) -> Result<(), HostFault> {
         let path = path_of(&self.paths, name);
-        match write_whole(self.rt, path, self.paths.like, bytes) {
+        match write_whole(self.rt, path, self.paths.store, bytes) {
             Ok(file) => {
                 self.written = Some((name, file));
                 self.log.writes(name, bytes, true);

@@ -13,7 +13,7 @@ mod world;
 
 pub use filter_file::{FilterFault, FilterFile, FormFault};
 pub use folder::{Folder, Name};
-pub use host_folder::{HostFault, HostFolder, Paths};
+pub use host_folder::{HostFault, HostFolder, Paths, store_number};
 pub use kept::Kept;
 pub use memory_folder::{MemoryFault, MemoryFolder};
 pub use memory_slot::MemorySlot;

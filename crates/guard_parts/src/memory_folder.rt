@@ -26,7 +26,10 @@ pub enum MemoryFault {
     Memory,
 }
 
-/// A folder in memory. It begins empty.
+// The number of its store.
+const STORE: u64 = 1;
+
+/// A folder in memory. It begins empty, and belongs to a store with the number 1.
 #[derive(Drop)]
 pub struct MemoryFolder {
     alloc: Global,
@@ -152,6 +155,12 @@ impl Folder for MemoryFolder {
             Name::Standing => copy_of(self.alloc, &self.standing.now),
             Name::New => copy_of(self.alloc, &self.fresh.now),
         }
+    }
+
+    // That it fails is of no use to a test, since nothing would be found or saved.
+    fn number(&mut self) -> Result<u64, MemoryFault> {
+        self.log.reads_number(STORE);
+        Ok(STORE)
     }
 
     fn write_new(&mut self, name: Name, bytes: &[u8]) -> Result<(), MemoryFault> {

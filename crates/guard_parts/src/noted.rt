@@ -2,7 +2,7 @@
 ghost use Rattle.std.specs.Prelude.{◌≡◌, List, [], ◌∷◌};
 ghost use Rattle.std.specs.Borrow.{ftrue};
 ghost use Rattle.guard_parts.specs.Folders.{bytes_in};
-ghost use Rattle.guard_parts.specs.Calls.{Call, Reads, FailsToRead, Writes, SyncsFile, Renames, SyncsFolder, Removes};
+ghost use Rattle.guard_parts.specs.Calls.{Call, Reads, FailsToRead, Writes, SyncsFile, Renames, SyncsFolder, Removes, ReadsNumber};
 ghost use Rattle.guard_parts.specs.Note.{event_of, name_of};
 
 use crate::folder::Name;
@@ -38,7 +38,8 @@ impl Record {
         }
     }
 
-    // The kind of a call, two names, 1 where it came about, and its bytes.
+    // The kind of a call, two names, 1 where it came about, a number where it has one, and its
+    // bytes.
     fn note(&mut self, _numbers: &[u64], _bytes: &[u8])
         ensures { self.new.events ≡ event_of _numbers.now _bytes.now ∷ self.old.events }
     {}
@@ -80,6 +81,12 @@ impl Record {
         ensures { self.new.events ≡ SyncsFolder is_done ∷ self.old.events }
     {
         self.note(&[5, 0, 0, u64::from(is_done)], &[]);
+    }
+
+    pub fn reads_number(&mut self, number: u64)
+        ensures { self.new.events ≡ ReadsNumber number ∷ self.old.events }
+    {
+        self.note(&[7, 0, 0, 1, number], &[]);
     }
 
     pub fn removes(&mut self, name: Name, is_done: bool)

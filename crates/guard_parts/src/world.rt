@@ -19,5 +19,6 @@ impl World for Unknown {
       others = λ _ _. ⊥;
       left = λ _. None;
       was_done = λ _. false;
+      store = 0;
     } };
 }

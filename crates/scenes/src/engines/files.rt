@@ -142,20 +142,28 @@ fn host_file<'a>(
         standing,
         fresh: "scene.filter.new",
         folder,
-        like: "scene.like",
+        store: "scene.store",
     };
     FilterFile::new(rt.alloc(), HostFolder::new(rt, paths, Unknown), false)
 }
 
-// Whether a folder with the name of the file is refused, since it is no file, and a save in a
-// folder that is missing, since no name can be synced there.
+// Whether a folder with the name of the file is refused, since it is no file; a save beside no
+// store, since that has no number; and one in a folder that is missing, since no name can be synced
+// there.
 fn are_refused(rt: &HostRuntime) -> Result<bool, FilterError> {
     let filter = filter_with(rt.alloc(), 1)?;
     let unread = host_file(rt, ".", ".").load().err();
+    let unowned = host_file(rt, "scene.filter", ".").save(&filter, ROOM).err();
+    let is_store = fs::write(rt, "scene.store", &[1u8; 64]).is_ok();
     let is_saved = host_file(rt, "scene.filter", "scene.none")
         .save(&filter, ROOM)
         .is_ok();
-    Ok(!is_saved & (unread == Some(FilterFault::Unread(HostFault::NoFile))))
+    Ok(
+        is_store
+            & !is_saved
+            & (unread == Some(FilterFault::Unread(HostFault::NoFile)))
+            & (unowned == Some(FilterFault::NoNumber)),
+    )
 }
 
 // The file was moved to its name before its folder was to be synced.
@@ -163,4 +171,5 @@ fn are_refused(rt: &HostRuntime) -> Result<bool, FilterError> {
 fn a_folder_that_is_no_file_or_is_missing_is_told_on_this_machine(rt: HostRuntime) {
     assert!(rt; matches!(are_refused(&rt), Ok(true)));
     assert!(rt; fs::remove_file(&rt, "scene.filter").is_ok());
+    assert!(rt; fs::remove_file(&rt, "scene.store").is_ok());
 }

@@ -1,40 +1,27 @@
--- A read changes nothing.
-mod Found
-use Rattle.std.proofs.Common.{None}
-use Rattle.guard_parts.proofs.FileLemmas.{read-now, read-since}
-use Rattle.guard_parts.proofs.ReplaceLemmas.{passes-call}
+-- What was read may be found.
+use Rattle.std.proofs.Common.{◌∙◌, ℕ, List, subst, sym}
+use Rattle.guard_parts.proofs.FileLemmas.{may-have, may-tell}
+use Rattle.guard_parts.specs.Rooms.{IsOwn}
 use Rattle.guard_parts.specs.declared.folder.Name.TheVariants.{Standing}
 use Rattle.guard_parts.proofs.filter_file.FilterFileKept.load.Goals as goal
-use Rattle.guard_parts.proofs.filter_file.FilterFileKept.load.Answers.Found as found
 
-pub returns-clause-stays : goal.returns-clause-stays
-returns-clause-stays g c k filter has =
-    read-now _ _ filter (passes-call _ _ (g.met.D.Folder.counts_now c.args.self.now.folder)
-    (c.read.ensures.time k) (c.read.ensures.same k Standing)) has
-
-pub returns-clause-crash : goal.returns-clause-crash
-returns-clause-crash g c k since filter le had =
-    read-since _ _ since filter (passes-call _ _
-    (g.met.D.Folder.counts_now c.args.self.now.folder) (c.read.ensures.time k)
-    (c.read.ensures.same k Standing)) le had
-
-pub returns-clause-gone : goal.returns-clause-gone
-returns-clause-gone g c k lacks = (c.read.ensures.same k Standing).found None lacks
-
-pub returns-in-Ok-clause-crash : goal.returns-in-Ok-clause-crash
-returns-in-Ok-clause-crash g c k since filter le had =
-    read-since _ _ since filter (passes-call _ _
-    (g.met.D.Folder.counts_now c.args.self.now.folder) (c.read.ensures.time k)
-    (c.read.ensures.same k Standing)) le had
-
-pub returns-in-Ok-Some-clause-crash : goal.returns-in-Ok-Some-clause-crash
-returns-in-Ok-Some-clause-crash g c k since filter le had =
-    read-since _ _ since filter (passes-call _ _
-    (g.met.D.Folder.counts_now c.args.self.now.folder) (c.read.ensures.time k)
-    (c.read.ensures.same k Standing)) le had
-
+-- it has the number that was read
 pub returns-in-Ok-clause-found : goal.returns-in-Ok-clause-found
-returns-in-Ok-clause-found = found.returns-in-Ok-clause-found
+returns-in-Ok-clause-found g c k =
+    let s = g.D.Folder.sight c.args.self.now.folder in
+    let number = c.in-Ok-default-Some.store in
+    let own : IsOwn number c.deref-in-Ok.result.now = c.is_own.ensures.0 c.if-not-is_own.false in
+    let read : IsOwn number c.deref.result.now =
+    subst (IsOwn number) (c.deref-in-Ok.ensures.value ∙ sym c.deref.ensures.value) own in
+    may-have s _ _
+    (rw c.in-Ok-default-Some.field-0-1-is at (c.in-Ok-default-Some.ensures.found k))
+    (g.met.D.Folder.now_found c.args.self.now.folder Standing) c.deref.ensures.value _
+    c.in-Ok.ensures.file
+    (subst (λ n. IsOwn n c.deref.result.now) (c.in-Ok-default-Some.ensures.number k) read)
 
 pub returns-in-Ok-clause-told : goal.returns-in-Ok-clause-told
-returns-in-Ok-clause-told = found.returns-in-Ok-clause-told
+returns-in-Ok-clause-told g c k =
+    may-tell (g.D.Folder.sight c.args.self.now.folder) _ _
+    (rw c.in-Ok-default-Some.field-0-1-is at (c.in-Ok-default-Some.ensures.found k))
+    (g.met.D.Folder.now_found c.args.self.now.folder Standing) c.deref.ensures.value _
+    c.in-Ok.ensures.room

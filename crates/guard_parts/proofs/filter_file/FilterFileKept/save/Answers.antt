@@ -1,11 +1,10 @@
 -- The bytes that were written are the filter's file.
-mod Told
 use Rattle.std.proofs.Common.{ℕ, List, subst, sym}
 use Rattle.bloom_plain.specs.File.{IsFileOf}
-use Rattle.guard_parts.proofs.FileLemmas.{saved-alone, saved-since}
+use Rattle.guard_parts.proofs.FileLemmas.{saved-alone, saved-now, saved-since}
+use Rattle.guard_parts.proofs.ReplaceLemmas.{passes-replaces}
 use Rattle.guard_parts.specs.Rooms.{filter_part}
 use Rattle.guard_parts.proofs.filter_file.FilterFileKept.save.Goals as goal
-use Rattle.guard_parts.proofs.filter_file.FilterFileKept.save.Answers.Told as told
 
 pub returns-in-Ok-replace_or_clear-clause-ok : goal.returns-in-Ok-replace_or_clear-clause-ok
 returns-in-Ok-replace_or_clear-clause-ok g c k other has =
@@ -14,25 +13,28 @@ returns-in-Ok-replace_or_clear-clause-ok g c k other has =
     saved-alone c.file_reads_back.ensures.filters _ _ is_file _ other
     (c.in-Ok-replace_or_clear.ensures.ok k) has
 
+-- a crash within may leave it, or what was there
 pub returns-in-Ok-replace_or_clear-clause-crash : goal.returns-in-Ok-replace_or_clear-clause-crash
 returns-in-Ok-replace_or_clear-clause-crash g c k since other le had =
     let P : List ℕ → Type 0 = λ b. IsFileOf (filter_part b) c.args.filter.now in
     let is_file : P c.deref.result.now = subst P (sym c.deref.ensures.value) c.in-Ok.ensures.file in
     saved-since c.file_reads_back.ensures.filters _ _ is_file _ _ other since
-    (c.replace_or_clear.ensures.crash k) le had
+    (passes-replaces _ _ _ _ (c.bytes_of.ensures.passes (c.replace_or_clear.ensures.known k))
+    (c.replace_or_clear.ensures.crash k)) le had
 
 pub returns-clause-crash : goal.returns-clause-crash
 returns-clause-crash g c k since other le had =
     let P : List ℕ → Type 0 = λ b. IsFileOf (filter_part b) c.args.filter.now in
     let is_file : P c.deref.result.now = subst P (sym c.deref.ensures.value) c.in-Ok.ensures.file in
     saved-since c.file_reads_back.ensures.filters _ _ is_file _ _ other since
-    (c.replace_or_clear.ensures.crash k) le had
+    (passes-replaces _ _ _ _ (c.bytes_of.ensures.passes (c.replace_or_clear.ensures.known k))
+    (c.replace_or_clear.ensures.crash k)) le had
 
+-- after an error either filter may be found
 pub returns-clause-err : goal.returns-clause-err
-returns-clause-err = told.returns-clause-err
-
-pub returns-in-Ok-replace_or_clear-clause-told : goal.returns-in-Ok-replace_or_clear-clause-told
-returns-in-Ok-replace_or_clear-clause-told = told.returns-in-Ok-replace_or_clear-clause-told
-
-pub returns-clause-told_err : goal.returns-clause-told_err
-returns-clause-told_err = told.returns-clause-told_err
+returns-clause-err g c k other has =
+    let P : List ℕ → Type 0 = λ b. IsFileOf (filter_part b) c.args.filter.now in
+    let is_file : P c.deref.result.now = subst P (sym c.deref.ensures.value) c.in-Ok.ensures.file in
+    saved-now c.file_reads_back.ensures.filters _ _ is_file _ _ other
+    (passes-replaces _ _ _ _ (c.bytes_of.ensures.passes (c.replace_or_clear.ensures.known k))
+    (c.replace_or_clear.ensures.crash k)) has
