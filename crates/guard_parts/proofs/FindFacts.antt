@@ -7,7 +7,7 @@ use Rattle.guard_parts.specs.Filters.{HasOwn, IsFaultIn, IsFoundIn, IsRefusedFor
 use Rattle.guard_parts.specs.Rooms.{IsOwn, filter_part, room_in, room_part}
 use Rattle.guard_parts.specs.declared.room.Room.{Room}
 use Rattle.guard_parts.specs.declared.filter_file.FilterFault.TheVariants as faults
-use Rattle.guard_parts.specs.declared.filter_file.FormFault.TheVariants.{Form, NoSeal}
+use Rattle.guard_parts.specs.declared.form.FormFault.TheVariants.{Form, NoSeal}
 
 -- where there is no file no filter is found, whosever it would be
 found-none : IsFoundIn true 7 None None × IsFoundIn false 7 None None

@@ -2,7 +2,7 @@
 use Rattle.std.proofs.Common.{◌≡◌, ℕ, List, [], ◌∷◌, ◌++◌, Some, None, refl}
 use Rattle.bloom_plain.specs.declared.file.error.FileError.TheVariants.{Cut}
 use Rattle.guard_parts.specs.Filters.{form_refusal, left_refusal}
-use Rattle.guard_parts.specs.declared.filter_file.FormFault.TheVariants.{Form, NoSeal, OtherKey, ManyHashes}
+use Rattle.guard_parts.specs.declared.form.FormFault.TheVariants.{Form, NoSeal, OtherKey, ManyHashes}
 
 -- a small number as eight bytes
 abbrev low : ℕ → List ℕ

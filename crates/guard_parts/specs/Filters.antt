@@ -7,8 +7,8 @@ use Rattle.bloom_plain.specs.File.{IsFileOf}
 use Rattle.bloom_plain.specs.FileRefusals.{file_refusal}
 use Rattle.guard_parts.specs.declared.filter_file.FilterFault.{FilterFault}
 use Rattle.guard_parts.specs.declared.filter_file.FilterFault.TheVariants as faults
-use Rattle.guard_parts.specs.declared.filter_file.FormFault.{FormFault}
-use Rattle.guard_parts.specs.declared.filter_file.FormFault.TheVariants.{Form, NoSeal, OtherKey, ManyHashes}
+use Rattle.guard_parts.specs.declared.form.FormFault.{FormFault}
+use Rattle.guard_parts.specs.declared.form.FormFault.TheVariants.{Form, NoSeal, OtherKey, ManyHashes}
 use Rattle.guard_parts.specs.declared.folder.Name.TheVariants.{Standing}
 use Rattle.guard_parts.specs.declared.room.Room.{Room}
 use Rattle.guard_parts.specs.Folders.{Content, Sight}

@@ -3,8 +3,8 @@
 -- found. The form is this project's own.
 use Rattle.std.specs.Prelude.{◌≡◌, ◌≢◌, ℕ, ◌+◌, ◌-◌, ◌^◌, min, List, ◌++◌, length, take, drop, Option, Some, None, nat_eq, if◌then◌else◌}
 use Rattle.std.specs.Int.{w64, to_le_bytes}
-use Rattle.guard_parts.specs.declared.filter_file.FormFault.{FormFault}
-use Rattle.guard_parts.specs.declared.filter_file.FormFault.TheVariants as faults
+use Rattle.guard_parts.specs.declared.form.FormFault.{FormFault}
+use Rattle.guard_parts.specs.declared.form.FormFault.TheVariants as faults
 use Rattle.guard_parts.specs.declared.room.Room.{Room}
 use Rattle.guard_parts.specs.Numbers.{number_in}
 

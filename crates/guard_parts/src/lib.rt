@@ -3,16 +3,19 @@
 
 mod filter_file;
 mod folder;
+mod form;
 mod host_folder;
 mod kept;
 mod memory_folder;
 mod memory_slot;
 mod noted;
+mod replacing;
 mod room;
 mod world;
 
-pub use filter_file::{FilterFault, FilterFile, FormFault};
+pub use filter_file::{FilterFault, FilterFile};
 pub use folder::{Folder, Name};
+pub use form::FormFault;
 pub use host_folder::{HostFault, HostFolder, Paths, store_number};
 pub use kept::Kept;
 pub use memory_folder::{MemoryFault, MemoryFolder};

@@ -1,5 +1,7 @@
 //! How often a guard asks its store for a value. A clause says what the guard counts, and none what
 //! its store is asked.
+mod failing;
+
 use crate::telling::{has_text, tell_row};
 use bloom_plain::{FilterError, Rate};
 use guard_engine::{Guard, Store, Task, carry_out};

@@ -1,14 +1,14 @@
 //! Runs whose own requests for memory may be refused. Their readers and writers take none.
 use super::bloom::filter_of;
-use super::faulty::{ROOMY, Seen, Sink, Source, WHOLE};
-use super::summaries::Odd;
+use super::faulty::{ROOMY, SLOW, Seen, Sink, Source, WHOLE};
+use super::summaries::{A, Odd};
 use crate::telling::{NO_ROOM, WRONG, say};
 use bloom_engine::{Fault, serve};
 use bloom_plain::BloomFilter;
 use fastbloom::Shape;
 use std::alloc::Global;
 use std::thread::Threads;
-use summaries_engine::{Stop, build};
+use summaries_engine::{Inputs, Stop, Told, ask, build, load};
 
 // How a run ended, if it left what it is to.
 fn word_of(ended: Result<(), Fault>, is_left: bool) -> &'static str {
@@ -82,4 +82,46 @@ fn built<R: Threads>(rt: &R, alloc: Global) -> &'static str {
 #[test]
 fn a_build_is_whole_or_refused_for_memory(rt: HostRuntime) {
     assert!(rt; say(&rt, "build", built(&rt, rt.alloc())));
+}
+
+// How the look-ups of the keys "b" and "a" in the filter of "a" ended. The lines come a few bytes
+// at a time.
+fn asked(alloc: Global, output: &mut Sink, seen: &Seen) -> &'static str {
+    let of_filter = Odd {
+        keys: A,
+        reading: WHOLE,
+        seen,
+    };
+    let Ok(mut file) = of_filter.open("odd") else {
+        return WRONG;
+    };
+    let Ok((filter, _form)) = load(alloc, "odd", 64, &mut file) else {
+        return NO_ROOM;
+    };
+    if output.written.try_reserve(64).is_err() {
+        return NO_ROOM;
+    }
+    let odd = Odd {
+        keys: b"b\na\n",
+        reading: SLOW,
+        seen,
+    };
+    match ask::<10, _, _>(alloc, &filter, Told::Found, &odd, &["odd"], output) {
+        Ok(()) => {
+            if output.written.as_slice() == b"a\n".as_slice() {
+                "whole"
+            } else {
+                WRONG
+            }
+        }
+        Err(Stop::Memory) => "Memory",
+        Err(_stop) => WRONG,
+    }
+}
+
+#[test]
+fn an_ask_is_whole_or_refused_for_memory(rt: HostRuntime) {
+    let seen = Seen::new();
+    let mut output = Sink::new(rt.alloc(), ROOMY, &seen);
+    assert!(rt; say(&rt, "ask", asked(rt.alloc(), &mut output, &seen)));
 }

@@ -21,7 +21,7 @@ use summaries_engine::{
 // were worked out by another program, from the papers on SipHash and on the multiply and shift.
 // Their seals are what Python 3.11, whose hash of bytes is SipHash-1-3, returns under the key of
 // zeros.
-const A: &[u8] = b"fbloom\01\x02\0\0\0\0\0\0\0\
+pub(super) const A: &[u8] = b"fbloom\01\x02\0\0\0\0\0\0\0\
     \x01\0\0\0\0\0\0\0\0\0\0\0\0\0\0\0\
     \0\0\0\0\0\0\0\0>f\xd2\xf60\x19\xfb\xc8\
     \0\0\0\0\0\0\0\0\0\0\0\0\0\0\0\0\

@@ -1,6 +1,6 @@
 use Rattle.guard_parts.proofs.ReplaceLemmas.{apart, passes-call, replaces-then}
 use Rattle.guard_parts.specs.declared.folder.Name.TheVariants.{Standing}
-use Rattle.guard_parts.proofs.filter_file.replace_or_clear.Goals as goal
+use Rattle.guard_parts.proofs.replacing.replace_or_clear.Goals as goal
 
 -- the file stays while its successor is taken away
 pub returns-in-Err-clause-crash : goal.returns-in-Err-clause-crash

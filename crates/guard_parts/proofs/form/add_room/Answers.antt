@@ -2,7 +2,7 @@ use Rattle.std.proofs.Common.{ap, ◌∙◌}
 use Rattle.std.specs.Int.{w64, to_le_bytes}
 use Rattle.guard_parts.specs.Rooms.{sum_of}
 use Rattle.guard_parts.proofs.RoomLemmas.{four-behind}
-use Rattle.guard_parts.proofs.filter_file.add_room.Goals as goal
+use Rattle.guard_parts.proofs.form.add_room.Goals as goal
 
 -- the four numbers, one behind the other
 pub returns : goal.returns

@@ -1,7 +1,7 @@
 -- The new file is whole on the disk before it is put in place of the old one.
 use Rattle.guard_parts.proofs.ReplaceLemmas.{passes-call, passes-replaces, replaces-call, replaces-passes, replaces-then}
 use Rattle.guard_parts.specs.declared.folder.Name.TheVariants.{Standing}
-use Rattle.guard_parts.proofs.filter_file.replace.Goals as goal
+use Rattle.guard_parts.proofs.replacing.replace.Goals as goal
 
 pub returns-in_err-write_synced-clause-crash : goal.returns-in_err-write_synced-clause-crash
 returns-in_err-write_synced-clause-crash g c k =

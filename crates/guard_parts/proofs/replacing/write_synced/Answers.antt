@@ -1,7 +1,7 @@
 -- The file stays while its successor is written.
 use Rattle.guard_parts.proofs.ReplaceLemmas.{apart, passes-call, passes-then}
 use Rattle.guard_parts.specs.declared.folder.Name.TheVariants.{Standing}
-use Rattle.guard_parts.proofs.filter_file.write_synced.Goals as goal
+use Rattle.guard_parts.proofs.replacing.write_synced.Goals as goal
 
 pub returns-in_err-write_new-clause-passes : goal.returns-in_err-write_new-clause-passes
 returns-in_err-write_new-clause-passes g c k =

@@ -1,7 +1,7 @@
 use Rattle.std.proofs.Common.{length, arith, sym}
 use Rattle.std.proofs.lemmas.Bool.{ltb-false}
 use Rattle.guard_parts.proofs.FormLemmas.{number-in, number-past}
-use Rattle.guard_parts.proofs.filter_file.number_in.Goals as goal
+use Rattle.guard_parts.proofs.form.number_in.Goals as goal
 
 -- there is a chunk at the place
 pub returns-in-Some : goal.returns-in-Some

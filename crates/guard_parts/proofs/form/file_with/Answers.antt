@@ -1,7 +1,7 @@
 -- The room and the store's number lie behind the filter's file.
 use Rattle.std.proofs.Common.{arith}
 use Rattle.guard_parts.proofs.RoomLemmas.{file-behind, own-behind, told-behind}
-use Rattle.guard_parts.proofs.filter_file.file_with.Goals as goal
+use Rattle.guard_parts.proofs.form.file_with.Goals as goal
 
 pub returns-in-Ok-add_room-clause-file : goal.returns-in-Ok-add_room-clause-file
 returns-in-Ok-add_room-clause-file c =
