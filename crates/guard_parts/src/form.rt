@@ -1,5 +1,5 @@
-//! The bytes of a guard's filter: its file, and behind it how many keys it is made for, how many came,
-//! and the number of its store.
+//! The bytes of a guard's filter: those of its file, and behind them how many keys it is made for,
+//! how many came, and the number of its store.
 ghost use Rattle.std.specs.Prelude.{◌≡◌, ◌↔◌, ◌++◌, IfOk, IsTrue, OnOk};
 ghost use Rattle.std.specs.Result.{result_err};
 ghost use Rattle.bloom_plain.specs.File.{IsFileOf};
