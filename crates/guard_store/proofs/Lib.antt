@@ -1,3 +1,4 @@
+mod ChangeLemmas
 mod CompareLemmas
 mod ControlLemmas
 mod CreateLemmas
@@ -5,8 +6,11 @@ mod DeleteLemmas
 mod EntryFacts
 mod FailureLemmas
 mod FitFacts
+mod IndexLemmas
 mod InsertLemmas
+mod KnownLemmas
 mod ListLemmas
+mod ListedLemmas
 mod NumberFacts
 mod NumberLemmas
 mod OpenLemmas
@@ -16,6 +20,9 @@ mod PutLemmas
 mod QueryLemmas
 mod ReadLemmas
 mod ReadyFacts
+mod RowLemmas
+mod SeekLemmas
 mod SelectLemmas
+mod ShownLemmas
 mod StateLemmas
 mod TextLemmas

@@ -6,6 +6,7 @@ mod numbers;
 mod rows;
 mod schema;
 mod table;
+mod trees;
 
 pub use entry_table::{EntryTable, Unfit};
 pub use numbers::{has_own_number, is_one_text};
@@ -15,3 +16,4 @@ pub use table::{
     add_row, commit_batch, entry_rows, make_table, name_rows, number_rows, numbered_rows,
     open_batch, remove_row, roll_batch_back, value_rows,
 };
+pub use trees::EntryTrees;
