@@ -14,7 +14,7 @@ use Rattle.guard_store.proofs.IndexLemmas.{index_gains, index_loses}
 use Rattle.guard_store.proofs.ListLemmas.{In, from_in, to_in}
 use Rattle.guard_store.proofs.RowLemmas.{left_was, only_row, only_there, other_left, put_here, put_kept, put_others}
 use Rattle.guard_store.specs.Entry.{HasEntry, stored}
-use Rattle.guard_store.specs.Trees.{AreEntries, HasTrees, HasShape, IsNamedOnce, IsRowOf, LacksName, SetsBoth, name_columns, sight_of}
+use Rattle.guard_store.specs.Trees.{AreEntries, AreStored, HasTrees, HasShape, IsNamedOnce, IsRowOf, LacksName, SetsBoth, name_columns, sight_of}
 
 -- a change after a read is a change of what there was before
 pub sets_since : (old mid new : View) (rows entries : List Row → List Row) → OnlyReads old mid
@@ -38,7 +38,8 @@ set_trees old new rows entries fit sets are = record {
 
 -- the same rows have the same entries
 pub same_stays : (old new : List Row) → new ≡ old → Stays (HasEntry old) (HasEntry new)
-same_stays old new same k v = subst (λ rows. HasEntry rows k v ↔ HasEntry old k v) (sym same) (λ h. h, λ h. h)
+same_stays old new same k v =
+    subst (λ rows. HasEntry rows k v ↔ HasEntry old k v) (sym same) (λ h. h, λ h. h)
 
 -- a row of a free name under a free number came
 module _ (old new : View) (name value : List ℕ) (id : ℤ) (fit : HasTrees old true)
@@ -51,21 +52,6 @@ module _ (old new : View) (name value : List ℕ) (id : ℤ) (fit : HasTrees old
 
   abbrev row : Row
   row = stored id name value
-
-  -- a row of the name is the new one
-  named_new : (x : Row) → In (put_row row rows) x → column x 2 ≡ Text name → x ≡ row
-  named_new x there named = elim (put_others row rows x there) [
-    | inl new ↦ new
-    | inr was ↦ absurd (lacks x (from_in rows x was) named)
-  ]
-
-  -- a row of another name was there
-  named_other : (x : Row) (other : List ℕ) → In (put_row row rows) x → column x 2 ≡ Text other
-      → (Text name ≡ Text other → ⊥) → In rows x
-  named_other x other there named apart = elim (put_others row rows x there) [
-    | inl new ↦ absurd (apart (sym (ap (λ r. column r 2) new) ∙ named))
-    | inr was ↦ was
-  ]
 
   -- no name stands in two rows
   put_once : IsNamedOnce (put_row row rows)
@@ -81,6 +67,13 @@ module _ (old new : View) (name value : List ℕ) (id : ℤ) (fit : HasTrees old
           (one_named ∙ sym other_named ∙ ap (λ r. column r 2) second))
       go (inr first) (inr second) = fit.now.once called one other (from_in rows one first)
           (from_in rows other second) one_named other_named
+
+  -- each row is an entry
+  put_formed : AreStored (put_row row rows)
+  put_formed x there = elim (put_others row rows x (to_in _ x there)) [
+    | inl new ↦ (id, name, value, new)
+    | inr was ↦ fit.now.formed x (from_in rows x was)
+  ]
 
   -- the entry of the row came, and no other came or went
   put_gains : Gains (HasEntry rows) name value (HasEntry (put_row row rows))
@@ -108,6 +101,7 @@ module _ (old new : View) (name value : List ℕ) (id : ℤ) (fit : HasTrees old
       let table = subst (λ s. IsShaped s rows) fit.shape.table (ordered 0) in
       let fits = set_trees old new _ _ fit sets (record {
         indexed = index_gains old.trees fit.now.indexed id row refl table.0 free;
+        formed = put_formed;
         once = put_once;
       }) in
       let trees : new.trees 0 ≡ put_row row rows = ap (λ v. v.trees 0) sets in
@@ -148,7 +142,8 @@ module _ (old new : View) (name : List ℕ) (id : ℤ) (row : Row) (fit : HasTre
           has.0,
           from_in after has.0 (other_left id before has.0 there (elim (cases_Bool (has_rowid id has.0)) [
             | inl is ↦ absurd (both.1 (
-                let named = sym has.2 ∙ ap (λ r. column r 2) (only_row id before row has.0 of_name.only there is) ∙ of_name.named in cc))
+                let is_row = only_row id before row has.0 of_name.only there is in
+                let named = sym has.2 ∙ ap (λ r. column r 2) is_row ∙ of_name.named in cc))
             | inr other ↦ other
           ])),
           has.2,
@@ -159,10 +154,13 @@ module _ (old new : View) (name : List ℕ) (id : ℤ) (row : Row) (fit : HasTre
   -- the name lost its value in the open batch
   pub removes : Removes (sight_of old true) name (sight_of new true)
   removes =
-      let index : IsIndexOf name_columns after (remove_entry plain (Text name ∷ Int id ∷ []) (old.trees 1)) =
+      let index : IsIndexOf name_columns after
+      (remove_entry plain (Text name ∷ Int id ∷ []) (old.trees 1)) =
       subst (λ e. IsIndexOf name_columns after (remove_entry plain e (old.trees 1))) entry_is
       (index_loses old.trees fit.now.indexed id row of_name.only) in
       let fits = set_trees old new _ _ fit sets (record {
+        formed = λ x there.
+            fit.now.formed x (from_in before x (left_was id before x (to_in after x there)).0);
         indexed = index;
         once = λ called one other one_there other_there. fit.now.once called one other
             (from_in before one (left_was id before one (to_in after one one_there)).0)
@@ -171,6 +169,7 @@ module _ (old new : View) (name : List ℕ) (id : ℤ) (row : Row) (fit : HasTre
       let trees : new.trees 0 ≡ after = ap (λ v. v.trees 0) sets in
       record {
         batch = record { fit = fits; begun = refl };
-        others = subst (λ l. (k v : List ℕ) → HasEntry l k v ↔ (HasEntry before k v × ¬ (k ≡ name))) (sym trees) left_others;
+        others = subst (λ l. (k v : List ℕ)
+            → HasEntry l k v ↔ (HasEntry before k v × ¬ (k ≡ name))) (sym trees) left_others;
         kept = same_stays _ _ (ap (λ v. v.committed 0) sets);
       }

@@ -26,3 +26,4 @@ mod SelectLemmas
 mod ShownLemmas
 mod StateLemmas
 mod TextLemmas
+mod TreesFacts

@@ -54,5 +54,6 @@ module _ {T : Type 0} (first second : T → List ℕ) (rows : List Row) (items :
         let key_is : first item.0 ≡ key = same_text _ _ (ap (λ p. p.0) item.2 ∙ has.2) in
         let value_is : second item.0 ≡ value = same_text _ _ (ap (λ p. p.1) item.2 ∙ has.3) in
         from_in _ _ (subst (λ k. In (map both items) (k, value)) key_is
-        (subst (λ v. In (map both items) (first item.0, v)) value_is (in_map both items item.0 item.1)));
+        (subst (λ v. In (map both items) (first item.0, v)) value_is
+        (in_map both items item.0 item.1)));
   }

@@ -37,7 +37,8 @@ put_kept id new (r ∷ rs) x keyed free there =
     rw keyed (go (value_cmp (rowid r) (Int id)) refl (put_kept id new rs x keyed) there)
   where
     rest : is_eq (value_cmp (rowid r) (Int id)) ≡ false → filter (has_rowid id) rs ≡ []
-    rest other = subst (λ b. cond b (r ∷ filter (has_rowid id) rs) (filter (has_rowid id) rs) ≡ []) other free
+    rest other = subst (λ b. cond b (r ∷ filter (has_rowid id) rs)
+        (filter (has_rowid id) rs) ≡ []) other free
 
     go : (o : Ordering) → value_cmp (rowid r) (Int id) ≡ o
         → (filter (has_rowid id) rs ≡ [] → In rs x → In (put_row new rs) x) → In (r ∷ rs) x

@@ -30,7 +30,8 @@ text_tied (Text s) t tie = ap Text (exact_bytes s t (sym (value_cmp-Text s t) �
 text_tied (Blob b) t tie = absurd (let e = class_tied (Blob b) (Text t) tie in omega (arith, e))
 
 -- what holds of all holds of each
-pub at_each : {X : Type 0} (P : X → Type 0) (xs : List X) (x : X) → AllByRecursion P xs → In xs x → P x
+pub at_each : {X : Type 0} (P : X → Type 0) (xs : List X) (x : X) → AllByRecursion P xs
+    → In xs x → P x
 at_each P [] x all there = absurd there
 at_each P (y ∷ ys) x all (inl e) = subst P e all.0
 at_each P (y ∷ ys) x all (inr more) = at_each P ys x all.1 more
@@ -72,9 +73,11 @@ has_entry rows entries name index a_row there named =
 
 -- what is sought for a name has each entry of the name
 sought_has : (entries : List Row) (name : List ℕ) (id : Value) → IsSortedTree plain entries
-    → In entries (named_entry name id) → In (from_key plain (key_of name) entries) (named_entry name id)
+    → In entries (named_entry name id)
+    → In (from_key plain (key_of name) entries) (named_entry name id)
 sought_has entries name id sorted there =
-    subst (λ l. In l (named_entry name id)) (sym (from_key-filter plain (key_of name) entries sorted))
+    subst (λ l. In l (named_entry name id))
+    (sym (from_key-filter plain (key_of name) entries sorted))
     (in_filter _ entries _ (ap (λ o. not (is_lt o)) (entry_tied name id)) there)
 
 -- the first that is sought begins with the name, if some entry does
@@ -104,22 +107,25 @@ first_begins entries left first name id sorted comes there =
 module _ (old mid new : View) (name : List ℕ) (key found : Row)
     (ordered : IsOrdered old.shape old.trees) (shaped : HasShape old.shape)
     (index : IsIndexOf name_columns (old.trees 0) (old.trees 1)) (key_is : key ≡ key_of name)
-    (sets : mid ≡ with_cursor old 0 (sought (order_of (old.shape 1)) Forward key (old.trees 1))) where
-  comes : left_of mid 0 ≡ from_key plain (key_of name) (old.trees 1)
-  comes = rw (sets, shaped.index, key_is) (placed old 0 _)
+    (sets : mid ≡ with_cursor old 0 (sought (order_of (old.shape 1)) Forward key (old.trees 1)))
+  where
+    comes : left_of mid 0 ≡ from_key plain (key_of name) (old.trees 1)
+    comes = rw (sets, shaped.index, key_is) (placed old 0 _)
 
-  sorted : IsSortedTree plain (old.trees 1)
-  sorted = sorted_index plain (old.trees 1) (subst (λ s. IsShaped s (old.trees 1)) shaped.index (ordered 1))
+    sorted : IsSortedTree plain (old.trees 1)
+    sorted = sorted_index plain (old.trees 1)
+        (subst (λ s. IsShaped s (old.trees 1)) shaped.index (ordered 1))
 
-  -- the seek came to the end of the index
-  pub lacks_at_end : Advances mid new 0 found false → LacksName (old.trees 0) name
-  lacks_at_end ends a_row there named =
-      subst (λ l. In l (named_entry name (rowid a_row))) (sym comes ∙ ended mid new 0 found ends)
-      (sought_has (old.trees 1) name _ sorted (has_entry _ _ name index a_row there named))
+    -- the seek came to the end of the index
+    pub lacks_at_end : Advances mid new 0 found false → LacksName (old.trees 0) name
+    lacks_at_end ends a_row there named =
+        subst (λ l. In l (named_entry name (rowid a_row))) (sym comes ∙ ended mid new 0 found ends)
+        (sought_has (old.trees 1) name _ sorted (has_entry _ _ name index a_row there named))
 
-  -- the seek came to another name
-  pub lacks_before : Advances mid new 0 found true → ¬ (column found 0 ≡ Text name)
-      → LacksName (old.trees 0) name
-  lacks_before steps other a_row there named =
-      other (first_begins (old.trees 1) _ found name _ sorted (sym comes ∙ stepped mid new 0 found steps)
-      (has_entry _ _ name index a_row there named))
+    -- the seek came to another name
+    pub lacks_before : Advances mid new 0 found true → ¬ (column found 0 ≡ Text name)
+        → LacksName (old.trees 0) name
+    lacks_before steps other a_row there named =
+        other (first_begins (old.trees 1) _ found name _ sorted
+        (sym comes ∙ stepped mid new 0 found steps)
+        (has_entry _ _ name index a_row there named))

@@ -12,7 +12,8 @@ pub shows_next : {X T : Type 0} (f : Row → X) (g : T → X) (whole : List X) (
     (left later : List Row) (row : Row) (t : T) → Shown f g whole done left → left ≡ row ∷ later
     → f row ≡ g t → Shown f g whole (done ++ t ∷ []) later
 shows_next f g whole done left later row t shown steps same =
-    ap (λ l. l ++ map f later) (map_push g done t) ∙ append_assoc (map g done) (g t ∷ []) (map f later)
+    ap (λ l. l ++ map f later) (map_push g done t)
+    ∙ append_assoc (map g done) (g t ∷ []) (map f later)
     ∙ ap (λ x. map g done ++ x ∷ map f later) (sym same)
     ∙ ap (λ l. map g done ++ map f l) (sym steps) ∙ shown
 

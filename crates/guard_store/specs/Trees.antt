@@ -12,7 +12,7 @@ use Rattle.sqlite_trees.specs.Tree.{Trees, has_rowid, rowid, with_tree}
 use Rattle.sqlite_trees.specs.View.{View, IsClean}
 use Rattle.sqlite_sql.specs.Catalog.{IsIndexOf}
 use Rattle.guard_engine.specs.Stores.{Sight}
-use Rattle.guard_store.specs.Entry.{HasEntry}
+use Rattle.guard_store.specs.Entry.{HasEntry, stored}
 
 -- tree 0 is a table, and tree 1 is an index in the plain order
 pub record HasShape (shape : ℕ → Shape) : Type 0 where
@@ -28,8 +28,15 @@ abbrev pub IsNamedOnce : List Row → Type 0
 IsNamedOnce rows = (name : List ℕ) (one other : Row) → Contains rows one → Contains rows other
     → column one 2 ≡ Text name → column other 2 ≡ Text name → one ≡ other
 
--- the index has the name and the number of each row and nothing else, and no name stands in two rows
+-- each row is an entry under a number
+abbrev pub AreStored : List Row → Type 0
+AreStored rows = (a_row : Row) → Contains rows a_row
+    → (id : ℤ) × (name : List ℕ) × (value : List ℕ) × (a_row ≡ stored id name value)
+
+-- the rows are entries, the index has the name and the number of each and nothing else, and no
+-- name stands in two rows
 pub record AreEntries (trees : Trees) : Type 0 where
+  pub formed : AreStored (trees 0)
   pub indexed : IsIndexOf name_columns (trees 0) (trees 1)
   pub once : IsNamedOnce (trees 0)
 

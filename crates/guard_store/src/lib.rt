@@ -16,4 +16,4 @@ pub use table::{
     add_row, commit_batch, entry_rows, make_table, name_rows, number_rows, numbered_rows,
     open_batch, remove_row, roll_batch_back, value_rows,
 };
-pub use trees::EntryTrees;
+pub use trees::{EntryTrees, TreesError};

@@ -1,5 +1,6 @@
 //! The store over numbered trees.
 mod change;
+mod error;
 mod find;
 mod guarded;
 mod list;
@@ -7,8 +8,8 @@ mod list;
 ghost use Rattle.std.specs.Prelude.{◌≡◌, false, OnErr, OnOk};
 ghost use Rattle.sqlite_trees.specs.View.{IsClean, IsRolledBack};
 
+pub use error::TreesError;
 use list::list_pairs;
-use sqlite_trees::error::StoreError;
 use sqlite_trees::store::Store;
 use sqlite_value::row::Row;
 use std::alloc::Global;
@@ -33,6 +34,7 @@ impl<S: Store + Drop> EntryTrees<S> {
         ensures ready { HasTrees (S.Store.view store) false
             → IsReady (sight_of (S.Store.view result.store) result.in_batch) }
         ensures same { result.store ≡ store }
+        ensures closed { result.in_batch ≡ false }
     {
         EntryTrees {
             store,
@@ -43,7 +45,7 @@ impl<S: Store + Drop> EntryTrees<S> {
     }
 
     /// Lists every entry.
-    pub fn entries(&mut self) -> Result<Vec<(String, String)>, StoreError>
+    pub fn entries(&mut self) -> Result<Vec<(String, String)>, TreesError>
         ensures known { IsKnown (S.Store.view self.new.store)
             → IsKnown (S.Store.view self.old.store) }
         ensures entries { HasTrees (S.Store.view self.old.store) self.old.in_batch
@@ -61,7 +63,7 @@ impl<S: Store + Drop> EntryTrees<S> {
             (sight_of (S.Store.view self.new.store) self.new.in_batch)) }
     {
         let pairs = list_pairs(&mut self.store, &mut self.row, self.alloc);
-        self.settle(pairs)
+        Ok(self.settle(pairs)?)
     }
 
     /// Gives the trees back.
@@ -73,7 +75,7 @@ impl<S: Store + Drop> EntryTrees<S> {
     }
 
     // Takes the batch back, if a call of the trees failed.
-    fn settle<T>(&mut self, outcome: Result<T, StoreError>) -> Result<T, StoreError>
+    fn settle<T, E>(&mut self, outcome: Result<T, E>) -> Result<T, E>
         ensures same { result ≡ outcome }
         ensures kept { OnOk outcome (self.new ≡ self.old) }
         ensures undone { OnErr outcome

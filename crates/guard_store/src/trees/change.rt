@@ -1,5 +1,5 @@
 //! Adds and removes a row, and its entry in the index of names with it.
-ghost use Rattle.std.specs.Prelude.{◌≡◌, true, [], ◌∷◌, filter, IfOk, OnErr, OnOk};
+ghost use Rattle.std.specs.Prelude.{◌≡◌, true, [], ◌∷◌, filter, Err, IfOk, OnErr, OnOk};
 ghost use Rattle.sqlite_value.specs.Keys.{plain};
 ghost use Rattle.sqlite_value.specs.declared.value.Value.TheVariants.{Int, Text};
 ghost use Rattle.sqlite_trees.specs.Tree.{has_rowid, insert_entry, put_row, remove_entry, without_rowid};
@@ -7,8 +7,9 @@ ghost use Rattle.sqlite_trees.specs.View.{IsClean, KeepsCommitted};
 ghost use Rattle.sqlite_exec.specs.Calls.{OnlyReads};
 ghost use Rattle.guard_engine.specs.Stores.{Adds, Removes};
 ghost use Rattle.guard_store.specs.Entry.{stored};
-ghost use Rattle.guard_store.specs.Trees.{HasShape, HasTrees, IsKnown, SetsBoth, sight_of};
+ghost use Rattle.guard_store.specs.Trees.{HasShape, HasTrees, IsKnown, LacksName, SetsBoth, sight_of};
 
+use crate::trees::error::TreesError;
 use crate::trees::find::find_row;
 use sqlite_exec::write;
 use sqlite_trees::error::StoreError;
@@ -116,19 +117,21 @@ pub(crate) fn add_row<S: Store>(
     row: &mut Row,
     name: &str,
     value: &str,
-) -> Result<(), StoreError>
+) -> Result<(), TreesError>
     ensures ok { HasTrees (S.Store.view store.old) true → IsKnown (S.Store.view store.new)
         → OnOk result (Adds (sight_of (S.Store.view store.old) true) name.now value.now
         (sight_of (S.Store.view store.new) true)) }
+    ensures taken { IsKnown (S.Store.view store.new) → result ≡ Err TreesError.Taken
+        → ¬ LacksName ((S.Store.view store.old).trees 0) name.now }
     ensures err { IsKnown (S.Store.view store.new)
         → OnErr result (KeepsCommitted (S.Store.view store.old) (S.Store.view store.new)) }
     ensures known { IsKnown (S.Store.view store.new) → IsKnown (S.Store.view store.old) }
 {
     match find_row(store, row, name)? {
-        Some(_) => Err(StoreError::Unstorable),
+        Some(_) => Err(TreesError::Taken),
         None => {
             let id = next_number(store, row)?;
-            put_both(store, row, id, name, value)
+            Ok(put_both(store, row, id, name, value)?)
         }
     }
 }

@@ -6,8 +6,10 @@ use Rattle.guard_store.proofs.trees.find.seek_name.Goals as goal
 pub returns-then-not-branch-clause-absent : goal.returns-then-not-branch-clause-absent
 returns-then-not-branch-clause-absent g c = λ known index none.
     let old = g.S.Store.view c.args.store.now in
-    let middle : IsClean (g.S.Store.view c.seek.new.self) = omega (arith, known.0, c.next.ensures.quiet.clean) in
-    let before : IsClean old = omega (arith, known.0, c.next.ensures.quiet.clean, c.seek.ensures.quiet.clean) in
+    let middle : IsClean (g.S.Store.view c.seek.new.self) =
+    omega (arith, known.0, c.next.ensures.quiet.clean) in
+    let before : IsClean old =
+    omega (arith, known.0, c.next.ensures.quiet.clean, c.seek.ensures.quiet.clean) in
     lacks_at_end old _ _ c.args.name.now c.push.new.self c.next.new.row
     (g.met.S.Store.ordered c.args.store.now (c.in_ok-seek.ensures.sound middle))
     (c.requires.shaped before) index (search rules)
@@ -17,8 +19,10 @@ returns-then-not-branch-clause-absent g c = λ known index none.
 pub returns-then-not-is_text-clause-absent : goal.returns-then-not-is_text-clause-absent
 returns-then-not-is_text-clause-absent g c = λ known index none.
     let old = g.S.Store.view c.args.store.now in
-    let middle : IsClean (g.S.Store.view c.seek.new.self) = omega (arith, known.0, c.next.ensures.quiet.clean) in
-    let before : IsClean old = omega (arith, known.0, c.next.ensures.quiet.clean, c.seek.ensures.quiet.clean) in
+    let middle : IsClean (g.S.Store.view c.seek.new.self) =
+    omega (arith, known.0, c.next.ensures.quiet.clean) in
+    let before : IsClean old =
+    omega (arith, known.0, c.next.ensures.quiet.clean, c.seek.ensures.quiet.clean) in
     lacks_before old _ _ c.args.name.now c.push.new.self c.next.new.row
     (g.met.S.Store.ordered c.args.store.now (c.in_ok-seek.ensures.sound middle))
     (c.requires.shaped before) index (search rules)

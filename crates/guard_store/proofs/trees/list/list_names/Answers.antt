@@ -7,5 +7,10 @@ entries-init g c = (
   search rules,
   search rules,
   search rules,
-  λ clean. rw (c.new-names.ensures.items, c.in_ok-seek.ensures.ok clean, c.clear.ensures, from_no_key),
+  λ clean. rw (
+    c.new-names.ensures.items,
+    c.in_ok-seek.ensures.ok clean,
+    c.clear.ensures,
+    from_no_key,
+  ),
 )

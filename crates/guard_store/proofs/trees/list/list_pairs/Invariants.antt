@@ -14,5 +14,6 @@ invariant-rows g l =
     let now = g.S.Store.view l.store in
     IsSome (now.cursors 0) × (IsClean now → OnlyReads old now)
     × (doubt old.is_clean ≤ doubt now.is_clean)
-    × (IsClean now → Shown pair_of (λ pair. (Text (string_bytes pair.0), Text (string_bytes pair.1)))
+    × (IsClean now → Shown pair_of
+    (λ pair. (Text (string_bytes pair.0), Text (string_bytes pair.1)))
     (map pair_of (old.trees 0)) l.pairs.items (left_of now 0))

@@ -1,10 +1,9 @@
-use Rattle.std.proofs.Common.{string_bytes, vec_items}
-use Rattle.std.proofs.lemmas.Result.{IfOk-weaker}
+use Rattle.std.proofs.Common.{string_bytes, sym, vec_items, ◌∙◌}
 use Rattle.guard_store.proofs.ListedLemmas.{lists_names}
 use Rattle.guard_store.proofs.trees.guarded.EntryTreesStore.keys.Goals as goal
 
 pub returns-clause-keys : goal.returns-clause-keys
 returns-clause-keys g c = λ fit known.
-    rw c.settle.ensures.same (IfOk-weaker c.list_names-names.result _ _ (λ names shown.
-    lists_names string_bytes _ _ (vec_items names) fit.now.indexed shown)
+    lists_names string_bytes _ _ (vec_items c.in_ok-settle.field-0) fit.now.indexed
+    (rw (sym c.settle.ensures.same ∙ c.in_ok-settle.was) at
     (c.list_names-names.ensures.names (c.settle.ensures.known known)))
