@@ -10,6 +10,7 @@ mod ListLemmas
 mod NumberFacts
 mod NumberLemmas
 mod OpenLemmas
+mod OpenedLemmas
 mod PairLemmas
 mod PickLemmas
 mod PutLemmas
@@ -19,3 +20,4 @@ mod ReadyFacts
 mod SelectLemmas
 mod StateLemmas
 mod TextLemmas
+mod TreesLemmas
