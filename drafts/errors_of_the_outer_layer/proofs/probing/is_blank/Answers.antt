@@ -1,0 +1,31 @@
+use Rattle.std.proofs.Common.{ℕ, sym}
+use Rattle.std.specs.Prelude.{⊤}
+use Rattle.sqlite.specs.Files.{IsTooLong}
+use Rattle.sqlite_wal.specs.Files as log_files
+use Rattle.sqlite_wal.specs.Outcome.{HasCause, OnlyIf}
+use Rattle.sqlite_wal.specs.Recovery.{Image, IsLogFor}
+use Rattle.sqlite_wal.specs.declared.error.Error.{Error}
+use Rattle.sqlite_wal.specs.declared.error.Error.TheVariants.{Io, OutOfMemory, Closed, NoSuchPage, Full, Corrupt, Exists}
+use Rattle.guard_store.specs.Found.{probed}
+use Rattle.guard_store.specs.Opened.{FailsFor}
+use Rattle.guard_store.proofs.probing.is_blank.Goals as goal
+
+-- a cause of the layer below
+by-kind : (a b size : ℕ) (image : Image) (e : Error)
+    → HasCause a b (OnlyIf Full (IsLogFor size image.log × log_files.IsHuge size image)) e
+    → FailsFor a b (IsTooLong image) ⊥ ⊤ (probed e)
+by-kind a b size image (Io x) cause = cause
+by-kind a b size image OutOfMemory cause = tt
+by-kind a b size image Full cause =
+    (size, (λ _. sym cause.1.0.1, λ ignored. absurd (cause.1.0.0 ignored)), cause.1.1)
+by-kind a b size image Corrupt cause = let e = cause.0 in absurd (cc)
+by-kind a b size image Closed cause = let e = cause.0 in absurd (cc)
+by-kind a b size image NoSuchPage cause = let e = cause.0 in absurd (cc)
+by-kind a b size image Exists cause = let e = cause.0 in absurd (cc)
+
+pub returns-in-Ok-clause-ok : goal.returns-in-Ok-clause-ok
+returns-in-Ok-clause-ok g c clean = rw c.requires.size at (c.in-Ok.ensures.ok clean)
+
+pub returns-in-Err-clause-cause : goal.returns-in-Err-clause-cause
+returns-in-Err-clause-cause g c clean =
+    rw c.fault_of.ensures (by-kind _ _ _ _ c.in-Err.error (c.in-Err.ensures.cause clean))

@@ -1,0 +1,4 @@
+pub mod Entry
+pub mod Found
+pub mod Opened
+pub mod StoreFile
