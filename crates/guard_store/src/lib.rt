@@ -1,17 +1,15 @@
-//! The store of a guard: a table of SQLite.
+//! The store of a guard: the table of entries in the files of SQLite, read and written tree by tree.
 #![tactic(auto)]
 
-mod entry_table;
-mod numbers;
-mod rows;
-mod schema;
-mod table;
+mod entry_trees;
+mod fault;
+mod files;
+mod left_start;
+mod objects;
+mod opening;
+mod probing;
 
-pub use entry_table::{EntryTable, Unfit};
-pub use numbers::{has_own_number, is_one_text};
-pub use rows::{first_text, pairs, texts};
-pub use schema::{is_empty, is_entry_schema};
-pub use table::{
-    add_row, commit_batch, entry_rows, make_table, name_rows, number_rows, numbered_rows,
-    open_batch, remove_row, roll_batch_back, value_rows,
-};
+pub use entry_trees::EntryTrees;
+pub use fault::StoreFault;
+pub use files::open_trees;
+pub use left_start::{Fresh, LeftStart};

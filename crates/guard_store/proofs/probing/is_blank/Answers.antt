@@ -1,0 +1,4 @@
+use Rattle.guard_store.proofs.probing.is_blank.Goals as goal
+
+pub returns-in-Ok-clause-ok : goal.returns-in-Ok-clause-ok
+returns-in-Ok-clause-ok g c clean = rw c.requires.size at (c.in-Ok.ensures.ok clean)

@@ -1,0 +1,95 @@
+//! The store over numbered trees.
+mod change;
+mod find;
+mod guarded;
+mod list;
+
+ghost use Rattle.std.specs.Prelude.{◌≡◌, false, OnErr, OnOk};
+ghost use Rattle.sqlite_trees.specs.View.{IsClean, IsRolledBack};
+
+use crate::fault::StoreFault;
+use list::list_pairs;
+use sqlite_trees::store::Store;
+use sqlite_value::row::Row;
+use std::alloc::Global;
+
+/// The table of entries in numbered trees, as a store of texts by keys.
+#[derive(Drop)]
+pub struct EntryTrees<S: Store + Drop> {
+    pub store: S,
+    pub in_batch: bool,
+    row: Row,
+    alloc: Global,
+}
+
+impl<S: Store + Drop> EntryTrees<S> {
+    ghost use Rattle.std.specs.Prelude.{map, string_bytes, vec_items, IfOk};
+    ghost use Rattle.guard_engine.specs.Stores.{Fails, IsReady, Keeps};
+    ghost use Rattle.guard_store.specs.Answers.{ListsEntries};
+    ghost use Rattle.guard_store.specs.Trees.{HasTrees, IsKnown, sight_of};
+
+    /// The store over trees.
+    pub fn over(alloc: Global, store: S) -> Self
+        ensures ready { HasTrees (S.Store.view store) false
+            → IsReady (sight_of (S.Store.view result.store) result.in_batch) }
+        ensures same { result.store ≡ store }
+        ensures closed { result.in_batch ≡ false }
+    {
+        EntryTrees {
+            store,
+            in_batch: false,
+            row: Row::new(alloc),
+            alloc,
+        }
+    }
+
+    /// Lists every entry.
+    pub fn entries(&mut self) -> Result<Vec<(String, String)>, StoreFault>
+        ensures known { IsKnown (S.Store.view self.new.store)
+            → IsKnown (S.Store.view self.old.store) }
+        ensures entries { HasTrees (S.Store.view self.old.store) self.old.in_batch
+            → IsKnown (S.Store.view self.new.store) → IfOk result (λ entries.
+            ListsEntries (map (λ pair. (string_bytes pair.0, string_bytes pair.1))
+            (vec_items entries))
+            (sight_of (S.Store.view self.old.store) self.old.in_batch).has) }
+        ensures ok { HasTrees (S.Store.view self.old.store) self.old.in_batch
+            → IsKnown (S.Store.view self.new.store) → OnOk result (Keeps
+            (sight_of (S.Store.view self.old.store) self.old.in_batch)
+            (sight_of (S.Store.view self.new.store) self.new.in_batch)) }
+        ensures err { HasTrees (S.Store.view self.old.store) self.old.in_batch
+            → IsKnown (S.Store.view self.new.store) → OnErr result (Fails
+            (sight_of (S.Store.view self.old.store) self.old.in_batch)
+            (sight_of (S.Store.view self.new.store) self.new.in_batch)) }
+    {
+        let pairs = list_pairs(&mut self.store, &mut self.row, self.alloc);
+        Ok(self.settle(pairs)?)
+    }
+
+    /// Gives the trees back.
+    pub fn into_store(self) -> S
+        ensures { result ≡ self.store }
+    {
+        let EntryTrees { store, .. } = self;
+        store
+    }
+
+    // Takes the batch back, if a call of the trees failed.
+    fn settle<T, E>(&mut self, outcome: Result<T, E>) -> Result<T, E>
+        ensures same { result ≡ outcome }
+        ensures kept { OnOk outcome (self.new ≡ self.old) }
+        ensures undone { OnErr outcome
+            (IsRolledBack (S.Store.view self.old.store) (S.Store.view self.new.store)) }
+        ensures closed { OnErr outcome (self.new.in_batch ≡ false) }
+        ensures known { IsKnown (S.Store.view self.new.store)
+            → IsKnown (S.Store.view self.old.store) }
+    {
+        match outcome {
+            Ok(value) => Ok(value),
+            Err(error) => {
+                self.store.rollback();
+                self.in_batch = false;
+                Err(error)
+            }
+        }
+    }
+}

@@ -1,0 +1,152 @@
+//! The trees of a store's files.
+ghost use Rattle.std.specs.Prelude.{◌≡◌, ℕ, IsTrue, IfErr, IfOk};
+ghost use Rattle.sqlite.specs.Files.{image_of, IsBlankAs};
+ghost use Rattle.sqlite_pool.specs.Stored.{used_size};
+ghost use Rattle.sqlite_store.specs.FileStore.{state, view};
+ghost use Rattle.sqlite_store.specs.Unopened.{files_of, state_of, wanted_by};
+ghost use Rattle.sqlite_wal.specs.PageSize.{bytes_of};
+ghost use Rattle.sqlite_wal.specs.Reads.{AreClean};
+ghost use Rattle.guard_store.specs.Found.{AreFound};
+ghost use Rattle.guard_store.specs.Opened.{AreFoundAt, IsEmptyStore, IsOpenStore};
+ghost use Rattle.guard_store.specs.StoreFile.{entry_objects, AreSoundIfStore};
+
+use crate::objects::entry_objects;
+use crate::fault::StoreFault;
+use crate::opening::{make, open_found};
+use crate::probing::{finds_nothing, finds_size, finds_sums};
+use sqlite::Leftover;
+use sqlite_disk::{Disk, Files};
+use sqlite_pager::{Options, Pager};
+use sqlite_store::{FileStore, Unopened};
+use sqlite_wal::PageSize;
+use std::alloc::{AllocFailed, Global};
+
+// The page size of a new file.
+const NEW_SIZE: usize = 4096;
+
+fn unopened<D: Disk>(
+    alloc: Global,
+    files: Files<D>,
+    size: PageSize,
+    options: Options,
+    has_sums: bool,
+) -> Result<Unopened<D>, Files<D>>
+    ensures back { IfErr result (λ left. (left.log ≡ files.log) × (left.db ≡ files.db)) }
+    ensures files { IfOk result (λ it. files_of it ≡ (files.log, files.db)) }
+    ensures size { IfOk result (λ it.
+        (state_of it).page_size ≡ used_size (bytes_of size) has_sums) }
+    ensures schema { IfOk result (λ it. wanted_by it ≡ entry_objects) }
+{
+    let pager = match Pager::new(alloc, files, size, options) {
+        Ok(pager) => pager,
+        Err(AllocFailed { value }) => return Err(value),
+    };
+    let objects = entry_objects();
+    match Unopened::with_sums(alloc, pager, &objects, has_sums) {
+        Ok(fresh) => Ok(fresh),
+        Err(AllocFailed { value }) => Err(value.close()),
+    }
+}
+
+// Makes a store where there is no database yet.
+fn begin<D: Disk>(
+    alloc: Global,
+    files: Files<D>,
+    options: Options,
+    size: PageSize,
+    has_sums: bool,
+) -> Result<FileStore<D>, (StoreFault, Leftover<D>)>
+    requires log { IsTrue (D.Disk.is_usable files.log) }
+    requires db { IsTrue (D.Disk.is_usable files.db) }
+    requires size { bytes_of size ≡ 4096 }
+    requires blank { AreClean D.Disk files.log files.db
+        → IsBlankAs has_sums (image_of D.Disk files) }
+    ensures honest { IfOk result (λ store. IsTrue (state store).is_clean
+        → AreClean D.Disk files.log files.db) }
+    ensures opened { IfOk result (λ store. IsTrue (state store).is_clean
+        → IsOpenStore (view store)) }
+    ensures empty { IfOk result (λ store. IsTrue (state store).is_clean
+        → IsEmptyStore (view store).committed) }
+{
+    let fresh = match unopened(alloc, files, size, options, has_sums) {
+        Ok(fresh) => fresh,
+        Err(left) => return Err((StoreFault::NoMemory, Leftover::Files(left))),
+    };
+    match make(fresh) {
+        Ok(store) => Ok(store),
+        Err((why, left)) => Err((why, Leftover::Unopened(left))),
+    }
+}
+
+// Opens a database that is there.
+fn open_some<D: Disk>(
+    alloc: Global,
+    mut files: Files<D>,
+    options: Options,
+    makes: bool,
+) -> Result<FileStore<D>, (StoreFault, Leftover<D>)>
+    requires log { IsTrue (D.Disk.is_usable files.log) }
+    requires db { IsTrue (D.Disk.is_usable files.db) }
+    requires sound { AreClean D.Disk files.log files.db
+        → AreSoundIfStore (image_of D.Disk files) }
+    ensures honest { IfOk result (λ store. IsTrue (state store).is_clean
+        → AreClean D.Disk files.log files.db) }
+    ensures opened { IfOk result (λ store. IsTrue (state store).is_clean
+        → IsOpenStore (view store)) }
+    ensures found { IfOk result (λ store. IsTrue (state store).is_clean
+        → (size : ℕ) × AreFoundAt size (image_of D.Disk files) (view store).committed) }
+{
+    let size = match finds_size(&mut files) {
+        Ok(size) => size,
+        Err(why) => return Err((why, Leftover::Files(files))),
+    };
+    let has_sums = match finds_sums(alloc, &mut files, size) {
+        Ok(has_sums) => has_sums,
+        Err(why) => return Err((why, Leftover::Files(files))),
+    };
+    let fresh = match unopened(alloc, files, size, options, has_sums) {
+        Ok(fresh) => fresh,
+        Err(left) => return Err((StoreFault::NoMemory, Leftover::Files(left))),
+    };
+    match open_found(fresh, makes) {
+        Ok(store) => Ok(store),
+        Err((why, left)) => Err((why, Leftover::Unopened(left))),
+    }
+}
+
+/// Opens the trees of a store's files, which are sound if they look like a store's. It reads the
+/// header, the free list and the list of objects, and no other page. Where there is no store yet, it
+/// makes one, if that is asked for. Each page of a new file ends in a sum of its bytes.
+///
+/// # Errors
+/// Where the files can't be read or written, or are no store's.
+pub fn open_trees<D: Disk>(
+    alloc: Global,
+    mut files: Files<D>,
+    options: Options,
+    makes: bool,
+) -> Result<FileStore<D>, (StoreFault, Leftover<D>)>
+    requires log { IsTrue (D.Disk.is_usable files.log) }
+    requires db { IsTrue (D.Disk.is_usable files.db) }
+    requires sound { AreClean D.Disk files.log files.db
+        → AreSoundIfStore (image_of D.Disk files) }
+    ensures honest { IfOk result (λ store. IsTrue (state store).is_clean
+        → AreClean D.Disk files.log files.db) }
+    ensures opened { IfOk result (λ store. IsTrue (state store).is_clean
+        → IsOpenStore (view store)) }
+    ensures found { IfOk result (λ store. IsTrue (state store).is_clean
+        → AreFound (image_of D.Disk files) (view store).committed) }
+{
+    let new_size = PageSize::new(NEW_SIZE).unwrap();
+    let nothing = match finds_nothing(alloc, &mut files, new_size) {
+        Ok(nothing) => nothing,
+        Err(why) => return Err((why, Leftover::Files(files))),
+    };
+    let Some(has_sums) = nothing else {
+        return open_some(alloc, files, options, makes);
+    };
+    if !makes {
+        return Err((StoreFault::NoTable, Leftover::Files(files)));
+    }
+    begin(alloc, files, options, new_size, has_sums)
+}
