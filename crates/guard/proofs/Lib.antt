@@ -1,5 +1,3 @@
-mod CopyFacts
-mod CopyLemmas
 mod LeftFacts
 mod LeftLemmas
 mod StatusFacts

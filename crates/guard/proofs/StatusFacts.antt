@@ -1,9 +1,8 @@
 -- Statuses of tasks that aren't carried out: those of the page docs/programs/guard.md.
 use Rattle.std.proofs.Common.{◌≡◌, refl}
 use Rattle.std.specs.declared.io.ErrorKind.{ErrorKind}
-use Rattle.sqlite.specs.declared.error.Error.{Error}
 use Rattle.bloom_parts.specs.declared.error.FilterError.TheVariants.{Memory, SizeOverflow, Worker}
-use Rattle.guard.specs.declared.store_file.StoreFault.TheVariants.{Sql, Failed, NoMemory, Locked, Unfit}
+use Rattle.guard_store.specs.declared.fault.StoreFault.TheVariants.{NoMemory, Failed, NoSpace, CannotOpen, Locked, Schema, Damaged}
 use Rattle.guard.specs.Statuses.{status_after, status_for, status_of_lack, status_of_why, status_without}
 use Rattle.guard_engine.specs.declared.commands.Trouble.TheVariants as troubles
 use Rattle.guard_engine.specs.declared.guard.Fault.TheVariants as faults
@@ -12,7 +11,6 @@ use Rattle.guard_engine.specs.declared.guard.loads.Why.TheVariants as why
 use Rattle.guard_engine.specs.declared.line.BadLine.{BadLine}
 use Rattle.guard_parts.specs.declared.filter_file.FilterFault.{FilterFault}
 use Rattle.guard_parts.specs.declared.host_folder.HostFault.{HostFault}
-use Rattle.guard_store.specs.declared.entry_table.Unfit.TheVariants.{Schema}
 
 -- another process has the store open
 locked : (status_for Locked ≡ 6) × (status_after (troubles.Key Locked) ≡ 6)
@@ -20,11 +18,11 @@ locked : (status_for Locked ≡ 6) × (status_after (troubles.Key Locked) ≡ 6)
 locked = (refl, refl, refl)
 
 -- the store has another schema
-unfit : status_after (troubles.Put (faults.Store (Unfit Schema))) ≡ 2
+unfit : status_after (troubles.Put (faults.Store Schema)) ≡ 2
 unfit = refl
 
 -- a store with another schema isn't told as one that is open elsewhere
-unfit-locked : status_for (Unfit Schema) ≡ status_for Locked → ⊥
+unfit-locked : status_for Schema ≡ status_for Locked → ⊥
 unfit-locked is = cc
 
 -- out of memory: for the store, for lines, and for a filter; and a thread that can't be started
@@ -37,13 +35,13 @@ large-memory : status_of_lack SizeOverflow ≡ status_of_lack Memory → ⊥
 large-memory is = cc
 
 -- a store or an input fails, or a filter can't be saved
-failed : (error : Error) (kind : ErrorKind) (fault : FilterFault HostFault)
-    → (status_for (Failed error) ≡ 4)
-    × (status_without (Store (Failed error)) ≡ 4) × (status_of_why (why.Input kind) ≡ 4)
-    × (status_of_why (why.Kept fault) ≡ 4) × (status_after (troubles.Put (faults.Kept fault)) ≡ 4)
-failed error kind fault = (refl, refl, refl, refl, refl)
+failed : (kind : ErrorKind) (fault : FilterFault HostFault) → (status_for Failed ≡ 4)
+    × (status_for NoSpace ≡ 4) × (status_without (Store CannotOpen) ≡ 4)
+    × (status_of_why (why.Input kind) ≡ 4) × (status_of_why (why.Kept fault) ≡ 4)
+    × (status_after (troubles.Put (faults.Kept fault)) ≡ 4)
+failed kind fault = (refl, refl, refl, refl, refl, refl)
 
 -- a line that is bad, and a store that is, aren't told as what failed
-bad-failed : (error : Error) (bad : BadLine) → (status_of_why (why.Line bad) ≡ 2)
-    × (status_for (Sql error) ≡ status_for (Failed error) → ⊥)
-bad-failed error bad = (refl, λ is. cc)
+bad-failed : (bad : BadLine) → (status_of_why (why.Line bad) ≡ 2)
+    × (status_for Damaged ≡ status_for Failed → ⊥)
+bad-failed bad = (refl, λ is. cc)

@@ -4,8 +4,8 @@
 use Rattle.std.specs.Prelude.{ℕ}
 use Rattle.bloom_parts.specs.declared.error.FilterError.{FilterError}
 use Rattle.bloom_parts.specs.declared.error.FilterError.TheVariants.{ZeroBits, EmptyWords, TooManyWords, ZeroRate, SizeOverflow, Memory, HashCount, Worker}
-use Rattle.guard.specs.declared.store_file.StoreFault.{StoreFault}
-use Rattle.guard.specs.declared.store_file.StoreFault.TheVariants.{Sql, Failed, NoMemory, Locked, Unfit}
+use Rattle.guard_store.specs.declared.fault.StoreFault.{StoreFault}
+use Rattle.guard_store.specs.declared.fault.StoreFault.TheVariants as store
 use Rattle.guard_engine.specs.declared.commands.Trouble.{Trouble}
 use Rattle.guard_engine.specs.declared.commands.Trouble.TheVariants as troubles
 use Rattle.guard_engine.specs.declared.guard.Fault.TheVariants as faults
@@ -18,11 +18,18 @@ use Rattle.guard_parts.specs.declared.host_folder.HostFault.{HostFault}
 
 -- where the store failed
 abbrev pub status_for : StoreFault → ℕ
-status_for (Sql error) = 2
-status_for (Failed error) = 4
-status_for NoMemory = 3
-status_for Locked = 6
-status_for (Unfit reason) = 2
+status_for store.NoMemory = 3
+status_for store.Failed = 4
+status_for store.NoSpace = 4
+status_for store.CannotOpen = 4
+status_for store.Locked = 6
+status_for store.NoTable = 2
+status_for store.Schema = 2
+status_for store.NoDatabase = 2
+status_for store.Damaged = 2
+status_for store.TooLarge = 2
+status_for store.Taken = 2
+status_for store.Shut = 2
 
 -- where lines weren't taken to their end
 abbrev pub status_of_why : Why StoreFault (FilterFault HostFault) → ℕ

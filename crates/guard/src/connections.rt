@@ -1,59 +1,80 @@
-//! Connections to the file of a store.
-ghost use Rattle.std.specs.Prelude.{◌≡◌, IfOk};
-ghost use Rattle.sqlite.specs.Files.{HoldsDatabase};
-ghost use Rattle.sqlite.specs.Held.{state};
-ghost use Rattle.sqlite.specs.State.{HasCleanDisk};
-ghost use Rattle.sqlite_trees.specs.Tree.{Trees};
-ghost use Rattle.sqlite_wal.specs.Files.{image_at};
+//! The files of a store, as they are opened and closed.
+ghost use Rattle.std.specs.Prelude.{IfOk};
+ghost use Rattle.guard_engine.specs.Guarded.{Stays};
+ghost use Rattle.guard_engine.specs.Stores.{IsReady};
+ghost use Rattle.guard_store.specs.Trees.{IsKnown, sight_of};
 
-use crate::drawing::give_number;
+use crate::drawing::{drawn_number, drawn_seed};
 use crate::left::Left;
-use crate::locks::{close_gate, lock_alone};
+use crate::locks::{close_gate, fault_of_read, lock_alone};
 use crate::names::Names;
-use crate::store_file::{StoreFault, fault_of};
-use guard_parts::Unknown;
-use guard_store::{is_empty, is_entry_schema};
-use sqlite::{Alter, Connection, FileFrom, FileStore, Start, Wary};
+use guard_parts::store_number;
+use guard_store::{EntryTrees, StoreFault, number_store, open_left, settle_log};
+use sqlite_std_file::{FileFrom, OpenError};
+use sqlite_store::FileStore;
+use sqlite_trees::store::Store;
 use std::fs;
 use std::fs::File;
+use std::marker::PhantomData;
 
-/// What opens a connection to the file of a store, and closes it.
-///
-/// What is done with a connection is generic over it: a function at the type of a connection to a
-/// file of this machine takes half a minute to prove.
-pub trait Connector {
-    /// The pages of a file that is open, as a connection reads and writes them.
-    type Pages: Alter + Drop;
-
-    /// What keeps other processes away while the connection is open.
-    type Lock: Drop;
-
-    /// What an earlier run left of the store's filter.
-    type World: Left;
-
-    /// Which database the files held as they were opened under this lock.
-    ghost holds: { Self.Lock → Trees → Type 0 };
-
-    /// Opens a connection to a file, which is made where there is none. One with no byte is no
-    /// store where `takes_empty` is false; else a store that has no number gets one.
-    fn open(rt: &HostRuntime, names: &Names, takes_empty: bool) -> Result<Opened<Self>, StoreFault>
-        ensures found { IfOk result (λ it. HasCleanDisk (state Self.Pages.Store it.0)
-            → (db : Trees) → holds it.1 db → (state Self.Pages.Store it.0).committed.trees ≡ db) };
-
-    /// Keeps processes that only read from opening the file until what is returned is let go, if
-    /// this one changes the file.
-    fn keep_out(rt: &HostRuntime, names: &Names) -> Option<File>;
-
-    /// Takes the connection, copies the log into the file, and closes both.
-    fn close(conn: &mut Option<Connection<Self::Pages>>) -> Result<(), StoreFault>;
+/// What a store is opened for.
+#[derive(Clone, Copy, Debug, PartialEq, Eq)]
+pub enum Access {
+    /// Nothing is changed.
+    Read,
+    /// Entries are changed. A store that has no number gets one.
+    Change,
+    /// The same, and the store is made where there is none.
+    Make,
 }
 
-/// A connection, and what keeps other processes away while it is open.
-pub type Opened<C> = (Connection<<C as Connector>::Pages>, <C as Connector>::Lock);
+/// What opens the files of a store, and closes them.
+///
+/// What is done with a store is generic over it: a function at the type of files of this machine
+/// takes long to prove.
+pub trait Connector {
+    /// The trees of files that are open.
+    type Trees: Store + Drop;
+
+    /// What keeps other processes away while they are open.
+    type Lock: Drop;
+
+    /// What an earlier run left.
+    type World: Left;
+
+    /// Opens the files of a store.
+    fn open(rt: &HostRuntime, names: &Names, access: Access) -> Result<Opened<Self>, StoreFault>
+        ensures ready { IfOk result (λ it. IsKnown (Self.Trees.view it.0.store)
+            → IsReady (sight_of (Self.Trees.view it.0.store) it.0.in_batch)) }
+        ensures left { IfOk result (λ it. IsKnown (Self.Trees.view it.0.store)
+            → Stays Self.World.has (sight_of (Self.Trees.view it.0.store) it.0.in_batch).kept) };
+
+    /// Keeps processes that only read from opening the store until what is returned is let go, if
+    /// this one changes it.
+    fn keep_out(rt: &HostRuntime, names: &Names) -> Option<File>;
+
+    /// Takes the table, copies the log into the file, and closes both.
+    fn close(table: &mut Option<EntryTrees<Self::Trees>>) -> Result<(), StoreFault>;
+}
+
+/// The table of a store, and what keeps other processes away while it is open.
+pub type Opened<C> = (EntryTrees<<C as Connector>::Trees>, <C as Connector>::Lock);
 
 /// The files of this machine, for reading and writing. While they are open, no other process reads
 /// or writes them.
-pub struct OnDisk;
+pub struct OnDisk<W: Left> {
+    world: PhantomData<W>,
+}
+
+// What an error of an opening of files says of the store.
+fn fault_of_files(error: OpenError) -> StoreFault {
+    match error {
+        OpenError::Io(error) => fault_of_read(error),
+        OpenError::OutOfMemory => StoreFault::NoMemory,
+        OpenError::Busy => StoreFault::Locked,
+        OpenError::HotJournal => StoreFault::CannotOpen,
+    }
+}
 
 // Whether an open that refuses the file makes a log that is of no use. A file with no byte needs
 // its log: that tells the next open that the file is half made.
@@ -69,43 +90,55 @@ fn makes_log(rt: &HostRuntime, names: &Names) -> bool {
     is_used && !has_log
 }
 
-impl Connector for OnDisk {
-    type Pages = FileStore<FileFrom<Wary>>;
+// Gives a store that has no number one, and copies the log into its file, where look-ups read the
+// number.
+fn give_number<W: Left>(
+    rt: &HostRuntime,
+    names: &Names,
+    table: &mut EntryTrees<FileStore<FileFrom<W::Files>>>,
+) -> Result<(), StoreFault>
+{
+    if store_number(rt, names.store.as_str()) != Ok(0) {
+        return Ok(());
+    }
+    number_store(table, drawn_number(rt)?)?;
+    settle_log(table)
+}
+
+impl<W: Left> Connector for OnDisk<W> {
+    type Trees = FileStore<FileFrom<W::Files>>;
 
     // The store's file, where there is one.
     type Lock = Option<File>;
 
-    type World = Unknown;
-
-    ghost holds = { λ _. HoldsDatabase (image_at ⟦<Wary as Start>⟧) };
+    type World = W;
 
     // A new file has a sum in each page. While the files are locked, a log is taken away that a
     // refused file didn't have.
     fn open(
         rt: &HostRuntime,
         names: &Names,
-        takes_empty: bool,
-    ) -> Result<(Connection<FileStore<FileFrom<Wary>>>, Option<File>), StoreFault> {
-        let lock = lock_alone(rt, names, takes_empty)?;
+        access: Access,
+    ) -> Result<(EntryTrees<FileStore<FileFrom<W::Files>>>, Option<File>), StoreFault> {
+        let makes = access == Access::Make;
+        let lock = lock_alone(rt, names, makes)?;
         let makes_log = makes_log(rt, names);
-        if takes_empty {
-            give_number(rt, names)?;
-        }
-        match Connection::open_from(rt, names.store.as_str(), true, Wary) {
-            Ok(conn) => {
-                let is_taken = is_entry_schema(conn.schema())
-                    || (takes_empty && is_empty(conn.schema()));
-                if makes_log && !is_taken {
-                    let _ = fs::remove_file(rt, names.log.as_str());
+        let files = match sqlite_std_file::open(rt, names.store.as_str(), W::files()) {
+            Ok(files) => files,
+            Err(error) => return Err(fault_of_files(error)),
+        };
+        match open_left(rt.alloc(), files, drawn_seed(rt)?, makes) {
+            Ok(mut table) => {
+                if access != Access::Read {
+                    give_number::<W>(rt, names, &mut table)?;
                 }
-                Ok((conn, lock))
+                Ok((table, lock))
             }
-            Err((error, left)) => {
-                if makes_log && left.is_some() {
+            Err(fault) => {
+                if makes_log {
                     let _ = fs::remove_file(rt, names.log.as_str());
                 }
-                drop(left);
-                Err(fault_of(error))
+                Err(fault)
             }
         }
     }
@@ -114,13 +147,12 @@ impl Connector for OnDisk {
         close_gate(rt, names)
     }
 
-    fn close(conn: &mut Option<Connection<FileStore<FileFrom<Wary>>>>) -> Result<(), StoreFault> {
-        let Some(conn) = conn.take() else {
-            return Ok(());
-        };
-        match conn.close() {
-            Ok(()) => Ok(()),
-            Err(error) => Err(fault_of(error)),
+    fn close(
+        table: &mut Option<EntryTrees<FileStore<FileFrom<W::Files>>>>,
+    ) -> Result<(), StoreFault> {
+        match table.take() {
+            Some(mut table) => settle_log(&mut table),
+            None => Ok(()),
         }
     }
 }

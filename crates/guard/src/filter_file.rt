@@ -11,13 +11,11 @@ pub type FilterFault = guard_parts::FilterFault<HostFault>;
 /// The file that keeps a store's filter.
 pub type StoreFilter<'a, W> = FilterFile<HostFolder<'a, W>>;
 
-/// The file of a store's filter. One that is of another store is refused, also where only its
-/// number tells so.
+/// The file of a store's filter. One that is of another store is refused, which its number tells.
 pub fn filter_file<'a, W: Left>(
     rt: &'a HostRuntime,
     names: &'a Names,
     world: W,
-    is_of_another: bool,
 ) -> StoreFilter<'a, W>
     ensures { result.folder.log.events ≡ [] }
 {
@@ -27,5 +25,5 @@ pub fn filter_file<'a, W: Left>(
         folder: names.folder.as_str(),
         store: names.store.as_str(),
     };
-    FilterFile::new(rt.alloc(), HostFolder::new(rt, paths, world), is_of_another)
+    FilterFile::new(rt.alloc(), HostFolder::new(rt, paths, world), false)
 }

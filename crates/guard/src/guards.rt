@@ -1,6 +1,5 @@
 //! Guards over files.
-ghost use Rattle.std.specs.Prelude.{◌≡◌, ◌≢◌, true, false, IfOk};
-ghost use Rattle.guard.specs.Left.{IsBare};
+ghost use Rattle.std.specs.Prelude.{◌≡◌, ◌≢◌, IfOk};
 ghost use Rattle.guard_engine.specs.Guarded.{IsMadeOf, Stays};
 ghost use Rattle.guard_engine.specs.OnDemand.{IsClosed};
 ghost use Rattle.guard_engine.specs.Room.{HasRoom};
@@ -9,9 +8,9 @@ ghost use Rattle.guard_engine.specs.Stores.{IsReady};
 use crate::filter_file::{FilterFault, StoreFilter, filter_file};
 use crate::left::Left;
 use crate::names::Names;
-use crate::store_file::StoreFault;
 use bloom_plain::Rate;
 use guard_engine::{Guard, OnDemand, Origin, Refusal, Source, Store};
+use guard_store::StoreFault;
 
 /// A guard over a store that is opened when it is first asked.
 pub type Reader<'a, O, W> = Guard<OnDemand<O>, StoreFilter<'a, W>>;
@@ -38,13 +37,12 @@ pub fn over_file<'a, O: Source<Error = StoreFault> + Drop, W: Left>(
         ≡ record { spared = 0; asked = 0; false_alarms = 0 }) }
 {
     let store = OnDemand::new(source);
-    let kept = filter_file(rt, names, world, false);
+    let kept = filter_file(rt, names, world);
     Guard::open(rt.alloc(), store, kept, rate, 0, 0)
 }
 
 /// A guard over a store that is open, whose filter has room for the keys to come. One that is made
-/// anew has this many keys to spare. A store whose table was made just now takes no filter that is
-/// there.
+/// anew has this many keys to spare.
 ///
 /// # Errors
 /// As `Guard::open`.
@@ -52,16 +50,14 @@ pub fn over_table<'a, T: Store<Error = StoreFault> + Drop, W: Left>(
     rt: &'a HostRuntime,
     names: &'a Names,
     table: T,
-    is_made: bool,
     world: W,
     rate: Rate,
     coming: usize,
     spare: usize,
 ) -> Result<(Writer<'a, T, W>, Origin<FilterFault>), Refusal<StoreFault>>
     requires ready { T.is_known table → IsReady (T.sight table) }
-    // The filter is that of a guard of this store, or the store has no key.
-    requires beside { T.is_known table → is_made ≡ false → Stays W.has (T.sight table).kept }
-    requires bare { T.is_known table → is_made ≡ true → IsBare (T.sight table).kept }
+    // The filter is that of a guard of this store.
+    requires beside { T.is_known table → Stays W.has (T.sight table).kept }
     ensures untouched { IfOk result (λ it. it.1 ≡ Origin.Kept → it.0.store ≡ table) }
     ensures roomy { IfOk result (λ it. it.1 ≡ Origin.Kept → HasRoom coming it.0.room) }
     ensures made { IfOk result (λ it. it.1 ≢ Origin.Kept → T.is_known it.0.store
@@ -71,6 +67,6 @@ pub fn over_table<'a, T: Store<Error = StoreFault> + Drop, W: Left>(
     ensures counts { IfOk result (λ it. it.0.counts
         ≡ record { spared = 0; asked = 0; false_alarms = 0 }) }
 {
-    let kept = filter_file(rt, names, world, is_made);
+    let kept = filter_file(rt, names, world);
     Guard::open(rt.alloc(), table, kept, rate, coming, spare)
 }

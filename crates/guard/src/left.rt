@@ -1,25 +1,39 @@
 //! What an earlier run left.
-ghost use Rattle.guard.specs.Left.{CoversAtFirst};
+ghost use Rattle.guard.specs.Left.{CoversAtFirst, HoldAtFirst};
 ghost use Rattle.guard_engine.specs.Guarded.{Entries};
 
 use guard_parts::{Unknown, World};
+use guard_store::{Fresh, LeftStart};
 
-/// A folder in which a guard of a store left its filter: each filter that may be found there, and
-/// has the number of the store, has each key of it. Code over any `W: Left` is proved for any such
-/// store. Of a filter with another number nothing is supposed.
+/// A store's files and the folder in which a guard left its filter. The files hold just these
+/// entries, and are sound if they look like a store's; each filter that may be found, and has the
+/// number of the store, has each key of it. Code over any `W: Left` is proved for any such store.
+/// Of a filter with another number nothing is supposed.
 pub trait Left: World {
+    /// The two files of the store.
+    type Files: LeftStart;
+
     /// What the store has at first.
     ghost has: { Entries };
 
+    ghost held: { HoldAtFirst Self.Files.Start.log Self.Files.Start.db has };
+
     ghost covers: { CoversAtFirst Self.start has };
+
+    /// What stands for the two files, as they are opened.
+    fn files() -> Self::Files;
 }
 
-/// For `main` to name. No filter may be found in an empty folder, so the store may have anything.
+/// For `main` to name. The files hold nothing, and no filter may be found in an empty folder.
 impl Left for Unknown {
-    ghost use Rattle.std.specs.Prelude.{⊤, false, None, refl};
-    ghost use Rattle.guard.specs.Laws.{covers_nothing};
+    ghost use Rattle.std.specs.Prelude.{false, None, refl, []};
+    ghost use Rattle.guard.specs.Laws.{covers_nothing, hold_nothing};
 
-    ghost has = { λ _ _. ⊤ };
+    type Files = Fresh;
+
+    ghost has = { λ _ _. ⊥ };
+
+    ghost held = { hold_nothing [] };
 
     ghost covers = { covers_nothing
         (record {
@@ -29,5 +43,9 @@ impl Left for Unknown {
           was_done = λ _. false;
           store = 0;
         })
-        (λ _ _. ⊤) refl (λ c no. no) };
+        (λ _ _. ⊥) refl (λ c no. no) };
+
+    fn files() -> Fresh {
+        Fresh
+    }
 }

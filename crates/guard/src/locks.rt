@@ -4,8 +4,7 @@
 //! is another kind of lock, so each guard takes this one before it opens the store.
 
 use crate::names::Names;
-use crate::store_file::{StoreFault, fault_of};
-use sqlite::{Error, ErrorCode};
+use guard_store::StoreFault;
 use std::fs::{File, OpenOptions, TryLockError};
 use std::io::ErrorKind;
 use std::os::unix::fs::{MetadataExt, OpenOptionsExt};
@@ -17,14 +16,10 @@ const MODE: u32 = 0o644;
 /// What an error of the file system says of the store.
 pub fn fault_of_read(error: io::Error) -> StoreFault {
     if error.kind() == ErrorKind::OutOfMemory {
-        return StoreFault::NoMemory;
+        StoreFault::NoMemory
+    } else {
+        StoreFault::CannotOpen
     }
-    cannot_open()
-}
-
-/// The store, or its log, can't be opened.
-pub fn cannot_open() -> StoreFault {
-    fault_of(Error::SqliteFailure(ErrorCode::CannotOpen))
 }
 
 /// Opens a regular file with one name for reading, if it is there.
@@ -35,7 +30,7 @@ pub fn open_regular(rt: &HostRuntime, path: &str) -> Result<Option<File>, StoreF
     match fs::symlink_metadata(rt, path) {
         Ok(found) => {
             if !found.is_file() || found.nlink() != 1 {
-                return Err(cannot_open());
+                return Err(StoreFault::CannotOpen);
             }
         }
         Err(error) => {

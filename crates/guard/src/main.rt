@@ -1,17 +1,18 @@
 //! A guard before a SQLite file.
 #![tactic(auto)]
 
+mod calls_record;
 mod command_line;
 mod connections;
-mod copies;
 mod drawing;
 mod filter_file;
 mod guards;
 mod input_file;
 mod left;
 mod locks;
-mod medium;
 mod names;
+mod read_only;
+mod reading_files;
 mod readings;
 mod sessions;
 mod store_file;
@@ -20,10 +21,10 @@ mod telling;
 
 use command_line::{Options, arguments};
 use connections::OnDisk;
-use copies::{Copied, is_copied};
 use guard_parts::Unknown;
 use names::Names;
-use readings::Reading;
+use reading_files::{InPlace, is_read_in_place};
+use readings::{Reading, read_in};
 use sessions::{names_of, reading_of};
 use std::process::ExitCode;
 use telling::{BAD, DONE, FAILED, NO_MEMORY};
@@ -32,23 +33,23 @@ use telling::{BAD, DONE, FAILED, NO_MEMORY};
 //
 // A function at the types of one connection alone: one at those of both takes too long to prove.
 fn on_disk(rt: &HostRuntime, names: &Names, options: Options) -> u8 {
-    sessions::run::<OnDisk>(rt, names, Unknown, options)
+    sessions::run::<OnDisk<Unknown>>(rt, names, Unknown, options)
 }
 
-// Reads what is asked for of a copy of the files.
-fn on_copy(rt: &HostRuntime, names: &Names, options: Options, reading: Reading) -> u8 {
-    sessions::read::<Copied>(rt, names, Unknown, options, reading)
+// Reads what is asked for, beside other readers.
+fn in_place(rt: &HostRuntime, names: &Names, options: Options, reading: Reading) -> u8 {
+    read_in::<InPlace<Unknown>>(rt, names, Unknown, options, reading)
 }
 
-// Does what is asked for. What changes nothing reads a copy of the files, where one is made.
+// Does what is asked for. What changes nothing shares the files, where that can be.
 fn serve(rt: &HostRuntime, options: Options) -> u8 {
     let names = match names_of(rt, options) {
         Ok(names) => names,
         Err(status) => return status,
     };
     if let Some(reading) = reading_of(options.request) {
-        if is_copied(rt, &names) {
-            return on_copy(rt, &names, options, reading);
+        if is_read_in_place(rt, &names) {
+            return in_place(rt, &names, options, reading);
         }
     }
     on_disk(rt, &names, options)

@@ -1,9 +1,10 @@
 //! What is read of a store, and nothing changed.
 
 use crate::command_line::Options;
+use crate::connections::{Access, Connector};
 use crate::guards::Reader;
-use crate::medium::{Medium, StoreFile};
 use crate::names::Names;
+use crate::store_file::{StoreFile, open_within};
 use crate::telling::{FAILED, Input, NO_INPUT, tell, tell_refusal, tell_store};
 use crate::{guards, tasks};
 use guard_engine::Task;
@@ -20,12 +21,13 @@ pub enum Reading<'a> {
 }
 
 /// Opens the filter of a store that is there. Where it is made anew, that is told.
-pub fn open_reader<'a, M: Medium>(
+pub fn open_reader<'a, C: Connector>(
     rt: &'a HostRuntime,
     names: &'a Names,
-    world: M::World,
+    world: C::World,
     options: Options,
-) -> Result<Reader<'a, StoreFile<'a, M>, M::World>, u8> {
+    access: Access,
+) -> Result<Reader<'a, StoreFile<'a, C>, C::World>, u8> {
     if !names.has_store(rt) {
         tell(rt, names.store.as_str(), "there is no such store");
         return Err(FAILED);
@@ -33,7 +35,7 @@ pub fn open_reader<'a, M: Medium>(
     match guards::over_file(
         rt,
         names,
-        StoreFile::<M>::new(rt, names, options.wait),
+        StoreFile::<C>::new(rt, names, access, options.wait),
         world,
         options.rate,
     ) {
@@ -45,14 +47,14 @@ pub fn open_reader<'a, M: Medium>(
     }
 }
 
-fn get<'a, M: Medium>(
+fn get<'a, C: Connector>(
     rt: &'a HostRuntime,
     names: &'a Names,
-    world: M::World,
+    world: C::World,
     options: Options,
     key: &str,
 ) -> u8 {
-    match open_reader::<M>(rt, names, world, options) {
+    match open_reader::<C>(rt, names, world, options, Access::Read) {
         Ok(mut guard) => {
             let task: Task<&[u8]> = Task::Get(key);
             let status = tasks::serve(rt, names, &mut guard, task, NO_INPUT);
@@ -63,17 +65,17 @@ fn get<'a, M: Medium>(
     }
 }
 
-fn stats<'a, M: Medium>(
+fn stats<'a, C: Connector>(
     rt: &'a HostRuntime,
     names: &'a Names,
-    world: M::World,
+    world: C::World,
     options: Options,
 ) -> u8 {
     let input = Input {
         place: "standard input",
         is_put: false,
     };
-    match open_reader::<M>(rt, names, world, options) {
+    match open_reader::<C>(rt, names, world, options, Access::Read) {
         Ok(mut guard) => {
             let status = tasks::count(rt, names, &mut guard, &mut rt.reader(), input);
             drop(guard);
@@ -83,34 +85,35 @@ fn stats<'a, M: Medium>(
     }
 }
 
-fn list<M: Medium>(rt: &HostRuntime, names: &Names, options: Options) -> u8 {
+fn list<C: Connector>(rt: &HostRuntime, names: &Names, options: Options) -> u8 {
     if !names.has_store(rt) {
         tell(rt, names.store.as_str(), "there is no such store");
         return FAILED;
     }
-    let mut table = match M::found(rt, names, options.wait) {
-        Ok(table) => table,
+    let (mut table, lock) = match open_within::<C>(rt, names, Access::Read, options.wait) {
+        Ok(opened) => opened,
         Err(fault) => return tell_store(rt, names, &fault),
     };
-    let status = match M::entries(&mut table) {
+    let status = match table.entries() {
         Ok(entries) => tasks::print_entries(rt, names, &entries),
         Err(fault) => tell_store(rt, names, &fault),
     };
     drop(table);
+    drop(lock);
     status
 }
 
 /// Reads what is asked for, wherever the store lies.
-pub fn read_in<M: Medium>(
+pub fn read_in<C: Connector>(
     rt: &HostRuntime,
     names: &Names,
-    world: M::World,
+    world: C::World,
     options: Options,
     reading: Reading,
 ) -> u8 {
     match reading {
-        Reading::Get(key) => get::<M>(rt, names, world, options, key),
-        Reading::List => list::<M>(rt, names, options),
-        Reading::Stats => stats::<M>(rt, names, world, options),
+        Reading::Get(key) => get::<C>(rt, names, world, options, key),
+        Reading::List => list::<C>(rt, names, options),
+        Reading::Stats => stats::<C>(rt, names, world, options),
     }
 }

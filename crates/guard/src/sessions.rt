@@ -2,15 +2,16 @@
 ghost use Rattle.std.specs.Prelude.{◌≡◌, ◌≢◌};
 
 use crate::command_line::{Load, Options, Request};
-use crate::connections::Connector;
+use crate::connections::{Access, Connector};
 use crate::guards::Writer;
 use crate::input_file::open_input;
-use crate::medium::{Files, Medium};
 use crate::names::Names;
 use crate::readings::{Reading, open_reader, read_in};
+use crate::store_file::open_within;
 use crate::telling::{FAILED, Input, NO_INPUT, NO_MEMORY, tell, tell_refusal, tell_store};
 use crate::{guards, tasks};
 use guard_engine::Task;
+use guard_store::EntryTrees;
 use lines::Reason;
 use std::io::ErrorKind;
 
@@ -29,30 +30,35 @@ fn status_of_read(kind: ErrorKind) -> u8
     }
 }
 
+/// A guard over a store that is open for changes, and what keeps others away meanwhile.
+type Open<'a, C> = (
+    Writer<'a, EntryTrees<<C as Connector>::Trees>, <C as Connector>::World>,
+    <C as Connector>::Lock,
+);
+
 // Opens a store and its filter, both of which are made where there is no store. The filter has room
 // for the keys to come, and one that is made anew has this many keys to spare.
-fn open_writer<'a, M: Medium>(
+fn open_writer<'a, C: Connector>(
     rt: &'a HostRuntime,
     names: &'a Names,
-    world: M::World,
+    world: C::World,
     options: Options,
     coming: usize,
     spare: usize,
-) -> Result<Writer<'a, M::Table, M::World>, u8> {
+) -> Result<Open<'a, C>, u8> {
     let is_new = !names.has_store(rt);
-    let (table, is_made) = match M::over(rt, names, options.wait) {
-        Ok(over) => over,
+    let (table, lock) = match open_within::<C>(rt, names, Access::Make, options.wait) {
+        Ok(opened) => opened,
         Err(fault) => return Err(tell_store(rt, names, &fault)),
     };
-    let rate = options.rate;
-    match guards::over_table(rt, names, table, is_made, world, rate, coming, spare) {
+    match guards::over_table(rt, names, table, world, options.rate, coming, spare) {
         Ok((mut guard, origin)) => {
             if is_new {
                 drop(guard.save());
             } else {
                 tasks::save_made(rt, names, &mut guard, origin);
             }
-            Ok(guard)
+            Ok((guard, lock))
         }
         Err(refusal) => Err(tell_refusal(rt, names, &refusal)),
     }
@@ -60,29 +66,27 @@ fn open_writer<'a, M: Medium>(
 
 // Closes a store. Where that fails, as on a full disk, its log keeps what was committed, and the
 // next open copies it. So what the task came to stands, and nothing more is told.
-fn close_table<M: Medium>(table: M::Table) {
-    drop(M::close(table));
+fn close_table<C: Connector>(table: Option<EntryTrees<C::Trees>>, lock: Option<C::Lock>) {
+    let mut table = table;
+    drop(C::close(&mut table));
+    drop(lock);
 }
 
-fn close_writer<'a, M: Medium>(guard: Writer<'a, M::Table, M::World>) {
+fn close_writer<'a, C: Connector>(open: Open<'a, C>) {
+    let (guard, lock) = open;
     let (table, kept) = guard.into_parts();
     drop(kept);
-    close_table::<M>(table);
+    close_table::<C>(Some(table), Some(lock));
 }
 
-fn delete<'a, M: Medium>(
+fn delete<'a, C: Connector>(
     rt: &'a HostRuntime,
     names: &'a Names,
-    world: M::World,
+    world: C::World,
     options: Options,
     key: &str,
 ) -> u8 {
-    if names.has_store(rt) {
-        if let Err(fault) = M::draw(rt, names, options.wait) {
-            return tell_store(rt, names, &fault);
-        }
-    }
-    let mut guard = match open_reader::<M>(rt, names, world, options) {
+    let mut guard = match open_reader::<C>(rt, names, world, options, Access::Change) {
         Ok(guard) => guard,
         Err(status) => return status,
     };
@@ -90,25 +94,24 @@ fn delete<'a, M: Medium>(
     let status = tasks::serve(rt, names, &mut guard, task, NO_INPUT);
     let (store, kept) = guard.into_parts();
     drop(kept);
-    match store.into_parts() {
-        (_, Some(table)) => close_table::<M>(table),
-        (_, None) => {}
-    }
+    let (source, table) = store.into_parts();
+    close_table::<C>(table, None);
+    drop(source);
     status
 }
 
 // Puts one entry, or replaces what its key has.
-fn put<'a, M: Medium>(
+fn put<'a, C: Connector>(
     rt: &'a HostRuntime,
     names: &'a Names,
-    world: M::World,
+    world: C::World,
     options: Options,
     task: Task<&[u8]>,
 ) -> u8 {
-    match open_writer::<M>(rt, names, world, options, 1, PUT_SPARE) {
-        Ok(mut guard) => {
+    match open_writer::<C>(rt, names, world, options, 1, PUT_SPARE) {
+        Ok((mut guard, lock)) => {
             let status = tasks::serve(rt, names, &mut guard, task, NO_INPUT);
-            close_writer::<M>(guard);
+            close_writer::<C>((guard, lock));
             status
         }
         Err(status) => status,
@@ -124,34 +127,34 @@ fn input_of<'a>(place: &'a str) -> Input<'a> {
 }
 
 // Puts the lines of standard input.
-fn load_input<'a, M: Medium>(
+fn load_input<'a, C: Connector>(
     rt: &'a HostRuntime,
     names: &'a Names,
-    world: M::World,
+    world: C::World,
     options: Options,
     load: Load,
 ) -> u8 {
     let items = load.items as usize;
-    match open_writer::<M>(rt, names, world, options, items, items) {
-        Ok(mut guard) => {
+    match open_writer::<C>(rt, names, world, options, items, items) {
+        Ok((mut guard, lock)) => {
             let input = input_of("standard input");
             let status = tasks::fill(rt, names, &mut guard, &mut rt.reader(), load.batch, input);
-            close_writer::<M>(guard);
+            close_writer::<C>((guard, lock));
             status
         }
         Err(status) => status,
     }
 }
 
-fn load<'a, M: Medium>(
+fn load<'a, C: Connector>(
     rt: &'a HostRuntime,
     names: &'a Names,
-    world: M::World,
+    world: C::World,
     options: Options,
     load: Load,
 ) -> u8 {
     if load.file == "-" {
-        return load_input::<M>(rt, names, world, options, load);
+        return load_input::<C>(rt, names, world, options, load);
     }
     let (file, lines) = match open_input(rt, load.file, load.items) {
         Ok(input) => input,
@@ -165,11 +168,11 @@ fn load<'a, M: Medium>(
         }
     };
     let lines = lines as usize;
-    match open_writer::<M>(rt, names, world, options, lines, lines) {
-        Ok(mut guard) => {
+    match open_writer::<C>(rt, names, world, options, lines, lines) {
+        Ok((mut guard, lock)) => {
             let task = Task::Load(file, load.batch);
             let status = tasks::serve(rt, names, &mut guard, task, input_of(load.file));
-            close_writer::<M>(guard);
+            close_writer::<C>((guard, lock));
             status
         }
         Err(status) => status,
@@ -204,36 +207,20 @@ pub fn reading_of(request: Request) -> Option<Reading> {
     }
 }
 
-// Does what is asked for, wherever the store lies.
-fn run_in<M: Medium>(rt: &HostRuntime, names: &Names, world: M::World, options: Options) -> u8 {
+/// Does what is asked for with a store in a file, and returns the status.
+pub fn run<C: Connector>(rt: &HostRuntime, names: &Names, world: C::World, options: Options) -> u8 {
     let reading = match options.request {
         Request::Put(key, value) => {
-            return put::<M>(rt, names, world, options, Task::Put(key, value));
+            return put::<C>(rt, names, world, options, Task::Put(key, value));
         }
         Request::Replace(key, value) => {
-            return put::<M>(rt, names, world, options, Task::Replace(key, value));
+            return put::<C>(rt, names, world, options, Task::Replace(key, value));
         }
-        Request::Delete(key) => return delete::<M>(rt, names, world, options, key),
-        Request::Load(what) => return load::<M>(rt, names, world, options, what),
+        Request::Delete(key) => return delete::<C>(rt, names, world, options, key),
+        Request::Load(what) => return load::<C>(rt, names, world, options, what),
         Request::Get(key) => Reading::Get(key),
         Request::List => Reading::List,
         Request::Stats => Reading::Stats,
     };
-    read_in::<M>(rt, names, world, options, reading)
-}
-
-/// Does what is asked for with a store in a file, and returns the status.
-pub fn run<C: Connector>(rt: &HostRuntime, names: &Names, world: C::World, options: Options) -> u8 {
-    run_in::<Files<C>>(rt, names, world, options)
-}
-
-/// Reads what is asked for of a store in a file, and returns the status.
-pub fn read<C: Connector>(
-    rt: &HostRuntime,
-    names: &Names,
-    world: C::World,
-    options: Options,
-    reading: Reading,
-) -> u8 {
-    read_in::<Files<C>>(rt, names, world, options, reading)
+    read_in::<C>(rt, names, world, options, reading)
 }

@@ -2,9 +2,9 @@
 
 use crate::filter_file::FilterFault;
 use crate::names::Names;
-use crate::store_file::StoreFault;
 use crate::telling::{BAD, DONE, FAILED, Input, NO, tell, tell_filter, tell_origin, tell_trouble};
 use guard_engine::{Answer, Guard, Kept, Origin, Store, Task, Trouble, carry_out};
+use guard_store::StoreFault;
 use lines::Reason;
 use std::io;
 use std::io::{BufWriter, Read, Write};

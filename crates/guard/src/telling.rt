@@ -5,9 +5,9 @@ ghost use Rattle.guard.specs.Statuses.{status_after, status_for, status_of_lack,
 
 use crate::filter_file::FilterFault;
 use crate::names::Names;
-use crate::store_file::StoreFault;
 use bloom_plain::FilterError;
 use guard_engine::{Fault, Origin, Refusal, Subject, Told, Trouble, Why};
+use guard_store::StoreFault;
 use std::fmt::Display;
 
 /// The task was carried out.
@@ -51,11 +51,18 @@ fn status_of(fault: &StoreFault) -> u8
     ensures { result ≡ status_for fault.now }
 {
     match fault {
-        StoreFault::Sql(_) => BAD,
-        StoreFault::Failed(_) => FAILED,
         StoreFault::NoMemory => NO_MEMORY,
+        StoreFault::Failed => FAILED,
+        StoreFault::NoSpace => FAILED,
+        StoreFault::CannotOpen => FAILED,
         StoreFault::Locked => LOCKED,
-        StoreFault::Unfit(_) => BAD,
+        StoreFault::NoTable => BAD,
+        StoreFault::Schema => BAD,
+        StoreFault::NoDatabase => BAD,
+        StoreFault::Damaged => BAD,
+        StoreFault::TooLarge => BAD,
+        StoreFault::Taken => BAD,
+        StoreFault::Shut => BAD,
     }
 }
 

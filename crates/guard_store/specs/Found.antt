@@ -1,6 +1,10 @@
 -- What the two files of a store hold as they are opened.
-use Rattle.std.specs.Prelude.{◌⊎◌, ℕ, List}
+use Rattle.std.specs.Prelude.{◌≡◌, ◌⊎◌, ℕ, Bool, List, [], ◌∷◌}
 use Rattle.sqlite.specs.Files.{IsNothing}
+use Rattle.sqlite_disk.specs.Events.{Event, settled}
+use Rattle.sqlite_disk.specs.declared.calls.Calls as calls
+use Rattle.sqlite_disk.specs.declared.modelled.Modelled.{Modelled}
+use Rattle.sqlite_disk.specs.declared.start.Start.{Ghosts}
 use Rattle.sqlite_trees.specs.Tree.{Trees}
 use Rattle.sqlite_wal.specs.Recovery.{Image}
 use Rattle.sqlite_wal.specs.declared.error.Error as log
@@ -32,3 +36,9 @@ probed _ = NoDatabase
 -- a log and a database file are sound at first, if they look like a store's
 abbrev pub AreSoundAtFirst : List ℕ → List ℕ → Type 0
 AreSoundAtFirst log db = AreSoundIfStore (record { log = log; db = db })
+
+-- a file is the log or the database file, as it was opened
+abbrev pub IsUntouched : {C S : Type 0} {g : calls.Ghosts C} {start : Ghosts S}
+    → (C → List Event) → Bool → Modelled C S g start → Type 0
+IsUntouched history is_log file =
+    (file.is_log ≡ is_log) × (history file.calls ≡ settled file.key ∷ [])

@@ -4,12 +4,16 @@
 mod entry_trees;
 mod fault;
 mod files;
+mod left_files;
 mod left_start;
+mod numbering;
 mod objects;
 mod opening;
 mod probing;
 
 pub use entry_trees::EntryTrees;
 pub use fault::StoreFault;
-pub use files::open_trees;
+pub use files::open_entries;
+pub use left_files::open_left;
 pub use left_start::{Fresh, LeftStart};
+pub use numbering::{number_store, settle_log};

@@ -1,0 +1,30 @@
+-- What was settled just now reads as it did at first.
+use Rattle.std.proofs.Common.{ℕ, Bool, cond, List, sym, ap₂, subst}
+use Rattle.std.proofs.lemmas.Result.{IfOk-weaker}
+use Rattle.sqlite_disk.specs.Events.{Event, replay}
+use Rattle.sqlite_store.specs.FileStore.{view}
+use Rattle.sqlite_wal.specs.Recovery.{Image}
+use Rattle.guard_store.specs.Found.{AreFound}
+use Rattle.guard_store.specs.StoreFile.{AreSoundIfStore}
+use Rattle.guard_store.proofs.left_files.open_left.Goals as goal
+
+abbrev image : List ℕ → List ℕ → Image
+image log db = record { log = log; db = db }
+
+abbrev seen : List ℕ → List ℕ → Bool → List Event → List ℕ
+seen log db is_log history = (replay (cond is_log log db) history).seen
+
+pub open_entries-requires-clause-sound : goal.open_entries-requires-clause-sound
+open_entries-requires-clause-sound g c clean =
+    let (log, db) = (c.requires.log, c.requires.db) in
+    let same = ap₂ image (ap₂ (seen g.S.Start.log g.S.Start.db) log.0 log.1)
+    (ap₂ (seen g.S.Start.log g.S.Start.db) db.0 db.1) in
+    subst AreSoundIfStore (sym same) g.S.LeftStart.sound
+
+pub returns-clause-found : goal.returns-clause-found
+returns-clause-found g c =
+    let (log, db) = (c.requires.log, c.requires.db) in
+    let same = ap₂ image (ap₂ (seen g.S.Start.log g.S.Start.db) log.0 log.1)
+    (ap₂ (seen g.S.Start.log g.S.Start.db) db.0 db.1) in
+    IfOk-weaker c.open_entries.result _ _ (λ table found now.
+    subst (λ i. AreFound i (view table.store).committed) same (found now)) c.open_entries.ensures.found
