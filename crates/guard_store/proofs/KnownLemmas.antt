@@ -1,9 +1,10 @@
 -- What calls of the store leave: reads change nothing but cursors, and failures keep what is
 -- committed.
-use Rattle.std.proofs.Common.{◌≤◌, IsTrue, arith, ap, subst, ◌∙◌}
+use Rattle.std.proofs.Common.{◌≡◌, ◌≤◌, Bool, IsTrue, arith, ap, subst, sym, ◌∙◌}
 use Rattle.sqlite_trees.specs.View.{View, KeepsCommitted, doubt}
 use Rattle.sqlite_exec.specs.Calls.{OnlyReads}
-use Rattle.guard_store.specs.Trees.{IsKnown}
+use Rattle.guard_engine.specs.Stores.{IsReady, TakesBack}
+use Rattle.guard_store.specs.Trees.{IsKnown, sight_of}
 
 -- two reads in a row change nothing but cursors
 pub reads_on : (a b c : View) → OnlyReads a b → OnlyReads b c → OnlyReads a c
@@ -41,3 +42,10 @@ keeps_on a b c first then = record {
 pub known_before : (a b : View) → doubt a.is_clean ≤ doubt b.is_clean → KeepsCommitted a b
     → IsKnown b → IsKnown a
 known_before a b falls keeps known = (omega (arith, known.0), keeps.was_open known.1)
+
+-- a store of which nothing changed took nothing back
+pub stays_ready : (old new : View) (in_batch : Bool) → new ≡ old → IsReady (sight_of old in_batch)
+    → TakesBack (sight_of old in_batch) (sight_of new in_batch)
+stays_ready old new in_batch same ready =
+    subst (λ v. TakesBack (sight_of old in_batch) (sight_of v in_batch)) (sym same)
+    (record { ready = ready; kept = λ key value. (λ has. has, λ has. has) })

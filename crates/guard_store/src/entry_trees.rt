@@ -73,8 +73,8 @@ impl<S: Store + Drop> EntryTrees<S> {
         store
     }
 
-    // Takes the batch back, if a call of the trees failed.
-    fn settle<T, E>(&mut self, outcome: Result<T, E>) -> Result<T, E>
+    /// Takes the batch back, if a call of the trees failed.
+    pub(crate) fn settle<T, E>(&mut self, outcome: Result<T, E>) -> Result<T, E>
         ensures same { result ≡ outcome }
         ensures kept { OnOk outcome (self.new ≡ self.old) }
         ensures undone { OnErr outcome

@@ -5,11 +5,15 @@ mod entry_trees;
 mod fault;
 mod files;
 mod left_start;
+mod numbering;
 mod objects;
 mod opening;
 mod probing;
+mod settling;
 
 pub use entry_trees::EntryTrees;
 pub use fault::StoreFault;
 pub use files::open_trees;
 pub use left_start::{Fresh, LeftStart};
+pub use numbering::number_store;
+pub use settling::settle_log;
