@@ -128,8 +128,10 @@ lists = record {
     ]
   ];
   whole = λ k v h. elim (which k v h) [
-    | inl is ↦ (1, omega arith, let key = same_text _ _ is.0 in let value = same_text _ _ is.1 in cc)
-    | inr is ↦ (0, omega arith, let key = same_text _ _ is.0 in let value = same_text _ _ is.1 in cc)
+    | inl is ↦
+        let key = same_text _ _ is.0 in let value = same_text _ _ is.1 in (1, omega arith, cc)
+    | inr is ↦
+        let key = same_text _ _ is.0 in let value = same_text _ _ is.1 in (0, omega arith, cc)
   ];
 }
 

@@ -1,6 +1,6 @@
 -- When an index has the names of the rows of a table, and both are the entries of a store: cases
 -- that hold, and near ones that don't.
-use Rattle.std.proofs.Common.{◌≡◌, inl, inr, ℕ, zero, suc, ℤ, pos, List, [], ◌∷◌, refl, ap, arith}
+use Rattle.std.proofs.Common.{inl, inr, ℕ, zero, suc, ℤ, pos, List, [], ◌∷◌, refl, ap, arith}
 use Rattle.std.proofs.lemmas.List.Sorted.{Contains-permutation, IsPermutation-refl, length_permutation}
 use Rattle.sqlite_value.specs.declared.value.Value.TheVariants.{Int, Text}
 use Rattle.sqlite_value.specs.Order.{Row, column}

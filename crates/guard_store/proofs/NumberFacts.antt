@@ -1,6 +1,6 @@
 -- When a store has a number, and what giving it one does: cases that hold, and near ones that
 -- don't.
-use Rattle.std.proofs.Common.{◌≡◌, ◌≢◌, ℕ, true, false, [], None, refl, ap, sym, ◌∙◌}
+use Rattle.std.proofs.Common.{◌≡◌, ◌≢◌, ℕ, true, false, [], None, refl, sym, ◌∙◌}
 use Rattle.sqlite_trees.specs.Objects.{version_rows}
 use Rattle.sqlite_trees.specs.View.{View}
 use Rattle.sqlite_trees.specs.declared.store.Shape.TheVariants.{Table}

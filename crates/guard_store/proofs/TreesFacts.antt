@@ -1,6 +1,6 @@
 -- When a store has the trees of the table of entries and is known, and what a guard sees of it:
 -- cases that hold, and near ones that don't.
-use Rattle.std.proofs.Common.{◌≡◌, ℕ, zero, suc, pos, Bool, true, false, List, [], ◌∷◌, None, refl, ap, arith}
+use Rattle.std.proofs.Common.{◌≡◌, ℕ, zero, suc, pos, Bool, true, false, [], ◌∷◌, None, refl, ap, arith}
 use Rattle.sqlite_value.specs.Keys.{plain}
 use Rattle.sqlite_trees.specs.declared.store.Shape.{Shape}
 use Rattle.sqlite_trees.specs.declared.store.Shape.TheVariants.{Absent, FrozenIndex, Index, Table}

@@ -5,7 +5,7 @@ mod guarded;
 mod list;
 
 ghost use Rattle.std.specs.Prelude.{◌≡◌, false, OnErr, OnOk};
-ghost use Rattle.sqlite_trees.specs.View.{IsClean, IsRolledBack};
+ghost use Rattle.sqlite_trees.specs.View.{IsRolledBack};
 
 use crate::fault::StoreFault;
 use list::list_pairs;
