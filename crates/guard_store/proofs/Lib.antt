@@ -1,8 +1,11 @@
 mod ChangeLemmas
+mod EntryFacts
+mod IndexFacts
 mod IndexLemmas
 mod KnownLemmas
 mod ListLemmas
 mod ListedLemmas
+mod NumberFacts
 mod OpenedLemmas
 mod RowLemmas
 mod SeekLemmas

@@ -3,6 +3,7 @@ pub mod Entry
 pub mod Faults
 pub mod FirstLaws
 pub mod Found
+pub mod Number
 pub mod Opened
 pub mod StoreFile
 pub mod Trees

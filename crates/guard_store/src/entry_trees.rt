@@ -5,7 +5,7 @@ mod guarded;
 mod list;
 
 ghost use Rattle.std.specs.Prelude.{◌≡◌, false, OnErr, OnOk};
-ghost use Rattle.sqlite_trees.specs.View.{IsClean, IsRolledBack};
+ghost use Rattle.sqlite_trees.specs.View.{IsRolledBack};
 
 use crate::fault::StoreFault;
 use list::list_pairs;
@@ -73,8 +73,8 @@ impl<S: Store + Drop> EntryTrees<S> {
         store
     }
 
-    // Takes the batch back, if a call of the trees failed.
-    fn settle<T, E>(&mut self, outcome: Result<T, E>) -> Result<T, E>
+    /// Takes the batch back, if a call of the trees failed.
+    pub(crate) fn settle<T, E>(&mut self, outcome: Result<T, E>) -> Result<T, E>
         ensures same { result ≡ outcome }
         ensures kept { OnOk outcome (self.new ≡ self.old) }
         ensures undone { OnErr outcome

@@ -10,10 +10,12 @@ mod numbering;
 mod objects;
 mod opening;
 mod probing;
+mod settling;
 
 pub use entry_trees::EntryTrees;
 pub use fault::StoreFault;
 pub use files::open_entries;
 pub use left_files::open_left;
 pub use left_start::{Fresh, LeftStart};
-pub use numbering::{number_store, settle_log};
+pub use numbering::number_store;
+pub use settling::settle_log;
