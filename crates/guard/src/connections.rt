@@ -96,8 +96,7 @@ fn give_number<W: Left>(
     rt: &HostRuntime,
     names: &Names,
     table: &mut EntryTrees<FileStore<FileFrom<W::Files>>>,
-) -> Result<(), StoreFault>
-{
+) -> Result<(), StoreFault> {
     if store_number(rt, names.store.as_str()) != Ok(0) {
         return Ok(());
     }

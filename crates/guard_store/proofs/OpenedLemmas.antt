@@ -72,9 +72,10 @@ unfolding is_nan lt describes is_about fits_kind is_free_name may_follow same_na
 can-build = record {
   distinct = refl;
   shaped = All-from_recursion (λ it. is_plain it.shape ≡ true) entry_objects (refl, (refl, tt));
-  short = All-from_recursion (λ it. (root : ℕ) → IsStorable 0 (listing it root)) entry_objects
-      (λ root. storable _ _ _ _ root (tt, (tt, (tt, (tt, tt)))) (omega arith),
-      (λ root. storable _ _ _ _ root (tt, (tt, (tt, (tt, tt)))) (omega arith), tt));
+  short = All-from_recursion (λ it. (root : ℕ) → IsStorable 0 (listing it root)) entry_objects (
+    λ root. storable _ _ _ _ root (tt, (tt, (tt, (tt, tt)))) (omega arith),
+    (λ root. storable _ _ _ _ root (tt, (tt, (tt, (tt, tt)))) (omega arith), tt),
+  );
 }
 
 -- a cause of the layer below, where what it refuses is less and its limit is more
@@ -230,8 +231,8 @@ module _ {D : Type 0} {g : Ghosts D} (old new : Unopened D g) (rows : List Row)
       let large : 504 ≤ size-read = omega (arith, valid.0) in
       ∥∥₁_elim started ∥∥₁_prop (λ is. ∥∥₁_map sound-read (λ sound. elim is [
         | inl blank ↦ absurd (not_blank size-read (image new) read.pages
-          (adopts_of size-read (image new) read.pages read.again) large sound
-          (state_of new).page_size (rw sized (omega arith)) blank)
+            (adopts_of size-read (image new) read.pages read.again) large sound
+            (state_of new).page_size (rw sized (omega arith)) blank)
         | inr begun ↦
             let same = same-read begun.0 begun.1 in
             (read.pages, read.found, subst₂ below.IsEmptyFile sized (sym same) begun.2)
@@ -240,8 +241,11 @@ module _ {D : Type 0} {g : Ghosts D} (old new : Unopened D g) (rows : List Row)
   -- files that list nothing can get the table, if they hold what is wanted
   pub start-read : IsWantedAt size-read (image old) → rows ≡ [] → IsUnstarted new
   start-read wanted none =
-      inr (read.pages, rw sized read.again,
-      rw sized (wanted-begun size-read (image old) read.pages read.found wanted (sym read.lists ∙ none)))
+      inr (
+        read.pages,
+        rw sized read.again,
+        rw sized (wanted-begun size-read (image old) read.pages read.found wanted (sym read.lists ∙ none)),
+      )
 
   -- files that list something else hold nothing that is wanted
   pub other-read : IsWantedAt size-read (image old) → (rows ≡ [] → ⊥) → ListEntries rows

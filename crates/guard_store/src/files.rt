@@ -10,9 +10,9 @@ ghost use Rattle.guard_store.specs.Found.{AreFound};
 ghost use Rattle.guard_store.specs.Opened.{AreFoundAt, IsEmptyStore, IsOpenStore};
 ghost use Rattle.guard_store.specs.StoreFile.{entry_objects, AreSoundIfStore};
 
-use crate::objects::entry_objects;
 use crate::entry_trees::EntryTrees;
 use crate::fault::StoreFault;
+use crate::objects::entry_objects;
 use crate::opening::{make, open_found};
 use crate::probing::{finds_nothing, finds_size, finds_sums};
 use sqlite::Leftover;
@@ -153,9 +153,17 @@ pub fn open_trees<D: Disk>(
 }
 
 /// Stub.
-pub fn open_entries<D: Disk + Drop>(alloc: Global, files: Files<D>, options: Options, makes: bool) -> Result<EntryTrees<FileStore<D>>, StoreFault> {
+pub fn open_entries<D: Disk + Drop>(
+    alloc: Global,
+    files: Files<D>,
+    options: Options,
+    makes: bool,
+) -> Result<EntryTrees<FileStore<D>>, StoreFault> {
     match open_trees(alloc, files, options, makes) {
         Ok(store) => Ok(EntryTrees::over(alloc, store)),
-        Err((fault, left)) => { drop(left); Err(fault) }
+        Err((fault, left)) => {
+            drop(left);
+            Err(fault)
+        }
     }
 }
