@@ -1,12 +1,12 @@
 //! The files of a store, as they are opened and closed.
-ghost use Rattle.std.specs.Prelude.{IfOk};
+ghost use Rattle.std.specs.Prelude.{◌≡◌, ◌↔◌, IfOk};
 ghost use Rattle.guard_engine.specs.Guarded.{Stays};
 ghost use Rattle.guard_engine.specs.Stores.{IsReady};
 ghost use Rattle.guard_store.specs.Trees.{IsKnown, sight_of};
 
 use crate::drawing::{drawn_number, drawn_seed};
 use crate::left::Left;
-use crate::locks::{close_gate, fault_of_read, lock_alone};
+use crate::locks::{close_gate, fault_of_kind, lock_alone};
 use crate::names::Names;
 use guard_parts::store_number;
 use guard_store::{EntryTrees, StoreFault, number_store, open_left, settle_log};
@@ -67,9 +67,13 @@ pub struct OnDisk<W: Left> {
 }
 
 // What an error of an opening of files says of the store.
-fn fault_of_files(error: OpenError) -> StoreFault {
+fn fault_of_files(error: OpenError) -> StoreFault
+    ensures locked { (result ≡ StoreFault.Locked) ↔ (error ≡ OpenError.Busy) }
+    ensures memory { error ≡ OpenError.OutOfMemory → result ≡ StoreFault.NoMemory }
+    ensures journal { error ≡ OpenError.HotJournal → result ≡ StoreFault.CannotOpen }
+{
     match error {
-        OpenError::Io(error) => fault_of_read(error),
+        OpenError::Io(error) => fault_of_kind(error.kind()),
         OpenError::OutOfMemory => StoreFault::NoMemory,
         OpenError::Busy => StoreFault::Locked,
         OpenError::HotJournal => StoreFault::CannotOpen,

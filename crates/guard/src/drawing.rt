@@ -1,7 +1,7 @@
 //! Numbers drawn at random: that of a store, by which its filter is told from another's, and a seed.
 ghost use Rattle.std.specs.Prelude.{◌≢◌, IfOk};
 
-use crate::locks::fault_of_read;
+use crate::locks::fault_of_kind;
 use guard_store::StoreFault;
 use std::hash::{BuildHasher, RandomState};
 
@@ -9,7 +9,7 @@ use std::hash::{BuildHasher, RandomState};
 pub fn drawn_seed(rt: &HostRuntime) -> Result<u64, StoreFault> {
     match RandomState::new(rt) {
         Ok(state) => Ok(state.hash_one(&0u8)),
-        Err(error) => Err(fault_of_read(error)),
+        Err(error) => Err(fault_of_kind(error.kind())),
     }
 }
 

@@ -2,6 +2,7 @@
 //!
 //! It is the advisory lock of the whole file that is the store. SQLite locks ranges of bytes, which
 //! is another kind of lock, so each guard takes this one before it opens the store.
+ghost use Rattle.std.specs.Prelude.{◌≡◌, ◌≢◌};
 
 use crate::names::Names;
 use guard_store::StoreFault;
@@ -13,9 +14,12 @@ use std::{fs, io};
 // Who may read and write a store that is made.
 const MODE: u32 = 0o644;
 
-/// What an error of the file system says of the store.
-pub fn fault_of_read(error: io::Error) -> StoreFault {
-    if error.kind() == ErrorKind::OutOfMemory {
+/// What an error of the file system, by its kind, says of the store.
+pub fn fault_of_kind(kind: ErrorKind) -> StoreFault
+    ensures memory { kind ≡ ErrorKind.OutOfMemory → result ≡ StoreFault.NoMemory }
+    ensures other { kind ≢ ErrorKind.OutOfMemory → result ≡ StoreFault.CannotOpen }
+{
+    if kind == ErrorKind::OutOfMemory {
         StoreFault::NoMemory
     } else {
         StoreFault::CannotOpen
@@ -37,13 +41,13 @@ pub fn open_regular(rt: &HostRuntime, path: &str) -> Result<Option<File>, StoreF
             return if error.kind() == ErrorKind::NotFound {
                 Ok(None)
             } else {
-                Err(fault_of_read(error))
+                Err(fault_of_kind(error.kind()))
             };
         }
     }
     match File::open(rt, path) {
         Ok(file) => Ok(Some(file)),
-        Err(error) => Err(fault_of_read(error)),
+        Err(error) => Err(fault_of_kind(error.kind())),
     }
 }
 
@@ -52,7 +56,7 @@ fn locked(answer: Result<(), TryLockError>) -> Result<(), StoreFault> {
     match answer {
         Ok(()) => Ok(()),
         Err(TryLockError::WouldBlock) => Err(StoreFault::Locked),
-        Err(TryLockError::Error(error)) => Err(fault_of_read(error)),
+        Err(TryLockError::Error(error)) => Err(fault_of_kind(error.kind())),
     }
 }
 

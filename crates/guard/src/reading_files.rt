@@ -5,10 +5,11 @@ ghost use Rattle.guard_store.specs.Found.{IsUntouched};
 use crate::connections::{Access, Connector};
 use crate::drawing::drawn_seed;
 use crate::left::Left;
-use crate::locks::{fault_of_read, lock_shared, open_regular, pass_gate};
+use crate::locks::{fault_of_kind, lock_shared, open_regular, pass_gate};
 use crate::names::Names;
 use crate::read_only::ReadOnly;
 use guard_store::{EntryTrees, LeftStart, StoreFault, open_left};
+use lines::read_some;
 use sqlite_disk::{Calls, Files, Modelled};
 use sqlite_store::FileStore;
 use std::fs;
@@ -24,7 +25,7 @@ fn bytes_of(rt: &HostRuntime, path: &str) -> Result<Vec<u8>, StoreFault> {
     };
     match file.read_to_end(&mut bytes) {
         Ok(_) => Ok(bytes),
-        Err(error) => Err(fault_of_read(error)),
+        Err(error) => Err(fault_of_kind(error.kind())),
     }
 }
 
@@ -34,9 +35,9 @@ fn has_journal(rt: &HostRuntime, path: &str) -> Result<bool, StoreFault> {
         return Ok(false);
     };
     let mut first = [0u8];
-    match file.read(&mut first) {
+    match read_some(&mut file, &mut first) {
         Ok(count) => Ok(count == 1 && first[0] != 0),
-        Err(error) => Err(fault_of_read(error)),
+        Err(error) => Err(fault_of_kind(error.kind())),
     }
 }
 

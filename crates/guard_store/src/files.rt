@@ -10,7 +10,6 @@ ghost use Rattle.guard_store.specs.Found.{AreFound};
 ghost use Rattle.guard_store.specs.Opened.{AreFoundAt, IsEmptyStore, IsOpenStore};
 ghost use Rattle.guard_store.specs.StoreFile.{entry_objects, AreSoundIfStore};
 
-use crate::entry_trees::EntryTrees;
 use crate::fault::StoreFault;
 use crate::objects::entry_objects;
 use crate::opening::{make, open_found};
@@ -150,20 +149,4 @@ pub fn open_trees<D: Disk>(
         return Err((StoreFault::NoTable, Leftover::Files(files)));
     }
     begin(alloc, files, options, new_size, has_sums)
-}
-
-/// Stub.
-pub fn open_entries<D: Disk + Drop>(
-    alloc: Global,
-    files: Files<D>,
-    options: Options,
-    makes: bool,
-) -> Result<EntryTrees<FileStore<D>>, StoreFault> {
-    match open_trees(alloc, files, options, makes) {
-        Ok(store) => Ok(EntryTrees::over(alloc, store)),
-        Err((fault, left)) => {
-            drop(left);
-            Err(fault)
-        }
-    }
 }
