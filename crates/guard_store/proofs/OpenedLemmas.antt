@@ -40,9 +40,10 @@ use Rattle.sqlite_store.specs.declared.store.FileStore.{FileStore}
 use Rattle.sqlite_store.specs.declared.store.open.Unopened.{Unopened}
 use Rattle.sqlite_wal.specs.PageSize.{IsPageSize}
 use Rattle.sqlite_wal.specs.Recovery.{Image}
-use Rattle.guard_store.specs.declared.opening.NotOpened.{NotOpened}
-use Rattle.guard_store.specs.declared.opening.NotOpened.TheVariants as why
-use Rattle.guard_store.specs.Opened.{told, AreFoundAt, FailsFor, HoldsStoreAt, IsEmptyStore, IsOpenStore, IsUnfinishedAt, IsWantedAt, ListsNothingAt}
+use Rattle.guard_store.specs.declared.fault.StoreFault.{StoreFault}
+use Rattle.guard_store.specs.declared.fault.StoreFault.TheVariants as why
+use Rattle.guard_store.specs.Faults.{told_opening}
+use Rattle.guard_store.specs.Opened.{AreFoundAt, FailsFor, HoldsStoreAt, IsEmptyStore, IsOpenStore, IsUnfinishedAt, IsWantedAt, ListsNothingAt}
 use Rattle.guard_store.specs.StoreFile.{catalog_of, entry_objects, AreSoundIfStore, IsStoreFile, ListEntries, LooksLikeStore}
 
 -- the shapes of the two trees
@@ -79,20 +80,27 @@ can-build = record {
 
 -- a cause of the layer below, where what it refuses is less and its limit is more
 pub cause-told : (old new : ℕ) (L M N P Q : Type 0) (e : OpenError) → (L → M) → (Q → P)
-    → below.FailsToOpen old new L P e → FailsFor old new M N Q (told e)
+    → below.FailsToOpen old new L P e → FailsFor old new M N Q (told_opening e)
 cause-told old new L M N P Q OutOfMemory limit wanted cause = tt
 cause-told old new L M N P Q Io limit wanted cause = cause
 cause-told old new L M N P Q Full limit wanted cause = limit cause
 cause-told old new L M N P Q Refused limit wanted cause = λ q. cause (wanted q)
 
 -- a cause of a later step, where more faults were met and less is wanted
-pub cause-wider : (a b c : ℕ) (L M N O P Q : Type 0) (e : NotOpened) → a ≤ b → (L → M) → (N → O)
+pub cause-wider : (a b c : ℕ) (L M N O P Q : Type 0) (e : StoreFault) → a ≤ b → (L → M) → (N → O)
     → (Q → P) → FailsFor b c L N P e → FailsFor a c M O Q e
 cause-wider a b c L M N O P Q why.NoMemory less limit none wanted cause = tt
 cause-wider a b c L M N O P Q why.Failed less limit none wanted cause = omega (arith, cause)
 cause-wider a b c L M N O P Q why.NoSpace less limit none wanted cause = limit cause
-cause-wider a b c L M N O P Q why.NoStore less limit none wanted cause = none cause
-cause-wider a b c L M N O P Q why.Refused less limit none wanted cause = λ q. cause (wanted q)
+cause-wider a b c L M N O P Q why.CannotOpen less limit none wanted cause = absurd cause
+cause-wider a b c L M N O P Q why.Locked less limit none wanted cause = absurd cause
+cause-wider a b c L M N O P Q why.NoTable less limit none wanted cause = none cause
+cause-wider a b c L M N O P Q why.Schema less limit none wanted cause = λ q. cause (wanted q)
+cause-wider a b c L M N O P Q why.NoDatabase less limit none wanted cause = λ q. cause (wanted q)
+cause-wider a b c L M N O P Q why.Damaged less limit none wanted cause = λ q. cause (wanted q)
+cause-wider a b c L M N O P Q why.TooLarge less limit none wanted cause = absurd cause
+cause-wider a b c L M N O P Q why.Taken less limit none wanted cause = absurd cause
+cause-wider a b c L M N O P Q why.Shut less limit none wanted cause = absurd cause
 
 -- what follows from two or three facts of what is returned
 module _ {T E : Type 0} (P Q : T → Type 0) where

@@ -6,7 +6,7 @@ use Rattle.sqlite_wal.proofs.CleanLemmas.{both_clean}
 use Rattle.guard_store.proofs.TreesLemmas.{clean-files, seen-files, valid-size}
 use Rattle.guard_store.specs.Opened.{AreFoundAt}
 use Rattle.guard_store.specs.StoreFile.{AreSoundIfStore}
-use Rattle.guard_store.proofs.trees.open_some.Goals as goal
+use Rattle.guard_store.proofs.files.open_some.Goals as goal
 
 pub open_found-requires-clause-sized : goal.open_found-requires-clause-sized
 open_found-requires-clause-sized g c =

@@ -8,5 +8,5 @@ returns-in-Ok-clause-opened g c now =
 
 pub returns-in-Err-clause-cause : goal.returns-in-Err-clause-cause
 returns-in-Err-clause-cause g c now =
-    rw c.fault_of.ensures (cause-told _ _ _ _ _ _ _ c.in-Err.error (λ is. is)
+    rw c.fault_of_open.ensures (cause-told _ _ _ _ _ _ _ c.in-Err.error (λ is. is)
     (can-start c.args.files c.requires.schema) (c.in-Err.ensures.cause now))

@@ -7,7 +7,7 @@ use Rattle.guard_store.proofs.opening.open_found.Goals as goal
 -- the list couldn't be read
 pub returns-in-Err-clause-cause : goal.returns-in-Err-clause-cause
 returns-in-Err-clause-cause g c now =
-    rw c.fault_of.ensures (cause-told _ _ _ _ _ _ _ c.in-Err.error
+    rw c.fault_of_open.ensures (cause-told _ _ _ _ _ _ _ c.in-Err.error
     (limit-builds c.read_catalog.new.self) (wanted-some _ _) (c.in-Err.ensures.cause now))
 
 -- it lists nothing

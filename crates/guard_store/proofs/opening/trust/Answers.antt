@@ -8,5 +8,5 @@ returns-in-Ok-clause-opened g c now =
 
 pub returns-in-Err-clause-cause : goal.returns-in-Err-clause-cause
 returns-in-Err-clause-cause g c now =
-    rw c.fault_of.ensures (cause-told _ _ _ _ _ _ _ c.in-Err.error (limit-builds c.in-Err.left)
+    rw c.fault_of_open.ensures (cause-told _ _ _ _ _ _ _ c.in-Err.error (limit-builds c.in-Err.left)
     (λ is. is) (c.in-Err.ensures.cause now))
