@@ -1,6 +1,7 @@
 mod ChangeLemmas
 mod IndexLemmas
 mod KnownLemmas
+mod LetterLemmas
 mod ListLemmas
 mod ListedLemmas
 mod OpenedLemmas

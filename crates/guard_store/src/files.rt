@@ -1,52 +1,26 @@
 //! The trees of a store's files.
 ghost use Rattle.std.specs.Prelude.{◌≡◌, ℕ, IsTrue, IfErr, IfOk};
 ghost use Rattle.sqlite.specs.Files.{image_of, IsBlankAs};
-ghost use Rattle.sqlite_pool.specs.Stored.{used_size};
 ghost use Rattle.sqlite_store.specs.FileStore.{state, view};
-ghost use Rattle.sqlite_store.specs.Unopened.{files_of, state_of, wanted_by};
 ghost use Rattle.sqlite_wal.specs.PageSize.{bytes_of};
 ghost use Rattle.sqlite_wal.specs.Reads.{AreClean};
 ghost use Rattle.guard_store.specs.Found.{AreFound};
 ghost use Rattle.guard_store.specs.Opened.{AreFoundAt, IsEmptyStore, IsOpenStore};
-ghost use Rattle.guard_store.specs.StoreFile.{entry_objects, AreSoundIfStore};
+ghost use Rattle.guard_store.specs.StoreFile.{AreSoundIfStore};
 
-use crate::objects::entry_objects;
 use crate::fault::StoreFault;
-use crate::opening::{make, open_found};
+use crate::objects::TEXT;
+use crate::opening::{make, open_found, unopened};
 use crate::probing::{finds_nothing, finds_size, finds_sums};
 use sqlite::Leftover;
 use sqlite_disk::{Disk, Files};
-use sqlite_pager::{Options, Pager};
-use sqlite_store::{FileStore, Unopened};
+use sqlite_pager::Options;
+use sqlite_store::FileStore;
 use sqlite_wal::PageSize;
-use std::alloc::{AllocFailed, Global};
+use std::alloc::Global;
 
 // The page size of a new file.
 const NEW_SIZE: usize = 4096;
-
-fn unopened<D: Disk>(
-    alloc: Global,
-    files: Files<D>,
-    size: PageSize,
-    options: Options,
-    has_sums: bool,
-) -> Result<Unopened<D>, Files<D>>
-    ensures back { IfErr result (λ left. (left.log ≡ files.log) × (left.db ≡ files.db)) }
-    ensures files { IfOk result (λ it. files_of it ≡ (files.log, files.db)) }
-    ensures size { IfOk result (λ it.
-        (state_of it).page_size ≡ used_size (bytes_of size) has_sums) }
-    ensures schema { IfOk result (λ it. wanted_by it ≡ entry_objects) }
-{
-    let pager = match Pager::new(alloc, files, size, options) {
-        Ok(pager) => pager,
-        Err(AllocFailed { value }) => return Err(value),
-    };
-    let objects = entry_objects();
-    match Unopened::with_sums(alloc, pager, &objects, has_sums) {
-        Ok(fresh) => Ok(fresh),
-        Err(AllocFailed { value }) => Err(value.close()),
-    }
-}
 
 // Makes a store where there is no database yet.
 fn begin<D: Disk>(
@@ -68,7 +42,7 @@ fn begin<D: Disk>(
     ensures empty { IfOk result (λ store. IsTrue (state store).is_clean
         → IsEmptyStore (view store).committed) }
 {
-    let fresh = match unopened(alloc, files, size, options, has_sums) {
+    let fresh = match unopened(alloc, files, size, options, has_sums, TEXT) {
         Ok(fresh) => fresh,
         Err(left) => return Err((StoreFault::NoMemory, Leftover::Files(left))),
     };
@@ -104,13 +78,13 @@ fn open_some<D: Disk>(
         Ok(has_sums) => has_sums,
         Err(why) => return Err((why, Leftover::Files(files))),
     };
-    let fresh = match unopened(alloc, files, size, options, has_sums) {
+    let fresh = match unopened(alloc, files, size, options, has_sums, TEXT) {
         Ok(fresh) => fresh,
         Err(left) => return Err((StoreFault::NoMemory, Leftover::Files(left))),
     };
-    match open_found(fresh, makes) {
+    match open_found(alloc, fresh, size, options, has_sums, makes) {
         Ok(store) => Ok(store),
-        Err((why, left)) => Err((why, Leftover::Unopened(left))),
+        Err((why, left)) => Err((why, left)),
     }
 }
 
