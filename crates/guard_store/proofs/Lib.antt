@@ -1,3 +1,4 @@
+mod AgainLemmas
 mod ChangeLemmas
 mod IndexLemmas
 mod KnownLemmas

@@ -168,10 +168,10 @@ pub fn open_found<D: Disk>(
         if !makes {
             return Err((StoreFault::NoTable, Leftover::Unopened(files)));
         }
-        return match make(files) {
-            Ok(store) => Ok(store),
-            Err((why, left)) => Err((why, Leftover::Unopened(left))),
-        };
+        match make(files) {
+            Ok(store) => return Ok(store),
+            Err((why, left)) => return Err((why, Leftover::Unopened(left))),
+        }
     }
     let Some(text) = entry_text(rows.as_slice()) else {
         return Err((StoreFault::Schema, Leftover::Unopened(files)));
