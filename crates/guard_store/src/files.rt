@@ -1,13 +1,16 @@
-//! The trees of a store's files.
+//! The table of entries in a store's files.
 ghost use Rattle.std.specs.Prelude.{◌≡◌, ℕ, IsTrue, IfErr, IfOk};
 ghost use Rattle.sqlite.specs.Files.{image_of, IsBlankAs};
 ghost use Rattle.sqlite_store.specs.FileStore.{state, view};
 ghost use Rattle.sqlite_wal.specs.PageSize.{bytes_of};
 ghost use Rattle.sqlite_wal.specs.Reads.{AreClean};
+ghost use Rattle.guard_engine.specs.Stores.{IsReady};
 ghost use Rattle.guard_store.specs.Found.{AreFound};
 ghost use Rattle.guard_store.specs.Opened.{AreFoundAt, IsEmptyStore, IsOpenStore};
 ghost use Rattle.guard_store.specs.StoreFile.{AreSoundIfStore};
+ghost use Rattle.guard_store.specs.Trees.{IsKnown, sight_of};
 
+use crate::entry_trees::EntryTrees;
 use crate::fault::StoreFault;
 use crate::objects::TEXT;
 use crate::opening::{make, open_found, unopened};
@@ -88,13 +91,8 @@ fn open_some<D: Disk>(
     }
 }
 
-/// Opens the trees of a store's files, which are sound if they look like a store's. It reads the
-/// header, the free list and the list of objects, and no other page. Where there is no store yet, it
-/// makes one, if that is asked for. Each page of a new file ends in a sum of its bytes.
-///
-/// # Errors
-/// Where the files can't be read or written, or are no store's.
-pub fn open_trees<D: Disk>(
+// Opens the trees of a store's files, or makes a store where there is none yet.
+fn open_trees<D: Disk>(
     alloc: Global,
     mut files: Files<D>,
     options: Options,
@@ -123,4 +121,37 @@ pub fn open_trees<D: Disk>(
         return Err((StoreFault::NoTable, Leftover::Files(files)));
     }
     begin(alloc, files, options, new_size, has_sums)
+}
+
+/// Opens the table of entries in a store's files, which are sound if they look like a store's. It
+/// reads the header, the free list and the list of objects, and no other page. Where there is no
+/// store yet, it makes one, if that is asked for. Each page of a new file ends in a sum of its
+/// bytes.
+///
+/// # Errors
+/// Where the files can't be read or written, or are no store's.
+pub fn open_entries<D: Disk + Drop>(
+    alloc: Global,
+    files: Files<D>,
+    options: Options,
+    makes: bool,
+) -> Result<EntryTrees<FileStore<D>>, StoreFault>
+    requires log { IsTrue (D.Disk.is_usable files.log) }
+    requires db { IsTrue (D.Disk.is_usable files.db) }
+    requires sound { AreClean D.Disk files.log files.db
+        → AreSoundIfStore (image_of D.Disk files) }
+    ensures known { IfOk result (λ table. IsKnown (view table.store)
+        → AreClean D.Disk files.log files.db) }
+    ensures ready { IfOk result (λ table. IsKnown (view table.store)
+        → IsReady (sight_of (view table.store) table.in_batch)) }
+    ensures found { IfOk result (λ table. IsKnown (view table.store)
+        → AreFound (image_of D.Disk files) (view table.store).committed) }
+{
+    match open_trees(alloc, files, options, makes) {
+        Ok(store) => Ok(EntryTrees::over(alloc, store)),
+        Err((why, left)) => {
+            let _files = left.into_files();
+            Err(why)
+        }
+    }
 }

@@ -11,5 +11,5 @@ mod probing;
 
 pub use entry_trees::EntryTrees;
 pub use fault::StoreFault;
-pub use files::open_trees;
+pub use files::open_entries;
 pub use left_start::{Fresh, LeftStart};
