@@ -9,5 +9,6 @@ mod OpenedLemmas
 mod RowLemmas
 mod SeekLemmas
 mod ShownLemmas
+mod StoreFileFacts
 mod TreesFacts
 mod TreesLemmas
