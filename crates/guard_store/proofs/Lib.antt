@@ -1,8 +1,10 @@
+mod AgainLemmas
 mod ChangeLemmas
 mod EntryFacts
 mod IndexFacts
 mod IndexLemmas
 mod KnownLemmas
+mod LetterLemmas
 mod ListLemmas
 mod ListedLemmas
 mod NumberFacts
@@ -10,5 +12,6 @@ mod OpenedLemmas
 mod RowLemmas
 mod SeekLemmas
 mod ShownLemmas
+mod StoreFileFacts
 mod TreesFacts
 mod TreesLemmas

@@ -40,17 +40,26 @@ use Rattle.sqlite_store.specs.declared.store.FileStore.{FileStore}
 use Rattle.sqlite_store.specs.declared.store.open.Unopened.{Unopened}
 use Rattle.sqlite_wal.specs.PageSize.{IsPageSize}
 use Rattle.sqlite_wal.specs.Recovery.{Image}
-use Rattle.guard_store.specs.declared.opening.NotOpened.{NotOpened}
-use Rattle.guard_store.specs.declared.opening.NotOpened.TheVariants as why
-use Rattle.guard_store.specs.Opened.{told, AreFoundAt, FailsFor, HoldsStoreAt, IsEmptyStore, IsOpenStore, IsUnfinishedAt, IsWantedAt, ListsNothingAt}
-use Rattle.guard_store.specs.StoreFile.{catalog_of, entry_objects, AreSoundIfStore, IsStoreFile, ListEntries, LooksLikeStore}
+use Rattle.guard_store.specs.declared.fault.StoreFault.{StoreFault}
+use Rattle.guard_store.specs.declared.fault.StoreFault.TheVariants as why
+use Rattle.guard_store.specs.Faults.{told_opening}
+use Rattle.guard_store.specs.Opened.{AreFoundAt, FailsFor, HoldsStoreAt, HasTableAt, IsEmptyStore, IsEntrySchema, IsOpenStore, IsUnfinishedAt, IsWantedAt, ListsNothingAt}
+use Rattle.guard_store.specs.StoreFile.{catalog_of, entry_objects, entry_sql, table_text, AreSoundIfStore, IsEntryText, IsStoreFile, ListEntries, ListEntriesAs, LooksLikeStore}
 
--- the shapes of the two trees
-table_shape : all_shapes entry_objects 0 ≡ Table
-table_shape = named_shape 0 (omega arith) entry_objects
+-- the shapes of the two trees, whatever text makes the table
+table_shape : (text : List ℕ) → all_shapes (entry_objects text) 0 ≡ Table
+table_shape text = named_shape 0 (omega arith) (entry_objects text)
 
-index_shape : all_shapes entry_objects 1 ≡ Index plain
-index_shape = named_shape 1 (omega arith) entry_objects
+index_shape : (text : List ℕ) → all_shapes (entry_objects text) 1 ≡ Index plain
+index_shape text = named_shape 1 (omega arith) (entry_objects text)
+
+same_shapes : (text : List ℕ) → all_shapes (entry_objects text) ≡ all_shapes (entry_objects entry_sql)
+unfolding all_shapes
+same_shapes text = refl
+
+same_reals : (text : List ℕ) → all_reals (entry_objects text) ≡ all_reals (entry_objects entry_sql)
+unfolding all_reals
+same_reals text = refl
 
 -- a row of the list of objects can be stored
 storable : (kind name table sql : Value) (root : ℕ)
@@ -67,68 +76,74 @@ storable kind name table sql root whole short = record {
 }
 
 -- a database with the table and its index can be built
-pub can-build : CanBuild entry_objects
+pub can-build : CanBuild (entry_objects entry_sql)
 unfolding is_nan lt describes is_about fits_kind is_free_name may_follow same_name begins value_cmp
 can-build = record {
   distinct = refl;
-  shaped = All-from_recursion (λ it. is_plain it.shape ≡ true) entry_objects (refl, (refl, tt));
-  short = All-from_recursion (λ it. (root : ℕ) → IsStorable 0 (listing it root)) entry_objects (
-    λ root. storable _ _ _ _ root (tt, (tt, (tt, (tt, tt)))) (omega arith),
-    (λ root. storable _ _ _ _ root (tt, (tt, (tt, (tt, tt)))) (omega arith), tt),
-  );
+  shaped = All-from_recursion (λ it. is_plain it.shape ≡ true) (entry_objects entry_sql) (refl, (refl, tt));
+  short = All-from_recursion (λ it. (root : ℕ) → IsStorable 0 (listing it root)) (entry_objects entry_sql)
+      (λ root. storable _ _ _ _ root (tt, (tt, (tt, (tt, tt)))) (omega arith),
+      (λ root. storable _ _ _ _ root (tt, (tt, (tt, (tt, tt)))) (omega arith), tt));
 }
 
 -- a cause of the layer below, where what it refuses is less and its limit is more
 pub cause-told : (old new : ℕ) (L M N P Q : Type 0) (e : OpenError) → (L → M) → (Q → P)
-    → below.FailsToOpen old new L P e → FailsFor old new M N Q (told e)
+    → below.FailsToOpen old new L P e → FailsFor old new M N Q (told_opening e)
 cause-told old new L M N P Q OutOfMemory limit wanted cause = tt
 cause-told old new L M N P Q Io limit wanted cause = cause
 cause-told old new L M N P Q Full limit wanted cause = limit cause
 cause-told old new L M N P Q Refused limit wanted cause = λ q. cause (wanted q)
 
 -- a cause of a later step, where more faults were met and less is wanted
-pub cause-wider : (a b c : ℕ) (L M N O P Q : Type 0) (e : NotOpened) → a ≤ b → (L → M) → (N → O)
+pub cause-wider : (a b c : ℕ) (L M N O P Q : Type 0) (e : StoreFault) → a ≤ b → (L → M) → (N → O)
     → (Q → P) → FailsFor b c L N P e → FailsFor a c M O Q e
 cause-wider a b c L M N O P Q why.NoMemory less limit none wanted cause = tt
 cause-wider a b c L M N O P Q why.Failed less limit none wanted cause = omega (arith, cause)
 cause-wider a b c L M N O P Q why.NoSpace less limit none wanted cause = limit cause
-cause-wider a b c L M N O P Q why.NoStore less limit none wanted cause = none cause
-cause-wider a b c L M N O P Q why.Refused less limit none wanted cause = λ q. cause (wanted q)
+cause-wider a b c L M N O P Q why.CannotOpen less limit none wanted cause = absurd cause
+cause-wider a b c L M N O P Q why.Locked less limit none wanted cause = absurd cause
+cause-wider a b c L M N O P Q why.NoTable less limit none wanted cause = none cause
+cause-wider a b c L M N O P Q why.Schema less limit none wanted cause = λ q. cause (wanted q)
+cause-wider a b c L M N O P Q why.NoDatabase less limit none wanted cause = λ q. cause (wanted q)
+cause-wider a b c L M N O P Q why.Damaged less limit none wanted cause = λ q. cause (wanted q)
+cause-wider a b c L M N O P Q why.TooLarge less limit none wanted cause = absurd cause
+cause-wider a b c L M N O P Q why.Taken less limit none wanted cause = absurd cause
+cause-wider a b c L M N O P Q why.Shut less limit none wanted cause = absurd cause
 
--- what follows from two or three facts of what is returned
+-- what follows from two facts of what is returned
 module _ {T E : Type 0} (P Q : T → Type 0) where
   pub ok-both : (R : T → Type 0) (r : Result T E) → ((x : T) → P x → Q x → R x) → IfOk r P
       → IfOk r Q → IfOk r R
   ok-both R (Ok x) so p q = so x p q
   ok-both R (Err e) so p q = tt
 
-  pub ok-three : (R S : T → Type 0) (r : Result T E) → ((x : T) → P x → Q x → R x → S x)
-      → IfOk r P → IfOk r Q → IfOk r R → IfOk r S
-  ok-three R S (Ok x) so p q t = so x p q t
-  ok-three R S (Err e) so p q t = tt
-
-  pub err-both : (R : T → Type 0) (r : Result E T) → ((x : T) → P x → Q x → R x) → IfErr r P
-      → IfErr r Q → IfErr r R
-  err-both R (Ok e) so p q = tt
-  err-both R (Err x) so p q = so x p q
+-- rows with the objects of a store list them
+abbrev pub listed-rows : (text : List ℕ) (rows shown : List Row) → shown ≡ rows
+    → IsEntryText text × ListEntriesAs text shown → ListEntries rows
+listed-rows text rows shown same facts = record {
+  text = text;
+  makes = facts.0;
+  objects = subst (ListEntriesAs text) same facts.1;
+}
 
 -- rows that list the table aren't none
 some-listed : (rows : List Row) → ListEntries rows → rows ≡ [] → ⊥
-some-listed rows listed none = let P = subst ListEntries none listed in cc
+some-listed rows listed none =
+    let same = subst (ListEntriesAs listed.text) none listed.objects in cc
 
 module _ {D : Type 0} {g : Ghosts D} where
   -- a store of the table and its index that was opened just now
-  pub open-ready : (it : FileStore D g) → IsReady it → schema_of it ≡ entry_objects
+  pub open-ready : (it : FileStore D g) → IsReady it → IsEntrySchema (schema_of it)
       → IsTrue (state it).is_clean → IsOpenStore (view it)
   open-ready it ready schema now = record {
     is_open = ready.is_open (no_doubt _ now);
     sound = ready.sound (no_doubt _ now);
     same = ready.clean;
     unmarked = ready.unmarked;
-    table = ap (λ s. all_shapes s 0) schema ∙ table_shape;
-    index = ap (λ s. all_shapes s 1) schema ∙ index_shape;
-    shapes = ap all_shapes schema;
-    reals = ap all_reals schema;
+    table = ap (λ s. all_shapes s 0) schema.1 ∙ table_shape schema.0;
+    index = ap (λ s. all_shapes s 1) schema.1 ∙ index_shape schema.0;
+    shapes = ap all_shapes schema.1 ∙ same_shapes schema.0;
+    reals = ap all_reals schema.1 ∙ same_reals schema.0;
     kept_shapes = ap (λ o. all_shapes (kept_schema o (schema_of it))) ready.unaltered;
     kept_reals = ap (λ o. all_reals (kept_schema o (schema_of it))) ready.unaltered;
   }
@@ -138,7 +153,7 @@ module _ {D : Type 0} {g : Ghosts D} where
   limit-builds it full = ∥∥₁_map full (λ is. inl is)
 
   -- files with no object yet can get the table
-  pub can-start : (it : Unopened D g) → wanted_by it ≡ entry_objects → IsUnstarted it
+  pub can-start : (it : Unopened D g) → wanted_by it ≡ entry_objects entry_sql → IsUnstarted it
       → CanCreate it
   can-start it schema files = record {
     few = rw schema (omega arith);
@@ -150,7 +165,7 @@ module _ (size : ℕ) (left : Image) where
   -- what is wanted is some database
   pub wanted-some : IsWantedAt size left
       → (pages : PageMap) × Recovers size left pages × ((schema : List Wanted) × IsFile size schema pages)
-  wanted-some (inl held) = (held.1.pages, held.1.found, (entry_objects, held.1.store.file))
+  wanted-some (inl held) = (held.1.pages, held.1.found, (entry_objects (table_text held.1.looks), held.1.store.file))
   wanted-some (inr begun) = (begun.0, begun.1, ([], begun.2.0))
 
   -- files that list the table hold a store, if they hold what is wanted
@@ -188,16 +203,24 @@ module _ {D : Type 0} {g : Ghosts D} (old new : Unopened D g) (rows : List Row)
   -- files that list the table look like a store's
   looks-read : IsPageSize (stored_size size-read) → ListEntries rows
       → LooksLikeStore size-read read.pages
-  looks-read valid listed =
-      record { sized = valid; sound = sound-read; listed = subst ListEntries read.lists listed }
+  looks-read valid listed = record {
+    sized = valid;
+    sound = sound-read;
+    listed = record {
+      text = listed.text;
+      makes = listed.makes;
+      objects = subst (ListEntriesAs listed.text) read.lists listed.objects;
+    };
+  }
 
   -- so they are sound
-  pub file-read : IsPageSize (stored_size size-read) → ListEntries rows
-      → AreSoundIfStore (image old) → wanted_by new ≡ entry_objects → HasFile new
-  unfolding AreSoundIfStore
-  file-read valid listed law schema =
+  pub file-read : IsPageSize (stored_size size-read) → (listed : ListEntries rows)
+      → AreSoundIfStore (image old)
+      → HasTableAt (state_of new).page_size (image new) listed.text
+  unfolding AreSoundIfStore looks-read
+  file-read valid listed law =
       let store = law size-read read.pages read.found (looks-read valid listed) in
-      rw (sized, schema) (read.pages, read.again, store.file)
+      rw sized (read.pages, read.again, store.file)
 
   -- the pages that are found again are those that the files held
   same-read : (pages : PageMap) → Recovers (state_of new).page_size (image new) pages
@@ -207,12 +230,12 @@ module _ {D : Type 0} {g : Ghosts D} (old new : Unopened D g) (rows : List Row)
       (subst (λ n. Recovers n (image new) pages) sized found)
 
   -- what a store of theirs shows is what they held
-  pub holds-read : IsPageSize (stored_size size-read) → ListEntries rows
+  pub holds-read : IsPageSize (stored_size size-read) → (listed : ListEntries rows)
       → AreSoundIfStore (image old) → (pages : PageMap) (db : Trees)
       → Recovers (state_of new).page_size (image new) pages
-      → db ≡ file_trees (state_of new).page_size entry_objects pages
+      → db ≡ file_trees (state_of new).page_size (entry_objects listed.text) pages
       → HoldsStoreAt size-read (image old) db
-  unfolding AreSoundIfStore
+  unfolding AreSoundIfStore looks-read
   holds-read valid listed law pages db found reads =
       let looks = looks-read valid listed in
       record {
@@ -220,7 +243,7 @@ module _ {D : Type 0} {g : Ghosts D} (old new : Unopened D g) (rows : List Row)
         found = read.found;
         looks = looks;
         store = law size-read read.pages read.found looks;
-        reads = reads ∙ ap₂ (λ n p. file_trees n entry_objects p) sized (sym (same-read pages found));
+        reads = reads ∙ ap₂ (λ n p. file_trees n (entry_objects listed.text) p) sized (sym (same-read pages found));
       }
 
   -- files in which a store can still be begun were begun before
@@ -231,8 +254,8 @@ module _ {D : Type 0} {g : Ghosts D} (old new : Unopened D g) (rows : List Row)
       let large : 504 ≤ size-read = omega (arith, valid.0) in
       ∥∥₁_elim started ∥∥₁_prop (λ is. ∥∥₁_map sound-read (λ sound. elim is [
         | inl blank ↦ absurd (not_blank size-read (image new) read.pages
-            (adopts_of size-read (image new) read.pages read.again) large sound
-            (state_of new).page_size (rw sized (omega arith)) blank)
+          (adopts_of size-read (image new) read.pages read.again) large sound
+          (state_of new).page_size (rw sized (omega arith)) blank)
         | inr begun ↦
             let same = same-read begun.0 begun.1 in
             (read.pages, read.found, subst₂ below.IsEmptyFile sized (sym same) begun.2)
@@ -241,11 +264,8 @@ module _ {D : Type 0} {g : Ghosts D} (old new : Unopened D g) (rows : List Row)
   -- files that list nothing can get the table, if they hold what is wanted
   pub start-read : IsWantedAt size-read (image old) → rows ≡ [] → IsUnstarted new
   start-read wanted none =
-      inr (
-        read.pages,
-        rw sized read.again,
-        rw sized (wanted-begun size-read (image old) read.pages read.found wanted (sym read.lists ∙ none)),
-      )
+      inr (read.pages, rw sized read.again,
+      rw sized (wanted-begun size-read (image old) read.pages read.found wanted (sym read.lists ∙ none)))
 
   -- files that list something else hold nothing that is wanted
   pub other-read : IsWantedAt size-read (image old) → (rows ≡ [] → ⊥) → ListEntries rows

@@ -1,52 +1,29 @@
-//! The trees of a store's files.
+//! The table of entries in a store's files.
 ghost use Rattle.std.specs.Prelude.{◌≡◌, ℕ, IsTrue, IfErr, IfOk};
 ghost use Rattle.sqlite.specs.Files.{image_of, IsBlankAs};
-ghost use Rattle.sqlite_pool.specs.Stored.{used_size};
 ghost use Rattle.sqlite_store.specs.FileStore.{state, view};
-ghost use Rattle.sqlite_store.specs.Unopened.{files_of, state_of, wanted_by};
 ghost use Rattle.sqlite_wal.specs.PageSize.{bytes_of};
 ghost use Rattle.sqlite_wal.specs.Reads.{AreClean};
+ghost use Rattle.guard_engine.specs.Stores.{IsReady};
 ghost use Rattle.guard_store.specs.Found.{AreFound};
 ghost use Rattle.guard_store.specs.Opened.{AreFoundAt, IsEmptyStore, IsOpenStore};
-ghost use Rattle.guard_store.specs.StoreFile.{entry_objects, AreSoundIfStore};
+ghost use Rattle.guard_store.specs.StoreFile.{AreSoundIfStore};
+ghost use Rattle.guard_store.specs.Trees.{IsKnown, sight_of};
 
+use crate::entry_trees::EntryTrees;
 use crate::fault::StoreFault;
-use crate::objects::entry_objects;
-use crate::opening::{make, open_found};
+use crate::objects::TEXT;
+use crate::opening::{make, open_found, unopened};
 use crate::probing::{finds_nothing, finds_size, finds_sums};
 use sqlite::Leftover;
 use sqlite_disk::{Disk, Files};
-use sqlite_pager::{Options, Pager};
-use sqlite_store::{FileStore, Unopened};
+use sqlite_pager::Options;
+use sqlite_store::FileStore;
 use sqlite_wal::PageSize;
-use std::alloc::{AllocFailed, Global};
+use std::alloc::Global;
 
 // The page size of a new file.
 const NEW_SIZE: usize = 4096;
-
-fn unopened<D: Disk>(
-    alloc: Global,
-    files: Files<D>,
-    size: PageSize,
-    options: Options,
-    has_sums: bool,
-) -> Result<Unopened<D>, Files<D>>
-    ensures back { IfErr result (λ left. (left.log ≡ files.log) × (left.db ≡ files.db)) }
-    ensures files { IfOk result (λ it. files_of it ≡ (files.log, files.db)) }
-    ensures size { IfOk result (λ it.
-        (state_of it).page_size ≡ used_size (bytes_of size) has_sums) }
-    ensures schema { IfOk result (λ it. wanted_by it ≡ entry_objects) }
-{
-    let pager = match Pager::new(alloc, files, size, options) {
-        Ok(pager) => pager,
-        Err(AllocFailed { value }) => return Err(value),
-    };
-    let objects = entry_objects();
-    match Unopened::with_sums(alloc, pager, &objects, has_sums) {
-        Ok(fresh) => Ok(fresh),
-        Err(AllocFailed { value }) => Err(value.close()),
-    }
-}
 
 // Makes a store where there is no database yet.
 fn begin<D: Disk>(
@@ -68,7 +45,7 @@ fn begin<D: Disk>(
     ensures empty { IfOk result (λ store. IsTrue (state store).is_clean
         → IsEmptyStore (view store).committed) }
 {
-    let fresh = match unopened(alloc, files, size, options, has_sums) {
+    let fresh = match unopened(alloc, files, size, options, has_sums, TEXT) {
         Ok(fresh) => fresh,
         Err(left) => return Err((StoreFault::NoMemory, Leftover::Files(left))),
     };
@@ -104,23 +81,18 @@ fn open_some<D: Disk>(
         Ok(has_sums) => has_sums,
         Err(why) => return Err((why, Leftover::Files(files))),
     };
-    let fresh = match unopened(alloc, files, size, options, has_sums) {
+    let fresh = match unopened(alloc, files, size, options, has_sums, TEXT) {
         Ok(fresh) => fresh,
         Err(left) => return Err((StoreFault::NoMemory, Leftover::Files(left))),
     };
-    match open_found(fresh, makes) {
+    match open_found(alloc, fresh, size, options, has_sums, makes) {
         Ok(store) => Ok(store),
-        Err((why, left)) => Err((why, Leftover::Unopened(left))),
+        Err((why, left)) => Err((why, left)),
     }
 }
 
-/// Opens the trees of a store's files, which are sound if they look like a store's. It reads the
-/// header, the free list and the list of objects, and no other page. Where there is no store yet, it
-/// makes one, if that is asked for. Each page of a new file ends in a sum of its bytes.
-///
-/// # Errors
-/// Where the files can't be read or written, or are no store's.
-pub fn open_trees<D: Disk>(
+// Opens the trees of a store's files, or makes a store where there is none yet.
+fn open_trees<D: Disk>(
     alloc: Global,
     mut files: Files<D>,
     options: Options,
@@ -149,4 +121,37 @@ pub fn open_trees<D: Disk>(
         return Err((StoreFault::NoTable, Leftover::Files(files)));
     }
     begin(alloc, files, options, new_size, has_sums)
+}
+
+/// Opens the table of entries in a store's files, which are sound if they look like a store's. It
+/// reads the header, the free list and the list of objects, and no other page. Where there is no
+/// store yet, it makes one, if that is asked for. Each page of a new file ends in a sum of its
+/// bytes.
+///
+/// # Errors
+/// Where the files can't be read or written, or are no store's.
+pub fn open_entries<D: Disk + Drop>(
+    alloc: Global,
+    files: Files<D>,
+    options: Options,
+    makes: bool,
+) -> Result<EntryTrees<FileStore<D>>, StoreFault>
+    requires log { IsTrue (D.Disk.is_usable files.log) }
+    requires db { IsTrue (D.Disk.is_usable files.db) }
+    requires sound { AreClean D.Disk files.log files.db
+        → AreSoundIfStore (image_of D.Disk files) }
+    ensures known { IfOk result (λ table. IsKnown (view table.store)
+        → AreClean D.Disk files.log files.db) }
+    ensures ready { IfOk result (λ table. IsKnown (view table.store)
+        → IsReady (sight_of (view table.store) table.in_batch)) }
+    ensures found { IfOk result (λ table. IsKnown (view table.store)
+        → AreFound (image_of D.Disk files) (view table.store).committed) }
+{
+    match open_trees(alloc, files, options, makes) {
+        Ok(store) => Ok(EntryTrees::over(alloc, store)),
+        Err((why, left)) => {
+            let _files = left.into_files();
+            Err(why)
+        }
+    }
 }

@@ -1,9 +1,9 @@
 //! The table of entries and its index, as the list of a file's objects has them.
-ghost use Rattle.std.specs.Prelude.{◌≡◌, ◌↔◌, [], map, IsTrue};
+ghost use Rattle.std.specs.Prelude.{◌≡◌, ◌≢◌, ◌↔◌, ℕ, List, [], map, IsTrue, MatchOption};
 ghost use Rattle.sqlite_store.specs.Catalog.{wanted_of};
 ghost use Rattle.sqlite_value.specs.declared.value.Value.TheVariants.{Null, Text};
 ghost use Rattle.sqlite_value.specs.Order.{column};
-ghost use Rattle.guard_store.specs.StoreFile.{entry_objects, index_object, object_of, table_object, ListEntries};
+ghost use Rattle.guard_store.specs.StoreFile.{entry_objects, entry_sql, index_object, is_letter, letters, object_of, table_object, IsEntryText, ListEntries, ListEntriesAs};
 
 use sqlite_trees::schema::Object;
 use sqlite_trees::store::Shape;
@@ -12,12 +12,17 @@ use sqlite_value::order::is_same;
 use sqlite_value::row::Row;
 use sqlite_value::value::ValueRef;
 
-const TEXT: &str = "CREATE TABLE entry (id INTEGER PRIMARY KEY, name TEXT NOT NULL UNIQUE, \
+/// The text that makes the table of entries, as a new store has it.
+pub const TEXT: &str = "CREATE TABLE entry (id INTEGER PRIMARY KEY, name TEXT NOT NULL UNIQUE, \
                     value TEXT NOT NULL) STRICT";
 
-/// The table of entries, which is tree 0, and the index of its names, which is tree 1.
-pub fn entry_objects() -> [Object<'static>; 2]
-    ensures { map wanted_of result ≡ entry_objects }
+// The same in small letters, without white space and double quotes.
+const LETTERS: &[u8] = b"createtableentry(idintegerprimarykey,nametextnotnullunique,\
+                         valuetextnotnull)strict";
+
+/// The table of entries that a text makes, which is tree 0, and the index of its names, tree 1.
+pub fn entry_objects(text: &str) -> [Object<'_>; 2]
+    ensures { map wanted_of result ≡ entry_objects text.now }
 {
     [
         Object {
@@ -26,7 +31,7 @@ pub fn entry_objects() -> [Object<'static>; 2]
             name: "entry",
             table: "entry",
             reals: 0,
-            sql: Some(TEXT),
+            sql: Some(text),
         },
         Object {
             shape: Shape::Index(Order::PLAIN),
@@ -46,14 +51,55 @@ fn has_text(row: &Row, at: usize, text: &[u8]) -> bool
     is_same(row.get(at), ValueRef::Text(text))
 }
 
-// Whether a row of the list is the table of entries.
-fn is_table_row(row: &Row) -> bool
-    ensures { IsTrue result ↔ (object_of row.now ≡ table_object.row) }
+// Whether a byte is neither white space nor a double quote.
+fn is_letter(byte: u8) -> bool
+    ensures { result ≡ is_letter byte }
 {
-    has_text(row, 1, b"table")
-        & has_text(row, 2, b"entry")
-        & has_text(row, 3, b"entry")
-        & has_text(row, 5, TEXT.as_bytes())
+    !matches!(byte, b'\t' | b'\n' | 12 | b'\r' | b' ' | b'"')
+}
+
+// Whether these are the small letters of a text.
+fn has_letters(text: &[u8], wanted: &[u8]) -> bool
+    ensures { IsTrue result ↔ (letters text.now ≡ wanted.now) }
+{
+    let mut at = 0;
+    'bytes: for byte in text {
+        if !is_letter(*byte) {
+            continue;
+        }
+        if at >= wanted.len() || wanted[at] != byte.to_ascii_lowercase() {
+            return false;
+        }
+        at += 1;
+    }
+    at == wanted.len()
+}
+
+// Whether a text makes the table of entries: SQLite keeps it as its user wrote it.
+fn is_entry_text(text: &[u8]) -> bool
+    ensures { IsTrue result ↔ IsEntryText text.now }
+{
+    has_letters(text, LETTERS)
+}
+
+// The text of a row of the list, if the row is the table of entries.
+fn table_text(row: &Row) -> Option<&str>
+    ensures { MatchOption result
+        ((text : List ℕ) → IsEntryText text → object_of row.now ≢ (table_object text).row)
+        (λ text. IsEntryText text.now × (object_of row.now ≡ (table_object text.now).row)) }
+{
+    let is_table =
+        has_text(row, 1, b"table") & has_text(row, 2, b"entry") & has_text(row, 3, b"entry");
+    let ValueRef::Text(text) = row.get(5) else {
+        return None;
+    };
+    if !(is_table & is_entry_text(text)) {
+        return None;
+    }
+    let Ok(text) = std::str::from_utf8(text) else {
+        unreachable!();
+    };
+    Some(text)
 }
 
 // Whether a row of the list is the index of the names.
@@ -73,12 +119,14 @@ pub fn list_nothing(rows: &[Row]) -> bool
     rows.is_empty()
 }
 
-/// Whether the list has the table of entries and its index, and nothing else.
-pub fn list_entries(rows: &[Row]) -> bool
-    ensures { IsTrue result ↔ ListEntries rows.now }
+/// The text that makes the table, if the list has the table of entries and its index, and nothing
+/// else.
+pub fn entry_text(rows: &[Row]) -> Option<&str>
+    ensures { MatchOption result (¬ ListEntries rows.now)
+        (λ text. IsEntryText text.now × ListEntriesAs text.now rows.now) }
 {
     match rows {
-        [table, index] => is_table_row(table) & is_index_row(index),
-        _ => false,
+        [table, index] if is_index_row(index) => table_text(table),
+        _ => None,
     }
 }

@@ -1,6 +1,6 @@
 use Rattle.std.proofs.Common.{inl, sym, subst₂}
 use Rattle.guard_store.proofs.TreesLemmas.{clean-files}
-use Rattle.guard_store.proofs.trees.begin.Goals as goal
+use Rattle.guard_store.proofs.files.begin.Goals as goal
 
 pub returns-in-Ok-make-clause-honest : goal.returns-in-Ok-make-clause-honest
 returns-in-Ok-make-clause-honest g c now =

@@ -3,14 +3,10 @@ use Rattle.sqlite.proofs.FileLemmas.{reads_then, same_image}
 use Rattle.sqlite_store.specs.FileStore.{view}
 use Rattle.sqlite_store.specs.Unopened.{state_of}
 use Rattle.sqlite_wal.proofs.CleanLemmas.{both_clean}
-use Rattle.guard_store.proofs.TreesLemmas.{clean-files, seen-files, valid-size}
+use Rattle.guard_store.proofs.TreesLemmas.{clean-files, seen-files}
 use Rattle.guard_store.specs.Opened.{AreFoundAt}
 use Rattle.guard_store.specs.StoreFile.{AreSoundIfStore}
-use Rattle.guard_store.proofs.trees.open_some.Goals as goal
-
-pub open_found-requires-clause-sized : goal.open_found-requires-clause-sized
-open_found-requires-clause-sized g c =
-    valid-size c.in-Ok.size c.in-Ok-finds_sums.has_sums _ c.in-Ok-unopened.ensures.size
+use Rattle.guard_store.proofs.files.open_some.Goals as goal
 
 pub open_found-requires-clause-sound : goal.open_found-requires-clause-sound
 open_found-requires-clause-sound g c still =

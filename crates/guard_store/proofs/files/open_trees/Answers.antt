@@ -8,7 +8,7 @@ use Rattle.guard_store.proofs.OpenedLemmas.{ok-both}
 use Rattle.guard_store.proofs.TreesLemmas.{found-none, found-some}
 use Rattle.guard_store.specs.Opened.{AreFoundAt}
 use Rattle.guard_store.specs.StoreFile.{AreSoundIfStore}
-use Rattle.guard_store.proofs.trees.open_trees.Goals as goal
+use Rattle.guard_store.proofs.files.open_trees.Goals as goal
 
 -- a database is there
 pub open_some-requires-clause-sound : goal.open_some-requires-clause-sound

@@ -1,0 +1,26 @@
+use Rattle.std.proofs.Common.{sym, subst, ◌∙◌}
+use Rattle.sqlite.specs.Files.{image_of}
+use Rattle.sqlite_store.specs.FileStore.{view}
+use Rattle.guard_store.proofs.TreesLemmas.{entries-found, known-clean, trees-open}
+use Rattle.guard_store.specs.Found.{AreFound}
+use Rattle.guard_store.specs.Trees.{IsKnown, HasTrees}
+use Rattle.guard_store.proofs.files.open_entries.Goals as goal
+
+pub returns-in-Ok-clause-known : goal.returns-in-Ok-clause-known
+returns-in-Ok-clause-known g c known =
+    let first = subst (λ s. IsKnown (view s)) c.over.ensures.same known in
+    c.in-Ok.ensures.honest (known-clean _ first.0)
+
+pub returns-in-Ok-clause-ready : goal.returns-in-Ok-clause-ready
+returns-in-Ok-clause-ready g c known =
+    let e = c.in-Ok.ensures in
+    let first = subst (λ s. IsKnown (view s)) c.over.ensures.same known in
+    let clean = known-clean _ first.0 in
+    c.over.ensures.ready (trees-open (view c.in-Ok.store) (e.opened clean)
+    (entries-found (image_of g.D.Disk c.args.files) _ (e.found clean)))
+
+pub returns-in-Ok-clause-found : goal.returns-in-Ok-clause-found
+returns-in-Ok-clause-found g c known =
+    let first = subst (λ s. IsKnown (view s)) c.over.ensures.same known in
+    subst (λ s. AreFound (image_of g.D.Disk c.args.files) (view s).committed)
+    (sym c.over.ensures.same) (c.in-Ok.ensures.found (known-clean _ first.0))
