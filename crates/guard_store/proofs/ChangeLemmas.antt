@@ -141,12 +141,12 @@ module _ (old new : View) (name : List ℕ) (id : ℤ) (row : Row) (fit : HasTre
         let there = to_in before has.0 has.1 in (
           has.0,
           from_in after has.0 (other_left id before has.0 there
-          (elim (cases_Bool (has_rowid id has.0)) [
-            | inl is ↦ absurd (both.1 (
-                let is_row = only_row id before row has.0 of_name.only there is in
-                let named = sym has.2 ∙ ap (λ r. column r 2) is_row ∙ of_name.named in cc))
-            | inr other ↦ other
-          ])),
+              (elim (cases_Bool (has_rowid id has.0)) [
+                | inl is ↦ absurd (both.1 (
+                    let is_row = only_row id before row has.0 of_name.only there is in
+                    let named = sym has.2 ∙ ap (λ r. column r 2) is_row ∙ of_name.named in cc))
+                | inr other ↦ other
+              ])),
           has.2,
           has.3,
         ),

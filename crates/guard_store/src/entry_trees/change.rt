@@ -9,8 +9,8 @@ ghost use Rattle.guard_engine.specs.Stores.{Adds, Removes};
 ghost use Rattle.guard_store.specs.Entry.{stored};
 ghost use Rattle.guard_store.specs.Trees.{HasShape, HasTrees, IsKnown, LacksName, SetsBoth, sight_of};
 
-use crate::fault::StoreFault;
 use crate::entry_trees::find::find_row;
+use crate::fault::StoreFault;
 use sqlite_exec::write;
 use sqlite_trees::error::StoreError;
 use sqlite_trees::store::Store;

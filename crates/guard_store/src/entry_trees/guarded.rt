@@ -1,9 +1,9 @@
 //! The store over numbered trees, as a guard calls it.
 use crate::entry_trees::EntryTrees;
 use crate::entry_trees::change::{add_row, remove_row};
-use crate::fault::StoreFault;
 use crate::entry_trees::find::find_value;
 use crate::entry_trees::list::list_names;
+use crate::fault::StoreFault;
 use sqlite_trees::error::StoreError;
 use sqlite_trees::store::Store;
 

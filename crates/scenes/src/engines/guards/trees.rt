@@ -7,8 +7,7 @@ use guard_engine::Store;
 use guard_store::{EntryTrees, StoreFault, number_store};
 use sqlite_trees::memory::MemStore;
 use sqlite_trees::schema::Object;
-use sqlite_trees::store::{Alter, Shape};
-use sqlite_trees::store::Store as _;
+use sqlite_trees::store::{Alter, Shape, Store as _};
 use sqlite_value::keys::Order;
 use std::alloc::Global;
 
@@ -78,7 +77,11 @@ const fn object_of(shape: Shape, kind: &'static str, name: &'static str) -> Obje
 fn shelf_of(alloc: Global) -> Option<Shelf> {
     let objects = [
         object_of(Shape::Table, "table", "entry"),
-        object_of(Shape::Index(Order::PLAIN), "index", "sqlite_autoindex_entry_1"),
+        object_of(
+            Shape::Index(Order::PLAIN),
+            "index",
+            "sqlite_autoindex_entry_1",
+        ),
     ];
     let Ok(store) = MemStore::new(alloc, &objects) else {
         return None;
@@ -101,12 +104,17 @@ type Pairs = &'static [(&'static str, &'static str)];
 
 const NOTHING: Pairs = &[];
 
+const ONE: Pairs = &[("crab", "red")];
+
+const FIRST: Pairs = &[("crab", "red"), ("", "blue")];
+
+const LAST: Pairs = &[("", "blue"), ("ants", "black")];
+
 const THREE: Pairs = &[("crab", "red"), ("", "blue"), ("ants", "black")];
 
-const TWO: Pairs = &[("crab", "red"), ("ants", "black")];
+const OUTER: Pairs = &[("crab", "red"), ("ants", "black")];
 
-// The row of a number that is free below the last one stays free.
-const ANOTHER: Pairs = &[("crab", "red"), ("ants", "black"), ("", "pink")];
+const CHANGED: Pairs = &[("crab", "red"), ("ants", "black"), ("", "pink")];
 
 // Calls one after the other on an empty table, the error of each if there is one, and the entries
 // after it, in the order in which they came.
@@ -115,26 +123,26 @@ const CALLS: &'static [(Call, Option<StoreFault>, Pairs)] = &[
     (Call::Add("crab", "red"), Some(StoreFault::Shut), NOTHING),
     (Call::Remove("crab"), Some(StoreFault::Shut), NOTHING),
     (Call::Begin, None, NOTHING),
-    (Call::Add("crab", "red"), None, &[("crab", "red")]),
-    (Call::Add("", "blue"), None, &[("crab", "red"), ("", "blue")]),
+    (Call::Add("crab", "red"), None, ONE),
+    (Call::Add("", "blue"), None, FIRST),
     (Call::Add("ants", "black"), None, THREE),
     (Call::Commit, None, THREE),
     (Call::Add("bass", "pink"), Some(StoreFault::Shut), THREE),
     // A batch that is taken back.
     (Call::Begin, None, THREE),
-    (Call::Remove("crab"), None, &[("", "blue"), ("ants", "black")]),
-    (Call::Remove("cra"), None, &[("", "blue"), ("ants", "black")]),
+    (Call::Remove("crab"), None, LAST),
+    (Call::Remove("cra"), None, LAST),
     (Call::RollBack, None, THREE),
     // A taken key takes the batch back.
     (Call::Begin, None, THREE),
-    (Call::Remove("ants"), None, &[("crab", "red"), ("", "blue")]),
+    (Call::Remove("ants"), None, FIRST),
     (Call::Add("crab", "pink"), Some(StoreFault::Taken), THREE),
     (Call::Remove("ants"), Some(StoreFault::Shut), THREE),
     // A key that was removed may be added again.
     (Call::Begin, None, THREE),
-    (Call::Remove(""), None, TWO),
-    (Call::Add("", "pink"), None, ANOTHER),
-    (Call::Commit, None, ANOTHER),
+    (Call::Remove(""), None, OUTER),
+    (Call::Add("", "pink"), None, CHANGED),
+    (Call::Commit, None, CHANGED),
 ];
 
 const KEYS: &'static [&'static str] = &["crab", "", "ants", "cra", "zander"];
@@ -206,9 +214,7 @@ fn the_keys_are_listed_in_the_order_of_the_index(rt: HostRuntime) {
     for key in KEYS {
         assert!(rt; shelf.add(key, "").is_ok());
     }
-    let Ok(keys) = shelf.keys() else {
-        panic!(rt)
-    };
+    let Ok(keys) = shelf.keys() else { panic!(rt) };
     let sorted = ["", "ants", "cra", "crab", "zander"];
     assert!(rt; keys.len() == sorted.len());
     for (key, wanted) in keys.iter().zip(sorted.iter()) {
@@ -238,7 +244,10 @@ const TEXTS: &'static [(StoreFault, &'static str)] = &[
     (StoreFault::Failed, "disk I/O error"),
     (StoreFault::NoSpace, "database or disk is full"),
     (StoreFault::CannotOpen, "unable to open database file"),
-    (StoreFault::Locked, "it is locked: another process has it open"),
+    (
+        StoreFault::Locked,
+        "it is locked: another process has it open",
+    ),
     (StoreFault::NoTable, "it has no table of entries"),
     (StoreFault::Schema, "it has another schema than a store's"),
     (StoreFault::NoDatabase, "file is not a database"),
