@@ -1,8 +1,9 @@
 //! The table of entries over trees in memory. No clause says that a call of it succeeds, nor which
 //! error it returns.
 mod guarded;
+mod texts;
 
-use crate::telling::{has_text, tell_row};
+use crate::telling::tell_row;
 use guard_engine::Store;
 use guard_store::{EntryTrees, StoreFault, number_store};
 use sqlite_trees::memory::MemStore;
@@ -236,30 +237,4 @@ fn a_store_is_numbered_once(rt: HostRuntime) {
     // The number is committed.
     store.rollback();
     assert!(rt; store.version() == 7);
-}
-
-// What a user reads of each fault.
-const TEXTS: &'static [(StoreFault, &'static str)] = &[
-    (StoreFault::NoMemory, "out of memory"),
-    (StoreFault::Failed, "disk I/O error"),
-    (StoreFault::NoSpace, "database or disk is full"),
-    (StoreFault::CannotOpen, "unable to open database file"),
-    (
-        StoreFault::Locked,
-        "it is locked: another process has it open",
-    ),
-    (StoreFault::NoTable, "it has no table of entries"),
-    (StoreFault::Schema, "it has another schema than a store's"),
-    (StoreFault::NoDatabase, "file is not a database"),
-    (StoreFault::Damaged, "database disk image is malformed"),
-    (StoreFault::TooLarge, "string or blob too big"),
-    (StoreFault::Taken, "the key has a value already"),
-    (StoreFault::Shut, "the store is shut"),
-];
-
-#[test]
-fn each_fault_of_a_store_has_its_text(rt: HostRuntime) {
-    for (i, (fault, text)) in TEXTS.iter().enumerate() {
-        assert!(rt; tell_row(&rt, i, has_text(rt.alloc(), fault, text)));
-    }
 }
