@@ -1,6 +1,7 @@
 //! How often a guard asks its store for a value. A clause says what the guard counts, and none what
 //! its store is asked.
 mod failing;
+mod trees;
 
 use crate::telling::{has_text, tell_row};
 use bloom_plain::{FilterError, Rate};

@@ -2,9 +2,9 @@ use Rattle.guard_store.proofs.KnownLemmas.{stays_ready}
 use Rattle.guard_store.proofs.settling.settle_log.Goals as goal
 
 pub returns-in_err-checkpoint-clause-kept : goal.returns-in_err-checkpoint-clause-kept
-returns-in_err-checkpoint-clause-kept g c = λ ready known.
-    stays_ready _ _ _ (c.checkpoint.ensures.same known.1) ready
+returns-in_err-checkpoint-clause-kept g c =
+    stays_ready _ _ _ c.checkpoint.ensures.same
 
 pub returns-clause-kept : goal.returns-clause-kept
-returns-clause-kept g c = λ ready known.
-    stays_ready _ _ _ (c.checkpoint.ensures.same known.1) ready
+returns-clause-kept g c =
+    stays_ready _ _ _ c.checkpoint.ensures.same
