@@ -39,7 +39,7 @@ hold-one held =
 -- a hash isn't both in a filter and out of it
 in-out : (filter : DefaultFilter) (hash : ℕ) → contains filter hash ≡ true
     → contains filter hash ≡ false → ⊥
-in-out filter hash is no = cc
+in-out filter hash is lacks = cc
 
 -- a filter that may be found and lacks a key doesn't cover what has it
 covers-less : (start : Start) (filter : DefaultFilter) → MayHave (sight_of start []) filter

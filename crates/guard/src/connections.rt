@@ -1,7 +1,8 @@
 //! The files of a store, as they are opened and closed.
 ghost use Rattle.std.specs.Prelude.{◌≡◌, ◌↔◌, IfOk};
 ghost use Rattle.guard_engine.specs.Guarded.{Stays};
-ghost use Rattle.guard_engine.specs.Stores.{IsReady};
+ghost use Rattle.sqlite_store.specs.FileStore.{view};
+ghost use Rattle.guard_engine.specs.Stores.{IsReady, TakesBack};
 ghost use Rattle.guard_store.specs.Trees.{IsKnown, sight_of};
 
 use crate::drawing::{drawn_number, drawn_seed};
@@ -10,6 +11,7 @@ use crate::locks::{close_gate, fault_of_kind, lock_alone};
 use crate::names::Names;
 use guard_parts::store_number;
 use guard_store::{EntryTrees, StoreFault, number_store, open_left, settle_log};
+use sqlite_disk::Disk;
 use sqlite_std_file::{FileFrom, OpenError};
 use sqlite_store::FileStore;
 use sqlite_trees::store::Store;
@@ -95,12 +97,18 @@ fn makes_log(rt: &HostRuntime, names: &Names) -> bool {
 }
 
 // Gives a store that has no number one, and copies the log into its file, where look-ups read the
-// number.
-fn give_number<W: Left>(
+// number. No entry changes.
+fn give_number<D: Disk + Drop>(
     rt: &HostRuntime,
     names: &Names,
-    table: &mut EntryTrees<FileStore<FileFrom<W::Files>>>,
-) -> Result<(), StoreFault> {
+    table: &mut EntryTrees<FileStore<D>>,
+) -> Result<(), StoreFault>
+    ensures known { IsKnown (view table.new.store) → IsKnown (view table.old.store) }
+    ensures kept { IsReady (sight_of (view table.old.store) table.old.in_batch)
+        → IsKnown (view table.new.store) → TakesBack
+        (sight_of (view table.old.store) table.old.in_batch)
+        (sight_of (view table.new.store) table.new.in_batch) }
+{
     if store_number(rt, names.store.as_str()) != Ok(0) {
         return Ok(());
     }
@@ -133,7 +141,7 @@ impl<W: Left> Connector for OnDisk<W> {
         match open_left(rt.alloc(), files, drawn_seed(rt)?, makes) {
             Ok(mut table) => {
                 if access != Access::Read {
-                    give_number::<W>(rt, names, &mut table)?;
+                    give_number(rt, names, &mut table)?;
                 }
                 Ok((table, lock))
             }

@@ -16,7 +16,7 @@ pub trait Left: World {
     /// What the store has at first.
     ghost has: { Entries };
 
-    ghost held: { HoldAtFirst Self.Files.Start.log Self.Files.Start.db has };
+    ghost held: { HoldAtFirst Self.Files.log Self.Files.db has };
 
     ghost covers: { CoversAtFirst Self.start has };
 

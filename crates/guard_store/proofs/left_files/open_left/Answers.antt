@@ -16,14 +16,16 @@ seen log db is_log history = (replay (cond is_log log db) history).seen
 
 pub open_entries-requires-clause-sound : goal.open_entries-requires-clause-sound
 open_entries-requires-clause-sound g c clean =
-    let (log, db) = (c.requires.log, c.requires.db) in
+    let log = c.requires.log in
+    let db = c.requires.db in
     let same = ap₂ image (ap₂ (seen g.S.Start.log g.S.Start.db) log.0 log.1)
     (ap₂ (seen g.S.Start.log g.S.Start.db) db.0 db.1) in
-    subst AreSoundIfStore (sym same) g.S.LeftStart.sound
+    subst AreSoundIfStore (sym same) g.met.S.LeftStart.sound
 
 pub returns-clause-found : goal.returns-clause-found
 returns-clause-found g c =
-    let (log, db) = (c.requires.log, c.requires.db) in
+    let log = c.requires.log in
+    let db = c.requires.db in
     let same = ap₂ image (ap₂ (seen g.S.Start.log g.S.Start.db) log.0 log.1)
     (ap₂ (seen g.S.Start.log g.S.Start.db) db.0 db.1) in
     IfOk-weaker c.open_entries.result _ _ (λ table found now.
