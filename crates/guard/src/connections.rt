@@ -51,6 +51,19 @@ pub trait Connector {
         ensures left { IfOk result (λ it. IsKnown (Self.Trees.view it.0.store)
             → Stays Self.World.has (sight_of (Self.Trees.view it.0.store) it.0.in_batch).kept) };
 
+    /// Gives a store that has no number one, if it is open for changes. No entry changes.
+    fn number(
+        rt: &HostRuntime,
+        names: &Names,
+        table: &mut EntryTrees<Self::Trees>,
+    ) -> Result<(), StoreFault>
+        ensures known { IsKnown (Self.Trees.view table.new.store)
+            → IsKnown (Self.Trees.view table.old.store) }
+        ensures kept { IsReady (sight_of (Self.Trees.view table.old.store) table.old.in_batch)
+            → IsKnown (Self.Trees.view table.new.store) → TakesBack
+            (sight_of (Self.Trees.view table.old.store) table.old.in_batch)
+            (sight_of (Self.Trees.view table.new.store) table.new.in_batch) };
+
     /// Keeps processes that only read from opening the store until what is returned is let go, if
     /// this one changes it.
     fn keep_out(rt: &HostRuntime, names: &Names) -> Option<File>;
@@ -139,12 +152,7 @@ impl<W: Left> Connector for OnDisk<W> {
             Err(error) => return Err(fault_of_files(error)),
         };
         match open_left(rt.alloc(), files, drawn_seed(rt)?, makes) {
-            Ok(mut table) => {
-                if access != Access::Read {
-                    give_number(rt, names, &mut table)?;
-                }
-                Ok((table, lock))
-            }
+            Ok(table) => Ok((table, lock)),
             Err(fault) => {
                 if makes_log {
                     let _ = fs::remove_file(rt, names.log.as_str());
@@ -152,6 +160,14 @@ impl<W: Left> Connector for OnDisk<W> {
                 Err(fault)
             }
         }
+    }
+
+    fn number(
+        rt: &HostRuntime,
+        names: &Names,
+        table: &mut EntryTrees<FileStore<FileFrom<W::Files>>>,
+    ) -> Result<(), StoreFault> {
+        give_number(rt, names, table)
     }
 
     fn keep_out(rt: &HostRuntime, names: &Names) -> Option<File> {

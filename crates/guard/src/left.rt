@@ -16,12 +16,12 @@ pub trait Left: World {
     /// What the store has at first.
     ghost has: { Entries };
 
+    /// What stands for the two files, as they are opened.
+    fn files() -> Self::Files;
+
     ghost held: { HoldAtFirst Self.Files.log Self.Files.db has };
 
     ghost covers: { CoversAtFirst Self.start has };
-
-    /// What stands for the two files, as they are opened.
-    fn files() -> Self::Files;
 }
 
 /// For `main` to name. The files hold nothing, and no filter may be found in an empty folder.

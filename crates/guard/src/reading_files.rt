@@ -98,6 +98,14 @@ impl<W: Left> Connector for InPlace<W> {
         Ok((open_left(rt.alloc(), files, drawn_seed(rt)?, false)?, ()))
     }
 
+    fn number(
+        _rt: &HostRuntime,
+        _names: &Names,
+        _table: &mut EntryTrees<FileStore<Modelled<ReadOnly, W::Files>>>,
+    ) -> Result<(), StoreFault> {
+        Ok(())
+    }
+
     fn keep_out(_rt: &HostRuntime, _names: &Names) -> Option<File> {
         None
     }

@@ -25,6 +25,24 @@ fn is_within(rt: &HostRuntime, start: &Instant, seconds: u64) -> bool {
     }
 }
 
+// Opens a store, and gives it a number where it is opened for changes and has none.
+fn open_once<C: Connector>(
+    rt: &HostRuntime,
+    names: &Names,
+    access: Access,
+) -> Result<Opened<C>, StoreFault>
+    ensures ready { IfOk result (λ it. IsKnown (C.Trees.view it.0.store)
+        → IsReady (sight_of (C.Trees.view it.0.store) it.0.in_batch)) }
+    ensures left { IfOk result (λ it. IsKnown (C.Trees.view it.0.store)
+        → Stays C.World.has (sight_of (C.Trees.view it.0.store) it.0.in_batch).kept) }
+{
+    let (mut table, lock) = C::open(rt, names, access)?;
+    if access != Access::Read {
+        C::number(rt, names, &mut table)?;
+    }
+    Ok((table, lock))
+}
+
 /// Opens a store. While another process has it, it tries again, for this many seconds. After some
 /// tries it keeps those out who come later.
 ///
@@ -42,14 +60,14 @@ pub fn open_within<C: Connector>(
         → Stays C.World.has (sight_of (C.Trees.view it.0.store) it.0.in_batch).kept) }
 {
     let Ok(start) = Instant::now(rt) else {
-        return C::open(rt, names, access);
+        return open_once::<C>(rt, names, access);
     };
     let mut kept_out = None;
     'tries: for tried in 0..u64::MAX {
         if tried >= PATIENCE && kept_out.is_none() {
             kept_out = C::keep_out(rt, names);
         }
-        match C::open(rt, names, access) {
+        match open_once::<C>(rt, names, access) {
             Ok(opened) => return Ok(opened),
             Err(StoreFault::Locked) => {
                 if !is_within(rt, &start, wait) {

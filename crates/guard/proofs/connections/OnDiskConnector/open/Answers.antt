@@ -1,0 +1,7 @@
+-- What is found in the files is what an earlier run left.
+use Rattle.sqlite_store.specs.FileStore.{view}
+use Rattle.guard.proofs.connections.OnDiskConnector.open.Goals as goal
+
+pub returns-clause-left : goal.returns-clause-left
+returns-clause-left g c known =
+    g.met.W.Left.held (view c.in-Ok-open_left.table.store).committed (c.in-Ok-open_left.ensures.found known)
