@@ -6,6 +6,7 @@ mod LetterLemmas
 mod ListLemmas
 mod ListedLemmas
 mod OpenedLemmas
+mod ReadLemmas
 mod RowLemmas
 mod SeekLemmas
 mod ShownLemmas

@@ -1,9 +1,9 @@
-use Rattle.std.proofs.Common.{sym, subst, ◌∙◌}
+use Rattle.std.proofs.Common.{sym, subst}
 use Rattle.sqlite.specs.Files.{image_of}
 use Rattle.sqlite_store.specs.FileStore.{view}
 use Rattle.guard_store.proofs.TreesLemmas.{entries-found, known-clean, trees-open}
 use Rattle.guard_store.specs.Found.{AreFound}
-use Rattle.guard_store.specs.Trees.{IsKnown, HasTrees}
+use Rattle.guard_store.specs.Trees.{IsKnown}
 use Rattle.guard_store.proofs.files.open_entries.Goals as goal
 
 pub returns-in-Ok-clause-known : goal.returns-in-Ok-clause-known

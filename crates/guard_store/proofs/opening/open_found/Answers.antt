@@ -1,5 +1,6 @@
 use Rattle.std.proofs.Common.{◌∙◌, refl, sym, subst, inl, inr}
-use Rattle.guard_store.proofs.OpenedLemmas.{begun-read, cause-told, cause-wider, file-read, holds-read, limit-builds, listed-rows, other-read, start-read, wanted-some}
+use Rattle.guard_store.proofs.OpenedLemmas.{cause-told, cause-wider, limit-builds}
+use Rattle.guard_store.proofs.ReadLemmas.{begun-read, file-read, holds-read, listed-rows, other-read, start-read, wanted-some}
 use Rattle.guard_store.proofs.TreesLemmas.{valid-size}
 use Rattle.guard_store.specs.StoreFile.{ListEntries}
 use Rattle.guard_store.proofs.opening.open_found.Goals as goal
@@ -14,7 +15,8 @@ returns-in-Err-clause-cause g c now =
 pub returns-then-not-makes-clause-cause : goal.returns-then-not-makes-clause-cause
 returns-then-not-makes-clause-cause g c now =
     let read = c.in-Ok.ensures.ok now in
-    (c.if-not-makes.true, (read.pages, read.found, sym read.lists ∙ sym c.as_slice.ensures.value ∙ c.if-list_nothing.ensures.0 refl))
+    let none = sym c.as_slice.ensures.value ∙ c.if-list_nothing.ensures.0 refl in
+    (c.if-not-makes.true, (read.pages, read.found, sym read.lists ∙ none))
 
 pub returns-in-Ok-make-clause-honest : goal.returns-in-Ok-make-clause-honest
 returns-in-Ok-make-clause-honest g c now =
@@ -39,9 +41,9 @@ returns-in-Err-make-clause-cause g c now =
     let clean = e.falls now in
     let read = c.in-Ok.ensures.ok clean in
     let kept = c.read_catalog.ensures.kept clean in
+    let none = sym c.as_slice.ensures.value ∙ c.if-list_nothing.ensures.0 refl in
     cause-wider _ _ _ _ _ _ _ _ _ c.in-Err-make.why kept.counts (λ is. is) (λ no. absurd no)
-    (λ wanted. start-read _ _ _ read kept.size wanted (sym c.as_slice.ensures.value ∙ c.if-list_nothing.ensures.0 refl))
-    (e.cause now)
+    (λ wanted. start-read _ _ _ read kept.size wanted none) (e.cause now)
 
 -- it lists something else
 pub returns-in_default-clause-cause : goal.returns-in_default-clause-cause
