@@ -31,6 +31,9 @@ returns-in-Ok-make-clause-found g c now =
     let valid = valid-size c.args.size c.args.has_sums _ c.requires.sized in
     inr (begun-read _ _ _ read sized valid (e.started now), e.empty now)
 
+pub returns-in-Ok-make-clause-there : goal.returns-in-Ok-make-clause-there
+returns-in-Ok-make-clause-there g c asked = let made = c.if-not-makes.false in absurd (cc)
+
 pub returns-in-Err-make-clause-falls : goal.returns-in-Err-make-clause-falls
 returns-in-Err-make-clause-falls g c now =
     c.read_catalog.ensures.honest (c.in-Err-make.ensures.falls now)
@@ -81,6 +84,16 @@ returns-in-Ok-open_listed-clause-found g c now =
     let listed = listed-rows _ _ _ c.as_slice-2.ensures.value c.in-Some.ensures in
     inl (holds-read _ _ _ (c.in-Ok.ensures.ok clean) (first.kept clean).size valid listed
     (c.requires.sound (first.honest clean)) _ _ (e.found now) (e.reads now))
+
+pub returns-in-Ok-open_listed-clause-there : goal.returns-in-Ok-open_listed-clause-there
+returns-in-Ok-open_listed-clause-there g c asked now =
+    let e = c.in-Ok-open_listed.ensures in
+    let clean = e.honest now in
+    let first = c.read_catalog.ensures in
+    let valid = valid-size c.args.size c.args.has_sums _ c.requires.sized in
+    let listed = listed-rows _ _ _ c.as_slice-2.ensures.value c.in-Some.ensures in
+    holds-read _ _ _ (c.in-Ok.ensures.ok clean) (first.kept clean).size valid listed
+    (c.requires.sound (first.honest clean)) _ _ (e.found now) (e.reads now)
 
 pub returns-clause-falls : goal.returns-clause-falls
 returns-clause-falls g c now =
