@@ -45,6 +45,8 @@ returns-in-Ok-open_found-clause-there g c asked now =
     let fresh = c.in-Ok-unopened.fresh in
     let log = reads_then c.finds_size.ensures.log c.finds_sums.ensures.log in
     let db = reads_then c.finds_size.ensures.db c.finds_sums.ensures.db in
-    let size = (state_of fresh).page_size in
-    (size, subst (λ i. HoldsStoreAt size i (view c.in-Ok-open_found.store).committed)
-    (seen-files fresh _ _ made.files ∙ same_image log db) (c.in-Ok-open_found.ensures.there asked now))
+    let size = (state_of fresh).page_size in (
+      size,
+      subst (λ i. HoldsStoreAt size i (view c.in-Ok-open_found.store).committed)
+          (seen-files fresh _ _ made.files ∙ same_image log db) (c.in-Ok-open_found.ensures.there asked now),
+    )

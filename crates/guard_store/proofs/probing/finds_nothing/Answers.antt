@@ -20,7 +20,7 @@ returns-clause-ok g c clean nothing =
     elim nothing [
       | inl plain ↦
           let is = (c.in_ok-is_blank-2.ensures.ok clean).1 (subst (IsBlankAs false)
-              (sym (same_image first.log first.db)) plain) in
+          (sym (same_image first.log first.db)) plain) in
           let not = c.if-branch-2.false in absurd (cc)
       | inr sums ↦
           let before = both_clean _ _ _ _ second.log.clean second.db.clean clean in
