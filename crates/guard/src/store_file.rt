@@ -37,9 +37,10 @@ fn open_once<C: Connector>(
         → Stays C.World.has (sight_of (C.Trees.view it.0.store) it.0.in_batch).kept) }
 {
     let (mut table, lock) = C::open(rt, names, access)?;
-    if access != Access::Read {
-        C::number(rt, names, &mut table)?;
+    if access == Access::Read {
+        return Ok((table, lock));
     }
+    C::number(rt, names, &mut table)?;
     Ok((table, lock))
 }
 

@@ -5,7 +5,7 @@ use Rattle.sqlite_disk.specs.declared.Disk.{Ghosts}
 use Rattle.sqlite_store.specs.Unopened.{files_of, image, state_of, wanted_by, AreUsable, HasFile}
 use Rattle.sqlite_store.specs.declared.store.open.Unopened.{Unopened}
 use Rattle.sqlite_wal.specs.Files.{seen_image}
-use Rattle.sqlite_wal.specs.Reads.{are_clean, AreClean}
+use Rattle.sqlite_wal.specs.Reads.{are_clean}
 use Rattle.guard_store.specs.Opened.{HasTableAt}
 use Rattle.guard_store.specs.StoreFile.{entry_objects}
 

@@ -1,5 +1,5 @@
 -- The small letters of a text, read from its front.
-use Rattle.std.proofs.Common.{◌≡◌, ℕ, ◌<◌, ◌≤◌, Bool, true, false, List, [], ◌∷◌, ◌++◌, length, get_or, take, drop, suc, zero, refl, sym, ap, ◌∙◌, arith, subst, inl, inr, ltb}
+use Rattle.std.proofs.Common.{◌≡◌, ℕ, ◌<◌, ◌≤◌, true, false, List, [], ◌∷◌, ◌++◌, length, take, drop, ap, arith, inl, inr, ltb}
 use Rattle.std.proofs.lemmas.Bool.{and_parts, cases_Bool}
 use Rattle.std.specs.Char.{to_ascii_lowercase}
 use Rattle.std.specs.Str.{IsAscii, IsUtf8}
@@ -7,7 +7,7 @@ use Rattle.std.proofs.lemmas.Str.{IsUtf8-from_ascii}
 use Rattle.std.proofs.lemmas.Bool.Decides.{nat_tests}
 use Rattle.std.proofs.lemmas.Str.Ascii.{IsAscii-nil, IsAscii-cons}
 use Rattle.std.specs.List.{list_all}
-use Rattle.guard_store.specs.StoreFile.{entry_sql, is_letter, letters, IsEntryText}
+use Rattle.guard_store.specs.StoreFile.{is_letter, letters, IsEntryText}
 
 -- half-way, the letters so far are the first of those that are wanted
 pub record Matches (text wanted : List ℕ) (index at : ℕ) : Type 0 where

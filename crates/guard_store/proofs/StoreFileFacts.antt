@@ -1,6 +1,6 @@
 -- What looks like a store's file: cases that hold, and ones that differ in one thing.
-use Rattle.std.proofs.Common.{◌≡◌, ◌⊎◌, ℕ, List, [], ◌∷◌, ◌++◌, codes, get_or, length, pos, zero, suc, refl, sym, ap, subst, ◌∙◌, inl, inr, lit<, lt_irrefl, arith}
-use Rattle.std.proofs.Math.Logic.{∥∥₁_elim, ∥∥₁_map}
+use Rattle.std.proofs.Common.{◌≡◌, ℕ, List, [], ◌∷◌, ◌++◌, codes, get_or, length, pos, zero, suc, refl, ap, subst, inl, inr, lit<, lt_irrefl, arith}
+use Rattle.std.proofs.Math.Logic.{∥∥₁_elim}
 use Rattle.sqlite_pages.specs.PageMap.{PageMap}
 use Rattle.sqlite_pool.specs.Stored.{Recovers}
 use Rattle.sqlite_store.specs.Listing.{file_trees}
@@ -8,7 +8,6 @@ use Rattle.sqlite_trees.specs.Tree.{Trees}
 use Rattle.sqlite_value.specs.Order.{Row}
 use Rattle.sqlite_value.specs.declared.value.Value.TheVariants.{Int, Null, Text}
 use Rattle.sqlite_wal.specs.Recovery.{Image}
-use Rattle.guard_store.specs.Entry.{stored}
 use Rattle.guard_store.specs.FirstLaws.{sound_empty}
 use Rattle.guard_store.specs.Opened.{AreFoundAt, IsEmptyStore, IsUnfinishedAt}
 use Rattle.guard_store.specs.StoreFile.{entry_objects, entry_sql, table_text, AreSoundIfStore, IsEntryText, ListEntries, LooksLikeStore}
@@ -23,15 +22,17 @@ text-itself = refl
 -- the same with other capitals, a line's end and quotes
 abbrev other_words : List ℕ
 other_words =
-    codes "create table " ++ 34 ∷ codes "entry" ++ 34 ∷ 10 ∷ codes "(ID integer primary key," ++ 13 ∷ 10 ∷ 9
-    ∷ codes "name text not null unique, value text not null) Strict"
+    codes "create table " ++ 34 ∷ codes "entry" ++ 34 ∷ 10 ∷ codes "(ID integer primary key,"
+    ++ 13 ∷ 10 ∷ 9 ∷ codes "name text not null unique, value text not null) Strict"
 
 text-other-words : IsEntryText other_words
 text-other-words = refl
 
 -- a table that isn't STRICT takes values that are no text
 abbrev lax_sql : List ℕ
-lax_sql = codes "CREATE TABLE entry (id INTEGER PRIMARY KEY, name TEXT NOT NULL UNIQUE, value TEXT NOT NULL)"
+lax_sql =
+    codes "CREATE TABLE entry (id INTEGER PRIMARY KEY, name TEXT NOT NULL UNIQUE, "
+    ++ codes "value TEXT NOT NULL)"
 
 text-lax : IsEntryText lax_sql → ⊥
 text-lax is = let shorter = ap length is in omega (arith, shorter)
@@ -39,14 +40,17 @@ text-lax is = let shorter = ap length is in omega (arith, shorter)
 -- a table with a CHECK refuses entries
 abbrev checked_sql : List ℕ
 checked_sql =
-    codes "CREATE TABLE entry (id INTEGER PRIMARY KEY, name TEXT NOT NULL UNIQUE, value TEXT NOT NULL CHECK (value <> '')) STRICT"
+    codes "CREATE TABLE entry (id INTEGER PRIMARY KEY, name TEXT NOT NULL UNIQUE, "
+    ++ codes "value TEXT NOT NULL CHECK (value <> '')) STRICT"
 
 text-checked : IsEntryText checked_sql → ⊥
 text-checked is = let longer = ap length is in omega (arith, longer)
 
 -- a table whose values are of another type isn't the table of entries
 abbrev other_type : List ℕ
-other_type = codes "CREATE TABLE entry (id INTEGER PRIMARY KEY, name TEXT NOT NULL UNIQUE, value BLOB NOT NULL) STRICT"
+other_type =
+    codes "CREATE TABLE entry (id INTEGER PRIMARY KEY, name TEXT NOT NULL UNIQUE, "
+    ++ codes "value BLOB NOT NULL) STRICT"
 
 text-other-type : IsEntryText other_type → ⊥
 text-other-type is = let letter = ap (λ l. get_or l 64 0) is in omega (arith, letter)
@@ -125,5 +129,6 @@ found-nothing size log db (inr begun) =
     ∥∥₁_elim begun.0 (λ a b. absurd a) (λ is. lt_irrefl 0 is.1.present)
 
 -- a store that was only begun has no entry
-found-begun : (size : ℕ) (left : Image) → ∥ IsUnfinishedAt size left ∥₁ → AreFoundAt size left no_rows
+found-begun : (size : ℕ) (left : Image) → ∥ IsUnfinishedAt size left ∥₁
+    → AreFoundAt size left no_rows
 found-begun size left begun = inr (begun, empty)

@@ -1,5 +1,5 @@
 -- From two files to the trees of a store.
-use Rattle.std.proofs.Common.{◌≡◌, ◌⊎◌, ℕ, Bool, true, false, List, [], Contains, IsTrue, refl, sym, ap, subst, subst₂, ◌∙◌, inl, inr, arith}
+use Rattle.std.proofs.Common.{◌≡◌, ℕ, Bool, true, false, List, [], Contains, IsTrue, refl, sym, ap, subst, subst₂, ◌∙◌, inl, inr, arith}
 use Rattle.std.proofs.Math.Logic.{∥∥₁_map}
 use Rattle.std.proofs.lemmas.List.Sorted.{IsPermutation-refl}
 use Rattle.sqlite.proofs.FileLemmas.{blank_is_nothing, stored_used}

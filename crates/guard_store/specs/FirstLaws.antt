@@ -1,5 +1,5 @@
 -- The laws of files that hold nothing at first.
-use Rattle.std.proofs.Common.{◌≡◌, ◌<◌, ℕ, List, [], inl, inr, lit<, lt_irrefl, subst}
+use Rattle.std.proofs.Common.{◌<◌, ℕ, List, [], inl, inr, lit<, lt_irrefl, subst}
 use Rattle.std.proofs.Math.Arith.{le-zero}
 use Rattle.std.proofs.Math.Nat.{le_of_lt}
 use Rattle.std.specs.Prelude.{Contains}

@@ -3,7 +3,7 @@ use Rattle.std.specs.Prelude.{◌≡◌, ◌⊎◌, ℕ, ◌^◌, ◌<◌, Bool,
 use Rattle.sqlite_disk.specs.Disk.{MoreFaults}
 use Rattle.sqlite_disk.specs.declared.Disk.{Ghosts}
 use Rattle.sqlite_pages.specs.PageMap.{PageMap}
-use Rattle.sqlite_pool.specs.Stored.{stored_size, Recovers}
+use Rattle.sqlite_pool.specs.Stored.{Recovers}
 use Rattle.sqlite_value.specs.Keys.{plain}
 use Rattle.sqlite_trees.specs.declared.store.Shape.TheVariants.{Index, Table}
 use Rattle.sqlite_trees.specs.Tree.{Trees}
@@ -55,7 +55,8 @@ IsEmptyStore db = (tree : ℕ) → tree < 2 ^ 32 → db tree ≡ []
 
 -- the trees are what the files held, or they are empty where no store was there yet
 abbrev pub AreFoundAt : ℕ → Image → Trees → Type 0
-AreFoundAt size left db = HoldsStoreAt size left db ⊎ (∥ IsUnfinishedAt size left ∥₁ × IsEmptyStore db)
+AreFoundAt size left db =
+    HoldsStoreAt size left db ⊎ (∥ IsUnfinishedAt size left ∥₁ × IsEmptyStore db)
 
 -- a store's trees are open, with nothing written that isn't committed
 pub record IsOpenStore (v : View) : Type 0 where
@@ -97,7 +98,8 @@ StopsLeft (left.Unopened it) = StopsCreating it
 StopsLeft (left.Store it) = ⊥
 
 -- why files that are there aren't opened, by what is left of them
-abbrev pub FailsToOpen : {D : Type 0} {g : Ghosts D} → Bool → Unopened D g → Leftover D g → StoreFault → Type 0
+abbrev pub FailsToOpen : {D : Type 0} {g : Ghosts D} → Bool → Unopened D g → Leftover D g
+    → StoreFault → Type 0
 FailsToOpen makes old left =
     FailsFor (state_of old).faults (faults_left left) (StopsLeft left)
     ((makes ≡ false) × ListsNothingAt (state_of old).page_size (image old))

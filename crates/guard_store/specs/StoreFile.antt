@@ -1,6 +1,6 @@
 -- The files of a guard's store: a table of entries and the index of its names
 -- (fileformat2.html, section 2.6).
-use Rattle.std.specs.Prelude.{◌≡◌, ℕ, Bool, ◌==◌, ◌||◌, not, List, [], ◌∷◌, codes, filter, map}
+use Rattle.std.specs.Prelude.{◌≡◌, ℕ, Bool, ◌==◌, ◌||◌, not, List, [], ◌∷◌, ◌++◌, codes, filter, map}
 use Rattle.std.specs.Char.{to_ascii_lowercase}
 use Rattle.sqlite_value.specs.declared.value.Value.TheVariants.{Null, Text}
 use Rattle.sqlite_value.specs.Keys.{plain}
@@ -19,7 +19,8 @@ use Rattle.guard_store.specs.Trees.{AreEntries}
 -- the SQL text of the table of entries, as a new store has it
 abbrev pub entry_sql : List ℕ
 entry_sql =
-    codes "CREATE TABLE entry (id INTEGER PRIMARY KEY, name TEXT NOT NULL UNIQUE, value TEXT NOT NULL) STRICT"
+    codes "CREATE TABLE entry (id INTEGER PRIMARY KEY, name TEXT NOT NULL UNIQUE, "
+    ++ codes "value TEXT NOT NULL) STRICT"
 
 -- a byte is neither white space nor a double quote
 abbrev pub is_letter : ℕ → Bool

@@ -1,11 +1,11 @@
 //! The table of entries in a store's files.
-ghost use Rattle.std.specs.Prelude.{◌≡◌, ℕ, IsTrue, IfErr, IfOk};
+ghost use Rattle.std.specs.Prelude.{◌≡◌, ℕ, false, IsTrue, IfErr, IfOk};
 ghost use Rattle.sqlite.specs.Files.{image_of, IsBlankAs};
 ghost use Rattle.sqlite_store.specs.FileStore.{state, view};
 ghost use Rattle.sqlite_wal.specs.PageSize.{bytes_of};
 ghost use Rattle.sqlite_wal.specs.Reads.{AreClean};
 ghost use Rattle.guard_engine.specs.Stores.{IsReady};
-ghost use Rattle.guard_store.specs.Found.{AreFound};
+ghost use Rattle.guard_store.specs.Found.{AreFound, HoldsStore};
 ghost use Rattle.guard_store.specs.Opened.{AreFoundAt, IsEmptyStore, IsOpenStore};
 ghost use Rattle.guard_store.specs.StoreFile.{AreSoundIfStore};
 ghost use Rattle.guard_store.specs.Trees.{IsKnown, sight_of};
@@ -72,6 +72,8 @@ fn open_some<D: Disk>(
         → IsOpenStore (view store)) }
     ensures found { IfOk result (λ store. IsTrue (state store).is_clean
         → (size : ℕ) × AreFoundAt size (image_of D.Disk files) (view store).committed) }
+    ensures there { makes ≡ false → IfOk result (λ store. IsTrue (state store).is_clean
+        → HoldsStore (image_of D.Disk files) (view store).committed) }
 {
     let size = match finds_size(&mut files) {
         Ok(size) => size,
@@ -108,6 +110,8 @@ fn open_trees<D: Disk>(
         → IsOpenStore (view store)) }
     ensures found { IfOk result (λ store. IsTrue (state store).is_clean
         → AreFound (image_of D.Disk files) (view store).committed) }
+    ensures there { makes ≡ false → IfOk result (λ store. IsTrue (state store).is_clean
+        → HoldsStore (image_of D.Disk files) (view store).committed) }
 {
     let new_size = PageSize::new(NEW_SIZE).unwrap();
     let nothing = match finds_nothing(alloc, &mut files, new_size) {
@@ -146,6 +150,8 @@ pub fn open_entries<D: Disk + Drop>(
         → IsReady (sight_of (view table.store) table.in_batch)) }
     ensures found { IfOk result (λ table. IsKnown (view table.store)
         → AreFound (image_of D.Disk files) (view table.store).committed) }
+    ensures there { makes ≡ false → IfOk result (λ table. IsKnown (view table.store)
+        → HoldsStore (image_of D.Disk files) (view table.store).committed) }
 {
     match open_trees(alloc, files, options, makes) {
         Ok(store) => Ok(EntryTrees::over(alloc, store)),

@@ -1,4 +1,4 @@
-//! The store of a guard: the table of entries in the files of SQLite, read and written tree by tree.
+//! The store of a guard: the table of entries in SQLite's files, read and written tree by tree.
 #![tactic(auto)]
 
 mod entry_trees;

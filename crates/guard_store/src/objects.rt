@@ -88,8 +88,9 @@ fn table_text(row: &Row) -> Option<&str>
         ((text : List ℕ) → IsEntryText text → object_of row.now ≢ (table_object text).row)
         (λ text. IsEntryText text.now × (object_of row.now ≡ (table_object text.now).row)) }
 {
-    let is_table =
-        has_text(row, 1, b"table") & has_text(row, 2, b"entry") & has_text(row, 3, b"entry");
+    let is_table = has_text(row, 1, b"table")
+        & has_text(row, 2, b"entry")
+        & has_text(row, 3, b"entry");
     let ValueRef::Text(text) = row.get(5) else {
         return None;
     };

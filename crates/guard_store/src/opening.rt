@@ -1,12 +1,12 @@
 //! Opens the files of a store without reading each page of them.
-ghost use Rattle.std.specs.Prelude.{◌≡◌, ⊤, IsTrue, IfErr, IfOk};
+ghost use Rattle.std.specs.Prelude.{◌≡◌, ⊤, false, IsTrue, IfErr, IfOk};
 ghost use Rattle.sqlite.specs.Files.{faults_left, IsCleanLeft};
 ghost use Rattle.sqlite_pool.specs.Stored.{used_size, Recovers};
 ghost use Rattle.sqlite_store.specs.FileStore.{state, view};
 ghost use Rattle.sqlite_store.specs.Listing.{file_trees};
 ghost use Rattle.sqlite_store.specs.Unopened.{files_of, image, state_of, wanted_by, AreUsable, Creates, HasFile, IsUnstarted, Opens, StopsCreating};
 ghost use Rattle.sqlite_wal.specs.PageSize.{bytes_of};
-ghost use Rattle.guard_store.specs.Opened.{AreFoundAt, FailsFor, FailsToOpen, HasTableAt, IsEmptyStore, IsEntrySchema, IsOpenStore, StopsLeft};
+ghost use Rattle.guard_store.specs.Opened.{AreFoundAt, FailsFor, FailsToOpen, HasTableAt, HoldsStoreAt, IsEmptyStore, IsEntrySchema, IsOpenStore, StopsLeft};
 ghost use Rattle.guard_store.specs.StoreFile.{entry_objects, entry_sql, AreSoundIfStore};
 
 use crate::fault::{StoreFault, fault_of_open};
@@ -157,6 +157,8 @@ pub fn open_found<D: Disk>(
         → IsOpenStore (view store)) }
     ensures found { IfOk result (λ store. IsTrue (state store).is_clean
         → AreFoundAt (state_of files).page_size (image files) (view store).committed) }
+    ensures there { makes ≡ false → IfOk result (λ store. IsTrue (state store).is_clean
+        → HoldsStoreAt (state_of files).page_size (image files) (view store).committed) }
     ensures falls { IfErr result (λ e. IsCleanLeft e.1 → IsTrue (state_of files).is_clean) }
     ensures cause { IfErr result (λ e. IsCleanLeft e.1 → FailsToOpen makes files e.1 e.0) }
 {

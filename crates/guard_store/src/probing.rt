@@ -1,6 +1,6 @@
 //! What the files of a store hold, before anything is written to them.
-ghost use Rattle.std.specs.Prelude.{◌≡◌, ◌↔◌, ⊤, IsTrue, IfOk, MatchOption};
-ghost use Rattle.sqlite.specs.Files.{image_of, IsBlankAs};
+ghost use Rattle.std.specs.Prelude.{◌≡◌, ◌↔◌, IsTrue, IfOk, MatchOption};
+ghost use Rattle.sqlite.specs.Files.{image_of, IsBlankAs, IsNothing};
 ghost use Rattle.sqlite_wal.specs.PageSize.{bytes_of};
 ghost use Rattle.sqlite_wal.specs.Reads.{AreClean, OnlyReads};
 ghost use Rattle.guard_store.specs.Found.{probed};
@@ -46,8 +46,8 @@ fn is_blank<D: Disk>(
     }
 }
 
-/// If there is no database yet, whether the new one gets sums: it does, unless an earlier opening
-/// has all but made one without.
+/// If there is no database yet, and only then, whether the new one gets sums: it does, unless an
+/// earlier opening has all but made one without.
 pub fn finds_nothing<D: Disk>(
     alloc: Global,
     files: &mut Files<D>,
@@ -57,7 +57,7 @@ pub fn finds_nothing<D: Disk>(
     requires db { IsTrue (D.Disk.is_usable files.old.db) }
     requires size { bytes_of size ≡ 4096 }
     ensures ok { IfOk result (λ r. AreClean D.Disk files.new.log files.new.db
-        → MatchOption r ⊤
+        → MatchOption r (¬ IsNothing (image_of D.Disk files.old))
         (λ has_sums. IsBlankAs has_sums (image_of D.Disk files.old))) }
     ensures log { OnlyReads D.Disk files.old.log files.new.log }
     ensures db { OnlyReads D.Disk files.old.db files.new.db }

@@ -1,4 +1,3 @@
-use Rattle.std.proofs.Common.{inl, sym, subst₂}
 use Rattle.guard_store.proofs.TreesLemmas.{clean-files}
 use Rattle.guard_store.proofs.files.begin.Goals as goal
 

@@ -1,9 +1,9 @@
-use Rattle.std.proofs.Common.{sym, subst, ◌∙◌}
+use Rattle.std.proofs.Common.{sym, subst}
 use Rattle.sqlite.specs.Files.{image_of}
 use Rattle.sqlite_store.specs.FileStore.{view}
 use Rattle.guard_store.proofs.TreesLemmas.{entries-found, known-clean, trees-open}
-use Rattle.guard_store.specs.Found.{AreFound}
-use Rattle.guard_store.specs.Trees.{IsKnown, HasTrees}
+use Rattle.guard_store.specs.Found.{AreFound, HoldsStore}
+use Rattle.guard_store.specs.Trees.{IsKnown}
 use Rattle.guard_store.proofs.files.open_entries.Goals as goal
 
 pub returns-in-Ok-clause-known : goal.returns-in-Ok-clause-known
@@ -24,3 +24,9 @@ returns-in-Ok-clause-found g c known =
     let first = subst (λ s. IsKnown (view s)) c.over.ensures.same known in
     subst (λ s. AreFound (image_of g.D.Disk c.args.files) (view s).committed)
     (sym c.over.ensures.same) (c.in-Ok.ensures.found (known-clean _ first.0))
+
+pub returns-in-Ok-clause-there : goal.returns-in-Ok-clause-there
+returns-in-Ok-clause-there g c asked known =
+    let first = subst (λ s. IsKnown (view s)) c.over.ensures.same known in
+    subst (λ s. HoldsStore (image_of g.D.Disk c.args.files) (view s).committed)
+    (sym c.over.ensures.same) (c.in-Ok.ensures.there asked (known-clean _ first.0))

@@ -4,7 +4,7 @@ use Rattle.sqlite_store.specs.FileStore.{view}
 use Rattle.sqlite_store.specs.Unopened.{state_of}
 use Rattle.sqlite_wal.proofs.CleanLemmas.{both_clean}
 use Rattle.guard_store.proofs.TreesLemmas.{clean-files, seen-files}
-use Rattle.guard_store.specs.Opened.{AreFoundAt}
+use Rattle.guard_store.specs.Opened.{AreFoundAt, HoldsStoreAt}
 use Rattle.guard_store.specs.StoreFile.{AreSoundIfStore}
 use Rattle.guard_store.proofs.files.open_some.Goals as goal
 
@@ -37,4 +37,16 @@ returns-in-Ok-open_found-clause-found g c now =
       size,
       subst (λ i. AreFoundAt size i (view c.in-Ok-open_found.store).committed)
           (seen-files fresh _ _ made.files ∙ same_image log db) (c.in-Ok-open_found.ensures.found now),
+    )
+
+pub returns-in-Ok-open_found-clause-there : goal.returns-in-Ok-open_found-clause-there
+returns-in-Ok-open_found-clause-there g c asked now =
+    let made = c.in-Ok-unopened.ensures in
+    let fresh = c.in-Ok-unopened.fresh in
+    let log = reads_then c.finds_size.ensures.log c.finds_sums.ensures.log in
+    let db = reads_then c.finds_size.ensures.db c.finds_sums.ensures.db in
+    let size = (state_of fresh).page_size in (
+      size,
+      subst (λ i. HoldsStoreAt size i (view c.in-Ok-open_found.store).committed)
+          (seen-files fresh _ _ made.files ∙ same_image log db) (c.in-Ok-open_found.ensures.there asked now),
     )

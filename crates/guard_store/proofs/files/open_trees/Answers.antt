@@ -6,6 +6,7 @@ use Rattle.sqlite_store.specs.FileStore.{view}
 use Rattle.sqlite_wal.proofs.CleanLemmas.{both_clean}
 use Rattle.guard_store.proofs.OpenedLemmas.{ok-both}
 use Rattle.guard_store.proofs.TreesLemmas.{found-none, found-some}
+use Rattle.guard_store.specs.Found.{HoldsStore}
 use Rattle.guard_store.specs.Opened.{AreFoundAt}
 use Rattle.guard_store.specs.StoreFile.{AreSoundIfStore}
 use Rattle.guard_store.proofs.files.open_trees.Goals as goal
@@ -31,6 +32,13 @@ returns-in_default-clause-found g c =
     found-some at.0 _ _ (subst (λ i. AreFoundAt at.0 i (view store).committed)
     (same_image read.log read.db) at.1)) c.open_some.ensures.found
 
+pub returns-in_default-clause-there : goal.returns-in_default-clause-there
+returns-in_default-clause-there g c asked =
+    let read = c.finds_nothing.ensures in
+    IfOk-weaker c.open_some.result _ _ (λ store there now.
+    subst (λ i. HoldsStore i (view store).committed) (same_image read.log read.db) (there now))
+    (c.open_some.ensures.there asked)
+
 -- none is
 pub begin-requires-clause-blank : goal.begin-requires-clause-blank
 begin-requires-clause-blank g c clean =
@@ -52,3 +60,6 @@ returns-clause-found g c =
     rw c.in-Some.is at (c.in-Ok.ensures.ok (honest now)) in
     found-none c.in-Some.has_sums _ _ blank (empty now))
     c.begin.ensures.honest c.begin.ensures.empty
+
+pub returns-clause-there : goal.returns-clause-there
+returns-clause-there g c asked = let made = c.if-not-makes.false in absurd (cc)

@@ -1,5 +1,6 @@
 use Rattle.std.proofs.Common.{◌∙◌, refl, sym, subst, inl, inr}
-use Rattle.guard_store.proofs.OpenedLemmas.{begun-read, cause-told, cause-wider, file-read, holds-read, limit-builds, listed-rows, other-read, start-read, wanted-some}
+use Rattle.guard_store.proofs.OpenedLemmas.{cause-told, cause-wider, limit-builds}
+use Rattle.guard_store.proofs.ReadLemmas.{begun-read, file-read, holds-read, listed-rows, other-read, start-read, wanted-some}
 use Rattle.guard_store.proofs.TreesLemmas.{valid-size}
 use Rattle.guard_store.specs.StoreFile.{ListEntries}
 use Rattle.guard_store.proofs.opening.open_found.Goals as goal
@@ -14,7 +15,8 @@ returns-in-Err-clause-cause g c now =
 pub returns-then-not-makes-clause-cause : goal.returns-then-not-makes-clause-cause
 returns-then-not-makes-clause-cause g c now =
     let read = c.in-Ok.ensures.ok now in
-    (c.if-not-makes.true, (read.pages, read.found, sym read.lists ∙ sym c.as_slice.ensures.value ∙ c.if-list_nothing.ensures.0 refl))
+    let none = sym c.as_slice.ensures.value ∙ c.if-list_nothing.ensures.0 refl in
+    (c.if-not-makes.true, (read.pages, read.found, sym read.lists ∙ none))
 
 pub returns-in-Ok-make-clause-honest : goal.returns-in-Ok-make-clause-honest
 returns-in-Ok-make-clause-honest g c now =
@@ -29,6 +31,9 @@ returns-in-Ok-make-clause-found g c now =
     let valid = valid-size c.args.size c.args.has_sums _ c.requires.sized in
     inr (begun-read _ _ _ read sized valid (e.started now), e.empty now)
 
+pub returns-in-Ok-make-clause-there : goal.returns-in-Ok-make-clause-there
+returns-in-Ok-make-clause-there g c asked = let made = c.if-not-makes.false in absurd (cc)
+
 pub returns-in-Err-make-clause-falls : goal.returns-in-Err-make-clause-falls
 returns-in-Err-make-clause-falls g c now =
     c.read_catalog.ensures.honest (c.in-Err-make.ensures.falls now)
@@ -39,9 +44,9 @@ returns-in-Err-make-clause-cause g c now =
     let clean = e.falls now in
     let read = c.in-Ok.ensures.ok clean in
     let kept = c.read_catalog.ensures.kept clean in
+    let none = sym c.as_slice.ensures.value ∙ c.if-list_nothing.ensures.0 refl in
     cause-wider _ _ _ _ _ _ _ _ _ c.in-Err-make.why kept.counts (λ is. is) (λ no. absurd no)
-    (λ wanted. start-read _ _ _ read kept.size wanted (sym c.as_slice.ensures.value ∙ c.if-list_nothing.ensures.0 refl))
-    (e.cause now)
+    (λ wanted. start-read _ _ _ read kept.size wanted none) (e.cause now)
 
 -- it lists something else
 pub returns-in_default-clause-cause : goal.returns-in_default-clause-cause
@@ -79,6 +84,16 @@ returns-in-Ok-open_listed-clause-found g c now =
     let listed = listed-rows _ _ _ c.as_slice-2.ensures.value c.in-Some.ensures in
     inl (holds-read _ _ _ (c.in-Ok.ensures.ok clean) (first.kept clean).size valid listed
     (c.requires.sound (first.honest clean)) _ _ (e.found now) (e.reads now))
+
+pub returns-in-Ok-open_listed-clause-there : goal.returns-in-Ok-open_listed-clause-there
+returns-in-Ok-open_listed-clause-there g c asked now =
+    let e = c.in-Ok-open_listed.ensures in
+    let clean = e.honest now in
+    let first = c.read_catalog.ensures in
+    let valid = valid-size c.args.size c.args.has_sums _ c.requires.sized in
+    let listed = listed-rows _ _ _ c.as_slice-2.ensures.value c.in-Some.ensures in
+    holds-read _ _ _ (c.in-Ok.ensures.ok clean) (first.kept clean).size valid listed
+    (c.requires.sound (first.honest clean)) _ _ (e.found now) (e.reads now)
 
 pub returns-clause-falls : goal.returns-clause-falls
 returns-clause-falls g c now =

@@ -2,6 +2,6 @@
 use Rattle.sqlite_store.specs.FileStore.{view}
 use Rattle.guard.proofs.connections.OnDiskConnector.open.Goals as goal
 
-pub returns-clause-left : goal.returns-clause-left
-returns-clause-left g c known =
+pub returns-in-Ok-open_left-clause-left : goal.returns-in-Ok-open_left-clause-left
+returns-in-Ok-open_left-clause-left g c known =
     g.met.W.Left.held (view c.in-Ok-open_left.table.store).committed (c.in-Ok-open_left.ensures.found known)
