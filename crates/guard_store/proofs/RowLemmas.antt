@@ -1,11 +1,12 @@
 -- Which rows a table has after a row came or went.
-use Rattle.std.proofs.Common.{◌≡◌, ◌⊎◌, inl, inr, ℤ, true, false, not, List, [], ◌∷◌, filter, refl, sym, ap, subst, ◌∙◌, cond, Ordering, Less, Equal, Greater, is_eq}
+use Rattle.std.proofs.Common.{◌≡◌, ◌⊎◌, inl, inr, ℕ, ℤ, true, false, not, List, [], ◌∷◌, filter, refl, sym, ap, subst, ◌∙◌, cond, Ordering, Less, Equal, Greater, is_eq}
 use Rattle.std.specs.Ordering.{match_ordering}
 use Rattle.std.proofs.lemmas.Bool.{cases_Bool}
 use Rattle.sqlite_value.specs.declared.value.Value.TheVariants.{Int}
 use Rattle.sqlite_value.specs.Order.{Row, value_cmp}
 use Rattle.sqlite_trees.specs.Tree.{has_rowid, put_row, rowid, without_rowid}
-use Rattle.guard_store.proofs.ListLemmas.{In, from_filter, in_filter}
+use Rattle.guard_store.proofs.ListLemmas.{In, from_filter, from_in, in_filter}
+use Rattle.guard_store.specs.Trees.{IsRowOf, LacksName}
 
 -- the row that is put is there
 pub put_here : (new : Row) (rows : List Row) → In (put_row new rows) new
@@ -79,3 +80,9 @@ only_row id rows row x only there has =
 pub only_there : (id : ℤ) (rows : List Row) (row : Row) → filter (has_rowid id) rows ≡ row ∷ []
     → In rows row × (has_rowid id row ≡ true)
 only_there id rows row only = from_filter _ rows row (subst (λ l. In l row) (sym only) (inl refl))
+
+-- where a row has the name, no row lacks it
+pub lacks_none : (rows : List Row) (name : List ℕ) (id : ℤ) (row : Row) → IsRowOf rows name id row
+    → LacksName rows name → ⊥
+lacks_none rows name id row is lacks =
+    lacks row (from_in rows row (only_there id rows row is.only).0) is.named

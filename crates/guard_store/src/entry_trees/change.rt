@@ -112,6 +112,7 @@ fn drop_both<S: Store>(store: &mut S, row: &mut Row, id: i64, name: &str) -> Res
 }
 
 /// Adds an entry. A name that has a value already is an error.
+#[tactic(auto, using(crate::proofs::RowLemmas::lacks_none))]
 pub(crate) fn add_row<S: Store>(
     store: &mut S,
     row: &mut Row,

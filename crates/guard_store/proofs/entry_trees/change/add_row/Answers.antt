@@ -6,15 +6,8 @@ use Rattle.sqlite_value.specs.Keys.{plain}
 use Rattle.sqlite_trees.specs.Tree.{has_rowid, insert_entry, put_row}
 use Rattle.guard_store.specs.Entry.{stored}
 use Rattle.guard_store.proofs.ChangeLemmas.{adds, sets_since}
-use Rattle.guard_store.proofs.ListLemmas.{from_in}
-use Rattle.guard_store.proofs.RowLemmas.{only_there}
 use Rattle.guard_store.proofs.KnownLemmas.{reads_on}
 use Rattle.guard_store.proofs.entry_trees.change.add_row.Goals as goal
-
-pub returns-in-Some-clause-taken : goal.returns-in-Some-clause-taken
-returns-in-Some-clause-taken g c = λ known is lacks.
-    let found = rw c.in-Some.is at (c.in_ok-find_row.ensures.found known) in
-    lacks c.find_row.new.row (from_in _ _ (only_there _ _ _ found.only).0) found.named
 
 pub returns-in_ok-put_both-in-None-clause-ok : goal.returns-in_ok-put_both-in-None-clause-ok
 returns-in_ok-put_both-in-None-clause-ok g c = λ fit known.
