@@ -95,7 +95,8 @@ impl<W: Left> Connector for InPlace<W> {
         _access: Access,
     ) -> Result<(EntryTrees<FileStore<Modelled<ReadOnly, W::Files>>>, ()), StoreFault> {
         let files = open_files::<W::Files>(rt, names)?;
-        Ok((open_left(rt.alloc(), files, drawn_seed(rt)?, false)?, ()))
+        let table = open_left(rt.alloc(), files, drawn_seed(rt)?, false)?;
+        Ok((table, ()))
     }
 
     fn number(
