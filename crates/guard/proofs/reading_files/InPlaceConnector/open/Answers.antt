@@ -4,4 +4,5 @@ use Rattle.guard.proofs.reading_files.InPlaceConnector.open.Goals as goal
 
 pub returns-clause-left : goal.returns-clause-left
 returns-clause-left g c known =
-    g.met.W.Left.held (view c.in_ok-open_left.field-0.store).committed (c.in_ok-open_left.ensures.found known)
+    let found = c.in_ok-open_left.ensures.found known in
+    g.met.W.Left.held (view c.in_ok-open_left.field-0.store).committed found
