@@ -31,4 +31,5 @@ module _ {D : Type 0} {g : Ghosts D} {old then new : Files D} (it : Unopened D g
   -- they read as it does
   pub seen-probed : image it ≡ image_of g old
   seen-probed =
-      seen-files it new.log new.db are ∙ same_image (reads_then log log-then) (reads_then db db-then)
+      seen-files it new.log new.db are
+      ∙ same_image (reads_then log log-then) (reads_then db db-then)
