@@ -1,4 +1,5 @@
-//! Numbers drawn at random: that of a store, by which its filter is told from another's, and a seed.
+//! Numbers drawn at random: that of a store, by which its filter is told from another's, and a
+//! seed.
 ghost use Rattle.std.specs.Prelude.{◌≢◌, IfOk};
 
 use crate::locks::fault_of_kind;

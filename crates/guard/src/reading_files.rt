@@ -48,8 +48,8 @@ pub struct InPlace<W: Left> {
     world: PhantomData<W>,
 }
 
-/// Whether a store can be read in place. One can't to which SQLite's own program is connected, since
-/// that shares its log by rules of its own.
+/// Whether a store can be read in place. It can't while SQLite's own program is connected to it,
+/// since that shares its log by rules of its own.
 pub fn is_read_in_place(rt: &HostRuntime, names: &Names) -> bool {
     match fs::exists(rt, names.shared.as_str()) {
         Ok(is_shared) => !is_shared,

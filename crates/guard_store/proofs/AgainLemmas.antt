@@ -1,7 +1,9 @@
 -- Files that are opened again: their trees may be wanted otherwise, but the files are the same.
-use Rattle.std.proofs.Common.{◌≡◌, ◌+◌, List, ℕ, IsTrue, sym, ap, subst, ◌∙◌}
+use Rattle.std.proofs.Common.{◌≡◌, ◌+◌, List, ℕ, IsTrue, sym, ap, subst, subst₂, ◌∙◌}
 use Rattle.sqlite.proofs.OpenLemmas.{pool_files}
 use Rattle.sqlite_disk.specs.declared.Disk.{Ghosts}
+use Rattle.sqlite_pages.specs.PageMap.{PageMap}
+use Rattle.sqlite_pool.specs.Stored.{Recovers}
 use Rattle.sqlite_store.specs.Unopened.{files_of, image, state_of, wanted_by, AreUsable, HasFile}
 use Rattle.sqlite_store.specs.declared.store.open.Unopened.{Unopened}
 use Rattle.sqlite_wal.specs.Files.{seen_image}
@@ -36,3 +38,10 @@ module _ {D : Type 0} {g : Ghosts D} (old new : Unopened D g)
       → wanted_by new ≡ entry_objects text
       → HasTableAt (state_of old).page_size (image old) text → HasFile new
   again-file text size schema held = rw (size, again-image, schema) held
+
+  -- the pages that are found in them are those of the old ones
+  pub again-found : (pages : PageMap) → (state_of new).page_size ≡ (state_of old).page_size
+      → Recovers (state_of new).page_size (image new) pages
+      → Recovers (state_of old).page_size (image old) pages
+  again-found pages size found =
+      subst₂ (λ n left. Recovers n left pages) size again-image found

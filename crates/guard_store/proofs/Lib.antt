@@ -9,6 +9,7 @@ mod ListLemmas
 mod ListedLemmas
 mod NumberFacts
 mod OpenedLemmas
+mod ProbedLemmas
 mod ReadLemmas
 mod RowLemmas
 mod SeekLemmas

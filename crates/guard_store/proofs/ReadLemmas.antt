@@ -120,8 +120,9 @@ module _ {D : Type 0} {g : Ghosts D} (old new : Unopened D g) (rows : List Row)
         found = read.found;
         looks = looks;
         store = law size-read read.pages read.found looks;
-        reads = reads
-            ∙ ap₂ (λ n p. file_trees n (entry_objects listed.text) p) sized (sym (same-read pages found));
+        reads =
+            let same = sym (same-read pages found) in
+            reads ∙ ap₂ (λ n p. file_trees n (entry_objects listed.text) p) sized same;
       }
 
   -- files in which a store can still be begun were begun before

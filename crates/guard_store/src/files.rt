@@ -1,5 +1,5 @@
 //! The table of entries in a store's files.
-ghost use Rattle.std.specs.Prelude.{◌≡◌, ℕ, false, IsTrue, IfErr, IfOk};
+ghost use Rattle.std.specs.Prelude.{◌≡◌, ℕ, false, IsTrue, IfOk};
 ghost use Rattle.sqlite.specs.Files.{image_of, IsBlankAs};
 ghost use Rattle.sqlite_store.specs.FileStore.{state, view};
 ghost use Rattle.sqlite_wal.specs.PageSize.{bytes_of};

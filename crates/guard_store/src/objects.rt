@@ -3,7 +3,7 @@ ghost use Rattle.std.specs.Prelude.{◌≡◌, ◌≢◌, ◌↔◌, ℕ, List, 
 ghost use Rattle.sqlite_store.specs.Catalog.{wanted_of};
 ghost use Rattle.sqlite_value.specs.declared.value.Value.TheVariants.{Null, Text};
 ghost use Rattle.sqlite_value.specs.Order.{column};
-ghost use Rattle.guard_store.specs.StoreFile.{entry_objects, entry_sql, index_object, is_letter, letters, object_of, table_object, IsEntryText, ListEntries, ListEntriesAs};
+ghost use Rattle.guard_store.specs.StoreFile.{entry_objects, index_object, is_letter, letters, object_of, table_object, IsEntryText, ListEntries, ListEntriesAs};
 
 use sqlite_trees::schema::Object;
 use sqlite_trees::store::Shape;

@@ -13,7 +13,6 @@ ghost use Rattle.guard_store.specs.Trees.{HasShape, IsKnown, IsRowOf, LacksName,
 use crate::entry_trees::list::text_of;
 use sqlite_trees::error::StoreError;
 use sqlite_trees::store::{Direction, Shape, Store};
-use sqlite_value::keys::Order;
 use sqlite_value::row::Row;
 use sqlite_value::value::ValueRef;
 use std::alloc::Global;

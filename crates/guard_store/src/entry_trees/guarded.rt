@@ -4,7 +4,6 @@ use crate::entry_trees::change::{add_row, remove_row};
 use crate::entry_trees::find::find_value;
 use crate::entry_trees::list::list_names;
 use crate::fault::StoreFault;
-use sqlite_trees::error::StoreError;
 use sqlite_trees::store::Store;
 
 impl<S: Store + Drop> guard_engine::Store for EntryTrees<S> {

@@ -1,3 +1,4 @@
+-- A disk that is clean at the end was clean at first.
 use Rattle.guard_store.proofs.TreesLemmas.{clean-files}
 use Rattle.guard_store.proofs.files.begin.Goals as goal
 

@@ -1,3 +1,4 @@
+-- What is known of the trees is known of the table over them.
 use Rattle.std.proofs.Common.{sym, subst}
 use Rattle.sqlite.specs.Files.{image_of}
 use Rattle.sqlite_store.specs.FileStore.{view}

@@ -28,5 +28,6 @@ returns-clause-found g c =
     let db = c.requires.db in
     let same = ap₂ image (ap₂ (seen g.S.Start.log g.S.Start.db) log.0 log.1)
     (ap₂ (seen g.S.Start.log g.S.Start.db) db.0 db.1) in
+    let is = c.open_entries.ensures.found in
     IfOk-weaker c.open_entries.result _ _ (λ table found now.
-    subst (λ i. AreFound i (view table.store).committed) same (found now)) c.open_entries.ensures.found
+    subst (λ i. AreFound i (view table.store).committed) same (found now)) is

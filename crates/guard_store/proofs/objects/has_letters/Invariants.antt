@@ -1,3 +1,4 @@
+-- How far two texts agree in letters.
 use Rattle.guard_store.proofs.LetterLemmas.{Matches}
 use Rattle.guard_store.proofs.objects.has_letters.Given as goal
 

@@ -1,3 +1,4 @@
+-- The text is taken only where it is UTF-8.
 use Rattle.std.proofs.lemmas.Bool.{and_parts}
 use Rattle.guard_store.proofs.LetterLemmas.{text-is-utf8}
 use Rattle.guard_store.proofs.objects.table_text.Goals as goal

@@ -1,3 +1,4 @@
+-- A store that was made is open, and why one isn't made.
 use Rattle.std.proofs.Common.{◌∙◌}
 use Rattle.guard_store.proofs.OpenedLemmas.{can-start, cause-told, open-ready}
 use Rattle.guard_store.specs.StoreFile.{entry_sql}

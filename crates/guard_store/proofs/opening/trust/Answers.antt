@@ -1,3 +1,4 @@
+-- A store whose files are sound is open, and why it isn't opened.
 use Rattle.std.proofs.Common.{◌∙◌}
 use Rattle.guard_store.proofs.OpenedLemmas.{cause-told, limit-builds, open-ready}
 use Rattle.guard_store.proofs.opening.trust.Goals as goal

@@ -1,3 +1,4 @@
+-- What is found of the files holds of them as they were before they were read.
 use Rattle.std.proofs.Common.{false, inl, inr, sym, subst}
 use Rattle.sqlite.proofs.FileLemmas.{same_image}
 use Rattle.sqlite.specs.Files.{IsBlankAs}

@@ -1,3 +1,4 @@
+-- A table stays ready, whether the log was copied or not.
 use Rattle.guard_store.proofs.KnownLemmas.{stays_ready}
 use Rattle.guard_store.proofs.settling.settle_log.Goals as goal
 

@@ -53,7 +53,8 @@ stayed = (
 )
 
 module _ {M : Type 1} {𝓤 : Ura M} (𝓛 : Logic 𝓤) (at_mem : Memory → SProp 𝓤) (run : Routine → Fun
-    𝓤) (κ κ' κ'' : Lft) (q q' q'' : Share) (b o : ℕ) (γ : GName) (h : CallRecord) (k s : Bor (List ℕ))
+    𝓤) (κ κ' κ'' : Lft) (q q' q'' : Share) (b o : ℕ) (γ : GName) (h : CallRecord)
+    (k s : Bor (List ℕ))
   where
     open 𝓛 use {H, A}
 

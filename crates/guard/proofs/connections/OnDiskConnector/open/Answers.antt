@@ -4,4 +4,5 @@ use Rattle.guard.proofs.connections.OnDiskConnector.open.Goals as goal
 
 pub returns-in-Ok-open_left-clause-left : goal.returns-in-Ok-open_left-clause-left
 returns-in-Ok-open_left-clause-left g c known =
-    g.met.W.Left.held (view c.in-Ok-open_left.table.store).committed (c.in-Ok-open_left.ensures.found known)
+    let found = c.in-Ok-open_left.ensures.found known in
+    g.met.W.Left.held (view c.in-Ok-open_left.table.store).committed found

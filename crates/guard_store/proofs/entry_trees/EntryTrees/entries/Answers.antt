@@ -1,3 +1,4 @@
+-- The pairs that are listed are the entries.
 use Rattle.std.proofs.Common.{string_bytes, sym, vec_items, ◌∙◌}
 use Rattle.guard_store.proofs.ListedLemmas.{lists_pairs}
 use Rattle.guard_store.proofs.entry_trees.EntryTrees.entries.Goals as goal

@@ -1,3 +1,4 @@
+-- The row and its name are added under a free number.
 use Rattle.std.proofs.Common.{◌≡◌, SFits, rules, subst, w64}
 use Rattle.std.proofs.lemmas.Int.{to_z-of_z}
 use Rattle.std.specs.Prelude.{[], ◌∷◌, filter}

@@ -1,3 +1,4 @@
+-- The value is that of the row with the name.
 use Rattle.std.proofs.Common.{sym, ◌∙◌}
 use Rattle.guard_store.proofs.ListLemmas.{from_in}
 use Rattle.guard_store.proofs.RowLemmas.{only_there}

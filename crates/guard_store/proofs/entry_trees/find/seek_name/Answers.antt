@@ -1,3 +1,4 @@
+-- Where the row that comes next hasn't the name, no row has it.
 use Rattle.std.proofs.Common.{arith, rules, sym, ◌∙◌, true≢false}
 use Rattle.sqlite_trees.specs.View.{IsClean}
 use Rattle.guard_store.proofs.SeekLemmas.{lacks_at_end, lacks_before}

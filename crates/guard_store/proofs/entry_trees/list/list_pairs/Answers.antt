@@ -1,3 +1,4 @@
+-- At first no pair was listed.
 use Rattle.std.proofs.Common.{rules}
 use Rattle.sqlite_exec.proofs.CheckLemmas.{from_no_key}
 use Rattle.guard_store.proofs.entry_trees.list.list_pairs.Goals as goal

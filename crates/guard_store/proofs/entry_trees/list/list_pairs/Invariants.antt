@@ -1,3 +1,4 @@
+-- What is known of the pairs half-way.
 use Rattle.std.proofs.Common.{◌≤◌, IsSome, map, string_bytes}
 use Rattle.sqlite_value.specs.declared.value.Value.TheVariants.{Text}
 use Rattle.sqlite_trees.specs.View.{IsClean, doubt}

@@ -1,3 +1,4 @@
+-- The names that are listed are the keys.
 use Rattle.std.proofs.Common.{string_bytes, sym, vec_items, ◌∙◌}
 use Rattle.guard_store.proofs.ListedLemmas.{lists_names}
 use Rattle.guard_store.proofs.entry_trees.guarded.EntryTreesStore.keys.Goals as goal
