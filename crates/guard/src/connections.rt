@@ -9,15 +9,14 @@ use crate::drawing::{drawn_number, drawn_seed};
 use crate::left::Left;
 use crate::locks::{close_gate, fault_of_kind, lock_alone};
 use crate::names::Names;
-use guard_parts::store_number;
-use guard_store::{EntryTrees, StoreFault, number_store, open_left, settle_log};
+use guard_parts::{Unknown, store_number};
+use guard_store::{EntryTrees, Fresh, StoreFault, number_store, open_left, settle_log};
 use sqlite_disk::Disk;
 use sqlite_std_file::{FileFrom, OpenError};
 use sqlite_store::FileStore;
 use sqlite_trees::store::Store;
 use std::fs;
 use std::fs::File;
-use std::marker::PhantomData;
 
 /// What a store is opened for.
 #[derive(Clone, Copy, Debug, PartialEq, Eq)]
@@ -77,9 +76,7 @@ pub type Opened<C> = (EntryTrees<<C as Connector>::Trees>, <C as Connector>::Loc
 
 /// The files of this machine, for reading and writing. While they are open, no other process reads
 /// or writes them.
-pub struct OnDisk<W: Left> {
-    world: PhantomData<W>,
-}
+pub struct OnDisk;
 
 // What an error of an opening of files says of the store.
 fn fault_of_files(error: OpenError) -> StoreFault
@@ -129,43 +126,56 @@ fn give_number<D: Disk + Drop>(
     settle_log(table)
 }
 
-impl<W: Left> Connector for OnDisk<W> {
-    type Trees = FileStore<FileFrom<W::Files>>;
+// Opens the files of a store. A new file has a sum in each page. While the files are locked, a log
+// is taken away that a refused file didn't have.
+fn open_on_disk<W: Left>(
+    rt: &HostRuntime,
+    names: &Names,
+    access: Access,
+) -> Result<(EntryTrees<FileStore<FileFrom<W::Files>>>, Option<File>), StoreFault>
+    ensures ready { IfOk result (λ it. IsKnown (view it.0.store)
+        → IsReady (sight_of (view it.0.store) it.0.in_batch)) }
+    ensures left { IfOk result (λ it. IsKnown (view it.0.store)
+        → Stays W.has (sight_of (view it.0.store) it.0.in_batch).kept) }
+{
+    let makes = access == Access::Make;
+    let lock = lock_alone(rt, names, makes)?;
+    let makes_log = makes_log(rt, names);
+    let files = match sqlite_std_file::open(rt, names.store.as_str(), W::files()) {
+        Ok(files) => files,
+        Err(error) => return Err(fault_of_files(error)),
+    };
+    match open_left(rt.alloc(), files, drawn_seed(rt)?, makes) {
+        Ok(table) => Ok((table, lock)),
+        Err(fault) => {
+            if makes_log {
+                let _ = fs::remove_file(rt, names.log.as_str());
+            }
+            Err(fault)
+        }
+    }
+}
+
+impl Connector for OnDisk {
+    type Trees = FileStore<FileFrom<Fresh>>;
 
     // The store's file, where there is one.
     type Lock = Option<File>;
 
-    type World = W;
+    type World = Unknown;
 
-    // A new file has a sum in each page. While the files are locked, a log is taken away that a
-    // refused file didn't have.
     fn open(
         rt: &HostRuntime,
         names: &Names,
         access: Access,
-    ) -> Result<(EntryTrees<FileStore<FileFrom<W::Files>>>, Option<File>), StoreFault> {
-        let makes = access == Access::Make;
-        let lock = lock_alone(rt, names, makes)?;
-        let makes_log = makes_log(rt, names);
-        let files = match sqlite_std_file::open(rt, names.store.as_str(), W::files()) {
-            Ok(files) => files,
-            Err(error) => return Err(fault_of_files(error)),
-        };
-        match open_left(rt.alloc(), files, drawn_seed(rt)?, makes) {
-            Ok(table) => Ok((table, lock)),
-            Err(fault) => {
-                if makes_log {
-                    let _ = fs::remove_file(rt, names.log.as_str());
-                }
-                Err(fault)
-            }
-        }
+    ) -> Result<(EntryTrees<FileStore<FileFrom<Fresh>>>, Option<File>), StoreFault> {
+        open_on_disk::<Unknown>(rt, names, access)
     }
 
     fn number(
         rt: &HostRuntime,
         names: &Names,
-        table: &mut EntryTrees<FileStore<FileFrom<W::Files>>>,
+        table: &mut EntryTrees<FileStore<FileFrom<Fresh>>>,
     ) -> Result<(), StoreFault> {
         give_number(rt, names, table)
     }
@@ -174,9 +184,7 @@ impl<W: Left> Connector for OnDisk<W> {
         close_gate(rt, names)
     }
 
-    fn close(
-        table: &mut Option<EntryTrees<FileStore<FileFrom<W::Files>>>>,
-    ) -> Result<(), StoreFault> {
+    fn close(table: &mut Option<EntryTrees<FileStore<FileFrom<Fresh>>>>) -> Result<(), StoreFault> {
         match table.take() {
             Some(mut table) => settle_log(&mut table),
             None => Ok(()),

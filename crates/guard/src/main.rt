@@ -33,12 +33,12 @@ use telling::{BAD, DONE, FAILED, NO_MEMORY};
 //
 // A function at the types of one connection alone: one at those of both takes too long to prove.
 fn on_disk(rt: &HostRuntime, names: &Names, options: Options) -> u8 {
-    sessions::run::<OnDisk<Unknown>>(rt, names, Unknown, options)
+    sessions::run::<OnDisk>(rt, names, Unknown, options)
 }
 
 // Reads what is asked for, beside other readers.
 fn in_place(rt: &HostRuntime, names: &Names, options: Options, reading: Reading) -> u8 {
-    read_in::<InPlace<Unknown>>(rt, names, Unknown, options, reading)
+    read_in::<InPlace>(rt, names, Unknown, options, reading)
 }
 
 // Does what is asked for. What changes nothing shares the files, where that can be.

@@ -1,6 +1,10 @@
 //! The files of a store, opened for reading alone.
 ghost use Rattle.std.specs.Prelude.{true, false, IfOk};
+ghost use Rattle.sqlite_store.specs.FileStore.{view};
+ghost use Rattle.guard_engine.specs.Guarded.{Stays};
+ghost use Rattle.guard_engine.specs.Stores.{IsReady};
 ghost use Rattle.guard_store.specs.Found.{IsUntouched};
+ghost use Rattle.guard_store.specs.Trees.{IsKnown, sight_of};
 
 use crate::connections::{Access, Connector};
 use crate::drawing::drawn_seed;
@@ -8,14 +12,14 @@ use crate::left::Left;
 use crate::locks::{fault_of_kind, lock_shared, open_regular, pass_gate};
 use crate::names::Names;
 use crate::read_only::ReadOnly;
-use guard_store::{EntryTrees, LeftStart, StoreFault, open_left};
+use guard_parts::Unknown;
+use guard_store::{EntryTrees, Fresh, LeftStart, StoreFault, open_left};
 use lines::read_some;
 use sqlite_disk::{Calls, Files, Modelled};
 use sqlite_store::FileStore;
 use std::fs;
 use std::fs::File;
 use std::io::Read;
-use std::marker::PhantomData;
 
 // The bytes of a file; none where it isn't there.
 fn bytes_of(rt: &HostRuntime, path: &str) -> Result<Vec<u8>, StoreFault> {
@@ -44,9 +48,7 @@ fn has_journal(rt: &HostRuntime, path: &str) -> Result<bool, StoreFault> {
 /// The files of a store of this machine, for reading alone. The database file is read in place. An
 /// opening writes to the log, so that is copied into memory, and the file stays as it is. Readers
 /// share a lock, so none keeps another out, and they keep a writer out while they have it.
-pub struct InPlace<W: Left> {
-    world: PhantomData<W>,
-}
+pub struct InPlace;
 
 /// Whether a store can be read in place. It can't while SQLite's own program is connected to it,
 /// since that shares its log by rules of its own.
@@ -81,28 +83,41 @@ fn open_files<S: LeftStart>(
     })
 }
 
-impl<W: Left> Connector for InPlace<W> {
-    type Trees = FileStore<Modelled<ReadOnly, W::Files>>;
+// Opens the table of a store, for reading alone.
+fn open_in_place<W: Left>(
+    rt: &HostRuntime,
+    names: &Names,
+) -> Result<(EntryTrees<FileStore<Modelled<ReadOnly, W::Files>>>, ()), StoreFault>
+    ensures ready { IfOk result (λ it. IsKnown (view it.0.store)
+        → IsReady (sight_of (view it.0.store) it.0.in_batch)) }
+    ensures left { IfOk result (λ it. IsKnown (view it.0.store)
+        → Stays W.has (sight_of (view it.0.store) it.0.in_batch).kept) }
+{
+    let files = open_files::<W::Files>(rt, names)?;
+    let table = open_left(rt.alloc(), files, drawn_seed(rt)?, false)?;
+    Ok((table, ()))
+}
+
+impl Connector for InPlace {
+    type Trees = FileStore<Modelled<ReadOnly, Fresh>>;
 
     // The files have it.
     type Lock = ();
 
-    type World = W;
+    type World = Unknown;
 
     fn open(
         rt: &HostRuntime,
         names: &Names,
         _access: Access,
-    ) -> Result<(EntryTrees<FileStore<Modelled<ReadOnly, W::Files>>>, ()), StoreFault> {
-        let files = open_files::<W::Files>(rt, names)?;
-        let table = open_left(rt.alloc(), files, drawn_seed(rt)?, false)?;
-        Ok((table, ()))
+    ) -> Result<(EntryTrees<FileStore<Modelled<ReadOnly, Fresh>>>, ()), StoreFault> {
+        open_in_place::<Unknown>(rt, names)
     }
 
     fn number(
         _rt: &HostRuntime,
         _names: &Names,
-        _table: &mut EntryTrees<FileStore<Modelled<ReadOnly, W::Files>>>,
+        _table: &mut EntryTrees<FileStore<Modelled<ReadOnly, Fresh>>>,
     ) -> Result<(), StoreFault> {
         Ok(())
     }
@@ -113,7 +128,7 @@ impl<W: Left> Connector for InPlace<W> {
 
     // Nothing was written.
     fn close(
-        table: &mut Option<EntryTrees<FileStore<Modelled<ReadOnly, W::Files>>>>,
+        table: &mut Option<EntryTrees<FileStore<Modelled<ReadOnly, Fresh>>>>,
     ) -> Result<(), StoreFault> {
         drop(table.take());
         Ok(())

@@ -58,7 +58,7 @@ entry_objects text = table_object text ∷ index_object ∷ []
 
 -- the type, the name, the table and the SQL text of a row of sqlite_schema
 abbrev pub object_of : Row → Row
-object_of row = column row 1 ∷ column row 2 ∷ column row 3 ∷ column row 5 ∷ []
+object_of listed = column listed 1 ∷ column listed 2 ∷ column listed 3 ∷ column listed 5 ∷ []
 
 -- rows of sqlite_schema list the table of entries with this text and its index, and nothing else
 abbrev pub ListEntriesAs : List ℕ → List Row → Type 0
