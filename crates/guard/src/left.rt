@@ -24,7 +24,7 @@ pub trait Left: World {
     ghost covers: { CoversAtFirst Self.start has };
 }
 
-/// For `main` to name. The files hold nothing, and no filter may be found in an empty folder.
+/// For the program to name. The files hold nothing, and no filter may be found in an empty folder.
 impl Left for Unknown {
     ghost use Rattle.std.specs.Prelude.{false, None, refl, []};
     ghost use Rattle.guard.specs.Laws.{covers_nothing, hold_nothing};

@@ -31,7 +31,7 @@ use telling::{BAD, DONE, FAILED, NO_MEMORY};
 
 // Does what is asked for with the files themselves.
 //
-// A function at the types of one connection alone: one at those of both takes too long to prove.
+// A function at the types of one `Connector`: one at those of both takes too long to prove.
 fn on_disk(rt: &HostRuntime, names: &Names, options: Options) -> u8 {
     sessions::run::<OnDisk>(rt, names, Unknown, options)
 }

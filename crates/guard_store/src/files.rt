@@ -128,9 +128,9 @@ fn open_trees<D: Disk>(
 }
 
 /// Opens the table of entries in a store's files, which are sound if they look like a store's. It
-/// reads the header, the free list and the list of objects, and no other page. Where there is no
-/// store yet, it makes one, if that is asked for. Each page of a new file ends in a sum of its
-/// bytes.
+/// looks at the header, the free list and the list of objects, and walks no tree; where pages end
+/// in sums, each is read, and its sum tested. Where there is no store yet, it makes one, if that is
+/// asked for. Each page of a new file ends in a sum of its bytes.
 ///
 /// # Errors
 /// Where the files can't be read or written, or are no store's.
