@@ -1,6 +1,5 @@
 -- What an earlier run left, as a guard finds it.
 use Rattle.std.proofs.Common.{◌≡◌, List, [], Option, subst, sym}
-use Rattle.bloom_plain.specs.Data.{DefaultFilter}
 use Rattle.guard_engine.specs.Guarded.{Entries, Stays}
 use Rattle.guard_engine.specs.Guarding.{AllCover}
 use Rattle.guard_engine.specs.OnDemand.{Demand, IsClosed, IsKnownIn, IsKnownOf, sight_in}

@@ -1,3 +1,4 @@
 mod LeftFacts
 mod LeftLemmas
 mod StatusFacts
+mod UncoveredFacts

@@ -3,7 +3,7 @@
 use bloom_plain::Rate;
 use clap::builder::ValueParser;
 use clap::error::ErrorKind;
-use clap::{Arg, ArgMatches, Command, Error};
+use clap::{Arg, ArgAction, ArgMatches, Command, Error};
 use std::alloc::Global;
 
 /// The version that the program tells.
@@ -48,6 +48,8 @@ pub struct Options<'a> {
     pub rate: Rate,
     /// How many seconds to wait while another process has the store open.
     pub wait: u64,
+    /// Whether each page of a store that is made ends in a sum of its bytes.
+    pub sums: bool,
     pub request: Request<'a>,
 }
 
@@ -56,6 +58,8 @@ pub struct Options<'a> {
 enum Kind {
     // As a word, which has to be there.
     Word,
+    // By its name alone.
+    Flag,
     // Behind its name. First stand what help calls it, and what it is where none is given.
     Option(&'static str, &'static str, ValueParser<'static>),
 }
@@ -73,6 +77,11 @@ const PROGRAM: &'static [Row] = &[
         "wait",
         Kind::Option("SECONDS", "5", ValueParser::Unsigned(0, 1_000_000_000)),
         "How long to wait while another process has the store open",
+    ),
+    (
+        "sums",
+        Kind::Flag,
+        "Where the store is made, each page ends in a sum, which each open tests",
     ),
     (
         "STORE",
@@ -143,6 +152,13 @@ fn word<'a>(alloc: Global, id: &'a str, help: &'a str) -> Arg<'a> {
     Arg::new(alloc, id).required(true).help(help)
 }
 
+fn flag<'a>(alloc: Global, id: &'a str, help: &'a str) -> Arg<'a> {
+    Arg::new(alloc, id)
+        .long(id)
+        .action(ArgAction::SetTrue)
+        .help(help)
+}
+
 fn option<'a>(
     alloc: Global,
     id: &'a str,
@@ -162,6 +178,7 @@ fn option<'a>(
 fn argument<'a>(alloc: Global, id: &'a str, kind: Kind, help: &'a str) -> Arg<'a> {
     match kind {
         Kind::Word => word(alloc, id, help),
+        Kind::Flag => flag(alloc, id, help),
         Kind::Option(name, default, parser) => option(alloc, id, help, name, default, parser),
     }
 }
@@ -178,17 +195,32 @@ fn add_arguments<'a>(
     Ok(command)
 }
 
-// The words that the program understands.
-fn command<'a>(alloc: Global) -> Result<Command<'a>, Error> {
-    let program = Command::new(alloc, "guard")
+// The program's words but for its commands.
+fn program<'a>(alloc: Global) -> Command<'a> {
+    Command::new(alloc, "guard")
         .version(VERSION)
         .about("A store of values by keys, behind a filter of its keys")
         .subcommand_required(true)
-        .arg_required_else_help(true);
-    let mut program = add_arguments(alloc, program, PROGRAM)?;
+        .arg_required_else_help(true)
+}
+
+// Adds a command with the arguments of these rows.
+fn add_command<'a>(
+    alloc: Global,
+    program: Command<'a>,
+    name: &'a str,
+    about: &'a str,
+    rows: &[Row],
+) -> Result<Command<'a>, Error> {
+    let command = Command::new(alloc, name).about(about);
+    Ok(program.subcommand(add_arguments(alloc, command, rows)?)?)
+}
+
+// The words that the program understands.
+fn command<'a>(alloc: Global) -> Result<Command<'a>, Error> {
+    let mut program = add_arguments(alloc, program(alloc), PROGRAM)?;
     'commands: for (name, about, rows) in &COMMANDS {
-        let command = Command::new(alloc, name).about(about);
-        program = program.subcommand(add_arguments(alloc, command, rows)?)?;
+        program = add_command(alloc, program, name, about, rows)?;
     }
     Ok(program)
 }
@@ -214,12 +246,23 @@ fn load_of<'a>(words: &ArgMatches<'a>) -> Option<Load<'a>> {
     })
 }
 
+// The key and the value of a command's words.
+fn entry_of<'a>(words: &ArgMatches<'a>) -> Option<(&'a str, &'a str)> {
+    Some((words.get_str("KEY")?, words.get_str("VALUE")?))
+}
+
 // What a command's words ask for.
 fn request_of<'a>(matches: &ArgMatches<'a>) -> Option<Request<'a>> {
     let (name, words) = matches.subcommand()?;
     match name {
-        "put" => Some(Request::Put(words.get_str("KEY")?, words.get_str("VALUE")?)),
-        "replace" => Some(Request::Replace(words.get_str("KEY")?, words.get_str("VALUE")?)),
+        "put" => {
+            let (key, value) = entry_of(words)?;
+            Some(Request::Put(key, value))
+        }
+        "replace" => {
+            let (key, value) = entry_of(words)?;
+            Some(Request::Replace(key, value))
+        }
         "get" => Some(Request::Get(words.get_str("KEY")?)),
         "delete" => Some(Request::Delete(words.get_str("KEY")?)),
         "load" => Some(Request::Load(load_of(words)?)),
@@ -229,27 +272,31 @@ fn request_of<'a>(matches: &ArgMatches<'a>) -> Option<Request<'a>> {
     }
 }
 
+// What the program's words ask for; none where the rate is no fraction.
+fn options_of<'a>(matches: &ArgMatches<'a>) -> Option<Options<'a>> {
+    Some(Options {
+        store: matches.get_str("STORE")?,
+        rate: rate_of(matches.get_str("rate")?)?,
+        wait: matches.get_one::<u64>("wait")?,
+        sums: matches.get_flag("sums"),
+        request: request_of(matches)?,
+    })
+}
+
+// What is wrong with a rate.
+fn rate_error(alloc: Global) -> Result<Error, Error> {
+    let told = "the rate is a fraction between 0 and 1, as 1/1000";
+    Ok(command(alloc)?.error(ErrorKind::ValueValidation, told)?)
+}
+
 /// What the words ask for, of which the first is the program's name.
 ///
 /// # Errors
 /// The text for the user: what is wrong with the words, or the help.
 pub fn arguments<'a>(alloc: Global, words: &'a [String]) -> Result<Options<'a>, Error> {
     let matches = command(alloc)?.try_get_matches_from(words)?;
-    let rate = match matches.get_str("rate") {
-        Some(text) => rate_of(text),
-        None => None,
-    };
-    let wait = matches.get_one::<u64>("wait");
-    match (matches.get_str("STORE"), rate, wait, request_of(&matches)) {
-        (Some(store), Some(rate), Some(wait), Some(request)) => Ok(Options {
-            store,
-            rate,
-            wait,
-            request,
-        }),
-        _ => {
-            let told = "the rate is a fraction between 0 and 1, as 1/1000";
-            Err(command(alloc)?.error(ErrorKind::ValueValidation, told)?)
-        }
+    match options_of(&matches) {
+        Some(options) => Ok(options),
+        None => Err(rate_error(alloc)?),
     }
 }

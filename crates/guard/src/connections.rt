@@ -27,6 +27,8 @@ pub enum Access {
     Change,
     /// The same, and the store is made where there is none.
     Make,
+    /// The same, and each page of a store that is made ends in a sum of its bytes.
+    MakeWithSums,
 }
 
 /// What opens the files of a store, and closes them.
@@ -67,8 +69,19 @@ pub trait Connector {
     /// this one changes it.
     fn keep_out(rt: &HostRuntime, names: &Names) -> Option<File>;
 
-    /// Takes the table, copies the log into the file, and closes both.
-    fn close(table: &mut Option<EntryTrees<Self::Trees>>) -> Result<(), StoreFault>;
+    /// Copies the log into the file, if this one changes it.
+    fn settle(table: &mut EntryTrees<Self::Trees>) -> Result<(), StoreFault>;
+}
+
+/// Closes a table, if it is open. What was opened for changes has its log copied first, as far as
+/// that goes.
+pub fn close_table<C: Connector>(table: Option<EntryTrees<C::Trees>>, access: Access) {
+    let Some(mut table) = table else {
+        return;
+    };
+    if access != Access::Read {
+        drop(C::settle(&mut table));
+    }
 }
 
 /// The table of a store, and what keeps other processes away while it is open.
@@ -126,8 +139,8 @@ fn give_number<D: Disk + Drop>(
     settle_log(table)
 }
 
-// Opens the files of a store. A new file has a sum in each page. While the files are locked, a log
-// is taken away that a refused file didn't have.
+// Opens the files of a store. While they are locked, a log is taken away that a refused file didn't
+// have.
 fn open_on_disk<W: Left>(
     rt: &HostRuntime,
     names: &Names,
@@ -138,14 +151,15 @@ fn open_on_disk<W: Left>(
     ensures left { IfOk result (λ it. IsKnown (view it.0.store)
         → Stays W.has (sight_of (view it.0.store) it.0.in_batch).kept) }
 {
-    let makes = access == Access::Make;
+    let with_sums = access == Access::MakeWithSums;
+    let makes = with_sums || access == Access::Make;
     let lock = lock_alone(rt, names, makes)?;
     let makes_log = makes_log(rt, names);
     let files = match sqlite_std_file::open(rt, names.store.as_str(), W::files()) {
         Ok(files) => files,
         Err(error) => return Err(fault_of_files(error)),
     };
-    match open_left(rt.alloc(), files, drawn_seed(rt)?, makes) {
+    match open_left(rt.alloc(), files, drawn_seed(rt)?, makes, with_sums) {
         Ok(table) => Ok((table, lock)),
         Err(fault) => {
             if makes_log {
@@ -184,10 +198,7 @@ impl Connector for OnDisk {
         close_gate(rt, names)
     }
 
-    fn close(table: &mut Option<EntryTrees<FileStore<FileFrom<Fresh>>>>) -> Result<(), StoreFault> {
-        match table.take() {
-            Some(mut table) => settle_log(&mut table),
-            None => Ok(()),
-        }
+    fn settle(table: &mut EntryTrees<FileStore<FileFrom<Fresh>>>) -> Result<(), StoreFault> {
+        settle_log(table)
     }
 }

@@ -8,6 +8,9 @@ ghost use Rattle.guard_engine.specs.Stores.{IsReady};
 use crate::filter_file::{FilterFault, StoreFilter, filter_file};
 use crate::left::Left;
 use crate::names::Names;
+use crate::tasks;
+use crate::tasks::{Change, Question};
+use crate::telling::tell_refusal;
 use bloom_plain::Rate;
 use guard_engine::{Guard, OnDemand, Origin, Refusal, Source, Store};
 use guard_store::StoreFault;
@@ -69,4 +72,58 @@ pub fn over_table<'a, T: Store<Error = StoreFault> + Drop, W: Left>(
 {
     let kept = filter_file(rt, names, world);
     Guard::open(rt.alloc(), table, kept, rate, coming, spare)
+}
+
+/// Asks a guard over a file that is opened when it is first asked. Behind the status it gives back
+/// what opens the file, and the store, if it was opened.
+///
+/// # Errors
+/// The status where there is no guard, which is told.
+pub fn ask<O: Source<Error = StoreFault> + Drop, W: Left>(
+    rt: &HostRuntime,
+    names: &Names,
+    source: O,
+    world: W,
+    rate: Rate,
+    question: Question,
+) -> Result<(u8, O, Option<O::Store>), u8>
+    requires beside { O.is_known source → Stays W.has (O.has source) }
+{
+    match over_file(rt, names, source, world, rate) {
+        Ok((guard, origin)) => {
+            let (status, store) = tasks::ask(rt, names, guard, origin, question);
+            let (source, table) = store.into_parts();
+            Ok((status, source, table))
+        }
+        Err(refusal) => Err(tell_refusal(rt, names, &refusal)),
+    }
+}
+
+/// Makes a change by a guard over a store that is open, and gives the store back behind the status.
+/// `room` has how many keys are to come, for which the filter has room, and how many one that is
+/// made anew has to spare.
+///
+/// # Errors
+/// The status where there is no guard, which is told.
+pub fn make_change<T: Store<Error = StoreFault> + Drop, W: Left>(
+    rt: &HostRuntime,
+    names: &Names,
+    table: T,
+    world: W,
+    rate: Rate,
+    room: (usize, usize),
+    is_new: bool,
+    what: Change,
+) -> Result<(u8, T), u8>
+    requires ready { T.is_known table → IsReady (T.sight table) }
+    requires beside { T.is_known table → Stays W.has (T.sight table).kept }
+{
+    let (coming, spare) = room;
+    match over_table(rt, names, table, world, rate, coming, spare) {
+        Ok((guard, origin)) => {
+            let made = if is_new { None } else { Some(origin) };
+            Ok(tasks::make_change(rt, names, guard, made, what))
+        }
+        Err(refusal) => Err(tell_refusal(rt, names, &refusal)),
+    }
 }

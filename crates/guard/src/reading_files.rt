@@ -94,7 +94,7 @@ fn open_in_place<W: Left>(
         → Stays W.has (sight_of (view it.0.store) it.0.in_batch).kept) }
 {
     let files = open_files::<W::Files>(rt, names)?;
-    let table = open_left(rt.alloc(), files, drawn_seed(rt)?, false)?;
+    let table = open_left(rt.alloc(), files, drawn_seed(rt)?, false, false)?;
     Ok((table, ()))
 }
 
@@ -127,10 +127,9 @@ impl Connector for InPlace {
     }
 
     // Nothing was written.
-    fn close(
-        table: &mut Option<EntryTrees<FileStore<Modelled<ReadOnly, Fresh>>>>,
+    fn settle(
+        _table: &mut EntryTrees<FileStore<Modelled<ReadOnly, Fresh>>>,
     ) -> Result<(), StoreFault> {
-        drop(table.take());
         Ok(())
     }
 }

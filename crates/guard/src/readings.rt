@@ -1,94 +1,54 @@
-//! What is read of a store, and nothing changed.
+//! What is asked of a store.
 
 use crate::command_line::Options;
-use crate::connections::{Access, Connector};
-use crate::guards::Reader;
+use crate::connections::{Access, Connector, close_table};
 use crate::names::Names;
 use crate::store_file::{StoreFile, open_within};
-use crate::telling::{FAILED, Input, NO_INPUT, tell, tell_refusal, tell_store};
+use crate::tasks::Question;
+use crate::telling::{FAILED, tell, tell_store};
 use crate::{guards, tasks};
-use guard_engine::Task;
 
 /// What a request that changes nothing reads.
 #[derive(Clone, Copy)]
 pub enum Reading<'a> {
-    /// The value of a key.
-    Get(&'a str),
+    /// What a guard is asked.
+    Of(Question<'a>),
     /// All entries.
     List,
-    /// The keys of standard input, each looked up.
-    Stats,
 }
 
-/// Opens the filter of a store that is there. Where it is made anew, that is told.
-pub fn open_reader<'a, C: Connector>(
-    rt: &'a HostRuntime,
-    names: &'a Names,
+fn tell_none(rt: &HostRuntime, names: &Names) -> u8 {
+    tell(rt, names.store.as_str(), "there is no such store");
+    FAILED
+}
+
+/// Asks a guard of a store that is there, which is opened if the guard asks it; the status.
+pub fn ask<C: Connector>(
+    rt: &HostRuntime,
+    names: &Names,
     world: C::World,
     options: Options,
     access: Access,
-) -> Result<Reader<'a, StoreFile<'a, C>, C::World>, u8> {
-    if !names.has_store(rt) {
-        tell(rt, names.store.as_str(), "there is no such store");
-        return Err(FAILED);
-    }
-    match guards::over_file(
-        rt,
-        names,
-        StoreFile::<C>::new(rt, names, access, options.wait),
-        world,
-        options.rate,
-    ) {
-        Ok((mut guard, origin)) => {
-            tasks::save_made(rt, names, &mut guard, origin);
-            Ok(guard)
-        }
-        Err(refusal) => Err(tell_refusal(rt, names, &refusal)),
-    }
-}
-
-fn get<'a, C: Connector>(
-    rt: &'a HostRuntime,
-    names: &'a Names,
-    world: C::World,
-    options: Options,
-    key: &str,
+    question: Question,
 ) -> u8 {
-    match open_reader::<C>(rt, names, world, options, Access::Read) {
-        Ok(mut guard) => {
-            let task: Task<&[u8]> = Task::Get(key);
-            let status = tasks::serve(rt, names, &mut guard, task, NO_INPUT);
-            drop(guard);
+    if !names.has_store(rt) {
+        return tell_none(rt, names);
+    }
+    let source = StoreFile::<C>::new(rt, names, access, options.wait);
+    match guards::ask(rt, names, source, world, options.rate, question) {
+        Ok((status, source, table)) => {
+            close_table::<C>(table, access);
+            drop(source);
             status
         }
         Err(status) => status,
     }
 }
 
-fn stats<'a, C: Connector>(
-    rt: &'a HostRuntime,
-    names: &'a Names,
-    world: C::World,
-    options: Options,
-) -> u8 {
-    let input = Input {
-        place: "standard input",
-        is_put: false,
-    };
-    match open_reader::<C>(rt, names, world, options, Access::Read) {
-        Ok(mut guard) => {
-            let status = tasks::count(rt, names, &mut guard, &mut rt.reader(), input);
-            drop(guard);
-            status
-        }
-        Err(status) => status,
-    }
-}
-
-fn list<C: Connector>(rt: &HostRuntime, names: &Names, options: Options) -> u8 {
+/// Prints the entries of a store that is there; the status.
+pub fn list<C: Connector>(rt: &HostRuntime, names: &Names, options: Options) -> u8 {
     if !names.has_store(rt) {
-        tell(rt, names.store.as_str(), "there is no such store");
-        return FAILED;
+        return tell_none(rt, names);
     }
     let (mut table, lock) = match open_within::<C>(rt, names, Access::Read, options.wait) {
         Ok(opened) => opened,
@@ -112,8 +72,7 @@ pub fn read_in<C: Connector>(
     reading: Reading,
 ) -> u8 {
     match reading {
-        Reading::Get(key) => get::<C>(rt, names, world, options, key),
+        Reading::Of(question) => ask::<C>(rt, names, world, options, Access::Read, question),
         Reading::List => list::<C>(rt, names, options),
-        Reading::Stats => stats::<C>(rt, names, world, options),
     }
 }

@@ -2,21 +2,54 @@
 
 use crate::filter_file::FilterFault;
 use crate::names::Names;
-use crate::telling::{BAD, DONE, FAILED, Input, NO, tell, tell_filter, tell_origin, tell_trouble};
+use crate::telling::{
+    BAD, DONE, FAILED, Input, NO, NO_INPUT, tell, tell_filter, tell_origin, tell_trouble,
+};
 use guard_engine::{Answer, Guard, Kept, Origin, Store, Task, Trouble, carry_out};
 use guard_store::StoreFault;
 use lines::Reason;
+use std::fs::File;
 use std::io;
 use std::io::{BufWriter, Read, Write};
 
-/// Tells that the reply can't be printed.
+// What is told of standard input.
+const INPUT: &'static str = "standard input";
+
+/// What a guard is asked.
+#[derive(Clone, Copy)]
+pub enum Question<'a> {
+    /// For the value of a key.
+    Get(&'a str),
+    /// For the value of each line of standard input.
+    Stats,
+    /// To take the value of a key away.
+    Delete(&'a str),
+}
+
+/// What a guard is to put.
+#[derive(Drop)]
+pub enum Change<'a> {
+    /// One entry.
+    One(Task<'a, &'a [u8]>),
+    /// The lines of a file, so many together. The name of the file is behind.
+    Load(File, u64, &'a str),
+    /// The lines of standard input, so many together.
+    Input(u64),
+}
+
+// The input of lines that are put, or looked up.
+fn input_of<'a>(place: &'a str, is_put: bool) -> Input<'a> {
+    Input { place, is_put }
+}
+
+// Tells that the reply can't be printed.
 fn tell_output(rt: &HostRuntime, error: io::Error) -> u8 {
     tell(rt, "standard output", Reason(error.kind()));
     FAILED
 }
 
-/// Tells where the filter was made anew, and tries to save it.
-pub fn save_made<T: Store + Drop, K: Kept<Error = FilterFault> + Drop>(
+// Tells where the filter was made anew, and tries to save it.
+fn save_made<T: Store + Drop, K: Kept<Error = FilterFault> + Drop>(
     rt: &HostRuntime,
     names: &Names,
     guard: &mut Guard<T, K>,
@@ -45,8 +78,8 @@ fn print_answer(rt: &HostRuntime, answer: &Answer) -> u8 {
     }
 }
 
-/// Carries a task out, prints the reply, and returns the status.
-pub fn serve<T, K, R>(
+// Carries a task out, prints the reply, and returns the status.
+fn serve<T, K, R>(
     rt: &HostRuntime,
     names: &Names,
     guard: &mut Guard<T, K>,
@@ -64,9 +97,9 @@ where
     }
 }
 
-/// Looks up the lines of a reader and prints what that came to; the status. The kit's standard
-/// input can't be a part of a task.
-pub fn count<T, K, R>(
+// Looks up the lines of a reader and prints what that came to; the status. The kit's standard input
+// can't be a part of a task.
+fn count<T, K, R>(
     rt: &HostRuntime,
     names: &Names,
     guard: &mut Guard<T, K>,
@@ -84,8 +117,8 @@ where
     }
 }
 
-/// Puts the lines of a reader and prints what that came to; the status.
-pub fn fill<T, K, R>(
+// Puts the lines of a reader and prints what that came to; the status.
+fn fill<T, K, R>(
     rt: &HostRuntime,
     names: &Names,
     guard: &mut Guard<T, K>,
@@ -102,6 +135,74 @@ where
         Ok(loaded) => print_answer(rt, &Answer::Loaded(loaded, guard.counts())),
         Err(stop) => tell_trouble(rt, names, input, &Trouble::Lines(stop)),
     }
+}
+
+/// Asks a guard, and gives its store back behind the status. It is told where the filter was made
+/// anew.
+pub fn ask<T, K>(
+    rt: &HostRuntime,
+    names: &Names,
+    guard: Guard<T, K>,
+    origin: Origin<FilterFault>,
+    question: Question,
+) -> (u8, T)
+where
+    T: Store<Error = StoreFault> + Drop,
+    K: Kept<Error = FilterFault> + Drop,
+{
+    let mut guard = guard;
+    save_made(rt, names, &mut guard, origin);
+    let status = match question {
+        Question::Get(key) => {
+            let task: Task<&[u8]> = Task::Get(key);
+            serve(rt, names, &mut guard, task, NO_INPUT)
+        }
+        Question::Delete(key) => {
+            let task: Task<&[u8]> = Task::Delete(key);
+            serve(rt, names, &mut guard, task, NO_INPUT)
+        }
+        Question::Stats => {
+            let input = input_of(INPUT, false);
+            count(rt, names, &mut guard, &mut rt.reader(), input)
+        }
+    };
+    let (store, kept) = guard.into_parts();
+    drop(kept);
+    (status, store)
+}
+
+/// Makes a change by a guard, and gives its store back behind the status. It is told where the
+/// filter was made anew; with no origin, it is saved as that of a new store.
+pub fn make_change<T, K>(
+    rt: &HostRuntime,
+    names: &Names,
+    guard: Guard<T, K>,
+    origin: Option<Origin<FilterFault>>,
+    what: Change,
+) -> (u8, T)
+where
+    T: Store<Error = StoreFault> + Drop,
+    K: Kept<Error = FilterFault> + Drop,
+{
+    let mut guard = guard;
+    match origin {
+        Some(origin) => save_made(rt, names, &mut guard, origin),
+        None => drop(guard.save()),
+    }
+    let status = match what {
+        Change::One(task) => serve(rt, names, &mut guard, task, NO_INPUT),
+        Change::Load(file, batch, place) => {
+            let input = input_of(place, true);
+            serve(rt, names, &mut guard, Task::Load(file, batch), input)
+        }
+        Change::Input(batch) => {
+            let input = input_of(INPUT, true);
+            fill(rt, names, &mut guard, &mut rt.reader(), batch, input)
+        }
+    };
+    let (store, kept) = guard.into_parts();
+    drop(kept);
+    (status, store)
 }
 
 // Whether an entry can stand on a line: its key has no tab, and neither text has a line's end.

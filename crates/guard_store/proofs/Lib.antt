@@ -1,4 +1,5 @@
 mod AgainLemmas
+mod AgreementFacts
 mod ChangeLemmas
 mod EntryFacts
 mod IndexFacts
@@ -17,3 +18,4 @@ mod ShownLemmas
 mod StoreFileFacts
 mod TreesFacts
 mod TreesLemmas
+mod UnsoundFacts

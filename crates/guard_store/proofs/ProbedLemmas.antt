@@ -1,14 +1,23 @@
 -- Files that were only read since, and were then made ready for an opening.
-use Rattle.std.proofs.Common.{◌≡◌, IsTrue, ◌∙◌}
+use Rattle.std.proofs.Common.{◌≡◌, ◌⊎◌, inl, inr, Bool, true, false, not, IsTrue, ◌∙◌}
 use Rattle.sqlite.proofs.FileLemmas.{reads_then, same_image}
-use Rattle.sqlite.specs.Files.{image_of}
+use Rattle.sqlite.specs.Files.{image_of, IsBlankAs, IsNothing}
 use Rattle.sqlite_disk.specs.declared.Disk.{Ghosts}
 use Rattle.sqlite_disk.specs.declared.Files.{Files}
 use Rattle.sqlite_store.specs.Unopened.{files_of, image, state_of}
 use Rattle.sqlite_store.specs.declared.store.open.Unopened.{Unopened}
 use Rattle.sqlite_wal.proofs.CleanLemmas.{both_clean}
 use Rattle.sqlite_wal.specs.Reads.{AreClean, OnlyReads}
+use Rattle.sqlite_wal.specs.Recovery.{Image}
 use Rattle.guard_store.proofs.TreesLemmas.{clean-files, seen-files}
+
+-- no database is there, with sums or without
+pub either-way : (b : Bool) (image : Image) → IsNothing image
+    → IsBlankAs b image ⊎ IsBlankAs (not b) image
+either-way false image (inl plain) = inl plain
+either-way false image (inr sums) = inr sums
+either-way true image (inl plain) = inr plain
+either-way true image (inr sums) = inl sums
 
 -- files that were read once
 module _ {D : Type 0} {g : Ghosts D} {old new : Files D} (log : OnlyReads g old.log new.log)

@@ -1,17 +1,13 @@
 -- What looks like a store's file: cases that hold, and ones that differ in one thing.
 use Rattle.std.proofs.Common.{◌≡◌, ℕ, List, [], ◌∷◌, ◌++◌, codes, get_or, length, pos, zero, suc, refl, ap, subst, inl, inr, lit<, lt_irrefl, arith}
 use Rattle.std.proofs.Math.Logic.{∥∥₁_elim}
-use Rattle.sqlite_pages.specs.PageMap.{PageMap}
-use Rattle.sqlite_pool.specs.Stored.{Recovers}
-use Rattle.sqlite_store.specs.Listing.{file_trees}
 use Rattle.sqlite_trees.specs.Tree.{Trees}
 use Rattle.sqlite_value.specs.Order.{Row}
 use Rattle.sqlite_value.specs.declared.value.Value.TheVariants.{Int, Null, Text}
 use Rattle.sqlite_wal.specs.Recovery.{Image}
 use Rattle.guard_store.specs.FirstLaws.{sound_empty}
 use Rattle.guard_store.specs.Opened.{AreFoundAt, IsEmptyStore, IsUnfinishedAt}
-use Rattle.guard_store.specs.StoreFile.{entry_objects, entry_sql, table_text, AreSoundIfStore, IsEntryText, ListEntries, LooksLikeStore}
-use Rattle.guard_store.specs.Trees.{AreEntries}
+use Rattle.guard_store.specs.StoreFile.{entry_sql, AreSoundIfStore, IsEntryText, ListEntries}
 
 -- ---- the text of the table
 
@@ -96,14 +92,6 @@ lists-turned is = let objects = is.objects in cc
 -- an empty file is sound, since it doesn't look like a store's
 sound-empty : AreSoundIfStore (record { log = []; db = [] })
 sound-empty = sound_empty []
-
--- files aren't sound that look like a store's and whose trees aren't those of entries
-sound-not : (left : Image) (size : ℕ) (pages : PageMap) → Recovers size left pages
-    → (looks : LooksLikeStore size pages)
-    → ¬ AreEntries (file_trees size (entry_objects (table_text looks)) pages)
-    → ¬ AreSoundIfStore left
-unfolding AreSoundIfStore
-sound-not left size pages found looks wrong law = wrong (law size pages found looks).trees
 
 -- trees without a row
 abbrev no_rows : Trees

@@ -1,3 +1,4 @@
+pub mod Agreement
 pub mod Answers
 pub mod Entry
 pub mod Faults

@@ -1,4 +1,5 @@
 //! The store over numbered trees.
+mod agreement;
 mod change;
 mod find;
 mod guarded;
@@ -8,7 +9,7 @@ ghost use Rattle.std.specs.Prelude.{◌≡◌, false, OnErr, OnOk};
 ghost use Rattle.sqlite_trees.specs.View.{IsRolledBack};
 
 use crate::fault::StoreFault;
-use list::list_pairs;
+use list::list_entries;
 use sqlite_trees::store::Store;
 use sqlite_value::row::Row;
 use std::alloc::Global;
@@ -18,6 +19,8 @@ use std::alloc::Global;
 pub struct EntryTrees<S: Store + Drop> {
     pub store: S,
     pub in_batch: bool,
+    /// The table was compared with its index since it was opened, and they agreed.
+    pub is_compared: bool,
     row: Row,
     alloc: Global,
 }
@@ -25,6 +28,7 @@ pub struct EntryTrees<S: Store + Drop> {
 impl<S: Store + Drop> EntryTrees<S> {
     ghost use Rattle.std.specs.Prelude.{map, string_bytes, vec_items, IfOk};
     ghost use Rattle.guard_engine.specs.Stores.{Fails, IsReady, Keeps};
+    ghost use Rattle.guard_store.specs.Agreement.{Agree};
     ghost use Rattle.guard_store.specs.Answers.{ListsEntries};
     ghost use Rattle.guard_store.specs.Trees.{HasTrees, IsKnown, sight_of};
 
@@ -34,16 +38,18 @@ impl<S: Store + Drop> EntryTrees<S> {
             → IsReady (sight_of (S.Store.view result.store) result.in_batch) }
         ensures same { result.store ≡ store }
         ensures closed { result.in_batch ≡ false }
+        ensures fresh { result.is_compared ≡ false }
     {
         EntryTrees {
             store,
             in_batch: false,
+            is_compared: false,
             row: Row::new(alloc),
             alloc,
         }
     }
 
-    /// Lists every entry.
+    /// Lists every entry, once the table agrees with the index of its names.
     pub fn entries(&mut self) -> Result<Vec<(String, String)>, StoreFault>
         ensures known { IsKnown (S.Store.view self.new.store)
             → IsKnown (S.Store.view self.old.store) }
@@ -52,6 +58,8 @@ impl<S: Store + Drop> EntryTrees<S> {
             ListsEntries (map (λ pair. (string_bytes pair.0, string_bytes pair.1))
             (vec_items entries))
             (sight_of (S.Store.view self.old.store) self.old.in_batch).has) }
+        ensures agree { self.old.is_compared ≡ false → IsKnown (S.Store.view self.new.store)
+            → OnOk result (Agree (S.Store.view self.old.store).trees) }
         ensures ok { HasTrees (S.Store.view self.old.store) self.old.in_batch
             → IsKnown (S.Store.view self.new.store) → OnOk result (Keeps
             (sight_of (S.Store.view self.old.store) self.old.in_batch)
@@ -61,7 +69,12 @@ impl<S: Store + Drop> EntryTrees<S> {
             (sight_of (S.Store.view self.old.store) self.old.in_batch)
             (sight_of (S.Store.view self.new.store) self.new.in_batch)) }
     {
-        let pairs = list_pairs(&mut self.store, &mut self.row, self.alloc);
+        let pairs = list_entries(
+            &mut self.store,
+            &mut self.row,
+            self.alloc,
+            &mut self.is_compared,
+        );
         Ok(self.settle(pairs)?)
     }
 

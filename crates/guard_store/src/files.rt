@@ -1,6 +1,7 @@
 //! The table of entries in a store's files.
 ghost use Rattle.std.specs.Prelude.{◌≡◌, ℕ, false, IsTrue, IfOk};
 ghost use Rattle.sqlite.specs.Files.{image_of, IsBlankAs};
+ghost use Rattle.sqlite_pool.specs.Stored.{used_size};
 ghost use Rattle.sqlite_store.specs.FileStore.{state, view};
 ghost use Rattle.sqlite_wal.specs.PageSize.{bytes_of};
 ghost use Rattle.sqlite_wal.specs.Reads.{AreClean};
@@ -44,6 +45,8 @@ fn begin<D: Disk>(
         → IsOpenStore (view store)) }
     ensures empty { IfOk result (λ store. IsTrue (state store).is_clean
         → IsEmptyStore (view store).committed) }
+    ensures sized { IfOk result (λ store. IsTrue (state store).is_clean
+        → (state store).page_size ≡ used_size 4096 has_sums) }
 {
     let fresh = match unopened(alloc, files, size, options, has_sums, TEXT) {
         Ok(fresh) => fresh,
@@ -99,6 +102,7 @@ fn open_trees<D: Disk>(
     mut files: Files<D>,
     options: Options,
     makes: bool,
+    with_sums: bool,
 ) -> Result<FileStore<D>, (StoreFault, Leftover<D>)>
     requires log { IsTrue (D.Disk.is_usable files.log) }
     requires db { IsTrue (D.Disk.is_usable files.db) }
@@ -112,9 +116,12 @@ fn open_trees<D: Disk>(
         → AreFound (image_of D.Disk files) (view store).committed) }
     ensures there { makes ≡ false → IfOk result (λ store. IsTrue (state store).is_clean
         → HoldsStore (image_of D.Disk files) (view store).committed) }
+    ensures sized { IsBlankAs with_sums (image_of D.Disk files)
+        → IfOk result (λ store. IsTrue (state store).is_clean
+        → (state store).page_size ≡ used_size 4096 with_sums) }
 {
     let new_size = PageSize::new(NEW_SIZE).unwrap();
-    let nothing = match finds_nothing(alloc, &mut files, new_size) {
+    let nothing = match finds_nothing(alloc, &mut files, new_size, with_sums) {
         Ok(nothing) => nothing,
         Err(why) => return Err((why, Leftover::Files(files))),
     };
@@ -129,8 +136,8 @@ fn open_trees<D: Disk>(
 
 /// Opens the table of entries in a store's files, which are sound if they look like a store's. It
 /// looks at the header, the free list and the list of objects, and walks no tree; where pages end
-/// in sums, each is read, and its sum tested. Where there is no store yet, it makes one, if that is
-/// asked for. Each page of a new file ends in a sum of its bytes.
+/// in sums, each is read, and its sum tested. Where there is no store yet, it makes one, if `makes`
+/// is true; each page of a new file ends in a sum of its bytes if `with_sums` is.
 ///
 /// # Errors
 /// Where the files can't be read or written, or are no store's.
@@ -139,6 +146,7 @@ pub fn open_entries<D: Disk + Drop>(
     files: Files<D>,
     options: Options,
     makes: bool,
+    with_sums: bool,
 ) -> Result<EntryTrees<FileStore<D>>, StoreFault>
     requires log { IsTrue (D.Disk.is_usable files.log) }
     requires db { IsTrue (D.Disk.is_usable files.db) }
@@ -152,8 +160,11 @@ pub fn open_entries<D: Disk + Drop>(
         → AreFound (image_of D.Disk files) (view table.store).committed) }
     ensures there { makes ≡ false → IfOk result (λ table. IsKnown (view table.store)
         → HoldsStore (image_of D.Disk files) (view table.store).committed) }
+    ensures sized { IsBlankAs with_sums (image_of D.Disk files)
+        → IfOk result (λ table. IsKnown (view table.store)
+        → (state table.store).page_size ≡ used_size 4096 with_sums) }
 {
-    match open_trees(alloc, files, options, makes) {
+    match open_trees(alloc, files, options, makes, with_sums) {
         Ok(store) => Ok(EntryTrees::over(alloc, store)),
         Err((why, left)) => {
             let _files = left.into_files();

@@ -1,7 +1,9 @@
 //! Opens the files that a guard left.
-ghost use Rattle.std.specs.Prelude.{true, false, IfOk};
+ghost use Rattle.std.specs.Prelude.{◌≡◌, true, false, IfOk};
+ghost use Rattle.sqlite.specs.Files.{IsBlankAs};
 ghost use Rattle.sqlite_disk.specs.declared.modelled.Modelled.{Modelled};
-ghost use Rattle.sqlite_store.specs.FileStore.{view};
+ghost use Rattle.sqlite_pool.specs.Stored.{used_size};
+ghost use Rattle.sqlite_store.specs.FileStore.{state, view};
 ghost use Rattle.sqlite_wal.specs.Files.{image_at};
 ghost use Rattle.guard_engine.specs.Stores.{IsReady};
 ghost use Rattle.guard_store.specs.Found.{AreFound, IsUntouched};
@@ -20,7 +22,8 @@ use std::alloc::Global;
 const PAGES: usize = 64;
 
 /// Opens the table in files that a guard left, and that nothing was done with since. Where there is
-/// no store yet, it makes one if `makes` is true. `seed` is a random number, for the log's salts.
+/// no store yet, it makes one if `makes` is true, whose pages end in sums if `with_sums` is. `seed`
+/// is a random number, for the log's salts.
 ///
 /// # Errors
 /// Where the files can't be read or written, or are no store's.
@@ -29,6 +32,7 @@ pub fn open_left<K: Calls + Drop, S: LeftStart>(
     files: Files<Modelled<K, S>>,
     seed: u64,
     makes: bool,
+    with_sums: bool,
 ) -> Result<EntryTrees<FileStore<Modelled<K, S>>>, StoreFault>
     requires log { IsUntouched K.Calls.history true files.log }
     requires db { IsUntouched K.Calls.history false files.db }
@@ -36,9 +40,12 @@ pub fn open_left<K: Calls + Drop, S: LeftStart>(
         → IsReady (sight_of (view table.store) table.in_batch)) }
     ensures found { IfOk result (λ table. IsKnown (view table.store)
         → AreFound (image_at S.Start) (view table.store).committed) }
+    ensures sized { IsBlankAs with_sums (image_at S.Start)
+        → IfOk result (λ table. IsKnown (view table.store)
+        → (state table.store).page_size ≡ used_size 4096 with_sums) }
 {
     let mut options = Options::new(seed);
     options.cache_pages = PAGES;
     options.spill_pages = PAGES;
-    open_entries(alloc, files, options, makes)
+    open_entries(alloc, files, options, makes, with_sums)
 }

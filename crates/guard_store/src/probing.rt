@@ -1,5 +1,5 @@
 //! What the files of a store hold, before anything is written to them.
-ghost use Rattle.std.specs.Prelude.{◌≡◌, ◌↔◌, IsTrue, IfOk, MatchOption};
+ghost use Rattle.std.specs.Prelude.{◌≡◌, ◌↔◌, Some, IsTrue, IfOk, MatchOption};
 ghost use Rattle.sqlite.specs.Files.{image_of, IsBlankAs, IsNothing};
 ghost use Rattle.sqlite_wal.specs.PageSize.{bytes_of};
 ghost use Rattle.sqlite_wal.specs.Reads.{AreClean, OnlyReads};
@@ -46,12 +46,13 @@ fn is_blank<D: Disk>(
     }
 }
 
-/// If there is no database yet, and only then, whether the new one gets sums: it does, unless an
-/// earlier opening has all but made one without.
+/// If there is no database yet, and only then, whether the new one gets sums: as it is asked for,
+/// unless an earlier opening has all but made one of the other kind.
 pub fn finds_nothing<D: Disk>(
     alloc: Global,
     files: &mut Files<D>,
     size: PageSize,
+    with_sums: bool,
 ) -> Result<Option<bool>, StoreFault>
     requires log { IsTrue (D.Disk.is_usable files.old.log) }
     requires db { IsTrue (D.Disk.is_usable files.old.db) }
@@ -59,14 +60,16 @@ pub fn finds_nothing<D: Disk>(
     ensures ok { IfOk result (λ r. AreClean D.Disk files.new.log files.new.db
         → MatchOption r (¬ IsNothing (image_of D.Disk files.old))
         (λ has_sums. IsBlankAs has_sums (image_of D.Disk files.old))) }
+    ensures asked { IfOk result (λ r. AreClean D.Disk files.new.log files.new.db
+        → IsBlankAs with_sums (image_of D.Disk files.old) → r ≡ Some with_sums) }
     ensures log { OnlyReads D.Disk files.old.log files.new.log }
     ensures db { OnlyReads D.Disk files.old.db files.new.db }
 {
-    if is_blank(alloc, files, size, true)? {
-        return Ok(Some(true));
+    if is_blank(alloc, files, size, with_sums)? {
+        return Ok(Some(with_sums));
     }
-    if is_blank(alloc, files, size, false)? {
-        return Ok(Some(false));
+    if is_blank(alloc, files, size, !with_sums)? {
+        return Ok(Some(!with_sums));
     }
     Ok(None)
 }

@@ -1,5 +1,5 @@
 //! Finds the row of a name.
-ghost use Rattle.std.specs.Prelude.{◌≡◌, ◌↔◌, None, string_bytes, IfOk, IsTrue, MatchOption, OnErr, OnOk};
+ghost use Rattle.std.specs.Prelude.{◌≡◌, ◌↔◌, false, None, string_bytes, IfOk, IsTrue, MatchOption, OnErr, OnOk};
 ghost use Rattle.sqlite_value.specs.Keys.{plain};
 ghost use Rattle.sqlite_value.specs.Value.{owned};
 ghost use Rattle.sqlite_value.specs.declared.value.Value.TheVariants.{Int, Text};
@@ -7,9 +7,11 @@ ghost use Rattle.sqlite_trees.specs.View.{IsClean, KeepsCommitted};
 ghost use Rattle.sqlite_exec.specs.Calls.{OnlyReads};
 ghost use Rattle.sqlite_sql.specs.Catalog.{IsIndexOf};
 ghost use Rattle.guard_engine.specs.Guarded.{Lacks};
+ghost use Rattle.guard_store.specs.Agreement.{Agree};
 ghost use Rattle.guard_store.specs.Entry.{HasEntry};
 ghost use Rattle.guard_store.specs.Trees.{HasShape, IsKnown, IsRowOf, LacksName, name_columns};
 
+use crate::entry_trees::agreement::compare;
 use crate::entry_trees::list::text_of;
 use sqlite_trees::error::StoreError;
 use sqlite_trees::store::{Direction, Shape, Store};
@@ -156,18 +158,22 @@ pub(crate) fn find_row<S: Store>(
     }
 }
 
-/// Finds the value of a name, if it has one.
+/// Finds the value of a name, if it has one. That it has none is said only if the table agrees with
+/// the index.
 pub(crate) fn find_value<S: Store>(
     store: &mut S,
     row: &mut Row,
     alloc: Global,
     name: &str,
+    is_compared: &mut bool,
 ) -> Result<Option<String>, StoreError>
     ensures value { IsKnown (S.Store.view store.new) → IsIndexOf name_columns
         ((S.Store.view store.old).trees 0) ((S.Store.view store.old).trees 1)
         → IfOk result (λ found. MatchOption found
         (Lacks (HasEntry ((S.Store.view store.old).trees 0)) name.now)
         (λ value. HasEntry ((S.Store.view store.old).trees 0) name.now (string_bytes value))) }
+    ensures agree { is_compared.old ≡ false → IsKnown (S.Store.view store.new)
+        → IfOk result (λ found. found ≡ None → Agree (S.Store.view store.old).trees) }
     ensures same { IsKnown (S.Store.view store.new)
         → OnOk result (OnlyReads (S.Store.view store.old) (S.Store.view store.new)) }
     ensures err { IsKnown (S.Store.view store.new)
@@ -175,7 +181,10 @@ pub(crate) fn find_value<S: Store>(
     ensures known { IsKnown (S.Store.view store.new) → IsKnown (S.Store.view store.old) }
 {
     match find_row(store, row, name)? {
-        None => Ok(None),
+        None => {
+            compare(store, row, is_compared)?;
+            Ok(None)
+        }
         Some(_) => {
             let value = text_of(alloc, row.get(3))?;
             Ok(Some(value))

@@ -2,12 +2,16 @@
 use crate::entry_trees::EntryTrees;
 use crate::entry_trees::change::{add_row, remove_row};
 use crate::entry_trees::find::find_value;
-use crate::entry_trees::list::list_names;
+use crate::entry_trees::list::list_keys;
 use crate::fault::StoreFault;
 use sqlite_trees::store::Store;
 
 impl<S: Store + Drop> guard_engine::Store for EntryTrees<S> {
-    ghost use Rattle.guard_store.specs.Trees.{IsKnown, sight_of};
+    ghost use Rattle.std.specs.Prelude.{◌≡◌, false, map, string_bytes, vec_items, None, IfOk, MatchOption, OnErr, OnOk};
+    ghost use Rattle.guard_engine.specs.Guarded.{Lacks, Lists};
+    ghost use Rattle.guard_engine.specs.Stores.{Fails, Keeps};
+    ghost use Rattle.guard_store.specs.Agreement.{Agree};
+    ghost use Rattle.guard_store.specs.Trees.{HasTrees, IsKnown, sight_of};
 
     type Error = StoreFault;
 
@@ -15,13 +19,59 @@ impl<S: Store + Drop> guard_engine::Store for EntryTrees<S> {
 
     ghost is_known = { λ table. IsKnown (S.Store.view table.store) };
 
-    fn keys(&mut self) -> Result<Vec<String>, StoreFault> {
-        let names = list_names(&mut self.store, &mut self.row, self.alloc);
+    fn keys(&mut self) -> Result<Vec<String>, StoreFault>
+        ensures keys { HasTrees (S.Store.view self.old.store) self.old.in_batch
+            → IsKnown (S.Store.view self.new.store) → IfOk result (λ keys.
+            Lists (map string_bytes (vec_items keys))
+            (sight_of (S.Store.view self.old.store) self.old.in_batch).has) }
+        ensures agree { self.old.is_compared ≡ false → IsKnown (S.Store.view self.new.store)
+            → OnOk result (Agree (S.Store.view self.old.store).trees) }
+        ensures ok { HasTrees (S.Store.view self.old.store) self.old.in_batch
+            → IsKnown (S.Store.view self.new.store) → OnOk result (Keeps
+            (sight_of (S.Store.view self.old.store) self.old.in_batch)
+            (sight_of (S.Store.view self.new.store) self.new.in_batch)) }
+        ensures err { HasTrees (S.Store.view self.old.store) self.old.in_batch
+            → IsKnown (S.Store.view self.new.store) → OnErr result (Fails
+            (sight_of (S.Store.view self.old.store) self.old.in_batch)
+            (sight_of (S.Store.view self.new.store) self.new.in_batch)) }
+        ensures known { IsKnown (S.Store.view self.new.store)
+            → IsKnown (S.Store.view self.old.store) }
+    {
+        let names = list_keys(
+            &mut self.store,
+            &mut self.row,
+            self.alloc,
+            &mut self.is_compared,
+        );
         Ok(self.settle(names)?)
     }
 
-    fn value_of(&mut self, key: &str) -> Result<Option<String>, StoreFault> {
-        let found = find_value(&mut self.store, &mut self.row, self.alloc, key);
+    fn value_of(&mut self, key: &str) -> Result<Option<String>, StoreFault>
+        ensures value { HasTrees (S.Store.view self.old.store) self.old.in_batch
+            → IsKnown (S.Store.view self.new.store) → IfOk result (λ found. MatchOption found
+            (Lacks (sight_of (S.Store.view self.old.store) self.old.in_batch).has key.now)
+            (λ value. (sight_of (S.Store.view self.old.store) self.old.in_batch).has key.now
+            (string_bytes value))) }
+        ensures agree { self.old.is_compared ≡ false → IsKnown (S.Store.view self.new.store)
+            → IfOk result (λ found. found ≡ None → Agree (S.Store.view self.old.store).trees) }
+        ensures ok { HasTrees (S.Store.view self.old.store) self.old.in_batch
+            → IsKnown (S.Store.view self.new.store) → OnOk result (Keeps
+            (sight_of (S.Store.view self.old.store) self.old.in_batch)
+            (sight_of (S.Store.view self.new.store) self.new.in_batch)) }
+        ensures err { HasTrees (S.Store.view self.old.store) self.old.in_batch
+            → IsKnown (S.Store.view self.new.store) → OnErr result (Fails
+            (sight_of (S.Store.view self.old.store) self.old.in_batch)
+            (sight_of (S.Store.view self.new.store) self.new.in_batch)) }
+        ensures known { IsKnown (S.Store.view self.new.store)
+            → IsKnown (S.Store.view self.old.store) }
+    {
+        let found = find_value(
+            &mut self.store,
+            &mut self.row,
+            self.alloc,
+            key,
+            &mut self.is_compared,
+        );
         Ok(self.settle(found)?)
     }
 

@@ -1,7 +1,8 @@
 -- What is known of the trees is known of the table over them.
-use Rattle.std.proofs.Common.{sym, subst}
+use Rattle.std.proofs.Common.{◌≡◌, sym, subst}
 use Rattle.sqlite.specs.Files.{image_of}
-use Rattle.sqlite_store.specs.FileStore.{view}
+use Rattle.sqlite_pool.specs.Stored.{used_size}
+use Rattle.sqlite_store.specs.FileStore.{state, view}
 use Rattle.guard_store.proofs.TreesLemmas.{entries-found, known-clean, trees-open}
 use Rattle.guard_store.specs.Found.{AreFound, HoldsStore}
 use Rattle.guard_store.specs.Trees.{IsKnown}
@@ -31,3 +32,9 @@ returns-in-Ok-clause-there g c asked known =
     let first = subst (λ s. IsKnown (view s)) c.over.ensures.same known in
     subst (λ s. HoldsStore (image_of g.D.Disk c.args.files) (view s).committed)
     (sym c.over.ensures.same) (c.in-Ok.ensures.there asked (known-clean _ first.0))
+
+pub returns-in-Ok-clause-sized : goal.returns-in-Ok-clause-sized
+returns-in-Ok-clause-sized g c blank known =
+    let first = subst (λ s. IsKnown (view s)) c.over.ensures.same known in
+    subst (λ s. (state s).page_size ≡ used_size 4096 c.args.with_sums)
+    (sym c.over.ensures.same) (c.in-Ok.ensures.sized blank (known-clean _ first.0))

@@ -19,6 +19,9 @@ returns-in_default-clause-found = there.returns-in_default-clause-found
 pub returns-in_default-clause-there : goal.returns-in_default-clause-there
 returns-in_default-clause-there = there.returns-in_default-clause-there
 
+pub returns-in_default-clause-sized : goal.returns-in_default-clause-sized
+returns-in_default-clause-sized = there.returns-in_default-clause-sized
+
 -- none is
 pub begin-requires-clause-blank : goal.begin-requires-clause-blank
 begin-requires-clause-blank = blank.begin-requires-clause-blank
@@ -31,3 +34,6 @@ returns-clause-found = blank.returns-clause-found
 
 pub returns-clause-there : goal.returns-clause-there
 returns-clause-there = blank.returns-clause-there
+
+pub returns-clause-sized : goal.returns-clause-sized
+returns-clause-sized = blank.returns-clause-sized

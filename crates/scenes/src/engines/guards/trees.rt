@@ -1,5 +1,6 @@
 //! The table of entries over trees in memory. No clause says that a call of it succeeds, nor which
 //! error it returns.
+mod damaged;
 mod guarded;
 mod texts;
 

@@ -8,4 +8,4 @@ returns-clause-entries g c = λ fit known.
     lists_pairs (λ pair. string_bytes pair.0) (λ pair. string_bytes pair.1)
     ((g.S.Store.view c.args.self.now.store).trees 0) (vec_items c.in_ok-settle.field-0)
     (rw (sym c.settle.ensures.same ∙ c.in_ok-settle.was) at
-    (c.list_pairs-pairs.ensures.pairs (c.settle.ensures.known known)))
+    (c.list_entries-pairs.ensures.pairs (c.settle.ensures.known known)))

@@ -1,8 +1,9 @@
 -- What `open_trees` makes where no database is there.
-use Rattle.std.proofs.Common.{sym, subst}
+use Rattle.std.proofs.Common.{◌≡◌, sym, ap, subst, ◌∙◌}
 use Rattle.std.proofs.lemmas.Result.{IfOk-weaker}
 use Rattle.sqlite.proofs.FileLemmas.{same_image}
 use Rattle.sqlite.specs.Files.{IsBlankAs, image_of}
+use Rattle.sqlite_pool.specs.Stored.{used_size}
 use Rattle.guard_store.proofs.OpenedLemmas.{ok-both}
 use Rattle.guard_store.proofs.ProbedLemmas.{clean-read}
 use Rattle.guard_store.proofs.TreesLemmas.{found-none}
@@ -31,3 +32,10 @@ returns-clause-found g c =
 
 pub returns-clause-there : goal.returns-clause-there
 returns-clause-there g c asked = let made = c.if-not-makes.false in absurd (cc)
+
+pub returns-clause-sized : goal.returns-clause-sized
+returns-clause-sized g c blank =
+    ok-both _ _ _ c.begin.result (λ store honest sized now.
+    let as-asked = c.in-Ok.ensures.asked (honest now) blank in
+    let is : c.in-Some.has_sums ≡ c.args.with_sums = (let some = c.in-Some.is in cc) in
+    sized now ∙ ap (used_size 4096) is) c.begin.ensures.honest c.begin.ensures.sized

@@ -36,3 +36,9 @@ returns-in_default-clause-there g c asked =
     IfOk-weaker c.open_some.result _ _ (λ store there now.
     subst (λ i. HoldsStore i (view store).committed) (same_image read.log read.db) (there now))
     (c.open_some.ensures.there asked)
+
+pub returns-in_default-clause-sized : goal.returns-in_default-clause-sized
+returns-in_default-clause-sized g c blank =
+    IfOk-weaker c.open_some.result _ _ (λ store honest now.
+    let as-asked = c.in-Ok.ensures.asked (honest now) blank in
+    absurd (c.in_default.not-Some c.args.with_sums as-asked)) c.open_some.ensures.honest

@@ -7,4 +7,4 @@ pub returns-clause-keys : goal.returns-clause-keys
 returns-clause-keys g c = λ fit known.
     lists_names string_bytes _ _ (vec_items c.in_ok-settle.field-0) fit.now.indexed
     (rw (sym c.settle.ensures.same ∙ c.in_ok-settle.was) at
-    (c.list_names-names.ensures.names (c.settle.ensures.known known)))
+    (c.list_keys-names.ensures.names (c.settle.ensures.known known)))
