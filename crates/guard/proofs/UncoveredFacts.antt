@@ -11,10 +11,10 @@ use Rattle.bloom_plain.specs.Filter.{contains}
 use Rattle.guard_engine.specs.Guarded.{key_hash, Entries}
 use Rattle.guard_parts.specs.declared.folder.Name.{Name}
 use Rattle.guard_parts.specs.declared.folder.Name.TheVariants.{New, Standing}
-use Rattle.guard_parts.specs.Filters.{IsSealedFile, MayHave}
+use Rattle.guard_parts.specs.Filters.{IsLeftFile, MayHave}
 use Rattle.guard_parts.specs.Folders.{Content}
 use Rattle.guard_parts.specs.Replay.{sight_of, Start}
-use Rattle.guard_parts.specs.Rooms.{filter_part, IsOwn}
+use Rattle.guard_parts.specs.Rooms.{IsOwn}
 use Rattle.guard_store.specs.Entry.{stored, HasEntry}
 use Rattle.guard.specs.Left.{CoversAtFirst}
 
@@ -55,6 +55,7 @@ at_first = record {
   now = contents;
   others = λ name content. ⊥;
   left = λ n. None;
+  left_behind = λ n. [];
   was_done = λ n. false;
   store = 7;
 }
@@ -70,24 +71,29 @@ no-word : AreWords (0 ∷ [])
 no-word zero d within = omega arith
 no-word (suc k) d within = absurd (omega (arith, within))
 
--- the bytes are a file of the filter, with its seal
-is-file : IsSealedFile (filter_part file) no_key
+-- the bytes are a file of the filter, with its seal, and no hash was added
+is-file : IsLeftFile file no_key
 unfolding bytes_of sip start round absorb answer whole_words rest
 is-file = record {
+  base = no_key;
   is_file = record {
-    seal = 0x9c00_47d0_25e5_4154;
-    narrow = omega arith;
-    sealed = inr refl;
-    is = refl;
-    shape = record {
-      some_words = omega arith;
-      few_words = omega arith;
-      some_hashes = omega arith;
-      few_hashes = omega arith;
+    is_file = record {
+      seal = 0x9c00_47d0_25e5_4154;
+      narrow = omega arith;
+      sealed = inr refl;
+      is = refl;
+      shape = record {
+        some_words = omega arith;
+        few_words = omega arith;
+        some_hashes = omega arith;
+        few_hashes = omega arith;
+      };
+      fits = record { words = no-word; low = omega arith; high = omega arith };
     };
-    fits = record { words = no-word; low = omega arith; high = omega arith };
+    sealed = λ none. omega (arith, none);
   };
-  sealed = λ none. omega (arith, none);
+  whole = refl;
+  comes = refl;
 }
 
 -- they are what a save of the filter writes

@@ -40,6 +40,7 @@ impl Left for Unknown {
           now = λ _. None;
           others = λ _ _. ⊥;
           left = λ _. None;
+          left_behind = λ _. [];
           was_done = λ _. false;
           store = 0;
         })

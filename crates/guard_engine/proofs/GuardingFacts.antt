@@ -1,12 +1,12 @@
 -- What a guard keeps true: cases that hold, and ones that differ from one of these in one thing and
 -- don't hold. A filter of the word 17180000256 and two hashes has the key 1, one of 131072 hasn't.
-use Rattle.std.proofs.Common.{◌≡◌, ◌⊎◌, inr, [], ◌∷◌, refl, sym, subst}
+use Rattle.std.proofs.Common.{◌≡◌, ◌⊎◌, inl, inr, [], ◌∷◌, refl, sym, ap, subst, ◌∙◌, arith}
 use Rattle.bloom_plain.specs.Data.{DefaultFilter}
 use Rattle.guard_engine.specs.declared.guard.Put.TheVariants.{Added, Taken}
-use Rattle.guard_engine.specs.Guarded.{Covers}
-use Rattle.guard_engine.specs.Guarding.{AllCover, IsGuarding, PutsInBatch, Watches}
-use Rattle.guard_engine.proofs.CoverFacts.{covers, covers-none, covers-off, filter}
-use Rattle.guard_engine.proofs.GuardedFacts.{gains, gains-nothing, none, one, stays, stays-more}
+use Rattle.guard_engine.specs.Guarded.{Covers, Entries, key_hash}
+use Rattle.guard_engine.specs.Guarding.{AddsOnly, AllCover, IsGuarding, PutsInBatch, Watches}
+use Rattle.guard_engine.proofs.CoverFacts.{covers, covers-none, covers-off, filter, key_hash-one}
+use Rattle.guard_engine.proofs.GuardedFacts.{each, gains, gains-nothing, none, one, stays, stays-more}
 use Rattle.guard_engine.proofs.StoreFacts.{in_batch, ready, ready-open, with_batch, without_batch}
 
 -- this filter alone may be found
@@ -44,6 +44,50 @@ watches-has is = covers-off is.has
 -- the filter lacks the key that was removed, and is committed still
 watches-kept : Watches (filter 131072 2) (with_batch none one) → ⊥
 watches-kept is = covers-off is.kept
+
+-- ---- what an open batch adds
+
+-- the key 3 with the value 4
+abbrev other_one : Entries
+other_one key value = (key ≡ 3 ∷ []) × (value ≡ 4 ∷ [])
+
+-- the key 1 doesn't have the hash 0
+hash-other : key_hash (1 ∷ []) ≡ 0 → ⊥
+hash-other is =
+    let wrong : 0x44bc_103b_1f85_40ed ≡ 0 = sym key_hash-one ∙ is in omega (arith, wrong)
+
+-- a batch that adds a key of this hash
+adds_only : AddsOnly (key_hash (1 ∷ [])) (with_batch one none)
+adds_only key value has = inr (ap key_hash has.0)
+
+-- a batch that adds nothing
+adds_only-nothing : AddsOnly 0 (with_batch one one)
+adds_only-nothing key value has = inl has
+
+-- a batch that takes the key away
+adds_only-removed : AddsOnly 0 (with_batch none one)
+adds_only-removed key value has = absurd has
+
+-- a batch that adds a key of another hash
+adds_only-other : AddsOnly 0 (with_batch one none) → ⊥
+adds_only-other is = elim (is (1 ∷ []) (2 ∷ []) (refl, refl)) [
+  | inl was ↦ was
+  | inr same ↦ hash-other same
+]
+
+-- a batch that adds a key of another hash, where another key is committed
+adds_only-beside : AddsOnly 0 (with_batch one other_one) → ⊥
+adds_only-beside is = elim (is (1 ∷ []) (2 ∷ []) (refl, refl)) [
+  | inl was ↦ let wrong = was.0 in cc
+  | inr same ↦ hash-other same
+]
+
+-- a batch that adds a value at a key of another hash, which is committed with another value
+adds_only-value : AddsOnly 0 (with_batch each one) → ⊥
+adds_only-value is = elim (is (1 ∷ []) (3 ∷ []) refl) [
+  | inl was ↦ let wrong = was.1 in cc
+  | inr same ↦ hash-other same
+]
 
 -- ---- between calls
 

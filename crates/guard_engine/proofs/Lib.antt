@@ -12,6 +12,8 @@ mod FillFacts
 mod FillLemmas
 mod FoundLemmas
 mod GainedFacts
+mod GrowthFacts
+mod GrowthLemmas
 mod GuardedFacts
 mod GuardingFacts
 mod HadLemmas

@@ -10,6 +10,7 @@ ghost use Rattle.guard_engine.specs.Puts.{added_by, taken_by};
 ghost use Rattle.guard_engine.specs.Room.{AllTell, CountsKeys};
 ghost use Rattle.guard_engine.specs.Stores.{Adds, Commits, Fails, IsInBatch, IsReady, Keeps, TakesBack};
 
+use crate::adding::end_put;
 use crate::counts::Counts;
 use crate::guard::{Fault, Found, Put};
 use crate::keys::hash_of;
@@ -89,15 +90,17 @@ pub(crate) fn add<T: Store>(
     store.add(key, value)
 }
 
-/// Puts an entry whose key has no value yet in the open batch. The key is hashed once, and looked
-/// up once.
+/// Puts an entry whose key has no value yet in the open batch. The key is looked up once, by its
+/// hash.
 pub fn put<T: Store>(
     store: &mut T,
     filter: &mut BloomFilter,
     counts: &mut Counts,
     key: &str,
     value: &str,
+    hash: u64,
 ) -> Result<Put, T::Error>
+    requires hashed { hash ≡ key_hash key.now }
     ensures puts { IsInBatch (T.sight store.old) → Watches filter.old (T.sight store.old)
         → T.is_known store.new → IfOk result
         (PutsInBatch (T.sight store.old) key.now value.now (T.sight store.new)) }
@@ -116,7 +119,6 @@ pub fn put<T: Store>(
     ensures same { result ≡ Ok Put.Taken → filter.new ≡ filter.old }
 {
     counts.fit();
-    let hash = hash_of(key);
     match find(store, filter, counts, key, hash)? {
         Found::Value(_) => Ok(Put::Taken),
         Found::Spared => {
@@ -131,7 +133,7 @@ pub fn put<T: Store>(
 }
 
 // Saves the filter, and then commits the open batch, which is taken back where the save failed.
-pub(crate) fn save_and_commit<T: Store, K: Kept>(
+fn save_and_commit<T: Store, K: Kept>(
     store: &mut T,
     kept: &mut K,
     filter: &BloomFilter,
@@ -195,7 +197,7 @@ pub fn end_batch<T: Store, K: Kept>(
     Ok(())
 }
 
-/// Puts one entry, in a batch of its own.
+/// Puts one entry, in a batch of its own. The key is hashed once.
 pub fn put_alone<T: Store, K: Kept>(
     store: &mut T,
     kept: &mut K,
@@ -229,11 +231,12 @@ pub fn put_alone<T: Store, K: Kept>(
     if let Err(error) = store.begin() {
         return Err(Fault::Store(error));
     }
-    match put(store, filter, counts, key, value) {
+    let hash = hash_of(key);
+    match put(store, filter, counts, key, value, hash) {
         Ok(put) => {
             let added = put.added();
             count_keys(room, added);
-            end_batch(store, kept, filter, *room, added)?;
+            end_put(store, kept, filter, hash, *room, added)?;
             Ok(put)
         }
         Err(error) => {

@@ -20,7 +20,7 @@ use std::marker::Model;
 /// A store behind a filter of its keys, which is kept beside it.
 ///
 /// Each key of the store is in the filter. Each key that is committed is in each saved filter that
-/// may be found, also after a crash: the filter is saved before entries are committed.
+/// may be found, also after a crash: its hash is saved before its entry is committed.
 #[derive(Drop)]
 pub struct Guard<T: Store + Drop, K: Kept + Drop> {
     store: T,
@@ -176,7 +176,8 @@ impl<T: Store + Drop, K: Kept + Drop> Guard<T, K> {
         find(&mut self.store, &self.filter, &mut self.counts, key, hash)
     }
 
-    /// Puts an entry whose key has no value yet. The filter is saved before the entry is committed.
+    /// Puts an entry whose key has no value yet. The hash of the key is saved before the entry is
+    /// committed.
     ///
     /// # Errors
     /// `Store` and `Kept`. Then no entry came.
@@ -215,7 +216,7 @@ impl<T: Store + Drop, K: Kept + Drop> Guard<T, K> {
     }
 
     /// Puts an entry, which replaces what its key has, and returns whether the key had a value. If
-    /// it had none, the filter is saved before the entry is committed.
+    /// it had none, the hash of the key is saved before the entry is committed.
     ///
     /// # Errors
     /// `Store` and `Kept`. Then nothing changed.

@@ -2,6 +2,7 @@
 //! out.
 #![tactic(auto)]
 
+mod adding;
 mod commands;
 mod counts;
 mod desk;

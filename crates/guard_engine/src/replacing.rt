@@ -6,13 +6,14 @@ ghost use Rattle.guard_engine.specs.Batches.{Breaks};
 ghost use Rattle.guard_engine.specs.Counted.{CountsDelete, CountsOnce};
 ghost use Rattle.guard_engine.specs.Fills.{Fills};
 ghost use Rattle.guard_engine.specs.Guarded.{Stays, key_hash};
-ghost use Rattle.guard_engine.specs.Guarding.{AllCover, IsGuarding, Watches};
+ghost use Rattle.guard_engine.specs.Guarding.{AddsOnly, AllCover, IsGuarding, Watches};
 ghost use Rattle.guard_engine.specs.Replaced.{IsReplaced, ReplacesInBatch, Swaps};
 ghost use Rattle.guard_engine.specs.Room.{AllTell, CountsKeys, added_beside};
 ghost use Rattle.guard_engine.specs.Stores.{Commits, IsInBatch, TakesBack};
 
+use crate::adding::add_and_commit;
 use crate::counts::Counts;
-use crate::desk::{add, find, save_and_commit};
+use crate::desk::{add, find};
 use crate::guard::{Fault, Found};
 use crate::keys::hash_of;
 use crate::rooms::{added_beside, count_keys};
@@ -37,14 +38,16 @@ fn swap<T: Store>(store: &mut T, key: &str, value: &str) -> Result<(), T::Error>
 }
 
 // Puts an entry, which replaces what its key has, in the open batch. Returns whether the key had a
-// value. The key is hashed once, and looked up once.
+// value. The key is looked up once, by its hash.
 fn replace<T: Store>(
     store: &mut T,
     filter: &mut BloomFilter,
     counts: &mut Counts,
     key: &str,
     value: &str,
+    hash: u64,
 ) -> Result<bool, T::Error>
+    requires hashed { hash ≡ key_hash key.now }
     ensures replaces { IsInBatch (T.sight store.old) → Watches filter.old (T.sight store.old)
         → T.is_known store.new → IfOk result
         (ReplacesInBatch (T.sight store.old) key.now value.now (T.sight store.new)) }
@@ -61,7 +64,6 @@ fn replace<T: Store>(
     ensures fills { Fills (key.now ∷ []) filter.old filter.new }
     ensures same { result ≡ Ok true → filter.new ≡ filter.old }
 {
-    let hash = hash_of(key);
     match find(store, filter, counts, key, hash)? {
         Found::Value(_) => {
             swap(store, key, value)?;
@@ -78,12 +80,14 @@ fn replace<T: Store>(
     }
 }
 
-// Commits the open batch, in which an entry was put. The filter is saved first where its key had no
-// value before: else each filter that may be found has the key.
+// Commits the open batch, in which an entry was put whose key has this hash. The hash is added to
+// the filter that is kept first where the key had no value before: else each filter that may be
+// found has the key.
 fn commit_replaced<T: Store, K: Kept>(
     store: &mut T,
     kept: &mut K,
     filter: &BloomFilter,
+    hash: u64,
     room: Room,
     had: bool,
 ) -> Result<(), Fault<T::Error, K::Error>>
@@ -93,6 +97,7 @@ fn commit_replaced<T: Store, K: Kept>(
         → OnErr result (TakesBack (T.sight store.old) (T.sight store.new)) }
     // Each filter that may be found has each key that is committed, also after an error.
     ensures saved { IsInBatch (T.sight store.old) → Watches filter.now (T.sight store.old)
+        → AddsOnly hash (T.sight store.old)
         → AllCover (K.may_have kept.old) (T.sight store.old).kept
         → (had ≡ true → AllCover (K.may_have kept.old) (T.sight store.old).has)
         → T.is_known store.new → K.is_known kept.new
@@ -104,7 +109,7 @@ fn commit_replaced<T: Store, K: Kept>(
         ⊎ (K.is_known kept.new → AllTell (K.may_tell kept.new) room)) }
 {
     if !had {
-        return save_and_commit(store, kept, filter, room);
+        return add_and_commit(store, kept, filter, hash, room);
     }
     match store.commit() {
         Ok(()) => Ok(()),
@@ -113,7 +118,7 @@ fn commit_replaced<T: Store, K: Kept>(
 }
 
 /// Puts one entry, which replaces what its key has, in a batch of its own. Returns whether the key
-/// had a value.
+/// had a value. The key is hashed once.
 pub fn replace_alone<T: Store, K: Kept>(
     store: &mut T,
     kept: &mut K,
@@ -147,10 +152,11 @@ pub fn replace_alone<T: Store, K: Kept>(
     if let Err(error) = store.begin() {
         return Err(Fault::Store(error));
     }
-    match replace(store, filter, counts, key, value) {
+    let hash = hash_of(key);
+    match replace(store, filter, counts, key, value, hash) {
         Ok(had) => {
             count_keys(room, added_beside(had));
-            commit_replaced(store, kept, filter, *room, had)?;
+            commit_replaced(store, kept, filter, hash, *room, had)?;
             Ok(had)
         }
         Err(error) => {

@@ -3,8 +3,8 @@ use Rattle.std.proofs.Common.{◌≡◌, inl, inr, ℕ, true, false, List, [], S
 use Rattle.bloom_plain.specs.Data.{DefaultFilter}
 use Rattle.bloom_plain.specs.declared.file.error.FileError.TheVariants.{Cut}
 use Rattle.bloom_plain.specs.FileRefusals.{file_refusal}
-use Rattle.guard_parts.specs.Filters.{HasOwn, IsFaultIn, IsFoundIn, IsRefusedFor, IsRefusedIn, IsSealedFile, form_refusal}
-use Rattle.guard_parts.specs.Rooms.{IsOwn, filter_part, room_in, room_part}
+use Rattle.guard_parts.specs.Filters.{HasOwn, IsFaultIn, IsFoundIn, IsLeftFile, IsRefusedFor, IsRefusedIn, form_refusal}
+use Rattle.guard_parts.specs.Rooms.{IsOwn, filter_part, room_in}
 use Rattle.guard_parts.specs.declared.room.Room.{Room}
 use Rattle.guard_parts.specs.declared.filter_file.FilterFault.TheVariants as faults
 use Rattle.guard_parts.specs.declared.form.FormFault.TheVariants.{Form, NoSeal}
@@ -22,9 +22,9 @@ found-nowhere : (filter : DefaultFilter) (room : Room)
     → IsFoundIn false 7 None (Some (filter, room)) → ⊥
 found-nowhere filter room is = cc
 
--- the store's own file has its filter, with the room that its last bytes tell
-found-own : (bytes : List ℕ) (filter : DefaultFilter) → IsSealedFile (filter_part bytes) filter
-    → IsOwn 7 bytes → IsFoundIn false 7 (Some bytes) (Some (filter, room_in (room_part bytes)))
+-- the store's own file has its filter, with the room that it tells
+found-own : (bytes : List ℕ) (filter : DefaultFilter) → IsLeftFile bytes filter
+    → IsOwn 7 bytes → IsFoundIn false 7 (Some bytes) (Some (filter, room_in bytes))
 found-own bytes filter is_file is_own = (refl, is_file, refl, is_own)
 
 -- a file that has another number isn't taken

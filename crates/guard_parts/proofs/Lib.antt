@@ -1,10 +1,15 @@
+mod AddLemmas
 mod FileLemmas
 mod FindFacts
 mod FormFacts
 mod FormLemmas
+mod LongerLemmas
 mod MoveLemmas
+mod PieceLemmas
 mod ReplaceFacts
 mod ReplaceLemmas
 mod RoomFacts
 mod RoomLemmas
 mod RunFacts
+mod TailFacts
+mod TailLemmas

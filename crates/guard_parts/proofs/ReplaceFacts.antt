@@ -1,8 +1,8 @@
 -- What becomes of a file while it is replaced: cases that hold, and ones that differ in one thing.
-use Rattle.std.proofs.Common.{◌≡◌, ℕ, [], ◌∷◌, Some, None, inl, inr, ⊎_elim, refl, arith}
+use Rattle.std.proofs.Common.{◌≡◌, ℕ, [], ◌∷◌, Some, None, inl, inr, ⊎_elim, refl, ap, arith}
 use Rattle.std.specs.Prelude.{⊤}
-use Rattle.guard_parts.specs.Filters.{MayLack, Passes, Replaces}
-use Rattle.guard_parts.specs.Folders.{Content, Elapses, Keeps, Sight}
+use Rattle.guard_parts.specs.Filters.{Lengthens, MayLack, Passes, Replaces}
+use Rattle.guard_parts.specs.Folders.{Content, Elapses, IsLonger, Keeps, Sight, behind}
 use Rattle.guard_parts.specs.declared.folder.Name.TheVariants.{Standing, New}
 
 -- a folder whose names have had this content since they were there, and whose store has the number
@@ -64,6 +64,72 @@ replaces-before is = let no = is.later in omega (arith, no)
 -- the store gets another number
 replaces-number : Replaces (shows old 0) (record (shows new 1) { store = 2 }) new → ⊥
 replaces-number is = let e = is.store in omega (arith, e)
+
+-- ---- a file that becomes longer
+
+-- it has more bytes behind its own
+longer : IsLonger old (Some (1 ∷ 5 ∷ []))
+longer = (5 ∷ [], refl)
+
+-- or none more
+longer-same : IsLonger old old
+longer-same = ([], refl)
+
+-- it has them before its own
+longer-before : IsLonger old (Some (5 ∷ 1 ∷ [])) → ⊥
+longer-before is = let e = is.1 in omega (arith, ap (first_of 0) e)
+  where
+    first_of : ℕ → Content → ℕ
+    first_of n None = n
+    first_of n (Some []) = n
+    first_of n (Some (x ∷ more)) = x
+
+-- there is no file
+longer-none : IsLonger None old → ⊥
+longer-none is = is
+
+-- bytes come behind those of a file, and make none where there is none
+behind-own : (behind old (5 ∷ []) ≡ Some (1 ∷ 5 ∷ [])) × (behind None (5 ∷ []) ≡ None)
+behind-own = (refl, refl)
+
+-- bytes came, whatever might be found within the call
+lengthens : Lengthens (shows old 0) (shows (Some (1 ∷ 5 ∷ [])) 1)
+lengthens = record {
+  later = omega arith;
+  each = λ since c le found. inr (5 ∷ [], found);
+  now = λ c found. inr (5 ∷ [], found);
+  store = refl;
+}
+
+-- another file is found
+lengthens-other : Lengthens (shows old 0) (shows new 1) → ⊥
+lengthens-other is = ⊎_elim (λ e. cc) other_is (is.now new refl)
+  where
+    first_of : Content → ℕ
+    first_of None = 0
+    first_of (Some []) = 0
+    first_of (Some (x ∷ more)) = x
+
+    other_is : IsLonger old new → ⊥
+    other_is longer = omega (arith, ap first_of longer.1)
+
+-- no file is found
+lengthens-lost : Lengthens (shows old 0) (shows None 1) → ⊥
+lengthens-lost is = ⊎_elim (λ e. cc) (λ longer. let e = longer.1 in cc) (is.now None refl)
+
+-- none was found within the call alone
+lengthens-within : Lengthens (shows old 0)
+    (record (shows old 1) { found_since = λ since name c. c ≡ None }) → ⊥
+lengthens-within is =
+    ⊎_elim (λ e. cc) (λ longer. let e = longer.1 in cc) (is.each 0 None (omega arith) refl)
+
+-- time goes back
+lengthens-before : Lengthens (shows old 1) (shows old 0) → ⊥
+lengthens-before is = let no = is.later in omega (arith, no)
+
+-- the store gets another number
+lengthens-number : Lengthens (shows old 0) (record (shows old 1) { store = 2 }) → ⊥
+lengthens-number is = let e = is.store in omega (arith, e)
 
 -- ---- a file that stays
 

@@ -1,6 +1,6 @@
 -- Rooms and stores that bytes tell, and bytes that differ in one and are refused.
-use Rattle.std.proofs.Common.{◌≡◌, ◌^◌, ◌-◌, ℕ, List, [], ◌∷◌, ◌++◌, Some, None, refl, arith}
-use Rattle.guard_parts.specs.Rooms.{IsOwn, filter_part, room_bytes, room_in, room_part, room_refusal, store_in, sum_of}
+use Rattle.std.proofs.Common.{◌≡◌, ◌^◌, ◌-◌, ℕ, List, [], ◌∷◌, ◌++◌, Some, None, refl}
+use Rattle.guard_parts.specs.Rooms.{first_room, room_bytes, room_refusal, store_in, sum_of}
 use Rattle.guard_parts.specs.declared.form.FormFault.TheVariants as faults
 use Rattle.guard_parts.specs.declared.room.Room.{Room}
 
@@ -19,11 +19,11 @@ tail = low 10 ++ low 3 ++ low 7 ++ low 20
 bytes-three : room_bytes three 7 ≡ tail
 bytes-three = refl
 
-told-three : (room_in tail ≡ three) × (store_in tail ≡ 7)
+told-three : (first_room tail ≡ three) × (store_in tail ≡ 7)
 told-three = (refl, refl)
 
 -- the lowest byte comes first
-told-low : room_in ((0 ∷ 1 ∷ 0 ∷ 0 ∷ 0 ∷ 0 ∷ 0 ∷ 0 ∷ []) ++ low 3 ++ low 7 ++ low 20)
+told-low : first_room ((0 ∷ 1 ∷ 0 ∷ 0 ∷ 0 ∷ 0 ∷ 0 ∷ 0 ∷ []) ++ low 3 ++ low 7 ++ low 20)
     ≡ record { total = 256; taken = 3 }
 told-low = refl
 
@@ -50,23 +50,3 @@ refused-old = refl
 -- the sum stops at the greatest number
 sum-most : sum_of (2 ^ 64 - 1) 1 ≡ 2 ^ 64 - 1
 sum-most = refl
-
--- the last 32 bytes of a file tell the room, and what lies before is the filter's
-part-one : (filter_part (7 ∷ tail) ≡ 7 ∷ []) × (room_part (7 ∷ tail) ≡ tail)
-part-one = (refl, refl)
-
--- of fewer bytes all would tell it, and none is the filter's
-part-few : (filter_part (low 10) ≡ []) × (room_part (low 10) ≡ low 10)
-part-few = (refl, refl)
-
--- the file of the store with the number 7
-own-seven : IsOwn 7 (9 ∷ tail)
-own-seven = ((λ e. omega (arith, e)), refl)
-
--- isn't that of a store with another number
-own-other : IsOwn 8 (9 ∷ tail) → ⊥
-own-other is = let e = is.1 in omega (arith, e)
-
--- and none is that of a store that has no number, also where it tells none
-own-none : IsOwn 0 (9 ∷ low 10 ++ low 3 ++ low 0 ++ low 13) → ⊥
-own-none is = is.0 refl

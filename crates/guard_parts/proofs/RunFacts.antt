@@ -1,9 +1,9 @@
 -- Runs over a folder of the operating system: the premise that its medium is known could hold, and
 -- could fail; and what each call of a save is for.
-use Rattle.std.proofs.Common.{◌≡◌, ℕ, true, List, [], ◌∷◌, Some, None, inl, inr, ⊎_elim, refl, arith}
-use Rattle.guard_parts.specs.Folders.{Content}
+use Rattle.std.proofs.Common.{◌≡◌, ℕ, true, List, [], ◌∷◌, ◌++◌, Some, None, inl, inr, ⊎_elim, refl, sym, subst, arith}
+use Rattle.guard_parts.specs.Folders.{Content, IsLonger, behind}
 use Rattle.guard_parts.specs.declared.folder.Name.TheVariants.{Standing, New}
-use Rattle.guard_parts.specs.Calls.{Call, Reads, Writes, SyncsFile, Renames, SyncsFolder, Removes, ReadsNumber}
+use Rattle.guard_parts.specs.Calls.{Call, Reads, Writes, Appends, SyncsFile, Renames, SyncsFolder, Removes, ReadsNumber}
 use Rattle.guard_parts.specs.Empty.{empty}
 use Rattle.guard_parts.specs.Replay.{FoundSince, IsHonest, MayFind, Start, at, replay}
 
@@ -67,3 +67,45 @@ save-no_rename start bytes = inl refl
 save-within : (start : Start) (bytes : List ℕ)
     → FoundSince start (save bytes) 0 Standing (start.now Standing)
 save-within start bytes = inr (omega arith, inl (inr (inl (inl refl))))
+
+-- ---- bytes that come behind those of the file
+
+-- the calls by which they come, the newest first
+abbrev add : List ℕ → List Call
+add bytes =
+    SyncsFolder true ∷ SyncsFile Standing true ∷ Appends Standing bytes true
+    ∷ SyncsFile Standing true ∷ []
+
+-- afterwards nothing else may be found
+add-alone : (start : Start) (bytes : List ℕ) (c : Content)
+    → MayFind (at (replay start (add bytes)) Standing) c → c ≡ behind (start.now Standing) bytes
+add-alone start bytes c found =
+    ⊎_elim (λ is. is) (λ other. ⊎_elim (λ no. cc) (λ no. cc) other.0) found
+
+-- without the sync of the longer file other bytes may stand behind its own
+add-no_sync : (start : Start) (bytes more own : List ℕ) → start.now Standing ≡ Some own
+    → MayFind (at (replay start
+    (SyncsFolder true ∷ Appends Standing bytes true ∷ SyncsFile Standing true ∷ [])) Standing)
+    (Some (own ++ more))
+add-no_sync start bytes more own is =
+    inr (inr refl, inr (inl (subst (λ c. IsLonger c (Some (own ++ more))) (sym is) (more, refl))))
+
+-- without the sync before them anything may be found once they came
+add-no_first_sync : (start : Start) (bytes : List ℕ) (c : Content)
+    → MayFind (at (replay start (Appends Standing bytes true ∷ [])) Standing) c
+add-no_first_sync start bytes c = inr (inr (inr refl))
+
+-- without the sync of the folder what might be found before may be found
+add-no_folder_sync : (start : Start) (bytes : List ℕ) → MayFind (at (replay start
+    (SyncsFile Standing true ∷ Appends Standing bytes true ∷ SyncsFile Standing true ∷ []))
+    Standing) (start.now Standing)
+add-no_folder_sync start bytes = inr (inl (inl refl))
+
+-- a file that was on the disk alone isn't lost
+add-not_lost : MayFind (at (replay (record empty { now = λ name. Some [] })
+    (Appends Standing (1 ∷ []) true ∷ SyncsFile Standing true ∷ [])) Standing) None → ⊥
+add-not_lost (inl is) = cc
+add-not_lost (inr (inl (inl is))) = cc
+add-not_lost (inr (inl (inr other))) = other
+add-not_lost (inr (inr (inl longer))) = let e = longer.1 in cc
+add-not_lost (inr (inr (inr is))) = cc

@@ -8,6 +8,7 @@ pub data Call : Type 0 where
   Reads : Name → Content → Call
   FailsToRead : Call
   Writes : Name → List ℕ → Bool → Call
+  Appends : Name → List ℕ → Bool → Call
   SyncsFile : Name → Bool → Call
   Renames : Name → Name → Bool → Call
   SyncsFolder : Bool → Call

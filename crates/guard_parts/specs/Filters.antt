@@ -11,14 +11,23 @@ use Rattle.guard_parts.specs.declared.form.FormFault.{FormFault}
 use Rattle.guard_parts.specs.declared.form.FormFault.TheVariants.{Form, NoSeal, OtherKey, ManyHashes}
 use Rattle.guard_parts.specs.declared.folder.Name.TheVariants.{Standing}
 use Rattle.guard_parts.specs.declared.room.Room.{Room}
-use Rattle.guard_parts.specs.Folders.{Content, Sight}
+use Rattle.guard_parts.specs.Folders.{Content, IsLonger, Sight}
+use Rattle.guard_parts.specs.Growth.{Comes}
 use Rattle.guard_parts.specs.Numbers.{number_in}
-use Rattle.guard_parts.specs.Rooms.{IsOwn, filter_part, room_in, room_part, room_refusal}
+use Rattle.guard_parts.specs.Rooms.{IsOwn, filter_part, hashes_in, is_whole, room_in, tail_refusal}
 
 -- the bytes are a file of the filter that has a seal
 pub record IsSealedFile (bytes : List ℕ) (filter : DefaultFilter) : Type 0 where
   pub is_file : IsFileOf bytes filter
   pub sealed : number_in bytes 5 ≢ 0
+
+-- the bytes are a guard's file of the filter: its own file is that of a filter with a seal, into
+-- which the hashes came that were added since
+pub record IsLeftFile (bytes : List ℕ) (filter : DefaultFilter) : Type 0 where
+  pub base : DefaultFilter
+  pub is_file : IsSealedFile (filter_part bytes) base
+  pub whole : is_whole bytes ≡ true
+  pub comes : Comes base (hashes_in bytes) filter
 
 -- why a guard takes no file of a filter that has these bytes, if there is a reason; of several the
 -- first counts
@@ -41,13 +50,13 @@ IsRefusedFor bytes fault =
     ⊎ ((fault ≡ Some (Form Memory)) × (file_refusal bytes ≡ None))
 
 -- the same of a guard's file: its filter's own file is refused for it, or that isn't refused, and
--- its room is
+-- what stands behind it is
 abbrev pub IsRefusedIn : List ℕ → Option FormFault → Type 0
 IsRefusedIn bytes None =
-    IsRefusedFor (filter_part bytes) None × (room_refusal (room_part bytes) ≡ None)
+    IsRefusedFor (filter_part bytes) None × (tail_refusal bytes ≡ None)
 IsRefusedIn bytes (Some fault) =
     IsRefusedFor (filter_part bytes) (Some fault)
-    ⊎ (IsRefusedFor (filter_part bytes) None × (room_refusal (room_part bytes) ≡ Some fault))
+    ⊎ (IsRefusedFor (filter_part bytes) None × (tail_refusal bytes ≡ Some fault))
 
 -- what is found by a name with this content, beside a store of this number: no filter where there
 -- is no file, and that of a file that isn't another store's and has the number, with its room
@@ -55,8 +64,8 @@ abbrev pub IsFoundIn : Bool → ℕ → Content → Option (DefaultFilter × Roo
 IsFoundIn is_of_another store None found = found ≡ None
 IsFoundIn is_of_another store (Some bytes) None = ⊥
 IsFoundIn is_of_another store (Some bytes) (Some found) =
-    (is_of_another ≡ false) × IsSealedFile (filter_part bytes) found.0
-    × (found.1 ≡ room_in (room_part bytes)) × IsOwn store bytes
+    (is_of_another ≡ false) × IsLeftFile bytes found.0 × (found.1 ≡ room_in bytes)
+    × IsOwn store bytes
 
 -- why nothing is found by a name with this content, beside a store of this number. A read that
 -- failed says nothing of it. A file that is known as another store's is told as that, whatever its
@@ -79,30 +88,45 @@ abbrev pub HasOwn : ℕ → Content → Type 0
 HasOwn store None = ⊥
 HasOwn store (Some bytes) = IsOwn store bytes
 
--- bytes may be found by the file's name that have a sealed file of the filter, and the number of
--- the store
+-- whether there is a file that ends with a piece
+abbrev pub is_whole_in : Content → Bool
+is_whole_in None = false
+is_whole_in (Some bytes) = is_whole bytes
+
+-- bytes may be found by the file's name that are a guard's file of the filter, and have the number
+-- of the store
 pub record MayHave (s : Sight) (filter : DefaultFilter) : Type 0 where
   pub bytes : List ℕ
   pub found : s.may_find Standing (Some bytes)
-  pub is_file : IsSealedFile (filter_part bytes) filter
+  pub is_file : IsLeftFile bytes filter
   pub is_own : IsOwn s.store bytes
 
 -- bytes may be found by the file's name that tell this room
 pub record MayTell (s : Sight) (room : Room) : Type 0 where
   pub bytes : List ℕ
   pub found : s.may_find Standing (Some bytes)
-  pub told : room ≡ room_in (room_part bytes)
+  pub told : room ≡ room_in bytes
 
 -- the same, had a crash come at some moment from that one on
 pub record HadSince (s : Sight) (since : ℕ) (filter : DefaultFilter) : Type 0 where
   pub bytes : List ℕ
   pub found : s.found_since since Standing (Some bytes)
-  pub is_file : IsSealedFile (filter_part bytes) filter
+  pub is_file : IsLeftFile bytes filter
   pub is_own : IsOwn s.store bytes
 
 -- the name may lead to no file
 abbrev pub MayLack : Sight → Type 0
 MayLack s = s.may_find Standing None
+
+-- from old to new bytes may have come behind the file's own: a crash at any moment leaves what
+-- might be found before, or its own bytes with anything behind them
+pub record Lengthens (old new : Sight) : Type 0 where
+  pub later : old.moment ≤ new.moment
+  pub each : (since : ℕ) (c : Content) → since ≤ old.moment → new.found_since since Standing c
+      → old.found_since since Standing c ⊎ IsLonger (old.now Standing) c
+  pub now : (c : Content) → new.may_find Standing c
+      → old.may_find Standing c ⊎ IsLonger (old.now Standing) c
+  pub store : new.store ≡ old.store
 
 -- from old to new the file stayed: a crash at any moment leaves what might be found before
 pub record Passes (old new : Sight) : Type 0 where

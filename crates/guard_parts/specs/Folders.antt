@@ -1,6 +1,6 @@
 -- A folder in which one file is replaced, which belongs to a store: what its names hold now, and
 -- what may be found by them after a crash.
-use Rattle.std.specs.Prelude.{◌≡◌, ◌⊎◌, ◌≤◌, ℕ, List, Option, Vec}
+use Rattle.std.specs.Prelude.{◌≡◌, ◌⊎◌, ◌≤◌, ℕ, List, ◌++◌, Option, Some, None, Vec}
 use Rattle.std.specs.Option.{option_map}
 use Rattle.std.specs.declared.alloc.Global.{Global}
 use Rattle.guard_parts.specs.declared.folder.Name.{Name}
@@ -8,6 +8,16 @@ use Rattle.guard_parts.specs.declared.folder.Name.{Name}
 -- the bytes of a file, or that there is none
 abbrev pub Content : Type 0
 Content = Option (List ℕ)
+
+-- a file with these bytes behind its own; none, where there is no file
+abbrev pub behind : Content → List ℕ → Content
+behind None bytes = None
+behind (Some own) bytes = Some (own ++ bytes)
+
+-- a content is that of a file with something behind its own bytes
+abbrev pub IsLonger : Content → Content → Type 0
+IsLonger None longer = ⊥
+IsLonger (Some own) longer = (bytes : List ℕ) × (longer ≡ Some (own ++ bytes))
 
 -- what clauses see of a folder
 pub record Sight : Type 1 where

@@ -2,6 +2,7 @@ pub mod Calls
 pub mod Empty
 pub mod Filters
 pub mod Folders
+pub mod Growth
 pub mod Laws
 pub mod Note
 pub mod Numbers

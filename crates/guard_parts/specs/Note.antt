@@ -2,7 +2,7 @@
 use Rattle.std.specs.Prelude.{ℕ, Bool, List, Some, None, zero, suc, slice_index, nat_eq, if◌then◌else◌}
 use Rattle.guard_parts.specs.declared.folder.Name.{Name}
 use Rattle.guard_parts.specs.declared.folder.Name.TheVariants.{Standing, New}
-use Rattle.guard_parts.specs.Calls.{Call, Reads, FailsToRead, Writes, SyncsFile, Renames, SyncsFolder, Removes, ReadsNumber}
+use Rattle.guard_parts.specs.Calls.{Call, Reads, FailsToRead, Writes, Appends, SyncsFile, Renames, SyncsFolder, Removes, ReadsNumber}
 
 -- a name by its number
 abbrev pub name_of : ℕ → Name
@@ -18,7 +18,9 @@ call_of (suc (suc (suc zero))) name other ok n bytes = SyncsFile name ok
 call_of (suc (suc (suc (suc zero)))) name other ok n bytes = Renames name other ok
 call_of (suc (suc (suc (suc (suc zero))))) name other ok n bytes = SyncsFolder ok
 call_of (suc (suc (suc (suc (suc (suc zero)))))) name other ok n bytes = Removes name ok
-call_of (suc (suc (suc (suc (suc (suc (suc kind))))))) name other ok n bytes = ReadsNumber n
+call_of (suc (suc (suc (suc (suc (suc (suc zero))))))) name other ok n bytes = ReadsNumber n
+call_of (suc (suc (suc (suc (suc (suc (suc (suc kind)))))))) name other ok n bytes =
+    Appends name bytes ok
 
 -- a kind, two names, 1 for a call that came about, a number if there is one, and bytes
 abbrev pub event_of : List ℕ → List ℕ → Call

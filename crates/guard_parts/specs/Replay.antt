@@ -1,18 +1,19 @@
 -- What a folder's names hold, and what may be found by them after a crash, read off its calls.
 use Rattle.std.specs.Prelude.{◌≡◌, ◌⊎◌, ◌≤◌, ℕ, Bool, true, false, ◌||◌, List, [], ◌∷◌, length, Some, None, if◌then◌else◌, ⊤}
-use Rattle.guard_parts.specs.Folders.{Content, Sight}
+use Rattle.guard_parts.specs.Folders.{Content, IsLonger, Sight, behind}
 use Rattle.guard_parts.specs.declared.folder.Name.{Name}
 use Rattle.guard_parts.specs.declared.folder.Name.TheVariants.{Standing, New}
-use Rattle.guard_parts.specs.Calls.{Call, Reads, FailsToRead, Writes, SyncsFile, Renames, SyncsFolder, Removes, ReadsNumber}
+use Rattle.guard_parts.specs.Calls.{Call, Reads, FailsToRead, Writes, Appends, SyncsFile, Renames, SyncsFolder, Removes, ReadsNumber}
 
 -- What no code can read: what the names held at first, what else might be found by them, what a
--- write that failed left, and whether a rename or a removal that failed came about; and the number
--- of the store that the file belongs to, of which reads tell. The other numbers count the calls
--- before.
+-- write that failed left, and what one at the end of a file left there, and whether a rename or a
+-- removal that failed came about; and the number of the store that the file belongs to, of which
+-- reads tell. The other numbers count the calls before.
 pub record Start : Type 1 where
   pub now : Name → Content
   pub others : Name → Content → Type 0
   pub left : ℕ → Content
+  pub left_behind : ℕ → List ℕ
   pub was_done : ℕ → Bool
   pub store : ℕ
 
@@ -45,6 +46,15 @@ MayFind slot c = (c ≡ slot.now) ⊎ slot.others c
 abbrev pub unsettled : Content → Slot
 unsettled content = record { now = content; is_synced = false; others = λ _. ⊤ }
 
+-- a name whose file has more bytes behind its own: what might be found before may be found, and, of
+-- a file that was on the disk, its own bytes with anything behind them; of another anything
+abbrev pub appended : List ℕ → Slot → Slot
+appended bytes slot = record {
+  now = behind slot.now bytes;
+  is_synced = false;
+  others = λ c. MayFind slot c ⊎ (IsLonger slot.now c ⊎ (slot.is_synced ≡ false));
+}
+
 -- a name after a sync of its file, which came about or not
 abbrev pub synced : Bool → Slot → Slot
 synced ok slot = record slot { is_synced = ok || slot.is_synced }
@@ -75,6 +85,8 @@ after start n FailsToRead s = s
 after start n (ReadsNumber number) s = s
 after start n (Writes name bytes ok) s =
     put name (unsettled (if ok then Some bytes else start.left n)) s
+after start n (Appends name bytes ok) s =
+    put name (appended (if ok then bytes else start.left_behind n) (at s name)) s
 after start n (SyncsFile name ok) s = put name (synced ok (at s name)) s
 after start n (Renames from to ok) s =
     when (ok || start.was_done n)

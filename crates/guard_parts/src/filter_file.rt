@@ -1,16 +1,19 @@
 //! A filter that is kept in a file.
-ghost use Rattle.std.specs.Prelude.{◌≡◌, ◌⊎◌, ◌≤◌, ℕ, None, Some, IfErr, IfOk, IfSome, OnErr, OnOk};
+ghost use Rattle.std.specs.Prelude.{◌≡◌, ◌⊎◌, ◌≤◌, ℕ, [], ◌∷◌, true, None, Some, IfErr, IfOk, IfSome, OnErr, OnOk};
+ghost use Rattle.std.proofs.Props.{props};
 ghost use Rattle.bloom_plain.specs.Data.{AnswerAlike, DefaultFilter};
 ghost use Rattle.bloom_plain.specs.File.{IsFileOf};
-ghost use Rattle.guard_parts.specs.Filters.{HadSince, HasOwn, IsFaultIn, IsFoundIn, MayHave, MayLack, MayTell, Passes};
+ghost use Rattle.guard_parts.specs.Filters.{HadSince, HasOwn, IsFaultIn, IsFoundIn, MayHave, MayLack, MayTell, Passes, is_whole_in};
 ghost use Rattle.guard_parts.specs.Folders.{Content, bytes_in};
-ghost use Rattle.guard_parts.specs.Rooms.{IsOwn, filter_part, room_in, room_part};
+ghost use Rattle.guard_parts.specs.Growth.{Grows, HasMore};
+ghost use Rattle.guard_parts.specs.Rooms.{IsOwn, filter_part, later_part, room_in};
 ghost use Rattle.guard_parts.specs.declared.folder.Name.TheVariants.{Standing};
 ghost use Rattle.guard_parts.specs.declared.room.Room.{Room as ARoom};
 
 use crate::folder::{Folder, Name};
-use crate::form::{FormFault, file_with, filled_of, is_own};
+use crate::form::{FormFault, count_added, file_with, filled_of, is_own, piece_of};
 use crate::kept::Kept;
+use crate::lengthening::append_synced;
 use crate::replacing::replace_or_clear;
 use crate::room::Room;
 use bloom_plain::BloomFilter;
@@ -18,6 +21,9 @@ use bloom_plain::laws::file_reads_back;
 use std::alloc::Global;
 use std::fmt;
 use std::fmt::Display;
+
+// How many hashes are added to a file before it is written anew: each is read at every load.
+const MOST_ADDED: usize = 4096;
 
 /// Why a filter isn't found, or isn't saved.
 #[derive(Clone, Copy, Debug, PartialEq, Eq, Drop)]
@@ -43,6 +49,12 @@ pub struct FilterFile<D: Folder + Drop> {
     folder: D,
     // The file that is there, if there is one, isn't this store's.
     is_of_another: bool,
+    // The file that is there ends with a piece, so that one more can come behind it.
+    is_whole: bool,
+    // How many hashes were added to it.
+    added: usize,
+    ghost whole: { is_whole ≡ true → D.Folder.is_known folder
+        → is_whole_in ((D.Folder.sight folder).now Standing) ≡ true } by { Prim.hlevel props },
 }
 
 impl<E: Display> Display for FilterFault<E> {
@@ -67,6 +79,8 @@ impl<D: Folder + Drop> FilterFile<D> {
             alloc,
             folder,
             is_of_another,
+            is_whole: false,
+            added: 0,
         }
     }
 
@@ -88,6 +102,8 @@ fn read_both<D: Folder>(folder: &mut D) -> Result<(u64, Option<Vec<u8>>), D::Err
         (λ it. it.0 ≡ (D.sight folder.old).store) }
     ensures found { D.is_known folder.new → IfOk result
         (λ it. bytes_in it.1 ≡ (D.sight folder.old).now Standing) }
+    ensures still { D.is_known folder.new
+        → (D.sight folder.new).now Standing ≡ (D.sight folder.old).now Standing }
 {
     let number = folder.number()?;
     let found = folder.read(Name::Standing)?;
@@ -104,9 +120,12 @@ fn bytes_of<D: Folder>(
     ensures known { D.is_known folder.new → D.is_known folder.old }
     ensures passes { D.is_known folder.new → Passes (D.sight folder.old) (D.sight folder.new) }
     ensures file { IfOk result (λ bytes. IsFileOf (filter_part bytes.items) filter.now) }
-    ensures room { IfOk result (λ bytes. room_in (room_part bytes.items) ≡ room) }
+    ensures alone { IfOk result (λ bytes. later_part bytes.items ≡ []) }
+    ensures room { IfOk result (λ bytes. room_in bytes.items ≡ room) }
     ensures own { D.is_known folder.new → IfOk result
         (λ bytes. IsOwn (D.sight folder.old).store bytes.items) }
+    ensures still { D.is_known folder.new
+        → (D.sight folder.new).now Standing ≡ (D.sight folder.old).now Standing }
 {
     let store = match folder.number() {
         Ok(store) => store,
@@ -179,6 +198,7 @@ impl<D: Folder + Drop> Kept for FilterFile<D> {
             ((D.sight self.old.folder).now Standing)) }
         ensures same { self.new.is_of_another ≡ self.old.is_of_another }
     {
+        self.is_whole = false;
         match read_both(&mut self.folder) {
             Ok((_, None)) => Ok(None),
             Ok((store, Some(bytes))) => {
@@ -190,6 +210,9 @@ impl<D: Folder + Drop> Kept for FilterFile<D> {
                         if !is_own(store, &bytes) {
                             return Err(FilterFault::OtherStore);
                         }
+                        let added = count_added(&bytes);
+                        self.is_whole = added.is_some();
+                        self.added = added.unwrap_or(0);
                         Ok(Some(found))
                     }
                     Err(fault) => Err(FilterFault::Refused(fault)),
@@ -231,12 +254,43 @@ impl<D: Folder + Drop> Kept for FilterFile<D> {
             Ok(bytes) => bytes,
             Err(fault) => return Err(fault),
         };
+        self.is_whole = false;
         match replace_or_clear(&mut self.folder, &bytes) {
             Ok(()) => {
                 self.is_of_another = false;
+                let added = count_added(&bytes);
+                self.is_whole = added.is_some();
+                self.added = added.unwrap_or(0);
                 Ok(())
             }
             Err(error) => Err(FilterFault::Unsaved(error)),
+        }
+    }
+
+    #[tactic(auto, using(crate::proofs::AddLemmas::grows_not))]
+    fn add(
+        &mut self,
+        filter: &BloomFilter,
+        hash: u64,
+        room: Room,
+    ) -> Result<(), FilterFault<D::Error>> {
+        if !self.is_whole || self.added >= MOST_ADDED {
+            return self.save(filter, room);
+        }
+        room.is_narrow();
+        let piece = match piece_of(self.alloc, hash, room) {
+            Ok(piece) => piece,
+            Err(_) => return Err(FilterFault::Memory),
+        };
+        self.is_whole = false;
+        match append_synced(&mut self.folder, &piece) {
+            Ok(()) => {
+                self.is_whole = true;
+                self.added += 1;
+                Ok(())
+            }
+            // The file may have been taken away.
+            Err(_) => self.save(filter, room),
         }
     }
 }

@@ -1,6 +1,6 @@
 //! What a program asks of a file system to replace one file safely.
 ghost use Rattle.std.specs.Prelude.{◌≡◌, ◌≢◌, ◌⊎◌, ◌≤◌, ℕ, Some, IfOk, OnOk};
-ghost use Rattle.guard_parts.specs.Folders.{Content, Elapses, Keeps, KeepsAll, Sight, bytes_in};
+ghost use Rattle.guard_parts.specs.Folders.{Content, Elapses, IsLonger, Keeps, KeepsAll, Sight, behind, bytes_in};
 ghost use Rattle.guard_parts.specs.declared.folder.Name.{Name as AName};
 
 /// The names of a file that is replaced.
@@ -54,6 +54,22 @@ pub trait Folder {
         // is there after an error, nothing is said.
         ensures written { is_known self.new
             → OnOk result ((sight self.new).now name ≡ Some bytes.now) }
+        ensures others { is_known self.new → (other : AName) → other ≢ name
+            → Keeps (sight self.old) (sight self.new) other };
+
+    /// Puts bytes behind those of the file that this name has. After an error some of them, or
+    /// others, may stand there.
+    fn append(&mut self, name: Name, bytes: &[u8]) -> Result<(), Self::Error>
+        ensures known { is_known self.new → is_known self.old }
+        ensures time { is_known self.new → Elapses (sight self.old) (sight self.new) }
+        // write with O_APPEND: "the file offset shall be set to the end of the file prior to each
+        // write". A crash may leave of it what was there before, and of a file that was on the disk
+        // its own bytes, with anything behind them.
+        ensures appended { is_known self.new → OnOk result
+            ((sight self.new).now name ≡ behind ((sight self.old).now name) bytes.now) }
+        ensures found { is_known self.new → (sight self.old).is_synced name → (c : Content)
+            → (sight self.new).may_find name c → (sight self.old).may_find name c
+            ⊎ IsLonger ((sight self.old).now name) c }
         ensures others { is_known self.new → (other : AName) → other ≢ name
             → Keeps (sight self.old) (sight self.new) other };
 

@@ -45,6 +45,8 @@ pub struct HostFolder<'a, W: World> {
     paths: Paths<'a>,
     // The file that was written last, with its name, until it is synced or moved.
     written: Option<(Name, File)>,
+    // No sync failed so far.
+    is_sure: bool,
     log: Record,
     world: PhantomData<W>,
 }
@@ -131,11 +133,25 @@ fn write_whole(rt: &HostRuntime, path: &str, like: &str, bytes: &[u8]) -> io::Re
     Ok(file)
 }
 
-// Syncs the file that was written. One that failed isn't tried again: the system may have dropped
-// what was to be written.
-fn sync_written(written: &mut Option<(Name, File)>, name: Name) -> io::Result<()> {
+// Puts bytes behind those of a file that is there.
+fn write_behind(rt: &HostRuntime, path: &str, bytes: &[u8]) -> io::Result<File> {
+    let mut end = OpenOptions::new().append(true).open(rt, path)?;
+    end.write_all(bytes)?;
+    Ok(end)
+}
+
+// Syncs the file that was written; where none was, one of an earlier run, if each sync so far came
+// about. One that failed isn't tried again: the system may have dropped what was to be written.
+fn sync_written(
+    rt: &HostRuntime,
+    path: &str,
+    written: &mut Option<(Name, File)>,
+    name: Name,
+    is_sure: bool,
+) -> io::Result<()> {
     match written.take() {
         Some((written_as, file)) if written_as == name => file.sync_all(),
+        None if is_sure => File::open(rt, path)?.sync_all(),
         _ => Err(ErrorKind::NotFound.into()),
     }
 }
@@ -154,6 +170,7 @@ impl<'a, W: World> HostFolder<'a, W> {
             rt,
             paths,
             written: None,
+            is_sure: true,
             log: Record::new(),
             world: PhantomData,
         }
@@ -207,8 +224,25 @@ impl<W: World> Folder for HostFolder<'_, W> {
         }
     }
 
+    fn append(&mut self, name: Name, bytes: &[u8]) -> Result<(), HostFault> {
+        match write_behind(self.rt, path_of(&self.paths, name), bytes) {
+            Ok(file) => {
+                self.written = Some((name, file));
+                self.log.appends(name, bytes, true);
+                Ok(())
+            }
+            Err(error) => {
+                self.written = None;
+                self.log.appends(name, bytes, false);
+                Err(HostFault::Failed(Reason(error.kind())))
+            }
+        }
+    }
+
     fn sync_file(&mut self, name: Name) -> Result<(), HostFault> {
-        let answer = sync_written(&mut self.written, name);
+        let path = path_of(&self.paths, name);
+        let answer = sync_written(self.rt, path, &mut self.written, name, self.is_sure);
+        self.is_sure = self.is_sure && answer.is_ok();
         self.log.syncs_file(name, answer.is_ok());
         answer.map_err(HostFault::from)
     }

@@ -1,6 +1,7 @@
 //! Where the filter of a guard is kept.
-ghost use Rattle.std.specs.Prelude.{◌≡◌, ◌⊎◌, ◌≤◌, ℕ, None, IfOk, IfSome, OnOk, OnErr};
+ghost use Rattle.std.specs.Prelude.{◌≡◌, ◌⊎◌, ◌≤◌, ℕ, [], ◌∷◌, None, IfOk, IfSome, OnOk, OnErr};
 ghost use Rattle.bloom_plain.specs.Data.{AnswerAlike, DefaultFilter};
+ghost use Rattle.guard_parts.specs.Growth.{Grows, HasMore};
 ghost use Rattle.guard_parts.specs.declared.room.Room.{Room as ARoom};
 
 use crate::room::Room;
@@ -70,6 +71,26 @@ pub trait Kept {
         ensures crash { is_known self.new → (since : ℕ) (other : DefaultFilter)
             → since ≤ moment self.old → found_since self.new since other
             → AnswerAlike filter.now other ⊎ found_since self.old since other };
+
+    /// Adds a hash to the filter that is kept, and tells this room. `filter` has the hash already:
+    /// it is saved whole where the hash can't be added alone. After an error, or a crash, a filter
+    /// may be found that has more hashes than before, and none that has fewer.
+    fn add(&mut self, filter: &BloomFilter, hash: u64, room: Room) -> Result<(), Self::Error>
+        ensures known { is_known self.new → is_known self.old }
+        ensures told { is_known self.new → OnOk result
+            ((other : ARoom) → may_tell self.new other → other ≡ room) }
+        ensures ok { is_known self.new → OnOk result
+            ((other : DefaultFilter) → may_have self.new other
+            → AnswerAlike filter.now other ⊎ HasMore (may_have self.old) (hash ∷ []) other) }
+        ensures there { is_known self.new → OnOk result (¬ may_lack self.new) }
+        ensures err { is_known self.new → OnErr result
+            ((other : DefaultFilter) → may_have self.new other
+            → AnswerAlike filter.now other ⊎ Grows (may_have self.old) other) }
+        ensures gone { is_known self.new → may_lack self.new → may_lack self.old }
+        ensures time { is_known self.new → moment self.old ≤ moment self.new }
+        ensures crash { is_known self.new → (since : ℕ) (other : DefaultFilter)
+            → since ≤ moment self.old → found_since self.new since other
+            → AnswerAlike filter.now other ⊎ Grows (found_since self.old since) other };
 
     /// This moment is one of those since an earlier one.
     ghost counts_now: { (place : Self) (since : ℕ) (filter : DefaultFilter)

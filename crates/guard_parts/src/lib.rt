@@ -6,6 +6,7 @@ mod folder;
 mod form;
 mod host_folder;
 mod kept;
+mod lengthening;
 mod memory_folder;
 mod memory_slot;
 mod noted;

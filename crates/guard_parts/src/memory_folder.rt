@@ -182,6 +182,20 @@ impl Folder for MemoryFolder {
         }
     }
 
+    fn append(&mut self, name: Name, bytes: &[u8]) -> Result<(), MemoryFault> {
+        let may = spend(&mut self.calls_left, &mut self.failures);
+        let is_done = match name {
+            Name::Standing => self.standing.append(bytes, may),
+            Name::New => self.fresh.append(bytes, may),
+        };
+        self.log.appends(name, bytes, is_done);
+        if is_done {
+            Ok(())
+        } else {
+            Err(MemoryFault::Injected)
+        }
+    }
+
     fn sync_file(&mut self, name: Name) -> Result<(), MemoryFault> {
         let is_done = spend(&mut self.calls_left, &mut self.failures);
         if is_done {

@@ -1,5 +1,6 @@
 //! One name of a folder in memory.
-ghost use Rattle.std.specs.Prelude.{◌≡◌, ◌||◌, ◌++◌, ◌∷◌, [], None, true, false, not};
+ghost use Rattle.std.specs.Prelude.{◌≡◌, ◌||◌, ◌++◌, ◌∷◌, [], None, true, false, not, if◌then◌else◌};
+ghost use Rattle.guard_parts.specs.Folders.{behind, bytes_in};
 ghost use Rattle.guard_parts.specs.Shows.{Same};
 
 use std::alloc::Global;
@@ -42,6 +43,28 @@ impl MemorySlot {
         self.now = now;
         self.is_synced = false;
         self.is_any = true;
+    }
+
+    /// Puts bytes behind those of the file, of which nothing new is on the disk, if there is a file
+    /// and memory, and it may.
+    pub fn append(&mut self, bytes: &[u8], may: bool) -> bool
+        ensures now { bytes_in self.new.now
+            ≡ behind (bytes_in self.old.now) (if result then bytes.now else []) }
+        ensures synced { self.new.is_synced ≡ false }
+        ensures any { self.new.is_any ≡ true }
+    {
+        self.is_synced = false;
+        self.is_any = true;
+        match &mut self.now {
+            Some(own) => {
+                if may {
+                    own.extend_from_slice(bytes).is_ok()
+                } else {
+                    false
+                }
+            }
+            None => false,
+        }
     }
 
     /// Moves the file of another name here, if there is memory for what may still be found.

@@ -2,7 +2,7 @@
 ghost use Rattle.std.specs.Prelude.{◌≡◌, List, [], ◌∷◌};
 ghost use Rattle.std.specs.Borrow.{ftrue};
 ghost use Rattle.guard_parts.specs.Folders.{bytes_in};
-ghost use Rattle.guard_parts.specs.Calls.{Call, Reads, FailsToRead, Writes, SyncsFile, Renames, SyncsFolder, Removes, ReadsNumber};
+ghost use Rattle.guard_parts.specs.Calls.{Call, Reads, FailsToRead, Writes, Appends, SyncsFile, Renames, SyncsFolder, Removes, ReadsNumber};
 ghost use Rattle.guard_parts.specs.Note.{event_of, name_of};
 
 use crate::folder::Name;
@@ -63,6 +63,12 @@ impl Record {
         ensures { self.new.events ≡ Writes name bytes.now is_done ∷ self.old.events }
     {
         self.note(&[2, code(name), 0, u64::from(is_done)], bytes);
+    }
+
+    pub fn appends(&mut self, name: Name, bytes: &[u8], is_done: bool)
+        ensures { self.new.events ≡ Appends name bytes.now is_done ∷ self.old.events }
+    {
+        self.note(&[8, code(name), 0, u64::from(is_done)], bytes);
     }
 
     pub fn syncs_file(&mut self, name: Name, is_done: bool)

@@ -1,5 +1,5 @@
 //! What is supposed of a folder as it is opened.
-ghost use Rattle.std.specs.Prelude.{false, None};
+ghost use Rattle.std.specs.Prelude.{false, [], None};
 ghost use Rattle.guard_parts.specs.Replay.{Start};
 
 /// What a folder held at first, which no call tells. Code over any `W: World` is proved for all of
@@ -18,6 +18,7 @@ impl World for Unknown {
       now = λ _. None;
       others = λ _ _. ⊥;
       left = λ _. None;
+      left_behind = λ _. [];
       was_done = λ _. false;
       store = 0;
     } };

@@ -5,7 +5,7 @@ mod find;
 mod guarded;
 mod list;
 
-ghost use Rattle.std.specs.Prelude.{◌≡◌, false, OnErr, OnOk};
+ghost use Rattle.std.specs.Prelude.{◌≡◌, false, true, OnErr, OnOk};
 ghost use Rattle.sqlite_trees.specs.View.{IsRolledBack};
 
 use crate::fault::StoreFault;
@@ -60,6 +60,8 @@ impl<S: Store + Drop> EntryTrees<S> {
             (sight_of (S.Store.view self.old.store) self.old.in_batch).has) }
         ensures agree { self.old.is_compared ≡ false → IsKnown (S.Store.view self.new.store)
             → OnOk result (Agree (S.Store.view self.old.store).trees) }
+        ensures marked { self.old.is_compared ≡ false → self.new.is_compared ≡ true
+            → IsKnown (S.Store.view self.new.store) → Agree (S.Store.view self.old.store).trees }
         ensures ok { HasTrees (S.Store.view self.old.store) self.old.in_batch
             → IsKnown (S.Store.view self.new.store) → OnOk result (Keeps
             (sight_of (S.Store.view self.old.store) self.old.in_batch)
@@ -93,6 +95,7 @@ impl<S: Store + Drop> EntryTrees<S> {
         ensures undone { OnErr outcome
             (IsRolledBack (S.Store.view self.old.store) (S.Store.view self.new.store)) }
         ensures closed { OnErr outcome (self.new.in_batch ≡ false) }
+        ensures compared { self.new.is_compared ≡ self.old.is_compared }
         ensures known { IsKnown (S.Store.view self.new.store)
             → IsKnown (S.Store.view self.old.store) }
     {

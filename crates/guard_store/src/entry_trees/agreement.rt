@@ -1,5 +1,5 @@
 //! Compares the table with the index of its names.
-ghost use Rattle.std.specs.Prelude.{◌≡◌, ◌%◌, ◌^◌, false, length, IfOk, OnErr, OnOk};
+ghost use Rattle.std.specs.Prelude.{◌≡◌, ◌%◌, ◌^◌, false, true, length, IfOk, OnErr, OnOk};
 ghost use Rattle.sqlite_value.specs.Value.{owned};
 ghost use Rattle.sqlite_trees.specs.View.{KeepsCommitted};
 ghost use Rattle.sqlite_exec.specs.Calls.{OnlyReads};
@@ -95,6 +95,8 @@ pub(crate) fn compare<S: Store>(
 ) -> Result<(), StoreError>
     ensures agree { is_compared.old ≡ false → IsKnown (S.Store.view store.new)
         → OnOk result (Agree (S.Store.view store.old).trees) }
+    ensures marked { is_compared.old ≡ false → is_compared.new ≡ true
+        → IsKnown (S.Store.view store.new) → Agree (S.Store.view store.old).trees }
     ensures same { IsKnown (S.Store.view store.new)
         → OnOk result (OnlyReads (S.Store.view store.old) (S.Store.view store.new)) }
     ensures err { IsKnown (S.Store.view store.new)

@@ -1,5 +1,5 @@
 //! Finds the row of a name.
-ghost use Rattle.std.specs.Prelude.{◌≡◌, ◌↔◌, false, None, string_bytes, IfOk, IsTrue, MatchOption, OnErr, OnOk};
+ghost use Rattle.std.specs.Prelude.{◌≡◌, ◌↔◌, false, true, None, string_bytes, IfOk, IsTrue, MatchOption, OnErr, OnOk};
 ghost use Rattle.sqlite_value.specs.Keys.{plain};
 ghost use Rattle.sqlite_value.specs.Value.{owned};
 ghost use Rattle.sqlite_value.specs.declared.value.Value.TheVariants.{Int, Text};
@@ -174,6 +174,8 @@ pub(crate) fn find_value<S: Store>(
         (λ value. HasEntry ((S.Store.view store.old).trees 0) name.now (string_bytes value))) }
     ensures agree { is_compared.old ≡ false → IsKnown (S.Store.view store.new)
         → IfOk result (λ found. found ≡ None → Agree (S.Store.view store.old).trees) }
+    ensures marked { is_compared.old ≡ false → is_compared.new ≡ true
+        → IsKnown (S.Store.view store.new) → Agree (S.Store.view store.old).trees }
     ensures same { IsKnown (S.Store.view store.new)
         → OnOk result (OnlyReads (S.Store.view store.old) (S.Store.view store.new)) }
     ensures err { IsKnown (S.Store.view store.new)

@@ -7,7 +7,7 @@ use crate::fault::StoreFault;
 use sqlite_trees::store::Store;
 
 impl<S: Store + Drop> guard_engine::Store for EntryTrees<S> {
-    ghost use Rattle.std.specs.Prelude.{◌≡◌, false, map, string_bytes, vec_items, None, IfOk, MatchOption, OnErr, OnOk};
+    ghost use Rattle.std.specs.Prelude.{◌≡◌, false, true, map, string_bytes, vec_items, None, IfOk, MatchOption, OnErr, OnOk};
     ghost use Rattle.guard_engine.specs.Guarded.{Lacks, Lists};
     ghost use Rattle.guard_engine.specs.Stores.{Fails, Keeps};
     ghost use Rattle.guard_store.specs.Agreement.{Agree};
@@ -26,6 +26,8 @@ impl<S: Store + Drop> guard_engine::Store for EntryTrees<S> {
             (sight_of (S.Store.view self.old.store) self.old.in_batch).has) }
         ensures agree { self.old.is_compared ≡ false → IsKnown (S.Store.view self.new.store)
             → OnOk result (Agree (S.Store.view self.old.store).trees) }
+        ensures marked { self.old.is_compared ≡ false → self.new.is_compared ≡ true
+            → IsKnown (S.Store.view self.new.store) → Agree (S.Store.view self.old.store).trees }
         ensures ok { HasTrees (S.Store.view self.old.store) self.old.in_batch
             → IsKnown (S.Store.view self.new.store) → OnOk result (Keeps
             (sight_of (S.Store.view self.old.store) self.old.in_batch)
@@ -54,6 +56,8 @@ impl<S: Store + Drop> guard_engine::Store for EntryTrees<S> {
             (string_bytes value))) }
         ensures agree { self.old.is_compared ≡ false → IsKnown (S.Store.view self.new.store)
             → IfOk result (λ found. found ≡ None → Agree (S.Store.view self.old.store).trees) }
+        ensures marked { self.old.is_compared ≡ false → self.new.is_compared ≡ true
+            → IsKnown (S.Store.view self.new.store) → Agree (S.Store.view self.old.store).trees }
         ensures ok { HasTrees (S.Store.view self.old.store) self.old.in_batch
             → IsKnown (S.Store.view self.new.store) → OnOk result (Keeps
             (sight_of (S.Store.view self.old.store) self.old.in_batch)

@@ -1,5 +1,5 @@
 //! Lists names and entries.
-ghost use Rattle.std.specs.Prelude.{◌≡◌, false, map, string_bytes, IfOk, OnErr, OnOk};
+ghost use Rattle.std.specs.Prelude.{◌≡◌, false, true, map, string_bytes, IfOk, OnErr, OnOk};
 ghost use Rattle.sqlite_value.specs.Value.{owned};
 ghost use Rattle.sqlite_value.specs.declared.value.Value.TheVariants.{Text};
 ghost use Rattle.sqlite_trees.specs.View.{KeepsCommitted};
@@ -107,6 +107,8 @@ pub(crate) fn list_keys<S: Store>(
         ≡ map (λ name. Text (string_bytes name)) names.items) }
     ensures agree { is_compared.old ≡ false → IsKnown (S.Store.view store.new)
         → OnOk result (Agree (S.Store.view store.old).trees) }
+    ensures marked { is_compared.old ≡ false → is_compared.new ≡ true
+        → IsKnown (S.Store.view store.new) → Agree (S.Store.view store.old).trees }
     ensures same { IsKnown (S.Store.view store.new)
         → OnOk result (OnlyReads (S.Store.view store.old) (S.Store.view store.new)) }
     ensures err { IsKnown (S.Store.view store.new)
@@ -129,6 +131,8 @@ pub(crate) fn list_entries<S: Store>(
         ≡ map (λ pair. (Text (string_bytes pair.0), Text (string_bytes pair.1))) pairs.items) }
     ensures agree { is_compared.old ≡ false → IsKnown (S.Store.view store.new)
         → OnOk result (Agree (S.Store.view store.old).trees) }
+    ensures marked { is_compared.old ≡ false → is_compared.new ≡ true
+        → IsKnown (S.Store.view store.new) → Agree (S.Store.view store.old).trees }
     ensures same { IsKnown (S.Store.view store.new)
         → OnOk result (OnlyReads (S.Store.view store.old) (S.Store.view store.new)) }
     ensures err { IsKnown (S.Store.view store.new)

@@ -4,8 +4,8 @@
 use crate::telling::tell_row;
 use bloom_plain::{BloomFilter, FilterError};
 use guard_parts::{
-    FilterFault, FilterFile, HostFault, HostFolder, Kept, MemoryFault, MemoryFolder, Paths, Room,
-    Unknown,
+    FilterFault, FilterFile, Folder, HostFault, HostFolder, Kept, MemoryFault, MemoryFolder, Name,
+    Paths, Room, Unknown,
 };
 use std::alloc::Global;
 use std::fs;
@@ -114,6 +114,96 @@ fn a_save_that_stops_at_any_call_leaves_the_old_filter_or_the_new_one(rt: HostRu
     }
 }
 
+// The calls of an add are, in their order: sync, append, sync, sync of the folder; and where one
+// fails, those of a save. After how many of them some fail, and how many; whether the add comes
+// about then, and whether the hash is in the file.
+const ADDS: &'static [(u64, u64, bool, bool)] = &[
+    (0, 1, true, true),
+    (1, 1, true, true),
+    (2, 1, true, true),
+    (3, 1, true, true),
+    (0, 100, false, false),
+    (1, 100, false, false),
+    (2, 100, false, true),
+    (3, 100, false, true),
+    (4, 100, true, true),
+];
+
+// The room of a filter to which a hash was added.
+const MORE: Room = Room {
+    total: 10,
+    taken: 4,
+};
+
+// Whether an add to a filter ends as its row says.
+fn is_added(alloc: Global, row: &(u64, u64, bool, bool)) -> Result<bool, FilterError> {
+    let (calls, failures, comes_about, is_there) = *row;
+    let old = filter_with(alloc, 1)?;
+    let mut new = filter_with(alloc, 1)?;
+    new.insert_hash(2);
+    let (mut folder, _is_saved) = saved(alloc, MemoryFolder::new(alloc), &old);
+    // A load makes one call that may fail.
+    folder.fail_after(calls + 1, failures);
+    let mut file = FilterFile::new(alloc, folder, false);
+    let is_loaded = matches!(file.load(), Ok(Some(_)));
+    let is_done = file.add(&new, 2, MORE).is_ok();
+    let mut folder = file.into_folder();
+    folder.fail_after(0, 0);
+    let mut file = FilterFile::new(alloc, folder, false);
+    let Ok(Some((found, room))) = file.load() else {
+        return Ok(false);
+    };
+    let is_found = if is_there {
+        (found.as_slice() == new.as_slice()) & (room == MORE)
+    } else {
+        (found.as_slice() == old.as_slice()) & (room == ROOM)
+    };
+    Ok(is_loaded & (is_done == comes_about) & is_found)
+}
+
+#[test]
+fn an_add_that_stops_at_any_call_leaves_the_filter_with_the_hash_or_without(rt: HostRuntime) {
+    for (i, row) in ADDS.iter().enumerate() {
+        assert!(rt; tell_row(&rt, i, matches!(is_added(rt.alloc(), row), Ok(true))));
+    }
+}
+
+// How many bytes the file of a folder has.
+fn length_of(folder: &MemoryFolder) -> usize {
+    match &folder.standing().now {
+        Some(bytes) => bytes.len(),
+        None => 0,
+    }
+}
+
+// The number of bytes of a file after this many adds in a row, by two runs that each begin with a
+// load. No clause says when a file is written anew.
+fn length_after(alloc: Global, adds: u64) -> Result<usize, FilterError> {
+    let mut filter = filter_with(alloc, 1)?;
+    let (mut folder, _is_saved) = saved(alloc, MemoryFolder::new(alloc), &filter);
+    for half in 0..2 {
+        let mut file = FilterFile::new(alloc, folder, false);
+        let _ = file.load();
+        for number in 0..adds / 2 + half * (adds % 2) {
+            filter.insert_hash(number);
+            let _ = file.add(&filter, number, MORE);
+        }
+        folder = file.into_folder();
+    }
+    Ok(length_of(&folder))
+}
+
+// The file has a head of 64 bytes, two words and a piece of 32 bytes, and one for each hash.
+#[test]
+fn a_file_is_written_anew_once_4096_hashes_were_added(rt: HostRuntime) {
+    let alloc = rt.alloc();
+    assert_eq!(rt; length_after(alloc, 0), Ok(112));
+    assert_eq!(rt; length_after(alloc, 3), Ok(208));
+    assert_eq!(rt; length_after(alloc, 4096), Ok(131184));
+    assert_eq!(rt; length_after(alloc, 4097), Ok(112));
+    assert_eq!(rt; length_after(alloc, 4098), Ok(144));
+}
+
 // Whether a read that fails is told, and then that the file is another store's, until one is saved.
 fn is_told(alloc: Global) -> Result<bool, FilterError> {
     let filter = filter_with(alloc, 1)?;
@@ -164,6 +254,28 @@ fn are_refused(rt: &HostRuntime) -> Result<bool, FilterError> {
             & (unread == Some(FilterFault::Unread(HostFault::NoFile)))
             & (unowned == Some(FilterFault::NoNumber)),
     )
+}
+
+// Whether the file of a folder is synced by its name, and none is any more once a sync failed,
+// since there was no file.
+fn are_synced(rt: &HostRuntime) -> bool {
+    let paths = Paths {
+        standing: "scene.synced",
+        fresh: "scene.synced.new",
+        folder: ".",
+        store: "scene.store",
+    };
+    let mut folder = HostFolder::new(rt, paths, Unknown);
+    let is_written = fs::write(rt, "scene.synced", b"1").is_ok();
+    let is_synced = folder.sync_file(Name::Standing).is_ok();
+    let fails = folder.sync_file(Name::New).is_err();
+    is_written & is_synced & fails & folder.sync_file(Name::Standing).is_err()
+}
+
+#[test]
+fn no_sync_is_tried_again_after_one_failed_on_this_machine(rt: HostRuntime) {
+    assert!(rt; are_synced(&rt));
+    assert!(rt; fs::remove_file(&rt, "scene.synced").is_ok());
 }
 
 // The file was moved to its name before its folder was to be synced.

@@ -24,7 +24,7 @@ returns-clause-replaces g c batch watches known =
           let adds = w.in_ok-add-in-Spared.ensures.ok (still-open _ _ batch keeps) now in
           let lacks = found.asked.0 (c.in_ok-find.was ∙ ap Ok w.in-Spared.is) in
           rw w.store-is (rw w.result-is
-          (replaced-spared _ _ _ _ _ keeps _ _ c.hash_of-hash.ensures watches lacks adds))
+          (replaced-spared _ _ _ _ _ keeps _ _ c.requires.hashed watches lacks adds))
       | in-FalseAlarm+in_ok-add-in-FalseAlarm w ↦
           let now = subst g.T.Store.is_known w.store-is known in
           let mid = w.add-in-FalseAlarm.ensures.known now in

@@ -1,7 +1,9 @@
+mod Uncommitted
 -- A batch of one replacement.
 use Rattle.std.proofs.Common.{inl, inr}
 use Rattle.guard_engine.specs.Stores.{TakesBack}
 use Rattle.guard_engine.proofs.BatchLemmas.{Watches-begun, guards-back, saved-begun}
+use Rattle.guard_engine.proofs.replacing.replace_alone.Answers.Uncommitted as uncommitted
 use Rattle.guard_engine.proofs.replacing.replace_alone.Goals as goal
 
 -- after an error the batch is taken back
@@ -19,3 +21,8 @@ returns-in-Err-replace-clause-guards g c was known kept_known =
     guards-back _ _ _ _ was begins _ _ _ _ broke.kept back
     (c.replace.ensures.watches begins.batch watches replace_known)
     (saved-begun _ _ _ _ was begins (g.T.Store.sight c.replace.new.store) broke.kept)
+
+pub returns-in_err-commit_replaced-in-Ok-clause-guards :
+    goal.returns-in_err-commit_replaced-in-Ok-clause-guards
+returns-in_err-commit_replaced-in-Ok-clause-guards =
+    uncommitted.returns-in_err-commit_replaced-in-Ok-clause-guards

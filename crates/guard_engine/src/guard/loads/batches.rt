@@ -16,6 +16,7 @@ use super::{Loaded, MOST, Stop, Why, stopped};
 use crate::counts::Counts;
 use crate::desk::{end_batch, put};
 use crate::guard::Put;
+use crate::keys::hash_of;
 use crate::line::{BadLine, entry_of};
 use crate::rooms::count_keys;
 use crate::store::Store;
@@ -59,7 +60,7 @@ fn put_line<T: Store, F>(
         Ok(entry) => entry,
         Err(bad) => return Err(Why::Line(bad)),
     };
-    match put(store, filter, counts, key, value) {
+    match put(store, filter, counts, key, value, hash_of(key)) {
         Ok(put) => Ok(put),
         Err(error) => Err(Why::Store(error)),
     }

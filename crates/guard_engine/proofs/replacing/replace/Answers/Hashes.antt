@@ -9,7 +9,7 @@ returns-clause-fills g c =
     elim c.match-branch-2.branch [
       | in-Value+in_ok-swap-in-Value w ↦ rw w.filter-is (Fills-nil _ _)
       | in-Spared+in_ok-add-in-Spared w ↦
-          rw w.filter-is (w.in_ok-add-in-Spared.ensures.fills c.hash_of-hash.ensures)
+          rw w.filter-is (w.in_ok-add-in-Spared.ensures.fills c.requires.hashed)
       | in-FalseAlarm+in_ok-add-in-FalseAlarm w ↦
-          rw w.filter-is (w.in_ok-add-in-FalseAlarm.ensures.fills c.hash_of-hash.ensures)
+          rw w.filter-is (w.in_ok-add-in-FalseAlarm.ensures.fills c.requires.hashed)
     ]

@@ -1,8 +1,9 @@
--- What was read may be found.
-use Rattle.std.proofs.Common.{◌∙◌, ℕ, List, subst, sym}
-use Rattle.guard_parts.proofs.FileLemmas.{may-have, may-tell}
+mod Stays
+use Rattle.std.proofs.Common.{◌∙◌, subst, sym}
+use Rattle.guard_parts.proofs.FileLemmas.{may-have, may-tell, read-now, read-since}
 use Rattle.guard_parts.specs.Rooms.{IsOwn}
 use Rattle.guard_parts.specs.declared.folder.Name.TheVariants.{Standing}
+use Rattle.guard_parts.proofs.filter_file.FilterFileKept.load.Answers.Stays as stays
 use Rattle.guard_parts.proofs.filter_file.FilterFileKept.load.Goals as goal
 
 -- it has the number that was read
@@ -25,3 +26,15 @@ returns-in-Ok-clause-told g c k =
     (rw c.in-Ok-default-Some.field-0-1-is at (c.in-Ok-default-Some.ensures.found k))
     (g.met.D.Folder.now_found c.args.self.now.folder Standing) c.deref.ensures.value _
     c.in-Ok.ensures.room
+
+pub returns-then-not-is_own-clause-stays : goal.returns-then-not-is_own-clause-stays
+returns-then-not-is_own-clause-stays = stays.returns-then-not-is_own-clause-stays
+
+pub returns-then-not-is_own-clause-crash : goal.returns-then-not-is_own-clause-crash
+returns-then-not-is_own-clause-crash = stays.returns-then-not-is_own-clause-crash
+
+pub returns-in-Ok-clause-stays : goal.returns-in-Ok-clause-stays
+returns-in-Ok-clause-stays = stays.returns-in-Ok-clause-stays
+
+pub returns-in-Ok-clause-crash : goal.returns-in-Ok-clause-crash
+returns-in-Ok-clause-crash = stays.returns-in-Ok-clause-crash
