@@ -30,11 +30,11 @@ fn saved(alloc: Global, folder: MemoryFolder, filter: &BloomFilter) -> (MemoryFo
     (file.into_folder(), is_saved)
 }
 
-// Whether the file of a folder is found to have the words of a filter, and its room.
-fn finds(alloc: Global, folder: MemoryFolder, filter: &BloomFilter) -> bool {
+// Whether the file of a folder is found to have the words of a filter, and this room.
+fn finds(alloc: Global, folder: MemoryFolder, filter: &BloomFilter, wanted: Room) -> bool {
     let mut file = FilterFile::new(alloc, folder, false);
     match file.load() {
-        Ok(Some((found, room))) => (found.as_slice() == filter.as_slice()) & (room == ROOM),
+        Ok(Some((found, room))) => (found.as_slice() == filter.as_slice()) & (room == wanted),
         Ok(None) => false,
         Err(_fault) => false,
     }
@@ -100,9 +100,9 @@ fn is_safe(alloc: Global, row: &(u64, u64, bool, bool)) -> Result<bool, FilterEr
     let is_whole = leaves_either(&folder, old_file.as_slice(), new_file.as_slice());
     folder.fail_after(0, 0);
     let is_found = if is_new {
-        finds(alloc, folder, &new)
+        finds(alloc, folder, &new, ROOM)
     } else {
-        finds(alloc, folder, &old)
+        finds(alloc, folder, &old, ROOM)
     };
     Ok((is_saved == comes_about) & is_whole & is_found)
 }
@@ -114,19 +114,19 @@ fn a_save_that_stops_at_any_call_leaves_the_old_filter_or_the_new_one(rt: HostRu
     }
 }
 
-// The calls of an add are, in their order: sync, append, sync, sync of the folder; and where one
-// fails, those of a save. After how many of them some fail, and how many; whether the add comes
-// about then, and whether the hash is in the file.
+// The calls of an add to a file that is loaded are, in their order: read, sync, append, sync, sync
+// of the folder; and where one of the last four fails, those of a save. After how many of them some
+// fail, and how many; whether the add comes about then, and whether the hash is in the file.
 const ADDS: &'static [(u64, u64, bool, bool)] = &[
-    (0, 1, true, true),
     (1, 1, true, true),
     (2, 1, true, true),
     (3, 1, true, true),
-    (0, 100, false, false),
+    (4, 1, true, true),
     (1, 100, false, false),
-    (2, 100, false, true),
+    (2, 100, false, false),
     (3, 100, false, true),
-    (4, 100, true, true),
+    (4, 100, false, true),
+    (5, 100, true, true),
 ];
 
 // The room of a filter to which a hash was added.
@@ -135,6 +135,15 @@ const MORE: Room = Room {
     taken: 4,
 };
 
+// A folder after the hash 2 is added to the file in it, and whether that came about. The filter has
+// the hash.
+fn added(alloc: Global, folder: MemoryFolder, filter: &BloomFilter) -> (MemoryFolder, bool) {
+    let mut file = FilterFile::new(alloc, folder, false);
+    let _ = file.load();
+    let is_added = file.add(filter, 2, MORE).is_ok();
+    (file.into_folder(), is_added)
+}
+
 // Whether an add to a filter ends as its row says.
 fn is_added(alloc: Global, row: &(u64, u64, bool, bool)) -> Result<bool, FilterError> {
     let (calls, failures, comes_about, is_there) = *row;
@@ -142,23 +151,15 @@ fn is_added(alloc: Global, row: &(u64, u64, bool, bool)) -> Result<bool, FilterE
     let mut new = filter_with(alloc, 1)?;
     new.insert_hash(2);
     let (mut folder, _is_saved) = saved(alloc, MemoryFolder::new(alloc), &old);
-    // A load makes one call that may fail.
-    folder.fail_after(calls + 1, failures);
-    let mut file = FilterFile::new(alloc, folder, false);
-    let is_loaded = matches!(file.load(), Ok(Some(_)));
-    let is_done = file.add(&new, 2, MORE).is_ok();
-    let mut folder = file.into_folder();
+    folder.fail_after(calls, failures);
+    let (mut folder, is_done) = added(alloc, folder, &new);
     folder.fail_after(0, 0);
-    let mut file = FilterFile::new(alloc, folder, false);
-    let Ok(Some((found, room))) = file.load() else {
-        return Ok(false);
-    };
     let is_found = if is_there {
-        (found.as_slice() == new.as_slice()) & (room == MORE)
+        finds(alloc, folder, &new, MORE)
     } else {
-        (found.as_slice() == old.as_slice()) & (room == ROOM)
+        finds(alloc, folder, &old, ROOM)
     };
-    Ok(is_loaded & (is_done == comes_about) & is_found)
+    Ok((is_done == comes_about) & is_found)
 }
 
 #[test]
@@ -213,7 +214,7 @@ fn is_told(alloc: Global) -> Result<bool, FilterError> {
     let is_unread = file.load().err() == Some(FilterFault::Unread(MemoryFault::Injected));
     let is_other = file.load().err() == Some(FilterFault::OtherStore);
     let is_saved = file.save(&filter, ROOM).is_ok();
-    let is_found = finds(alloc, file.into_folder(), &filter);
+    let is_found = finds(alloc, file.into_folder(), &filter, ROOM);
     Ok(is_left & is_unread & is_other & is_saved & is_found)
 }
 
