@@ -118,9 +118,11 @@ const OUTER: Pairs = &[("crab", "red"), ("ants", "black")];
 
 const CHANGED: Pairs = &[("crab", "red"), ("ants", "black"), ("", "pink")];
 
-// Calls one after the other on an empty table, the error of each if there is one, and the entries
-// after it, in the order in which they came.
-const CALLS: &'static [(Call, Option<StoreFault>, Pairs)] = &[
+// A call, its error if there is one, and the entries after it, in the order in which they came.
+type Row = (Call, Option<StoreFault>, Pairs);
+
+// Calls one after the other on an empty table.
+const CALLS: &'static [Row] = &[
     // Outside of a batch nothing changes.
     (Call::Add("crab", "red"), Some(StoreFault::Shut), NOTHING),
     (Call::Remove("crab"), Some(StoreFault::Shut), NOTHING),
@@ -222,11 +224,16 @@ fn make(shelf: &mut Shelf, call: Call) -> Option<StoreFault> {
     }
 }
 
+// Whether a call on a table ends as its row says.
+fn is_right(shelf: &mut Shelf, row: &Row) -> bool {
+    let (call, error, pairs) = *row;
+    (make(shelf, call) == error) & has_pairs(shelf, pairs)
+}
+
 // Whether the calls on a table end as their rows say.
 fn are_made(rt: &HostRuntime, shelf: &mut Shelf) -> bool {
-    for (i, (call, error, pairs)) in CALLS.iter().enumerate() {
-        let is_error = make(shelf, *call) == *error;
-        if !tell_row(rt, i, is_error & has_pairs(shelf, pairs)) {
+    for (i, row) in CALLS.iter().enumerate() {
+        if !tell_row(rt, i, is_right(shelf, row)) {
             return false;
         }
     }
@@ -246,13 +253,13 @@ fn a_batch_of_the_table_is_committed_whole_or_taken_back(rt: HostRuntime) {
     assert!(rt; are_made_in_order(&rt));
 }
 
-// Adds the keys in a batch that stays open.
-fn add_keys(shelf: &mut Shelf) -> Result<(), StoreFault> {
-    shelf.begin()?;
+// Whether the keys are added in a batch that stays open.
+fn add_keys(shelf: &mut Shelf) -> bool {
+    let mut are_added = shelf.begin().is_ok();
     for key in KEYS {
-        shelf.add(key, "")?;
+        are_added &= shelf.add(key, "").is_ok();
     }
-    Ok(())
+    are_added
 }
 
 // The keys in the order of the index.
@@ -277,9 +284,9 @@ fn are_sorted(keys: &[String]) -> bool {
 
 // Whether a table lists the keys that are added to it in the order of the index.
 fn lists_sorted(shelf: &mut Shelf) -> bool {
-    let is_added = add_keys(shelf).is_ok();
+    let are_added = add_keys(shelf);
     match shelf.keys() {
-        Ok(keys) => is_added & are_sorted(keys.as_slice()),
+        Ok(keys) => are_added & are_sorted(keys.as_slice()),
         Err(_fault) => false,
     }
 }

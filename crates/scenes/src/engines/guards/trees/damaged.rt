@@ -46,17 +46,14 @@ fn values(index: usize) -> Option<&'static str> {
     }
 }
 
-// Takes an entry out of the index, or adds it.
-fn change_entry(
-    store: &mut MemStore,
-    row: &mut Row,
-    key: &str,
-    id: i64,
-    adds: bool,
-) -> Result<(), StoreError> {
+// Makes a row of the index.
+fn set_row(row: &mut Row, key: &str, id: i64) -> bool {
     row.clear();
-    row.push(ValueRef::Text(key.as_bytes()))?;
-    row.push(ValueRef::Int(id))?;
+    row.push(ValueRef::Text(key.as_bytes())).is_ok() & row.push(ValueRef::Int(id)).is_ok()
+}
+
+// Takes an entry out of the index, or adds it.
+fn change_entry(store: &mut MemStore, row: &Row, adds: bool) -> Result<(), StoreError> {
     match store.shape(1) {
         Shape::Index(_) => {
             if adds {
@@ -69,35 +66,46 @@ fn change_entry(
     }
 }
 
-fn make_harm(store: &mut MemStore, row: &mut Row, harm: Harm) -> Result<(), StoreError> {
-    match harm {
-        Harm::Nothing => {}
-        Harm::NoRow => match store.shape(0) {
-            Shape::Table => store.delete(0, 1)?,
-            _ => return Err(StoreError::Corrupt),
-        },
-        Harm::NoEntry => change_entry(store, row, "crab", 1, false)?,
-        Harm::Entry(key, id) => {
-            change_entry(store, row, "crab", 1, false)?;
-            change_entry(store, row, key, id, true)?;
-        }
+// Takes the row of the first key out of the table.
+fn remove_row(store: &mut MemStore) -> Result<(), StoreError> {
+    match store.shape(0) {
+        Shape::Table => store.delete(0, 1),
+        _ => Err(StoreError::Corrupt),
     }
-    store.commit()
 }
 
-// Adds both pairs in a batch.
-fn add_pairs(shelf: &mut Shelf) -> Result<(), StoreFault> {
-    shelf.begin()?;
+// Takes the entry of the first key out of the index.
+fn remove_entry(store: &mut MemStore, row: &mut Row) -> bool {
+    set_row(row, "crab", 1) && change_entry(store, row, false).is_ok()
+}
+
+fn add_entry(store: &mut MemStore, row: &mut Row, key: &str, id: i64) -> bool {
+    set_row(row, key, id) && change_entry(store, row, true).is_ok()
+}
+
+// Whether a harm is made and committed.
+fn make_harm(store: &mut MemStore, row: &mut Row, harm: Harm) -> bool {
+    let is_made = match harm {
+        Harm::Nothing => true,
+        Harm::NoRow => remove_row(store).is_ok(),
+        Harm::NoEntry => remove_entry(store, row),
+        Harm::Entry(key, id) => remove_entry(store, row) && add_entry(store, row, key, id),
+    };
+    is_made & store.commit().is_ok()
+}
+
+// Whether both pairs are added in a batch.
+fn add_pairs(shelf: &mut Shelf) -> bool {
+    let mut are_added = shelf.begin().is_ok();
     for (key, value) in PAIRS {
-        shelf.add(key, value)?;
+        are_added &= shelf.add(key, value).is_ok();
     }
-    shelf.commit()
+    are_added & shelf.commit().is_ok()
 }
 
 // Whether both pairs come into an empty table, and then a harm does.
 fn is_harmed(alloc: Global, shelf: &mut Shelf, what: Harm) -> bool {
-    add_pairs(shelf).is_ok()
-        && make_harm(&mut shelf.table.store, &mut Row::new(alloc), what).is_ok()
+    add_pairs(shelf) && make_harm(&mut shelf.table.store, &mut Row::new(alloc), what)
 }
 
 // A table of both pairs, to which a harm came, and which is just opened.
