@@ -310,20 +310,16 @@ fn host_file<'a>(
     FilterFile::new(rt.alloc(), HostFolder::new(rt, paths, Unknown), false)
 }
 
-// How a load fails where a folder has the name of the file.
-fn fault_of_load(rt: &HostRuntime) -> Option<FilterFault<HostFault>> {
-    host_file(rt, ".", ".").load().err()
+// Whether a folder with the name of the file is refused, since it is no file.
+fn is_unread(rt: &HostRuntime) -> bool {
+    let unread = host_file(rt, ".", ".").load().err();
+    unread == Some(FilterFault::Unread(HostFault::NoFile))
 }
 
-// How a save of the file in this folder fails.
-fn fault_of_save(
-    rt: &HostRuntime,
-    folder: &'static str,
-    filter: &BloomFilter,
-) -> Option<FilterFault<HostFault>> {
-    host_file(rt, "scene.filter", folder)
-        .save(filter, ROOM)
-        .err()
+// Whether a save beside no store is refused, since that has no number.
+fn is_unowned(rt: &HostRuntime, filter: &BloomFilter) -> bool {
+    let unowned = host_file(rt, "scene.filter", ".").save(filter, ROOM).err();
+    unowned == Some(FilterFault::NoNumber)
 }
 
 // Whether the file of a store is written.
@@ -331,16 +327,18 @@ fn write_store(rt: &HostRuntime) -> bool {
     fs::write(rt, "scene.store", &[1u8; 64]).is_ok()
 }
 
-// Whether a folder with the name of the file is refused, since it is no file; a save beside no
-// store, since that has no number; and one in a folder that is missing, since no name can be synced
-// there.
+// Whether a save in a folder that is missing is refused, since no name can be synced there.
+fn is_unsynced(rt: &HostRuntime, filter: &BloomFilter) -> bool {
+    host_file(rt, "scene.filter", "scene.none")
+        .save(filter, ROOM)
+        .is_err()
+}
+
+// Whether all three are refused, the second before there is a store.
 fn are_refused(rt: &HostRuntime) -> Result<bool, FilterError> {
     let filter = filter_with(rt.alloc(), 1)?;
-    let is_unread = fault_of_load(rt) == Some(FilterFault::Unread(HostFault::NoFile));
-    let is_unowned = fault_of_save(rt, ".", &filter) == Some(FilterFault::NoNumber);
-    let is_store = write_store(rt);
-    let is_unsynced = fault_of_save(rt, "scene.none", &filter).is_some();
-    Ok(is_unread & is_unowned & is_store & is_unsynced)
+    let are_refused = is_unread(rt) & is_unowned(rt, &filter);
+    Ok(are_refused & write_store(rt) & is_unsynced(rt, &filter))
 }
 
 // Whether the file of a folder is synced by its name, and none is any more once a sync failed,
