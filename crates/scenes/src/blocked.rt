@@ -280,15 +280,26 @@ fn pair_of_three(alloc: Global) -> Result<Pair, FilterError> {
     Ok(Pair { plain, shared })
 }
 
+// Whether both filters of three items have their shape and take items, and the shared one is
+// cleared.
+fn take_and_clear(pair: &mut Pair) -> bool {
+    let has_shape = (pair.plain.num_bits() == 512) & (pair.plain.num_hashes() == 16);
+    let take = take_items(pair);
+    pair.shared.clear();
+    has_shape & take & (pair.shared.count_ones() == 0)
+}
+
+// Whether a filter is copied, and comes back from its data.
+fn is_same(alloc: Global, filter: &BlockedBloomFilter) -> Result<bool, FilterError> {
+    Ok(is_copied(alloc, filter)? & comes_back(alloc, filter)?)
+}
+
 // Whether both filters take items, the plain one is copied, and the shared one is cleared.
 fn items_go_in(alloc: Global) -> Result<bool, FilterError> {
     let mut pair = pair_of_three(alloc)?;
-    let has_shape = (pair.plain.num_bits() == 512) & (pair.plain.num_hashes() == 16);
-    let take = take_items(&mut pair);
-    pair.shared.clear();
-    let is_clear = pair.shared.count_ones() == 0;
-    let is_same = is_copied(alloc, &pair.plain)? & comes_back(alloc, &pair.plain)?;
-    Ok(has_shape & take & is_clear & is_same)
+    let take = take_and_clear(&mut pair);
+    let is_same = matches!(is_same(alloc, &pair.plain), Ok(true));
+    Ok(take & is_same)
 }
 
 #[test]

@@ -6,7 +6,7 @@ ghost use Rattle.fastbloom.specs.Replies.{InsertsItems};
 ghost use Rattle.fastbloom.specs.SourceHash.{source_hash_of};
 
 use fastbloom::{AtomicBloomFilter, BloomFilter, BuilderWithBits, Command, FilterError, Rate};
-use std::alloc::Global;
+use std::alloc::{AllocError, Global};
 use std::hash::{BuildHasher, BuildHasherDefault, Hash, Hasher};
 
 // Inserts the items of a slice, in order, as callers learn from what `insert_all` says.
@@ -36,14 +36,21 @@ fn fill_by_slice<S: BuildHasher, T: Hash>(
     builder.items(items)
 }
 
+// Inserts the text "42", which is lent, and then "🦀", which is given.
+fn insert_more(alloc: Global, texts: &mut BloomFilter) -> Result<(), AllocError> {
+    let given = Vec::from_array(alloc, ["🦀"])?;
+    insert_slice(texts, &["42"]);
+    insert_vec(texts, given);
+    Ok(())
+}
+
 // Whether the texts "42" and "🦀", which are lent, go in, and are there where they are lent or given
 // again. Their word is by a model of SipHash-1-3 and of the positions.
 fn items_go_in(alloc: Global) -> Result<bool, FilterError> {
-    let given = Vec::from_array(alloc, ["🦀"])?;
     let mut texts = fill_by_slice(BloomFilter::with_num_bits(alloc, 64)?, &["42", "🦀"]);
-    insert_slice(&mut texts, &["42"]);
-    insert_vec(&mut texts, given);
-    Ok((texts.num_hashes() == 22) & (texts.as_slice() == [17359632962081458146].as_slice()))
+    let is_made = insert_more(alloc, &mut texts).is_ok();
+    let is_word = texts.as_slice() == [17359632962081458146].as_slice();
+    Ok(is_made & (texts.num_hashes() == 22) & is_word)
 }
 
 // A filter of one word and one hash.
@@ -93,12 +100,17 @@ fn are_replies(replies: Result<Vec<bool>, FilterError>, said: &[bool]) -> bool {
 
 // Whether a list may name other filters: 5 and 6 is 4, 4 or 8 is 12, and hash 0 sets bit 0. An
 // empty list does nothing then.
+fn names_filters(alloc: Global, filter: &mut BloomFilter, others: &Others) -> bool {
+    let are_answered = are_replies(replies_of(alloc, filter, others), &[false, false]);
+    let is_none = are_replies(filter.replay(alloc, &[]), &[]);
+    are_answered & is_none & (filter.as_slice() == [13].as_slice())
+}
+
+// The same, of three filters that are made.
 fn list_names_filters(alloc: Global) -> Result<bool, FilterError> {
     let others = others_of(alloc)?;
     let mut filter = filter_of(alloc, 5)?;
-    let are_answered = are_replies(replies_of(alloc, &mut filter, &others), &[false, false]);
-    let is_none = are_replies(filter.replay(alloc, &[]), &[]);
-    Ok(are_answered & is_none & (filter.as_slice() == [13].as_slice()))
+    Ok(names_filters(alloc, &mut filter, &others))
 }
 
 type RustHasher = BuildHasherDefault<std::hash::DefaultHasher>;

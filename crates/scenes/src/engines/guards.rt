@@ -104,22 +104,36 @@ const ACTS: &'static [(Act, &'static str, u64)] = &[
     ),
 ];
 
-type Asking<'a> = Guard<Asked<'a>, FilterFile<MemoryFolder>>;
+// What keeps the filter of a guard.
+type Kept = FilterFile<MemoryFolder>;
 
-// A guard of an empty store.
-fn guard_of<'a>(alloc: Global, look_ups: &'a Cell<u64>) -> Option<Asking<'a>> {
-    let Ok(rate) = Rate::new(1, 1000) else {
-        return None;
-    };
-    let store = Asked {
-        alloc,
-        has_crab: false,
-        look_ups,
-    };
-    let kept = FilterFile::new(alloc, MemoryFolder::new(alloc), false);
+// A guard of a store, and of the filter in a folder.
+fn guard_over<T: Store + Drop>(
+    alloc: Global,
+    store: T,
+    folder: MemoryFolder,
+    rate: Rate,
+) -> Option<Guard<T, Kept>>
+    // No clause speaks of the entries of these stores.
+    requires { ¬ T.is_known store }
+{
+    let kept = FilterFile::new(alloc, folder, false);
     match Guard::open(alloc, store, kept, rate, 0, 10) {
         Ok((guard, _origin)) => Some(guard),
         Err(_refusal) => None,
+    }
+}
+
+// Whether a guard replies to a task with this text.
+fn replies<T: Store + Drop>(
+    alloc: Global,
+    guard: &mut Guard<T, Kept>,
+    task: Task<&'static [u8]>,
+    said: &str,
+) -> bool {
+    match carry_out(alloc, guard, task) {
+        Ok(answer) => has_text(alloc, &answer, said),
+        Err(_trouble) => false,
     }
 }
 
@@ -136,26 +150,43 @@ fn task_of(act: Act) -> Task<'static, &'static [u8]> {
 // Whether a guard replies to an act as its row says, and asks its store for this many values.
 fn is_right(
     alloc: Global,
-    guard: &mut Asking,
+    guard: &mut Guard<Asked, Kept>,
     look_ups: &Cell<u64>,
     row: &(Act, &'static str, u64),
 ) -> bool {
     let (act, said, count) = *row;
     look_ups.set(0);
-    let is_said = match carry_out(alloc, guard, task_of(act)) {
-        Ok(answer) => has_text(alloc, &answer, said),
-        Err(_trouble) => false,
+    replies(alloc, guard, task_of(act), said) & (look_ups.get() == count)
+}
+
+// Whether a guard of an empty store replies to all acts as their rows say.
+fn are_right(rt: &HostRuntime, guard: &mut Guard<Asked, Kept>, look_ups: &Cell<u64>) -> bool {
+    for (i, row) in ACTS.iter().enumerate() {
+        if !tell_row(rt, i, is_right(rt.alloc(), guard, look_ups, row)) {
+            return false;
+        }
+    }
+    true
+}
+
+// Whether a guard of an empty store is opened, and is right.
+fn is_opened_and_right(rt: &HostRuntime, rate: Rate) -> bool {
+    let look_ups = Cell::new(0);
+    let store = Asked {
+        alloc: rt.alloc(),
+        has_crab: false,
+        look_ups: &look_ups,
     };
-    is_said & (look_ups.get() == count)
+    match guard_over(rt.alloc(), store, MemoryFolder::new(rt.alloc()), rate) {
+        Some(mut guard) => are_right(rt, &mut guard, &look_ups),
+        None => false,
+    }
 }
 
 #[test]
 fn a_store_is_asked_once_for_each_key_that_the_filter_has(rt: HostRuntime) {
-    let look_ups = Cell::new(0);
-    let Some(mut guard) = guard_of(rt.alloc(), &look_ups) else {
+    let Ok(rate) = Rate::new(1, 1000) else {
         panic!(rt)
     };
-    for (i, row) in ACTS.iter().enumerate() {
-        assert!(rt; tell_row(&rt, i, is_right(rt.alloc(), &mut guard, &look_ups, row)));
-    }
+    assert!(rt; is_opened_and_right(&rt, rate));
 }

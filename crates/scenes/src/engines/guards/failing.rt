@@ -1,9 +1,10 @@
 //! What a guard tells, and what it counts, where a call of its store fails. A clause admits that a
 //! fault of the store is told as another one, and at the first line of its batch.
+use super::{Kept, guard_over};
 use crate::telling::tell_row;
 use bloom_plain::{FilterError, Rate};
 use guard_engine::{Fault, Guard, Stop, Store, Why};
-use guard_parts::{FilterFile, MemoryFolder};
+use guard_parts::MemoryFolder;
 use std::alloc::Global;
 
 // The calls of a store that may fail.
@@ -125,20 +126,7 @@ const ROWS: &'static [Row] = &[
     (Act::Ask, Call::Look, 1, 2, 1, 2, 1),
 ];
 
-type Failed = Guard<Failing, FilterFile<MemoryFolder>>;
-
-// A guard of a store of which a call fails.
-fn guard_of(alloc: Global, call: Call, left: u64) -> Option<Failed> {
-    let Ok(rate) = Rate::new(1, 1000) else {
-        return None;
-    };
-    let store = Failing { alloc, call, left };
-    let kept = FilterFile::new(alloc, MemoryFolder::new(alloc), false);
-    match Guard::open(alloc, store, kept, rate, 0, 10) {
-        Ok((guard, _origin)) => Some(guard),
-        Err(_refusal) => None,
-    }
-}
+type Failed = Guard<Failing, Kept>;
 
 // Whether a change failed since the store did.
 fn is_store<T: Drop, F: Drop>(ended: Result<T, Fault<FilterError, F>>) -> bool {
@@ -159,32 +147,53 @@ fn is_at<T: Drop, F: Drop>(ended: Result<T, Stop<FilterError, F>>, number: u64, 
     }
 }
 
-// Whether a guard tells and counts what its row says.
-fn is_right(alloc: Global, row: &Row) -> bool {
-    let (act, call, left, number, done, spared, asked) = *row;
-    let Some(mut guard) = guard_of(alloc, call, left) else {
-        return false;
-    };
-    let is_told = match act {
+// Whether a load stops since the store failed, and at this line.
+fn load_fails(alloc: Global, guard: &mut Failed, number: u64, done: u64) -> bool {
+    let mut lines = LINES;
+    is_at(guard.load(alloc, &mut lines, 2), number, done)
+}
+
+// Whether look-ups stop at this line, once a line was loaded.
+fn ask_fails(alloc: Global, guard: &mut Failed, number: u64, done: u64) -> bool {
+    let (mut line, mut keys) = (b"crab\tred\n".as_slice(), b"ants\ncrab\n".as_slice());
+    let is_loaded = guard.load(alloc, &mut line, 1).is_ok();
+    is_loaded & is_at(guard.ask(alloc, &mut keys), number, done)
+}
+
+// Whether an act of a guard fails as it should.
+fn fails(alloc: Global, guard: &mut Failed, act: Act, number: u64, done: u64) -> bool {
+    match act {
         Act::Put => is_store(guard.put("crab", "red")),
         Act::Replace => is_store(guard.replace("crab", "red")),
-        Act::Load => {
-            let mut lines = LINES;
-            is_at(guard.load(alloc, &mut lines, 2), number, done)
-        }
-        Act::Ask => {
-            let (mut line, mut keys) = (b"crab\tred\n".as_slice(), b"ants\ncrab\n".as_slice());
-            guard.load(alloc, &mut line, 1).is_ok()
-                & is_at(guard.ask(alloc, &mut keys), number, done)
-        }
-    };
+        Act::Load => load_fails(alloc, guard, number, done),
+        Act::Ask => ask_fails(alloc, guard, number, done),
+    }
+}
+
+// Whether a guard tells and counts what its row says.
+fn is_told(alloc: Global, guard: &mut Failed, row: &Row) -> bool {
+    let (act, _, _, number, done, spared, asked) = *row;
+    let is_told = fails(alloc, guard, act, number, done);
     let counts = guard.counts();
     is_told & (counts.spared == spared) & (counts.asked == asked)
 }
 
+// The same, of a guard of a store of which a call fails.
+fn is_right(alloc: Global, row: &Row, rate: Rate) -> bool {
+    let (_, call, left, _, _, _, _) = *row;
+    let store = Failing { alloc, call, left };
+    match guard_over(alloc, store, MemoryFolder::new(alloc), rate) {
+        Some(mut guard) => is_told(alloc, &mut guard, row),
+        None => false,
+    }
+}
+
 #[test]
 fn a_fault_of_the_store_is_told_as_that_and_at_its_line(rt: HostRuntime) {
+    let Ok(rate) = Rate::new(1, 1000) else {
+        panic!(rt)
+    };
     for (i, row) in ROWS.iter().enumerate() {
-        assert!(rt; tell_row(&rt, i, is_right(rt.alloc(), row)));
+        assert!(rt; tell_row(&rt, i, is_right(rt.alloc(), row, rate)));
     }
 }

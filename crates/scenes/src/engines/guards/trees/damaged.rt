@@ -1,5 +1,5 @@
 //! A table that lacks what its index has, or the other way round, as a damaged file may.
-use super::{Shelf, shelf_of};
+use super::{Shelf, is_value, shelf_of};
 use crate::telling::tell_row;
 use guard_engine::Store;
 use guard_store::{EntryTrees, StoreFault};
@@ -46,17 +46,14 @@ fn values(index: usize) -> Option<&'static str> {
     }
 }
 
-// Takes an entry out of the index, or adds it.
-fn change_entry(
-    store: &mut MemStore,
-    row: &mut Row,
-    key: &str,
-    id: i64,
-    adds: bool,
-) -> Result<(), StoreError> {
+// Makes a row of the index.
+fn set_row(row: &mut Row, key: &str, id: i64) -> bool {
     row.clear();
-    row.push(ValueRef::Text(key.as_bytes()))?;
-    row.push(ValueRef::Int(id))?;
+    row.push(ValueRef::Text(key.as_bytes())).is_ok() & row.push(ValueRef::Int(id)).is_ok()
+}
+
+// Takes an entry out of the index, or adds it.
+fn change_entry(store: &mut MemStore, row: &Row, adds: bool) -> Result<(), StoreError> {
     match store.shape(1) {
         Shape::Index(_) => {
             if adds {
@@ -69,60 +66,69 @@ fn change_entry(
     }
 }
 
-fn make_harm(store: &mut MemStore, row: &mut Row, harm: Harm) -> Result<(), StoreError> {
-    match harm {
-        Harm::Nothing => {}
-        Harm::NoRow => match store.shape(0) {
-            Shape::Table => store.delete(0, 1)?,
-            _ => return Err(StoreError::Corrupt),
-        },
-        Harm::NoEntry => change_entry(store, row, "crab", 1, false)?,
-        Harm::Entry(key, id) => {
-            change_entry(store, row, "crab", 1, false)?;
-            change_entry(store, row, key, id, true)?;
-        }
-    }
-    store.commit()
-}
-
-// A table of both pairs, to which a harm came.
-fn harmed(alloc: Global, what: Harm) -> Option<Shelf> {
-    let mut shelf = shelf_of(alloc)?;
-    shelf.begin().ok()?;
-    for (key, value) in PAIRS {
-        shelf.add(key, value).ok()?;
-    }
-    shelf.commit().ok()?;
-    make_harm(&mut shelf.table.store, &mut Row::new(alloc), what).ok()?;
-    Some(shelf)
-}
-
-// Whether a table that was just opened says what it should of a key: the value, or that it has
-// none; or else, that it is damaged.
-fn says(alloc: Global, shelf: Shelf, index: usize, key: &str, is_right: bool) -> bool {
-    let mut table = EntryTrees::over(alloc, shelf.table.into_store());
-    match (table.value_of(key), values(index)) {
-        (Ok(Some(value)), Some(wanted)) => is_right & (value.as_str() == wanted),
-        (Ok(None), None) => is_right,
-        (Err(StoreFault::Damaged), _) => !is_right,
-        _ => false,
+// Takes the row of the first key out of the table.
+fn remove_row(store: &mut MemStore) -> Result<(), StoreError> {
+    match store.shape(0) {
+        Shape::Table => store.delete(0, 1),
+        _ => Err(StoreError::Corrupt),
     }
 }
 
-// Whether a table that was just opened lists its keys, and whether it lists its entries.
-fn lists(alloc: Global, shelf: Shelf, of_keys: bool) -> Option<bool> {
-    let mut table = EntryTrees::over(alloc, shelf.table.into_store());
-    let listed = if of_keys {
-        match table.keys() {
-            Ok(keys) => Ok(keys.len()),
-            Err(fault) => Err(fault),
-        }
-    } else {
-        match table.entries() {
-            Ok(entries) => Ok(entries.len()),
-            Err(fault) => Err(fault),
-        }
+// Takes the entry of the first key out of the index.
+fn remove_entry(store: &mut MemStore, row: &mut Row) -> bool {
+    set_row(row, "crab", 1) && change_entry(store, row, false).is_ok()
+}
+
+fn add_entry(store: &mut MemStore, row: &mut Row, key: &str, id: i64) -> bool {
+    set_row(row, key, id) && change_entry(store, row, true).is_ok()
+}
+
+// Whether a harm is made and committed.
+fn make_harm(store: &mut MemStore, row: &mut Row, harm: Harm) -> bool {
+    let is_made = match harm {
+        Harm::Nothing => true,
+        Harm::NoRow => remove_row(store).is_ok(),
+        Harm::NoEntry => remove_entry(store, row),
+        Harm::Entry(key, id) => remove_entry(store, row) && add_entry(store, row, key, id),
     };
+    is_made & store.commit().is_ok()
+}
+
+// Whether both pairs are added in a batch.
+fn add_pairs(shelf: &mut Shelf) -> bool {
+    let mut are_added = shelf.begin().is_ok();
+    for (key, value) in PAIRS {
+        are_added &= shelf.add(key, value).is_ok();
+    }
+    are_added & shelf.commit().is_ok()
+}
+
+// Whether both pairs come into an empty table, and then a harm does.
+fn is_harmed(alloc: Global, shelf: &mut Shelf, what: Harm) -> bool {
+    add_pairs(shelf) && make_harm(&mut shelf.table.store, &mut Row::new(alloc), what)
+}
+
+// A table of both pairs, to which a harm came, and which is just opened.
+fn harmed(alloc: Global, what: Harm) -> Option<EntryTrees<MemStore>> {
+    let mut shelf = shelf_of(alloc)?;
+    if is_harmed(alloc, &mut shelf, what) {
+        Some(EntryTrees::over(alloc, shelf.table.into_store()))
+    } else {
+        None
+    }
+}
+
+// Whether a table says what it should of a key: the value, or that it has none; or else, that it is
+// damaged.
+fn says(table: &mut EntryTrees<MemStore>, index: usize, key: &str, is_right: bool) -> bool {
+    match table.value_of(key) {
+        Ok(found) => is_right & is_value(found.as_deref(), values(index)),
+        Err(fault) => !is_right & (fault == StoreFault::Damaged),
+    }
+}
+
+// Whether this is how many there are, or else the table is damaged.
+fn is_listed(listed: Result<usize, StoreFault>) -> Option<bool> {
     match listed {
         Ok(2) => Some(true),
         Err(StoreFault::Damaged) => Some(false),
@@ -130,29 +136,61 @@ fn lists(alloc: Global, shelf: Shelf, of_keys: bool) -> Option<bool> {
     }
 }
 
+fn count_keys(table: &mut EntryTrees<MemStore>) -> Result<usize, StoreFault> {
+    match table.keys() {
+        Ok(keys) => Ok(keys.len()),
+        Err(fault) => Err(fault),
+    }
+}
+
+fn count_entries(table: &mut EntryTrees<MemStore>) -> Result<usize, StoreFault> {
+    match table.entries() {
+        Ok(entries) => Ok(entries.len()),
+        Err(fault) => Err(fault),
+    }
+}
+
+// Whether a table lists its keys, and whether it lists its entries.
+fn lists(table: &mut EntryTrees<MemStore>, of_keys: bool) -> Option<bool> {
+    is_listed(if of_keys {
+        count_keys(table)
+    } else {
+        count_entries(table)
+    })
+}
+
+// Whether a table to which a harm came says of a key what it should.
+fn is_right(alloc: Global, what: Harm, index: usize, key: &str, is_right: bool) -> bool {
+    match harmed(alloc, what) {
+        Some(mut table) => says(&mut table, index, key, is_right),
+        None => false,
+    }
+}
+
+// Whether a table to which a harm came lists its keys or its entries just where it should.
+fn lists_right(alloc: Global, what: Harm, of_keys: bool, is_right: bool) -> bool {
+    match harmed(alloc, what) {
+        Some(mut table) => lists(&mut table, of_keys) == Some(is_right),
+        None => false,
+    }
+}
+
 #[test]
 fn a_table_that_disagrees_with_its_index_denies_no_key(rt: HostRuntime) {
-    let alloc = rt.alloc();
     for (i, (what, are_right)) in HARMS.iter().enumerate() {
         for (index, key) in KEYS.iter().enumerate() {
-            let Some(shelf) = harmed(alloc, *what) else {
-                panic!(rt)
-            };
-            assert!(rt; tell_row(&rt, i, says(alloc, shelf, index, key, are_right[index])));
+            let is_right = is_right(rt.alloc(), *what, index, key, are_right[index]);
+            assert!(rt; tell_row(&rt, i, is_right));
         }
     }
 }
 
 #[test]
 fn a_table_that_disagrees_with_its_index_lists_nothing(rt: HostRuntime) {
-    let alloc = rt.alloc();
     for (i, (what, are_right)) in HARMS.iter().enumerate() {
         for of_keys in [true, false] {
-            let Some(shelf) = harmed(alloc, *what) else {
-                panic!(rt)
-            };
-            let is_listed = lists(alloc, shelf, of_keys) == Some(are_right[3]);
-            assert!(rt; tell_row(&rt, i, is_listed));
+            let is_right = lists_right(rt.alloc(), *what, of_keys, are_right[3]);
+            assert!(rt; tell_row(&rt, i, is_right));
         }
     }
 }

@@ -1,9 +1,10 @@
 //! A guard of the table of entries over trees in memory, which is opened twice.
+use super::super::{Kept, guard_over, replies};
 use super::{Shelf, shelf_of};
-use crate::telling::{has_text, tell_row};
+use crate::telling::tell_row;
 use bloom_plain::Rate;
-use guard_engine::{Guard, Task, carry_out};
-use guard_parts::{FilterFile, MemoryFolder};
+use guard_engine::{Guard, Task};
+use guard_parts::MemoryFolder;
 use guard_store::EntryTrees;
 use std::alloc::Global;
 
@@ -45,19 +46,7 @@ const FOUND: &'static [(Act, &'static str)] = &[
     (Act::Get("carp"), "absent: the store was spared"),
 ];
 
-type Guarded = Guard<Shelf, FilterFile<MemoryFolder>>;
-
-// A guard of a table, and of the filter in a folder.
-fn guard_of(alloc: Global, shelf: Shelf, folder: MemoryFolder) -> Option<Guarded> {
-    let Ok(rate) = Rate::new(1, 1000) else {
-        return None;
-    };
-    let kept = FilterFile::new(alloc, folder, false);
-    match Guard::open(alloc, shelf, kept, rate, 0, 10) {
-        Ok((guard, _origin)) => Some(guard),
-        Err(_refusal) => None,
-    }
-}
+type Guarded = Guard<Shelf, Kept>;
 
 fn task_of(act: Act) -> Task<'static, &'static [u8]> {
     match act {
@@ -69,33 +58,55 @@ fn task_of(act: Act) -> Task<'static, &'static [u8]> {
     }
 }
 
-// Whether a guard replies to an act as its row says.
-fn is_right(alloc: Global, guard: &mut Guarded, row: &(Act, &'static str)) -> bool {
-    let (act, said) = *row;
-    match carry_out(alloc, guard, task_of(act)) {
-        Ok(answer) => has_text(alloc, &answer, said),
-        Err(_trouble) => false,
+// Whether a guard replies to acts as their rows say.
+fn are_right(rt: &HostRuntime, guard: &mut Guarded, rows: &[(Act, &'static str)]) -> bool {
+    for (i, (act, said)) in rows.iter().enumerate() {
+        if !tell_row(rt, i, replies(rt.alloc(), guard, task_of(*act), said)) {
+            return false;
+        }
+    }
+    true
+}
+
+// A guard of an empty table.
+fn new_guard(alloc: Global, rate: Rate) -> Option<Guarded> {
+    match shelf_of(alloc) {
+        Some(shelf) => guard_over(alloc, shelf, MemoryFolder::new(alloc), rate),
+        None => None,
+    }
+}
+
+// The guard after it is opened again, of a table that was just opened.
+fn opened_again(alloc: Global, guard: Guarded, rate: Rate) -> Option<Guarded> {
+    let (shelf, kept) = guard.into_parts();
+    let table = EntryTrees::over(alloc, shelf.table.into_store());
+    guard_over(alloc, Shelf { table }, kept.into_folder(), rate)
+}
+
+// Whether the guard, opened again, finds what was put.
+fn finds_all(rt: &HostRuntime, guard: Guarded, rate: Rate) -> bool {
+    match opened_again(rt.alloc(), guard, rate) {
+        Some(mut again) => are_right(rt, &mut again, FOUND),
+        None => false,
+    }
+}
+
+// Whether a guard of an empty table replies to the acts as their rows say, and finds all when it is
+// opened again.
+fn is_right(rt: &HostRuntime, rate: Rate) -> bool {
+    match new_guard(rt.alloc(), rate) {
+        Some(mut guard) => {
+            let are_right = are_right(rt, &mut guard, ACTS);
+            are_right & finds_all(rt, guard, rate)
+        }
+        None => false,
     }
 }
 
 #[test]
 fn a_guard_opened_again_finds_what_was_put(rt: HostRuntime) {
-    let alloc = rt.alloc();
-    let Some(shelf) = shelf_of(alloc) else {
+    let Ok(rate) = Rate::new(1, 1000) else {
         panic!(rt)
     };
-    let Some(mut guard) = guard_of(alloc, shelf, MemoryFolder::new(alloc)) else {
-        panic!(rt)
-    };
-    for (i, row) in ACTS.iter().enumerate() {
-        assert!(rt; tell_row(&rt, i, is_right(alloc, &mut guard, row)));
-    }
-    let (shelf, kept) = guard.into_parts();
-    let table = EntryTrees::over(alloc, shelf.table.into_store());
-    let Some(mut again) = guard_of(alloc, Shelf { table }, kept.into_folder()) else {
-        panic!(rt)
-    };
-    for (i, row) in FOUND.iter().enumerate() {
-        assert!(rt; tell_row(&rt, i, is_right(alloc, &mut again, row)));
-    }
+    assert!(rt; is_right(&rt, rate));
 }
