@@ -75,7 +75,7 @@ enum Kind {
 type Row = (&'static str, Kind, &'static str, &'static [&'static str]);
 
 // The arguments, in the order of the help.
-const ARGUMENTS: [Row; 11] = [
+const ARGUMENTS: &'static [Row] = &[
     (
         ITEMS,
         Kind::Option("N", "1000000", ValueParser::Unsigned(1, 1_000_000_000_000)),
@@ -144,21 +144,21 @@ const ARGUMENTS: [Row; 11] = [
     ),
 ];
 
-fn flag<'a>(alloc: Global, id: &'a str, help: &'a str) -> Arg<'a> {
+fn flag(alloc: Global, id: &'static str, help: &'static str) -> Arg<'static> {
     Arg::new(alloc, id)
         .long(id)
         .action(ArgAction::SetTrue)
         .help(help)
 }
 
-fn option<'a>(
+fn option(
     alloc: Global,
-    id: &'a str,
-    help: &'a str,
-    name: &'a str,
-    default: &'a str,
-    parser: ValueParser<'a>,
-) -> Arg<'a> {
+    id: &'static str,
+    help: &'static str,
+    name: &'static str,
+    default: &'static str,
+    parser: ValueParser<'static>,
+) -> Arg<'static> {
     Arg::new(alloc, id)
         .long(id)
         .value_name(name)
@@ -167,7 +167,7 @@ fn option<'a>(
         .help(help)
 }
 
-fn words<'a>(alloc: Global, id: &'a str, help: &'a str, name: &'a str) -> Arg<'a> {
+fn words(alloc: Global, id: &'static str, help: &'static str, name: &'static str) -> Arg<'static> {
     Arg::new(alloc, id)
         .value_name(name)
         .action(ArgAction::Append)
@@ -175,7 +175,7 @@ fn words<'a>(alloc: Global, id: &'a str, help: &'a str, name: &'a str) -> Arg<'a
         .help(help)
 }
 
-fn argument<'a>(alloc: Global, id: &'a str, kind: Kind, help: &'a str) -> Arg<'a> {
+fn argument(alloc: Global, id: &'static str, kind: Kind, help: &'static str) -> Arg<'static> {
     match kind {
         Kind::Flag => flag(alloc, id, help),
         Kind::Letter(letter) => flag(alloc, id, help).short(letter),
@@ -184,21 +184,40 @@ fn argument<'a>(alloc: Global, id: &'a str, kind: Kind, help: &'a str) -> Arg<'a
     }
 }
 
-// An argument that can't be given with some others.
-fn excluding<'a>(arg: Arg<'a>, others: &'a [&'a str]) -> Result<Arg<'a>, AllocError> {
-    arg.conflicts_with_all(others)
+// The argument of this row.
+fn argument_of(alloc: Global, row: &Row) -> Result<Arg<'static>, AllocError> {
+    let (id, kind, help, others) = *row;
+    argument(alloc, id, kind, help).conflicts_with_all(others)
+}
+
+// The rows, by a function of their own: one that has a loop, too, takes long to prove.
+fn rows() -> &'static [Row] {
+    ARGUMENTS
+}
+
+// The arguments of all rows.
+//
+// Room comes first: a push that hands back a value that it has no room for takes long to prove.
+fn arguments<'a>(alloc: Global) -> Result<Vec<Arg<'a>>, AllocError> {
+    let mut arguments: Vec<Arg<'a>> = Vec::new(alloc);
+    'arguments: for row in rows() {
+        arguments.reserve(1)?;
+        arguments.push_reserved(argument_of(alloc, row)?);
+    }
+    Ok(arguments)
+}
+
+// The program's words but for its arguments.
+fn program<'a>(alloc: Global) -> Command<'a> {
+    Command::new(alloc, "duplicates")
+        .version(VERSION)
+        .about("Prints each line of its input that is certainly new")
 }
 
 // The words that the program understands.
-fn command<'a>(alloc: Global) -> Result<Command<'a>, Error> {
-    let mut command = Command::new(alloc, "duplicates")
-        .version(VERSION)
-        .about("Prints each line of its input that is certainly new");
-    'arguments: for (id, kind, help, others) in &ARGUMENTS {
-        let arg = argument(alloc, id, *kind, help);
-        command = command.arg(excluding(arg, others)?)?;
-    }
-    Ok(command)
+fn command<'a>(alloc: Global) -> Result<Command<'a>, AllocError> {
+    let arguments = arguments(alloc)?;
+    program(alloc).args(arguments)
 }
 
 // The rate that a text like 1/1000 is, if it lies between 0 and 1.
@@ -213,12 +232,17 @@ fn rate_of(text: &str) -> Option<Rate> {
     }
 }
 
-/// An error of the command line, with this text.
-///
-/// # Errors
-/// Out of memory.
-pub fn misuse(alloc: Global, text: &str) -> Result<Error, Error> {
-    Ok(command(alloc)?.error(ErrorKind::ValueValidation, text)?)
+// The error of this text, unless memory for it is refused.
+fn told(alloc: Global, text: &str) -> Result<Error, AllocError> {
+    command(alloc)?.error(ErrorKind::ValueValidation, text)
+}
+
+/// An error of the command line, with this text, or that memory is refused.
+pub fn misuse(alloc: Global, text: &str) -> Error {
+    match told(alloc, text) {
+        Ok(error) => error,
+        Err(refused) => Error::from(refused),
+    }
 }
 
 /// The words, read as the program's.

@@ -26,10 +26,7 @@ fn print(rt: &HostRuntime, error: &Error) -> u8 {
 
 // Tells that a value is none, and gives the status.
 fn refuse(rt: &HostRuntime, text: &str) -> u8 {
-    match misuse(rt.alloc(), text) {
-        Ok(error) => print(rt, &error),
-        Err(error) => print(rt, &error),
-    }
+    print(rt, &misuse(rt.alloc(), text))
 }
 
 // What words that were read ask for is done; the status.

@@ -4,7 +4,7 @@ use bloom_plain::Rate;
 use clap::builder::ValueParser;
 use clap::error::ErrorKind;
 use clap::{Arg, ArgAction, ArgMatches, Command, Error};
-use std::alloc::Global;
+use std::alloc::{AllocError, Global};
 
 /// The version that the program tells.
 const VERSION: &str = "0.17.0";
@@ -113,8 +113,11 @@ const LOAD: &'static [Row] = &[
     ),
 ];
 
-// The commands: the name of each, its help, and its arguments.
-const COMMANDS: [(&'static str, &'static str, &'static [Row]); 7] = [
+// A command: its name, its help, and its arguments.
+type CommandRow = (&'static str, &'static str, &'static [Row]);
+
+// The commands, in the order of the help.
+const COMMANDS: [CommandRow; 7] = [
     (
         "put",
         "Puts a value at a key that has none yet, and prints added or taken",
@@ -148,25 +151,25 @@ const COMMANDS: [(&'static str, &'static str, &'static [Row]); 7] = [
     ),
 ];
 
-fn word<'a>(alloc: Global, id: &'a str, help: &'a str) -> Arg<'a> {
+fn word(alloc: Global, id: &'static str, help: &'static str) -> Arg<'static> {
     Arg::new(alloc, id).required(true).help(help)
 }
 
-fn flag<'a>(alloc: Global, id: &'a str, help: &'a str) -> Arg<'a> {
+fn flag(alloc: Global, id: &'static str, help: &'static str) -> Arg<'static> {
     Arg::new(alloc, id)
         .long(id)
         .action(ArgAction::SetTrue)
         .help(help)
 }
 
-fn option<'a>(
+fn option(
     alloc: Global,
-    id: &'a str,
-    help: &'a str,
-    name: &'a str,
-    default: &'a str,
-    parser: ValueParser<'a>,
-) -> Arg<'a> {
+    id: &'static str,
+    help: &'static str,
+    name: &'static str,
+    default: &'static str,
+    parser: ValueParser<'static>,
+) -> Arg<'static> {
     Arg::new(alloc, id)
         .long(id)
         .value_name(name)
@@ -175,7 +178,9 @@ fn option<'a>(
         .help(help)
 }
 
-fn argument<'a>(alloc: Global, id: &'a str, kind: Kind, help: &'a str) -> Arg<'a> {
+// The argument of this row.
+fn argument(alloc: Global, row: &Row) -> Arg<'static> {
+    let (id, kind, help) = *row;
     match kind {
         Kind::Word => word(alloc, id, help),
         Kind::Flag => flag(alloc, id, help),
@@ -183,46 +188,50 @@ fn argument<'a>(alloc: Global, id: &'a str, kind: Kind, help: &'a str) -> Arg<'a
     }
 }
 
-// Adds the arguments of these rows.
-fn add_arguments<'a>(
-    alloc: Global,
-    mut command: Command<'a>,
-    rows: &[Row],
-) -> Result<Command<'a>, Error> {
-    'arguments: for (id, kind, help) in rows {
-        command = command.arg(argument(alloc, id, *kind, help))?;
+// The arguments of these rows.
+//
+// Room comes first: a push that hands back a value that it has no room for takes long to prove.
+fn arguments_of<'a>(alloc: Global, rows: &[Row]) -> Result<Vec<Arg<'a>>, AllocError> {
+    let mut arguments: Vec<Arg<'a>> = Vec::new(alloc);
+    'arguments: for row in rows {
+        arguments.reserve(1)?;
+        arguments.push_reserved(argument(alloc, row));
     }
-    Ok(command)
+    Ok(arguments)
+}
+
+// The command of this row.
+fn command_of<'a>(alloc: Global, row: &CommandRow) -> Result<Command<'a>, AllocError> {
+    let (name, about, rows) = *row;
+    let arguments = arguments_of(alloc, rows)?;
+    Command::new(alloc, name).about(about).args(arguments)
+}
+
+// The commands of all rows.
+fn commands<'a>(alloc: Global) -> Result<Vec<Command<'a>>, AllocError> {
+    let mut commands: Vec<Command<'a>> = Vec::new(alloc);
+    'commands: for row in &COMMANDS {
+        commands.reserve(1)?;
+        commands.push_reserved(command_of(alloc, row)?);
+    }
+    Ok(commands)
 }
 
 // The program's words but for its commands.
-fn program<'a>(alloc: Global) -> Command<'a> {
+fn program<'a>(alloc: Global) -> Result<Command<'a>, AllocError> {
+    let arguments = arguments_of(alloc, PROGRAM)?;
     Command::new(alloc, "guard")
         .version(VERSION)
         .about("A store of values by keys, behind a filter of its keys")
         .subcommand_required(true)
         .arg_required_else_help(true)
-}
-
-// Adds a command with the arguments of these rows.
-fn add_command<'a>(
-    alloc: Global,
-    program: Command<'a>,
-    name: &'a str,
-    about: &'a str,
-    rows: &[Row],
-) -> Result<Command<'a>, Error> {
-    let command = Command::new(alloc, name).about(about);
-    Ok(program.subcommand(add_arguments(alloc, command, rows)?)?)
+        .args(arguments)
 }
 
 // The words that the program understands.
-fn command<'a>(alloc: Global) -> Result<Command<'a>, Error> {
-    let mut program = add_arguments(alloc, program(alloc), PROGRAM)?;
-    'commands: for (name, about, rows) in &COMMANDS {
-        program = add_command(alloc, program, name, about, rows)?;
-    }
-    Ok(program)
+fn command<'a>(alloc: Global) -> Result<Command<'a>, AllocError> {
+    let commands = commands(alloc)?;
+    program(alloc)?.subcommands(commands)
 }
 
 // The rate that a text such as 1/1000 tells, if it lies between 0 and 1.
@@ -283,10 +292,16 @@ fn options_of<'a>(matches: &ArgMatches<'a>) -> Option<Options<'a>> {
     })
 }
 
-// What is wrong with a rate.
-fn rate_error(alloc: Global) -> Result<Error, Error> {
+// What is wrong with a rate, unless memory for it is refused.
+fn rate_error(alloc: Global) -> Result<Error, AllocError> {
     let told = "the rate is a fraction between 0 and 1, as 1/1000";
-    Ok(command(alloc)?.error(ErrorKind::ValueValidation, told)?)
+    command(alloc)?.error(ErrorKind::ValueValidation, told)
+}
+
+// What the words ask for; none where the rate is no fraction.
+fn read<'a>(alloc: Global, words: &'a [String]) -> Result<Option<Options<'a>>, Error> {
+    let matches = command(alloc)?.try_get_matches_from(words)?;
+    Ok(options_of(&matches))
 }
 
 /// What the words ask for, of which the first is the program's name.
@@ -294,8 +309,7 @@ fn rate_error(alloc: Global) -> Result<Error, Error> {
 /// # Errors
 /// The text for the user: what is wrong with the words, or the help.
 pub fn arguments<'a>(alloc: Global, words: &'a [String]) -> Result<Options<'a>, Error> {
-    let matches = command(alloc)?.try_get_matches_from(words)?;
-    match options_of(&matches) {
+    match read(alloc, words)? {
         Some(options) => Ok(options),
         None => Err(rate_error(alloc)?),
     }

@@ -6,7 +6,7 @@ use crate::rates::rate_of;
 use clap::builder::ValueParser;
 use clap::error::ErrorKind;
 use clap::{Arg, ArgAction, ArgGroup, ArgMatches, Command, Error};
-use rows::{COMMANDS, Kind, Row};
+use rows::{COMMANDS, CommandRow, Kind, Row};
 use std::alloc::{AllocError, Global};
 
 // The commands' arguments by their ids.
@@ -39,21 +39,21 @@ pub const ABSENT: &str = "absent";
 // The version of the library whose filters these are.
 const VERSION: &str = "0.17.0";
 
-fn flag<'a>(alloc: Global, id: &'a str, help: &'a str) -> Arg<'a> {
+fn flag(alloc: Global, id: &'static str, help: &'static str) -> Arg<'static> {
     Arg::new(alloc, id)
         .long(id)
         .action(ArgAction::SetTrue)
         .help(help)
 }
 
-fn option<'a>(
+fn option(
     alloc: Global,
-    id: &'a str,
-    help: &'a str,
-    name: &'a str,
-    default: &'a [&'a str],
-    parser: ValueParser<'a>,
-) -> Arg<'a> {
+    id: &'static str,
+    help: &'static str,
+    name: &'static str,
+    default: &'static [&'static str],
+    parser: ValueParser<'static>,
+) -> Arg<'static> {
     Arg::new(alloc, id)
         .long(id)
         .value_name(name)
@@ -62,14 +62,14 @@ fn option<'a>(
         .help(help)
 }
 
-fn words<'a>(
+fn words(
     alloc: Global,
-    id: &'a str,
-    help: &'a str,
+    id: &'static str,
+    help: &'static str,
     action: ArgAction,
     least: usize,
     most: usize,
-) -> Arg<'a> {
+) -> Arg<'static> {
     Arg::new(alloc, id)
         .required(least > 0)
         .action(action)
@@ -77,7 +77,7 @@ fn words<'a>(
         .help(help)
 }
 
-fn argument<'a>(alloc: Global, id: &'a str, kind: Kind, help: &'a str) -> Arg<'a> {
+fn argument(alloc: Global, id: &'static str, kind: Kind, help: &'static str) -> Arg<'static> {
     match kind {
         Kind::Flag => flag(alloc, id, help),
         Kind::Letter(letter) => flag(alloc, id, help).short(letter),
@@ -86,48 +86,74 @@ fn argument<'a>(alloc: Global, id: &'a str, kind: Kind, help: &'a str) -> Arg<'a
     }
 }
 
-// An argument that needs some others, and can't be given with some.
-fn with_rules<'a>(
-    arg: Arg<'a>,
-    needed: &'a [&'a str],
-    excluded: &'a [&'a str],
-) -> Result<Arg<'a>, AllocError> {
-    arg.requires_all(needed)?.conflicts_with_all(excluded)
+// The argument of this row.
+fn argument_of(alloc: Global, row: &Row) -> Result<Arg<'static>, AllocError> {
+    let (id, kind, help, needed, excluded) = *row;
+    argument(alloc, id, kind, help)
+        .requires_all(needed)?
+        .conflicts_with_all(excluded)
+}
+
+// The arguments of these rows.
+//
+// Room comes first: a push that hands back a value that it has no room for takes long to prove.
+fn arguments_of<'a>(alloc: Global, rows: &[Row]) -> Result<Vec<Arg<'a>>, AllocError> {
+    let mut arguments: Vec<Arg<'a>> = Vec::new(alloc);
+    'arguments: for row in rows {
+        arguments.reserve(1)?;
+        arguments.push_reserved(argument_of(alloc, row)?);
+    }
+    Ok(arguments)
 }
 
 // The arguments of which one has to be given, if there are any.
-fn choice<'a>(alloc: Global, ids: &'a [&'a str]) -> Result<ArgGroup<'a>, AllocError> {
+fn choice<'a>(alloc: Global, ids: &'static [&'static str]) -> Result<ArgGroup<'a>, AllocError> {
     ArgGroup::new(alloc, "size")
         .required(!ids.is_empty())
         .args(ids)
 }
 
-// Adds the arguments of these rows.
-fn add_arguments<'a>(
+// A command that has no arguments yet.
+fn named<'a>(
     alloc: Global,
-    mut command: Command<'a>,
-    rows: &[Row],
-) -> Result<Command<'a>, Error> {
-    'arguments: for (id, kind, help, needed, excluded) in rows {
-        let arg = argument(alloc, id, *kind, help);
-        command = command.arg(with_rules(arg, needed, excluded)?)?;
-    }
-    Ok(command)
+    name: &'static str,
+    about: &'static str,
+    ids: &'static [&'static str],
+) -> Result<Command<'a>, AllocError> {
+    let group = choice(alloc, ids)?;
+    Command::new(alloc, name).about(about).group(group)
 }
 
-// The program's command line.
-fn command<'a>(alloc: Global) -> Result<Command<'a>, Error> {
-    let mut program = Command::new(alloc, "summaries")
+// The command of this row.
+fn command_of<'a>(alloc: Global, row: &CommandRow) -> Result<Command<'a>, AllocError> {
+    let (name, about, rows, ids) = *row;
+    let arguments = arguments_of(alloc, rows)?;
+    named(alloc, name, about, ids)?.args(arguments)
+}
+
+// The commands of all rows.
+fn commands<'a>(alloc: Global) -> Result<Vec<Command<'a>>, AllocError> {
+    let mut commands: Vec<Command<'a>> = Vec::new(alloc);
+    'commands: for row in &COMMANDS {
+        commands.reserve(1)?;
+        commands.push_reserved(command_of(alloc, row)?);
+    }
+    Ok(commands)
+}
+
+// The program's words but for its commands.
+fn program<'a>(alloc: Global) -> Command<'a> {
+    Command::new(alloc, "summaries")
         .about("Filters of the keys of shards")
         .version(VERSION)
         .subcommand_required(true)
-        .arg_required_else_help(true);
-    'commands: for (name, about, rows, ids) in &COMMANDS {
-        let group = choice(alloc, ids)?;
-        let command = Command::new(alloc, name).about(about).group(group)?;
-        program = program.subcommand(add_arguments(alloc, command, rows)?)?;
-    }
-    Ok(program)
+        .arg_required_else_help(true)
+}
+
+// The program's command line.
+fn command<'a>(alloc: Global) -> Result<Command<'a>, AllocError> {
+    let commands = commands(alloc)?;
+    program(alloc).subcommands(commands)
 }
 
 // Whether a command's words have a rate that is none.
@@ -141,15 +167,26 @@ fn has_bad_rate(matches: &ArgMatches) -> bool {
     }
 }
 
+// What is wrong with a rate, unless memory for it is refused.
+fn rate_error(alloc: Global) -> Result<Error, AllocError> {
+    let told = "the rate is a fraction between 0 and 1, as 1/1000";
+    command(alloc)?.error(ErrorKind::ValueValidation, told)
+}
+
+// The words as they match the program's, whatever the rate is.
+fn matched<'a>(alloc: Global, words: &'a [String]) -> Result<ArgMatches<'a>, Error> {
+    command(alloc)?.try_get_matches_from(words)
+}
+
 /// What the words ask for, of which the first is the program's name.
 ///
 /// # Errors
 /// The text for the user: what is wrong with the words, or the help.
 pub fn arguments<'a>(alloc: Global, words: &'a [String]) -> Result<ArgMatches<'a>, Error> {
-    let matches = command(alloc)?.try_get_matches_from(words)?;
+    let matches = matched(alloc, words)?;
     if has_bad_rate(&matches) {
-        let told = "the rate is a fraction between 0 and 1, as 1/1000";
-        return Err(command(alloc)?.error(ErrorKind::ValueValidation, told)?);
+        Err(rate_error(alloc)?)
+    } else {
+        Ok(matches)
     }
-    Ok(matches)
 }

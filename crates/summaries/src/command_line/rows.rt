@@ -160,13 +160,16 @@ const COMPARE: &'static [Row] = &[
     ),
 ];
 
-/// The commands: the name of each, its help, its arguments, and those of which it needs one.
-pub const COMMANDS: [(
+/// A command: its name, its help, its arguments, and those of which it needs one.
+pub type CommandRow = (
     &'static str,
     &'static str,
     &'static [Row],
     &'static [&'static str],
-); 5] = [
+);
+
+/// The commands, in the order of the help.
+pub const COMMANDS: [CommandRow; 5] = [
     (
         "build",
         "Reads keys, one a line, and writes their filter",
