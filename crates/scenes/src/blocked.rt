@@ -1,10 +1,31 @@
 //! Blocked filters: drawn sessions, at what `dev/blocked-model` says of them, and each generic call
 //! at a concrete type.
 
+mod sessions;
+
 use crate::telling::{has_text, tell_row};
 use bloom_blocked::{AtomicBlockedBloomFilter, BlockedBloomFilter, LinesError};
-use fastbloom::{FilterError, Rate};
+use fastbloom::{BlockedFilterData, FilterError, Rate};
+use sessions::fold_ten;
 use std::alloc::Global;
+
+// A plain and a shared filter, on which the same calls are made.
+#[derive(Drop)]
+struct Pair {
+    plain: BlockedBloomFilter,
+    shared: AtomicBlockedBloomFilter,
+}
+
+// A plain filter and a shared one, if that was made.
+fn paired(
+    plain: BlockedBloomFilter,
+    shared: Result<AtomicBlockedBloomFilter, FilterError>,
+) -> Result<Pair, FilterError> {
+    match shared {
+        Ok(shared) => Ok(Pair { plain, shared }),
+        Err(refusal) => Err(refusal),
+    }
+}
 
 // What the model says of the replies and words of each ten sessions.
 const WANTED: &'static [u64] = &[
@@ -29,199 +50,6 @@ const WANTED: &'static [u64] = &[
     8565034723320171208,
     2227089665545161696,
 ];
-
-// The number of an index that a session draws, by SplitMix64 (G. L. Steele, D. Lea and C. H. Flood,
-// "Fast splittable pseudorandom number generators", 2014).
-fn drawn(session: u64, index: u64) -> u64 {
-    let mut z = (session << 32)
-        .wrapping_add(index)
-        .wrapping_add(0x9e37_79b9_7f4a_7c15);
-    z = (z ^ (z >> 30)).wrapping_mul(0xbf58_476d_1ce4_e5b9);
-    z = (z ^ (z >> 27)).wrapping_mul(0x94d0_49bb_1331_11eb);
-    z ^ (z >> 31)
-}
-
-// Draws the numbers from an index on.
-fn draw_from(session: u64, index: u64, numbers: &mut [u64]) {
-    let mut index = index;
-    for number in numbers {
-        *number = drawn(session, index);
-        index = index.wrapping_add(1);
-    }
-}
-
-fn fold(so_far: u64, number: u64) -> u64 {
-    (so_far ^ number)
-        .wrapping_mul(0x9e37_79b9_7f4a_7c15)
-        .rotate_left(7)
-}
-
-fn fold_all(so_far: u64, numbers: &[u64]) -> u64 {
-    let mut folded = so_far;
-    for number in numbers {
-        folded = fold(folded, *number);
-    }
-    folded
-}
-
-// Folds what both filters say. Where they differ, it begins anew, so that no session comes out.
-fn fold_both(so_far: u64, plain: u64, shared: u64) -> u64 {
-    if plain == shared {
-        fold(so_far, plain)
-    } else {
-        0
-    }
-}
-
-// The empty filter of a session. Four of 200 have a mebibyte and more.
-fn empty(alloc: Global, session: u64) -> Result<BlockedBloomFilter, FilterError> {
-    let session = (session % 200) as usize;
-    let lines = if session % 50 == 49 {
-        16384 + session
-    } else {
-        1 + session % 7
-    };
-    let builder = BlockedBloomFilter::with_num_bits(alloc, 512 * lines)?;
-    Ok(builder.hashes(1 + session as u32 % 13))
-}
-
-// The hashes of a session of which some were inserted before, and some come twice.
-fn several(session: u64) -> [u64; 130] {
-    let mut numbers = [0; 130];
-    for i in 0..130 {
-        numbers[i] = drawn(session, 7 * i as u64 % 95);
-    }
-    numbers
-}
-
-// A plain and a shared filter, on which the same calls are made.
-#[derive(Drop)]
-struct Pair {
-    plain: BlockedBloomFilter,
-    shared: AtomicBlockedBloomFilter,
-}
-
-fn pair_of(alloc: Global, session: u64) -> Result<Pair, FilterError> {
-    let shared = AtomicBlockedBloomFilter::from_plain(alloc, empty(alloc, session)?)?;
-    let plain = empty(alloc, session)?;
-    Ok(Pair { plain, shared })
-}
-
-// Inserts the first twenty hashes, and folds the replies.
-fn insert_each(pair: &mut Pair, session: u64) -> u64 {
-    let mut folded = 0;
-    for index in 0..20 {
-        let hash = drawn(session, index);
-        let plain = u64::from(pair.plain.insert_hash(hash));
-        folded = fold_both(folded, plain, u64::from(pair.shared.insert_hash(hash)));
-    }
-    folded
-}
-
-// Looks up twenty hashes, and folds the replies.
-fn find_each(pair: &Pair, session: u64, so_far: u64) -> u64 {
-    let mut folded = so_far;
-    for index in 440..460 {
-        let hash = drawn(session, index);
-        let plain = u64::from(pair.plain.contains_hash(hash));
-        folded = fold_both(folded, plain, u64::from(pair.shared.contains_hash(hash)));
-    }
-    folded
-}
-
-// A bit for each of at most 64 hashes that the shared filter is given, one by one: whether it is
-// new, or whether it is found.
-fn bits_of(shared: &AtomicBlockedBloomFilter, hashes: &[u64], inserts: bool) -> u64 {
-    let mut bits = 0;
-    let mut bit = 1u64;
-    for hash in hashes {
-        let is_set = if inserts {
-            !shared.insert_hash(*hash)
-        } else {
-            shared.contains_hash(*hash)
-        };
-        if is_set {
-            bits |= bit;
-        }
-        bit = bit.rotate_left(1);
-    }
-    bits
-}
-
-// Folds what the plain filter told of many hashes, and the shared one of each.
-fn fold_told(
-    so_far: u64,
-    told: &[u64; 3],
-    shared: &AtomicBlockedBloomFilter,
-    hashes: &[u64],
-    inserts: bool,
-) -> u64 {
-    let mut folded = so_far;
-    let mut rest = hashes;
-    for word in told {
-        let (some, others) = rest.split_at(rest.len().min(64));
-        folded = fold_both(folded, *word, bits_of(shared, some, inserts));
-        rest = others;
-    }
-    folded
-}
-
-// Inserts many hashes, of which it is told which are new.
-fn insert_several(pair: &mut Pair, session: u64, so_far: u64) -> u64 {
-    let hashes = several(session);
-    let mut told = [0; 3];
-    pair.plain.insert_hashes_tell_new(&hashes, &mut told);
-    fold_told(so_far, &told, &pair.shared, &hashes, true)
-}
-
-// Inserts more hashes at once, and looks as many up.
-fn find_several(pair: &mut Pair, session: u64, so_far: u64) -> u64 {
-    let mut more = [0; 150];
-    draw_from(session, 200, &mut more);
-    pair.plain.insert_hashes(&more);
-    pair.shared.insert_hashes(&more);
-    draw_from(session, 300, &mut more);
-    let mut told = [0; 3];
-    pair.plain.contains_hashes(&more, &mut told);
-    fold_told(so_far, &told, &pair.shared, &more, false)
-}
-
-// Folds the words, which are taken out of the shared filter. Where they differ, it begins anew.
-fn fold_words(alloc: Global, pair: &Pair, so_far: u64) -> u64 {
-    match pair.shared.take_words(alloc) {
-        Ok(words) => {
-            if words.as_slice() == pair.plain.as_slice() {
-                fold_all(so_far, words.as_slice())
-            } else {
-                0
-            }
-        }
-        Err(_refusal) => 0,
-    }
-}
-
-// The replies and words of a session, folded.
-fn fold_session(alloc: Global, pair: &mut Pair, session: u64) -> u64 {
-    let folded = insert_each(pair, session);
-    let folded = insert_several(pair, session, folded);
-    let folded = find_several(pair, session, folded);
-    let folded = find_each(pair, session, folded);
-    fold_words(alloc, pair, folded)
-}
-
-// The replies and words of ten sessions, each folded, and then all.
-fn fold_ten(alloc: Global, first: u64) -> u64 {
-    let mut folded = 0;
-    for i in 0..10u64 {
-        let session = first.wrapping_add(i);
-        let more = match pair_of(alloc, session) {
-            Ok(mut pair) => fold_session(alloc, &mut pair, session),
-            Err(_refusal) => 0,
-        };
-        folded = fold(folded, more);
-    }
-    folded
-}
 
 #[test]
 fn drawn_filters_are_those_of_the_model(rt: HostRuntime) {
@@ -259,25 +87,41 @@ fn take_items(pair: &mut Pair) -> bool {
     had_three & !had_four & !was_there & is_there & have(pair, 1, 8)
 }
 
+// Whether the filter of these data equals another.
+fn is_form_of(form: BlockedFilterData, filter: &BlockedBloomFilter) -> bool {
+    match BlockedBloomFilter::from_data(form) {
+        Ok(again) => again == *filter,
+        Err(_refusal) => false,
+    }
+}
+
 // Whether a filter comes back from its data.
-fn comes_back(alloc: Global, filter: &BlockedBloomFilter) -> Result<bool, FilterError> {
-    match BlockedBloomFilter::from_data(filter.to_data(alloc)?) {
-        Ok(again) => Ok(again == *filter),
-        Err(_refusal) => Ok(false),
+fn comes_back(alloc: Global, filter: &BlockedBloomFilter) -> bool {
+    match filter.to_data(alloc) {
+        Ok(form) => is_form_of(form, filter),
+        Err(_refusal) => false,
     }
 }
 
 // Whether a copy equals the filter, and has the items 5 and 6.
-fn is_copied(alloc: Global, filter: &BlockedBloomFilter) -> Result<bool, FilterError> {
-    let copy = filter.try_clone(alloc)?;
-    Ok((copy == *filter) & copy.contains(&5u64) & copy.contains(&6u64))
+fn is_copied(alloc: Global, filter: &BlockedBloomFilter) -> bool {
+    match filter.try_clone(alloc) {
+        Ok(copy) => (copy == *filter) & copy.contains(&5u64) & copy.contains(&6u64),
+        Err(_refusal) => false,
+    }
+}
+
+// The filter of three items, to be shared.
+fn shared_three(alloc: Global) -> Result<AtomicBlockedBloomFilter, FilterError> {
+    AtomicBlockedBloomFilter::from_plain(alloc, three(alloc)?)
 }
 
 // Both filters of three items.
 fn pair_of_three(alloc: Global) -> Result<Pair, FilterError> {
-    let shared = AtomicBlockedBloomFilter::from_plain(alloc, three(alloc)?)?;
-    let plain = three(alloc)?;
-    Ok(Pair { plain, shared })
+    match three(alloc) {
+        Ok(plain) => paired(plain, shared_three(alloc)),
+        Err(refusal) => Err(refusal),
+    }
 }
 
 // Whether both filters of three items have their shape and take items, and the shared one is
@@ -290,21 +134,21 @@ fn take_and_clear(pair: &mut Pair) -> bool {
 }
 
 // Whether a filter is copied, and comes back from its data.
-fn is_same(alloc: Global, filter: &BlockedBloomFilter) -> Result<bool, FilterError> {
-    Ok(is_copied(alloc, filter)? & comes_back(alloc, filter)?)
+fn is_same(alloc: Global, filter: &BlockedBloomFilter) -> bool {
+    is_copied(alloc, filter) & comes_back(alloc, filter)
 }
 
 // Whether both filters take items, the plain one is copied, and the shared one is cleared.
-fn items_go_in(alloc: Global) -> Result<bool, FilterError> {
-    let mut pair = pair_of_three(alloc)?;
-    let take = take_and_clear(&mut pair);
-    let is_same = matches!(is_same(alloc, &pair.plain), Ok(true));
-    Ok(take & is_same)
+fn items_go_in(alloc: Global) -> bool {
+    match pair_of_three(alloc) {
+        Ok(mut pair) => take_and_clear(&mut pair) & is_same(alloc, &pair.plain),
+        Err(_refusal) => false,
+    }
 }
 
 #[test]
 fn blocked_filters_take_items(rt: HostRuntime) {
-    assert!(rt; matches!(items_go_in(rt.alloc()), Ok(true)));
+    assert!(rt; items_go_in(rt.alloc()));
 }
 
 const TEXTS: &'static [(LinesError, &'static str)] = &[

@@ -44,13 +44,20 @@ fn insert_more(alloc: Global, texts: &mut BloomFilter) -> Result<(), AllocError>
     Ok(())
 }
 
+// Whether the texts of a filter are there where they are lent or given again.
+fn go_in_again(alloc: Global, texts: &mut BloomFilter) -> bool {
+    let is_made = insert_more(alloc, texts).is_ok();
+    let is_word = texts.as_slice() == [17359632962081458146].as_slice();
+    is_made & (texts.num_hashes() == 22) & is_word
+}
+
 // Whether the texts "42" and "🦀", which are lent, go in, and are there where they are lent or given
 // again. Their word is by a model of SipHash-1-3 and of the positions.
-fn items_go_in(alloc: Global) -> Result<bool, FilterError> {
-    let mut texts = fill_by_slice(BloomFilter::with_num_bits(alloc, 64)?, &["42", "🦀"]);
-    let is_made = insert_more(alloc, &mut texts).is_ok();
-    let is_word = texts.as_slice() == [17359632962081458146].as_slice();
-    Ok(is_made & (texts.num_hashes() == 22) & is_word)
+fn items_go_in(alloc: Global) -> bool {
+    match BloomFilter::with_num_bits(alloc, 64) {
+        Ok(builder) => go_in_again(alloc, &mut fill_by_slice(builder, &["42", "🦀"])),
+        Err(_refusal) => false,
+    }
 }
 
 // A filter of one word and one hash.
@@ -106,11 +113,20 @@ fn names_filters(alloc: Global, filter: &mut BloomFilter, others: &Others) -> bo
     are_answered & is_none & (filter.as_slice() == [13].as_slice())
 }
 
+// The same, of a filter that is made.
+fn list_names_others(alloc: Global, others: &Others) -> bool {
+    match filter_of(alloc, 5) {
+        Ok(mut filter) => names_filters(alloc, &mut filter, others),
+        Err(_refusal) => false,
+    }
+}
+
 // The same, of three filters that are made.
-fn list_names_filters(alloc: Global) -> Result<bool, FilterError> {
-    let others = others_of(alloc)?;
-    let mut filter = filter_of(alloc, 5)?;
-    Ok(names_filters(alloc, &mut filter, &others))
+fn list_names_filters(alloc: Global) -> bool {
+    match others_of(alloc) {
+        Ok(others) => list_names_others(alloc, &others),
+        Err(_refusal) => false,
+    }
 }
 
 type RustHasher = BuildHasherDefault<std::hash::DefaultHasher>;
@@ -130,7 +146,7 @@ fn hasher_goes_in(alloc: Global) -> Result<bool, FilterError> {
 
 #[test]
 fn generic_calls_hold_at_concrete_types(rt: HostRuntime) {
-    assert!(rt; matches!(items_go_in(rt.alloc()), Ok(true)));
-    assert!(rt; matches!(list_names_filters(rt.alloc()), Ok(true)));
+    assert!(rt; items_go_in(rt.alloc()));
+    assert!(rt; list_names_filters(rt.alloc()));
     assert!(rt; matches!(hasher_goes_in(rt.alloc()), Ok(true)));
 }

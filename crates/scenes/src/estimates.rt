@@ -142,13 +142,23 @@ fn have_a_fifth(first: &BloomFilter, second: &BloomFilter) -> bool {
         & (part.high() < 21 * hundredth)
 }
 
+// The same of a filter and one of the items 40,000 to 99,999.
+fn is_alike(alloc: Global, first: &BloomFilter) -> bool {
+    match with_items(alloc, 40_000, 100_000) {
+        Ok(second) => have_a_fifth(first, &second),
+        Err(_refusal) => false,
+    }
+}
+
 // The same of the items 0 to 59,999 and 40,000 to 99,999.
-fn are_alike(alloc: Global) -> Result<bool, FilterError> {
-    let first = with_items(alloc, 0, 60_000)?;
-    Ok(have_a_fifth(&first, &with_items(alloc, 40_000, 100_000)?))
+fn are_alike(alloc: Global) -> bool {
+    match with_items(alloc, 0, 60_000) {
+        Ok(first) => is_alike(alloc, &first),
+        Err(_refusal) => false,
+    }
 }
 
 #[test]
 fn filters_with_a_fifth_in_common_are_told_so(rt: HostRuntime) {
-    assert!(rt; matches!(are_alike(rt.alloc()), Ok(true)));
+    assert!(rt; are_alike(rt.alloc()));
 }

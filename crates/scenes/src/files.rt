@@ -46,23 +46,42 @@ fn refusals(alloc: Global, bytes: &[u8]) -> (Option<FileError>, Option<FileError
     )
 }
 
-// Whether both ways to write give the worked file.
-fn is_written(alloc: Global) -> Result<bool, FilterError> {
-    let filter = crabs(alloc)?;
-    let in_memory = filter.to_bytes(alloc)?;
+// Whether a filter is written to a writer as the worked file.
+fn writes(alloc: Global, filter: &BloomFilter) -> bool {
     let mut output = Vec::new(alloc);
-    let is_whole = filter.write_file(&mut output).is_ok();
-    let are_equal = (output.as_slice() == WORKED.as_slice())
-        & (in_memory.as_slice() == WORKED.as_slice());
-    Ok(is_whole & are_equal)
+    filter.write_file(&mut output).is_ok() & (output.as_slice() == WORKED.as_slice())
+}
+
+// Whether it is in memory, too.
+fn writes_both(alloc: Global, filter: &BloomFilter) -> bool {
+    match filter.to_bytes(alloc) {
+        Ok(in_memory) => writes(alloc, filter) & (in_memory.as_slice() == WORKED.as_slice()),
+        Err(_refusal) => false,
+    }
+}
+
+// Whether both ways to write give the worked file.
+fn is_written(alloc: Global) -> bool {
+    match crabs(alloc) {
+        Ok(filter) => writes_both(alloc, &filter),
+        Err(_refusal) => false,
+    }
+}
+
+// Whether a filter was read that is the worked one.
+fn is_crabs(read: Result<BloomFilter, FileError>) -> bool {
+    match read {
+        Ok(filter) => are_crabs(&filter),
+        Err(_refusal) => false,
+    }
 }
 
 // Whether both ways to read give the worked filter, and the reader is at its end.
-fn is_read(alloc: Global, bytes: &[u8]) -> Result<bool, FileError> {
-    let in_memory = BloomFilter::from_bytes(alloc, bytes)?;
+fn is_read(alloc: Global, bytes: &[u8]) -> bool {
+    let in_memory = is_crabs(BloomFilter::from_bytes(alloc, bytes));
     let mut input = bytes;
-    let from_reader = BloomFilter::read_file(alloc, &mut input)?;
-    Ok(are_crabs(&in_memory) & are_crabs(&from_reader) & input.is_empty())
+    let from_reader = is_crabs(BloomFilter::read_file(alloc, &mut input));
+    in_memory & from_reader & input.is_empty()
 }
 
 // A file may have no seal. Byte 40 is the first of the seal.
@@ -70,7 +89,7 @@ fn is_read(alloc: Global, bytes: &[u8]) -> Result<bool, FileError> {
 fn the_worked_file_is_written_and_read(rt: HostRuntime) {
     let mut unsealed = WORKED;
     unsealed[40..48].copy_from_slice(&[0; 8]);
-    assert!(rt; matches!(is_written(rt.alloc()), Ok(true)));
-    assert!(rt; matches!(is_read(rt.alloc(), &WORKED), Ok(true)));
-    assert!(rt; matches!(is_read(rt.alloc(), &unsealed), Ok(true)));
+    assert!(rt; is_written(rt.alloc()));
+    assert!(rt; is_read(rt.alloc(), &WORKED));
+    assert!(rt; is_read(rt.alloc(), &unsealed));
 }

@@ -50,6 +50,29 @@ impl Gate for Watching {
     }
 }
 
+/// Two `Arc`s of one gate.
+pub(crate) type Seen = (Arc<Watching, Global>, Arc<Watching, Global>);
+
+/// A gate for this many workers, and another `Arc` of it, by which to see who passed.
+pub(crate) fn gate_of(alloc: Global, workers: usize) -> Result<Seen, FilterError> {
+    let gate = Arc::new(alloc, gate_for(workers))?;
+    let seen = Arc::try_clone(&gate)?;
+    Ok((gate, seen))
+}
+
+// Whether this many workers passed a gate once each, by their numbers, and the first two while both
+// ran.
+fn saw_all(seen: &Watching, count: usize) -> bool {
+    let numbers = if count < 64 {
+        !(u64::MAX << count)
+    } else {
+        u64::MAX
+    };
+    (seen.passes.load(Ordering::SeqCst) == count as u64)
+        & (seen.numbers.load(Ordering::SeqCst) == numbers)
+        & (seen.met.load(Ordering::SeqCst) == count.min(2) as u64)
+}
+
 // A filter that is filled by a worker for each part, and whether each worker passed the gate once,
 // by its number, and the first two while both ran.
 fn filled<R: Threads>(
@@ -59,18 +82,11 @@ fn filled<R: Threads>(
     parts: Vec<Vec<u64>>,
 ) -> Result<(BloomFilter, bool), FilterError> {
     let count = parts.len();
-    let gate = Arc::new(alloc, gate_for(count))?;
-    let seen = Arc::try_clone(&gate)?;
-    let filter = fill(rt, alloc, gate, shape, parts)?;
-    let numbers = if count < 64 {
-        !(u64::MAX << count)
-    } else {
-        u64::MAX
-    };
-    let is_seen = (seen.passes.load(Ordering::SeqCst) == count as u64)
-        & (seen.numbers.load(Ordering::SeqCst) == numbers)
-        & (seen.met.load(Ordering::SeqCst) == count.min(2) as u64);
-    Ok((filter, is_seen))
+    let (gate, seen) = gate_of(alloc, count)?;
+    match fill(rt, alloc, gate, shape, parts) {
+        Ok(filter) => Ok((filter, saw_all(&seen, count))),
+        Err(refusal) => Err(refusal),
+    }
 }
 
 /// Vectors of these parts.
@@ -97,20 +113,36 @@ const FILLINGS: &'static [Filling] = &[
     (1, 0, (64, 1), &[], 0),
 ];
 
-// Whether parts fill a filter as their row says.
-fn is_filled<R: Threads>(rt: &R, alloc: Global, row: &Filling) -> Result<bool, FilterError> {
-    let (bits, hashes, rounded, cut, word) = *row;
+// Whether a filter has this shape and this word.
+fn is_of(filter: &BloomFilter, shape: (usize, u32), word: u64) -> bool {
+    let has_shape = (filter.num_bits(), filter.num_hashes()) == shape;
+    has_shape & (filter.as_slice() == [word].as_slice())
+}
+
+// The filter of a row, and whether each worker passed the gate.
+fn filled_by<R: Threads>(
+    rt: &R,
+    alloc: Global,
+    row: &Filling,
+) -> Result<(BloomFilter, bool), FilterError> {
+    let (bits, hashes, _rounded, cut, _word) = *row;
     let shape = Shape::new(bits, hashes)?;
-    let parts = parts_of(alloc, cut)?;
-    let (filter, is_seen) = filled(rt, alloc, shape, parts)?;
-    let is_rounded = (filter.num_bits(), filter.num_hashes()) == rounded;
-    Ok(is_seen & is_rounded & (filter.as_slice() == [word].as_slice()))
+    filled(rt, alloc, shape, parts_of(alloc, cut)?)
+}
+
+// Whether parts fill a filter as their row says.
+fn is_filled<R: Threads>(rt: &R, alloc: Global, row: &Filling) -> bool {
+    let (_bits, _hashes, rounded, _cut, word) = *row;
+    match filled_by(rt, alloc, row) {
+        Ok((filter, is_seen)) => is_seen & is_of(&filter, rounded, word),
+        Err(_refusal) => false,
+    }
 }
 
 #[test]
 fn parts_fill_a_filter_however_they_are_cut(rt: HostRuntime) {
     for (i, row) in FILLINGS.iter().enumerate() {
-        assert!(rt; tell_row(&rt, i, matches!(is_filled(&rt, rt.alloc(), row), Ok(true))));
+        assert!(rt; tell_row(&rt, i, is_filled(&rt, rt.alloc(), row)));
     }
 }
 
@@ -131,24 +163,41 @@ fn hundred(alloc: Global) -> Result<Vec<Vec<u64>>, FilterError> {
     Ok(parts)
 }
 
-// Whether a filter is that which one thread makes of them.
-fn is_made_alone(alloc: Global, filled: &BloomFilter) -> Result<bool, FilterError> {
+// The filter that one thread makes of them.
+fn made_alone(alloc: Global) -> Result<BloomFilter, FilterError> {
     let mut filter = BloomFilter::with_num_bits(alloc, 1 << 20)?.hashes(7);
     for i in 0..100_000u64 {
         filter.insert_hash(spread(i));
     }
-    Ok(filter == *filled)
+    Ok(filter)
+}
+
+// Whether a filter is that one.
+fn is_made_alone(alloc: Global, filled: &BloomFilter) -> bool {
+    match made_alone(alloc) {
+        Ok(filter) => filter == *filled,
+        Err(_refusal) => false,
+    }
+}
+
+// The filter that a hundred workers make, and whether each passed the gate.
+fn filter_of_hundred<R: Threads>(
+    rt: &R,
+    alloc: Global,
+) -> Result<(BloomFilter, bool), FilterError> {
+    let shape = Shape::new(1 << 20, 7)?;
+    filled(rt, alloc, shape, hundred(alloc)?)
 }
 
 // Whether a hundred workers make the filter of one thread.
-fn is_made_alike<R: Threads>(rt: &R, alloc: Global) -> Result<bool, FilterError> {
-    let shape = Shape::new(1 << 20, 7)?;
-    let parts = hundred(alloc)?;
-    let (filter, is_seen) = filled(rt, alloc, shape, parts)?;
-    Ok(is_seen & is_made_alone(alloc, &filter)?)
+fn is_made_alike<R: Threads>(rt: &R, alloc: Global) -> bool {
+    match filter_of_hundred(rt, alloc) {
+        Ok((filter, is_seen)) => is_seen & is_made_alone(alloc, &filter),
+        Err(_refusal) => false,
+    }
 }
 
 #[test]
 fn a_hundred_workers_make_the_filter_of_one_thread(rt: HostRuntime) {
-    assert!(rt; matches!(is_made_alike(&rt, rt.alloc()), Ok(true)));
+    assert!(rt; is_made_alike(&rt, rt.alloc()));
 }

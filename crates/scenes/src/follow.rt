@@ -26,7 +26,7 @@ fn holds(alloc: Global, pair: &mut Pair, line: &Line) -> Result<bool, Refused> {
         Op::Bounds(low, high) => Ok(answers::has_bounds(pair, *low, *high)),
         Op::Rate(items, low, high) => Ok(answers::has_rate(pair, *items, *low, *high)),
         Op::InsertAll(first, last) => memory::insert_all(alloc, pair, *first, *last),
-        Op::Meet(words, unites) => Ok(memory::meet(alloc, pair, words, *unites)? == *said),
+        Op::Meet(words, unites) => memory::meet(alloc, pair, words, *unites, *said),
         Op::Clone => memory::copy(alloc, pair, *said),
         Op::Data(k0, k1) => memory::to_data_and_back(alloc, pair, *k0, *k1),
         Op::Cross(by_text) => memory::cross(alloc, pair, *by_text),
@@ -110,16 +110,18 @@ fn builders_give_as_many_hashes_as_asked(rt: HostRuntime) {
     }
 }
 
-// Whether both filters are refused for this reason.
-fn are_refused(alloc: Global, make: &Make, reason: FilterError) -> bool {
-    let is_shared = match shared_of(alloc, make) {
+// Whether a filter is refused for this reason.
+fn is_refused<T: Drop>(outcome: Result<T, Refused>, reason: FilterError) -> bool {
+    match outcome {
         Ok(_filter) => false,
         Err(refused) => refused.reason == reason,
-    };
-    match plain_of(alloc, make) {
-        Ok(_filter) => false,
-        Err(refused) => is_shared & (refused.reason == reason),
     }
+}
+
+// Whether both filters are refused for this reason.
+fn are_refused(alloc: Global, make: &Make, reason: FilterError) -> bool {
+    let is_shared = is_refused(shared_of(alloc, make), reason);
+    is_shared & is_refused(plain_of(alloc, make), reason)
 }
 
 #[test]

@@ -19,13 +19,31 @@ enum Piece {
     U64(u64),
     U128(u128),
     Usize(usize),
+    Signed(Signed),
+    Answers(u64),
+}
+
+// A number that may be negative.
+#[derive(Clone, Copy)]
+enum Signed {
     I8(i8),
     I16(i16),
     I32(i32),
     I64(i64),
     I128(i128),
     Isize(isize),
-    Answers(u64),
+}
+
+// Writes a number that may be negative.
+fn write_signed<H: Hasher>(hasher: &mut H, number: Signed) {
+    match number {
+        Signed::I8(number) => hasher.write_i8(number),
+        Signed::I16(number) => hasher.write_i16(number),
+        Signed::I32(number) => hasher.write_i32(number),
+        Signed::I64(number) => hasher.write_i64(number),
+        Signed::I128(number) => hasher.write_i128(number),
+        Signed::Isize(number) => hasher.write_isize(number),
+    }
 }
 
 // Whether a hasher under the zero key returns what the pieces say.
@@ -41,12 +59,7 @@ fn answers(pieces: &[Piece]) -> bool {
             Piece::U64(number) => hasher.write_u64(number),
             Piece::U128(number) => hasher.write_u128(number),
             Piece::Usize(number) => hasher.write_usize(number),
-            Piece::I8(number) => hasher.write_i8(number),
-            Piece::I16(number) => hasher.write_i16(number),
-            Piece::I32(number) => hasher.write_i32(number),
-            Piece::I64(number) => hasher.write_i64(number),
-            Piece::I128(number) => hasher.write_i128(number),
-            Piece::Isize(number) => hasher.write_isize(number),
+            Piece::Signed(number) => write_signed(&mut hasher, number),
             Piece::Answers(hash) => is_right &= hasher.finish() == hash,
         }
     }
@@ -83,12 +96,12 @@ const PIECES: &'static [&'static [Piece]] = &[
         Piece::U64(1),
         Piece::U128(1),
         Piece::Usize(1),
-        Piece::I8(1),
-        Piece::I16(1),
-        Piece::I32(1),
-        Piece::I64(1),
-        Piece::I128(1),
-        Piece::Isize(1),
+        Piece::Signed(Signed::I8(1)),
+        Piece::Signed(Signed::I16(1)),
+        Piece::Signed(Signed::I32(1)),
+        Piece::Signed(Signed::I64(1)),
+        Piece::Signed(Signed::I128(1)),
+        Piece::Signed(Signed::Isize(1)),
         Piece::Answers(0xa974_2e3c_46eb_4c8f),
     ],
     &[Piece::Bytes(NUMBERS), Piece::Answers(0xa974_2e3c_46eb_4c8f)],
@@ -111,20 +124,41 @@ fn has_hash(key: u128, message: &[u8], hash: u64) -> bool {
     hasher.finish() == hash
 }
 
+// Whether a hasher returns what the pieces of each row say.
+fn all_answer(rt: &HostRuntime) -> bool {
+    let mut all = true;
+    for (i, pieces) in PIECES.iter().enumerate() {
+        all &= tell_row(rt, i, answers(pieces));
+    }
+    all
+}
+
+// Whether the messages of these lengths have their hashes.
+fn have_counted(rt: &HostRuntime) -> bool {
+    let mut all = true;
+    for (length, hash) in counted() {
+        let message = &MESSAGE[..(*length).min(MESSAGE.len())];
+        all &= tell_row(rt, *length, has_hash(COUNTING, message, *hash));
+    }
+    all
+}
+
+// Whether the messages that were drawn have their hashes.
+fn have_drawn(rt: &HostRuntime) -> bool {
+    let mut all = true;
+    for (i, (key, hash, message)) in drawn().iter().enumerate() {
+        all &= tell_row(rt, i, has_hash(*key, message, *hash));
+    }
+    all
+}
+
 #[test]
 fn a_hash_is_of_the_key_and_of_the_bytes_written(rt: HostRuntime) {
     let given = DefaultHasher::seeded(&42u128.to_be_bytes());
     assert!(rt; given.key() == (0, 3026418949592973312));
-    for (i, pieces) in PIECES.iter().enumerate() {
-        assert!(rt; tell_row(&rt, i, answers(pieces)));
-    }
-    for (length, hash) in counted() {
-        let message = &MESSAGE[..(*length).min(MESSAGE.len())];
-        assert!(rt; tell_row(&rt, *length, has_hash(COUNTING, message, *hash)));
-    }
-    for (i, (key, hash, message)) in drawn().iter().enumerate() {
-        assert!(rt; tell_row(&rt, i, has_hash(*key, message, *hash)));
-    }
+    assert!(rt; all_answer(&rt));
+    assert!(rt; have_counted(&rt));
+    assert!(rt; have_drawn(&rt));
 }
 
 // A filter of 256 bits and 3 hashes, with nothing in it.

@@ -184,35 +184,43 @@ fn shared_of_words(
     shared_for(alloc, named("shared from_vec", builder)?.seed(seed), size)
 }
 
+fn shared_of_data(alloc: Global, form: FilterData) -> Result<AtomicBloomFilter, Refused> {
+    let made = AtomicBloomFilter::from_data(alloc, form);
+    named("shared from_data", made)
+}
+
 /// The shared filter.
 pub(crate) fn shared_of(alloc: Global, make: &Make) -> Result<AtomicBloomFilter, Refused> {
     match make {
         Make::Bits(bits, size) => shared_of_bits(alloc, *bits, size),
         Make::Words(words, seed, size) => shared_of_words(alloc, words, seed, size),
-        Make::Rate(num, den, seed, size) => {
-            shared_at(
-                alloc,
-                named("Rate::new", Rate::new(*num, *den))?,
-                seed,
-                size,
-            )
-        }
+        Make::Rate(num, den, seed, size) => match named("Rate::new", Rate::new(*num, *den)) {
+            Ok(rate) => shared_at(alloc, rate, seed, size),
+            Err(refused) => Err(refused),
+        },
         Make::Data(words, less_one, k0, k1) => {
-            let form = data_of(alloc, words, *less_one, *k0, *k1)?;
-            named(
-                "shared from_data",
-                AtomicBloomFilter::from_data(alloc, form),
-            )
+            shared_of_data(alloc, data_of(alloc, words, *less_one, *k0, *k1)?)
         }
+    }
+}
+
+/// A plain filter and a shared one, if that was made.
+pub(crate) fn paired(
+    plain: BloomFilter,
+    shared: Result<AtomicBloomFilter, Refused>,
+) -> Result<Pair, Refused> {
+    match shared {
+        Ok(shared) => Ok(Pair { plain, shared }),
+        Err(refused) => Err(refused),
     }
 }
 
 /// Both filters.
 pub(crate) fn pair_of(alloc: Global, make: &Make) -> Result<Pair, Refused> {
-    Ok(Pair {
-        plain: plain_of(alloc, make)?,
-        shared: shared_of(alloc, make)?,
-    })
+    match plain_of(alloc, make) {
+        Ok(plain) => paired(plain, shared_of(alloc, make)),
+        Err(refused) => Err(refused),
+    }
 }
 
 /// Whether both filters have the same shape, words and hasher.

@@ -1,7 +1,13 @@
 //! What both filters return from a call that takes memory, or that needs another filter.
-use crate::making::{Pair, Refused, THE_TEST, are_alike, have_words, named, pair_of, words_of};
+mod data;
+
+use crate::answers::has_shape;
+use crate::making::{
+    Pair, Refused, THE_TEST, are_alike, have_words, named, pair_of, paired, words_of,
+};
 use crate::scene::{Make, Size};
-use fastbloom::{AtomicBloomFilter, BloomFilter, Command, FilterData, FilterError};
+pub(crate) use data::{cross, to_data_and_back};
+use fastbloom::{AtomicBloomFilter, BloomFilter, Command, FilterError};
 use std::alloc::Global;
 
 // The key of the other filters, which no call looks at.
@@ -41,18 +47,40 @@ fn meet_shared(filter: &AtomicBloomFilter, other: &AtomicBloomFilter, unites: bo
     true
 }
 
+// Unites or intersects both filters with others, if they have their shape.
+fn meet_both(pair: &mut Pair, other: &Pair, unites: bool) -> bool {
+    meet_plain(&mut pair.plain, &other.plain, unites)
+        & meet_shared(&pair.shared, &other.shared, unites)
+}
+
 /// Whether the filters are united, or else intersected, with filters of these words, which stay as
-/// they are. False: the shapes differ, and nothing is done.
+/// they are; or whether nothing is done since the shapes differ, where that is said.
 pub(crate) fn meet(
     alloc: Global,
     pair: &mut Pair,
     words: &'static [u64],
     unites: bool,
+    said: bool,
 ) -> Result<bool, Refused> {
-    let other = other_of(alloc, words, pair.plain.num_hashes())?;
-    let met = meet_plain(&mut pair.plain, &other.plain, unites)
-        & meet_shared(&pair.shared, &other.shared, unites);
-    Ok(met & have_words(&other, words))
+    match other_of(alloc, words, pair.plain.num_hashes()) {
+        Ok(other) => Ok((meet_both(pair, &other, unites) == said) & have_words(&other, words)),
+        Err(refused) => Err(refused),
+    }
+}
+
+// Whether both filters have the shape of others, or haven't.
+fn have_same_shape(pair: &Pair, other: &Pair, said: bool) -> bool {
+    let plain = pair.plain.same_shape(&other.plain) == said;
+    plain & (pair.shared.same_shape(&other.shared) == said)
+}
+
+// Whether both filters have the shape and words of others, or haven't.
+fn have_same_words(pair: &Pair, other: &Pair, said: bool) -> bool {
+    let is_equal = (pair.plain == other.plain) == said;
+    let differs = (pair.plain != other.plain) != said;
+    let is_same = pair.shared.same_words(&other.shared) == said;
+    let turned = other.shared.same_words(&pair.shared) == said;
+    is_equal & differs & is_same & turned
 }
 
 /// Whether the shape, and the shape and words, are found to be those of filters of these words and
@@ -65,14 +93,13 @@ pub(crate) fn compare(
     same_shape: bool,
     same_words: bool,
 ) -> Result<bool, Refused> {
-    let other = other_of(alloc, words, num_hashes)?;
-    let plain = pair.plain.same_shape(&other.plain) == same_shape;
-    let shared = pair.shared.same_shape(&other.shared) == same_shape;
-    let is_equal = (pair.plain == other.plain) == same_words;
-    let differs = (pair.plain != other.plain) != same_words;
-    let is_same = pair.shared.same_words(&other.shared) == same_words;
-    let turned = other.shared.same_words(&pair.shared) == same_words;
-    Ok(plain & shared & is_equal & differs & is_same & turned & have_words(&other, words))
+    match other_of(alloc, words, num_hashes) {
+        Ok(other) => {
+            let shapes = have_same_shape(pair, &other, same_shape);
+            Ok(shapes & have_same_words(pair, &other, same_words) & have_words(&other, words))
+        }
+        Err(refused) => Err(refused),
+    }
 }
 
 /// Inserts the numbers from the first up to the last, which a vector lends.
@@ -95,109 +122,56 @@ pub(crate) fn insert_all(
 
 // Copies of both filters.
 fn copies_of(alloc: Global, pair: &Pair) -> Result<Pair, Refused> {
-    let plain = named("try_clone", pair.plain.try_clone(alloc))?;
-    let shared = named("shared try_clone", pair.shared.try_clone(alloc))?;
-    Ok(Pair { plain, shared })
+    match named("try_clone", pair.plain.try_clone(alloc)) {
+        Ok(plain) => paired(
+            plain,
+            named("shared try_clone", pair.shared.try_clone(alloc)),
+        ),
+        Err(refused) => Err(refused),
+    }
+}
+
+// Whether copies are alike and equal the filters, and differ from them, or don't, once the item 42
+// went into them.
+fn are_copies(pair: &Pair, copies: &mut Pair, said: bool) -> bool {
+    let are_equal = have_same_words(copies, pair, true) & are_alike(copies);
+    copies.plain.insert(&42u64);
+    copies.shared.insert(&42u64);
+    are_equal & have_same_words(copies, pair, !said)
 }
 
 /// Whether copies are alike and equal the filters, and differ from them, or don't, once the item 42
 /// went into the copies.
 pub(crate) fn copy(alloc: Global, pair: &Pair, said: bool) -> Result<bool, Refused> {
-    let mut copies = copies_of(alloc, pair)?;
-    let are_equal = (copies.plain == pair.plain) & copies.shared.same_words(&pair.shared);
-    let are_equal = are_equal & are_alike(&copies);
-    copies.plain.insert(&42u64);
-    copies.shared.insert(&42u64);
-    let differ = (copies.plain != pair.plain) == said;
-    Ok(are_equal & differ & (copies.shared.same_words(&pair.shared) != said))
-}
-
-// Whether both filters have equal data, and keep their words.
-fn have_equal_data(alloc: Global, pair: &Pair) -> Result<bool, Refused> {
-    let form = named("to_data", pair.plain.to_data(alloc))?;
-    let shared_form = named("shared to_data", pair.shared.to_data(alloc))?;
-    Ok((form == shared_form) & are_alike(pair))
-}
-
-// The data after a way through JSON text.
-fn through_text(alloc: Global, form: &FilterData) -> Result<FilterData, FilterError> {
-    let Ok(text) = serde_json::to_string(alloc, form) else {
-        return Err(FilterError::Memory);
-    };
-    match serde_json::from_str(alloc, text.as_str()) {
-        Ok(form) => Ok(form),
-        Err(_error) => Err(FilterError::EmptyWords),
+    match copies_of(alloc, pair) {
+        Ok(mut copies) => Ok(are_copies(pair, &mut copies, said)),
+        Err(refused) => Err(refused),
     }
 }
 
-// The data, after a way through JSON text if that is said.
-fn sent(alloc: Global, form: FilterData, by_text: bool) -> Result<FilterData, Refused> {
-    if by_text {
-        return named(THE_TEST, through_text(alloc, &form));
-    }
-    Ok(form)
-}
-
-// The shared filter of the plain one's data.
-fn shared_from(
-    alloc: Global,
-    plain: &BloomFilter,
-    by_text: bool,
-) -> Result<AtomicBloomFilter, Refused> {
-    let form = named("to_data", plain.to_data(alloc))?;
-    let form = sent(alloc, form, by_text)?;
-    named(
-        "shared from_data",
-        AtomicBloomFilter::from_data(alloc, form),
-    )
-}
-
-// The plain filter of the shared one's data.
-fn plain_from(
-    alloc: Global,
-    shared: &AtomicBloomFilter,
-    by_text: bool,
-) -> Result<BloomFilter, Refused> {
-    let form = named("shared to_data", shared.to_data(alloc))?;
-    let form = sent(alloc, form, by_text)?;
-    named("from_data", BloomFilter::from_data(form))
-}
-
-/// Whether both filters have equal data. Each goes on as it is read from the other's, by JSON text
-/// if that is said.
-pub(crate) fn cross(alloc: Global, pair: &mut Pair, by_text: bool) -> Result<bool, Refused> {
-    let are_equal = have_equal_data(alloc, pair)?;
-    let shared = shared_from(alloc, &pair.plain, by_text)?;
-    let plain = plain_from(alloc, &pair.shared, by_text)?;
-    *pair = Pair { plain, shared };
-    Ok(are_equal)
-}
-
-// Whether data are the words and the hashes of a filter, and this key.
-fn are_data(form: &FilterData, plain: &BloomFilter, key: (u64, u64)) -> bool {
-    let has_words = form.bits.bits.as_slice() == plain.as_slice();
-    let has_hashes = form.num_hashes_minus_one == plain.num_hashes() - 1;
-    has_words & has_hashes & ((form.k0, form.k1) == key)
-}
-
-/// Whether both filters have these data, with this key. They go on as they are read from them.
-pub(crate) fn to_data_and_back(
-    alloc: Global,
-    pair: &mut Pair,
-    k0: u64,
-    k1: u64,
-) -> Result<bool, Refused> {
-    let form = named("to_data", pair.plain.to_data(alloc))?;
-    let are_given = are_data(&form, &pair.plain, (k0, k1));
-    Ok(cross(alloc, pair, false)? & are_given)
+// Whether these are the words of a filter, which is cleared.
+fn are_cleared(filter: &mut BloomFilter, words: &[u64]) -> bool {
+    let is_right = words == filter.as_slice();
+    filter.clear();
+    is_right
 }
 
 /// Whether the words that are taken are those of the plain filter, which is cleared.
 pub(crate) fn take(alloc: Global, pair: &mut Pair) -> Result<bool, Refused> {
-    let words = named("take_words", pair.shared.take_words(alloc))?;
-    let is_right = words.as_slice() == pair.plain.as_slice();
-    pair.plain.clear();
-    Ok(is_right)
+    match named("take_words", pair.shared.take_words(alloc)) {
+        Ok(words) => Ok(are_cleared(&mut pair.plain, words.as_slice())),
+        Err(refused) => Err(refused),
+    }
+}
+
+// Whether the calls of a list reply so one by one.
+fn reply_singly(shared: &AtomicBloomFilter, said: &[bool]) -> bool {
+    let first = shared.contains_hash(1);
+    let inserts = (shared.insert_hash(1), shared.insert_hash(1));
+    let fourth = shared.contains_hash(0);
+    shared.clear();
+    let singly = [first, inserts.0, inserts.1, fourth, shared.contains_hash(1)];
+    singly.as_slice() == said
 }
 
 /// Whether a list is carried out with these replies, and its calls one by one too.
@@ -210,14 +184,10 @@ pub(crate) fn replay(alloc: Global, pair: &mut Pair, said: &[bool]) -> Result<bo
         Command::Clear,
         Command::Contains(1),
     ];
-    let replies = named("replay", pair.plain.replay(alloc, &list))?;
-    let shared = &pair.shared;
-    let first = shared.contains_hash(1);
-    let inserts = (shared.insert_hash(1), shared.insert_hash(1));
-    let fourth = shared.contains_hash(0);
-    shared.clear();
-    let singly = [first, inserts.0, inserts.1, fourth, shared.contains_hash(1)];
-    Ok((replies.as_slice() == said) & (singly.as_slice() == said))
+    match named("replay", pair.plain.replay(alloc, &list)) {
+        Ok(replies) => Ok((replies.as_slice() == said) & reply_singly(&pair.shared, said)),
+        Err(refused) => Err(refused),
+    }
 }
 
 /// Whether filters that are made so are alike, and have this shape.
@@ -227,7 +197,8 @@ pub(crate) fn build(
     num_bits: usize,
     num_hashes: u32,
 ) -> Result<bool, Refused> {
-    let built = pair_of(alloc, make)?;
-    let shape = (built.plain.num_bits(), built.plain.num_hashes());
-    Ok(are_alike(&built) & (shape == (num_bits, num_hashes)))
+    match pair_of(alloc, make) {
+        Ok(built) => Ok(are_alike(&built) & has_shape(&built, num_bits, num_hashes)),
+        Err(refused) => Err(refused),
+    }
 }

@@ -4,6 +4,7 @@ use fastbloom::{
     Bracket, FilterError, Rate, expected_density, expected_false_pos, false_pos_bounds,
     false_pos_of_either, false_pos_of_ones, optimal_hashes, optimal_size,
 };
+use std::alloc::Global;
 
 // A function's arguments, and its value. Both ends of a bracket are in units of 2^-63.
 enum Row {
@@ -106,6 +107,16 @@ fn rate_of(hashes: u32, bits: usize, ones: usize) -> Bracket {
     false_pos_of_ones(hashes, bits, ones.min(bits))
 }
 
+// The power of the density of these hashes, bits and items.
+fn power_of(exponent: u32, hashes: u32, bits: usize, items: usize) -> Bracket {
+    expected_false_pos(exponent, expected_density(hashes, bits.max(1), items))
+}
+
+// The rate of a test by this many set bits or by half of 64 bits.
+fn either_of(bits: usize, ones: usize) -> Bracket {
+    false_pos_of_either(rate_of(1, bits, ones), rate_of(1, 64, 32))
+}
+
 // Whether a function has the value of its row. No row has no bits.
 fn holds(row: &Row) -> bool {
     match *row {
@@ -115,8 +126,7 @@ fn holds(row: &Row) -> bool {
             has_ends(expected_density(hashes, bits.max(1), items), low, high)
         }
         Row::Power(exponent, hashes, bits, items, low, high) => {
-            let density = expected_density(hashes, bits.max(1), items);
-            has_ends(expected_false_pos(exponent, density), low, high)
+            has_ends(power_of(exponent, hashes, bits, items), low, high)
         }
         Row::Mean(hashes, bits, items, low, high) => {
             has_ends(false_pos_bounds(hashes, bits.max(1), items), low, high)
@@ -124,10 +134,7 @@ fn holds(row: &Row) -> bool {
         Row::Ones(hashes, bits, ones, low, high) => {
             has_ends(rate_of(hashes, bits, ones), low, high)
         }
-        Row::Either(bits, ones, low, high) => {
-            let either = false_pos_of_either(rate_of(1, bits, ones), rate_of(1, 64, 32));
-            has_ends(either, low, high)
-        }
+        Row::Either(bits, ones, low, high) => has_ends(either_of(bits, ones), low, high),
     }
 }
 
@@ -147,7 +154,10 @@ fn numbers_are_those_from_outside(rt: HostRuntime) {
     assert!(rt; are_in_range());
 }
 
-const REFUSALS: &'static [(FilterError, u8, &'static str)] = &[
+// A refusal, its number and its text.
+type Refusal = (FilterError, u8, &'static str);
+
+const REFUSALS: &'static [Refusal] = &[
     (FilterError::ZeroBits, 1, "zero bits"),
     (FilterError::EmptyWords, 2, "no words"),
     (FilterError::TooManyWords, 3, "too many words"),
@@ -158,10 +168,15 @@ const REFUSALS: &'static [(FilterError, u8, &'static str)] = &[
     (FilterError::Worker, 8, "no worker"),
 ];
 
+// Whether a refusal has its number and its text.
+fn is_told(alloc: Global, refusal: &Refusal) -> bool {
+    let (error, code, text) = refusal;
+    has_text(alloc, error, text) & (error.code() == *code)
+}
+
 #[test]
 fn refusals_have_these_numbers_and_texts(rt: HostRuntime) {
-    for (i, (error, code, text)) in REFUSALS.iter().enumerate() {
-        let is_told = has_text(rt.alloc(), error, text) & (error.code() == *code);
-        assert!(rt; tell_row(&rt, i, is_told));
+    for (i, refusal) in REFUSALS.iter().enumerate() {
+        assert!(rt; tell_row(&rt, i, is_told(rt.alloc(), refusal)));
     }
 }

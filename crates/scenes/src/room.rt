@@ -1,17 +1,18 @@
 //! Calls that take memory and are no lines of a scene: how each ends where a request for memory is
 //! refused, and what it leaves. Each test prints its calls and how they ended, which dev/starve
 //! compares.
-ghost use Rattle.std.specs.Prelude.{◌≡◌};
 
 mod calls;
+mod seated;
 
-use crate::fills::{THREE, Watching, gate_for, parts_of};
-use crate::telling::{NO_ROOM, WRONG, say, word_of};
+use crate::fills::{THREE, Watching, gate_of, parts_of};
+use crate::telling::{NO_ROOM, say, word_of};
 use bloom_parts::bit_vector::{AtomicBitVec, BitVec};
 use fastbloom::{
     AtomicBlockedBloomFilter, BlockedBloomFilter, BloomFilter, Call, Event, FilterError,
-    GrowingError, GrowingFilter, Pass, Rate, SeatedBloomFilter, Shape, fill, run,
+    GrowingError, GrowingFilter, Rate, Shape, Trace, fill, run,
 };
+use seated::{closed, opened};
 use std::alloc::Global;
 use std::sync::Arc;
 use std::thread::Threads;
@@ -26,17 +27,26 @@ fn by_builders(ended: Result<bool, GrowingError>) -> Result<bool, FilterError> {
     }
 }
 
+// A filter for one item.
+fn for_one(alloc: Global) -> Result<GrowingFilter, GrowingError> {
+    GrowingFilter::new(alloc, Rate::new(4, 1)?, 1)
+}
+
 // Whether a filter for one item has its room.
 fn begun(alloc: Global) -> Result<bool, GrowingError> {
-    let filter = GrowingFilter::new(alloc, Rate::new(4, 1)?, 1)?;
-    Ok((filter.newest().num_bits() == 64) & (filter.room() == 1))
+    match for_one(alloc) {
+        Ok(filter) => Ok((filter.newest().num_bits() == 64) & (filter.room() == 1)),
+        Err(refusal) => Err(refusal),
+    }
 }
 
 // A filter for one item that is full, with hash 1. The first insert takes no memory.
 fn full(alloc: Global) -> Result<GrowingFilter, GrowingError> {
-    let mut filter = GrowingFilter::new(alloc, Rate::new(4, 1)?, 1)?;
-    filter.insert_hash(alloc, 1)?;
-    Ok(filter)
+    let mut filter = for_one(alloc)?;
+    match filter.insert_hash(alloc, 1) {
+        Ok(_held) => Ok(filter),
+        Err(refusal) => Err(refusal),
+    }
 }
 
 // Whether a filter has this many full filters and this room, took one hash into its newest, and
@@ -114,14 +124,18 @@ fn standing(alloc: Global) -> Result<BloomFilter, FilterError> {
 
 fn plain_words(alloc: Global) -> Result<bool, FilterError> {
     let words = [7u64, 8, 9];
-    let bits = BitVec::from_words(alloc, words.iter().copied())?;
-    Ok(bits.as_slice() == words.as_slice())
+    match BitVec::from_words(alloc, words.iter().copied()) {
+        Ok(bits) => Ok(bits.as_slice() == words.as_slice()),
+        Err(refusal) => Err(refusal),
+    }
 }
 
 fn shared_words(alloc: Global) -> Result<bool, FilterError> {
     let words = [7u64, 8, 9];
-    let bits = AtomicBitVec::from_words(alloc, words.iter().copied())?;
-    Ok(bits.iter().eq(words.iter().copied()))
+    match AtomicBitVec::from_words(alloc, words.iter().copied()) {
+        Ok(bits) => Ok(bits.iter().eq(words.iter().copied())),
+        Err(refusal) => Err(refusal),
+    }
 }
 
 // Two inserts of one hash, whose positions are 0 and 20.
@@ -140,9 +154,21 @@ const INSERTS: [Event; 6] = [
     Event::Go { party: 0, given: 0 },
 ];
 
+// The same, lent.
+fn inserts() -> &'static [Event] {
+    &INSERTS
+}
+
+// Whether a run of them is whole.
+fn is_course(trace: &Trace) -> bool {
+    (trace.words() == [1048577].as_slice()) & (trace.records().len() == 6)
+}
+
 fn course(alloc: Global) -> Result<bool, FilterError> {
-    let trace = run(alloc, &[0], 2, 2, &INSERTS)?;
-    Ok((trace.words() == [1048577].as_slice()) & (trace.records().len() == 6))
+    match run(alloc, &[0], 2, 2, inserts()) {
+        Ok(trace) => Ok(is_course(&trace)),
+        Err(refusal) => Err(refusal),
+    }
 }
 
 // Whether the filter that stands by is as it was.
@@ -150,72 +176,37 @@ fn stands(filter: &BloomFilter) -> bool {
     (filter.as_slice() == [5, 6].as_slice()) & (filter.num_hashes() == 3)
 }
 
+// Prints how words and a run ended, beside a filter that stays as it was.
+fn say_words(rt: &HostRuntime, filter: &BloomFilter) -> bool {
+    let plain = say(rt, "from_words", word_of(&plain_words(rt.alloc())));
+    let shared = say(rt, "shared from_words", word_of(&shared_words(rt.alloc())));
+    let course = say(rt, "run", word_of(&course(rt.alloc())));
+    plain & shared & course & stands(filter)
+}
+
 #[test]
 fn words_and_a_run_are_whole_or_refused(rt: HostRuntime) {
-    let Ok(filter) = standing(rt.alloc()) else {
-        assert!(rt; say(&rt, "from_words", NO_ROOM));
-        return;
+    let is_said = match standing(rt.alloc()) {
+        Ok(filter) => say_words(&rt, &filter),
+        Err(_refusal) => say(&rt, "from_words", NO_ROOM),
     };
-    let plain = word_of(&plain_words(rt.alloc()));
-    let shared = word_of(&shared_words(rt.alloc()));
-    let course = word_of(&course(rt.alloc()));
-    assert!(rt; stands(&filter));
-    assert!(rt; say(&rt, "from_words", plain));
-    assert!(rt; say(&rt, "shared from_words", shared));
-    assert!(rt; say(&rt, "run", course));
+    assert!(rt; is_said);
 }
 
-// Whether a filter of one word has the three passes that were asked for.
-fn opened(alloc: Global) -> Result<bool, FilterError> {
-    let words = [0].to_vec(alloc)?;
-    let (_filter, passes) = SeatedBloomFilter::new(alloc, words, 2, 3)?;
-    Ok(passes.len() == 3)
-}
-
-// Whether what one pass inserts is new, and is found by the other.
-fn is_shared(filter: &SeatedBloomFilter, first: &mut Pass, second: &mut Pass) -> bool
-    requires first { first.old.filter ≡ filter.now.table }
-    requires second { second.old.filter ≡ filter.now.table }
-    ensures { second.new.filter ≡ second.old.filter }
-{
-    let was_new = !filter.insert_hash_as(first, 1);
-    let is_found = filter.contains_hash_as(second, 1);
-    filter.meet(first, second);
-    was_new & is_found
-}
-
-// Whether a filter is closed to the word of hash 1, which has the positions 0 and 20.
-fn is_closed(closed: Result<Vec<u64>, FilterError>) -> Result<bool, FilterError> {
-    Ok(closed?.as_slice() == [1048577].as_slice())
-}
-
-// How `close` ended after two of the passes called, if there was room for the filter.
-fn closed(alloc: Global) -> Result<&'static str, FilterError> {
-    let words = [0].to_vec(alloc)?;
-    let (filter, mut passes) = SeatedBloomFilter::new(alloc, words, 2, 3)?;
-    let Some(mut first) = passes.pop() else {
-        unreachable!()
-    };
-    let Some(mut second) = passes.pop() else {
-        unreachable!()
-    };
-    if !is_shared(&filter, &mut first, &mut second) {
-        return Ok(WRONG);
-    }
-    Ok(word_of(&is_closed(filter.close(alloc, second))))
+// Prints how a seated filter ended, beside a filter that stays as it was.
+fn say_seated(rt: &HostRuntime, filter: &BloomFilter) -> bool {
+    let new = say(rt, "seated new", word_of(&opened(rt.alloc())));
+    let close = say(rt, "seated close", closed(rt.alloc()).unwrap_or(NO_ROOM));
+    new & close & stands(filter)
 }
 
 #[test]
 fn a_seated_filter_is_whole_or_refused(rt: HostRuntime) {
-    let Ok(filter) = standing(rt.alloc()) else {
-        assert!(rt; say(&rt, "seated new", NO_ROOM));
-        return;
+    let is_said = match standing(rt.alloc()) {
+        Ok(filter) => say_seated(&rt, &filter),
+        Err(_refusal) => say(&rt, "seated new", NO_ROOM),
     };
-    let opened = word_of(&opened(rt.alloc()));
-    let closed = closed(rt.alloc()).unwrap_or(NO_ROOM);
-    assert!(rt; stands(&filter));
-    assert!(rt; say(&rt, "seated new", opened));
-    assert!(rt; say(&rt, "seated close", closed));
+    assert!(rt; is_said);
 }
 
 fn filled<R: Threads>(
@@ -224,8 +215,12 @@ fn filled<R: Threads>(
     gate: Arc<Watching, Global>,
     parts: Vec<Vec<u64>>,
 ) -> Result<bool, FilterError> {
-    let filter = fill(rt, alloc, gate, Shape::new(64, 3)?, parts)?;
-    Ok((filter.as_slice() == [4296015873].as_slice()) & (filter.num_hashes() == 3))
+    match fill(rt, alloc, gate, Shape::new(64, 3)?, parts) {
+        Ok(filter) => Ok(
+            (filter.as_slice() == [4296015873].as_slice()) & (filter.num_hashes() == 3),
+        ),
+        Err(refusal) => Err(refusal),
+    }
 }
 
 // A gate, seen twice, and the parts.
@@ -233,8 +228,7 @@ type Ready = (Arc<Watching, Global>, Arc<Watching, Global>, Vec<Vec<u64>>);
 
 fn ready(alloc: Global) -> Result<Ready, FilterError> {
     let parts = parts_of(alloc, THREE)?;
-    let gate = Arc::new(alloc, gate_for(1))?;
-    let seen = Arc::try_clone(&gate)?;
+    let (gate, seen) = gate_of(alloc, 1)?;
     Ok((gate, seen, parts))
 }
 
@@ -242,11 +236,12 @@ fn ready(alloc: Global) -> Result<Ready, FilterError> {
 // has it.
 #[test]
 fn a_filled_filter_is_whole_or_refused_once_all_workers_ended(rt: HostRuntime) {
-    let Ok((gate, seen, parts)) = ready(rt.alloc()) else {
-        assert!(rt; say(&rt, "fill", NO_ROOM));
-        return;
+    let is_said = match ready(rt.alloc()) {
+        Ok((gate, seen, parts)) => {
+            let ended = filled(&rt, rt.alloc(), gate, parts);
+            (Arc::strong_count(&seen) == 1) & say(&rt, "fill", word_of(&ended))
+        }
+        Err(_refusal) => say(&rt, "fill", NO_ROOM),
     };
-    let word = word_of(&filled(&rt, rt.alloc(), gate, parts));
-    assert!(rt; Arc::strong_count(&seen) == 1);
-    assert!(rt; say(&rt, "fill", word));
+    assert!(rt; is_said);
 }

@@ -12,7 +12,7 @@ pub(crate) use builders::refusals;
 
 /// Every scene, by tables. A check takes longer for one long table than for two of half its length,
 /// so each table is of one subject.
-pub(crate) fn all() -> [&'static [Scene]; 10] {
+pub(crate) fn all() -> [&'static [Scene]; 12] {
     [
         by_hash::hashes(),
         by_hash::calls(),
@@ -22,8 +22,10 @@ pub(crate) fn all() -> [&'static [Scene]; 10] {
         sets::comparisons(),
         builders::scenes(),
         items::items(),
+        items::many(),
         items::by_builders(),
-        sessions::scenes(),
+        sessions::first(),
+        sessions::others(),
     ]
 }
 

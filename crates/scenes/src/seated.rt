@@ -121,6 +121,23 @@ fn are_words(closed: Result<Vec<u64>, FilterError>, words: &[u64]) -> bool {
     }
 }
 
+// Whether calls by two passes return what the row says, and those by the second once they met.
+fn answer_both(
+    filter: &SeatedBloomFilter,
+    first: &mut Pass,
+    second: &mut Pass,
+    row: &Seating,
+) -> bool
+    requires first { first.old.filter ≡ filter.now.table }
+    requires second { second.old.filter ≡ filter.now.table }
+    ensures { second.new.filter ≡ second.old.filter }
+{
+    let by_first = answers(filter, first, row.first);
+    let by_second = answers(filter, second, row.second);
+    filter.meet(first, second);
+    by_first & by_second & answers(filter, second, row.met)
+}
+
 // Whether the calls by the passes of a filter return, and it is closed, as its row says.
 fn is_kept(alloc: Global, row: &Seating) -> Result<bool, FilterError> {
     let words = row.words.to_vec(alloc)?;
@@ -128,22 +145,27 @@ fn is_kept(alloc: Global, row: &Seating) -> Result<bool, FilterError> {
     let Some(mut last) = passes.pop() else {
         unreachable!()
     };
-    let Some(mut first) = passes.pop() else {
-        let is_right = answers(&filter, &mut last, row.first);
-        return Ok(is_right & are_words(filter.close(alloc, last), row.closed));
+    let is_right = match passes.pop() {
+        Some(mut first) => answer_both(&filter, &mut first, &mut last, row),
+        None => answers(&filter, &mut last, row.first),
     };
-    let by_first = answers(&filter, &mut first, row.first);
-    let by_second = answers(&filter, &mut last, row.second);
-    filter.meet(&mut first, &mut last);
-    let is_right = by_first & by_second & answers(&filter, &mut last, row.met);
     Ok(is_right & are_words(filter.close(alloc, last), row.closed))
+}
+
+// Whether a filter answers and ends as its row says. If not, its name is told.
+fn is_right(rt: &HostRuntime, row: &Seating) -> bool {
+    tell_named(rt, row.name, matches!(is_kept(rt.alloc(), row), Ok(true)))
+}
+
+// Why no filter is made of no words.
+fn refusal_of_none(alloc: Global) -> Option<FilterError> {
+    SeatedBloomFilter::new(alloc, Vec::new(alloc), 2, 1).err()
 }
 
 #[test]
 fn passes_find_and_close_gives_what_was_given_or_inserted(rt: HostRuntime) {
     for row in SEATINGS {
-        assert!(rt; tell_named(&rt, row.name, matches!(is_kept(rt.alloc(), row), Ok(true))));
+        assert!(rt; is_right(&rt, row));
     }
-    let none = SeatedBloomFilter::new(rt.alloc(), Vec::new(rt.alloc()), 2, 1);
-    assert!(rt; none.err() == Some(FilterError::EmptyWords));
+    assert!(rt; refusal_of_none(rt.alloc()) == Some(FilterError::EmptyWords));
 }

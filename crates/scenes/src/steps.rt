@@ -88,29 +88,41 @@ fn one_word(alloc: Global, word: u64, other: u64) -> Result<MemoryStore, AllocEr
     Ok(MemoryStore::new(words, other))
 }
 
+// Whether a call over these words in memory replies and leaves what its row says.
+fn drives(store: &mut MemoryStore, row: &Driven) -> bool {
+    let (_word, _other, call, num_hashes, answer, after, _steps) = *row;
+    let found = drive(store, call, num_hashes.max(1));
+    (found == answer) & (store.words() == [after].as_slice())
+}
+
 // Whether a call over words in memory replies and leaves what its row says.
-fn is_driven(alloc: Global, row: &Driven) -> Result<bool, AllocError> {
-    let (word, other, call, num_hashes, answer, after, _steps) = *row;
-    let mut store = one_word(alloc, word, other)?;
-    let found = drive(&mut store, call, num_hashes.max(1));
-    Ok((found == answer) & (store.words() == [after].as_slice()))
+fn is_driven(alloc: Global, row: &Driven) -> bool {
+    match one_word(alloc, row.0, row.1) {
+        Ok(mut store) => drives(&mut store, row),
+        Err(_error) => false,
+    }
+}
+
+// The same over these words in a store that counts its steps.
+fn counts(tally: &mut Tally, row: &Driven) -> bool {
+    let (_word, _other, call, num_hashes, answer, after, steps) = *row;
+    let found = drive(tally, call, num_hashes.max(1));
+    let is_left = tally.memory.words() == [after].as_slice();
+    (found == answer) & (tally.steps == steps) & is_left
 }
 
 // The same over a store that counts its steps.
-fn is_counted(alloc: Global, row: &Driven) -> Result<bool, AllocError> {
-    let (word, other, call, num_hashes, answer, after, steps) = *row;
-    let memory = one_word(alloc, word, other)?;
-    let mut tally = Tally { memory, steps: 0 };
-    let found = drive(&mut tally, call, num_hashes.max(1));
-    let is_left = tally.memory.words() == [after].as_slice();
-    Ok((found == answer) & (tally.steps == steps) & is_left)
+fn is_counted(alloc: Global, row: &Driven) -> bool {
+    match one_word(alloc, row.0, row.1) {
+        Ok(memory) => counts(&mut Tally { memory, steps: 0 }, row),
+        Err(_error) => false,
+    }
 }
 
 #[test]
 fn a_call_is_driven_over_memory_and_over_a_store_that_counts(rt: HostRuntime) {
     for (i, row) in DRIVEN.iter().enumerate() {
-        let is_driven = matches!(is_driven(rt.alloc(), row), Ok(true));
-        let is_counted = matches!(is_counted(rt.alloc(), row), Ok(true));
-        assert!(rt; tell_row(&rt, i, is_driven & is_counted));
+        let is_right = is_driven(rt.alloc(), row) & is_counted(rt.alloc(), row);
+        assert!(rt; tell_row(&rt, i, is_right));
     }
 }

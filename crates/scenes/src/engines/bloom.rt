@@ -29,20 +29,21 @@ fn run(
         return (Err(Fault::Memory), 0);
     };
     let ended = serve(alloc, &mut filter, reader, writer);
-    (ended, filter.as_slice().first().copied().unwrap_or(0))
+    let word = filter.as_slice().first().copied().unwrap_or(0);
+    drop(filter);
+    (ended, word)
 }
 
 // Whether a run writes this, ends so, and leaves this as the filter's first word, if that is told.
 // An end is told once, and no reply waits while a read may wait, or at the end.
 fn serves(alloc: Global, row: &Row, reading: Reading, writing: Writing, word: Option<u64>) -> bool {
-    let (words, hashes, input, output, wanted) = *row;
     let seen = Seen::new();
-    let mut reader = Source::new(input.as_bytes(), reading, &seen);
+    let mut reader = Source::new(row.2.as_bytes(), reading, &seen);
     let mut writer = Sink::new(alloc, writing, &seen);
-    let (ended, left) = run(alloc, (words, hashes), &mut reader, &mut writer);
-    (ended == wanted)
+    let (ended, left) = run(alloc, (row.0, row.1), &mut reader, &mut writer);
+    (ended == row.4)
         & (word.unwrap_or(left) == left)
-        & (writer.written.as_slice() == output.as_bytes())
+        & writer.has(row.3.as_bytes())
         & ((seen.waiting.get() == 0) | (writing.flushes <= 1))
         & (seen.ends.get() <= 1)
         & (seen.early.get() == 0)

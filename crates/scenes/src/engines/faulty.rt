@@ -55,6 +55,13 @@ impl Seen {
             early: Cell::new(0),
         }
     }
+
+    /// Counts a read or an open if what was written waits for a flush.
+    pub(crate) fn note_read(&self) {
+        if self.waiting.get() > 0 {
+            self.early.set(self.early.get().saturating_add(1));
+        }
+    }
 }
 
 // What a reader gives that is asked again after its end.
@@ -91,9 +98,7 @@ impl<'a> Source<'a> {
 
 impl<'a> Read for Source<'a> {
     fn read(&mut self, buf: &mut [u8]) -> io::Result<usize> {
-        if self.seen.waiting.get() > 0 {
-            self.seen.early.set(self.seen.early.get().saturating_add(1));
-        }
+        self.seen.note_read();
         self.is_interrupted = self.reading.interrupts && !self.is_interrupted;
         if self.is_interrupted {
             return Err(ErrorKind::Interrupted.into());
@@ -195,6 +200,11 @@ impl<'a> Sink<'a> {
             is_interrupted: false,
             seen,
         }
+    }
+
+    /// Whether this is what was written.
+    pub(crate) fn has(&self, bytes: &[u8]) -> bool {
+        self.written.as_slice() == bytes
     }
 }
 

@@ -1,94 +1,16 @@
 //! The file that keeps a filter, in a folder of which calls fail, and in one of this machine.
 //! Clauses say what a crash leaves at each moment, and which files are refused; cases of `guard`
 //! what it makes of them.
+mod kept;
+mod on_host;
+
 use crate::telling::tell_row;
 use bloom_plain::{BloomFilter, FilterError};
-use guard_parts::{
-    FilterFault, FilterFile, Folder, HostFault, HostFolder, Kept, MemoryFault, MemoryFolder, Name,
-    Paths, Room, Unknown,
-};
+use guard_parts::{FilterFault, FilterFile, Kept, MemoryFault, MemoryFolder, Room};
+use kept::{ROOM, filter_with, finds, leaves_filter, saved};
+use on_host::{are_refused, are_synced};
 use std::alloc::Global;
 use std::fs;
-
-// The room of each filter.
-const ROOM: Room = Room {
-    total: 10,
-    taken: 3,
-};
-
-// A filter of 128 bits and two hashes in which this hash was inserted.
-fn filter_with(alloc: Global, hash: u64) -> Result<BloomFilter, FilterError> {
-    let mut filter = BloomFilter::with_num_bits(alloc, 128)?.hashes(2);
-    filter.insert_hash(hash);
-    Ok(filter)
-}
-
-// A folder after the file of a filter is saved in it, and whether that came about.
-fn saved(alloc: Global, folder: MemoryFolder, filter: &BloomFilter) -> (MemoryFolder, bool) {
-    let mut file = FilterFile::new(alloc, folder, false);
-    let is_saved = file.save(filter, ROOM).is_ok();
-    (file.into_folder(), is_saved)
-}
-
-// Whether a file is loaded with the words of a filter, and this room.
-fn loads(file: &mut FilterFile<MemoryFolder>, filter: &BloomFilter, wanted: Room) -> bool {
-    match file.load() {
-        Ok(Some((found, room))) => (found.as_slice() == filter.as_slice()) & (room == wanted),
-        Ok(None) => false,
-        Err(_fault) => false,
-    }
-}
-
-// Whether the file of a folder is found to have the words of a filter, and this room.
-fn finds(alloc: Global, folder: MemoryFolder, filter: &BloomFilter, wanted: Room) -> bool {
-    let mut file = FilterFile::new(alloc, folder, false);
-    loads(&mut file, filter, wanted)
-}
-
-// The bytes of the file of a folder.
-fn bytes_of(alloc: Global, folder: &MemoryFolder) -> Option<Vec<u8>> {
-    match &folder.standing().now {
-        Some(bytes) => bytes.as_slice().to_vec(alloc).ok(),
-        None => None,
-    }
-}
-
-// The bytes of the file of a filter.
-fn file_of(alloc: Global, filter: &BloomFilter) -> Option<Vec<u8>> {
-    let (folder, _is_saved) = saved(alloc, MemoryFolder::new(alloc), filter);
-    bytes_of(alloc, &folder)
-}
-
-// Whether there is a file, and it is this one, whole.
-fn is_whole(file: &Option<Vec<u8>>, wanted: &Option<Vec<u8>>) -> bool {
-    match (file, wanted) {
-        (Some(bytes), Some(wanted)) => bytes.as_slice() == wanted.as_slice(),
-        _ => false,
-    }
-}
-
-// Whether each file that a crash may leave is one of two, whole.
-fn leaves_either(folder: &MemoryFolder, one: &Option<Vec<u8>>, other: &Option<Vec<u8>>) -> bool {
-    let slot = folder.standing();
-    let mut leaves = !slot.is_any & (is_whole(&slot.now, one) | is_whole(&slot.now, other));
-    for file in slot.others.as_slice() {
-        leaves = leaves & (is_whole(file, one) | is_whole(file, other));
-    }
-    leaves
-}
-
-// Whether each file that a crash may leave is that of one of two filters, whole.
-fn leaves_filter(
-    alloc: Global,
-    folder: &MemoryFolder,
-    one: &BloomFilter,
-    other: &BloomFilter,
-) -> bool {
-    let one_file = file_of(alloc, one);
-    let other_file = file_of(alloc, other);
-    let are_made = one_file.is_some() & other_file.is_some();
-    are_made & leaves_either(folder, &one_file, &other_file)
-}
 
 // The calls of a save are, in their order: remove, write, sync, rename, sync of the folder. After
 // how many of them some fail, and how many; whether the save comes about then, and whether the new
@@ -134,18 +56,6 @@ fn are_safe(rt: &HostRuntime, old: &BloomFilter, new: &BloomFilter) -> bool {
         }
     }
     true
-}
-
-// The same, of two filters that are made.
-fn saves_are_safe(rt: &HostRuntime) -> Result<bool, FilterError> {
-    let old = filter_with(rt.alloc(), 1)?;
-    let new = filter_with(rt.alloc(), 2)?;
-    Ok(are_safe(rt, &old, &new))
-}
-
-#[test]
-fn a_save_that_stops_at_any_call_leaves_the_old_filter_or_the_new_one(rt: HostRuntime) {
-    assert!(rt; matches!(saves_are_safe(&rt), Ok(true)));
 }
 
 // The calls of an add to a file that is loaded are, in their order: read, sync, append, sync, sync
@@ -204,17 +114,35 @@ fn are_added(rt: &HostRuntime, old: &BloomFilter, new: &BloomFilter) -> bool {
     true
 }
 
-// The same, of a filter and one with the hash that is added.
-fn adds_are_right(rt: &HostRuntime) -> Result<bool, FilterError> {
+// Whether saves, or else adds, end as their rows say, of two filters that are made. The new filter
+// of adds has the hash of the old one too.
+fn are_right(rt: &HostRuntime, are_saves: bool) -> Result<bool, FilterError> {
     let old = filter_with(rt.alloc(), 1)?;
-    let mut new = filter_with(rt.alloc(), 1)?;
-    new.insert_hash(2);
-    Ok(are_added(rt, &old, &new))
+    let ended = match filter_with(rt.alloc(), 2) {
+        Ok(mut new) => {
+            let are_right = if are_saves {
+                are_safe(rt, &old, &new)
+            } else {
+                new.insert_hash(1);
+                are_added(rt, &old, &new)
+            };
+            drop(new);
+            Ok(are_right)
+        }
+        Err(refusal) => Err(refusal),
+    };
+    drop(old);
+    ended
+}
+
+#[test]
+fn a_save_that_stops_at_any_call_leaves_the_old_filter_or_the_new_one(rt: HostRuntime) {
+    assert!(rt; matches!(are_right(&rt, true), Ok(true)));
 }
 
 #[test]
 fn an_add_that_stops_at_any_call_leaves_the_filter_with_the_hash_or_without(rt: HostRuntime) {
-    assert!(rt; matches!(adds_are_right(&rt), Ok(true)));
+    assert!(rt; matches!(are_right(&rt, false), Ok(true)));
 }
 
 // How many bytes the file of a folder has.
@@ -253,7 +181,10 @@ fn length_after(alloc: Global, adds: u64) -> Result<usize, FilterError> {
     let (folder, _is_saved) = saved(alloc, MemoryFolder::new(alloc), &filter);
     let folder = lengthened(alloc, folder, &mut filter, adds / 2);
     let folder = lengthened(alloc, folder, &mut filter, adds / 2 + adds % 2);
-    Ok(length_of(&folder))
+    let length = length_of(&folder);
+    drop(folder);
+    drop(filter);
+    Ok(length)
 }
 
 // A number of adds, and how many bytes the file has then: a head of 64 bytes, two words and a piece
@@ -280,81 +211,27 @@ fn tells(file: &mut FilterFile<MemoryFolder>, filter: &BloomFilter) -> bool {
     is_unread & is_other & file.save(filter, ROOM).is_ok()
 }
 
-// Whether a read that fails is told, and then that the file is another store's, until one is saved.
-fn is_told(alloc: Global) -> Result<bool, FilterError> {
-    let filter = filter_with(alloc, 1)?;
-    let (mut folder, is_left) = saved(alloc, MemoryFolder::new(alloc), &filter);
+// Whether a read that fails is told, and then that the file of this filter is another store's,
+// until one is saved.
+fn is_told_of(alloc: Global, filter: &BloomFilter) -> bool {
+    let (mut folder, is_left) = saved(alloc, MemoryFolder::new(alloc), filter);
     folder.fail_after(0, 1);
     let mut file = FilterFile::new(alloc, folder, true);
-    let is_told = tells(&mut file, &filter);
-    Ok(is_left & is_told & finds(alloc, file.into_folder(), &filter, ROOM))
+    let is_told = tells(&mut file, filter);
+    is_left & is_told & finds(alloc, file.into_folder(), filter, ROOM)
+}
+
+// The same, of a filter that is made.
+fn is_told(alloc: Global) -> Result<bool, FilterError> {
+    let filter = filter_with(alloc, 1)?;
+    let is_told = is_told_of(alloc, &filter);
+    drop(filter);
+    Ok(is_told)
 }
 
 #[test]
 fn a_failed_read_and_the_filter_of_another_store_are_told(rt: HostRuntime) {
     assert!(rt; matches!(is_told(rt.alloc()), Ok(true)));
-}
-
-// The file of a folder of this machine.
-fn host_file<'a>(
-    rt: &'a HostRuntime,
-    standing: &'static str,
-    folder: &'static str,
-) -> FilterFile<HostFolder<'a, Unknown>> {
-    let paths = Paths {
-        standing,
-        fresh: "scene.filter.new",
-        folder,
-        store: "scene.store",
-    };
-    FilterFile::new(rt.alloc(), HostFolder::new(rt, paths, Unknown), false)
-}
-
-// Whether a folder with the name of the file is refused, since it is no file.
-fn is_unread(rt: &HostRuntime) -> bool {
-    let unread = host_file(rt, ".", ".").load().err();
-    unread == Some(FilterFault::Unread(HostFault::NoFile))
-}
-
-// Whether a save beside no store is refused, since that has no number.
-fn is_unowned(rt: &HostRuntime, filter: &BloomFilter) -> bool {
-    let unowned = host_file(rt, "scene.filter", ".").save(filter, ROOM).err();
-    unowned == Some(FilterFault::NoNumber)
-}
-
-// Whether the file of a store is written.
-fn write_store(rt: &HostRuntime) -> bool {
-    fs::write(rt, "scene.store", &[1u8; 64]).is_ok()
-}
-
-// Whether a save in a folder that is missing is refused, since no name can be synced there.
-fn is_unsynced(rt: &HostRuntime, filter: &BloomFilter) -> bool {
-    host_file(rt, "scene.filter", "scene.none")
-        .save(filter, ROOM)
-        .is_err()
-}
-
-// Whether all three are refused, the second before there is a store.
-fn are_refused(rt: &HostRuntime) -> Result<bool, FilterError> {
-    let filter = filter_with(rt.alloc(), 1)?;
-    let are_refused = is_unread(rt) & is_unowned(rt, &filter);
-    Ok(are_refused & write_store(rt) & is_unsynced(rt, &filter))
-}
-
-// Whether the file of a folder is synced by its name, and none is any more once a sync failed,
-// since there was no file.
-fn are_synced(rt: &HostRuntime) -> bool {
-    let paths = Paths {
-        standing: "scene.synced",
-        fresh: "scene.synced.new",
-        folder: ".",
-        store: "scene.store",
-    };
-    let mut folder = HostFolder::new(rt, paths, Unknown);
-    let is_written = fs::write(rt, "scene.synced", b"1").is_ok();
-    let is_synced = folder.sync_file(Name::Standing).is_ok();
-    let fails = folder.sync_file(Name::New).is_err();
-    is_written & is_synced & fails & folder.sync_file(Name::Standing).is_err()
 }
 
 #[test]

@@ -132,8 +132,15 @@ fn replies<T: Store + Drop>(
     said: &str,
 ) -> bool {
     match carry_out(alloc, guard, task) {
-        Ok(answer) => has_text(alloc, &answer, said),
-        Err(_trouble) => false,
+        Ok(answer) => {
+            let is_said = has_text(alloc, &answer, said);
+            drop(answer);
+            is_said
+        }
+        Err(trouble) => {
+            drop(trouble);
+            false
+        }
     }
 }
 
@@ -178,7 +185,11 @@ fn is_opened_and_right(rt: &HostRuntime, rate: Rate) -> bool {
         look_ups: &look_ups,
     };
     match guard_over(rt.alloc(), store, MemoryFolder::new(rt.alloc()), rate) {
-        Some(mut guard) => are_right(rt, &mut guard, &look_ups),
+        Some(mut guard) => {
+            let are_right = are_right(rt, &mut guard, &look_ups);
+            drop(guard);
+            are_right
+        }
         None => false,
     }
 }

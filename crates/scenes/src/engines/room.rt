@@ -1,14 +1,15 @@
 //! Runs whose own requests for memory may be refused. Their readers and writers take none.
+ghost use Rattle.summaries_engine.specs.Answers.{IsKeyed};
+
 use super::bloom::filter_of;
 use super::faulty::{ROOMY, SLOW, Seen, Sink, Source, WHOLE};
-use super::summaries::{A, Odd};
+use super::summaries::{A, Odd, built, loaded, write_found};
 use crate::telling::{NO_ROOM, WRONG, say};
 use bloom_engine::{Fault, serve};
 use bloom_plain::BloomFilter;
-use fastbloom::Shape;
 use std::alloc::Global;
 use std::thread::Threads;
-use summaries_engine::{Inputs, Stop, Told, ask, build, load};
+use summaries_engine::{AnyFilter, Stop};
 
 // How a run ended, if it left what it is to.
 fn word_of(ended: Result<(), Fault>, is_left: bool) -> &'static str {
@@ -27,24 +28,39 @@ fn has_word(filter: &BloomFilter, word: u64) -> bool {
     (filter.as_slice() == [word].as_slice()) & (filter.num_hashes() == 2)
 }
 
-// How a run ended. Hash 1 has the positions 0 and 20, and position 0 is set at first.
-fn served(alloc: Global, output: &mut Sink, seen: &Seen) -> &'static str {
-    let Ok(mut filter) = filter_of(alloc, 1, 2) else {
-        return NO_ROOM;
-    };
+// Whether a run that was whole, or was refused, leaves what it is to. Hash 1 has the positions 0
+// and 20, and position 0 is set at first.
+fn leaves(filter: &BloomFilter, written: &[u8], is_whole: bool) -> bool {
+    if is_whole {
+        has_word(filter, 1048577) & (written == b"false\n0000000000100001\n".as_slice())
+    } else {
+        has_word(filter, 1) & written.is_empty()
+    }
+}
+
+// How a run over an empty filter ended.
+fn served_over(
+    alloc: Global,
+    filter: &mut BloomFilter,
+    output: &mut Sink,
+    seen: &Seen,
+) -> &'static str {
     filter.insert_hash(0);
     if output.written.try_reserve(64).is_err() {
         return NO_ROOM;
     }
     let mut input = Source::new(b"i 1\nw\n", WHOLE, seen);
-    let ended = serve(alloc, &mut filter, &mut input, output);
-    let is_left = if ended.is_ok() {
-        let text = b"false\n0000000000100001\n".as_slice();
-        has_word(&filter, 1048577) & (output.written.as_slice() == text)
-    } else {
-        has_word(&filter, 1) & output.written.is_empty()
-    };
+    let ended = serve(alloc, filter, &mut input, output);
+    let is_left = leaves(filter, output.written.as_slice(), ended.is_ok());
     word_of(ended, is_left)
+}
+
+// The same, of a filter that is made.
+fn served(alloc: Global, output: &mut Sink, seen: &Seen) -> &'static str {
+    match filter_of(alloc, 1, 2) {
+        Ok(mut filter) => served_over(alloc, &mut filter, output, seen),
+        Err(_refusal) => NO_ROOM,
+    }
 }
 
 #[test]
@@ -54,50 +70,62 @@ fn a_run_is_whole_or_refused_before_its_first_line(rt: HostRuntime) {
     assert!(rt; say(&rt, "serve", served(rt.alloc(), &mut output, &seen)));
 }
 
+// How a call ended that stopped early.
+fn word_of_stop(stop: &Stop) -> &'static str {
+    match stop {
+        Stop::Memory => "Memory",
+        _ => WRONG,
+    }
+}
+
+// How a build ended.
+fn word_of_build(made: &Result<AnyFilter, Stop>) -> &'static str {
+    match made {
+        Ok(AnyFilter::Classic(filter)) => {
+            if has_word(filter, 281492425080832) {
+                "whole"
+            } else {
+                WRONG
+            }
+        }
+        Ok(AnyFilter::Blocked(_)) => WRONG,
+        Err(stop) => word_of_stop(stop),
+    }
+}
+
 // How two workers' build of the filter of the keys "a" and "b" ended. A thread's start asks for no
 // memory, so no worker is refused.
-fn built<R: Threads>(rt: &R, alloc: Global) -> &'static str {
-    let Ok(shape) = Shape::new(64, 2) else {
-        return WRONG;
-    };
+fn build_two<R: Threads + AllocGlobal>(rt: &R) -> &'static str {
     let seen = Seen::new();
     let odd = Odd {
         keys: b"b",
         reading: WHOLE,
         seen: &seen,
     };
-    match build::<10, _, _>(rt, alloc, shape, 2, &odd, &["first", "odd"]) {
-        Ok(filter) => {
-            if has_word(&filter, 281492425080832) {
-                "whole"
-            } else {
-                WRONG
-            }
-        }
-        Err(Stop::Memory) => "Memory",
-        Err(_stop) => WRONG,
-    }
+    let made = built(rt, &odd);
+    let word = word_of_build(&made);
+    drop(made);
+    word
 }
 
 #[test]
 fn a_build_is_whole_or_refused_for_memory(rt: HostRuntime) {
-    assert!(rt; say(&rt, "build", built(&rt, rt.alloc())));
+    assert!(rt; say(&rt, "build", build_two(&rt)));
+}
+
+// How look-ups ended, if they wrote what they are to.
+fn word_of_ask(ended: &Result<(), Stop>, is_written: bool) -> &'static str {
+    match ended {
+        Ok(()) => { if is_written { "whole" } else { WRONG } }
+        Err(stop) => word_of_stop(stop),
+    }
 }
 
 // How the look-ups of the keys "b" and "a" in the filter of "a" ended. The lines come a few bytes
 // at a time.
-fn asked(alloc: Global, output: &mut Sink, seen: &Seen) -> &'static str {
-    let of_filter = Odd {
-        keys: A,
-        reading: WHOLE,
-        seen,
-    };
-    let Ok(mut file) = of_filter.open("odd") else {
-        return WRONG;
-    };
-    let Ok((filter, _form)) = load(alloc, "odd", 64, &mut file) else {
-        return NO_ROOM;
-    };
+fn asked_of(alloc: Global, filter: &AnyFilter, output: &mut Sink, seen: &Seen) -> &'static str
+    requires { IsKeyed filter.now }
+{
     if output.written.try_reserve(64).is_err() {
         return NO_ROOM;
     }
@@ -106,16 +134,27 @@ fn asked(alloc: Global, output: &mut Sink, seen: &Seen) -> &'static str {
         reading: SLOW,
         seen,
     };
-    match ask::<10, _, _>(alloc, &filter, Told::Found, &odd, &["odd"], output) {
-        Ok(()) => {
-            if output.written.as_slice() == b"a\n".as_slice() {
-                "whole"
-            } else {
-                WRONG
-            }
+    let ended = write_found(alloc, &odd, filter, output);
+    word_of_ask(&ended, output.has(b"a\n"))
+}
+
+// The same, of a filter that is loaded.
+fn asked(alloc: Global, output: &mut Sink, seen: &Seen) -> &'static str {
+    let odd = Odd {
+        keys: A,
+        reading: WHOLE,
+        seen,
+    };
+    match loaded(alloc, &odd) {
+        Ok(filter) => {
+            let word = asked_of(alloc, &filter, output, seen);
+            drop(filter);
+            word
         }
-        Err(Stop::Memory) => "Memory",
-        Err(_stop) => WRONG,
+        Err(stop) => {
+            drop(stop);
+            NO_ROOM
+        }
     }
 }
 

@@ -68,6 +68,14 @@ const ITEMS: &'static [Scene] = &[
         (ContainsItem(Item::Number(42)), false),
         (Words(&[5, 6, 9]), true),
     ),
+];
+
+/// Items that go in one by one.
+pub(super) fn items() -> &'static [Scene] {
+    ITEMS
+}
+
+const MANY: &'static [Scene] = &[
     scene!(
         "three items go in one by one",
         Make::Words(&[0, 0], 0, Hashes(4)),
@@ -87,11 +95,15 @@ const ITEMS: &'static [Scene] = &[
         (Extend(1, 4), true),
         (Words(THREE), true),
     ),
+    is_large!(15),
+    is_large!(16),
+    is_large!(17),
+    is_large!(40),
 ];
 
-/// Items that go in.
-pub(super) fn items() -> &'static [Scene] {
-    ITEMS
+/// Items that go in beside others.
+pub(super) fn many() -> &'static [Scene] {
+    MANY
 }
 
 const BUILDERS: &'static [Scene] = &[
@@ -129,13 +141,9 @@ const BUILDERS: &'static [Scene] = &[
         Make::Rate(1, 2, 42, Expected(1)),
         (Hash(Item::Number(7), 8161168851798007701), true),
     ),
-    is_large!(15),
-    is_large!(16),
-    is_large!(17),
-    is_large!(40),
 ];
 
-/// Items that size a filter, or go in beside many others.
+/// Items that size a filter, or go in as it is built.
 pub(super) fn by_builders() -> &'static [Scene] {
     BUILDERS
 }

@@ -87,23 +87,55 @@ fn count_found(filter: &SeatedBloomFilter, pass: &mut Pass) -> u64
 // Two passes that met, and how many of their inserts returned false.
 type Met = (u64, Pass, Pass);
 
-// Has two threads insert all hashes, with the last of the passes.
-fn insert_by_two<R: Threads>(
+// Starts two threads that insert all hashes, with the last of the passes.
+fn start_two<R: Threads>(
+    rt: &R,
+    filter: &Arc<SeatedBloomFilter, Global>,
+    passes: &mut Vec<Pass>,
+) -> Result<(Child, Child), FilterError>
+    requires some { 2 ≤ vec_len passes.old }
+    requires of_filter { All (λ pass. pass.filter ≡ (arc_value filter.now).table) passes.old.items }
+    ensures first { IfOk result (λ two. two.0.promise.0.value ≡ arc_value filter.now) }
+    ensures second { IfOk result (λ two. two.1.promise.0.value ≡ arc_value filter.now) }
+    ensures left { IfOk result (λ two. vec_len passes.old ≡ vec_len passes.new + 2) }
+    ensures of_filter { All (λ pass. pass.filter ≡ (arc_value filter.now).table)
+        passes.new.items }
+{
+    let one = start(rt, filter, passes)?;
+    Ok((one, start(rt, filter, passes)?))
+}
+
+// Waits for two threads, and has their passes meet.
+fn join_two<R: Threads>(rt: &R, filter: &SeatedBloomFilter, two: (Child, Child)) -> Met
+    requires first { two.0.promise.0.value ≡ filter.now }
+    requires second { two.1.promise.0.value ≡ filter.now }
+    ensures first { result.1.filter ≡ filter.entry.now.table }
+    ensures second { result.2.filter ≡ filter.entry.now.table }
+{
+    let (new_of_one, mut first) = two.0.join(rt);
+    let (new_of_two, mut second) = two.1.join(rt);
+    filter.meet(&mut first, &mut second);
+    (new_of_one.saturating_add(new_of_two), first, second)
+}
+
+// Has four threads insert all hashes, each with a pass. The passes of the first and of the last are
+// given back once all met.
+fn insert_by_four<R: Threads>(
     rt: &R,
     filter: &Arc<SeatedBloomFilter, Global>,
     passes: &mut Vec<Pass>,
 ) -> Result<Met, FilterError>
-    requires some { 2 ≤ vec_len passes.old }
+    requires some { 4 ≤ vec_len passes.old }
     requires of_filter { All (λ pass. pass.filter ≡ (arc_value filter.now).table) passes.old.items }
     ensures first { IfOk result (λ met. met.1.filter ≡ (arc_value filter.now).table) }
-    ensures second { IfOk result (λ met. met.2.filter ≡ (arc_value filter.now).table) }
+    ensures fourth { IfOk result (λ met. met.2.filter ≡ (arc_value filter.now).table) }
 {
-    let one = start(rt, filter, passes)?;
-    let two = start(rt, filter, passes)?;
-    let (new_of_one, mut first) = one.join(rt);
-    let (new_of_two, mut second) = two.join(rt);
-    filter.meet(&mut first, &mut second);
-    Ok((new_of_one.saturating_add(new_of_two), first, second))
+    let two = start_two(rt, filter, passes)?;
+    let others = start_two(rt, filter, passes)?;
+    let (new, mut first, _second) = join_two(rt, filter, two);
+    let (new_of_others, mut third, fourth) = join_two(rt, filter, others);
+    filter.meet(&mut first, &mut third);
+    Ok((new.saturating_add(new_of_others), first, fourth))
 }
 
 // Whether four threads gain as many positions as one thread sets, each by one pass alone, and each
@@ -112,16 +144,7 @@ fn are_gained_once<R: Threads>(rt: &R, alloc: Global) -> Result<bool, FilterErro
     let words = vec![in alloc; 0u64; 64]?;
     let (filter, mut passes) = SeatedBloomFilter::new(alloc, words, 1, 4)?;
     let shared = Arc::new(alloc, filter)?;
-    let one = start(rt, &shared, &mut passes)?;
-    let two = start(rt, &shared, &mut passes)?;
-    let (new_of_others, mut third, mut fourth) = insert_by_two(rt, &shared, &mut passes)?;
-    let (new_of_one, mut first) = one.join(rt);
-    let (new_of_two, mut second) = two.join(rt);
-    shared.meet(&mut first, &mut second);
-    shared.meet(&mut first, &mut third);
-    let new = new_of_others
-        .saturating_add(new_of_one)
-        .saturating_add(new_of_two);
+    let (new, mut first, mut fourth) = insert_by_four(rt, &shared, &mut passes)?;
     let by_first = count_found(&shared, &mut first) == HASHES;
     let by_fourth = count_found(&shared, &mut fourth) == HASHES;
     Ok(by_first & by_fourth & (new == count_by_one(alloc)?))

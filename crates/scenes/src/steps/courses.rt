@@ -1,197 +1,17 @@
 //! Runs of calls whose steps come in the order of a schedule, with the courses that were worked out
 //! by hand. A course is what a run records: which call began, and each step with what it found.
+mod tables;
+
 use crate::telling::tell_named;
-use fastbloom::{Call, End, Event, Record, Step, run};
+use fastbloom::{Trace, run};
 use std::alloc::Global;
+use tables::{Course, disturbed, taken, undisturbed};
 
-// The words before, what is run on them, and the records and the words that this gives.
-struct Course {
-    name: &'static str,
-    words: &'static [u64],
-    num_hashes: u32,
-    parties: usize,
-    after: &'static [u64],
-    schedule: &'static [Event],
-    records: &'static [Record],
+// Whether a run recorded what a course says.
+fn is_of(trace: &Trace, course: &Course) -> bool {
+    let records = trace.records() == course.records;
+    (trace.start() == course.words) & records & (trace.words() == course.after)
 }
-
-// An event of a party's number.
-macro_rules! event {
-    ($party:literal begins $call:ident $(($hash:expr))?) => {
-        Event::Begin {
-            party: $party,
-            call: Call::$call $(($hash))?,
-        }
-    };
-    ($party:literal goes) => {
-        event!($party goes given 0)
-    };
-    ($party:literal goes given $given:literal) => {
-        Event::Go {
-            party: $party,
-            given: $given,
-        }
-    };
-}
-
-// A record of a party's number. A step that ends its call is the last or gives the reply.
-macro_rules! record {
-    ($party:literal begins $call:ident $(($hash:expr))?) => {
-        Record::Began {
-            party: $party,
-            call: Call::$call $(($hash))?,
-        }
-    };
-    ($party:literal makes $step:ident $at:tt finding $found:literal) => {
-        record!($party $step $at $found End::Running)
-    };
-    ($party:literal makes $step:ident $at:tt finding $found:literal ending) => {
-        record!($party $step $at $found End::Done)
-    };
-    ($party:literal makes $step:ident $at:tt finding $found:literal answering $answer:literal) => {
-        record!($party $step $at $found End::Answer($answer))
-    };
-    ($party:literal $step:ident $at:tt $found:literal $ended:expr) => {
-        Record::Did {
-            party: $party,
-            step: Step::$step $at,
-            found: $found,
-            ended: $ended,
-        }
-    };
-}
-
-// A name; the words, the number of hashes, that of the parties, and the words in the end; the
-// schedule; and what is recorded.
-macro_rules! course {
-    (
-        $name:literal, $words:tt, $num_hashes:literal, $parties:literal, $after:tt;
-        $([$($event:tt)+])* => $([$($record:tt)+])*
-    ) => {
-        Course {
-            name: $name,
-            words: &$words,
-            num_hashes: $num_hashes,
-            parties: $parties,
-            after: &$after,
-            schedule: &[$(event!($($event)+)),*],
-            records: &[$(record!($($record)+)),*],
-        }
-    };
-}
-
-const COURSES: &'static [Course] = &[
-    // Both inserts find one of their bits clear, so both reply false: inserts aren't single steps.
-    // Two steps found their bit clear, and two bits were gained.
-    course! {
-        "two inserts of one fresh hash both answer false",
-        [0], 2, 2, [1048577];
-        [0 begins Insert(1)] [1 begins Insert(1)] [0 goes] [1 goes] [1 goes] [0 goes] =>
-        [0 begins Insert(1)] [1 begins Insert(1)] [0 makes Or(0, 1) finding 0]
-        [1 makes Or(0, 1) finding 1] [1 makes Or(0, 1048576) finding 1 answering false]
-        [0 makes Or(0, 1048576) finding 1048577 answering false]
-    },
-    // The words were 1, 0 and 1048576, so positions 0 and 20 were never set together. The look-up
-    // is disturbed: between its first step and its last the clear cleared position 0 of its hash.
-    course! {
-        "a disturbed contains may be true at no moment",
-        [1], 2, 3, [1048576];
-        [0 begins Contains(1)] [0 goes] [1 begins Clear] [1 goes] [2 begins Union]
-        [2 goes given 1048576] [2 goes] [0 goes] =>
-        [0 begins Contains(1)] [0 makes Load(0) finding 1] [1 begins Clear]
-        [1 makes Zero(0) finding 0 ending] [2 begins Union] [2 makes Other(0) finding 1048576]
-        [2 makes Or(0, 1048576) finding 0 ending] [0 makes Load(0) finding 1048576 answering true]
-    },
-    course! {
-        "a union under way undoes a clear",
-        [5], 1, 2, [5];
-        [0 begins Union] [0 goes given 5] [1 begins Clear] [1 goes] [0 goes] =>
-        [0 begins Union] [0 makes Other(0) finding 5] [1 begins Clear]
-        [1 makes Zero(0) finding 0 ending] [0 makes Or(0, 5) finding 0 ending]
-    },
-    // Hash 1 has the positions 0, 40 and 64 of 128 bits. The clear clears position 64.
-    course! {
-        "a clear under way takes from an insert",
-        [0, 0], 3, 2, [1099511627777, 0];
-        [0 begins Clear] [0 goes] [1 begins Insert(1)] [1 goes] [1 goes] [1 goes] [0 goes]
-        [1 begins Contains(1)] [1 goes] [1 goes] [1 goes] =>
-        [0 begins Clear] [0 makes Zero(0) finding 0] [1 begins Insert(1)]
-        [1 makes Or(0, 1) finding 0] [1 makes Or(0, 1099511627776) finding 1]
-        [1 makes Or(1, 1) finding 0 answering false] [0 makes Zero(1) finding 0 ending]
-        [1 begins Contains(1)] [1 makes Load(0) finding 1099511627777]
-        [1 makes Load(0) finding 1099511627777] [1 makes Load(1) finding 0 answering false]
-    },
-    course! {
-        "events that make no sense record nothing",
-        [0], 1, 1, [0];
-        [0 goes] [7 begins Clear] [0 begins Clear] [0 begins Insert(0)] [0 goes] [0 goes] =>
-        [0 begins Clear] [0 makes Zero(0) finding 0 ending]
-    },
-    course! {
-        "a call that has ended makes no step",
-        [1048576], 2, 1, [1048576];
-        [0 begins Contains(1)] [0 goes] [0 goes] =>
-        [0 begins Contains(1)] [0 makes Load(0) finding 1048576 answering false]
-    },
-    course! {
-        "a run of no parties records nothing",
-        [9], 1, 0, [9];
-        [0 begins Clear] [0 goes] =>
-    },
-    // The look-up is undisturbed, since no step cleared a position of its hash. At the moment of
-    // its last load its hash isn't contained.
-    course! {
-        "an undisturbed contains is false before the insert ends",
-        [0], 2, 2, [1048577];
-        [0 begins Contains(1)] [1 begins Insert(1)] [1 goes] [0 goes] [0 goes] [1 goes] =>
-        [0 begins Contains(1)] [1 begins Insert(1)] [1 makes Or(0, 1) finding 0]
-        [0 makes Load(0) finding 1] [0 makes Load(0) finding 1 answering false]
-        [1 makes Or(0, 1048576) finding 1 answering false]
-    },
-    course! {
-        "a finished insert is found",
-        [0], 2, 2, [1048577];
-        [0 begins Insert(1)] [0 goes] [0 goes] [1 begins Contains(1)] [1 goes] [1 goes] =>
-        [0 begins Insert(1)] [0 makes Or(0, 1) finding 0]
-        [0 makes Or(0, 1048576) finding 1 answering false] [1 begins Contains(1)]
-        [1 makes Load(0) finding 1048577] [1 makes Load(0) finding 1048577 answering true]
-    },
-    // With one hash of 64 bits the position is the top six binary digits: hash 2^58 has position 1.
-    course! {
-        "five parties make all five calls",
-        [8], 1, 5, [2];
-        [0 begins Insert(1 << 58)] [1 begins Contains(1 << 58)] [2 begins Clear] [3 begins Union]
-        [4 begins Intersect] [2 goes] [0 goes] [1 goes] [3 goes given 4] [4 goes given 3] [3 goes]
-        [4 goes] =>
-        [0 begins Insert(1 << 58)] [1 begins Contains(1 << 58)] [2 begins Clear] [3 begins Union]
-        [4 begins Intersect] [2 makes Zero(0) finding 0 ending]
-        [0 makes Or(0, 2) finding 0 answering false] [1 makes Load(0) finding 2 answering true]
-        [3 makes Other(0) finding 4] [4 makes Other(0) finding 3]
-        [3 makes Or(0, 4) finding 2 ending] [4 makes And(0, 3) finding 6 ending]
-    },
-    // The first step leaves the call running, the second ends it.
-    course! {
-        "a take finds each word and leaves none",
-        [5, 2], 1, 1, [0, 0];
-        [0 begins Take] [0 goes] [0 goes] =>
-        [0 begins Take] [0 makes Take(0) finding 5] [0 makes Take(1) finding 2 ending]
-    },
-    course! {
-        "two takes share no bit",
-        [7], 1, 2, [0];
-        [0 begins Take] [1 begins Take] [1 goes] [0 goes] =>
-        [0 begins Take] [1 begins Take] [1 makes Take(0) finding 7 ending]
-        [0 makes Take(0) finding 0 ending]
-    },
-    // Two steps found their bit clear; the take found one of the bits, and one is left.
-    course! {
-        "a take between two steps of an insert loses no bit",
-        [0], 2, 2, [1048576];
-        [0 begins Insert(1)] [0 goes] [1 begins Take] [1 goes] [0 goes] =>
-        [0 begins Insert(1)] [0 makes Or(0, 1) finding 0] [1 begins Take]
-        [1 makes Take(0) finding 1 ending] [0 makes Or(0, 1048576) finding 0 answering false]
-    },
-];
 
 // Whether a run of a course's schedule gives its records, and its words in the end.
 fn is_taken(alloc: Global, course: &Course) -> bool {
@@ -199,22 +19,30 @@ fn is_taken(alloc: Global, course: &Course) -> bool {
     if words.is_empty() || words.len() >= 1 << 58 || course.num_hashes == 0 {
         return false;
     }
-    let Ok(trace) = run(
+    match run(
         alloc,
         words,
         course.num_hashes,
         course.parties,
         course.schedule,
-    ) else {
-        return false;
-    };
-    let records = trace.records() == course.records;
-    (trace.start() == words) & records & (trace.words() == course.after)
+    ) {
+        Ok(trace) => is_of(&trace, course),
+        Err(_refusal) => false,
+    }
+}
+
+// Whether runs take their courses.
+fn are_taken(rt: &HostRuntime, courses: &[Course]) -> bool {
+    let mut all = true;
+    for course in courses {
+        all &= tell_named(rt, course.name, is_taken(rt.alloc(), course));
+    }
+    all
 }
 
 #[test]
 fn calls_in_the_order_of_a_schedule_take_these_courses(rt: HostRuntime) {
-    for course in COURSES {
-        assert!(rt; tell_named(&rt, course.name, is_taken(rt.alloc(), course)));
-    }
+    assert!(rt; are_taken(&rt, disturbed()));
+    assert!(rt; are_taken(&rt, undisturbed()));
+    assert!(rt; are_taken(&rt, taken()));
 }

@@ -1,6 +1,6 @@
 //! Storms: threads that call one filter in turns of their own, at tables of tasks.
 use super::tasks::{Act, Task, work};
-use super::{join_all, start};
+use super::{Child, Shared, join_all, start};
 use crate::drawn::spread;
 use crate::telling::tell_named;
 use fastbloom::{AtomicBloomFilter, BloomFilter, FilterError};
@@ -162,26 +162,56 @@ fn is_made_alone(alloc: Global, storm: &Storm, words: &AtomicBloomFilter) -> boo
     alone.same_words(words)
 }
 
+// The filter of a storm, to be shared.
+fn shared_by(alloc: Global, storm: &Storm) -> Result<Shared, FilterError> {
+    Ok(Arc::new(alloc, made(alloc, storm)?)?)
+}
+
+// The threads of a storm whose filter is let go.
+fn let_go<R: Threads>(rt: &R, alloc: Global, storm: &Storm) -> Result<Vec<Child>, FilterError> {
+    let shared = shared_by(alloc, storm)?;
+    start(rt, alloc, &shared, storm.tasks)
+}
+
 // Whether a storm ends well whose filter is let go.
-fn lets_go<R: Threads>(rt: &R, alloc: Global, storm: &Storm) -> Result<bool, FilterError> {
-    let shared = Arc::new(alloc, made(alloc, storm)?)?;
-    let children = start(rt, alloc, &shared, storm.tasks)?;
-    drop(shared);
-    let (_new, wrong) = join_all(rt, children);
-    Ok(wrong == 0)
+fn lets_go<R: Threads>(rt: &R, alloc: Global, storm: &Storm) -> bool {
+    match let_go(rt, alloc, storm) {
+        Ok(children) => {
+            let (_new, wrong) = join_all(rt, children);
+            wrong == 0
+        }
+        Err(_refusal) => false,
+    }
+}
+
+// Whether a filter is left as a storm's end says, in which this many inserts returned false, less
+// the bits that were taken out.
+fn is_left(alloc: Global, storm: &Storm, filter: &AtomicBloomFilter, new: u64) -> bool {
+    let is_counted = (storm.num_hashes > 1) | (new == filter.count_ones() as u64);
+    let is_alone = match storm.end {
+        End::Alone => is_made_alone(alloc, storm, filter),
+        End::Kept | End::LetGo => true,
+    };
+    is_counted & is_alone & matches!(ends_as_new(alloc, filter), Ok(true))
+}
+
+// Whether the threads of a storm leave a filter as its end says.
+fn leave_well<R: Threads>(rt: &R, alloc: Global, storm: &Storm, shared: &Shared) -> bool {
+    match start(rt, alloc, shared, storm.tasks) {
+        Ok(children) => {
+            let (new, wrong) = join_all(rt, children);
+            (wrong == 0) & is_left(alloc, storm, shared, new)
+        }
+        Err(_refusal) => false,
+    }
 }
 
 // Whether a storm ends well whose filter is kept.
-fn keeps<R: Threads>(rt: &R, alloc: Global, storm: &Storm) -> Result<bool, FilterError> {
-    let shared = Arc::new(alloc, made(alloc, storm)?)?;
-    let children = start(rt, alloc, &shared, storm.tasks)?;
-    let (new, wrong) = join_all(rt, children);
-    let is_counted = (storm.num_hashes > 1) | (new == shared.count_ones() as u64);
-    let is_alone = match storm.end {
-        End::Alone => is_made_alone(alloc, storm, &shared),
-        End::Kept | End::LetGo => true,
-    };
-    Ok((wrong == 0) & is_counted & is_alone & ends_as_new(alloc, &shared)?)
+fn keeps<R: Threads>(rt: &R, alloc: Global, storm: &Storm) -> bool {
+    match shared_by(alloc, storm) {
+        Ok(shared) => leave_well(rt, alloc, storm, &shared),
+        Err(_refusal) => false,
+    }
 }
 
 #[test]
@@ -191,6 +221,6 @@ fn storms_lose_no_bit_and_leave_a_filter_that_is_as_new(rt: HostRuntime) {
             End::LetGo => lets_go(&rt, rt.alloc(), storm),
             End::Alone | End::Kept => keeps(&rt, rt.alloc(), storm),
         };
-        assert!(rt; tell_named(&rt, storm.name, matches!(ends, Ok(true))));
+        assert!(rt; tell_named(&rt, storm.name, ends));
     }
 }

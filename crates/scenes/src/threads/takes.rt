@@ -1,23 +1,27 @@
 //! Words that are taken out of a filter into which threads insert.
 use super::tasks::{Act, work};
-use super::{join_all, start};
+use super::{Child, Shared, join_all, start};
 use crate::drawn::spread;
 use fastbloom::{AtomicBloomFilter, BloomFilter, FilterError};
 use std::alloc::Global;
 use std::sync::Arc;
 use std::thread::Threads;
 
-// Unites words that were taken with those that are kept.
-fn keep(kept: &mut BloomFilter, words: Vec<u64>) -> bool {
-    let Ok(builder) = BloomFilter::from_vec(words) else {
-        return false;
-    };
-    let taken = builder.hashes(3);
-    if !kept.same_shape(&taken) {
+// Unites a filter with another, if it has its shape.
+fn unite(kept: &mut BloomFilter, taken: &BloomFilter) -> bool {
+    if !kept.same_shape(taken) {
         return false;
     }
-    kept.union(&taken);
+    kept.union(taken);
     true
+}
+
+// Unites words that were taken with those that are kept.
+fn keep(kept: &mut BloomFilter, words: Vec<u64>) -> bool {
+    match BloomFilter::from_vec(words) {
+        Ok(builder) => unite(kept, &builder.hashes(3)),
+        Err(_refusal) => false,
+    }
 }
 
 // Takes the words out, and unites those that are kept with them.
@@ -28,13 +32,27 @@ fn take(alloc: Global, filter: &AtomicBloomFilter, kept: &mut BloomFilter) -> bo
     }
 }
 
-// The filter that one thread makes of the hashes.
-fn made_alone(alloc: Global) -> Result<BloomFilter, FilterError> {
-    let mut filter = BloomFilter::with_num_bits(alloc, 4096)?.hashes(3);
+// A plain filter that is empty.
+fn plain_filter(alloc: Global) -> Result<BloomFilter, FilterError> {
+    Ok(BloomFilter::with_num_bits(alloc, 4096)?.hashes(3))
+}
+
+// Inserts all hashes.
+fn insert_all(filter: &mut BloomFilter) {
     for i in 0..2000u64 {
         filter.insert_hash(spread(i));
     }
-    Ok(filter)
+}
+
+// Whether a filter is that which one thread makes of the hashes.
+fn is_made_alone(alloc: Global, filter: &BloomFilter) -> bool {
+    match plain_filter(alloc) {
+        Ok(mut alone) => {
+            insert_all(&mut alone);
+            alone == *filter
+        }
+        Err(_refusal) => false,
+    }
 }
 
 // Takes 100 times. Look-ups in between spread this over the time of the inserts.
@@ -52,19 +70,45 @@ fn empty_filter(alloc: Global) -> Result<AtomicBloomFilter, FilterError> {
     AtomicBloomFilter::with_num_bits(alloc, 4096)?.hashes(alloc, 3)
 }
 
-// Whether no bit is lost: each is among the words taken, or still there at the end.
-fn lose_no_bit<R: Threads>(rt: &R, alloc: Global) -> Result<bool, FilterError> {
-    let mut kept = BloomFilter::with_num_bits(alloc, 4096)?.hashes(3);
-    let shared = Arc::new(alloc, empty_filter(alloc)?)?;
-    let tasks = [(Act::Insert, 0, 1000), (Act::Insert, 1000, 2000)];
-    let children = start(rt, alloc, &shared, &tasks)?;
-    let are_taken = take_often(alloc, &shared, &mut kept);
+// Takes words out while these threads insert, and the rest once they ended: whether none are left.
+fn take_beside<R: Threads>(
+    rt: &R,
+    alloc: Global,
+    children: Vec<Child>,
+    shared: &AtomicBloomFilter,
+    kept: &mut BloomFilter,
+) -> bool {
+    let are_taken = take_often(alloc, shared, kept);
     join_all(rt, children);
-    let is_last = take(alloc, &shared, &mut kept) & (shared.count_ones() == 0);
-    Ok(are_taken & is_last & (kept == made_alone(alloc)?))
+    are_taken & take(alloc, shared, kept) & (shared.count_ones() == 0)
+}
+
+// Takes out the words that two threads insert.
+fn take_all<R: Threads>(rt: &R, alloc: Global, shared: &Shared, kept: &mut BloomFilter) -> bool {
+    let tasks = [(Act::Insert, 0, 1000), (Act::Insert, 1000, 2000)];
+    match start(rt, alloc, shared, &tasks) {
+        Ok(children) => take_beside(rt, alloc, children, shared, kept),
+        Err(_refusal) => false,
+    }
+}
+
+// A filter that is to be shared, and one for the words that are taken out of it. Both are empty.
+fn empty_filters(alloc: Global) -> Result<(Shared, BloomFilter), FilterError> {
+    let shared = Arc::new(alloc, empty_filter(alloc)?)?;
+    Ok((shared, plain_filter(alloc)?))
+}
+
+// Whether no bit is lost: each is among the words taken, or still there at the end.
+fn lose_no_bit<R: Threads>(rt: &R, alloc: Global) -> bool {
+    match empty_filters(alloc) {
+        Ok((shared, mut kept)) => {
+            take_all(rt, alloc, &shared, &mut kept) & is_made_alone(alloc, &kept)
+        }
+        Err(_refusal) => false,
+    }
 }
 
 #[test]
 fn words_taken_and_words_left_are_all_that_was_inserted(rt: HostRuntime) {
-    assert!(rt; matches!(lose_no_bit(&rt, rt.alloc()), Ok(true)));
+    assert!(rt; lose_no_bit(&rt, rt.alloc()));
 }

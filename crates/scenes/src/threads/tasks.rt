@@ -1,6 +1,6 @@
 //! What threads do with the filter that they share, and what they count.
 use crate::drawn::spread;
-use fastbloom::{AtomicBloomFilter, BloomFilter, FilterError};
+use fastbloom::{AtomicBloomFilter, BloomFilter, FilterData, FilterError};
 use std::alloc::Global;
 
 /// What a thread does at each of its turns.
@@ -78,59 +78,104 @@ fn filter_of(alloc: Global, word: u64) -> Result<AtomicBloomFilter, FilterError>
     AtomicBloomFilter::from_vec(vec![in alloc; word]?)?.hashes(alloc, 1)
 }
 
-// Whether a look-up of a position is right each time that it is set and cleared. The position of a
-// hash among 64 is its six highest bits.
-fn is_always_flipped(
+// The same in 10,000 turns.
+fn is_flipped_often(
+    filter: &AtomicBloomFilter,
+    hash: u64,
+    without: &AtomicBloomFilter,
+    alone: &AtomicBloomFilter,
+) -> bool {
+    let mut is_right = true;
+    for _ in 0..10_000 {
+        is_right &= is_flipped(filter, hash, without, alone);
+    }
+    is_right
+}
+
+// The same, with the filter in which the position alone is clear.
+fn is_flipped_by(
     alloc: Global,
     filter: &AtomicBloomFilter,
     position: u64,
-) -> Result<bool, FilterError> {
-    let without = filter_of(alloc, !(1 << (position % 64)))?;
-    let alone = filter_of(alloc, 1 << (position % 64))?;
-    let mut is_right = true;
-    for _ in 0..10_000 {
-        is_right &= is_flipped(filter, position << 58, &without, &alone);
+    without: &AtomicBloomFilter,
+) -> bool {
+    match filter_of(alloc, 1 << (position % 64)) {
+        Ok(alone) => is_flipped_often(filter, position << 58, without, &alone),
+        Err(_refusal) => false,
     }
-    Ok(is_right)
 }
 
-// How many bits are set in the words that are taken out.
-fn count_taken(alloc: Global, filter: &AtomicBloomFilter) -> Result<u64, FilterError> {
-    let words = filter.take_words(alloc)?;
-    Ok(BloomFilter::from_vec(words)?.hashes(1).count_ones() as u64)
+// Whether a look-up of a position is right each time that it is set and cleared. The position of a
+// hash among 64 is its six highest bits.
+fn is_always_flipped(alloc: Global, filter: &AtomicBloomFilter, position: u64) -> bool {
+    match filter_of(alloc, !(1 << (position % 64))) {
+        Ok(without) => is_flipped_by(alloc, filter, position, &without),
+        Err(_refusal) => false,
+    }
 }
 
-// Whether the filter's data have the zero key and its shape.
-fn has_data(alloc: Global, filter: &AtomicBloomFilter) -> Result<bool, FilterError> {
-    let form = filter.to_data(alloc)?;
+// How many bits are set in words, less than none, and whether there was room to count them.
+fn less_ones(words: Vec<u64>) -> (u64, bool) {
+    match BloomFilter::from_vec(words) {
+        Ok(builder) => {
+            let ones = builder.hashes(1).count_ones();
+            (0u64.wrapping_sub(ones as u64), true)
+        }
+        Err(_refusal) => (0, false),
+    }
+}
+
+// The same of the words that are taken out.
+fn take_out(alloc: Global, filter: &AtomicBloomFilter) -> (u64, bool) {
+    match filter.take_words(alloc) {
+        Ok(words) => less_ones(words),
+        Err(_refusal) => (0, false),
+    }
+}
+
+// Whether a copy of the filter has its shape.
+fn is_copied(alloc: Global, filter: &AtomicBloomFilter) -> bool {
+    match filter.try_clone(alloc) {
+        Ok(copy) => copy.same_shape(filter),
+        Err(_refusal) => false,
+    }
+}
+
+// Whether data have the zero key and the filter's shape.
+fn are_data(alloc: Global, form: FilterData, filter: &AtomicBloomFilter) -> bool {
     let has_no_key = (form.k0 == 0) & (form.k1 == 0);
-    let other = AtomicBloomFilter::from_data(alloc, form)?;
-    Ok(has_no_key & other.same_shape(filter))
+    match AtomicBloomFilter::from_data(alloc, form) {
+        Ok(other) => has_no_key & other.same_shape(filter),
+        Err(_refusal) => false,
+    }
+}
+
+// Whether the filter's data do.
+fn has_data(alloc: Global, filter: &AtomicBloomFilter) -> bool {
+    match filter.to_data(alloc) {
+        Ok(form) => are_data(alloc, form, filter),
+        Err(_refusal) => false,
+    }
 }
 
 // How many inserts of a turn returned false, less the bits that it took out, and whether its
-// replies were right.
-fn turn(
-    alloc: Global,
-    filter: &AtomicBloomFilter,
-    act: Act,
-    i: u64,
-) -> Result<(u64, bool), FilterError> {
+// replies were right and there was memory.
+fn turn(alloc: Global, filter: &AtomicBloomFilter, act: Act, i: u64) -> (u64, bool) {
     match act {
         Act::Insert => {
             filter.contains_hash(spread(spread(i)));
-            Ok((!filter.insert_hash(spread(i)) as u64, true))
+            (!filter.insert_hash(spread(i)) as u64, true)
         }
-        Act::InsertItem => Ok((!filter.insert(&i) as u64, true)),
-        Act::Find => Ok((0, filter.contains_hash(spread(i % 100)))),
+        Act::InsertItem => (!filter.insert(&i) as u64, true),
+        Act::Find => (0, filter.contains_hash(spread(i % 100))),
         Act::Call => {
             call_by(alloc, filter, spread(i));
-            Ok((0, true))
+            (0, true)
         }
-        Act::Take => Ok((0u64.wrapping_sub(count_taken(alloc, filter)?), true)),
-        Act::Clone => Ok((0, filter.try_clone(alloc)?.same_shape(filter))),
-        Act::Data => Ok((0, has_data(alloc, filter)?)),
-        Act::Flip(position) => Ok((0, is_always_flipped(alloc, filter, position)?)),
+        Act::Take => take_out(alloc, filter),
+        Act::Clone => (0, is_copied(alloc, filter)),
+        Act::Data => (0, has_data(alloc, filter)),
+        Act::Flip(position) => (0, is_always_flipped(alloc, filter, position)),
     }
 }
 
@@ -141,13 +186,9 @@ pub(super) fn work(alloc: Global, filter: &AtomicBloomFilter, task: Task) -> (u6
     let mut new = 0u64;
     let mut wrong = 0u64;
     for i in first..end {
-        match turn(alloc, filter, act, i) {
-            Ok((more, is_right)) => {
-                new = new.wrapping_add(more);
-                wrong = wrong.wrapping_add(!is_right as u64);
-            }
-            Err(_refused) => wrong = wrong.wrapping_add(1),
-        }
+        let (more, is_right) = turn(alloc, filter, act, i);
+        new = new.wrapping_add(more);
+        wrong = wrong.wrapping_add(!is_right as u64);
     }
     (new, wrong)
 }

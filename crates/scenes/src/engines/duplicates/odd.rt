@@ -26,9 +26,7 @@ impl<'a> Inputs for Sources<'a> {
     ghost fails = { λ _ _ _. Unit {0} };
 
     fn open_next(&mut self) -> io::Result<Option<Source<'a>>> {
-        if self.seen.waiting.get() > 0 {
-            self.seen.early.set(self.seen.early.get().saturating_add(1));
-        }
+        self.seen.note_read();
         if self.at == self.broken {
             return Err(ErrorKind::NotFound.into());
         }

@@ -1,42 +1,15 @@
 //! Runs, what each writes, and how it ends; and what each fault tells.
-use crate::engines::faulty::{
-    FLUSHED_ONCE, FULL, NARROW, ROOMY, Reading, SLOW, STUCK, UNFLUSHED, WHOLE, Writing,
-};
+mod run;
+
+use crate::engines::faulty::{FLUSHED_ONCE, FULL, NARROW, SLOW, STUCK, UNFLUSHED};
 use bloom_plain::{FilterError, GrowingError};
 use duplicates_engine::{Fault, Tally, Total, Written};
+use run::{LATE, PASSING};
+pub(crate) use run::{PLAIN, Run};
 use std::io::ErrorKind;
-
-/// What a run is to be.
-#[derive(Clone, Copy)]
-pub(super) struct Run {
-    pub(super) inputs: &'static [&'static str],
-    /// The number of the input whose open fails.
-    pub(super) broken: usize,
-    pub(super) longest: usize,
-    pub(super) skips_longer: bool,
-    pub(super) written: Written,
-    pub(super) reading: Reading,
-    pub(super) writing: Writing,
-    /// How many lines the sieve takes, and why it refuses the next.
-    pub(super) lines: u64,
-    pub(super) refusal: GrowingError,
-}
 
 /// A run, what it writes, and how it ends.
 pub(super) type Row = (Run, &'static str, Result<Total, Fault>);
-
-/// Nothing is odd.
-pub(super) const PLAIN: Run = Run {
-    inputs: &["ab\nc\nab\n\nd"],
-    broken: 99,
-    longest: 9,
-    skips_longer: false,
-    written: Written::New,
-    reading: WHOLE,
-    writing: ROOMY,
-    lines: 99,
-    refusal: GrowingError::RateOverflow,
-};
 
 const OUTPUT: &str = "ab\nc\n\nd\n";
 
@@ -47,22 +20,9 @@ const ALL: Result<Total, Fault> = Ok(Total {
 
 const SEVERAL: &'static [&'static str] = &["ab\nc", "", "c\nd\n", "ab\n\n"];
 
-const PASSING: Run = Run {
-    inputs: &["abc\nab\n", "abc\nab\nd"],
-    longest: 2,
-    skips_longer: true,
-    ..PLAIN
-};
-
 const PASSED: Total = Total {
     tally: Tally { read: 5, held: 3 },
     longer: 2,
-};
-
-const LATE: Run = Run {
-    written: Written::HeldBack,
-    lines: 3,
-    ..PLAIN
 };
 
 /// Runs over a plain filter.

@@ -130,21 +130,22 @@ type Failed = Guard<Failing, Kept>;
 
 // Whether a change failed since the store did.
 fn is_store<T: Drop, F: Drop>(ended: Result<T, Fault<FilterError, F>>) -> bool {
-    match ended {
-        Err(Fault::Store(FilterError::Worker)) => true,
-        _ => false,
-    }
+    let is_store = matches!(&ended, Err(Fault::Store(FilterError::Worker)));
+    drop(ended);
+    is_store
 }
 
 // Whether a task of lines stopped since the store failed, and at this line.
 fn is_at<T: Drop, F: Drop>(ended: Result<T, Stop<FilterError, F>>, number: u64, done: u64) -> bool {
-    match ended {
-        Err(stop) => match stop.why {
+    let is_at = match &ended {
+        Err(stop) => match &stop.why {
             Why::Store(FilterError::Worker) => (stop.number == number) & (stop.done == done),
             _ => false,
         },
         Ok(_) => false,
-    }
+    };
+    drop(ended);
+    is_at
 }
 
 // Whether a load stops since the store failed, and at this line.
@@ -183,7 +184,11 @@ fn is_right(alloc: Global, row: &Row, rate: Rate) -> bool {
     let (_, call, left, _, _, _, _) = *row;
     let store = Failing { alloc, call, left };
     match guard_over(alloc, store, MemoryFolder::new(alloc), rate) {
-        Some(mut guard) => is_told(alloc, &mut guard, row),
+        Some(mut guard) => {
+            let is_told = is_told(alloc, &mut guard, row);
+            drop(guard);
+            is_told
+        }
         None => false,
     }
 }

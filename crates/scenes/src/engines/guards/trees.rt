@@ -2,154 +2,18 @@
 //! error it returns.
 mod damaged;
 mod guarded;
+mod rows;
+mod shelf;
 mod texts;
 
 use crate::telling::tell_row;
 use guard_engine::Store;
 use guard_store::{EntryTrees, StoreFault, number_store};
+use rows::{CALLS, Call, KEYS, Pairs, Row, SORTED};
+use shelf::{Shelf, shelf_of};
 use sqlite_trees::memory::MemStore;
-use sqlite_trees::schema::Object;
-use sqlite_trees::store::{Alter, Shape, Store as _};
-use sqlite_value::keys::Order;
+use sqlite_trees::store::{Alter, Store as _};
 use std::alloc::Global;
-
-// The table of entries over trees in memory.
-#[derive(Drop)]
-struct Shelf {
-    table: EntryTrees<MemStore>,
-}
-
-impl Store for Shelf {
-    ghost use Rattle.std.specs.Prelude.{false};
-
-    type Error = StoreFault;
-
-    ghost sight = { λ _. record {
-      has = λ _ _. Unit {0};
-      kept = λ _ _. Unit {0};
-      in_batch = false;
-      is_fit = Unit {0};
-    } };
-
-    // No clause speaks of its entries.
-    ghost is_known = { λ _. ⊥ };
-
-    fn keys(&mut self) -> Result<Vec<String>, StoreFault> {
-        self.table.keys()
-    }
-
-    fn value_of(&mut self, key: &str) -> Result<Option<String>, StoreFault> {
-        self.table.value_of(key)
-    }
-
-    fn begin(&mut self) -> Result<(), StoreFault> {
-        self.table.begin()
-    }
-
-    fn add(&mut self, key: &str, value: &str) -> Result<(), StoreFault> {
-        self.table.add(key, value)
-    }
-
-    fn remove(&mut self, key: &str) -> Result<(), StoreFault> {
-        self.table.remove(key)
-    }
-
-    fn commit(&mut self) -> Result<(), StoreFault> {
-        self.table.commit()
-    }
-
-    fn roll_back(&mut self) -> Result<(), StoreFault> {
-        self.table.roll_back()
-    }
-}
-
-// An object of the schema, without its SQL text.
-const fn object_of(shape: Shape, kind: &'static str, name: &'static str) -> Object<'static> {
-    Object {
-        shape,
-        kind,
-        name,
-        table: "entry",
-        reals: 0,
-        sql: None,
-    }
-}
-
-// An empty table of entries, and the index of its names.
-fn shelf_of(alloc: Global) -> Option<Shelf> {
-    let objects = [
-        object_of(Shape::Table, "table", "entry"),
-        object_of(
-            Shape::Index(Order::PLAIN),
-            "index",
-            "sqlite_autoindex_entry_1",
-        ),
-    ];
-    let Ok(store) = MemStore::new(alloc, &objects) else {
-        return None;
-    };
-    let table = EntryTrees::over(alloc, store);
-    Some(Shelf { table })
-}
-
-// A call of a store.
-#[derive(Clone, Copy)]
-enum Call {
-    Begin,
-    Add(&'static str, &'static str),
-    Remove(&'static str),
-    Commit,
-    RollBack,
-}
-
-type Pairs = &'static [(&'static str, &'static str)];
-
-const NOTHING: Pairs = &[];
-
-const ONE: Pairs = &[("crab", "red")];
-
-const FIRST: Pairs = &[("crab", "red"), ("", "blue")];
-
-const LAST: Pairs = &[("", "blue"), ("ants", "black")];
-
-const THREE: Pairs = &[("crab", "red"), ("", "blue"), ("ants", "black")];
-
-const OUTER: Pairs = &[("crab", "red"), ("ants", "black")];
-
-const CHANGED: Pairs = &[("crab", "red"), ("ants", "black"), ("", "pink")];
-
-// A call, its error if there is one, and the entries after it, in the order in which they came.
-type Row = (Call, Option<StoreFault>, Pairs);
-
-// Calls one after the other on an empty table.
-const CALLS: &'static [Row] = &[
-    // Outside of a batch nothing changes.
-    (Call::Add("crab", "red"), Some(StoreFault::Shut), NOTHING),
-    (Call::Remove("crab"), Some(StoreFault::Shut), NOTHING),
-    (Call::Begin, None, NOTHING),
-    (Call::Add("crab", "red"), None, ONE),
-    (Call::Add("", "blue"), None, FIRST),
-    (Call::Add("ants", "black"), None, THREE),
-    (Call::Commit, None, THREE),
-    (Call::Add("bass", "pink"), Some(StoreFault::Shut), THREE),
-    // A batch that is taken back.
-    (Call::Begin, None, THREE),
-    (Call::Remove("crab"), None, LAST),
-    (Call::Remove("cra"), None, LAST),
-    (Call::RollBack, None, THREE),
-    // A taken key takes the batch back.
-    (Call::Begin, None, THREE),
-    (Call::Remove("ants"), None, FIRST),
-    (Call::Add("crab", "pink"), Some(StoreFault::Taken), THREE),
-    (Call::Remove("ants"), Some(StoreFault::Shut), THREE),
-    // A key that was removed may be added again.
-    (Call::Begin, None, THREE),
-    (Call::Remove(""), None, OUTER),
-    (Call::Add("", "pink"), None, CHANGED),
-    (Call::Commit, None, CHANGED),
-];
-
-const KEYS: &'static [&'static str] = &["crab", "", "ants", "cra", "zander"];
 
 // Whether there is an entry, and it has this key and this value.
 fn is_pair(found: Option<&(String, String)>, key: &str, value: &str) -> bool {
@@ -243,7 +107,11 @@ fn are_made(rt: &HostRuntime, shelf: &mut Shelf) -> bool {
 // The same, of an empty table.
 fn are_made_in_order(rt: &HostRuntime) -> bool {
     match shelf_of(rt.alloc()) {
-        Some(mut shelf) => are_made(rt, &mut shelf),
+        Some(mut shelf) => {
+            let are_made = are_made(rt, &mut shelf);
+            drop(shelf);
+            are_made
+        }
         None => false,
     }
 }
@@ -261,9 +129,6 @@ fn add_keys(shelf: &mut Shelf) -> bool {
     }
     are_added
 }
-
-// The keys in the order of the index.
-const SORTED: &'static [&'static str] = &["", "ants", "cra", "crab", "zander"];
 
 // Whether there is a key, and it is this one.
 fn is_key(found: Option<&String>, key: &str) -> bool {
@@ -294,7 +159,11 @@ fn lists_sorted(shelf: &mut Shelf) -> bool {
 // The same, of an empty table.
 fn are_listed_sorted(alloc: Global) -> bool {
     match shelf_of(alloc) {
-        Some(mut shelf) => lists_sorted(&mut shelf),
+        Some(mut shelf) => {
+            let are_sorted = lists_sorted(&mut shelf);
+            drop(shelf);
+            are_sorted
+        }
         None => false,
     }
 }
@@ -306,20 +175,23 @@ fn the_keys_are_listed_in_the_order_of_the_index(rt: HostRuntime) {
 
 // Whether a store takes a number once, and commits it. 0 stands for no number.
 fn takes_number(table: &mut EntryTrees<MemStore>) -> bool {
+    let mut are_taken = true;
     for (number, wanted) in [(0, 0), (7, 7), (9, 7), (0, 7)] {
-        let is_made = number_store(table, number).is_ok();
-        if !is_made || table.store.version() != wanted {
-            return false;
-        }
+        are_taken &= number_store(table, number).is_ok();
+        are_taken &= table.store.version() == wanted;
     }
     table.store.rollback();
-    table.store.version() == 7
+    are_taken & (table.store.version() == 7)
 }
 
 // The same, of a store that has no number.
 fn is_numbered_once(alloc: Global) -> bool {
     match shelf_of(alloc) {
-        Some(mut shelf) => takes_number(&mut shelf.table),
+        Some(mut shelf) => {
+            let is_taken = takes_number(&mut shelf.table);
+            drop(shelf);
+            is_taken
+        }
         None => false,
     }
 }

@@ -1,5 +1,6 @@
 //! A table that lacks what its index has, or the other way round, as a damaged file may.
-use super::{Shelf, is_value, shelf_of};
+use super::is_value;
+use super::shelf::{Shelf, shelf_of};
 use crate::telling::tell_row;
 use guard_engine::Store;
 use guard_store::{EntryTrees, StoreFault};
@@ -105,7 +106,10 @@ fn add_pairs(shelf: &mut Shelf) -> bool {
 
 // Whether both pairs come into an empty table, and then a harm does.
 fn is_harmed(alloc: Global, shelf: &mut Shelf, what: Harm) -> bool {
-    add_pairs(shelf) && make_harm(&mut shelf.table.store, &mut Row::new(alloc), what)
+    let mut row = Row::new(alloc);
+    let is_harmed = add_pairs(shelf) && make_harm(&mut shelf.table.store, &mut row, what);
+    drop(row);
+    is_harmed
 }
 
 // A table of both pairs, to which a harm came, and which is just opened.
@@ -114,6 +118,7 @@ fn harmed(alloc: Global, what: Harm) -> Option<EntryTrees<MemStore>> {
     if is_harmed(alloc, &mut shelf, what) {
         Some(EntryTrees::over(alloc, shelf.table.into_store()))
     } else {
+        drop(shelf);
         None
     }
 }
@@ -162,7 +167,11 @@ fn lists(table: &mut EntryTrees<MemStore>, of_keys: bool) -> Option<bool> {
 // Whether a table to which a harm came says of a key what it should.
 fn is_right(alloc: Global, what: Harm, index: usize, key: &str, is_right: bool) -> bool {
     match harmed(alloc, what) {
-        Some(mut table) => says(&mut table, index, key, is_right),
+        Some(mut table) => {
+            let says = says(&mut table, index, key, is_right);
+            drop(table);
+            says
+        }
         None => false,
     }
 }
@@ -170,7 +179,11 @@ fn is_right(alloc: Global, what: Harm, index: usize, key: &str, is_right: bool) 
 // Whether a table to which a harm came lists its keys or its entries just where it should.
 fn lists_right(alloc: Global, what: Harm, of_keys: bool, is_right: bool) -> bool {
     match harmed(alloc, what) {
-        Some(mut table) => lists(&mut table, of_keys) == Some(is_right),
+        Some(mut table) => {
+            let lists = lists(&mut table, of_keys);
+            drop(table);
+            lists == Some(is_right)
+        }
         None => false,
     }
 }

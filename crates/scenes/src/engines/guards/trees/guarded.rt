@@ -1,6 +1,6 @@
 //! A guard of the table of entries over trees in memory, which is opened twice.
 use super::super::{Kept, guard_over, replies};
-use super::{Shelf, shelf_of};
+use super::shelf::{Shelf, shelf_of};
 use crate::telling::tell_row;
 use bloom_plain::Rate;
 use guard_engine::{Guard, Task};
@@ -86,7 +86,11 @@ fn opened_again(alloc: Global, guard: Guarded, rate: Rate) -> Option<Guarded> {
 // Whether the guard, opened again, finds what was put.
 fn finds_all(rt: &HostRuntime, guard: Guarded, rate: Rate) -> bool {
     match opened_again(rt.alloc(), guard, rate) {
-        Some(mut again) => are_right(rt, &mut again, FOUND),
+        Some(mut again) => {
+            let are_found = are_right(rt, &mut again, FOUND);
+            drop(again);
+            are_found
+        }
         None => false,
     }
 }

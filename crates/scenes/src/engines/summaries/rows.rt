@@ -1,0 +1,200 @@
+//! The files of filters, and acts over them: what each writes, and why it stops early.
+use crate::engines::faulty::{
+    FAILING, FULL, NARROW, ROOMY, Reading, SLOW, STUCK, UNFLUSHED, WHOLE, Writing,
+};
+
+// The files of filters of 64 bits and two hashes, of the key "a", and of "a" and "b". Their words
+// were worked out by another program, from the papers on SipHash and on the multiply and shift.
+// Their seals are what Python 3.11, whose hash of bytes is SipHash-1-3, returns under the key of
+// zeros.
+pub(crate) const A: &[u8] = b"fbloom\01\x02\0\0\0\0\0\0\0\
+    \x01\0\0\0\0\0\0\0\0\0\0\0\0\0\0\0\
+    \0\0\0\0\0\0\0\0>f\xd2\xf60\x19\xfb\xc8\
+    \0\0\0\0\0\0\0\0\0\0\0\0\0\0\0\0\
+    \0\0\x01\x10\0\0\0\0";
+
+const BOTH: &[u8] = b"fbloom\01\x02\0\0\0\0\0\0\0\
+    \x01\0\0\0\0\0\0\0\0\0\0\0\0\0\0\0\
+    \0\0\0\0\0\0\0\0~o\\\x05\x08\0{\x11\
+    \0\0\0\0\0\0\0\0\0\0\0\0\0\0\0\0\
+    \0\0\x01\x10\x04\0\x01\0";
+
+// The file of "a" without its last byte, with one more, and with another last byte.
+const CUT: &[u8] = b"fbloom\01\x02\0\0\0\0\0\0\0\
+    \x01\0\0\0\0\0\0\0\0\0\0\0\0\0\0\0\
+    \0\0\0\0\0\0\0\0>f\xd2\xf60\x19\xfb\xc8\
+    \0\0\0\0\0\0\0\0\0\0\0\0\0\0\0\0\
+    \0\0\x01\x10\0\0\0";
+
+const LONG: &[u8] = b"fbloom\01\x02\0\0\0\0\0\0\0\
+    \x01\0\0\0\0\0\0\0\0\0\0\0\0\0\0\0\
+    \0\0\0\0\0\0\0\0>f\xd2\xf60\x19\xfb\xc8\
+    \0\0\0\0\0\0\0\0\0\0\0\0\0\0\0\0\
+    \0\0\x01\x10\0\0\0\0\0";
+
+const CHANGED: &[u8] = b"fbloom\01\x02\0\0\0\0\0\0\0\
+    \x01\0\0\0\0\0\0\0\0\0\0\0\0\0\0\0\
+    \0\0\0\0\0\0\0\0>f\xd2\xf60\x19\xfb\xc8\
+    \0\0\0\0\0\0\0\0\0\0\0\0\0\0\0\0\
+    \0\0\x01\x10\0\0\0\x01";
+
+// The file of the blocked filter of one line and two hashes with the key "a", by the model of
+// `dev/blocked-model`.
+const LINES: &[u8] = b"fbloom\01\x02\0\0\0\0\0\0\0\x08\0\0\0\0\0\0\0\
+    \0\0\0\0\0\0\0\0\0\0\0\0\0\0\0\0a/0v\xc1\xee\xc9\x18\
+    \x01\0\0\0\0\0\0\0\0\0\0\0\0\0\0\0\0\0\0\0\0\0\0\0\
+    \0\0\0\0\0\0\0\0\0\0\0\0\0\0\0\0\0\x02\0\x10\0\0\0\0\
+    \0\0\0\0\0\0\0\0\0\0\0\0\0\0\0\0\0\0\0\0\0\0\0\0\
+    \0\0\0\0\0\0\0\0";
+
+const TEXT: &[u8] =
+    b"{\"bits\":{\"bits\":[268500992]},\"num_hashes_minus_one\":1,\"k0\":0,\"k1\":0}\n";
+
+/// What is told of a read that fails.
+pub(crate) const UNREAD: &'static str = "odd: it can't be read: broken pipe";
+
+/// What is done over an input, and written.
+#[derive(Clone, Copy)]
+pub(crate) enum Act {
+    /// The file of the filter of its keys, and of those of another input.
+    Build,
+    /// Those of its keys that are "a".
+    Ask,
+    /// The file that it is.
+    Load,
+    /// The file of the filter of "a", and its text.
+    Put,
+    PutText,
+}
+
+/// An act, its input, and how that is read and the output is taken; what is written, and why the
+/// act stops early.
+pub(crate) type Row = (
+    Act,
+    &'static [u8],
+    Reading,
+    Writing,
+    &'static [u8],
+    &'static str,
+);
+
+/// Acts over odd inputs and outputs.
+pub(crate) const ACTS: &'static [Row] = &[
+    (Act::Build, b"b\na", SLOW, NARROW, BOTH, ""),
+    (Act::Build, b"a\nb\n", FAILING, ROOMY, b"", UNREAD),
+    (Act::Ask, b"b\na\nc\na", SLOW, NARROW, b"a\na\n", ""),
+    (Act::Ask, b"a\na\na", FAILING, ROOMY, b"a\na\n", UNREAD),
+    (
+        Act::Ask,
+        b"a\na\n",
+        WHOLE,
+        FULL,
+        b"a\na",
+        "the keys can't be written: no space is left",
+    ),
+    (
+        Act::Ask,
+        b"a\na\n",
+        WHOLE,
+        STUCK,
+        b"a\na",
+        "the keys can't be written: write zero",
+    ),
+    (Act::Load, A, SLOW, NARROW, A, ""),
+    (Act::Load, A, FAILING, ROOMY, b"", UNREAD),
+    (Act::Load, BOTH, WHOLE, ROOMY, BOTH, ""),
+    (Act::Load, TEXT, SLOW, NARROW, A, ""),
+    (Act::Load, TEXT, FAILING, ROOMY, b"", UNREAD),
+    (Act::Load, LINES, SLOW, NARROW, LINES, ""),
+    (Act::Load, LINES, FAILING, ROOMY, b"", UNREAD),
+    (
+        Act::Load,
+        LINES,
+        WHOLE,
+        UNFLUSHED,
+        LINES,
+        "the filter can't be written: broken pipe",
+    ),
+    (
+        Act::Load,
+        CUT,
+        WHOLE,
+        ROOMY,
+        b"",
+        "odd: it holds no filter: the file is cut",
+    ),
+    (
+        Act::Load,
+        LONG,
+        WHOLE,
+        ROOMY,
+        b"",
+        "odd: it holds no filter: the file goes on after its last word",
+    ),
+    (
+        Act::Load,
+        CHANGED,
+        SLOW,
+        ROOMY,
+        b"",
+        "odd: it holds no filter: the seal is wrong: the file was changed",
+    ),
+    (
+        Act::Load,
+        b"fbloom\02",
+        SLOW,
+        ROOMY,
+        b"",
+        "odd: it holds no filter: a version of the file that isn't known",
+    ),
+    (Act::Put, b"", WHOLE, NARROW, A, ""),
+    (
+        Act::Put,
+        b"",
+        WHOLE,
+        FULL,
+        b"fbl",
+        "the filter can't be written: no space is left",
+    ),
+    (
+        Act::Put,
+        b"",
+        WHOLE,
+        STUCK,
+        b"fbl",
+        "the filter can't be written: write zero",
+    ),
+    (
+        Act::Put,
+        b"",
+        WHOLE,
+        UNFLUSHED,
+        A,
+        "the filter can't be written: broken pipe",
+    ),
+    (Act::PutText, b"", WHOLE, NARROW, TEXT, ""),
+    (
+        Act::PutText,
+        b"",
+        WHOLE,
+        FULL,
+        b"{\"b",
+        "the filter can't be written: no space is left",
+    ),
+    (
+        Act::PutText,
+        b"",
+        WHOLE,
+        STUCK,
+        b"{\"b",
+        "the filter can't be written: write zero",
+    ),
+    (
+        Act::PutText,
+        b"",
+        WHOLE,
+        UNFLUSHED,
+        TEXT,
+        "the filter can't be written: broken pipe",
+    ),
+];

@@ -1,0 +1,142 @@
+//! The tables of scenes that are run again and again.
+use crate::scene::Op::{
+    Build, Clear, Clone, Compare, ContainsItem, Data, Extend, Insert, InsertItem, IsEmpty, Meet,
+    Replay, Shape, Take, UniteWithItself, Words,
+};
+use crate::scene::Size::{Expected, Hashes, Numbers};
+use crate::scene::{Item, Make, Scene};
+
+// The words 5 and 6 under three hashes and the key of seed 42.
+const STANDING: Make = Make::Words(&[5, 6], 42, Hashes(3));
+
+// The second word of the key of seed 42. The first is 0.
+const KEY: u64 = 3026418949592973312;
+
+/// Calls that take memory, and scenes that make them beside filters that stand. A refused call ends
+/// its scene, and leaves the filters as they were. `shared hashes` makes the filters of every
+/// scene.
+pub(super) type Called = (&'static [&'static str], Scene);
+
+// Scenes of filters that are made.
+const MADE: &'static [Called] = &[
+    (
+        &[
+            "with_num_bits",
+            "shared with_num_bits",
+            "shared hashes",
+            "shared expected_items",
+        ],
+        scene!(
+            "filters of bits",
+            STANDING,
+            (Build(Make::Bits(100, Hashes(4)), 128, 4), true),
+            (Build(Make::Bits(1202, Expected(4)), 1216, 211), true),
+            (Words(&[5, 6]), true),
+        ),
+    ),
+    (
+        &[
+            "shared items",
+            "expected_items by rate",
+            "shared expected_items by rate",
+        ],
+        scene!(
+            "filters for items",
+            STANDING,
+            (Build(Make::Bits(64, Numbers(&[1, 2])), 64, 22), true),
+            (Build(Make::Rate(1, 2, 0, Expected(1000)), 1472, 1), true),
+            (Words(&[5, 6]), true),
+        ),
+    ),
+    (
+        &["items by rate", "shared items by rate", "shared from_data"],
+        scene!(
+            "filters for a rate and of data",
+            STANDING,
+            (
+                Build(Make::Rate(1, 1000, 0, Numbers(&[1, 2])), 64, 22),
+                true
+            ),
+            (Build(Make::Data(&[5, 6], 2, 0, KEY), 128, 3), true),
+            (Words(&[5, 6]), true),
+        ),
+    ),
+    (
+        &[],
+        scene!(
+            "plain filters of words",
+            STANDING,
+            (Build(Make::Words(&[5], 42, Expected(2)), 64, 22), true),
+            (Build(Make::Words(&[5], 42, Numbers(&[1, 2])), 64, 22), true),
+            (Words(&[5, 6]), true),
+        ),
+    ),
+];
+
+// Scenes of calls on filters that stand.
+const CALLED: &'static [Called] = &[
+    (
+        &[
+            "try_clone",
+            "shared try_clone",
+            "to_data",
+            "shared to_data",
+            "shared from_data",
+        ],
+        scene!(
+            "copies and data",
+            STANDING,
+            (Clone, true),
+            (Data(0, KEY), true),
+            (Words(&[5, 6]), true),
+        ),
+    ),
+    (
+        &["take_words", "replay"],
+        scene!(
+            "a take and a list",
+            STANDING,
+            (Take, true),
+            (Words(&[0, 0]), true),
+            (Replay(&[false, false, true, true, false]), true),
+            (Words(&[0, 0]), true),
+        ),
+    ),
+    (
+        &[],
+        scene!(
+            "calls with items and another filter",
+            STANDING,
+            (InsertItem(Item::Number(2)), false),
+            (Extend(3, 7), true),
+            (ContainsItem(Item::Number(6)), true),
+            (Insert(1), false),
+            (Meet(&[5, 6], true), true),
+            (Meet(&[5, 6], false), true),
+            (Words(&[5, 6]), true),
+        ),
+    ),
+    (
+        &[],
+        scene!(
+            "comparisons and clears",
+            STANDING,
+            (Compare(&[5, 6], 3, true), true),
+            (UniteWithItself, true),
+            (Words(&[5, 6]), true),
+            (Shape(128, 3), true),
+            (Clear, true),
+            (IsEmpty, true),
+        ),
+    ),
+];
+
+/// Scenes of filters that are made.
+pub(super) fn made() -> &'static [Called] {
+    MADE
+}
+
+/// Scenes of calls on filters that stand.
+pub(super) fn called() -> &'static [Called] {
+    CALLED
+}
