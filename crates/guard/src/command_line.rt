@@ -1,71 +1,18 @@
 //! The command line.
 
-use bloom_plain::Rate;
+mod requests;
+mod rows;
+
 use clap::builder::ValueParser;
 use clap::error::ErrorKind;
-use clap::{Arg, ArgAction, ArgMatches, Command, Error};
+use clap::{Command, Error};
+use requests::options_of;
+pub use requests::{Load, Options, Request};
+use rows::{CommandRow, Kind, Row, arguments_of, commands_of};
 use std::alloc::{AllocError, Global};
 
 /// The version that the program tells.
 const VERSION: &str = "0.17.0";
-
-/// What is to be done with a store.
-#[derive(Clone, Copy)]
-pub enum Request<'a> {
-    /// Put a value at a key.
-    Put(&'a str, &'a str),
-    /// Put a value at a key, and replace the one that it has.
-    Replace(&'a str, &'a str),
-    /// Show the value of a key.
-    Get(&'a str),
-    /// Take the value of a key away.
-    Delete(&'a str),
-    /// Put the entries of a file.
-    Load(Load<'a>),
-    /// Show all entries.
-    List,
-    /// Look up the keys of standard input.
-    Stats,
-}
-
-/// What is to be loaded, and how.
-#[derive(Clone, Copy)]
-pub struct Load<'a> {
-    /// The name of the file.
-    pub file: &'a str,
-    /// How many lines are put together.
-    pub batch: u64,
-    /// How many lines are expected where the file can't be read twice.
-    pub items: u64,
-}
-
-/// What the words after the program's name ask for.
-#[derive(Clone, Copy)]
-pub struct Options<'a> {
-    /// The name of the store's file.
-    pub store: &'a str,
-    /// The share of absent keys that may be looked up in the store for nothing.
-    pub rate: Rate,
-    /// How many seconds to wait while another process has the store open.
-    pub wait: u64,
-    /// Whether each page of a store that is made ends in a sum of its bytes.
-    pub sums: bool,
-    pub request: Request<'a>,
-}
-
-// How an argument is given.
-#[derive(Clone, Copy)]
-enum Kind {
-    // As a word, which has to be there.
-    Word,
-    // By its name alone.
-    Flag,
-    // Behind its name. First stand what help calls it, and what it is where none is given.
-    Option(&'static str, &'static str, ValueParser<'static>),
-}
-
-// An argument: its name, how it is given, and its help.
-type Row = (&'static str, Kind, &'static str);
 
 const PROGRAM: &'static [Row] = &[
     (
@@ -113,11 +60,8 @@ const LOAD: &'static [Row] = &[
     ),
 ];
 
-// A command: its name, its help, and its arguments.
-type CommandRow = (&'static str, &'static str, &'static [Row]);
-
 // The commands, in the order of the help.
-const COMMANDS: [CommandRow; 7] = [
+const COMMANDS: &'static [CommandRow] = &[
     (
         "put",
         "Puts a value at a key that has none yet, and prints added or taken",
@@ -151,81 +95,22 @@ const COMMANDS: [CommandRow; 7] = [
     ),
 ];
 
-fn word(alloc: Global, id: &'static str, help: &'static str) -> Arg<'static> {
-    Arg::new(alloc, id).required(true).help(help)
-}
-
-fn flag(alloc: Global, id: &'static str, help: &'static str) -> Arg<'static> {
-    Arg::new(alloc, id)
-        .long(id)
-        .action(ArgAction::SetTrue)
-        .help(help)
-}
-
-fn option(
-    alloc: Global,
-    id: &'static str,
-    help: &'static str,
-    name: &'static str,
-    default: &'static str,
-    parser: ValueParser<'static>,
-) -> Arg<'static> {
-    Arg::new(alloc, id)
-        .long(id)
-        .value_name(name)
-        .default_value(default)
-        .value_parser(parser)
-        .help(help)
-}
-
-// The argument of this row.
-fn argument(alloc: Global, row: &Row) -> Arg<'static> {
-    let (id, kind, help) = *row;
-    match kind {
-        Kind::Word => word(alloc, id, help),
-        Kind::Flag => flag(alloc, id, help),
-        Kind::Option(name, default, parser) => option(alloc, id, help, name, default, parser),
+// The program's words but for its commands.
+fn program<'a>(alloc: Global) -> Result<Command<'a>, AllocError> {
+    match arguments_of(alloc, PROGRAM) {
+        Ok(arguments) => Command::new(alloc, "guard")
+            .version(VERSION)
+            .about("A store of values by keys, behind a filter of its keys")
+            .subcommand_required(true)
+            .arg_required_else_help(true)
+            .args(arguments),
+        Err(refused) => Err(refused),
     }
-}
-
-// The arguments of these rows.
-//
-// Room comes first: a push that hands back a value that it has no room for takes long to prove.
-fn arguments_of<'a>(alloc: Global, rows: &[Row]) -> Result<Vec<Arg<'a>>, AllocError> {
-    let mut arguments: Vec<Arg<'a>> = Vec::new(alloc);
-    'arguments: for row in rows {
-        arguments.reserve(1)?;
-        arguments.push_reserved(argument(alloc, row));
-    }
-    Ok(arguments)
-}
-
-// The command of this row.
-fn command_of<'a>(alloc: Global, row: &CommandRow) -> Result<Command<'a>, AllocError> {
-    let (name, about, rows) = *row;
-    let arguments = arguments_of(alloc, rows)?;
-    Command::new(alloc, name).about(about).args(arguments)
 }
 
 // The commands of all rows.
 fn commands<'a>(alloc: Global) -> Result<Vec<Command<'a>>, AllocError> {
-    let mut commands: Vec<Command<'a>> = Vec::new(alloc);
-    'commands: for row in &COMMANDS {
-        commands.reserve(1)?;
-        commands.push_reserved(command_of(alloc, row)?);
-    }
-    Ok(commands)
-}
-
-// The program's words but for its commands.
-fn program<'a>(alloc: Global) -> Result<Command<'a>, AllocError> {
-    let arguments = arguments_of(alloc, PROGRAM)?;
-    Command::new(alloc, "guard")
-        .version(VERSION)
-        .about("A store of values by keys, behind a filter of its keys")
-        .subcommand_required(true)
-        .arg_required_else_help(true)
-        .args(arguments)
+    commands_of(alloc, COMMANDS)
 }
 
 // The words that the program understands.
@@ -234,74 +119,29 @@ fn command<'a>(alloc: Global) -> Result<Command<'a>, AllocError> {
     program(alloc)?.subcommands(commands)
 }
 
-// The rate that a text such as 1/1000 tells, if it lies between 0 and 1.
-fn rate_of(text: &str) -> Option<Rate> {
-    let (num, den) = text.split_once('/')?;
-    let num = num.parse::<u64>().ok()?;
-    let den = den.parse::<u64>().ok()?;
-    if num < den {
-        Rate::new(num, den).ok()
-    } else {
-        None
-    }
-}
-
-// The load of a command's words.
-fn load_of<'a>(words: &ArgMatches<'a>) -> Option<Load<'a>> {
-    Some(Load {
-        file: words.get_str("FILE")?,
-        batch: words.get_one::<u64>("batch")?,
-        items: words.get_one::<u64>("items")?,
-    })
-}
-
-// The key and the value of a command's words.
-fn entry_of<'a>(words: &ArgMatches<'a>) -> Option<(&'a str, &'a str)> {
-    Some((words.get_str("KEY")?, words.get_str("VALUE")?))
-}
-
-// What a command's words ask for.
-fn request_of<'a>(matches: &ArgMatches<'a>) -> Option<Request<'a>> {
-    let (name, words) = matches.subcommand()?;
-    match name {
-        "put" => {
-            let (key, value) = entry_of(words)?;
-            Some(Request::Put(key, value))
-        }
-        "replace" => {
-            let (key, value) = entry_of(words)?;
-            Some(Request::Replace(key, value))
-        }
-        "get" => Some(Request::Get(words.get_str("KEY")?)),
-        "delete" => Some(Request::Delete(words.get_str("KEY")?)),
-        "load" => Some(Request::Load(load_of(words)?)),
-        "list" => Some(Request::List),
-        "stats" => Some(Request::Stats),
-        _ => None,
-    }
-}
-
-// What the program's words ask for; none where the rate is no fraction.
-fn options_of<'a>(matches: &ArgMatches<'a>) -> Option<Options<'a>> {
-    Some(Options {
-        store: matches.get_str("STORE")?,
-        rate: rate_of(matches.get_str("rate")?)?,
-        wait: matches.get_one::<u64>("wait")?,
-        sums: matches.get_flag("sums"),
-        request: request_of(matches)?,
-    })
-}
-
 // What is wrong with a rate, unless memory for it is refused.
 fn rate_error(alloc: Global) -> Result<Error, AllocError> {
     let told = "the rate is a fraction between 0 and 1, as 1/1000";
-    command(alloc)?.error(ErrorKind::ValueValidation, told)
+    match command(alloc) {
+        Ok(mut command) => command.error(ErrorKind::ValueValidation, told),
+        Err(refused) => Err(refused),
+    }
 }
 
 // What the words ask for; none where the rate is no fraction.
 fn read<'a>(alloc: Global, words: &'a [String]) -> Result<Option<Options<'a>>, Error> {
-    let matches = command(alloc)?.try_get_matches_from(words)?;
-    Ok(options_of(&matches))
+    match command(alloc)?.try_get_matches_from(words) {
+        Ok(matches) => Ok(options_of(&matches)),
+        Err(error) => Err(error),
+    }
+}
+
+// An error of a rate, or that memory for it is refused.
+fn misuse(alloc: Global) -> Error {
+    match rate_error(alloc) {
+        Ok(error) => error,
+        Err(refused) => Error::from(refused),
+    }
 }
 
 /// What the words ask for, of which the first is the program's name.
@@ -309,8 +149,9 @@ fn read<'a>(alloc: Global, words: &'a [String]) -> Result<Option<Options<'a>>, E
 /// # Errors
 /// The text for the user: what is wrong with the words, or the help.
 pub fn arguments<'a>(alloc: Global, words: &'a [String]) -> Result<Options<'a>, Error> {
-    match read(alloc, words)? {
-        Some(options) => Ok(options),
-        None => Err(rate_error(alloc)?),
+    match read(alloc, words) {
+        Ok(Some(options)) => Ok(options),
+        Ok(None) => Err(misuse(alloc)),
+        Err(error) => Err(error),
     }
 }

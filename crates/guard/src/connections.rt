@@ -119,8 +119,23 @@ fn makes_log(rt: &HostRuntime, names: &Names) -> bool {
     is_used && !has_log
 }
 
-// Gives a store that has no number one, and copies the log into its file, where look-ups read the
-// number. No entry changes.
+// Gives a store a number, and copies the log into its file, where look-ups read the number. No
+// entry changes.
+fn number_and_settle<D: Disk + Drop>(
+    table: &mut EntryTrees<FileStore<D>>,
+    number: u32,
+) -> Result<(), StoreFault>
+    ensures known { IsKnown (view table.new.store) → IsKnown (view table.old.store) }
+    ensures kept { IsReady (sight_of (view table.old.store) table.old.in_batch)
+        → IsKnown (view table.new.store) → TakesBack
+        (sight_of (view table.old.store) table.old.in_batch)
+        (sight_of (view table.new.store) table.new.in_batch) }
+{
+    number_store(table, number)?;
+    settle_log(table)
+}
+
+// Gives a store that has no number one. No entry changes.
 fn give_number<D: Disk + Drop>(
     rt: &HostRuntime,
     names: &Names,
@@ -135,8 +150,7 @@ fn give_number<D: Disk + Drop>(
     if store_number(rt, names.store.as_str()) != Ok(0) {
         return Ok(());
     }
-    number_store(table, drawn_number(rt)?)?;
-    settle_log(table)
+    number_and_settle(table, drawn_number(rt)?)
 }
 
 // Opens the files of a store. While they are locked, a log is taken away that a refused file didn't

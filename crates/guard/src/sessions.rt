@@ -63,6 +63,25 @@ fn change<C: Connector>(
     }
 }
 
+// What is to be put by a load, and how many lines to expect, or the status where the file can't be
+// read.
+fn opened_load<'a>(rt: &HostRuntime, load: Load<'a>) -> Result<(Change<'a>, u64), u8> {
+    if load.file == "-" {
+        return Ok((Change::Input(load.batch), load.items));
+    }
+    match open_input(rt, load.file, load.items) {
+        Ok((file, lines)) => Ok((Change::Load(file, load.batch, load.file), lines)),
+        Err(error) => {
+            tell(
+                rt,
+                load.file,
+                format_args!("it can't be read: {}", Reason(error.kind())),
+            );
+            Err(status_of_read(error.kind()))
+        }
+    }
+}
+
 fn load<C: Connector>(
     rt: &HostRuntime,
     names: &Names,
@@ -70,32 +89,12 @@ fn load<C: Connector>(
     options: Options,
     load: Load,
 ) -> u8 {
-    if load.file == "-" {
-        let items = load.items as usize;
-        return change::<C>(
-            rt,
-            names,
-            world,
-            options,
-            items,
-            items,
-            Change::Input(load.batch),
-        );
-    }
-    match open_input(rt, load.file, load.items) {
-        Ok((file, lines)) => {
+    match opened_load(rt, load) {
+        Ok((what, lines)) => {
             let lines = lines as usize;
-            let what = Change::Load(file, load.batch, load.file);
             change::<C>(rt, names, world, options, lines, lines, what)
         }
-        Err(error) => {
-            tell(
-                rt,
-                load.file,
-                format_args!("it can't be read: {}", Reason(error.kind())),
-            );
-            status_of_read(error.kind())
-        }
+        Err(status) => status,
     }
 }
 
