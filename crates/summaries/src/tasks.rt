@@ -1,5 +1,6 @@
 //! The tasks that the program's words ask for.
 ghost use Rattle.std.specs.Prelude.{IfOk};
+ghost use Rattle.summaries_engine.specs.Answers.{IsKeyed};
 ghost use Rattle.summaries_engine.specs.Sizes.{IsEmpty};
 
 use crate::command_line::{
@@ -114,12 +115,15 @@ fn classic_of<R: Files + Input + AllocGlobal + Threads>(
     };
     let workers = usize::from(workers.max(1));
     let files = KeyFiles { rt };
-    let filter = if matches.get_flag(ZERO) {
-        build::<0, _, _>(rt, rt.alloc(), shape, workers, &files, names)?
+    let built = if matches.get_flag(ZERO) {
+        build::<0, _, _>(rt, rt.alloc(), shape, workers, &files, names)
     } else {
-        build::<10, _, _>(rt, rt.alloc(), shape, workers, &files, names)?
+        build::<10, _, _>(rt, rt.alloc(), shape, workers, &files, names)
     };
-    Ok(AnyFilter::Classic(filter))
+    match built {
+        Ok(filter) => Ok(AnyFilter::Classic(filter)),
+        Err(stop) => Err(stop),
+    }
 }
 
 // The blocked filter of the keys of these inputs, which one thread fills.
@@ -130,12 +134,15 @@ fn blocked_of<R: Files + Input + AllocGlobal>(
 ) -> Result<AnyFilter, Stop> {
     let empty = empty_blocked(rt.alloc(), size_of(matches)?)?;
     let files = KeyFiles { rt };
-    let filter = if matches.get_flag(ZERO) {
-        build_blocked::<0, _>(rt.alloc(), empty, &files, names)?
+    let built = if matches.get_flag(ZERO) {
+        build_blocked::<0, _>(rt.alloc(), empty, &files, names)
     } else {
-        build_blocked::<10, _>(rt.alloc(), empty, &files, names)?
+        build_blocked::<10, _>(rt.alloc(), empty, &files, names)
     };
-    Ok(AnyFilter::Blocked(filter))
+    match built {
+        Ok(filter) => Ok(AnyFilter::Blocked(filter)),
+        Err(stop) => Err(stop),
+    }
 }
 
 // Builds the filter of the keys of these inputs, and writes it.
@@ -186,6 +193,20 @@ fn check_once(names: &[&str]) -> Result<(), Stop> {
     Ok(())
 }
 
+// Unites the filters of these files, and writes what comes of it.
+fn unite_files<R: Files + Input + Print + AllocGlobal>(
+    rt: &R,
+    matches: &ArgMatches,
+    names: &[&str],
+) -> Result<(), Stop> {
+    check_once(names)?;
+    let disk = disk_of(rt, matches)?;
+    match unite_named(&disk, names) {
+        Ok(filter) => write(rt, matches, &filter),
+        Err(stop) => Err(stop),
+    }
+}
+
 fn run_unite<R: Files + Input + Print + AllocGlobal>(
     rt: &R,
     matches: &ArgMatches,
@@ -194,13 +215,52 @@ fn run_unite<R: Files + Input + Print + AllocGlobal>(
         return Err(unsaid(FILTER));
     };
     let names = called_inputs(rt.alloc(), words)?;
-    check_once(names.as_slice())?;
-    let disk = disk_of(rt, matches)?;
-    let filter = unite_named(&disk, names.as_slice())?;
-    write(rt, matches, &filter)
+    unite_files(rt, matches, names.as_slice())
 }
 
 // Asks a filter for the keys of these inputs.
+fn ask_for<R: Files + Input + AllocGlobal, O: Write>(
+    rt: &R,
+    matches: &ArgMatches,
+    filter: &AnyFilter,
+    names: &[&str],
+    output: &mut O,
+) -> Result<(), Stop>
+    requires { IsKeyed filter.now }
+{
+    let told = if matches.get_flag(ABSENT) {
+        Told::Absent
+    } else {
+        Told::Found
+    };
+    let files = KeyFiles { rt };
+    if matches.get_flag(ZERO) {
+        ask::<0, _, _>(rt.alloc(), filter, told, &files, names, output)
+    } else {
+        ask::<10, _, _>(rt.alloc(), filter, told, &files, names, output)
+    }
+}
+
+// Asks a filter for the keys of these inputs, and writes what it tells.
+fn write_asked<R: Files + Input + Print + AllocGlobal>(
+    rt: &R,
+    matches: &ArgMatches,
+    filter: &AnyFilter,
+    names: &[&str],
+) -> Result<(), Stop>
+    requires { IsKeyed filter.now }
+{
+    let Ok(mut output) = BufWriter::new(rt.alloc(), std::io::writer(rt)) else {
+        return Err(Stop::Memory);
+    };
+    let asked = ask_for(rt, matches, filter, names, &mut output);
+    let flushed = written(output.flush(), "the keys can't be written");
+    drop(output);
+    asked?;
+    flushed
+}
+
+// Asks the filter that the words name for the keys of these inputs.
 fn ask_of<R: Files + Input + Print + AllocGlobal>(
     rt: &R,
     matches: &ArgMatches,
@@ -213,24 +273,10 @@ fn ask_of<R: Files + Input + Print + AllocGlobal>(
     if name == STANDARD && names.contains(&STANDARD) {
         return Err(twice(STANDARD));
     }
-    let filter = disk_of(rt, matches)?.load(name)?;
-    let told = if matches.get_flag(ABSENT) {
-        Told::Absent
-    } else {
-        Told::Found
-    };
-    let Ok(mut output) = BufWriter::new(rt.alloc(), std::io::writer(rt)) else {
-        return Err(Stop::Memory);
-    };
-    let files = KeyFiles { rt };
-    let asked = if matches.get_flag(ZERO) {
-        ask::<0, _, _>(rt.alloc(), &filter, told, &files, names, &mut output)
-    } else {
-        ask::<10, _, _>(rt.alloc(), &filter, told, &files, names, &mut output)
-    };
-    let flushed = written(output.flush(), "the keys can't be written");
-    asked?;
-    flushed
+    match disk_of(rt, matches)?.load(name) {
+        Ok(filter) => write_asked(rt, matches, &filter, names),
+        Err(stop) => Err(stop),
+    }
 }
 
 // Asks a filter for the keys of the inputs that the words name.
@@ -265,6 +311,20 @@ fn run_info<R: Files + Input + Print + AllocGlobal>(
     }
 }
 
+// Compares the filters of two files, and prints what that tells.
+fn compare_files<R: Files + Input + Print + AllocGlobal>(
+    rt: &R,
+    one: &str,
+    other: &str,
+) -> Result<(), Stop> {
+    check_once(&[one, other])?;
+    let most = u32::MAX;
+    match compare_named(rt.alloc(), &Disk { rt, most }, one, other) {
+        Ok(facts) => print_facts(rt, facts.as_str()),
+        Err(stop) => Err(stop),
+    }
+}
+
 fn run_compare<R: Files + Input + Print + AllocGlobal>(
     rt: &R,
     matches: &ArgMatches,
@@ -275,11 +335,7 @@ fn run_compare<R: Files + Input + Print + AllocGlobal>(
     let Some(other) = matches.get_str(OTHER) else {
         return Err(unsaid(OTHER));
     };
-    let (one, other) = (called(one), called(other));
-    check_once(&[one, other])?;
-    let most = u32::MAX;
-    let facts = compare_named(rt.alloc(), &Disk { rt, most }, one, other)?;
-    print_facts(rt, facts.as_str())
+    compare_files(rt, called(one), called(other))
 }
 
 /// Does what the words ask for.
@@ -287,12 +343,15 @@ pub fn run<R: Files + Input + Print + AllocGlobal + Threads>(
     rt: &R,
     matches: &ArgMatches,
 ) -> Result<(), Stop> {
-    match matches.subcommand() {
-        Some(("build", matches)) => run_build(rt, matches),
-        Some(("unite", matches)) => run_unite(rt, matches),
-        Some(("ask", matches)) => run_ask(rt, matches),
-        Some(("info", matches)) => run_info(rt, matches),
-        Some(("compare", matches)) => run_compare(rt, matches),
+    let Some((name, matches)) = matches.subcommand() else {
+        return Err(unsaid("command"));
+    };
+    match name {
+        "build" => run_build(rt, matches),
+        "unite" => run_unite(rt, matches),
+        "ask" => run_ask(rt, matches),
+        "info" => run_info(rt, matches),
+        "compare" => run_compare(rt, matches),
         _ => Err(unsaid("command")),
     }
 }
