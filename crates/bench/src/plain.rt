@@ -1,9 +1,11 @@
 //! The calls of a plain filter: a key, or a word of the filter.
+mod rows;
+
 use crate::filters::filter_for;
 use crate::keys::{contains_keys, first_foreign_key, hash_of, numbers_to};
-use crate::plan::Unit;
-use crate::table::{Made, Measured, Rows};
+use crate::table::{Made, Measured};
 use fastbloom::{BloomFilter, FilterData, FilterError};
+pub use rows::{Call, TABLE};
 use std::alloc::{AllocError, Global};
 
 // The results of `source_hash` are counted by their lowest bit.
@@ -89,102 +91,6 @@ pub fn insert_keys(filter: &mut BloomFilter, keys: u64) -> u64 {
     }
     answers
 }
-
-/// The calls of a plain filter.
-#[derive(Clone, Copy)]
-pub enum Call {
-    HashNumbers,
-    HashTexts,
-    InsertTexts,
-    ContainsTexts,
-    Insert,
-    Contains,
-    Extend,
-    InsertAll,
-    InsertHash,
-    Hit,
-    Miss,
-    Union,
-    Intersect,
-    Equality,
-    Clear,
-    Clone,
-    Iter,
-    ToData,
-    FromData,
-    Write,
-    Read,
-}
-
-const TEXTS: &'static [u32] = &[8, 16, 32, 64, 1000];
-
-const HASHES: &'static [u32] = &[1, 2, 3, 7, 22];
-
-const FOUND: &'static str = "found after it";
-
-const CHANGED: &'static str = "equal, or found after it";
-
-/// The rows of a plain filter: of items with seven hashes, of hashes with one to 22, of whole
-/// filters, and of filters as data and as JSON text.
-pub const TABLE: [Rows<Call>; 21] = [
-    (
-        Call::HashNumbers,
-        "source_hash, u64",
-        &[7],
-        Unit::Key,
-        "odd hashes",
-    ),
-    (Call::Insert, "insert, u64", &[7], Unit::Key, "true"),
-    (Call::Contains, "contains, u64", &[7], Unit::Key, "true"),
-    (Call::Extend, "extend, u64", &[7], Unit::Key, FOUND),
-    (Call::InsertAll, "insert_all, u64", &[7], Unit::Key, FOUND),
-    (
-        Call::HashTexts,
-        "source_hash, text of bytes:",
-        TEXTS,
-        Unit::Key,
-        "odd hashes",
-    ),
-    (
-        Call::InsertTexts,
-        "insert, text of bytes:",
-        TEXTS,
-        Unit::Key,
-        "true",
-    ),
-    (
-        Call::ContainsTexts,
-        "contains, text of bytes:",
-        TEXTS,
-        Unit::Key,
-        "true",
-    ),
-    (Call::InsertHash, "insert_hash", HASHES, Unit::Key, "true"),
-    (Call::Hit, "contains_hash, hit", HASHES, Unit::Key, "true"),
-    (Call::Miss, "contains_hash, miss", HASHES, Unit::Key, "true"),
-    (Call::Union, "union, a word", &[7], Unit::Word, CHANGED),
-    (
-        Call::Intersect,
-        "intersect, a word",
-        &[7],
-        Unit::Word,
-        CHANGED,
-    ),
-    (Call::Equality, "==, a word", &[7], Unit::Word, CHANGED),
-    (Call::Clear, "clear, a word", &[7], Unit::Word, CHANGED),
-    (Call::Clone, "try_clone, a word", &[7], Unit::Word, FOUND),
-    (Call::Iter, "iter, a word", &[7], Unit::Word, "odd words"),
-    (Call::ToData, "to_data, a word", &[7], Unit::Word, "words"),
-    (Call::FromData, "from_data, a word", &[7], Unit::Word, FOUND),
-    (
-        Call::Write,
-        "JSON written, a word",
-        &[7],
-        Unit::Word,
-        "bytes",
-    ),
-    (Call::Read, "JSON read, a word", &[7], Unit::Word, "words"),
-];
 
 // 32 texts of this many bytes, at most 1,000.
 fn texts_of(alloc: Global, size: u32) -> Result<Vec<String>, AllocError> {

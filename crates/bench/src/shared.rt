@@ -1,11 +1,13 @@
 //! The calls of a filter that threads share, made by one thread, beside bare atomic operations.
+mod rows;
+
 ghost use Rattle.std.specs.Prelude.{◌≤◌, ◌<◌, ◌^◌, vec_len};
 
 use crate::filters::{count_words, shared_filter_for};
 use crate::keys::{first_foreign_key, hash_of, numbers_to};
-use crate::plan::Unit;
-use crate::table::{Made, Measured, Rows};
+use crate::table::{Made, Measured};
 use fastbloom::{AtomicBloomFilter, FilterError};
+pub use rows::{Call, TABLE};
 use std::alloc::{AllocError, Global};
 use std::sync::atomic::{AtomicU64, Ordering};
 
@@ -71,108 +73,6 @@ fn bare_words(alloc: Global, keys: u32) -> Result<Vec<AtomicU64>, AllocError> {
     }
     Ok(words)
 }
-
-/// The calls of a shared filter.
-#[derive(Clone, Copy)]
-pub enum Call {
-    Bare,
-    InsertHash,
-    Hit,
-    Miss,
-    Extend,
-    InsertAll,
-    Union,
-    Intersect,
-    SameWords,
-    Clear,
-    Clone,
-    Iter,
-    ToData,
-    TakeWords,
-}
-
-const FOUND: &'static str = "found after it";
-
-const CHANGED: &'static str = "same, or found after it";
-
-/// The rows of a shared filter with seven hashes, by one thread: of hashes and items, and of whole
-/// filters.
-pub const TABLE: [Rows<Call>; 14] = [
-    (Call::Bare, "fetch_or, seven", &[7], Unit::Key, "true"),
-    (
-        Call::InsertHash,
-        "shared insert_hash",
-        &[7],
-        Unit::Key,
-        "true",
-    ),
-    (Call::Hit, "shared hit", &[7], Unit::Key, "true"),
-    (Call::Miss, "shared miss", &[7], Unit::Key, "true"),
-    (Call::Extend, "shared extend, u64", &[7], Unit::Key, FOUND),
-    (
-        Call::InsertAll,
-        "shared insert_all, u64",
-        &[7],
-        Unit::Key,
-        FOUND,
-    ),
-    (
-        Call::Union,
-        "shared union, a word",
-        &[7],
-        Unit::Word,
-        CHANGED,
-    ),
-    (
-        Call::Intersect,
-        "shared intersect, a word",
-        &[7],
-        Unit::Word,
-        CHANGED,
-    ),
-    (
-        Call::SameWords,
-        "shared same_words, a word",
-        &[7],
-        Unit::Word,
-        CHANGED,
-    ),
-    (
-        Call::Clear,
-        "shared clear, a word",
-        &[7],
-        Unit::Word,
-        CHANGED,
-    ),
-    (
-        Call::Clone,
-        "shared try_clone, a word",
-        &[7],
-        Unit::Word,
-        FOUND,
-    ),
-    (
-        Call::Iter,
-        "shared iter, a word",
-        &[7],
-        Unit::Word,
-        "odd words",
-    ),
-    (
-        Call::ToData,
-        "shared to_data, a word",
-        &[7],
-        Unit::Word,
-        "words",
-    ),
-    (
-        Call::TakeWords,
-        "shared take_words, a word",
-        &[7],
-        Unit::Word,
-        "words",
-    ),
-];
 
 // Whether the words are the same, or, of a call that changes the filter, what a look-up finds right
 // after it.
