@@ -1,9 +1,11 @@
 //! The command line.
+mod rows;
 
 use bloom_plain::Rate;
 use clap::builder::ValueParser;
 use clap::error::ErrorKind;
-use clap::{Arg, ArgAction, ArgMatches, Command, Error};
+use clap::{ArgMatches, Command, Error};
+use rows::{Kind, Row, arguments_of};
 use std::alloc::{AllocError, Global};
 
 /// The version that the program tells: that of the Rust crate that it was made from.
@@ -57,22 +59,6 @@ pub struct Request<'n, 's> {
     /// Whether nothing is told of a run that ends well.
     pub quiet: bool,
 }
-
-// How an argument is given.
-#[derive(Clone, Copy)]
-enum Kind {
-    // By its name.
-    Flag,
-    // By its name, or by this letter.
-    Letter(char),
-    // Behind its name. First stand what help calls it, and what it is where none is given.
-    Option(&'static str, &'static str, ValueParser<'static>),
-    // As any words, as help calls them.
-    Words(&'static str),
-}
-
-// An argument: its name, how it is given, its help, and the arguments that it can't be given with.
-type Row = (&'static str, Kind, &'static str, &'static [&'static str]);
 
 // The arguments, in the order of the help.
 const ARGUMENTS: &'static [Row] = &[
@@ -144,69 +130,6 @@ const ARGUMENTS: &'static [Row] = &[
     ),
 ];
 
-fn flag(alloc: Global, id: &'static str, help: &'static str) -> Arg<'static> {
-    Arg::new(alloc, id)
-        .long(id)
-        .action(ArgAction::SetTrue)
-        .help(help)
-}
-
-fn option(
-    alloc: Global,
-    id: &'static str,
-    help: &'static str,
-    name: &'static str,
-    default: &'static str,
-    parser: ValueParser<'static>,
-) -> Arg<'static> {
-    Arg::new(alloc, id)
-        .long(id)
-        .value_name(name)
-        .default_value(default)
-        .value_parser(parser)
-        .help(help)
-}
-
-fn words(alloc: Global, id: &'static str, help: &'static str, name: &'static str) -> Arg<'static> {
-    Arg::new(alloc, id)
-        .value_name(name)
-        .action(ArgAction::Append)
-        .num_args(0..)
-        .help(help)
-}
-
-fn argument(alloc: Global, id: &'static str, kind: Kind, help: &'static str) -> Arg<'static> {
-    match kind {
-        Kind::Flag => flag(alloc, id, help),
-        Kind::Letter(letter) => flag(alloc, id, help).short(letter),
-        Kind::Option(name, default, parser) => option(alloc, id, help, name, default, parser),
-        Kind::Words(name) => words(alloc, id, help, name),
-    }
-}
-
-// The argument of this row.
-fn argument_of(alloc: Global, row: &Row) -> Result<Arg<'static>, AllocError> {
-    let (id, kind, help, others) = *row;
-    argument(alloc, id, kind, help).conflicts_with_all(others)
-}
-
-// The rows, by a function of their own: one that has a loop, too, takes long to prove.
-fn rows() -> &'static [Row] {
-    ARGUMENTS
-}
-
-// The arguments of all rows.
-//
-// Room comes first: a push that hands back a value that it has no room for takes long to prove.
-fn arguments<'a>(alloc: Global) -> Result<Vec<Arg<'a>>, AllocError> {
-    let mut arguments: Vec<Arg<'a>> = Vec::new(alloc);
-    'arguments: for row in rows() {
-        arguments.reserve(1)?;
-        arguments.push_reserved(argument_of(alloc, row)?);
-    }
-    Ok(arguments)
-}
-
 // The program's words but for its arguments.
 fn program<'a>(alloc: Global) -> Command<'a> {
     Command::new(alloc, "duplicates")
@@ -216,7 +139,7 @@ fn program<'a>(alloc: Global) -> Command<'a> {
 
 // The words that the program understands.
 fn command<'a>(alloc: Global) -> Result<Command<'a>, AllocError> {
-    let arguments = arguments(alloc)?;
+    let arguments = arguments_of(alloc, ARGUMENTS)?;
     program(alloc).args(arguments)
 }
 
