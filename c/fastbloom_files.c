@@ -61,10 +61,16 @@ const char *fastbloom_strerror(uint8_t code) {
     }
 }
 
-/* Closes a file, and leaves the number of the last error as it is. */
+/* Closes a file, or frees memory, and leaves the number of the last error as it is. */
 static void close_quietly(int file) {
     int why = errno;
     close(file);
+    errno = why;
+}
+
+static void free_quietly(void *memory) {
+    int why = errno;
+    free(memory);
     errno = why;
 }
 
@@ -184,7 +190,7 @@ static uint8_t load_open(const struct kind *kind, int file, size_t size,
         code = FASTBLOOM_INPUT;
     else
         code = there < bytes ? FASTBLOOM_CUT : check_seal(kind, filter, seal);
-    if (code != FASTBLOOM_OK) free(filter->words);
+    if (code != FASTBLOOM_OK) free_quietly(filter->words);
     return code;
 }
 
@@ -330,13 +336,25 @@ static bool put_in_place(char *part, const char *path, bool is_whole) {
     return false;
 }
 
-/* Writes the head of a filter's file. No words have no seal to compute. */
+/* Writes the head of a filter's file. The words are read for the seal only where their number isn't
+ * refused. */
 static uint8_t write_head(const struct kind *kind, const fastbloom_filter *filter, bool sealed,
                           uint8_t head[HEAD]) {
-    uint64_t seal = 0;
-    if (sealed && filter->num_words != 0)
-        seal = kind->seal(filter->words, filter->num_words, filter->num_hashes, filter->key);
+    uint8_t code = kind->head_write(filter->num_words, filter->num_hashes, filter->key, 0, head);
+    if (code != FASTBLOOM_OK || !sealed) return code;
+    uint64_t seal = kind->seal(filter->words, filter->num_words, filter->num_hashes, filter->key);
     return kind->head_write(filter->num_words, filter->num_hashes, filter->key, seal, head);
+}
+
+/* Finds out whether there is a file at a path, links followed, and what its rights are. It returns
+ * false where that can't be told, and for a folder, a device, a pipe or a socket: a new file
+ * replaces none of these. */
+static bool find_old(const char *path, struct statx *old, bool *is_there) {
+    *is_there = statx(AT_FDCWD, path, 0, STATX_TYPE | STATX_MODE | STATX_UID | STATX_GID, old) == 0;
+    if (!*is_there) return errno == ENOENT;
+    if (S_ISREG(old->stx_mode)) return true;
+    errno = S_ISDIR(old->stx_mode) ? EISDIR : EINVAL;
+    return false;
 }
 
 static uint8_t save(const struct kind *kind, const char *path, const fastbloom_filter *filter,
@@ -344,22 +362,21 @@ static uint8_t save(const struct kind *kind, const char *path, const fastbloom_f
     uint8_t head[HEAD];
     uint8_t code = write_head(kind, filter, sealed, head);
     if (code != FASTBLOOM_OK) return code;
+    struct statx about;
+    bool replaces;
+    if (!find_old(path, &about, &replaces)) return FASTBLOOM_OUTPUT;
+    const struct statx *old = replaces ? &about : NULL;
     size_t room = strlen(path) + sizeof "..part" + DRAWN;
     char *part = malloc(room);
     if (part == NULL) return FASTBLOOM_MEMORY;
-    struct statx about;
-    unsigned wanted = STATX_MODE | STATX_UID | STATX_GID;
-    const struct statx *old = statx(AT_FDCWD, path, 0, wanted, &about) == 0 ? &about : NULL;
-    int file = open_part(path, part, room, old != NULL);
+    int file = open_part(path, part, room, replaces);
     bool saved = file >= 0;
     if (saved) {
         bool is_whole = write_part(file, head, filter, old);
         close_quietly(file); /* what was flushed is safe */
         saved = put_in_place(part, path, is_whole);
     }
-    int why = errno;
-    free(part);
-    errno = why;
+    free_quietly(part);
     return saved ? FASTBLOOM_OK : FASTBLOOM_OUTPUT;
 }
 

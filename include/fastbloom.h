@@ -1,5 +1,5 @@
 /* Bloom filters over words that the caller owns: the library fastbloom_c. For C++ there is a class
- * over it in fastbloom.hpp.
+ * for each kind of filter, in fastbloom.hpp and the three headers named after it.
  *
  * A filter is an array of num_words words of 64 bits, and a number of hashes from 1 to 2^32 - 1,
  * where 0 counts as 1. The caller makes the array, may map or store it, and frees it. An array of
@@ -13,9 +13,9 @@
  * what was inserted isn't found.
  *
  * The caller must keep these rules, which nothing checks:
- *  - pointers aren't NULL, but for one whose length is 0: the last part of this header hands over
- *    another instead. They are aligned: words, hashes, found, fresh, hasher, seal, low and high to
- *    8, num_words to the alignment of size_t, num_hashes to 4;
+ *  - pointers aren't NULL, but for limits, and for one whose length is 0: the last part of this
+ *    header hands over another instead. They are aligned as their types are: those to uint64_t,
+ *    size_t and structs to 8, those to uint32_t to 4;
  *  - each pointer is to memory of the length that is given, at most 2^63 - 1 bytes. This memory
  *    stays where it is while the call runs. If it is a mapped file, nobody makes the file shorter
  *    meanwhile;
@@ -126,8 +126,9 @@ uint64_t fastbloom_hash(const uint8_t key[16], const uint8_t *bytes, size_t len)
 /* The hashes of many items by one call, for the calls on many hashes. The bytes of the items lie
  * one behind the other, and item i is those from offsets[i] up to offsets[i + 1]. So there is one
  * offset more than there are hashes, but for no item there may be none. This is how Apache Arrow
- * lays out a large binary array. It returns true. Where the numbers differ otherwise, or an offset
- * is less than the one before it or more than len, it returns false and writes nothing. */
+ * lays out a large binary array. It returns true. Where the numbers differ otherwise, or an item
+ * ends before it begins or past len, it returns false and writes nothing. With one offset there is
+ * no item, whatever the offset is. */
 FASTBLOOM_MUST_USE bool fastbloom_hash_items(const uint8_t key[16], const uint8_t *bytes,
                                              size_t len, const uint64_t *offsets,
                                              size_t num_offsets, uint64_t *hashes, size_t count);
@@ -300,8 +301,9 @@ bool fastbloom_blocked_contains(const uint64_t *words, size_t num_words, uint32_
  *  - they are aligned to 8, and stay where they are: they aren't freed, moved or unmapped;
  *  - these calls alone change or read them. No plain call and no other code touches them meanwhile,
  *    in this process or in another.
- * Other memory that a call is given (hashes, found, fresh, bytes, key, taken, loaded) is that
- * call's alone, as everywhere here. The words may be NULL where their number is 0.
+ * Of other memory, what a call may write (found, fresh, taken, loaded) is that call's alone. What
+ * it only reads (hashes, bytes, key) other calls may read at once, and nobody writes it meanwhile.
+ * The words may be NULL where their number is 0.
  *
  * Where there are no words, or more than 2^58 - 1, each of these calls returns false, or 0, and
  * touches nothing. num_hashes 0 counts as 1. */
@@ -488,7 +490,8 @@ enum fastbloom_map_mode {
 /* Maps a file, which fastbloom_unmap undoes. It returns what fastbloom_load does, and a file that
  * has a seal isn't shared: FASTBLOOM_SEALED. While it is mapped nobody writes into the file in
  * another way, or makes it shorter. A process that fills a shared file makes the calls for words
- * that threads share. */
+ * that threads share. Where the disk is full, a write into a hole of such a file ends the process
+ * by SIGBUS, and so may each write where the file system copies what is written. */
 FASTBLOOM_MUST_USE uint8_t fastbloom_map(const char *path, enum fastbloom_map_mode mode,
                                          const fastbloom_limits *limits, fastbloom_filter *filter);
 
@@ -497,7 +500,8 @@ void fastbloom_unmap(fastbloom_filter *filter);
 
 /* Writes a file, whole or not at all, with a seal or without one. The bytes go into a new file
  * beside it, which is flushed to the disk and then takes the name, with the owner and mode of the
- * file that had it. A link there is replaced. Last the folder is flushed.
+ * file that had it. A link there is replaced. But a folder, a device, a pipe or a socket is refused
+ * by FASTBLOOM_OUTPUT, also where a link leads to it. Last the folder is flushed.
  *
  * It returns FASTBLOOM_OK; or FASTBLOOM_EMPTY_WORDS, FASTBLOOM_TOO_MANY_WORDS, FASTBLOOM_MEMORY or
  * FASTBLOOM_OUTPUT, and then the old file is as it was. Only where the flush of the folder failed,

@@ -97,7 +97,8 @@ public:
     }
 
     // Writes the filter's file, whole or not at all, with a seal or without one. Where it can't be
-    // written, the old file stays: `status::output`, and errno says why.
+    // written, the old file stays: `status::output`, and errno says why. Only where the flush of
+    // the folder failed, the new file is there.
     [[nodiscard]] fastbloom::status save(const char *path, bool sealed = true) const noexcept {
         fastbloom_filter written{words_, num_words_, num_hashes_, {}};
         std::memcpy(written.key, key_.data(), key_.size());

@@ -30,7 +30,7 @@ public:
     shared_blocked_filter() noexcept = default;
 
     // The empty filter for this many items, where 0 counts as 1, at the rate num / den of false
-    // positives.
+    // positives, which is below 1.
     static result<shared_blocked_filter> make(std::uint64_t num, std::uint64_t den,
                                               std::size_t items,
                                               const key_bytes &key = {}) noexcept {
@@ -140,6 +140,9 @@ public:
     bool contains_hash(std::uint64_t hash) const noexcept {
         return fastbloom_blocked_shared_contains_hash(words_, num_hashes_, hash);
     }
+
+    // A hasher under the key of this filter, for the hash of an item that comes in pieces.
+    fastbloom::hasher begin_hash() const noexcept { return fastbloom::hasher(key_); }
 
     // The hashes of many items, whose bytes lie one behind the other, as by `filter`.
     [[nodiscard]] bool hash_items(const void *bytes, std::size_t size,

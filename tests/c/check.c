@@ -142,6 +142,8 @@ static void items_together(void) {
     CHECK(fastbloom_hash_items(counting_key, NULL, 0, (const uint64_t[]){0, 0}, 2, hashes, 1));
     CHECK(hashes[0] == 12370263754033579228u);
     CHECK(fastbloom_hash_items(counting_key, NULL, 0, NULL, 0, NULL, 0));
+    /* One offset is no item, also where it lies past the bytes. */
+    CHECK(fastbloom_hash_items(counting_key, NULL, 0, (const uint64_t[]){5}, 1, NULL, 0));
     hashes[0] = hashes[1] = hashes[2] = 42;
     for (size_t row = 0; row < sizeof wrong / sizeof *wrong; row++)
         CHECK(!fastbloom_hash_items(counting_key, bytes, sizeof bytes, wrong[row], 4, hashes, 3));

@@ -2,8 +2,9 @@
  * file of a blocked filter in hexadecimal digits.
  *
  * Files of both kinds of filters are written, read and mapped, and those with faults are refused:
- * one that is truncated at each length or goes on, one of the other kind, a folder, a pipe, a link,
- * no file, no room, no right to read or write, and limits. The reasons are those of docs/FILE.md.
+ * one that is truncated at each length or goes on, one of the other kind, a folder, a pipe, a
+ * socket, a device, no file, no room, no right to read or write, and limits. The reasons are those
+ * of docs/FILE.md.
  */
 #define _DEFAULT_SOURCE
 #include "fastbloom.h"
@@ -15,7 +16,9 @@
 #include <stdlib.h>
 #include <string.h>
 #include <sys/resource.h>
+#include <sys/socket.h>
 #include <sys/stat.h>
+#include <sys/un.h>
 #include <sys/wait.h>
 #include <unistd.h>
 
@@ -257,7 +260,8 @@ static void limits(const char *path) {
     many.num_words = 0;
     CHECK(kind->save(path, &many, true) == FASTBLOOM_EMPTY_WORDS);
     many.num_words = (size_t)1 << 58;
-    CHECK(kind->save(path, &many, false) == FASTBLOOM_TOO_MANY_WORDS);
+    for (int sealed = 0; sealed < 2; sealed++)
+        CHECK(kind->save(path, &many, sealed) == FASTBLOOM_TOO_MANY_WORDS);
     CHECK(kind->load(path, &allowed, &read) == FASTBLOOM_OK && read.num_hashes == 65);
     fastbloom_unload(&read);
 }
@@ -274,6 +278,29 @@ static void no_files(void) {
     CHECK(kind->save("none/file", &filter, true) == FASTBLOOM_OUTPUT && errno == ENOENT);
     CHECK(kind->save("", &filter, true) == FASTBLOOM_OUTPUT);
     CHECK(rmdir("folder") == 0 && unlink("pipe") == 0);
+}
+
+/* What no file replaces: a pipe, a socket, and links to a device and to themselves. */
+static void kept_paths(void) {
+    struct sockaddr_un name = {.sun_family = AF_UNIX, .sun_path = "socket"};
+    int connection = socket(AF_UNIX, SOCK_STREAM, 0);
+    CHECK(connection >= 0 && bind(connection, (struct sockaddr *)&name, sizeof name) == 0);
+    CHECK(close(connection) == 0 && mkfifo("pipe", 0600) == 0);
+    CHECK(symlink("/dev/null", "null") == 0 && symlink("ring", "ring") == 0);
+    static const struct {
+        const char *path;
+        int why;
+        mode_t kind;
+    } rows[] = {{"pipe", EINVAL, S_IFIFO},
+                {"socket", EINVAL, S_IFSOCK},
+                {"null", EINVAL, S_IFLNK},
+                {"ring", ELOOP, S_IFLNK}};
+    for (size_t i = 0; i < sizeof rows / sizeof *rows; i++) {
+        struct stat about;
+        CHECK(kind->save(rows[i].path, &filter, true) == FASTBLOOM_OUTPUT);
+        CHECK(errno == rows[i].why && lstat(rows[i].path, &about) == 0);
+        CHECK((about.st_mode & S_IFMT) == rows[i].kind && unlink(rows[i].path) == 0);
+    }
 }
 
 /* A new file has the mode that the process gives, and a later one that of the file before it. A
@@ -352,6 +379,7 @@ int main(int argc, char **argv) {
         limits("kept");
         CHECK(unlink("kept") == 0);
         no_files();
+        kept_paths();
         rights();
         no_room();
     }

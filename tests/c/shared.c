@@ -227,6 +227,24 @@ static void try_alone(void) {
     wants("words left", 0, fastbloom_shared_count_ones(few));
 }
 
+/* A hash that comes twice in one call is new once, and no bit past the hashes is set. */
+static void try_twice(void) {
+    static const uint64_t hashes[3] = {5, 5, 5};
+    uint64_t words[8] = {0}, lines[8] = {0}, fresh = UINT64_MAX;
+    fastbloom_shared few = {words, 8}, line = {lines, 8};
+    wants("told", 1, fastbloom_shared_insert_hashes_tell_new(few, 3, hashes, 2, &fresh, 1));
+    wants("the first of two is new", 1, fresh);
+    wants("told", 1, fastbloom_shared_insert_hashes_tell_new(few, 3, hashes, 3, &fresh, 1));
+    wants("none of three is new", 0, fresh);
+    fresh = UINT64_MAX;
+    wants("told", 1,
+          fastbloom_blocked_shared_insert_hashes_tell_new(line, 3, hashes, 2, &fresh, 1));
+    wants("the first of two is new in a line", 1, fresh);
+    wants("told", 1,
+          fastbloom_blocked_shared_insert_hashes_tell_new(line, 3, hashes, 3, &fresh, 1));
+    wants("none of three is new in a line", 0, fresh);
+}
+
 /* Many hashes into words that are larger than a cache, as into those of a plain filter. */
 static void try_large(void) {
     enum { LARGE = (1 << 19) + 5, COUNT = 20005 };
@@ -260,6 +278,7 @@ int main(int argc, char **argv) {
         fastbloom_blocked_insert_hash(plain[3], NUM_WORDS, 3, hash_of(i));
     }
     try_alone();
+    try_twice();
     try_large();
     for (int number = 0; number < runs; number++) {
         way = (enum way)(number % WAYS);

@@ -138,13 +138,14 @@ static void try_items() {
     CHECK(reinterpret_cast<std::uintptr_t>(seen.data()) % 64 == 0);
 }
 
-// Items that lie one behind the other have the hash of each, in every class.
+// Items that lie one behind the other, or come in pieces, have the hash of each, in every class.
 template <typename Filter> static void try_hash_items(const Filter &seen) {
     const std::vector<std::uint8_t> bytes{'c', 'r', 'a', 'b', 'e', 'e', 'l'};
     const std::vector<std::uint64_t> offsets{0, 4, 7};
     std::vector<std::uint64_t> hashes(2);
     CHECK(seen.hash_items(bytes.data(), 7, offsets.data(), 3, hashes.data(), 2));
     CHECK(hashes[0] == seen.hash("crab") && hashes[1] == seen.hash("eel"));
+    CHECK(hashes[0] == seen.begin_hash().update("cr").update("ab").finish());
     CHECK(!seen.hash_items(bytes.data(), 6, offsets.data(), 3, hashes.data(), 2));
     CHECK(seen.hash_items(nullptr, 0, nullptr, 0, nullptr, 0));
 #ifdef __cpp_lib_span

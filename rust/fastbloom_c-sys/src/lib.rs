@@ -201,8 +201,8 @@ extern "C" {
 
     /// The hashes of many items, whose bytes lie one behind the other: item i is those from
     /// `offsets[i]` up to `offsets[i + 1]`. It returns true. Where there isn't one offset more than
-    /// hashes (or none of both), or an offset is less than the one before it or more than `len`, it
-    /// returns false and writes nothing.
+    /// hashes (or none of both), or an item ends before it begins or past `len`, it returns false
+    /// and writes nothing.
     #[must_use]
     pub fn fastbloom_hash_items(
         key: *const u8,
@@ -713,7 +713,8 @@ extern "C" {
 
     /// Maps a file, which [`fastbloom_unmap`] undoes. It returns what [`fastbloom_load`] does, and
     /// [`FASTBLOOM_SEALED`] where a file that is to be shared has a seal. While it is mapped nobody
-    /// writes into it in another way, or makes it shorter.
+    /// writes into it in another way, or makes it shorter. A write into a shared file may end the
+    /// process by SIGBUS where the disk is full.
     #[must_use]
     pub fn fastbloom_map(
         path: *const c_char,
@@ -727,7 +728,8 @@ extern "C" {
 
     /// Writes a file, whole or not at all, with a seal or without one. It returns
     /// [`FASTBLOOM_OK`]; or [`FASTBLOOM_EMPTY_WORDS`], [`FASTBLOOM_TOO_MANY_WORDS`],
-    /// [`FASTBLOOM_MEMORY`] or [`FASTBLOOM_OUTPUT`], and then the old file is as it was.
+    /// [`FASTBLOOM_MEMORY`] or [`FASTBLOOM_OUTPUT`], and then the old file is as it was. What is no
+    /// regular file isn't replaced.
     #[must_use]
     pub fn fastbloom_save(path: *const c_char, filter: *const fastbloom_filter, sealed: bool)
         -> u8;
