@@ -1,8 +1,9 @@
 /* Writes each line of standard input that is new: `dedup FILE [ITEMS]`.
  *
  * What came in earlier runs is kept in FILE, which the first run makes for this many items, at a
- * rate of 1/1000. A line that is new may be held back, and none is written twice. Blocks of lines
- * are hashed and inserted by two calls. */
+ * rate of 1/1000. A line that is new may be held back, and none is written twice. But a run that
+ * fails keeps nothing, so what it wrote comes again. Blocks of lines are hashed and inserted by two
+ * calls. */
 #define _POSIX_C_SOURCE 200809L
 #include "fastbloom.h"
 
@@ -96,8 +97,8 @@ int main(int argc, char **argv) {
     uint8_t code = open_filter(argv[1], items, &filter);
     if (code != FASTBLOOM_OK) return refuse(argv[1], code);
     code = take_lines(&filter);
-    /* Lines that were written count as seen, also where a later one couldn't be. */
-    uint8_t saved = fastbloom_save(argv[1], &filter, true);
+    /* Only once all lines are written: a block is inserted before its lines are. */
+    uint8_t saved = code == FASTBLOOM_OK ? fastbloom_save(argv[1], &filter, true) : code;
     fastbloom_unload(&filter);
     if (code != FASTBLOOM_OK) return refuse("a line", code);
     return saved == FASTBLOOM_OK ? 0 : refuse(argv[1], saved);

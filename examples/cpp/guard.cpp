@@ -7,6 +7,7 @@
 #include "fastbloom_shared.hpp"
 
 #include <atomic>
+#include <cerrno>
 #include <cstdint>
 #include <cstdio>
 #include <cstdlib>
@@ -35,7 +36,8 @@ private:
 static fastbloom::result<fastbloom::shared_filter> open_filter(const char *path,
                                                                const store &behind) {
     auto mapped = fastbloom::shared_filter::map(path);
-    if (mapped || mapped.status() != fastbloom::status::input) return mapped;
+    const bool is_missing = mapped.status() == fastbloom::status::input && errno == ENOENT;
+    if (!is_missing) return mapped;
     auto made = fastbloom::filter::make(1, 100, behind.keys().size());
     if (!made) return made.status();
     made->insert_range(behind.keys());

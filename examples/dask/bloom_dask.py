@@ -13,8 +13,8 @@ The union is the filter of all keys in whatever order, number and nesting the pa
 `laws::union_of_any_parts` of the crate `summaries_engine` proves it. So a task that ran twice, or
 that another worker did again, changes nothing.
 
-Filters travel in their file form, and its seal is checked where they arrive. Workers need the
-package fastbloom and this module, which `client.upload_file` sends.
+Filters travel by pickle, as their words: a seal is in the files alone that they are saved to. Workers
+need the package fastbloom and this module, which `client.upload_file` sends.
 """
 
 import os

@@ -5,6 +5,7 @@ kept in the file SEEN, which several crawlers may share while they run. A later 
 that no earlier one did. One page in a million may be taken for one that was seen.
 """
 
+import contextlib
 import os
 import queue
 import re
@@ -20,8 +21,15 @@ THREADS = 8
 def open_seen(path):
     """The filter of a file, which is made if there is none."""
     if not os.path.exists(path):
-        # A file that is filled while it is mapped has no seal.
-        Filter(1_000_000, "1/1000000").save(path, sealed=False)
+        # A file that is filled while it is mapped has no seal. It gets its name by a link, which
+        # leaves the file of another crawler that came first.
+        made = f"{path}.{os.getpid()}"
+        Filter(1_000_000, "1/1000000").save(made, sealed=False)
+        try:
+            with contextlib.suppress(FileExistsError):
+                os.link(made, path)
+        finally:
+            os.remove(made)
     return SharedFilter.map(path)
 
 
@@ -29,7 +37,7 @@ def links_of(folder, page):
     """The pages of the folder to which a page links."""
     try:
         text = (folder / page).read_text(encoding="utf-8")
-    except (FileNotFoundError, UnicodeDecodeError):
+    except (OSError, UnicodeDecodeError):  # no page, as a folder is none
         return []
     found = (os.path.normpath(os.path.join(os.path.dirname(page), link))
              for link in re.findall(r'href="([^"#:]+)["#]', text))

@@ -1,7 +1,9 @@
 """Files that are written, read and refused. The form is that of docs/FILE.md."""
 
+import errno
 import os
 import signal
+import socket
 import stat
 import subprocess
 import sys
@@ -11,7 +13,7 @@ from pathlib import Path
 from unittest import mock
 
 import storm
-from fastbloom import Filter, Refusal
+from fastbloom import BlockedFilter, Filter, Refusal, SharedBlockedFilter, SharedFilter
 
 COUNTING_KEY = bytes(range(16))
 # One word, three hashes, and the key bytes 0 to 15, of `crab` and `lobster`: the file of a model,
@@ -133,10 +135,16 @@ class Files(unittest.TestCase):
 
     def test_a_loaded_filter_keeps_no_descriptor(self):
         self.path.write_bytes(WORKED)
+        plain, lines = Path(self.folder.name) / "plain", Path(self.folder.name) / "lines"
+        Filter.from_bytes(WORKED).save(plain, sealed=False)
+        blocked = BlockedFilter(10, "1/1000")
+        blocked.add("crab")
+        blocked.save(lines, sealed=False)
         before = len(os.listdir("/proc/self/fd"))
         loaded = [Filter.load(self.path) for _ in range(10)]
         if sys.version_info >= (3, 13):
             loaded += [Filter.load(self.path, mapped=True) for _ in range(10)]
+            loaded += [SharedFilter.map(plain), SharedBlockedFilter.map(lines)]
         self.assertEqual(len(os.listdir("/proc/self/fd")), before)
         self.assertTrue(all("crab" in seen for seen in loaded))
 
@@ -174,18 +182,85 @@ class Files(unittest.TestCase):
         modes, fsync = [], os.fsync
 
         def told(descriptor):
-            modes.append(stat.S_IMODE(os.fstat(descriptor).st_mode))
+            found = os.fstat(descriptor).st_mode
+            if stat.S_ISREG(found):
+                modes.append(stat.S_IMODE(found))
             fsync(descriptor)
 
         opened, plain_open = [], os.open
 
         def told_open(path, flags, mode=0o777, **options):
-            opened.append(mode)
+            if flags & os.O_CREAT:
+                opened.append(mode)
             return plain_open(path, flags, mode, **options)
 
         with mock.patch.object(os, "fsync", told), mock.patch.object(os, "open", told_open):
             Filter.from_bytes(WORKED).save(self.path)
         self.assertEqual((opened, modes), ([0o600], [0o600]))
+
+    def test_the_folder_is_flushed_once_the_file_has_its_name(self):
+        flushed, fsync = [], os.fsync
+
+        def told(descriptor):
+            found = os.fstat(descriptor)
+            flushed.append((stat.S_ISDIR(found.st_mode) and found.st_ino, os.listdir(folder)))
+            fsync(descriptor)
+
+        folder, here = self.folder.name, os.getcwd()
+        self.addCleanup(os.chdir, here)
+        os.chdir(folder)
+        for path in (self.path, "seen.bloom", b"seen.bloom"):
+            flushed.clear()
+            with mock.patch.object(os, "fsync", told):
+                Filter.from_bytes(WORKED).save(path)
+            self.assertEqual(len(flushed), 2)
+            self.assertFalse(flushed[0][0])
+            self.assertEqual(flushed[1], (os.stat(folder).st_ino, ["seen.bloom"]))
+            os.remove(self.path)
+
+    def test_a_folder_that_cannot_be_flushed(self):
+        fsync = os.fsync
+
+        def failing(descriptor):
+            if stat.S_ISDIR(os.fstat(descriptor).st_mode):
+                raise OSError(why, os.strerror(why))
+            fsync(descriptor)
+
+        seen = Filter.from_bytes(WORKED)
+        with mock.patch.object(os, "fsync", failing):
+            why = errno.EINVAL  # what a file system says that has no such call
+            seen.save(self.path)
+            why = errno.EIO
+            seen.add("whale")
+            with self.assertRaises(OSError) as raised:
+                seen.save(self.path)
+        self.assertEqual(raised.exception.errno, errno.EIO)
+        self.assertEqual(Filter.load(self.path), seen)
+        self.assertEqual(os.listdir(self.folder.name), [self.path.name])
+
+    def test_what_is_no_regular_file_is_neither_replaced_nor_waited_for(self):
+        folder = Path(self.folder.name)
+        os.mkfifo(folder / "pipe")
+        os.symlink("pipe", folder / "link")
+        os.symlink("/dev/null", folder / "null")
+        with socket.socket(socket.AF_UNIX) as bound:
+            bound.bind(str(folder / "socket"))
+        os.mkdir(folder / "folder")
+        names = sorted(os.listdir(folder))
+        kinds = [(folder / name).lstat().st_mode for name in names]
+        for seen in (Filter(10, "1/1000"), BlockedFilter(10, "1/1000")):
+            for name in names:
+                wanted = errno.EISDIR if name == "folder" else errno.EINVAL
+                with self.assertRaises(OSError) as raised:
+                    seen.save(folder / name)
+                self.assertEqual(raised.exception.errno, wanted)
+                self.assertRaises(OSError, type(seen).load, folder / name)
+                self.assertRaises(OSError, type(seen).load, folder / name, mapped=True)
+        for shared in (SharedFilter, SharedBlockedFilter):
+            for name in names:
+                self.assertRaises(OSError, shared.map, folder / name)
+        self.assertEqual(sorted(os.listdir(folder)), names)
+        self.assertEqual([(folder / name).lstat().st_mode for name in names], kinds)
 
     def test_a_signal_may_save_the_file_that_is_being_saved(self):
         first, second = Filter.from_bytes(WORKED), Filter.from_bytes(WORKED)

@@ -1,6 +1,7 @@
 """Many items, many hashes, and sets of filters at once."""
 
 import array
+import ctypes
 import inspect
 import math
 import pickle
@@ -116,6 +117,30 @@ class Hashes(unittest.TestCase):
         self.assertEqual(empty.contains_hashes(array.array("Q")), [])
         self.assertEqual(empty.add_hashes_tell_new(array.array("Q")), [])
         self.assertEqual(empty, small())
+
+    def test_no_null_pointer_reaches_the_library(self):
+        """The library asks for an address also where there is nothing."""
+        def raising():
+            raise KeyError
+            yield "crab"
+
+        pointers = []
+
+        def call(*arguments):
+            pointers.append(arguments[-2])
+            return True
+
+        for cls, kind in ((Filter, ""), (SharedFilter, "shared_"), (BlockedFilter, "blocked_"),
+                          (SharedBlockedFilter, "blocked_shared_")):
+            seen = cls(10, "1/1000")
+            with mock.patch.object(library, f"{kind}contains_hashes", call), \
+                    mock.patch.object(library, f"{kind}insert_hashes_tell_new", call):
+                self.assertEqual(seen.contains_hashes(array.array("Q")), [])
+                self.assertEqual(seen.add_hashes_tell_new(array.array("Q")), [])
+                self.assertRaises(KeyError, seen.contains_many, raising())
+        self.assertEqual(len(pointers), 12)
+        for pointer in pointers:
+            self.assertTrue(pointer is not None and ctypes.addressof(pointer))
 
     def test_other_buffers_are_refused(self):
         others = [array.array("q", [1]), array.array("I", [1, 2]), bytes(8), "12345678", 5, [1],

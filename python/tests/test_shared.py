@@ -142,6 +142,16 @@ class Processes(unittest.TestCase):
             memory.close()
             memory.unlink()
 
+    def test_processes_that_are_forked_fill_one_filter(self):
+        for filters in (SharedFilter, SharedBlockedFilter):
+            seen = filters(1000, "1/1000")
+            child = os.fork()
+            if child == 0:
+                os._exit(0 if not seen.add("crab") else 1)
+            self.assertEqual(os.waitpid(child, 0)[1], 0)
+            self.assertIn("crab", seen)
+            self.assertNotIn("whale", seen)
+
     def test_processes_fill_a_mapped_file(self):
         with tempfile.TemporaryDirectory() as folder:
             path = str(Path(folder) / "seen.bloom")
@@ -211,13 +221,31 @@ class Calls(unittest.TestCase):
         for buffer in (bytearray(9), memoryview(bytearray(24))[4:12]):
             with self.assertRaisesRegex(ValueError, "eight bytes"):
                 SharedFilter.over(buffer, 1)
-        for hashes in (0, 2**32):
-            with self.assertRaises(ValueError):
-                SharedFilter.over(bytearray(8), hashes)
+        for filters, size in ((SharedFilter, 8), (SharedBlockedFilter, 64)):
+            for hashes in (0, 2**32):
+                with self.assertRaises(ValueError):
+                    filters.over(bytearray(size), hashes)
+            for hashes in (7.0, "7", None):
+                with self.assertRaises(TypeError):
+                    filters.over(bytearray(size), hashes)
         with self.assertRaisesRegex(TypeError, "isn't pickled"):
             pickle.dumps(zeros(1))
         with self.assertRaisesRegex(TypeError, "made once"):
             zeros(1).__init__(1, "1/2")
+
+    def test_a_number_of_hashes_may_be_another_kind_of_integer(self):
+        class Seven:
+            def __index__(self):
+                return 7
+
+        for filters in (SharedFilter, SharedBlockedFilter):
+            seen = filters.over(bytearray(64), Seven())
+            self.assertFalse(seen.add("crab"))
+            self.assertTrue("crab" in seen and seen.num_hashes == 7)
+
+    def test_a_size_for_which_there_is_no_memory(self):
+        for filters in (SharedFilter, SharedBlockedFilter):
+            self.assertRaises(MemoryError, filters, 10**16, "1/1000")
 
     def test_a_filter_that_was_released_has_no_words(self):
         memory = mmap.mmap(-1, 4096)

@@ -11,7 +11,7 @@ from typing import (
     TYPE_CHECKING, Any, Callable, Iterable, List, Optional, Tuple, Type, TypeVar, Union)
 
 from . import _library as library
-from ._files import Path, map_file, write_file
+from ._files import Path, map_file, open_regular, write_file
 from ._filter import (
     _CUT, _HEAD, _SEAL, Refusal, _add_attributes, _attributes_of, _check, _check_file, _hash_value,
     _number_of_items, _parts, _state_of)
@@ -377,7 +377,7 @@ class BlockedFilter:
 
         It raises OSError where the file can't be read, and as `from_bytes` where it is refused.
         """
-        with open(path, "rb") as file:
+        with open_regular(path) as file:
             head, size = file.read(_HEAD), os.fstat(file.fileno()).st_size
             num_words, num_hashes, key, seal = _check_file(
                 head, size, max_hashes, library.blocked_head_read)

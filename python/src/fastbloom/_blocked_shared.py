@@ -4,12 +4,13 @@ from __future__ import annotations
 
 import ctypes
 import mmap
+import operator
 import os
 from typing import Any, Callable, Iterable, List, NoReturn, Union
 
 from . import _library as library
 from ._blocked import _LINE, BlockedFilter
-from ._files import Path
+from ._files import Path, map_file, open_regular, shared_memory
 from ._filter import (
     _HEAD, Refusal, _check, _check_file, _hash_value, _number_of_items, _parts)
 from ._items import Buffer, Item, Rate, bytes_of, check_many, plain_bytes
@@ -35,11 +36,7 @@ class SharedBlockedFilter:
         num, den = _parts(rate)
         words, hashes = ctypes.c_size_t(), ctypes.c_uint32()
         _check(library.blocked_plan(num, den, items, words, hashes))
-        size = 8 * words.value
-        memory = memoryview(bytearray(size + _LINE))
-        # The words begin where a line of the cache does.
-        first = -ctypes.addressof(ctypes.c_char.from_buffer(memory)) % _LINE
-        self._set(memory[first:first + size], hashes.value, key)
+        self._set(shared_memory(8 * words.value), hashes.value, key)
 
     @classmethod
     def over(cls, buffer: Buffer, num_hashes: int, key: Buffer = bytes(16)) -> SharedBlockedFilter:
@@ -47,8 +44,10 @@ class SharedBlockedFilter:
 
         A process that has the same memory mapped fills the same filter. The buffer stays in use
         until `release`. It is best aligned to 64. ValueError: its bytes aren't lines of 64 bytes, or
-        aren't aligned to 8, or a number is out of range. TypeError: it can't be written.
+        aren't aligned to 8, or a number is out of range. TypeError: it can't be written, or the
+        number is no integer.
         """
+        num_hashes = operator.index(num_hashes)
         if not 1 <= num_hashes < 2**32:
             raise ValueError("hashes are from 1 to 2^32 - 1")
         made = cls.__new__(cls)
@@ -61,15 +60,15 @@ class SharedBlockedFilter:
 
         What is added goes into the file. It must have no seal, which adds would make wrong: make it
         by `BlockedFilter.save(path, sealed=False)`. A seal raises ValueError; else it raises as
-        `BlockedFilter.load`.
+        `SharedFilter.map`.
         """
-        with open(path, "r+b") as file:
+        with open_regular(path, "r+b") as file:
             head, size = file.read(_HEAD), os.fstat(file.fileno()).st_size
             _, num_hashes, key, seal = _check_file(
                 head, size, max_hashes, library.blocked_head_read)
             if seal:
                 raise ValueError("the file has a seal, which adds would make wrong")
-            memory = mmap.mmap(file.fileno(), size, access=mmap.ACCESS_WRITE)
+            memory = map_file(file, size, mmap.ACCESS_WRITE)
         made = cls.__new__(cls)
         made._set(memoryview(memory)[_HEAD:], num_hashes, key)
         return made

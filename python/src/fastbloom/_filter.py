@@ -18,7 +18,7 @@ from typing import (
     Union)
 
 from . import _library as library
-from ._files import Path, map_file, read_whole, write_file
+from ._files import Path, map_file, open_regular, read_whole, write_file
 from ._items import Buffer, Item, Rate, bytes_of, check_many, plain_bytes
 from ._locks import alone, alone_with, new_lock
 from ._many import Hashes, each_part, told, words_of
@@ -710,7 +710,7 @@ class Filter:
         isn't to be truncated or written while it is mapped, as by `cp`: the filter would lose
         members, or the process end by a signal. `save` replaces it by a new file.
         """
-        with open(path, "rb") as file:
+        with open_regular(path) as file:
             head, size = file.read(_HEAD), os.fstat(file.fileno()).st_size
             told = _check_file(head, size, max_hashes)
             memory = map_file(file, size) if mapped else read_whole(file, head, size)

@@ -82,6 +82,7 @@ def told(call: Callable[..., bool], before: Tuple[Any, ...], hashes: Hashes) -> 
     """Makes a call on hashes that tells of each by a bit."""
     count = hashes[1]
     bits = bytearray((count + 63) // 64 * 8)
-    words = (ctypes.c_uint64 * (len(bits) // 8)).from_buffer(bits) if bits else None
+    # The library asks for an address even where there is nothing.
+    words = (ctypes.c_uint64 * (len(bits) // 8)).from_buffer(bits or bytearray(8))
     call(*before, *hashes, words, len(bits) // 8)
     return Mask(bits, count)

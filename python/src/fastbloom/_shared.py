@@ -4,11 +4,12 @@ from __future__ import annotations
 
 import ctypes
 import mmap
+import operator
 import os
 from typing import Any, Callable, Iterable, List, NoReturn, Union
 
 from . import _library as library
-from ._files import Path
+from ._files import Path, map_file, open_regular, shared_memory
 from ._filter import (
     _HEAD, Filter, Refusal, _check, _check_file, _hash_value, _number_of_items, _parts)
 from ._items import Buffer, Item, Rate, bytes_of, check_many, plain_bytes
@@ -22,9 +23,10 @@ class SharedFilter:
     """A set of texts or bytes that threads and processes fill at once, and that loses nothing.
 
     Each call is made of atomic operations on single words. So none waits for another, and the
-    interpreter's lock is let go while one runs. The words are memory of the filter's own; or a
-    buffer, as of `multiprocessing.shared_memory`, by `over`; or a file, by `map`. While any process
-    uses such words, nothing but shared filters touches them.
+    interpreter's lock is let go while one runs. The words are memory of the filter's own, which
+    processes share that are forked of this one; or a buffer, as of `multiprocessing.shared_memory`,
+    by `over`; or a file, by `map`. While any process uses such words, nothing but shared filters
+    touches them.
 
     Items are those of `Filter`, which is quicker where one thread adds at a time.
     """
@@ -37,7 +39,7 @@ class SharedFilter:
         num, den = _parts(rate)
         words, hashes = ctypes.c_size_t(), ctypes.c_uint32()
         _check(library.plan(num, den, items, words, hashes))
-        self._set(bytearray(8 * words.value), 0, hashes.value, key)
+        self._set(shared_memory(8 * words.value), 0, hashes.value, key)
 
     @classmethod
     def over(cls, buffer: Buffer, num_hashes: int, key: Buffer = bytes(16)) -> SharedFilter:
@@ -45,8 +47,9 @@ class SharedFilter:
 
         A process that has the same memory mapped fills the same filter. The buffer stays in use
         until `release`. ValueError: its bytes aren't words of 64 bits, or aren't aligned to 8, or a
-        number is out of range. TypeError: it can't be written.
+        number is out of range. TypeError: it can't be written, or the number is no integer.
         """
+        num_hashes = operator.index(num_hashes)
         if not 1 <= num_hashes < 2**32:
             raise ValueError("hashes are from 1 to 2^32 - 1")
         made = cls.__new__(cls)
@@ -59,14 +62,15 @@ class SharedFilter:
 
         What is added goes into the file. It must have no seal, which adds would make wrong: make it
         by `Filter.save(path, sealed=False)`. A seal raises ValueError; else it raises as
-        `Filter.load`.
+        `Filter.load`. Where the disk is full, an add into a hole of the file ends the process by a
+        signal, and so may any add where the file system copies what is written.
         """
-        with open(path, "r+b") as file:
+        with open_regular(path, "r+b") as file:
             head, size = file.read(_HEAD), os.fstat(file.fileno()).st_size
             _, num_hashes, key, seal = _check_file(head, size, max_hashes)
             if seal:
                 raise ValueError("the file has a seal, which adds would make wrong")
-            memory = mmap.mmap(file.fileno(), size, access=mmap.ACCESS_WRITE)
+            memory = map_file(file, size, mmap.ACCESS_WRITE)
         made = cls.__new__(cls)
         made._set(memory, _HEAD, num_hashes, key)
         return made
