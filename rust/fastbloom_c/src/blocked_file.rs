@@ -1,11 +1,10 @@
 //! Files of blocked filters, whose heads say that their words are lines.
 
 use crate::in_file::{self, InFile, MAX_HASHES};
-use crate::paths::save;
+use crate::paths::{load, save};
 use crate::raw::{Head, Key, Kind};
 use crate::raw_blocked::Line;
 use crate::{BlockedBloomFilter, Error};
-use std::fs::File;
 use std::io::{self, Read, Write};
 use std::path::Path;
 
@@ -142,7 +141,7 @@ impl BlockedBloomFilter {
     /// ```
     ///
     /// # Errors
-    /// That of the file system. What was at the path is then still there.
+    /// As [`BloomFilter::save`](crate::BloomFilter::save).
     pub fn save(&self, path: impl AsRef<Path>) -> io::Result<()> {
         save(path.as_ref(), |file| in_file::write(self, file, true))
     }
@@ -169,7 +168,7 @@ impl BlockedBloomFilter {
         save(path.as_ref(), |file| in_file::write(self, file, false))
     }
 
-    /// Reads the file at a path, as [`read_file`](Self::read_file).
+    /// Reads the file at a path, as [`BloomFilter::load`](crate::BloomFilter::load).
     ///
     /// ```
     /// # use fastbloom_c::{BlockedBloomFilter, Error};
@@ -183,8 +182,9 @@ impl BlockedBloomFilter {
     /// ```
     ///
     /// # Errors
-    /// As `read_file`; and [`Error::Input`] where the file can't be opened.
+    /// As [`from_bytes`](Self::from_bytes); and [`Error::Input`] as
+    /// [`BloomFilter::load`](crate::BloomFilter::load).
     pub fn load(path: impl AsRef<Path>) -> Result<BlockedBloomFilter, Error> {
-        BlockedBloomFilter::read_file(&mut File::open(path)?)
+        load(path.as_ref())
     }
 }

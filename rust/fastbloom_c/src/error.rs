@@ -64,8 +64,7 @@ pub enum Error {
 }
 
 impl Error {
-    /// The number that the header `fastbloom.h` names. `TooManyHashes`, `OtherShape` and `NotARate`
-    /// have none.
+    /// The number that the header `fastbloom.h` names. `OtherShape` and `NotARate` have none.
     ///
     /// ```
     /// use fastbloom_c::Error;
@@ -93,7 +92,8 @@ impl Error {
             Error::PartOfALine => fastbloom_c_sys::FASTBLOOM_PART_OF_A_LINE,
             Error::Blocked => fastbloom_c_sys::FASTBLOOM_BLOCKED,
             Error::NotBlocked => fastbloom_c_sys::FASTBLOOM_NOT_BLOCKED,
-            Error::TooManyHashes | Error::OtherShape | Error::NotARate => return None,
+            Error::TooManyHashes => fastbloom_c_sys::FASTBLOOM_TOO_MANY_HASHES,
+            Error::OtherShape | Error::NotARate => return None,
         })
     }
 

@@ -175,17 +175,28 @@ fn unsealed<F: InFile>(head: Head, units: Vec<F::Unit>) -> Result<F, Error> {
 
 /// The filter of a file's bytes.
 pub(crate) fn from_bytes<F: InFile>(bytes: &[u8], max_hashes: u32) -> Result<F, Error> {
+    read_sized(&mut &*bytes, bytes.len() as u64, max_hashes)
+}
+
+/// Reads a file of this size, which is compared before memory is asked for.
+pub(crate) fn read_sized<F: InFile>(
+    input: &mut impl Read,
+    size: u64,
+    max_hashes: u32,
+) -> Result<F, Error> {
     let mut head = [0; 64];
-    let there = fill(&mut &*bytes, &mut head)?;
+    let there = fill(input, &mut head)?;
     let num_words = num_words_of(&head, there)?;
-    if bytes.len() < 64 + 8 * num_words {
+    let wanted = 64 + 8 * num_words as u64;
+    // (a file may have become shorter since its size was told)
+    if size < wanted || there < head.len() {
         return Err(Error::Cut);
     }
-    if bytes.len() > 64 + 8 * num_words {
+    if size > wanted {
         return Err(Error::TooLong);
     }
     let head = whole_head(F::KIND, &head, max_hashes)?;
-    unsealed(head, read_units(&mut &bytes[64..], num_words, num_words)?)
+    unsealed(head, read_units(input, num_words, num_words)?)
 }
 
 /// Reads a file to its end.

@@ -1,4 +1,5 @@
-//! Filters in mapped files. Beside `raw` and `raw_shared` this module alone has unsafe code.
+//! Filters in mapped files. Beside the modules whose names begin with `raw` this one alone has
+//! unsafe code.
 
 use crate::raw::Kind;
 use crate::{
@@ -546,7 +547,9 @@ impl AtomicBloomFilter<MappedWords> {
     ///
     /// # Safety
     /// While it is mapped nobody makes the file shorter, and nobody writes into it but by such
-    /// filters, or by the library's calls on shared words.
+    /// filters, or by the library's calls on shared words. The disk has room for what is written
+    /// into a hole of the file, or wherever the file system copies what is written: otherwise the
+    /// process ends by a signal.
     pub unsafe fn map(path: impl AsRef<Path>) -> Result<AtomicBloomFilter<MappedWords>, Error> {
         // SAFETY: the caller keeps the same rule.
         let mapping =

@@ -1,6 +1,7 @@
 //! Files by their paths, written whole or not at all.
 
-use crate::{in_file, BloomFilter, Error};
+use crate::in_file::{self, InFile, MAX_HASHES};
+use crate::{BloomFilter, Error};
 use std::ffi::OsString;
 use std::fs::{self, File, Metadata, OpenOptions, Permissions};
 use std::io;
@@ -70,26 +71,69 @@ impl Drop for Part {
     }
 }
 
-/// Writes a file whole or not at all: a new one beside the one at the path, which then takes its
-/// place.
-pub(crate) fn save(path: &Path, write: impl FnOnce(&mut File) -> io::Result<()>) -> io::Result<()> {
-    let before = match fs::metadata(path) {
-        Ok(before) => Some(before),
-        Err(error) if error.kind() == io::ErrorKind::NotFound => None,
-        Err(error) => return Err(error),
+/// Refuses a folder, a device, a pipe and a socket.
+fn check_regular(found: &Metadata) -> io::Result<()> {
+    if found.is_file() {
+        return Ok(());
+    }
+    let kind = if found.is_dir() {
+        io::ErrorKind::IsADirectory
+    } else {
+        io::ErrorKind::InvalidInput
     };
+    Err(io::Error::new(kind, "no regular file"))
+}
+
+/// The status of the file at a path, links followed, if there is one.
+fn status_of(path: &Path) -> io::Result<Option<Metadata>> {
+    match fs::metadata(path) {
+        Ok(found) => check_regular(&found).map(|()| Some(found)),
+        Err(error) if error.kind() == io::ErrorKind::NotFound => Ok(None),
+        Err(error) => Err(error),
+    }
+}
+
+/// Flushes the folder of a file, so that the file's name outlasts a loss of power.
+fn flush_folder(path: &Path) -> io::Result<()> {
+    let folder = path.parent().filter(|it| !it.as_os_str().is_empty());
+    match File::open(folder.unwrap_or(Path::new(".")))?.sync_all() {
+        // (some file systems have no such call, and need none)
+        Err(error) if error.kind() == io::ErrorKind::InvalidInput => Ok(()),
+        flushed => flushed,
+    }
+}
+
+/// Writes a file whole or not at all: a new one beside the one at the path, which then takes its
+/// place. Last the folder is flushed.
+pub(crate) fn save(path: &Path, write: impl FnOnce(&mut File) -> io::Result<()>) -> io::Result<()> {
+    let before = status_of(path)?;
     let mut part = Part::create(path, before.as_ref())?;
     write(&mut part.file)?;
     if let Some(before) = &before {
         part.give_rights(before)?;
     }
     part.file.sync_all()?;
-    part.place(path)
+    part.place(path)?;
+    flush_folder(path)
+}
+
+/// Reads the file at a path. A folder, a device or a pipe is refused, and not waited for.
+pub(crate) fn load<F: InFile>(path: &Path) -> Result<F, Error> {
+    // As the system has them on x86-64: the open waits for nobody, and takes no terminal.
+    const O_NONBLOCK: i32 = 0o4000;
+    const O_NOCTTY: i32 = 0o400;
+    let mut options = OpenOptions::new();
+    options.read(true).custom_flags(O_NONBLOCK | O_NOCTTY);
+    let mut file = options.open(path)?;
+    let found = file.metadata()?;
+    check_regular(&found)?;
+    in_file::read_sized(&mut file, found.len(), MAX_HASHES)
 }
 
 impl BloomFilter {
     /// Writes the file of this filter, sealed, whole or not at all. A new file is written beside
-    /// the one at the path, gets its owner and mode, and then replaces it.
+    /// the one at the path, gets its owner and mode, and then replaces it. Last the folder is
+    /// flushed, so that the file's name outlasts a loss of power.
     ///
     /// ```
     /// # use fastbloom_c::BloomFilter;
@@ -102,7 +146,9 @@ impl BloomFilter {
     /// ```
     ///
     /// # Errors
-    /// That of the file system. What was at the path is then still there.
+    /// That of the file system; and where a folder, a device, a pipe or a socket is at the path.
+    /// What was there is then still there. Only where the flush of the folder failed, the new file
+    /// is.
     pub fn save(&self, path: impl AsRef<Path>) -> io::Result<()> {
         save(path.as_ref(), |file| in_file::write(self, file, true))
     }
@@ -128,7 +174,8 @@ impl BloomFilter {
         save(path.as_ref(), |file| in_file::write(self, file, false))
     }
 
-    /// Reads the file at a path, as [`read_file`](Self::read_file).
+    /// Reads the file at a path, of at most 64 hashes. Its size is compared before memory is asked
+    /// for.
     ///
     /// ```
     /// # use fastbloom_c::{BloomFilter, Error};
@@ -142,8 +189,9 @@ impl BloomFilter {
     /// ```
     ///
     /// # Errors
-    /// As `read_file`; and [`Error::Input`] where the file can't be opened.
+    /// As [`from_bytes`](Self::from_bytes); and [`Error::Input`] where the file can't be opened or
+    /// read. So it is for a folder, a device or a pipe, which isn't waited for.
     pub fn load(path: impl AsRef<Path>) -> Result<BloomFilter, Error> {
-        BloomFilter::read_file(&mut File::open(path)?)
+        load(path.as_ref())
     }
 }

@@ -1,7 +1,8 @@
 //! Hashes of items that come in pieces.
 
-use crate::{raw, BloomFilter};
+use crate::{raw, AtomicBlockedBloomFilter, AtomicBloomFilter, BlockedBloomFilter, BloomFilter};
 use std::fmt;
+use std::sync::atomic::AtomicU64;
 
 /// The hash of an item that comes in pieces: SipHash-1-3 of all pieces, one behind the other.
 ///
@@ -75,5 +76,54 @@ impl BloomFilter {
     #[must_use]
     pub fn begin_hash(&self) -> Hasher {
         Hasher::new(&self.key)
+    }
+}
+
+impl BlockedBloomFilter {
+    /// As [`BloomFilter::begin_hash`].
+    ///
+    /// ```
+    /// # use fastbloom_c::BlockedBloomFilter;
+    /// let seen = BlockedBloomFilter::with_num_bits(1024)?.items(["crab"]);
+    /// let hash = seen.begin_hash().update("cr").update("ab").finish();
+    /// assert!(seen.contains_hash(hash));
+    /// # Ok::<(), fastbloom_c::Error>(())
+    /// ```
+    #[must_use]
+    pub fn begin_hash(&self) -> Hasher {
+        Hasher::new(self.key())
+    }
+}
+
+impl<W: AsRef<[AtomicU64]>> AtomicBloomFilter<W> {
+    /// As [`BloomFilter::begin_hash`].
+    ///
+    /// ```
+    /// # use fastbloom_c::{AtomicBloomFilter, BloomFilter};
+    /// let seen = AtomicBloomFilter::from(BloomFilter::with_num_bits(1024)?.items(["crab"]));
+    /// let hash = seen.begin_hash().update("cr").update("ab").finish();
+    /// assert!(seen.contains_hash(hash));
+    /// # Ok::<(), fastbloom_c::Error>(())
+    /// ```
+    #[must_use]
+    pub fn begin_hash(&self) -> Hasher {
+        Hasher::new(self.key())
+    }
+}
+
+impl<W: AsRef<[AtomicU64]>> AtomicBlockedBloomFilter<W> {
+    /// As [`BloomFilter::begin_hash`].
+    ///
+    /// ```
+    /// # use fastbloom_c::{AtomicBlockedBloomFilter, BlockedBloomFilter};
+    /// let lines = BlockedBloomFilter::with_num_bits(1024)?.items(["crab"]);
+    /// let seen = AtomicBlockedBloomFilter::from(lines);
+    /// let hash = seen.begin_hash().update("cr").update("ab").finish();
+    /// assert!(seen.contains_hash(hash));
+    /// # Ok::<(), fastbloom_c::Error>(())
+    /// ```
+    #[must_use]
+    pub fn begin_hash(&self) -> Hasher {
+        Hasher::new(self.key())
     }
 }

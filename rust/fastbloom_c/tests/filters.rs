@@ -48,7 +48,16 @@ fn pieces_have_the_hash_of_the_whole() {
         .expect("bits")
         .seed(&seed)
         .hashes(1);
-    for begun in [Hasher::new(&key), seen.begin_hash()] {
+    let lines = BlockedBloomFilter::with_num_bits(512).expect("a line");
+    let lines = lines.seed(&seed).hashes(1);
+    let (shared, shared_lines) = (seen.clone().into(), lines.clone().into());
+    for begun in [
+        Hasher::new(&key),
+        seen.begin_hash(),
+        lines.begin_hash(),
+        AtomicBloomFilter::begin_hash(&shared),
+        AtomicBlockedBloomFilter::begin_hash(&shared_lines),
+    ] {
         assert_eq!(begun.finish(), 0xabac_0158_050f_c4dc);
         for cut in 0..=15 {
             for end in cut..=15 {

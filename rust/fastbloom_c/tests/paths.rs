@@ -1,9 +1,11 @@
 //! Files by their paths, operators on filters, filters of iterators, and rates that are read.
 
-use fastbloom_c::{BloomFilter, Error, Rate};
+use fastbloom_c::{BlockedBloomFilter, BloomFilter, Error, Rate};
 use std::error::Error as _;
-use std::os::unix::fs::{symlink, PermissionsExt};
+use std::os::unix::fs::{symlink, FileTypeExt, PermissionsExt};
+use std::os::unix::net::UnixListener;
 use std::path::PathBuf;
+use std::process::Command;
 use std::{env, fs, io, panic, process};
 
 /// A folder that is removed in the end.
@@ -95,6 +97,42 @@ fn what_cannot_be_loaded_is_told() {
     let path = folder.0.join("text");
     fs::write(&path, "a text, and no filter").unwrap();
     assert_eq!(BloomFilter::load(&path), Err(Error::NotAFilter));
+}
+
+#[test]
+fn what_is_no_regular_file_is_neither_replaced_nor_waited_for() {
+    let folder = Folder::new("irregular");
+    let path = |name: &str| folder.0.join(name);
+    fs::create_dir(path("folder")).unwrap();
+    drop(UnixListener::bind(path("socket")).unwrap());
+    symlink("/dev/null", path("null")).unwrap();
+    let made = Command::new("mkfifo").arg(path("pipe")).status().unwrap();
+    assert!(made.success());
+    let lines = BlockedBloomFilter::with_num_bits(512).unwrap().hashes(4);
+    for name in folder.names() {
+        let wanted = match &name[..] {
+            "folder" => io::ErrorKind::IsADirectory,
+            _ => io::ErrorKind::InvalidInput,
+        };
+        assert_eq!(seen().save(path(&name)).unwrap_err().kind(), wanted);
+        assert_eq!(lines.save_unsealed(path(&name)).unwrap_err().kind(), wanted);
+        let refused = BloomFilter::load(path(&name));
+        assert!(matches!(refused, Err(Error::Input(_))), "{name}");
+        let refused = BlockedBloomFilter::load(path(&name));
+        assert!(matches!(refused, Err(Error::Input(_))), "{name}");
+    }
+    assert_eq!(folder.names(), ["folder", "null", "pipe", "socket"]);
+    let kind = |name| path(name).symlink_metadata().unwrap().file_type();
+    assert!(kind("null").is_symlink() && kind("pipe").is_fifo() && kind("socket").is_socket());
+}
+
+#[test]
+fn a_file_is_saved_in_the_folder_where_the_process_is() {
+    let name = format!("fastbloom-here-{}.bloom", process::id());
+    seen().save(&name).unwrap();
+    let read = BloomFilter::load(&name);
+    fs::remove_file(&name).unwrap();
+    assert_eq!(read.unwrap(), seen());
 }
 
 #[test]

@@ -86,7 +86,11 @@ fn all() -> [(Error, Option<u8>, &'static str); 19] {
             Some(15),
             "input failed: timed out",
         ),
-        (Error::TooManyHashes, None, "more hashes than are allowed"),
+        (
+            Error::TooManyHashes,
+            Some(255),
+            "more hashes than are allowed",
+        ),
         (
             Error::PartOfALine,
             Some(16),
