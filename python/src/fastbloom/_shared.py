@@ -95,7 +95,11 @@ class SharedFilter:
         self._num_hashes, self._key = num_hashes, key
 
     def release(self) -> None:
-        """Lets go of the buffer, once no other thread uses the filter. It then has no words."""
+        """Lets go of the buffer, once no other thread uses the filter.
+
+        It then has no words: it contains nothing, and keeps nothing that is added. `load` and
+        `take` raise Refusal.
+        """
         self._words = library.SharedWords(None, 0)
         self._view.release()
         self._owner = None
