@@ -13,8 +13,8 @@ The union is the filter of all keys in whatever order, number and nesting the pa
 `laws::union_of_any_parts` of the crate `summaries_engine` proves it. So a task that ran twice, or
 that another worker did again, changes nothing.
 
-Filters travel by pickle, as their words: a seal is in the files alone that they are saved to. Workers
-need the package fastbloom and this module, which `client.upload_file` sends.
+Filters travel by pickle, as their words, which have no seal; the files that they are saved to have
+one. Workers need the package fastbloom and this module, which `client.upload_file` sends.
 """
 
 import os

@@ -1,8 +1,8 @@
 """A crawler's set of pages that were seen: `crawler.py SEEN FOLDER PAGE..`.
 
 Eight threads visit the pages, and what these link to within the folder, each page once. The set is
-kept in the file SEEN, which several crawlers may share while they run. A later run visits only pages
-that no earlier one did. One page in a million may be taken for one that was seen.
+kept in the file SEEN, which several crawlers may share while they run. A later run visits only
+pages that no earlier one did. One page in a million may be taken for one that was seen.
 """
 
 import contextlib
