@@ -131,10 +131,11 @@ def are_tools_known():
         return is_of_kit and sorted(left) == sorted(UNUSED)
 
 
-def handed_on(*words):
-    """What the full check, with these words, calls this program with, and its status.
+def handed_on(*words, rt='', part=''):
+    """What the full check, with these words, calls this program with, its status, and its output.
 
     It runs in a tree where one crate has a record and another has none. All that it calls is well.
+    More may be done in place of rt, or of each part.
     """
     with scratch() as top:
         for name in ('old', 'new'):
@@ -142,23 +143,46 @@ def handed_on(*words):
         write(f'{top}/crates/old/wrong-bodies/RECORD', 'text')
         check = f'{os.path.dirname(BIN)}/.ci/run'
         calls = set(re.findall(r'\b(?:bin|dev)/[\w-]+', bytes_of(check).decode()))
-        for file in ('rt', *calls):
-            told = f'echo {file} "$@" >> {top}/log'
-            write(f'{top}/{file}', f'#!/bin/sh\n{told}\necho 1 passed, 0 failed\n')
+        # All packages are there, and none is fetched.
+        dpkg, apt = 'echo install ok installed', 'exit 1'
+        for file, more in (('rt', rt), ('dpkg-query', dpkg), ('apt-get', apt),
+                           *((it, part) for it in calls)):
+            told = f'echo {file} "$@" >> {top}/out/log'
+            write(f'{top}/{file}', f'#!/bin/sh\n{told}\n{more}\necho 1 passed, 0 failed\n')
             os.chmod(f'{top}/{file}', 0o755)
+        write(f'{top}/.gitignore', 'out/\n')
+        os.mkdir(f'{top}/out')
         os.mkdir(f'{top}/.ci')
         shutil.copy(check, f'{top}/.ci/run')
+        commit = 'git init -q && git add . && git -c user.name=a -c user.email=a@b commit -qm all'
+        subprocess.run(['sh', '-c', commit], cwd=top, check=True)
         env = {**os.environ, 'PATH': f'{top}:{os.environ["PATH"]}'}
         run = subprocess.run([f'{top}/.ci/run', *words], env=env, capture_output=True, text=True)
-        called = bytes_of(f'{top}/log').decode() if os.path.exists(f'{top}/log') else ''
+        called = bytes_of(f'{top}/out/log').decode() if os.path.exists(f'{top}/out/log') else ''
         tries = re.findall(r'^dev/wrong-bodies (--record )?((?:new |old ?)+)$', called, re.M)
-        return run.returncode, tries, 'wrong bodies of new' in run.stdout
+        return run.returncode, tries, run.stdout
 
 
 def does_check_hand_on():
     """Whether the full check writes records where it is told to, and there alone."""
-    return ([handed_on(), handed_on('--record'), handed_on('--records')]
-            == [(0, [('', 'old')], True), (0, [('--record ', 'new old')], False), (2, [], False)])
+    runs = [handed_on(), handed_on('--record', part='echo > crates/new/wrong-bodies/RECORD'),
+            handed_on('--records')]
+    found = [(status, tries, 'wrong bodies of new' in said) for status, tries, said in runs]
+    return found == [(0, [('', 'old')], True), (0, [('--record ', 'new old')], False),
+                     (2, [], False)]
+
+
+def faults_of_checks():
+    """What the full check has to notice, and whether it does."""
+    bad, edited = handed_on(rt='echo a: BAD EDIT: b'), handed_on(part='echo text > crates/text')
+    lacking = handed_on(part='echo skipped a: b; echo test-c: skipped: c; echo "3 skipped"')
+    left = [it for it in lacking[2].splitlines() if it.startswith('not run: dev/draws')]
+    return {
+        'the full check fails by a bad edit': bad[0] == 1 and 'failed: edits of must-fail' in bad[2],
+        'the full check fails by a change': edited[0] == 1 and 'changed meanwhile' in edited[2],
+        'the full check tells the tests that a part skips':
+            (lacking[0], left) == (0, ['not run: dev/draws: a: b', 'not run: dev/draws: c']),
+    }
 
 
 def said_of_bodies(lanes):
@@ -194,7 +218,7 @@ def self_test(lanes):
               'a crate ends once all are refused': are_all_refused(),
               'the tools are known': are_tools_known(),
               'the full check writes records if told to': does_check_hand_on(),
-              **tested_records()}
+              **faults_of_checks(), **tested_records()}
     for what in (it for it, is_well in others.items() if not is_well):
         print(f'expected: {what}')
     well = sum(others.values())
