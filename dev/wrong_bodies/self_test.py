@@ -9,6 +9,7 @@ import subprocess
 import tempfile
 
 from wrong_bodies.bodies import Body, bodies_in, functions_of
+from wrong_bodies.by_tests import try_by_tests
 from wrong_bodies.records import BIN, UNUSED, Recorder, Records, bytes_of, tools
 from wrong_bodies.standing import count_named
 from wrong_bodies.tasks import Room, Task
@@ -185,6 +186,39 @@ def faults_of_checks():
     }
 
 
+# In place of rt: a test that fails with a body, and in one crate also without.
+TRY = '''#!/bin/sh
+if grep -q -e wrong -e always src/lib.rt; then
+  echo 'test a ... FAILED\n    why\ntest result: FAILED. 0 passed; 1 failed'
+else
+  echo 'test result: ok. 1 passed; 0 failed'
+fi
+'''
+
+
+def do_tests_refuse():
+    """Whether tests refuse a body with which they fail, where they pass without it."""
+    said = io.StringIO()
+    with scratch() as top:
+        write(f'{top}/crates.txt', 'good:\nbad:\n')
+        write(f'{top}/kit/rt', TRY)
+        os.chmod(f'{top}/kit/rt', 0o755)
+        for name, text, how in (('good', 'fn f() {}', ''), ('good', 'fn f() {}', ', starved'),
+                                ('bad', '// always\nfn f() {}', ''),
+                                ('bad', '// always\nfn f() {}', ', starved')):
+            write(f'{top}/crates/{name}/src/lib.rt', f'{text}\n')
+            for body in ('wrong', 'same'):
+                edit = f'# tests: {name} a{how}\nfile: src/lib.rt\nold: fn f\nnew: fn {body}\n'
+                write(f'{top}/crates/{name}/tested-bodies/{body}{how[2:]}.edit', edit)
+        path = os.environ['PATH']
+        os.environ['PATH'] = f'{top}/kit:{path}'
+        counts = try_by_tests(top, ['good', 'bad'], 2, said)
+        os.environ['PATH'] = path
+    told = sorted(re.findall(r'^(.*?): ', said.getvalue(), re.MULTILINE))
+    return counts == (2, 6) and [it for it in told if it.startswith('refused')] == [
+        'refused good/wrong', 'refused good/wrongstarved']
+
+
 def said_of_bodies(lanes):
     """What is told of the bodies of tests/wrong-bodies/, with the count of those that are named."""
     said = io.StringIO()
@@ -217,6 +251,7 @@ def self_test(lanes):
               'a function has its comment and its attributes': ranges == [(1, 5)],
               'a crate ends once all are refused': are_all_refused(),
               'the tools are known': are_tools_known(),
+              'tests refuse what fails by them alone': do_tests_refuse(),
               'the full check writes records if told to': does_check_hand_on(),
               **faults_of_checks(), **tested_records()}
     for what in (it for it, is_well in others.items() if not is_well):
