@@ -155,9 +155,11 @@ def handed_on(*words, rt='', part=''):
         os.mkdir(f'{top}/out')
         os.mkdir(f'{top}/.ci')
         shutil.copy(check, f'{top}/.ci/run')
+        # (git calls some programs with variables that name another folder)
+        env = {name: value for name, value in os.environ.items() if not name.startswith('GIT_')}
         commit = 'git init -q && git add . && git -c user.name=a -c user.email=a@b commit -qm all'
-        subprocess.run(['sh', '-c', commit], cwd=top, check=True)
-        env = {**os.environ, 'PATH': f'{top}:{os.environ["PATH"]}'}
+        subprocess.run(['sh', '-c', commit], cwd=top, env=env, check=True)
+        env['PATH'] = f'{top}:{env["PATH"]}'
         run = subprocess.run([f'{top}/.ci/run', *words], env=env, capture_output=True, text=True)
         called = bytes_of(f'{top}/out/log').decode() if os.path.exists(f'{top}/out/log') else ''
         tries = re.findall(r'^dev/wrong-bodies (--record )?((?:new |old ?)+)$', called, re.M)
@@ -179,16 +181,21 @@ def faults_of_checks():
     lacking = handed_on(part='echo skipped a: b; echo test-c: skipped: c; echo "3 skipped"')
     left = [it for it in lacking[2].splitlines() if it.startswith('not run: dev/draws')]
     return {
-        'the full check fails by a bad edit': bad[0] == 1 and 'failed: edits of must-fail' in bad[2],
+        'the full check fails by a bad edit':
+            bad[0] == 1 and 'failed: edits of must-fail/' in bad[2],
         'the full check fails by a change': edited[0] == 1 and 'changed meanwhile' in edited[2],
         'the full check tells the tests that a part skips':
             (lacking[0], left) == (0, ['not run: dev/draws: a: b', 'not run: dev/draws: c']),
     }
 
 
-# In place of rt: a test that fails with a body, and in one crate also without.
+# In place of rt: a test that fails with a body, and in some crates also without.
 TRY = '''#!/bin/sh
-if grep -q -e wrong -e always src/lib.rt; then
+case "$*" in
+  *--fail-alloc*) ill=starving ;;
+  *) ill=always ;;
+esac
+if grep -q -e wrong -e "$ill" src/lib.rt; then
   echo 'test a ... FAILED\n    why\ntest result: FAILED. 0 passed; 1 failed'
 else
   echo 'test result: ok. 1 passed; 0 failed'
@@ -200,19 +207,18 @@ def do_tests_refuse():
     """Whether tests refuse a body with which they fail, where they pass without it."""
     said = io.StringIO()
     with scratch() as top:
-        write(f'{top}/crates.txt', 'good:\nbad:\n')
+        write(f'{top}/crates.txt', 'good:\nbad:\nill:\n')
         write(f'{top}/kit/rt', TRY)
         os.chmod(f'{top}/kit/rt', 0o755)
-        for name, text, how in (('good', 'fn f() {}', ''), ('good', 'fn f() {}', ', starved'),
-                                ('bad', '// always\nfn f() {}', ''),
-                                ('bad', '// always\nfn f() {}', ', starved')):
-            write(f'{top}/crates/{name}/src/lib.rt', f'{text}\n')
+        for name, text, how in (('good', '', ''), ('good', '', ', starved'),
+                                ('bad', 'always', ''), ('ill', 'starving', ', starved')):
+            write(f'{top}/crates/{name}/src/lib.rt', f'// {text}\nfn f() {{}}\n')
             for body in ('wrong', 'same'):
                 edit = f'# tests: {name} a{how}\nfile: src/lib.rt\nold: fn f\nnew: fn {body}\n'
                 write(f'{top}/crates/{name}/tested-bodies/{body}{how[2:]}.edit', edit)
         path = os.environ['PATH']
         os.environ['PATH'] = f'{top}/kit:{path}'
-        counts = try_by_tests(top, ['good', 'bad'], 2, said)
+        counts = try_by_tests(top, ['good', 'bad', 'ill'], 2, said)
         os.environ['PATH'] = path
     told = sorted(re.findall(r'^(.*?): ', said.getvalue(), re.MULTILINE))
     return counts == (2, 6) and [it for it in told if it.startswith('refused')] == [
