@@ -45,10 +45,11 @@ fn write_asked<R: Files + Input + Print + AllocGlobal>(
         return Err(Stop::Memory);
     };
     let asked = ask_for(rt, matches, filter, names, &mut output);
+    // A failed flush lost earlier keys, so it is told first.
     let flushed = written(output.flush(), "the keys can't be written");
     drop(output);
-    asked?;
-    flushed
+    flushed?;
+    asked
 }
 
 // Asks the filter that the words name for the keys of these inputs.
