@@ -101,6 +101,15 @@ pub fn tell_output(rt: &HostRuntime, name: &str) -> u8 {
     BAD
 }
 
+/// Tells that standard output can't be written, and returns the status.
+pub fn tell_unwritten(rt: &HostRuntime, kind: ErrorKind) -> u8 {
+    let _ = eprintln!(rt;
+        "duplicates: standard output can't be written{}",
+        Because(kind)
+    );
+    FAILED
+}
+
 /// Tells why a run ended early, in which input it was, and returns the status. A line may have
 /// `longest` bytes.
 pub fn tell_fault(
@@ -124,13 +133,7 @@ pub fn tell_fault(
             let _ = eprintln!(rt; "duplicates: {place} can't be read{}", Because(kind));
             FAILED
         }
-        Fault::Output(kind) => {
-            let _ = eprintln!(rt;
-                "duplicates: standard output can't be written{}",
-                Because(kind)
-            );
-            FAILED
-        }
+        Fault::Output(kind) => tell_unwritten(rt, kind),
         Fault::Memory => tell_no_room(rt, "out of memory"),
         Fault::Full => tell_no_room(rt, "the filter can't grow any more at this rate"),
     }
