@@ -20,11 +20,11 @@ pub const NO_ROOM: u8 = 3;
 /// A read or a write failed, or an input can't be opened.
 pub const FAILED: u8 = 4;
 
-/// More different lines came than a filter that doesn't grow was made for.
+/// More lines were new than a filter that doesn't grow was made for.
 pub const OVERFULL: u8 = 5;
 
-/// Tells how far a run is where standard error is a terminal, and warns where more different lines
-/// came than the filter was made for.
+/// Tells how far a run is where standard error is a terminal, and warns where more lines were new
+/// than the filter was made for.
 #[derive(Drop)]
 pub struct Teller<'a> {
     pub rt: &'a HostRuntime,
