@@ -157,8 +157,9 @@ def main():
         command = subprocess.Popen(words)
     except OSError as error:
         sys.exit(f"minutes: {words[0]} doesn't start: {error.strerror}")
-    # An interrupt ends the command, and the table tells what it cost until then.
+    # A signal ends the command, and the table tells what it cost until then.
     signal.signal(signal.SIGINT, signal.SIG_IGN)
+    signal.signal(signal.SIGTERM, lambda number, _: command.send_signal(number))
     costs, last = Costs(command.pid), start
     while command.poll() is None:
         now = time.monotonic()

@@ -22,7 +22,7 @@ VERB = r'\b(?=answer)' + not_behind(
     'the', 'an', 'its', 'their', 'whose', 'all', 'these', 'those', 'of', 'same', 'equal', 'each', 'every',
     'no', 'two', 'such', 'other', 'more', 'right')
 OBJECT = (r'(?:\[?`|(?:true|false|whether|which|what|how|the|its|each|every|alike|likewise|as|with|an?|one'
-          r'|exactly|nothing|none|no|\d+)\b)')
+          r'|exactly|nothing|none|no|commands?|\d+)\b)')
 # What is set or cleared, what may be truncated, and what has positions.
 BITS = r'(?:it|them|one|none|both|(?:[\w\'`]+ ){0,3}?(?:bits?|positions?|words?))'
 FILES = r'(?:files?|filters?|heads?|texts?|inputs?|words)'
@@ -41,7 +41,7 @@ WORDS = [(re.compile(word, re.IGNORECASE), better) for word, better in [
 # Texts that programs print, and that stay as they are.
 FIXED = ('| the file is cut |', 'that may be held back by mistake')
 # Files in Rattle whose strings are the help of a program.
-HELP = ('/command_line.rt', '/bloom/src/texts.rt')
+HELP = ('/command_line.rt', '/command_line/rows.rt', '/bloom/src/texts.rt')
 
 FENCE = re.compile(r'\s*(`{3,}|~{3,})')
 CODE = re.compile(r'(`+)(?!`).+?(?<!`)\1(?!`)')

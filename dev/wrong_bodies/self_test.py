@@ -9,6 +9,7 @@ import subprocess
 import tempfile
 
 from wrong_bodies.bodies import Body, bodies_in, functions_of
+from wrong_bodies.by_tests import try_by_tests
 from wrong_bodies.records import BIN, UNUSED, Recorder, Records, bytes_of, tools
 from wrong_bodies.standing import count_named
 from wrong_bodies.tasks import Room, Task
@@ -131,10 +132,11 @@ def are_tools_known():
         return is_of_kit and sorted(left) == sorted(UNUSED)
 
 
-def handed_on(*words):
-    """What the full check, with these words, calls this program with, and its status.
+def handed_on(*words, rt='', part=''):
+    """What the full check, with these words, calls this program with, its status, and its output.
 
     It runs in a tree where one crate has a record and another has none. All that it calls is well.
+    More may be done in place of rt, or of each part.
     """
     with scratch() as top:
         for name in ('old', 'new'):
@@ -142,23 +144,85 @@ def handed_on(*words):
         write(f'{top}/crates/old/wrong-bodies/RECORD', 'text')
         check = f'{os.path.dirname(BIN)}/.ci/run'
         calls = set(re.findall(r'\b(?:bin|dev)/[\w-]+', bytes_of(check).decode()))
-        for file in ('rt', *calls):
-            told = f'echo {file} "$@" >> {top}/log'
-            write(f'{top}/{file}', f'#!/bin/sh\n{told}\necho 1 passed, 0 failed\n')
+        # All packages are there, and none is fetched.
+        dpkg, apt = 'echo install ok installed', 'exit 1'
+        for file, more in (('rt', rt), ('dpkg-query', dpkg), ('apt-get', apt),
+                           *((it, part) for it in calls)):
+            told = f'echo {file} "$@" >> {top}/out/log'
+            write(f'{top}/{file}', f'#!/bin/sh\n{told}\n{more}\necho 1 passed, 0 failed\n')
             os.chmod(f'{top}/{file}', 0o755)
+        write(f'{top}/.gitignore', 'out/\n')
+        os.mkdir(f'{top}/out')
         os.mkdir(f'{top}/.ci')
         shutil.copy(check, f'{top}/.ci/run')
-        env = {**os.environ, 'PATH': f'{top}:{os.environ["PATH"]}'}
+        # (git calls some programs with variables that name another folder)
+        env = {name: value for name, value in os.environ.items() if not name.startswith('GIT_')}
+        commit = 'git init -q && git add . && git -c user.name=a -c user.email=a@b commit -qm all'
+        subprocess.run(['sh', '-c', commit], cwd=top, env=env, check=True)
+        env['PATH'] = f'{top}:{env["PATH"]}'
         run = subprocess.run([f'{top}/.ci/run', *words], env=env, capture_output=True, text=True)
-        called = bytes_of(f'{top}/log').decode() if os.path.exists(f'{top}/log') else ''
+        called = bytes_of(f'{top}/out/log').decode() if os.path.exists(f'{top}/out/log') else ''
         tries = re.findall(r'^dev/wrong-bodies (--record )?((?:new |old ?)+)$', called, re.M)
-        return run.returncode, tries, 'wrong bodies of new' in run.stdout
+        return run.returncode, tries, run.stdout
 
 
 def does_check_hand_on():
     """Whether the full check writes records where it is told to, and there alone."""
-    return ([handed_on(), handed_on('--record'), handed_on('--records')]
-            == [(0, [('', 'old')], True), (0, [('--record ', 'new old')], False), (2, [], False)])
+    runs = [handed_on(), handed_on('--record', part='echo > crates/new/wrong-bodies/RECORD'),
+            handed_on('--records')]
+    found = [(status, tries, 'wrong bodies of new' in said) for status, tries, said in runs]
+    return found == [(0, [('', 'old')], True), (0, [('--record ', 'new old')], False),
+                     (2, [], False)]
+
+
+def faults_of_checks():
+    """What the full check has to notice, and whether it does."""
+    bad, edited = handed_on(rt='echo a: BAD EDIT: b'), handed_on(part='echo text > crates/text')
+    lacking = handed_on(part='echo skipped a: b; echo test-c: skipped: c; echo "3 skipped"')
+    left = [it for it in lacking[2].splitlines() if it.startswith('not run: dev/draws')]
+    return {
+        'the full check fails by a bad edit':
+            bad[0] == 1 and 'failed: edits of must-fail/' in bad[2],
+        'the full check fails by a change': edited[0] == 1 and 'changed meanwhile' in edited[2],
+        'the full check tells the tests that a part skips':
+            (lacking[0], left) == (0, ['not run: dev/draws: a: b', 'not run: dev/draws: c']),
+    }
+
+
+# In place of rt: a test that fails with a body, and in some crates also without.
+TRY = '''#!/bin/sh
+case "$*" in
+  *--fail-alloc*) ill=starving ;;
+  *) ill=always ;;
+esac
+if grep -q -e wrong -e "$ill" src/lib.rt; then
+  echo 'test a ... FAILED\n    why\ntest result: FAILED. 0 passed; 1 failed'
+else
+  echo 'test result: ok. 1 passed; 0 failed'
+fi
+'''
+
+
+def do_tests_refuse():
+    """Whether tests refuse a body with which they fail, where they pass without it."""
+    said = io.StringIO()
+    with scratch() as top:
+        write(f'{top}/crates.txt', 'good:\nbad:\nill:\n')
+        write(f'{top}/kit/rt', TRY)
+        os.chmod(f'{top}/kit/rt', 0o755)
+        for name, text, how in (('good', '', ''), ('good', '', ', starved'),
+                                ('bad', 'always', ''), ('ill', 'starving', ', starved')):
+            write(f'{top}/crates/{name}/src/lib.rt', f'// {text}\nfn f() {{}}\n')
+            for body in ('wrong', 'same'):
+                edit = f'# tests: {name} a{how}\nfile: src/lib.rt\nold: fn f\nnew: fn {body}\n'
+                write(f'{top}/crates/{name}/tested-bodies/{body}{how[2:]}.edit', edit)
+        path = os.environ['PATH']
+        os.environ['PATH'] = f'{top}/kit:{path}'
+        counts = try_by_tests(top, ['good', 'bad', 'ill'], 2, said)
+        os.environ['PATH'] = path
+    told = sorted(re.findall(r'^(.*?): ', said.getvalue(), re.MULTILINE))
+    return counts == (2, 6) and [it for it in told if it.startswith('refused')] == [
+        'refused good/wrong', 'refused good/wrongstarved']
 
 
 def said_of_bodies(lanes):
@@ -193,8 +257,9 @@ def self_test(lanes):
               'a function has its comment and its attributes': ranges == [(1, 5)],
               'a crate ends once all are refused': are_all_refused(),
               'the tools are known': are_tools_known(),
+              'tests refuse what fails by them alone': do_tests_refuse(),
               'the full check writes records if told to': does_check_hand_on(),
-              **tested_records()}
+              **faults_of_checks(), **tested_records()}
     for what in (it for it, is_well in others.items() if not is_well):
         print(f'expected: {what}')
     well = sum(others.values())

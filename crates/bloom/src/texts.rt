@@ -1,7 +1,7 @@
 //! What the program tells of itself.
 
 // How the program is used.
-const HELP: &str = "A Bloom filter that answers commands, one a line
+const HELP: &str = "A Bloom filter that carries out commands, one a line
 
 Usage: bloom <WORDS> <HASHES>
 

@@ -102,8 +102,9 @@ pub fn serve<R: Read, W: Write>(
         filter.old filter.new (W.contents output.old) (W.contents output.new) }
     // Whatever the end, also where a write failed, such lines changed the filter and nothing else.
     ensures any { ServedSome (R.remaining input.old) filter.old filter.new }
-    // Memory is asked for before the first line.
+    // Memory is asked for before the first read.
     ensures memory { result ≡ Err Fault.Memory → filter.new ≡ filter.old }
+    ensures unread { result ≡ Err Fault.Memory → input.new ≡ input.old }
     ensures kept { result ≡ Err Fault.Memory
         → Keeps (W.contents output.old) (W.contents output.new) }
     ensures usage { result ≢ Err Fault.Usage }

@@ -10,17 +10,17 @@ mod telling;
 use clap::{ArgMatches, Error};
 use command_line::{matched, misuse, request_of};
 use std::process::ExitCode;
-use telling::{BAD, DONE, FAILED, tell_no_room};
+use telling::{BAD, DONE, tell_no_room, tell_unwritten};
 
 // Prints what clap has to say, and gives the status.
 fn print(rt: &HostRuntime, error: &Error) -> u8 {
-    let is_printed = error.print(rt).is_ok();
+    let printed = error.print(rt);
     if error.use_stderr() {
-        BAD
-    } else if is_printed {
-        DONE
-    } else {
-        FAILED
+        return BAD;
+    }
+    match printed {
+        Ok(()) => DONE,
+        Err(error) => tell_unwritten(rt, error.kind()),
     }
 }
 

@@ -3,7 +3,9 @@
 use crate::command_line::Request;
 use crate::files::{Files, name_of_output};
 use crate::gauge::Gauge;
-use crate::telling::{DONE, OVERFULL, Teller, tell_fault, tell_no_room, tell_output};
+use crate::telling::{
+    DONE, OVERFULL, Teller, tell_fault, tell_no_room, tell_output, tell_unwritten,
+};
 use bloom_blocked::BlockedBloomFilter;
 use bloom_plain::{BloomFilter, FilterError, GrowingError, GrowingFilter};
 use duplicates_engine::{Fault, Options, Sieve, Total, Written, keep_new};
@@ -66,10 +68,7 @@ fn sum_up(rt: &HostRuntime, request: &Request, total: Total) -> u8 {
     if request.count {
         return match print_counts(rt, request, total, held) {
             Ok(()) => DONE,
-            Err(error) => {
-                let fault = Fault::of_writer(error);
-                tell_fault(rt, "-", false, request.longest, fault)
-            }
+            Err(error) => tell_unwritten(rt, error.kind()),
         };
     }
     if !request.quiet {

@@ -20,11 +20,11 @@ pub const NO_ROOM: u8 = 3;
 /// A read or a write failed, or an input can't be opened.
 pub const FAILED: u8 = 4;
 
-/// More different lines came than a filter that doesn't grow was made for.
+/// More lines were new than a filter that doesn't grow was made for.
 pub const OVERFULL: u8 = 5;
 
-/// Tells how far a run is where standard error is a terminal, and warns where more different lines
-/// came than the filter was made for.
+/// Tells how far a run is where standard error is a terminal, and warns where more lines were new
+/// than the filter was made for.
 #[derive(Drop)]
 pub struct Teller<'a> {
     pub rt: &'a HostRuntime,
@@ -101,6 +101,15 @@ pub fn tell_output(rt: &HostRuntime, name: &str) -> u8 {
     BAD
 }
 
+/// Tells that standard output can't be written, and returns the status.
+pub fn tell_unwritten(rt: &HostRuntime, kind: ErrorKind) -> u8 {
+    let _ = eprintln!(rt;
+        "duplicates: standard output can't be written{}",
+        Because(kind)
+    );
+    FAILED
+}
+
 /// Tells why a run ended early, in which input it was, and returns the status. A line may have
 /// `longest` bytes.
 pub fn tell_fault(
@@ -124,13 +133,7 @@ pub fn tell_fault(
             let _ = eprintln!(rt; "duplicates: {place} can't be read{}", Because(kind));
             FAILED
         }
-        Fault::Output(kind) => {
-            let _ = eprintln!(rt;
-                "duplicates: standard output can't be written{}",
-                Because(kind)
-            );
-            FAILED
-        }
+        Fault::Output(kind) => tell_unwritten(rt, kind),
         Fault::Memory => tell_no_room(rt, "out of memory"),
         Fault::Full => tell_no_room(rt, "the filter can't grow any more at this rate"),
     }

@@ -4,11 +4,17 @@ ghost use Rattle.summaries_engine.specs.Stops.{IsUnreadable};
 use either::{Either, Left, Right};
 use std::alloc::Global;
 use std::fs;
+use std::os::unix::fs::MetadataExt;
 use std::rt::Files;
 use summaries_engine::{Inputs, Stop, unread};
 
 /// The name of standard input, as it is told.
 pub const STANDARD: &str = "standard input";
+
+// Where Linux keeps what the standard streams are.
+const STANDARD_INPUT: &str = "/proc/self/fd/0";
+
+const STANDARD_OUTPUT: &str = "/proc/self/fd/1";
 
 /// How an input is called. A file that has the name of standard input is called by its folder.
 pub fn called(name: &str) -> &str {
@@ -31,6 +37,25 @@ pub fn called_inputs<'a>(alloc: Global, words: &[&'a str]) -> Result<Vec<&'a str
         names.push(called(word)).map_err(|_| Stop::Memory)?;
     }
     Ok(names)
+}
+
+// The device of a file, and its number there. What isn't a regular file has none.
+fn file_at<R: Files>(rt: &R, path: &str) -> Option<(u64, u64)> {
+    let found = fs::metadata(rt, path).ok()?;
+    if found.is_file() {
+        Some((found.dev(), found.ino()))
+    } else {
+        None
+    }
+}
+
+/// Whether the input of this word is the regular file that standard output is written to.
+pub fn is_output<R: Files>(rt: &R, word: &str) -> bool {
+    let path = if word == "-" { STANDARD_INPUT } else { word };
+    match file_at(rt, STANDARD_OUTPUT) {
+        Some(output) => file_at(rt, path) == Some(output),
+        None => false,
+    }
 }
 
 /// The files of a system, with standard input among them, by the names of `called_inputs`.

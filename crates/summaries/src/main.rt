@@ -8,30 +8,47 @@ mod rates;
 mod tasks;
 mod telling;
 
+use clap::{ArgMatches, Error};
 use command_line::arguments;
 use std::process::ExitCode;
 use std::rt::Files;
 use std::thread::Threads;
-use summaries_engine::Stop;
-use telling::{BAD, DONE, FAILED, tell, tell_stop};
+use summaries_engine::{Stop, written};
+use telling::{BAD, DONE, tell, tell_output, tell_stop};
+
+// The status of what came of a task, and what is told of it.
+fn status_of<R: Eprint>(rt: &R, done: Result<(), Stop>) -> u8 {
+    match done {
+        Ok(()) => DONE,
+        Err(stop) => tell_stop(rt, stop),
+    }
+}
+
+// Prints what clap has to say, and gives the status.
+fn print<R: Print + Eprint>(rt: &R, error: &Error) -> u8 {
+    let printed = error.print(rt);
+    if error.use_stderr() {
+        return BAD;
+    }
+    status_of(rt, written(printed, "standard output can't be written"))
+}
+
+// What words that were read ask for is done; the status.
+fn run_matched<R: Files + Input + Print + Eprint + AllocGlobal + Threads>(
+    rt: &R,
+    matches: &ArgMatches,
+) -> u8 {
+    match tasks::name_of_output(rt, matches) {
+        Some(name) => tell_output(rt, name),
+        None => status_of(rt, tasks::run(rt, matches)),
+    }
+}
 
 // What the words ask for is done; the status.
 fn run<R: Files + Input + Print + Eprint + AllocGlobal + Threads>(rt: &R, words: &[String]) -> u8 {
     match arguments(rt.alloc(), words) {
-        Ok(matches) => match tasks::run(rt, &matches) {
-            Ok(()) => DONE,
-            Err(stop) => tell_stop(rt, stop),
-        },
-        Err(error) => {
-            let is_printed = error.print(rt).is_ok();
-            if error.use_stderr() {
-                BAD
-            } else if is_printed {
-                DONE
-            } else {
-                FAILED
-            }
-        }
+        Ok(matches) => run_matched(rt, &matches),
+        Err(error) => print(rt, &error),
     }
 }
 

@@ -5,7 +5,7 @@ mod builds;
 use crate::command_line::{FILTER, JSON, MOST_HASHES, OTHER};
 use crate::form::{Disk, load_named};
 use crate::key_files::{STANDARD, called, called_inputs};
-use asks::run_ask;
+use asks::{run_ask, word_of_output};
 use builds::run_build;
 use clap::ArgMatches;
 use std::rt::Files;
@@ -131,6 +131,13 @@ fn run_compare<R: Files + Input + Print + AllocGlobal>(
         return Err(unsaid(OTHER));
     };
     compare_files(rt, called(one), called(other))
+}
+
+/// The name of the first input that is the output, too, if one is. Only `ask` writes while it
+/// reads.
+pub fn name_of_output<'a, R: Files>(rt: &R, matches: &ArgMatches<'a>) -> Option<&'a str> {
+    let word = word_of_output(rt, matches.subcommand_matches("ask")?)?;
+    Some(called(word))
 }
 
 /// Does what the words ask for.

@@ -7,7 +7,8 @@ use summaries_engine::Stop;
 /// The task was carried out.
 pub const DONE: u8 = 0;
 
-/// The words after the program's name are wrong, or an input isn't what it should be.
+/// The words after the program's name are wrong, or an input isn't what it should be, or is the
+/// output.
 pub const BAD: u8 = 2;
 
 /// Out of memory, or a thread can't be started.
@@ -19,6 +20,12 @@ pub const FAILED: u8 = 4;
 /// Tells what failed, on one line.
 pub fn tell<R: Eprint, D: Display + Drop>(rt: &R, what: D) {
     let _ = eprintln!(rt; "summaries: {what}");
+}
+
+/// Tells that the input of this name is the output; the status.
+pub fn tell_output<R: Eprint>(rt: &R, name: &str) -> u8 {
+    let _ = eprintln!(rt; "summaries: {name}: it is the output, too");
+    BAD
 }
 
 /// Tells why a run stopped; the status.

@@ -185,8 +185,8 @@ fn gate_of(alloc: Global) -> Result<(Arc<Watching, Global>, Arc<Watching, Global
     Ok((gate, seen))
 }
 
-// Whether the filter of the keys "a", "b" and "c" is built by at most this many workers, each of
-// which passes a gate.
+// Whether the filter of the keys "a", "b", "c" and "d" is built by at most this many workers, each
+// of which passes a gate.
 fn is_built<R: Threads>(
     rt: &R,
     alloc: Global,
@@ -198,7 +198,7 @@ fn is_built<R: Threads>(
 {
     let seen = Seen::new();
     let odd = Odd {
-        keys: b"b\nc",
+        keys: b"b\nc\nd",
         reading: WHOLE,
         seen: &seen,
     };
@@ -226,10 +226,12 @@ fn has_workers<R: Threads>(rt: &R, alloc: Global, most: usize, workers: u64) -> 
     }
 }
 
+// The parts but the last are of one size, so four keys keep only two of three workers at work.
 #[test]
-fn keys_are_divided_among_as_many_workers_as_asked_for(rt: HostRuntime) {
+fn keys_are_divided_among_at_most_as_many_workers_as_asked_for(rt: HostRuntime) {
     assert!(rt; has_workers(&rt, rt.alloc(), 1, 1));
     assert!(rt; has_workers(&rt, rt.alloc(), 2, 2));
-    assert!(rt; has_workers(&rt, rt.alloc(), 3, 3));
-    assert!(rt; has_workers(&rt, rt.alloc(), 8, 3));
+    assert!(rt; has_workers(&rt, rt.alloc(), 3, 2));
+    assert!(rt; has_workers(&rt, rt.alloc(), 4, 4));
+    assert!(rt; has_workers(&rt, rt.alloc(), 8, 4));
 }

@@ -79,14 +79,14 @@ const BUILD: &'static [Row] = &[
     (
         BITS,
         COUNT,
-        "At least this many bits: ten for each key make one mistake in a hundred",
+        "At least this many bits: ten for each key give one false positive in a hundred",
         &[],
         &[],
     ),
     (
         HASHES,
         Kind::Option("N", &["7"], ValueParser::Signed(1, 1000)),
-        "How many bits each key turns on",
+        "How many bits each key sets",
         &[],
         &[],
     ),
@@ -100,14 +100,14 @@ const BUILD: &'static [Row] = &[
     (
         RATE,
         Kind::Option("A/B", &[], ValueParser::String),
-        "The share of other keys that may be taken for one of them by mistake",
+        "The share of other keys that may be false positives",
         &[ITEMS],
         &[BITS, HASHES],
     ),
     (
         WORKERS,
         Kind::Option("N", &["1"], ValueParser::Signed(1, 1024)),
-        "How many threads fill the filter",
+        "How many threads may fill the filter",
         &[],
         &[],
     ),

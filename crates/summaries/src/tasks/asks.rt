@@ -3,7 +3,7 @@ ghost use Rattle.summaries_engine.specs.Answers.{IsKeyed};
 
 use super::disk_of;
 use crate::command_line::{ABSENT, FILE, FILTER, ZERO};
-use crate::key_files::{KeyFiles, STANDARD, called, called_inputs};
+use crate::key_files::{KeyFiles, STANDARD, called, called_inputs, is_output};
 use clap::ArgMatches;
 use std::io::{BufWriter, Write};
 use std::rt::Files;
@@ -45,10 +45,11 @@ fn write_asked<R: Files + Input + Print + AllocGlobal>(
         return Err(Stop::Memory);
     };
     let asked = ask_for(rt, matches, filter, names, &mut output);
+    // A failed flush lost earlier keys, so it is told first.
     let flushed = written(output.flush(), "the keys can't be written");
     drop(output);
-    asked?;
-    flushed
+    flushed?;
+    asked
 }
 
 // Asks the filter that the words name for the keys of these inputs.
@@ -67,6 +68,29 @@ fn ask_of<R: Files + Input + Print + AllocGlobal>(
     match disk_of(rt, matches)?.load(name) {
         Ok(filter) => write_asked(rt, matches, &filter, names),
         Err(stop) => Err(stop),
+    }
+}
+
+// The first of these words for an input that is the output, if one is.
+fn first_output<'a, R: Files>(rt: &R, words: &[&'a str]) -> Option<&'a str> {
+    'words: for word in words {
+        if is_output(rt, word) {
+            return Some(*word);
+        }
+    }
+    None
+}
+
+/// The first word for an input that is the file that standard output is written to, if one is. What
+/// is told there would be read as keys again, without end.
+pub(super) fn word_of_output<'a, R: Files>(rt: &R, matches: &ArgMatches<'a>) -> Option<&'a str> {
+    let filter = matches.get_str(FILTER)?;
+    if is_output(rt, filter) {
+        return Some(filter);
+    }
+    match matches.get_strs(FILE) {
+        Some(words) => first_output(rt, words),
+        None => { if is_output(rt, "-") { Some("-") } else { None } }
     }
 }
 
