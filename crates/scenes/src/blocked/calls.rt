@@ -1,5 +1,5 @@
 //! Calls on a plain and a shared blocked filter: what both return, and all words of both after each
-//! call. What they return is by a model in Python of SipHash-1-3, of the lines and of the positions.
+//! call. The values are by a model of SipHash-1-3, of the lines and of the positions, in Python.
 use super::{Make, Pair, pair_of};
 use crate::telling::{tell_named, tell_row};
 use bloom_blocked::{AtomicBlockedBloomFilter, BlockedBloomFilter};

@@ -18,23 +18,7 @@ const HASHES: u64 = 20_000;
 const FIRST: [u64; 2] = [0, HASHES / 2];
 
 // Lines and numbers of hashes.
-const STORMS: &'static [Make] = &[
-    Make {
-        lines: 1,
-        num_hashes: 1,
-        hashes: &[],
-    },
-    Make {
-        lines: 100,
-        num_hashes: 1,
-        hashes: &[],
-    },
-    Make {
-        lines: 100,
-        num_hashes: 3,
-        hashes: &[],
-    },
-];
+const STORMS: &'static [(usize, u32)] = &[(1, 1), (80, 1), (80, 3)];
 
 // Inserts hashes from the first on, and looks each up then. Counts the inserts that returned false,
 // and the hashes that weren't found.
@@ -98,17 +82,26 @@ fn filters_of(alloc: Global, make: &Make) -> Result<(Shared, BlockedBloomFilter)
     Ok((shared, plain_of(alloc, make)?))
 }
 
-// Whether two threads leave the words of one.
-fn ends_well<R: Threads>(rt: &R, alloc: Global, make: &Make) -> bool {
-    match filters_of(alloc, make) {
+// Whether two threads leave the words of one, in filters of these lines and hashes.
+fn ends_well<R: Threads>(rt: &R, alloc: Global, row: (usize, u32)) -> bool {
+    let (lines, num_hashes) = row;
+    let make = Make {
+        lines,
+        num_hashes,
+        hashes: &[],
+    };
+    match filters_of(alloc, &make) {
         Ok((shared, mut plain)) => leave(rt, alloc, &shared, &mut plain),
         Err(_refusal) => false,
     }
 }
 
+// Steps of two threads on one word seldom meet, so each storm comes twenty times.
 #[test]
 fn two_threads_leave_the_words_of_one(rt: HostRuntime) {
-    for (i, make) in STORMS.iter().enumerate() {
-        assert!(rt; tell_row(&rt, i, ends_well(&rt, rt.alloc(), make)));
+    for (i, row) in STORMS.iter().enumerate() {
+        for _ in 0..20 {
+            assert!(rt; tell_row(&rt, i, ends_well(&rt, rt.alloc(), *row)));
+        }
     }
 }
