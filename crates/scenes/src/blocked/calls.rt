@@ -244,7 +244,7 @@ fn holds(alloc: Global, pair: &mut Pair, other: &Pair, op: &Op) -> bool {
         Op::Ones(ones) => {
             (pair.plain.count_ones() == *ones) & (pair.shared.count_ones() == *ones)
         }
-        Op::Words(words) => pair.plain.as_slice() == *words,
+        Op::Words(words) => pair.plain.iter().eq(words.iter().copied()),
     }
 }
 

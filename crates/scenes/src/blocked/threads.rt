@@ -12,10 +12,10 @@ use std::thread::Threads;
 
 type Shared = Arc<AtomicBlockedBloomFilter, Global>;
 
-// How many hashes each thread inserts, and from which on. So both insert half of theirs.
+// How many hashes each thread inserts, and from which on: half of them go in by both.
 const HASHES: u64 = 20_000;
 
-const FIRST: [u64; 2] = [0, HASHES / 2];
+const FIRST: [u64; 2] = [0, 10_000];
 
 // Lines and numbers of hashes.
 const STORMS: &'static [(usize, u32)] = &[(1, 1), (80, 1), (80, 3)];
@@ -46,18 +46,16 @@ fn start<R: Threads>(rt: &R, alloc: Global, filter: &Shared) -> Result<Vec<Child
     Ok(children)
 }
 
-// Whether a shared filter has the words of a plain one into which all hashes go, every hash was
-// found, and with one hash as many inserts returned false as bits are set.
+// Whether a shared filter has the words of a plain one into which all hashes go, no look-up missed
+// one, and with one hash as many inserts returned false as bits are set.
 fn are_left(
     shared: &AtomicBlockedBloomFilter,
     plain: &mut BlockedBloomFilter,
     counts: (u64, u64),
 ) -> bool {
     let (new, lost) = counts;
-    for first in FIRST {
-        for i in 0..HASHES {
-            plain.insert_hash(spread(first.wrapping_add(i)));
-        }
+    for i in 0..30_000u64 {
+        plain.insert_hash(spread(i));
     }
     let is_counted = (plain.num_hashes() > 1) | (new == plain.count_ones() as u64);
     is_counted & (lost == 0) & shared.iter().eq(plain.iter())
