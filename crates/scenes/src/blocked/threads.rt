@@ -13,12 +13,12 @@ use std::thread::Threads;
 type Shared = Arc<AtomicBlockedBloomFilter, Global>;
 
 // How many hashes each thread inserts, and from which on: half of them go in by both.
-const HASHES: u64 = 20_000;
+const HASHES: u64 = 5000;
 
-const FIRST: [u64; 2] = [0, 10_000];
+const FIRST: [u64; 2] = [0, 2500];
 
 // Lines and numbers of hashes.
-const STORMS: &'static [(usize, u32)] = &[(1, 1), (80, 1), (80, 3)];
+const STORMS: &'static [(usize, u32)] = &[(1, 1), (20, 1), (20, 3)];
 
 // Inserts hashes from the first on, and looks each up then. Counts the inserts that returned false,
 // and the hashes that weren't found.
@@ -54,7 +54,7 @@ fn are_left(
     counts: (u64, u64),
 ) -> bool {
     let (new, lost) = counts;
-    for i in 0..30_000u64 {
+    for i in 0..7500u64 {
         plain.insert_hash(spread(i));
     }
     let is_counted = (plain.num_hashes() > 1) | (new == plain.count_ones() as u64);
@@ -94,11 +94,11 @@ fn ends_well<R: Threads>(rt: &R, alloc: Global, row: (usize, u32)) -> bool {
     }
 }
 
-// Steps of two threads on one word seldom meet, so each storm comes twenty times.
+// Steps of two threads on one word seldom meet, so each storm comes ten times.
 #[test]
 fn two_threads_leave_the_words_of_one(rt: HostRuntime) {
     for (i, row) in STORMS.iter().enumerate() {
-        for _ in 0..20 {
+        for _ in 0..10 {
             assert!(rt; tell_row(&rt, i, ends_well(&rt, rt.alloc(), *row)));
         }
     }
