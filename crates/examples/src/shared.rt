@@ -48,9 +48,9 @@ pub fn count_found<R: Threads>(rt: &R, alloc: Global) -> anyhow::Result<u64> {
     let builder = AtomicBloomFilter::with_false_pos(Rate::new(1, 1000)?);
     let filter = Arc::new(alloc, builder.expected_items(alloc, 2000)?)?;
     let first = start(rt, &filter, 0..1000)?;
-    let second = start(rt, &filter, 1000..2000)?;
+    let second = start(rt, &filter, 1000..2000);
     first.join(rt);
-    second.join(rt);
+    second?.join(rt);
     let mut found = 0u64;
     for number in 0..2000u64 {
         if filter.contains(&number) {

@@ -1,6 +1,6 @@
 //! Two threads that share a filter: after both were joined and their passes met, what either
 //! inserted is found.
-ghost use Rattle.std.specs.Prelude.{◌≡◌, ◌⊎◌, Contains, IfOk, IfSome, true};
+ghost use Rattle.std.specs.Prelude.{◌≡◌, ◌⊎◌, Contains, IfOk, true};
 ghost use Rattle.std.specs.Arc.{arc_value};
 ghost use Rattle.examples.specs.Known.{KnowsAll};
 
@@ -37,27 +37,25 @@ fn insert_all(filter: &SeatedBloomFilter, mut pass: Pass, hashes: Vec<u64>) -> P
     pass
 }
 
-// Starts a thread that inserts the hashes, if one can be started.
+// Starts a thread that inserts the hashes.
 fn start<R: Threads>(
     rt: &R,
     filter: &Arc<SeatedBloomFilter, Global>,
     pass: Pass,
     hashes: Vec<u64>,
-) -> Option<Child>
+) -> Result<Child, FilterError>
     requires { pass.filter ≡ (arc_value filter.now).table }
-    ensures filter { IfSome result (λ child. child.promise.filter.value ≡ arc_value filter.now) }
-    ensures hashes { IfSome result (λ child. child.promise.hashes.value.items ≡ hashes.items) }
+    ensures filter { IfOk result (λ child. child.promise.filter.value ≡ arc_value filter.now) }
+    ensures hashes { IfOk result (λ child. child.promise.hashes.value.items ≡ hashes.items) }
 {
-    let Ok(shared) = Arc::try_clone(filter) else {
-        return None;
-    };
+    let shared = Arc::try_clone(filter)?;
     let promise = KnowsHashes {
         filter: Snapshot::of(&*shared),
         hashes: Snapshot::of(&hashes),
     };
     match thread::spawn_with(rt, promise, move || insert_all(&shared, pass, hashes)) {
-        Ok(child) => Some(child),
-        Err(_refused) => None,
+        Ok(child) => Ok(child),
+        Err(_refused) => Err(FilterError::Worker),
     }
 }
 
@@ -65,7 +63,8 @@ fn start<R: Threads>(
 /// whether the first pass then finds a hash, and whether an insert by the second finds it set.
 ///
 /// # Errors
-/// Those of `SeatedBloomFilter::new`, `Memory`, and `Worker` where a thread can't be started.
+/// `Memory` where there is no room for what the threads share, and `Worker` where a thread can't be
+/// started.
 pub fn found_by_both<R: Threads>(
     rt: &R,
     alloc: Global,
@@ -83,15 +82,10 @@ pub fn found_by_both<R: Threads>(
     let (first, second) = passes;
     let (left, right) = hashes;
     let shared = Arc::new(alloc, filter)?;
-    let Some(one) = start(rt, &shared, first, left) else {
-        return Err(FilterError::Worker);
-    };
-    let Some(two) = start(rt, &shared, second, right) else {
-        one.join(rt);
-        return Err(FilterError::Worker);
-    };
+    let one = start(rt, &shared, first, left)?;
+    let two = start(rt, &shared, second, right);
     let mut first = one.join(rt);
-    let mut second = two.join(rt);
+    let mut second = two?.join(rt);
     shared.meet(&mut first, &mut second);
     let found = shared.contains_hash_as(&mut first, asked);
     let inserted = shared.insert_hash_as(&mut second, asked);

@@ -1,6 +1,6 @@
 //! What both filters return from a call that takes no memory.
 use crate::making::Pair;
-use crate::scene::Item;
+use crate::scene::{Item, Told};
 
 /// Whether the insert of a hash returns this.
 pub(crate) fn insert_hash(pair: &mut Pair, hash: u64, said: bool) -> bool {
@@ -18,6 +18,7 @@ pub(crate) fn insert_item(pair: &mut Pair, item: &Item, said: bool) -> bool {
     match item {
         Item::Number(number) => (plain.insert(number) == said) & (shared.insert(number) == said),
         Item::Text(text) => (plain.insert(text) == said) & (shared.insert(text) == said),
+        Item::Nothing => (plain.insert(&()) == said) & (shared.insert(&()) == said),
     }
 }
 
@@ -29,6 +30,7 @@ pub(crate) fn contains_item(pair: &Pair, item: &Item, said: bool) -> bool {
             (plain.contains(number) == said) & (shared.contains(number) == said)
         }
         Item::Text(text) => (plain.contains(text) == said) & (shared.contains(text) == said),
+        Item::Nothing => (plain.contains(&()) == said) & (shared.contains(&()) == said),
     }
 }
 
@@ -42,6 +44,7 @@ pub(crate) fn has_hash(pair: &Pair, item: &Item, hash: u64) -> bool {
         Item::Text(text) => {
             (plain.source_hash(text) == hash) & (shared.source_hash(text) == hash)
         }
+        Item::Nothing => (plain.source_hash(&()) == hash) & (shared.source_hash(&()) == hash),
     }
 }
 
@@ -105,9 +108,34 @@ pub(crate) fn has_bounds(pair: &Pair, low: usize, high: Option<usize>) -> bool {
     is_same & (estimate.high() == high) & (high.is_none() | (estimate.low() == low))
 }
 
-/// Whether the rate that is expected has these ends.
-pub(crate) fn has_rate(pair: &Pair, items: usize, low: u64, high: u64) -> bool {
-    let plain = pair.plain.expected_false_pos(items);
-    let shared = pair.shared.expected_false_pos(items);
-    (plain == shared) & (plain.low() == low) & (plain.high() == high)
+/// Whether a rate has these ends.
+pub(crate) fn has_rate(pair: &Pair, told: &Told, low: u64, high: u64) -> bool {
+    let Pair { plain, shared } = pair;
+    let (of_plain, of_shared) = match told {
+        Told::Expected(items) => {
+            (
+                plain.expected_false_pos(*items),
+                shared.expected_false_pos(*items),
+            )
+        }
+        Told::Mean(items) => {
+            (
+                plain.false_pos_bounds(*items),
+                shared.false_pos_bounds(*items),
+            )
+        }
+        Told::Now => (plain.false_pos_now(), shared.false_pos_now()),
+    };
+    (of_plain == of_shared) & (of_plain.low() == low) & (of_plain.high() == high)
+}
+
+/// Whether these are the words that an iterator gives, where a hash is inserted behind the first: a
+/// word is loaded when it is asked for.
+pub(crate) fn insert_between(pair: &mut Pair, hash: u64, first: u64, second: u64) -> bool {
+    let Pair { plain, shared } = pair;
+    plain.insert_hash(hash);
+    let mut words = shared.iter();
+    let is_first = words.next() == Some(first);
+    shared.insert_hash(hash);
+    is_first & (words.next() == Some(second))
 }

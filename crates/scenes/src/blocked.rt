@@ -1,13 +1,22 @@
-//! Blocked filters: drawn sessions, at what `dev/blocked-model` says of them, and each generic call
-//! at a concrete type.
+//! Blocked filters: calls on both kinds, drawn sessions, threads, and what is refused.
 
+mod calls;
 mod sessions;
+mod threads;
 
 use crate::telling::{has_text, tell_row};
 use bloom_blocked::{AtomicBlockedBloomFilter, BlockedBloomFilter, LinesError};
-use fastbloom::{BlockedFilterData, FilterError, Rate};
+use fastbloom::{BitsData, BlockedFilterData, FilterError, Rate};
 use sessions::fold_ten;
 use std::alloc::Global;
+
+// How a filter is made: lines, the number of hashes, and what was inserted.
+#[derive(Drop)]
+struct Make {
+    lines: usize,
+    num_hashes: u32,
+    hashes: &'static [u64],
+}
 
 // A plain and a shared filter, on which the same calls are made.
 #[derive(Drop)]
@@ -16,13 +25,29 @@ struct Pair {
     shared: AtomicBlockedBloomFilter,
 }
 
-// A plain filter and a shared one, if that was made.
-fn paired(
-    plain: BlockedBloomFilter,
-    shared: Result<AtomicBlockedBloomFilter, FilterError>,
-) -> Result<Pair, FilterError> {
-    match shared {
-        Ok(shared) => Ok(Pair { plain, shared }),
+// The plain filter, under the key of seed 42.
+fn plain_of(alloc: Global, make: &Make) -> Result<BlockedBloomFilter, FilterError> {
+    let words = vec![in alloc; 0u64; make.lines.saturating_mul(8)]?;
+    match BlockedBloomFilter::from_vec(words) {
+        Ok(builder) => {
+            let mut filter = builder.seed(&42).hashes(make.num_hashes);
+            filter.insert_hashes(make.hashes);
+            Ok(filter)
+        }
+        Err(_refusal) => Err(FilterError::EmptyWords),
+    }
+}
+
+// The same, to be shared.
+fn shared_of(alloc: Global, make: &Make) -> Result<AtomicBlockedBloomFilter, FilterError> {
+    AtomicBlockedBloomFilter::from_plain(alloc, plain_of(alloc, make)?)
+}
+
+// Both.
+fn pair_of(alloc: Global, make: &Make) -> Result<Pair, FilterError> {
+    let shared = shared_of(alloc, make)?;
+    match plain_of(alloc, make) {
+        Ok(plain) => Ok(Pair { plain, shared }),
         Err(refusal) => Err(refusal),
     }
 }
@@ -59,34 +84,6 @@ fn drawn_filters_are_those_of_the_model(rt: HostRuntime) {
     }
 }
 
-// A filter of three items at a rate of one in a hundred, under the key of a seed.
-fn three(alloc: Global) -> Result<BlockedBloomFilter, FilterError> {
-    let builder = BlockedBloomFilter::with_false_pos(Rate::new(1, 100)?);
-    builder.seed(&42).items(alloc, [1u64, 2, 3].as_slice())
-}
-
-// Whether both filters have the items from the first up to the last.
-fn have(pair: &Pair, first: u64, last: u64) -> bool {
-    let mut all = true;
-    for item in first..last {
-        all &= pair.plain.contains(&item) & pair.shared.contains(&item);
-    }
-    all
-}
-
-// Whether both filters have the items 1 to 3, take the item 4 as new once, and others at once.
-fn take_items(pair: &mut Pair) -> bool {
-    let had_three = have(pair, 1, 4);
-    let Pair { plain, shared } = pair;
-    let had_four = plain.contains(&4u64) | shared.contains(&4u64);
-    let was_there = plain.insert(&4u64) | shared.insert(&4u64);
-    let is_there = plain.insert(&4u64) & shared.insert(&4u64);
-    plain.extend([5u64, 6, 7]);
-    shared.extend([5u64, 6]);
-    shared.insert_all([7u64].as_slice());
-    had_three & !had_four & !was_there & is_there & have(pair, 1, 8)
-}
-
 // Whether the filter of these data equals another.
 fn is_form_of(form: BlockedFilterData, filter: &BlockedBloomFilter) -> bool {
     match BlockedBloomFilter::from_data(form) {
@@ -103,64 +100,87 @@ fn comes_back(alloc: Global, filter: &BlockedBloomFilter) -> bool {
     }
 }
 
-// Whether a copy equals the filter, and has the items 5 and 6.
+// Whether a copy equals the filter, and has the items 1 and 3.
 fn is_copied(alloc: Global, filter: &BlockedBloomFilter) -> bool {
     match filter.try_clone(alloc) {
-        Ok(copy) => (copy == *filter) & copy.contains(&5u64) & copy.contains(&6u64),
+        Ok(copy) => (copy == *filter) & copy.contains(&1u64) & copy.contains(&3u64),
         Err(_refusal) => false,
     }
 }
 
-// The filter of three items, to be shared.
-fn shared_three(alloc: Global) -> Result<AtomicBlockedBloomFilter, FilterError> {
-    AtomicBlockedBloomFilter::from_plain(alloc, three(alloc)?)
+// A filter of three items at a rate of one in a hundred, under the key of a seed.
+fn three(alloc: Global) -> Result<BlockedBloomFilter, FilterError> {
+    let builder = BlockedBloomFilter::with_false_pos(Rate::new(1, 100)?);
+    builder.seed(&42).items(alloc, [1u64, 2, 3].as_slice())
 }
 
-// Both filters of three items.
-fn pair_of_three(alloc: Global) -> Result<Pair, FilterError> {
+// Whether a filter has the shape of three items, is copied, and comes back from its data.
+fn is_of_three(alloc: Global, filter: &BlockedBloomFilter) -> bool {
+    let has_shape = (filter.num_bits() == 512) & (filter.num_hashes() == 16);
+    has_shape & is_copied(alloc, filter) & comes_back(alloc, filter)
+}
+
+// The same, of a filter that is made.
+fn is_made_of_three(alloc: Global) -> bool {
     match three(alloc) {
-        Ok(plain) => paired(plain, shared_three(alloc)),
-        Err(refusal) => Err(refusal),
-    }
-}
-
-// Whether both filters of three items have their shape and take items, and the shared one is
-// cleared.
-fn take_and_clear(pair: &mut Pair) -> bool {
-    let has_shape = (pair.plain.num_bits() == 512) & (pair.plain.num_hashes() == 16);
-    let take = take_items(pair);
-    pair.shared.clear();
-    has_shape & take & (pair.shared.count_ones() == 0)
-}
-
-// Whether a filter is copied, and comes back from its data.
-fn is_same(alloc: Global, filter: &BlockedBloomFilter) -> bool {
-    is_copied(alloc, filter) & comes_back(alloc, filter)
-}
-
-// Whether both filters take items, the plain one is copied, and the shared one is cleared.
-fn items_go_in(alloc: Global) -> bool {
-    match pair_of_three(alloc) {
-        Ok(mut pair) => take_and_clear(&mut pair) & is_same(alloc, &pair.plain),
+        Ok(filter) => is_of_three(alloc, &filter),
         Err(_refusal) => false,
     }
 }
 
 #[test]
-fn blocked_filters_take_items(rt: HostRuntime) {
-    assert!(rt; items_go_in(rt.alloc()));
+fn a_blocked_filter_of_items_is_copied_and_comes_back(rt: HostRuntime) {
+    assert!(rt; is_made_of_three(rt.alloc()));
 }
 
-const TEXTS: &'static [(LinesError, &'static str)] = &[
-    (LinesError::EmptyWords, "no words"),
-    (LinesError::TooManyWords, "too many words"),
-    (LinesError::PartOfALine, "words that are no whole lines"),
-    (LinesError::HashCount, "hash count too large"),
+// Numbers of words and of hashes less one, and why such data are refused. The first reason is told.
+const DATA: &'static [(usize, u32, Option<LinesError>)] = &[
+    (0, 0, Some(LinesError::EmptyWords)),
+    (0, u32::MAX, Some(LinesError::EmptyWords)),
+    (7, 0, Some(LinesError::PartOfALine)),
+    (9, u32::MAX, Some(LinesError::PartOfALine)),
+    (8, u32::MAX, Some(LinesError::HashCount)),
+    (8, u32::MAX - 1, None),
+    (16, 0, None),
 ];
 
+// Whether data are refused for this reason, or taken.
+fn is_refused(alloc: Global, row: &(usize, u32, Option<LinesError>)) -> bool {
+    let (num_words, num_hashes_minus_one, reason) = *row;
+    match vec![in alloc; 0u64; num_words] {
+        Ok(bits) => {
+            let form = BlockedFilterData {
+                lines: BitsData { bits },
+                num_hashes_minus_one,
+                k0: 0,
+                k1: 0,
+            };
+            BlockedBloomFilter::from_data(form).err() == reason
+        }
+        Err(_error) => false,
+    }
+}
+
+// The reasons, with their texts and numbers. `FilterError` has the reasons 2, 3 and 7 too.
+const REASONS: &'static [(LinesError, u8, &'static str)] = &[
+    (LinesError::EmptyWords, 2, "no words"),
+    (LinesError::TooManyWords, 3, "too many words"),
+    (LinesError::PartOfALine, 16, "words that are no whole lines"),
+    (LinesError::HashCount, 7, "hash count too large"),
+];
+
+// Whether a reason has its number and its text.
+fn is_told(alloc: Global, row: &(LinesError, u8, &'static str)) -> bool {
+    let (error, code, text) = row;
+    has_text(alloc, error, text) & (error.code() == *code)
+}
+
 #[test]
-fn refusals_of_lines_have_texts(rt: HostRuntime) {
-    for (i, (error, text)) in TEXTS.iter().enumerate() {
-        assert!(rt; tell_row(&rt, i, has_text(rt.alloc(), error, text)));
+fn lines_are_refused_with_a_number_and_a_text(rt: HostRuntime) {
+    for (i, row) in DATA.iter().enumerate() {
+        assert!(rt; tell_row(&rt, i, is_refused(rt.alloc(), row)));
+    }
+    for (i, row) in REASONS.iter().enumerate() {
+        assert!(rt; tell_row(&rt, i, is_told(rt.alloc(), row)));
     }
 }

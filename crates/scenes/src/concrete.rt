@@ -1,11 +1,13 @@
 //! Generic calls at concrete types: what callers learn of slices and vectors, lists that name other
-//! filters, and other hashers.
+//! filters, other hashers, and builders that are compared.
 ghost use Rattle.std.specs.Prelude.{length};
 ghost use Rattle.fastbloom.specs.Builders.{sized_filter};
 ghost use Rattle.fastbloom.specs.Replies.{InsertsItems};
 ghost use Rattle.fastbloom.specs.SourceHash.{source_hash_of};
 
-use fastbloom::{AtomicBloomFilter, BloomFilter, BuilderWithBits, Command, FilterError, Rate};
+use fastbloom::{
+    AtomicBloomFilter, BlockedBloomFilter, BloomFilter, BuilderWithBits, Command, FilterError, Rate,
+};
 use std::alloc::{AllocError, Global};
 use std::hash::{BuildHasher, BuildHasherDefault, Hash, Hasher};
 
@@ -144,9 +146,59 @@ fn hasher_goes_in(alloc: Global) -> Result<bool, FilterError> {
     Ok(hashes_as_rust(&filter))
 }
 
+// Whether a value equals a second one, and not a third.
+fn are_compared<T: PartialEq + Drop>(one: T, same: T, other: T) -> bool {
+    (one == same) & (one != other)
+}
+
+// Whether rates keep their parts and are equal by their value, and so are builders of them,
+// whatever their seeds.
+fn rates_are_compared() -> Result<bool, FilterError> {
+    let (half, same, third) = (Rate::new(1, 2)?, Rate::new(2, 4)?, Rate::new(1, 3)?);
+    let has_parts = (same.num() == 2) & (same.den() == 4);
+    let plain = are_compared(
+        BloomFilter::with_false_pos(half).seed(&1),
+        BloomFilter::with_false_pos(same).seed(&2),
+        BloomFilter::with_false_pos(third).seed(&1),
+    );
+    let shared = are_compared(
+        AtomicBloomFilter::with_false_pos(half).seed(&1),
+        AtomicBloomFilter::with_false_pos(same).seed(&2),
+        AtomicBloomFilter::with_false_pos(third).seed(&1),
+    );
+    let blocked = are_compared(
+        BlockedBloomFilter::with_false_pos(half).seed(&1),
+        BlockedBloomFilter::with_false_pos(same).seed(&2),
+        BlockedBloomFilter::with_false_pos(third).seed(&1),
+    );
+    Ok(are_compared(half, same, third) & has_parts & plain & shared & blocked)
+}
+
+// Whether builders of 512 bits are equal, however many were asked for, and others aren't.
+fn bits_are_compared(alloc: Global) -> bool {
+    let plain = are_compared(
+        BloomFilter::with_num_bits(alloc, 512),
+        BloomFilter::with_num_bits(alloc, 449),
+        BloomFilter::with_num_bits(alloc, 513),
+    );
+    let shared = are_compared(
+        AtomicBloomFilter::with_num_bits(alloc, 512),
+        AtomicBloomFilter::with_num_bits(alloc, 449),
+        AtomicBloomFilter::with_num_bits(alloc, 513),
+    );
+    let blocked = are_compared(
+        BlockedBloomFilter::with_num_bits(alloc, 512),
+        BlockedBloomFilter::with_num_bits(alloc, 1),
+        BlockedBloomFilter::with_num_bits(alloc, 513),
+    );
+    plain & shared & blocked
+}
+
 #[test]
 fn generic_calls_hold_at_concrete_types(rt: HostRuntime) {
     assert!(rt; items_go_in(rt.alloc()));
     assert!(rt; list_names_filters(rt.alloc()));
     assert!(rt; matches!(hasher_goes_in(rt.alloc()), Ok(true)));
+    assert!(rt; matches!(rates_are_compared(), Ok(true)));
+    assert!(rt; bits_are_compared(rt.alloc()));
 }

@@ -101,22 +101,35 @@ pub(crate) fn parts_of(alloc: Global, cut: &[&[u64]]) -> Result<Vec<Vec<u64>>, F
 /// Hash 1, then hashes 0 and 1, then none.
 pub(crate) const THREE: &'static [&'static [u64]] = &[&[1], &[0, 1], &[]];
 
-// The bits and hashes of a shape, the shape that they are rounded to, parts of hashes, and the word
-// that they make: no part at all, and the same hashes, split in further ways.
-type Filling = (usize, u32, (usize, u32), &'static [&'static [u64]], u64);
+// The bits and hashes of a shape, parts of hashes, and the shape and the word of the filter that
+// they make: no part at all, and the same hashes, split in further ways. A shape is refused as by a
+// builder.
+type Filling = (
+    usize,
+    u32,
+    &'static [&'static [u64]],
+    Result<(usize, u32, u64), FilterError>,
+);
 
 const FILLINGS: &'static [Filling] = &[
-    (64, 3, (64, 3), THREE, 4296015873),
-    (64, 3, (64, 3), &[], 0),
-    (64, 3, (64, 3), &[&[1], &[0]], 4296015873),
-    (64, 3, (64, 3), &[&[], &[0, 1]], 4296015873),
-    (1, 0, (64, 1), &[], 0),
+    (64, 3, THREE, Ok((64, 3, 4296015873))),
+    (64, 3, &[], Ok((64, 3, 0))),
+    (64, 3, &[&[1], &[0]], Ok((64, 3, 4296015873))),
+    (64, 3, &[&[], &[0, 1]], Ok((64, 3, 4296015873))),
+    (1, 0, &[], Ok((64, 1, 0))),
+    (0, 1, &[], Err(FilterError::ZeroBits)),
+    (usize::MAX, 1, &[], Err(FilterError::TooManyWords)),
 ];
 
 // Whether a filter has this shape and this word.
-fn is_of(filter: &BloomFilter, shape: (usize, u32), word: u64) -> bool {
-    let has_shape = (filter.num_bits(), filter.num_hashes()) == shape;
-    has_shape & (filter.as_slice() == [word].as_slice())
+fn is_of(filter: &BloomFilter, said: Result<(usize, u32, u64), FilterError>) -> bool {
+    match said {
+        Ok((bits, hashes, word)) => {
+            let has_shape = (filter.num_bits(), filter.num_hashes()) == (bits, hashes);
+            has_shape & (filter.as_slice() == [word].as_slice())
+        }
+        Err(_refusal) => false,
+    }
 }
 
 // The filter of a row, and whether each worker passed the gate.
@@ -125,17 +138,17 @@ fn filled_by<R: Threads>(
     alloc: Global,
     row: &Filling,
 ) -> Result<(BloomFilter, bool), FilterError> {
-    let (bits, hashes, _rounded, cut, _word) = *row;
+    let (bits, hashes, cut, _said) = *row;
     let shape = Shape::new(bits, hashes)?;
     filled(rt, alloc, shape, parts_of(alloc, cut)?)
 }
 
-// Whether parts fill a filter as their row says.
+// Whether parts fill a filter, or are refused, as their row says.
 fn is_filled<R: Threads>(rt: &R, alloc: Global, row: &Filling) -> bool {
-    let (_bits, _hashes, rounded, _cut, word) = *row;
+    let (_bits, _hashes, _cut, said) = *row;
     match filled_by(rt, alloc, row) {
-        Ok((filter, is_seen)) => is_seen & is_of(&filter, rounded, word),
-        Err(_refusal) => false,
+        Ok((filter, is_seen)) => is_seen & is_of(&filter, said),
+        Err(refusal) => said.err() == Some(refusal),
     }
 }
 
@@ -144,14 +157,6 @@ fn parts_fill_a_filter_however_they_are_cut(rt: HostRuntime) {
     for (i, row) in FILLINGS.iter().enumerate() {
         assert!(rt; tell_row(&rt, i, is_filled(&rt, rt.alloc(), row)));
     }
-}
-
-// A shape is refused as by a builder.
-#[test]
-fn shapes_are_refused_as_by_builders(rt: HostRuntime) {
-    let most = Shape::new(usize::MAX, 1).err();
-    assert!(rt; Shape::new(0, 1).err() == Some(FilterError::ZeroBits));
-    assert!(rt; most == Some(FilterError::TooManyWords));
 }
 
 // A hundred parts of a thousand hashes each.

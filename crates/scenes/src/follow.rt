@@ -6,6 +6,14 @@ use crate::{answers, memory, rows};
 use fastbloom::FilterError;
 use std::alloc::Global;
 
+// What a call that takes memory returned, where the line says so too.
+fn said_so(said: bool, held: Result<bool, Refused>) -> Result<bool, Refused> {
+    match held {
+        Ok(held) => Ok(held & said),
+        Err(refused) => Err(refused),
+    }
+}
+
 // Whether both filters return from a line what it says.
 fn holds(alloc: Global, pair: &mut Pair, line: &Line) -> Result<bool, Refused> {
     let (op, said) = line;
@@ -14,25 +22,32 @@ fn holds(alloc: Global, pair: &mut Pair, line: &Line) -> Result<bool, Refused> {
         Op::Contains(hash) => Ok(answers::contains_hash(pair, *hash, *said)),
         Op::InsertItem(item) => Ok(answers::insert_item(pair, item, *said)),
         Op::ContainsItem(item) => Ok(answers::contains_item(pair, item, *said)),
-        Op::Hash(item, hash) => Ok(answers::has_hash(pair, item, *hash)),
-        Op::Extend(first, last) => Ok(answers::extend(pair, *first, *last)),
-        Op::Finds(first, last) => Ok(answers::finds(pair, *first, *last)),
-        Op::Clear => Ok(answers::clear(pair)),
-        Op::UniteWithItself => Ok(answers::unite_with_itself(pair)),
-        Op::Words(words) => Ok(have_words(pair, words)),
-        Op::IsEmpty => Ok(answers::is_empty(pair)),
-        Op::Shape(bits, hashes) => Ok(answers::has_shape(pair, *bits, *hashes)),
-        Op::Ones(ones) => Ok(answers::has_ones(pair, *ones)),
-        Op::Bounds(low, high) => Ok(answers::has_bounds(pair, *low, *high)),
-        Op::Rate(items, low, high) => Ok(answers::has_rate(pair, *items, *low, *high)),
-        Op::InsertAll(first, last) => memory::insert_all(alloc, pair, *first, *last),
+        Op::Hash(item, hash) => Ok(*said & answers::has_hash(pair, item, *hash)),
+        Op::Extend(first, last) => Ok(*said & answers::extend(pair, *first, *last)),
+        Op::Finds(first, last) => Ok(*said & answers::finds(pair, *first, *last)),
+        Op::Clear => Ok(*said & answers::clear(pair)),
+        Op::UniteWithItself => Ok(*said & answers::unite_with_itself(pair)),
+        Op::Words(words) => Ok(*said & have_words(pair, words)),
+        Op::IsEmpty => Ok(*said & answers::is_empty(pair)),
+        Op::Shape(bits, hashes) => Ok(*said & answers::has_shape(pair, *bits, *hashes)),
+        Op::Ones(ones) => Ok(*said & answers::has_ones(pair, *ones)),
+        Op::Bounds(low, high) => Ok(*said & answers::has_bounds(pair, *low, *high)),
+        Op::Rate(told, low, high) => Ok(*said & answers::has_rate(pair, told, *low, *high)),
+        Op::InsertBetween(hash, first, second) => {
+            Ok(*said & answers::insert_between(pair, *hash, *first, *second))
+        }
+        Op::InsertAll(first, last) => {
+            said_so(*said, memory::insert_all(alloc, pair, *first, *last))
+        }
         Op::Meet(words, unites) => memory::meet(alloc, pair, words, *unites, *said),
         Op::Clone => memory::copy(alloc, pair, *said),
-        Op::Data(k0, k1) => memory::to_data_and_back(alloc, pair, *k0, *k1),
-        Op::Cross(by_text) => memory::cross(alloc, pair, *by_text),
-        Op::Take => memory::take(alloc, pair),
-        Op::Replay(replies) => memory::replay(alloc, pair, replies),
-        Op::Build(make, bits, hashes) => memory::build(alloc, make, *bits, *hashes),
+        Op::Data(k0, k1) => said_so(*said, memory::to_data_and_back(alloc, pair, *k0, *k1)),
+        Op::Cross(by_text) => said_so(*said, memory::cross(alloc, pair, *by_text)),
+        Op::Take => said_so(*said, memory::take(alloc, pair)),
+        Op::Replay(replies) => said_so(*said, memory::replay(alloc, pair, replies)),
+        Op::Build(make, bits, hashes) => {
+            said_so(*said, memory::build(alloc, make, *bits, *hashes))
+        }
         Op::Compare(words, hashes, same_shape) => {
             memory::compare(alloc, pair, words, *hashes, *same_shape, *said)
         }

@@ -3,6 +3,7 @@
 mod nothing;
 mod vectors;
 
+use crate::scene::SEED_42;
 use crate::telling::tell_row;
 use bloom_parts::hasher::{DefaultHasher, RandomDefaultHasher};
 use fastbloom::{BloomFilter, FilterError, Text};
@@ -155,7 +156,7 @@ fn have_drawn(rt: &HostRuntime) -> bool {
 #[test]
 fn a_hash_is_of_the_key_and_of_the_bytes_written(rt: HostRuntime) {
     let given = DefaultHasher::seeded(&42u128.to_be_bytes());
-    assert!(rt; given.key() == (0, 3026418949592973312));
+    assert!(rt; given.key() == (0, SEED_42));
     assert!(rt; all_answer(&rt));
     assert!(rt; have_counted(&rt));
     assert!(rt; have_drawn(&rt));

@@ -228,6 +228,7 @@ pub(crate) fn are_alike(pair: &Pair) -> bool {
     let Pair { plain, shared } = pair;
     (plain.num_bits() == shared.num_bits())
         & (plain.num_hashes() == shared.num_hashes())
+        & (plain.hasher().key() == shared.hasher().key())
         & (plain.source_hash(&7u64) == shared.source_hash(&7u64))
         & plain.iter().eq(shared.iter())
 }

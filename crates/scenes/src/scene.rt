@@ -1,9 +1,23 @@
 //! Scenes: how a plain and a shared filter are made, and what both return from the same calls.
 
-/// An item, which is hashed as the number or the text that it holds.
+/// The second word of the key of seed 42, which is 42 * 2^56. The first is 0.
+pub(crate) const SEED_42: u64 = 3026418949592973312;
+
+/// An item, which is hashed as the number or the text that it holds. `Nothing` writes no byte.
 pub(crate) enum Item {
     Number(u64),
     Text(&'static str),
+    Nothing,
+}
+
+/// A rate of false positives that a filter tells, and for how many items.
+pub(crate) enum Told {
+    /// `expected_false_pos`.
+    Expected(usize),
+    /// `false_pos_bounds`.
+    Mean(usize),
+    /// `false_pos_now`.
+    Now,
 }
 
 /// What fixes the number of hashes, and with a rate the number of bits too.
@@ -84,8 +98,10 @@ pub(crate) enum Op {
     Ones(usize),
     /// `estimated_items` has these bounds. Where there is no upper one, the lower isn't compared.
     Bounds(usize, Option<usize>),
-    /// `expected_false_pos` for this many items has these ends.
-    Rate(usize, u64, u64),
+    /// A rate has these ends.
+    Rate(Told, u64, u64),
+    /// The iterator gives these two words where the hash is inserted behind the first.
+    InsertBetween(u64, u64, u64),
 }
 
 /// A call and what it returns, which is true where it returns nothing.

@@ -15,15 +15,16 @@ use tasks::{Task, work};
 
 type Shared = Arc<AtomicBloomFilter, Global>;
 
-// What a thread promises of the two numbers that it counts: nothing.
+/// What a thread promises of the two numbers that it counts: nothing.
 #[derive(Clone, Copy)]
-struct Anything;
+pub(crate) struct Anything;
 
 impl Promise<(u64, u64)> for Anything {
     ghost kept_by = { λ _ _. ⊤ };
 }
 
-type Child = PromisedHandle<(u64, u64), Anything>;
+/// A thread that counts two numbers.
+pub(crate) type Child = PromisedHandle<(u64, u64), Anything>;
 
 // Starts a thread for each of the tasks.
 fn start<R: Threads>(
@@ -44,8 +45,8 @@ fn start<R: Threads>(
     Ok(children)
 }
 
-// Waits for every thread, and adds up what they counted.
-fn join_all<R: Threads>(rt: &R, children: Vec<Child>) -> (u64, u64) {
+/// Waits for every thread, and adds up what they counted.
+pub(crate) fn join_all<R: Threads>(rt: &R, children: Vec<Child>) -> (u64, u64) {
     let mut new = 0u64;
     let mut wrong = 0u64;
     for child in children {

@@ -61,15 +61,21 @@ fn has_shape(made: Result<BloomFilter, FilterError>, bits: usize, hashes: u32) -
     }
 }
 
-// Whether the filter of these parts equals another.
+// Whether two filters are equal, have one key, and hash an item alike.
+fn are_same(again: &BloomFilter, filter: &BloomFilter) -> bool {
+    let has_key = again.hasher().key() == filter.hasher().key();
+    (again == filter) & has_key & (again.source_hash(&7u64) == filter.source_hash(&7u64))
+}
+
+// Whether the filter of these parts is another.
 fn is_filter_of(parts: Parts, filter: &BloomFilter) -> bool {
     match saved::filter_of(parts) {
-        Ok(again) => again == *filter,
+        Ok(again) => are_same(&again, filter),
         Err(_refusal) => false,
     }
 }
 
-// Whether a filter is made again of its parts.
+// Whether a filter under the key of seed 42 is made again of its parts.
 fn comes_again(alloc: Global, filter: &BloomFilter) -> bool {
     match parts_of(alloc, filter, 42u128.to_be_bytes()) {
         Ok(parts) => is_filter_of(parts, filter),
@@ -77,15 +83,20 @@ fn comes_again(alloc: Global, filter: &BloomFilter) -> bool {
     }
 }
 
-// Whether a filter is that of hash 1.
-fn is_of_one(filter: &BloomFilter) -> bool {
-    (filter.as_slice() == [WORD_OF_ONE].as_slice()) & (filter.num_hashes() == 2)
+// Whether a filter of hash 1 under the key of seed 42 is made again of its parts.
+fn is_made_again(alloc: Global) -> bool {
+    match filter_of(alloc, 64, 42, true) {
+        Ok(made) => comes_again(alloc, &made),
+        Err(_refusal) => false,
+    }
 }
 
-// Whether a filter of words is that of hash 1, and is made again of its parts.
-fn is_made_again(alloc: Global) -> bool {
-    match by_words(alloc) {
-        Ok(made) => is_of_one(&made) & comes_again(alloc, &made),
+// Whether a filter of words is that of hash 1.
+fn is_of_one(made: Result<BloomFilter, FilterError>) -> bool {
+    match made {
+        Ok(filter) => {
+            (filter.as_slice() == [WORD_OF_ONE].as_slice()) & (filter.num_hashes() == 2)
+        }
         Err(_refusal) => false,
     }
 }
@@ -96,6 +107,7 @@ fn plain_filters_are_built_and_made_again(rt: HostRuntime) {
     assert!(rt; has_shape(by_bits_and_hashes(alloc), 1024, 4));
     assert!(rt; has_shape(by_bits_and_items(alloc), 1024, 7));
     assert!(rt; has_shape(by_rate_and_items(alloc), 14400, 10));
+    assert!(rt; is_of_one(by_words(alloc)));
     assert!(rt; is_made_again(alloc));
 }
 

@@ -1,7 +1,6 @@
 //! Drawn sessions of blocked filters, and what both kinds reply, folded into one number.
-use super::{Pair, paired};
-use bloom_blocked::{AtomicBlockedBloomFilter, BlockedBloomFilter};
-use fastbloom::FilterError;
+use super::{Make, Pair, pair_of};
+use bloom_blocked::AtomicBlockedBloomFilter;
 use std::alloc::Global;
 
 // The number of an index that a session draws, by SplitMix64 (G. L. Steele, D. Lea and C. H. Flood,
@@ -38,25 +37,29 @@ fn fold_all(so_far: u64, numbers: &[u64]) -> u64 {
     folded
 }
 
-// Folds what both filters say. Where they differ, it begins anew, so that no session comes out.
+// Folds what both filters say. Where they differ, it folds another number, so that the session
+// doesn't come out.
 fn fold_both(so_far: u64, plain: u64, shared: u64) -> u64 {
     if plain == shared {
         fold(so_far, plain)
     } else {
-        0
+        fold(so_far, !plain)
     }
 }
 
-// The empty filter of a session. Four of 200 have a mebibyte and more.
-fn empty(alloc: Global, session: u64) -> Result<BlockedBloomFilter, FilterError> {
+// How the empty filter of a session is made. Four of 200 have a mebibyte and more.
+fn make_of(session: u64) -> Make {
     let session = (session % 200) as usize;
     let lines = if session % 50 == 49 {
         16384 + session
     } else {
         1 + session % 7
     };
-    let builder = BlockedBloomFilter::with_num_bits(alloc, 512 * lines)?;
-    Ok(builder.hashes(1 + session as u32 % 13))
+    Make {
+        lines,
+        num_hashes: 1 + session as u32 % 13,
+        hashes: &[],
+    }
 }
 
 // The hashes of a session of which some were inserted before, and some come twice.
@@ -66,19 +69,6 @@ fn several(session: u64) -> [u64; 130] {
         numbers[i] = drawn(session, 7 * i as u64 % 95);
     }
     numbers
-}
-
-// The empty filter of a session, to be shared.
-fn shared_of(alloc: Global, session: u64) -> Result<AtomicBlockedBloomFilter, FilterError> {
-    AtomicBlockedBloomFilter::from_plain(alloc, empty(alloc, session)?)
-}
-
-// Both.
-fn pair_of(alloc: Global, session: u64) -> Result<Pair, FilterError> {
-    match empty(alloc, session) {
-        Ok(plain) => paired(plain, shared_of(alloc, session)),
-        Err(refusal) => Err(refusal),
-    }
 }
 
 // Inserts the first twenty hashes, and folds the replies.
@@ -188,7 +178,7 @@ pub(super) fn fold_ten(alloc: Global, first: u64) -> u64 {
     let mut folded = 0;
     for i in 0..10u64 {
         let session = first.wrapping_add(i);
-        let more = match pair_of(alloc, session) {
+        let more = match pair_of(alloc, &make_of(session)) {
             Ok(mut pair) => fold_session(alloc, &mut pair, session),
             Err(_refusal) => 0,
         };

@@ -101,13 +101,6 @@ fn a_changed_number_is_refused_once_it_is_whole(rt: HostRuntime) {
     }
 }
 
-// The worked file and a byte more.
-const LONGER: [u8; 73] = [
-    102, 98, 108, 111, 111, 109, 0, 49, 3, 0, 0, 0, 0, 0, 0, 0, 1, 0, 0, 0, 0, 0, 0, 0, 0, 1, 2, 3,
-    4, 5, 6, 7, 8, 9, 10, 11, 12, 13, 14, 15, 168, 27, 10, 212, 238, 141, 157, 93, 0, 0, 0, 0, 0,
-    0, 0, 0, 0, 0, 0, 0, 0, 0, 0, 0, 0, 20, 0, 64, 128, 0, 128, 16, 0,
-];
-
 // Eight bytes tell that it is a filter.
 #[test]
 fn every_cut_is_refused_and_so_is_a_byte_more(rt: HostRuntime) {
@@ -125,5 +118,7 @@ fn every_cut_is_refused_and_so_is_a_byte_more(rt: HostRuntime) {
             )
         );
     }
-    assert!(rt; are_refused(rt.alloc(), &LONGER, FileError::TooLong));
+    let mut longer = [0u8; 73];
+    longer[..72].copy_from_slice(&WORKED);
+    assert!(rt; are_refused(rt.alloc(), &longer, FileError::TooLong));
 }

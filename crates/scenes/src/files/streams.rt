@@ -54,7 +54,7 @@ fn streams_that_fail_are_told_at_each_place(rt: HostRuntime) {
     }
 }
 
-// A filter of this many words, under a key that was drawn, with as many items.
+// A filter of this many words, under the key of a seed, with as many items.
 fn filter_of(alloc: Global, words: u64) -> Result<BloomFilter, FilterError> {
     let builder = BloomFilter::with_num_bits(alloc, words.saturating_mul(64) as usize)?;
     let mut filter = builder.seed(&42).hashes(7);

@@ -1,10 +1,11 @@
 //! Filters of words, by hash: positions, replies, words, lists, copies, data and estimates.
 use crate::scene::Op::{
-    Bounds, Clear, Clone, Compare, Contains, Data, Insert, IsEmpty, Ones, Rate, Replay, Shape,
-    Take, Words,
+    Bounds, Clear, Clone, Compare, Contains, Data, Insert, InsertBetween, IsEmpty, Ones, Rate,
+    Replay, Shape, Take, Words,
 };
 use crate::scene::Size::Hashes;
-use crate::scene::{Make, Scene};
+use crate::scene::Told::{Expected, Mean, Now};
+use crate::scene::{Make, SEED_42, Scene};
 
 // A hash is new, is found once it went in, and sets these bits alone.
 macro_rules! goes_in {
@@ -32,9 +33,6 @@ macro_rules! estimate {
         )
     };
 }
-
-// The second word of the key of seed 42. The first is 0.
-const KEY: u64 = 3026418949592973312;
 
 const HASHES: &'static [Scene] = &[
     goes_in!(u64::MAX, &[0], 2, &[9223380832947798016]),
@@ -75,8 +73,8 @@ const CALLS: &'static [Scene] = &[
         (Replay(&[false, false, true, true, false]), true),
         (Words(&[0]), true),
     ),
-    // Among 192 bits hash 0 has position 0 alone, and hash 1 has 0 and 61. The last line is the
-    // rate by the arithmetic of brackets.
+    // Among 192 bits hash 0 has position 0 alone, and hash 1 has 0 and 61. The first two rates are
+    // by the arithmetic of brackets. 6 of 192 bits are set: the last is the square of 1/32.
     scene!(
         "calls that only read leave the words",
         Make::Words(&[5, 6, 9], 0, Hashes(2)),
@@ -87,7 +85,16 @@ const CALLS: &'static [Scene] = &[
         (Clone, true),
         (Data(0, 0), true),
         (Words(&[5, 6, 9]), true),
-        (Rate(1, 995594204733541, 995594204733542), true),
+        (Rate(Expected(1), 995594204733541, 995594204733542), true),
+        (Rate(Mean(1), 995594204733541, 1550762667247232), true),
+        (Rate(Now, 9007199254740992, 9007199254740992), true),
+    ),
+    // Among 128 bits the hash 2^63 has position 64, which is the first of word 1.
+    scene!(
+        "an iterator loads a word when it is asked for it",
+        Make::Words(&[4, 8], 0, Hashes(1)),
+        (InsertBetween(1 << 63, 4, 9), true),
+        (Words(&[4, 9]), true),
     ),
     scene!(
         "a clear sets every word to 0",
@@ -104,7 +111,7 @@ const CALLS: &'static [Scene] = &[
     scene!(
         "data have the words, the hashes and the key",
         Make::Words(&[5], 42, Hashes(2)),
-        (Data(0, KEY), true),
+        (Data(0, SEED_42), true),
         (Words(&[5]), true),
         (Shape(64, 2), true),
     ),
@@ -127,17 +134,20 @@ const ESTIMATES: &'static [Scene] = &[
     scene!(
         "one hash, one item",
         Make::Words(&[0], 0, Hashes(1)),
-        (Rate(1, 144115188075855872, 144115188075855872), true),
+        (
+            Rate(Expected(1), 144115188075855872, 144115188075855872),
+            true
+        ),
     ),
     scene!(
         "two hashes, one item",
         Make::Words(&[0], 0, Hashes(2)),
-        (Rate(1, 8867011522199552, 8867011522199552), true),
+        (Rate(Expected(1), 8867011522199552, 8867011522199552), true),
     ),
     scene!(
         "three hashes, no item",
         Make::Words(&[0], 0, Hashes(3)),
-        (Rate(0, 0, 0), true),
+        (Rate(Expected(0), 0, 0), true),
     ),
     // After one of 64 bits was set, exactly 1 is expected to be set, after two 127/64, after three
     // 12097/4096, after four some 3.9, and after six some 5.8.

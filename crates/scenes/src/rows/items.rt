@@ -55,6 +55,15 @@ const ITEMS: &'static [Scene] = &[
     goes_in!(Item::Number(42), 0x7b3e_724b_36eb_df51),
     goes_in!(Item::Text("42"), 0x05ee_89d1_0068_c3d9),
     goes_in!(Item::Text("🦀"), 0x75e3_0e0e_d52f_68a3),
+    // Its hash is that of no bytes under the key bytes 0 to 15. The position among 64 is 42.
+    scene!(
+        "an item that writes nothing has its hash under a key",
+        Make::Words(&[0], 0x0001_0203_0405_0607_0809_0a0b_0c0d_0e0f, Hashes(1)),
+        (Hash(Item::Nothing, 0xabac_0158_050f_c4dc), true),
+        (InsertItem(Item::Nothing), false),
+        (ContainsItem(Item::Nothing), true),
+        (Words(&[1 << 42]), true),
+    ),
     scene!(
         "an item sets its bits alone",
         Make::Words(&[4, 8], 0, Hashes(1)),

@@ -7,8 +7,8 @@ pub returns : goal.returns
 returns g c = record {
   found = λ there.
       let kept = c.in_ok-shared.ensures.ok in
-      let one = c.in-Some.ensures in
-      let two = c.in-Some-start.ensures in
+      let one = c.in_ok-one.ensures in
+      let two = c.in_ok-two.ensures in
       let both = sure-after c.args.filter _ _ _ _ _ _ _ _ c.args.asked
       (promised _ _ c.join-first.result _ _ (one.filter ∙ kept) one.hashes c.join-first.ensures.1)
       (promised _ _ c.join-second.result _ _ (two.filter ∙ kept) two.hashes c.join-second.ensures.1)

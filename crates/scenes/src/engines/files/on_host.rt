@@ -47,7 +47,11 @@ fn write_store(rt: &HostRuntime) -> bool {
 
 // Whether a save in a folder that is missing is refused, since no name can be synced there.
 fn is_unsynced(rt: &HostRuntime, filter: &BloomFilter) -> bool {
-    fault_of(rt, "scene.filter", "scene.none", Some(filter)).is_some()
+    let unsynced = fault_of(rt, "scene.filter", "scene.none", Some(filter));
+    matches!(
+        unsynced,
+        Some(FilterFault::Unsaved(HostFault::Failed(_reason)))
+    )
 }
 
 /// Whether all three are refused, the second before there is a store.

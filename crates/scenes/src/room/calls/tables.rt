@@ -4,13 +4,10 @@ use crate::scene::Op::{
     Replay, Shape, Take, UniteWithItself, Words,
 };
 use crate::scene::Size::{Expected, Hashes, Numbers};
-use crate::scene::{Item, Make, Scene};
+use crate::scene::{Item, Make, SEED_42, Scene};
 
 // The words 5 and 6 under three hashes and the key of seed 42.
 const STANDING: Make = Make::Words(&[5, 6], 42, Hashes(3));
-
-// The second word of the key of seed 42. The first is 0.
-const KEY: u64 = 3026418949592973312;
 
 /// Calls that take memory, and scenes that make them beside filters that stand. A refused call ends
 /// its scene, and leaves the filters as they were. `shared hashes` makes the filters of every
@@ -57,7 +54,7 @@ const MADE: &'static [Called] = &[
                 Build(Make::Rate(1, 1000, 0, Numbers(&[1, 2])), 64, 22),
                 true
             ),
-            (Build(Make::Data(&[5, 6], 2, 0, KEY), 128, 3), true),
+            (Build(Make::Data(&[5, 6], 2, 0, SEED_42), 128, 3), true),
             (Words(&[5, 6]), true),
         ),
     ),
@@ -87,7 +84,7 @@ const CALLED: &'static [Called] = &[
             "copies and data",
             STANDING,
             (Clone, true),
-            (Data(0, KEY), true),
+            (Data(0, SEED_42), true),
             (Words(&[5, 6]), true),
         ),
     ),

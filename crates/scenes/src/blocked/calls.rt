@@ -1,0 +1,284 @@
+//! Calls on a plain and a shared blocked filter: what both return, and all words of both after each
+//! call. The values are by a model of SipHash-1-3, of the lines and of the positions, in Python.
+use super::{Make, Pair, pair_of};
+use crate::telling::{tell_named, tell_row};
+use bloom_blocked::{AtomicBlockedBloomFilter, BlockedBloomFilter};
+use std::alloc::Global;
+
+// A call on both filters, and what it returns.
+enum Op {
+    // `insert_hash`.
+    Insert(u64, bool),
+    // `contains_hash`.
+    Contains(u64, bool),
+    // `insert` of a number.
+    InsertItem(u64, bool),
+    // `contains` of a number.
+    ContainsItem(u64, bool),
+    // `source_hash` of a number.
+    Hash(u64, u64),
+    // `insert_hashes`.
+    InsertHashes(&'static [u64]),
+    // `insert_all` of numbers.
+    InsertAll(&'static [u64]),
+    // `extend` by the numbers from the first up to the second.
+    Extend(u64, u64),
+    // `union` with the other filters. False: their shape differs, and nothing is done.
+    Unite(bool),
+    // `intersect` with them, or nothing.
+    Intersect(bool),
+    Clear,
+    // `take_words` gives the words of the plain filter, which is cleared then.
+    Take,
+    // `count_ones`.
+    Ones(usize),
+    // The words are these.
+    Words(&'static [u64]),
+}
+
+// How both filters and the others are made, and calls that are made one after the other.
+struct Calls {
+    name: &'static str,
+    make: Make,
+    other: Make,
+    ops: &'static [Op],
+}
+
+// So many lines and hashes, and the hashes that were inserted.
+macro_rules! made {
+    ($lines:expr, $num_hashes:expr, $hashes:expr) => {
+        Make {
+            lines: $lines,
+            num_hashes: $num_hashes,
+            hashes: $hashes,
+        }
+    };
+}
+
+const CALLS: &'static [Calls] = &[
+    Calls {
+        name: "hashes of one line",
+        make: made!(1, 2, &[1]),
+        other: made!(1, 2, &[2, 3]),
+        ops: &[
+            Op::Words(&[8192, 0, 17179869184, 0, 0, 0, 0, 0]),
+            Op::Contains(1, true),
+            Op::Contains(2, false),
+            Op::Unite(true),
+            Op::Contains(2, true),
+            Op::Contains(3, true),
+            Op::Ones(6),
+            Op::Words(&[549822930944, 0, 17179869184, 0, 0, 32, 0, 1099511627776]),
+            Op::Insert(4, false),
+            Op::Insert(4, true),
+            Op::Intersect(true),
+            Op::Contains(4, false),
+            Op::Contains(1, false),
+            Op::Words(&[549822922752, 0, 0, 0, 0, 32, 0, 1099511627776]),
+            Op::Ones(4),
+            Op::Clear,
+            Op::Ones(0),
+        ],
+    },
+    Calls {
+        name: "items of one line",
+        make: made!(1, 2, &[]),
+        other: made!(2, 2, &[2, 3]),
+        ops: &[
+            Op::Hash(42, 0xac2d_061b_15c2_5001),
+            Op::ContainsItem(42, false),
+            Op::InsertItem(42, false),
+            Op::InsertItem(42, true),
+            Op::ContainsItem(42, true),
+            Op::ContainsItem(43, false),
+            Op::Words(&[4096, 0, 0, 2199023255552, 0, 0, 0, 0]),
+            Op::InsertAll(&[1, 2, 3]),
+            Op::Extend(4, 7),
+            Op::InsertHashes(&[1, 2, 3]),
+            Op::Unite(false),
+            Op::Words(&[
+                282024799645700,
+                0,
+                17180917760,
+                2199023255552,
+                562949953421313,
+                274877906976,
+                140737488355328,
+                144151541752791040,
+            ]),
+            Op::Ones(19),
+            Op::Take,
+            Op::Ones(0),
+            Op::ContainsItem(42, false),
+        ],
+    },
+    Calls {
+        name: "five lines",
+        make: made!(5, 7, &[0, 1 << 61, 1 << 63, u64::MAX]),
+        other: made!(5, 6, &[0, 1 << 61, 1 << 63, u64::MAX]),
+        ops: &[
+            Op::Ones(11),
+            Op::Unite(false),
+            Op::Intersect(false),
+            Op::Ones(11),
+            Op::Extend(0, 10),
+            Op::InsertAll(&[1, 20, 300]),
+            Op::ContainsItem(9, true),
+            Op::ContainsItem(300, true),
+            Op::ContainsItem(10, false),
+            Op::Ones(92),
+            Op::Take,
+            Op::Ones(0),
+        ],
+    },
+    // So large that hashes go in 64 at a time.
+    Calls {
+        name: "a mebibyte of lines",
+        make: made!(16384, 3, &[1 << 60]),
+        other: made!(16384, 3, &[1 << 60, 3 << 61]),
+        ops: &[
+            Op::Extend(0, 200),
+            Op::ContainsItem(0, true),
+            Op::ContainsItem(199, true),
+            Op::ContainsItem(200, false),
+            Op::Ones(602),
+            Op::InsertAll(&[150, 250, 350]),
+            Op::Extend(250, 251),
+            Op::InsertHashes(&[(1 << 57) + 1, (2 << 57) + 2, (3 << 57) + 3]),
+            Op::Ones(617),
+            Op::Unite(true),
+            Op::Contains(3 << 61, true),
+            Op::Ones(619),
+            Op::Intersect(true),
+            Op::Ones(4),
+            Op::ContainsItem(0, false),
+            Op::Contains(1 << 60, true),
+            Op::InsertItem(0, false),
+            Op::Take,
+            Op::Ones(0),
+        ],
+    },
+];
+
+// Whether both filters have the same shape, hasher and words.
+fn are_alike(pair: &Pair) -> bool {
+    let Pair { plain, shared } = pair;
+    (plain.num_bits() == shared.num_bits())
+        & (plain.num_hashes() == shared.num_hashes())
+        & (plain.hasher().key() == shared.hasher().key())
+        & (plain.source_hash(&7u64) == shared.source_hash(&7u64))
+        & plain.iter().eq(shared.iter())
+}
+
+// Unites both filters with others, or intersects them, if they have one shape: whether they have.
+fn meet(pair: &mut Pair, other: &Pair, unites: bool) -> bool {
+    let Pair { plain, shared } = pair;
+    let is_shared_alike = shared.same_shape(&other.shared);
+    if !plain.same_shape(&other.plain) || !is_shared_alike {
+        return is_shared_alike;
+    }
+    if unites {
+        shared.union(&other.shared);
+        plain.union(&other.plain);
+    } else {
+        shared.intersect(&other.shared);
+        plain.intersect(&other.plain);
+    }
+    true
+}
+
+// Whether the words that are taken are those of a plain filter, which is cleared.
+fn take(alloc: Global, shared: &AtomicBlockedBloomFilter, plain: &mut BlockedBloomFilter) -> bool {
+    match shared.take_words(alloc) {
+        Ok(words) => {
+            let is_right = words.as_slice() == plain.as_slice();
+            plain.clear();
+            is_right
+        }
+        Err(_refusal) => false,
+    }
+}
+
+// Whether a call on both filters returns what it is to.
+fn holds(alloc: Global, pair: &mut Pair, other: &Pair, op: &Op) -> bool {
+    match op {
+        Op::Insert(hash, said) => {
+            (pair.plain.insert_hash(*hash) == *said) & (pair.shared.insert_hash(*hash) == *said)
+        }
+        Op::Contains(hash, said) => {
+            let is_found = pair.plain.contains_hash(*hash) == *said;
+            is_found & (pair.shared.contains_hash(*hash) == *said)
+        }
+        Op::InsertItem(item, said) => {
+            (pair.plain.insert(item) == *said) & (pair.shared.insert(item) == *said)
+        }
+        Op::ContainsItem(item, said) => {
+            (pair.plain.contains(item) == *said) & (pair.shared.contains(item) == *said)
+        }
+        Op::Hash(item, hash) => {
+            (pair.plain.source_hash(item) == *hash) & (pair.shared.source_hash(item) == *hash)
+        }
+        Op::InsertHashes(hashes) => {
+            pair.plain.insert_hashes(hashes);
+            pair.shared.insert_hashes(hashes);
+            true
+        }
+        Op::InsertAll(items) => {
+            pair.plain.insert_all(*items);
+            pair.shared.insert_all(*items);
+            true
+        }
+        Op::Extend(first, last) => {
+            pair.plain.extend(*first..*last);
+            pair.shared.extend(*first..*last);
+            true
+        }
+        Op::Unite(said) => meet(pair, other, true) == *said,
+        Op::Intersect(said) => meet(pair, other, false) == *said,
+        Op::Clear => {
+            pair.plain.clear();
+            pair.shared.clear();
+            true
+        }
+        Op::Take => take(alloc, &pair.shared, &mut pair.plain),
+        Op::Ones(ones) => {
+            (pair.plain.count_ones() == *ones) & (pair.shared.count_ones() == *ones)
+        }
+        Op::Words(words) => pair.plain.iter().eq(words.iter().copied()),
+    }
+}
+
+// Whether each call returns what it is to, and leaves both filters alike, and the others too. The
+// first that doesn't is told.
+fn hold(rt: &HostRuntime, pair: &mut Pair, other: &Pair, ops: &[Op]) -> bool {
+    'ops: for (i, op) in ops.iter().enumerate() {
+        let is_right = holds(rt.alloc(), pair, other, op);
+        if !tell_row(rt, i, is_right & are_alike(pair) & are_alike(other)) {
+            return false;
+        }
+    }
+    true
+}
+
+// The same, of filters that are made.
+fn hold_beside(rt: &HostRuntime, calls: &Calls, other: &Pair) -> bool {
+    match pair_of(rt.alloc(), &calls.make) {
+        Ok(mut pair) => hold(rt, &mut pair, other, calls.ops),
+        Err(_refusal) => false,
+    }
+}
+
+// The same, of others that are made too.
+fn hold_true(rt: &HostRuntime, calls: &Calls) -> bool {
+    match pair_of(rt.alloc(), &calls.other) {
+        Ok(other) => hold_beside(rt, calls, &other),
+        Err(_refusal) => false,
+    }
+}
+
+#[test]
+fn both_blocked_filters_return_alike_and_keep_the_same_words(rt: HostRuntime) {
+    for calls in CALLS {
+        assert!(rt; tell_named(&rt, calls.name, hold_true(&rt, calls)));
+    }
+}
