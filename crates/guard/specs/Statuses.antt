@@ -8,13 +8,14 @@ use Rattle.guard_store.specs.declared.fault.StoreFault.{StoreFault}
 use Rattle.guard_store.specs.declared.fault.StoreFault.TheVariants as store
 use Rattle.guard_engine.specs.declared.commands.Trouble.{Trouble}
 use Rattle.guard_engine.specs.declared.commands.Trouble.TheVariants as troubles
-use Rattle.guard_engine.specs.declared.guard.Fault.TheVariants as faults
-use Rattle.guard_engine.specs.declared.guard.Refusal.{Refusal}
-use Rattle.guard_engine.specs.declared.guard.Refusal.TheVariants as refusals
+use Rattle.guard_engine.specs.declared.outcomes.Fault.TheVariants as faults
+use Rattle.guard_engine.specs.declared.outcomes.Refusal.{Refusal}
+use Rattle.guard_engine.specs.declared.outcomes.Refusal.TheVariants as refusals
 use Rattle.guard_engine.specs.declared.guard.loads.Why.{Why}
 use Rattle.guard_engine.specs.declared.guard.loads.Why.TheVariants as why
-use Rattle.guard_parts.specs.declared.filter_file.FilterFault.{FilterFault}
-use Rattle.guard_parts.specs.declared.host_folder.HostFault.{HostFault}
+use Rattle.guard_parts.specs.declared.faults.FilterFault.{FilterFault}
+use Rattle.guard_parts.specs.declared.faults.FilterFault.TheVariants as kept
+use Rattle.guard_parts.specs.declared.faults.HostFault.{HostFault}
 
 -- where the store failed
 abbrev pub status_for : StoreFault → ℕ
@@ -31,18 +32,27 @@ status_for store.TooLarge = 2
 status_for store.Taken = 2
 status_for store.Shut = 2
 
+-- where the filter can't be saved
+abbrev pub status_of_kept : FilterFault HostFault → ℕ
+status_of_kept (kept.Unread error) = 4
+status_of_kept kept.OtherStore = 4
+status_of_kept (kept.Refused fault) = 4
+status_of_kept (kept.Unsaved error) = 4
+status_of_kept kept.NoNumber = 4
+status_of_kept kept.Memory = 3
+
 -- where lines weren't taken to their end
 abbrev pub status_of_why : Why StoreFault (FilterFault HostFault) → ℕ
 status_of_why (why.Line bad) = 2
 status_of_why (why.Input kind) = 4
 status_of_why why.Memory = 3
 status_of_why (why.Store fault) = status_for fault
-status_of_why (why.Kept fault) = 4
+status_of_why (why.Kept fault) = status_of_kept fault
 
 -- where a task wasn't carried out to its end
 abbrev pub status_after : Trouble StoreFault (FilterFault HostFault) → ℕ
 status_after (troubles.Put (faults.Store fault)) = status_for fault
-status_after (troubles.Put (faults.Kept fault)) = 4
+status_after (troubles.Put (faults.Kept fault)) = status_of_kept fault
 status_after (troubles.Key fault) = status_for fault
 status_after (troubles.Lines stop) = status_of_why stop.why
 

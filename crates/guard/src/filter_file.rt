@@ -25,5 +25,5 @@ pub fn filter_file<'a, W: Left>(
         folder: names.folder.as_str(),
         store: names.store.as_str(),
     };
-    FilterFile::new(rt.alloc(), HostFolder::new(rt, paths, world), false)
+    FilterFile::new(rt.alloc(), HostFolder::new(rt, paths, world))
 }

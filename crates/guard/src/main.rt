@@ -19,6 +19,7 @@ mod store_file;
 mod tasks;
 mod telling;
 
+use clap::Error;
 use command_line::{Options, arguments};
 use connections::OnDisk;
 use guard_parts::Unknown;
@@ -27,7 +28,7 @@ use reading_files::{InPlace, is_read_in_place};
 use readings::{Reading, read_in};
 use sessions::{names_of, reading_of};
 use std::process::ExitCode;
-use telling::{BAD, DONE, FAILED, NO_MEMORY};
+use telling::{BAD, DONE, NO_MEMORY, tell_output};
 
 // Does what is asked for with the files themselves.
 //
@@ -55,20 +56,23 @@ fn serve(rt: &HostRuntime, options: Options) -> u8 {
     on_disk(rt, &names, options)
 }
 
+// Prints what clap has to say, and gives the status.
+fn print(rt: &HostRuntime, error: &Error) -> u8 {
+    let printed = error.print(rt);
+    if error.use_stderr() {
+        return BAD;
+    }
+    match printed {
+        Ok(()) => DONE,
+        Err(error) => tell_output(rt, error),
+    }
+}
+
 // What the words ask for is done; the status.
 fn run(rt: &HostRuntime, words: &[String]) -> u8 {
     match arguments(rt.alloc(), words) {
         Ok(options) => serve(rt, options),
-        Err(error) => {
-            let is_printed = error.print(rt).is_ok();
-            if error.use_stderr() {
-                BAD
-            } else if is_printed {
-                DONE
-            } else {
-                FAILED
-            }
-        }
+        Err(error) => print(rt, &error),
     }
 }
 

@@ -1,6 +1,4 @@
 //! One run over the files of a store: what is opened for a task, and what is closed.
-ghost use Rattle.std.specs.Prelude.{◌≡◌, ◌≢◌};
-
 use crate::command_line::{Load, Options, Request};
 use crate::connections::{Access, Connector, close_table};
 use crate::guards;
@@ -9,25 +7,12 @@ use crate::names::Names;
 use crate::readings::{Reading, ask, list};
 use crate::store_file::open_within;
 use crate::tasks::{Change, Question};
-use crate::telling::{FAILED, NO_MEMORY, tell, tell_store};
+use crate::telling::{status_of_kind, tell, tell_store};
 use guard_engine::Task;
 use lines::Reason;
-use std::io::ErrorKind;
 
 // How many keys a filter has to spare that a put makes.
 const PUT_SPARE: usize = 1000;
-
-// The status where a file can't be opened or read.
-fn status_of_read(kind: ErrorKind) -> u8
-    ensures memory { kind ≡ ErrorKind.OutOfMemory → result ≡ NO_MEMORY }
-    ensures other { kind ≢ ErrorKind.OutOfMemory → result ≡ FAILED }
-{
-    if kind == ErrorKind::OutOfMemory {
-        NO_MEMORY
-    } else {
-        FAILED
-    }
-}
 
 // Changes a store, which is made where there is none, as its filter is. The filter has room for the
 // keys to come, and one that is made anew has this many keys to spare. Where closing fails, as on a
@@ -77,7 +62,7 @@ fn opened_load<'a>(rt: &HostRuntime, load: Load<'a>) -> Result<(Change<'a>, u64)
                 load.file,
                 format_args!("it can't be read: {}", Reason(error.kind())),
             );
-            Err(status_of_read(error.kind()))
+            Err(status_of_kind(error.kind()))
         }
     }
 }
@@ -108,7 +93,7 @@ pub fn names_of(rt: &HostRuntime, options: Options) -> Result<Names, u8> {
                 options.store,
                 format_args!("it can't be opened: {}", Reason(error.kind())),
             );
-            Err(status_of_read(error.kind()))
+            Err(status_of_kind(error.kind()))
         }
     }
 }

@@ -3,11 +3,10 @@
 use crate::filter_file::FilterFault;
 use crate::names::Names;
 use crate::telling::{
-    BAD, DONE, FAILED, Input, NO, NO_INPUT, tell, tell_filter, tell_origin, tell_trouble,
+    BAD, DONE, Input, NO, NO_INPUT, tell, tell_filter, tell_origin, tell_output, tell_trouble,
 };
 use guard_engine::{Answer, Guard, Kept, Origin, Store, Task, Trouble, carry_out};
 use guard_store::StoreFault;
-use lines::Reason;
 use std::fs::File;
 use std::io;
 use std::io::{BufWriter, Read, Write};
@@ -42,12 +41,6 @@ fn input_of<'a>(place: &'a str, is_put: bool) -> Input<'a> {
     Input { place, is_put }
 }
 
-// Tells that the reply can't be printed.
-fn tell_output(rt: &HostRuntime, error: io::Error) -> u8 {
-    tell(rt, "standard output", Reason(error.kind()));
-    FAILED
-}
-
 // Tells where the filter was made anew, and tries to save it.
 fn save_made<T: Store + Drop, K: Kept<Error = FilterFault> + Drop>(
     rt: &HostRuntime,
@@ -58,9 +51,7 @@ fn save_made<T: Store + Drop, K: Kept<Error = FilterFault> + Drop>(
     if tell_origin(rt, names, &origin) {
         match guard.save() {
             Ok(()) => {}
-            Err(fault) => {
-                tell_filter(rt, names, &fault);
-            }
+            Err(fault) => tell_filter(rt, names, &fault),
         }
     }
 }

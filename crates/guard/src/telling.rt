@@ -1,14 +1,17 @@
 //! What is told on standard error, and the statuses. Where standard error can't be written, nothing
 //! is told, and the status stays.
 ghost use Rattle.std.specs.Prelude.{◌≡◌, ◌≢◌, ◌↔◌, IsTrue};
-ghost use Rattle.guard.specs.Statuses.{status_after, status_for, status_of_lack, status_of_why, status_without};
+ghost use Rattle.guard.specs.Statuses.{status_after, status_for, status_of_kept, status_of_lack, status_of_why, status_without};
 
 use crate::filter_file::FilterFault;
 use crate::names::Names;
 use bloom_plain::FilterError;
 use guard_engine::{Fault, Origin, Refusal, Subject, Told, Trouble, Why};
 use guard_store::StoreFault;
+use lines::Reason;
 use std::fmt::Display;
+use std::io;
+use std::io::ErrorKind;
 
 /// The task was carried out.
 pub const DONE: u8 = 0;
@@ -66,6 +69,20 @@ fn status_of(fault: &StoreFault) -> u8
     }
 }
 
+// The status of a task for which the filter can't be saved.
+fn status_of_kept(fault: &FilterFault) -> u8
+    ensures { result ≡ status_of_kept fault.now }
+{
+    match fault {
+        FilterFault::Unread(_) => FAILED,
+        FilterFault::OtherStore => FAILED,
+        FilterFault::Refused(_) => FAILED,
+        FilterFault::Unsaved(_) => FAILED,
+        FilterFault::NoNumber => FAILED,
+        FilterFault::Memory => NO_MEMORY,
+    }
+}
+
 // The status of a task whose lines weren't taken to their end.
 fn status_of_why(why: &Why<StoreFault, FilterFault>) -> u8
     ensures { result ≡ status_of_why why.now }
@@ -75,7 +92,7 @@ fn status_of_why(why: &Why<StoreFault, FilterFault>) -> u8
         Why::Input(_) => FAILED,
         Why::Memory => NO_MEMORY,
         Why::Store(fault) => status_of(fault),
-        Why::Kept(_) => FAILED,
+        Why::Kept(fault) => status_of_kept(fault),
     }
 }
 
@@ -85,7 +102,7 @@ fn status_of_trouble(trouble: &Trouble<StoreFault, FilterFault>) -> u8
 {
     match trouble {
         Trouble::Put(Fault::Store(fault)) => status_of(fault),
-        Trouble::Put(Fault::Kept(_)) => FAILED,
+        Trouble::Put(Fault::Kept(fault)) => status_of_kept(fault),
         Trouble::Key(fault) => status_of(fault),
         Trouble::Lines(stop) => status_of_why(&stop.why),
     }
@@ -115,12 +132,28 @@ pub fn tell_store(rt: &HostRuntime, names: &Names, fault: &StoreFault) -> u8
     status_of(fault)
 }
 
-/// Tells that the filter can't be saved.
-pub fn tell_filter(rt: &HostRuntime, names: &Names, fault: &FilterFault) -> u8
-    ensures { result ≡ FAILED }
+/// The status where a file or a stream can't be opened, read or written.
+pub fn status_of_kind(kind: ErrorKind) -> u8
+    ensures memory { kind ≡ ErrorKind.OutOfMemory → result ≡ NO_MEMORY }
+    ensures other { kind ≢ ErrorKind.OutOfMemory → result ≡ FAILED }
 {
+    if kind == ErrorKind::OutOfMemory {
+        NO_MEMORY
+    } else {
+        FAILED
+    }
+}
+
+/// Tells that standard output can't be written, and gives the status.
+pub fn tell_output(rt: &HostRuntime, error: io::Error) -> u8 {
+    let kind = error.kind();
+    tell(rt, "standard output", Reason(kind));
+    status_of_kind(kind)
+}
+
+/// Tells that the filter can't be saved.
+pub fn tell_filter(rt: &HostRuntime, names: &Names, fault: &FilterFault) {
     tell(rt, names.filter.as_str(), fault);
-    FAILED
 }
 
 /// Tells why there is no guard.

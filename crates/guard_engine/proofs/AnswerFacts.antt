@@ -1,8 +1,8 @@
 -- What single answers say, of a store with the key 1 and the value 2: cases that hold, and near
 -- ones that don't.
 use Rattle.std.proofs.Common.{◌≡◌, inl, inr, true, false, [], ◌∷◌, string_bytes, refl}
-use Rattle.guard_engine.specs.declared.guard.Found.TheVariants.{Spared, FalseAlarm, Value}
-use Rattle.guard_engine.specs.declared.guard.Put.TheVariants.{Added, Taken}
+use Rattle.guard_engine.specs.declared.outcomes.Found.TheVariants.{Spared, FalseAlarm, Value}
+use Rattle.guard_engine.specs.declared.outcomes.Put.TheVariants.{Added, Taken}
 use Rattle.guard_engine.specs.declared.commands.Answer.TheVariants as answers
 use Rattle.guard_engine.specs.Answers.{IsAbsence, IsFound, IsNo}
 use Rattle.guard_engine.proofs.GuardedFacts.{one}

@@ -7,8 +7,8 @@ use Rattle.bloom_plain.specs.Filter.{contains}
 use Rattle.lines.specs.Reading.{Ends, KnowsEnd, TakesLine, TakesLong, TakesShort, Waiting, left_of}
 use Rattle.guard_parts.specs.declared.room.Room.{Room}
 use Rattle.guard_engine.specs.declared.counts.Counts.{Counts}
-use Rattle.guard_engine.specs.declared.guard.Found.{Found}
-use Rattle.guard_engine.specs.declared.guard.Found.TheVariants.{Spared, FalseAlarm, Value}
+use Rattle.guard_engine.specs.declared.outcomes.Found.{Found}
+use Rattle.guard_engine.specs.declared.outcomes.Found.TheVariants.{Spared, FalseAlarm, Value}
 use Rattle.guard_engine.specs.declared.guard.loads.Stop.{Stop}
 use Rattle.guard_engine.specs.declared.guard.loads.Why.{Why}
 use Rattle.guard_engine.specs.declared.guard.loads.Why.TheVariants.{Line}

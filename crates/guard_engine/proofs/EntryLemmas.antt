@@ -1,8 +1,8 @@
 -- Entries that stay, and what a batch of one put comes to.
 use Rattle.std.proofs.Common.{◌≡◌, ◌⊎◌, inl, inr, ℕ, List, Ok, Err, Result, IfOk, OnErr, sym, subst, ◌∙◌}
 use Rattle.bloom_plain.specs.Data.{DefaultFilter}
-use Rattle.guard_engine.specs.declared.guard.Put.{Put}
-use Rattle.guard_engine.specs.declared.guard.Put.TheVariants.{Added, Taken}
+use Rattle.guard_engine.specs.declared.outcomes.Put.{Put}
+use Rattle.guard_engine.specs.declared.outcomes.Put.TheVariants.{Added, Taken}
 use Rattle.guard_engine.specs.Guarded.{Covers, Entries, Gains, IsSingle, Lacks, Stays}
 use Rattle.guard_engine.specs.Guarding.{AllCover, IsGuarding, PutsInBatch, Watches}
 use Rattle.guard_engine.specs.Puts.{IsPut, added_by}

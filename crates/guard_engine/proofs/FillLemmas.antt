@@ -36,10 +36,6 @@ pub Fills-nil : (keys : List (List ℕ)) (f : DefaultFilter) → Fills keys f f
 Fills-nil keys f =
     record { some = []; among = λ key there. absurd (of_none key there); inserts = Inserts-none f }
 
--- no hash was inserted, in a filter that is the same
-pub Fills-same : (keys : List (List ℕ)) (old new : DefaultFilter) → new ≡ old → Fills keys old new
-Fills-same keys old new same = subst (Fills keys old) (sym same) (Fills-nil keys old)
-
 -- the hash of one key was inserted
 pub Fills-one : (key : List ℕ) (hash : ℕ) (old new : DefaultFilter) → hash ≡ key_hash key
     → InsertsAll old (hash ∷ []) new → Fills (key ∷ []) old new

@@ -6,8 +6,8 @@ use Rattle.bloom_plain.specs.Data.{AnswerAlike, DefaultFilter}
 use Rattle.bloom_plain.specs.Filter.{contains}
 use Rattle.bloom_plain.specs.Laws.{KeptByInsertLaw}
 use Rattle.guard_parts.specs.Growth.{Comes, Grows}
-use Rattle.guard_engine.specs.declared.guard.Put.{Put}
-use Rattle.guard_engine.specs.declared.guard.Put.TheVariants.{Added, Taken}
+use Rattle.guard_engine.specs.declared.outcomes.Put.{Put}
+use Rattle.guard_engine.specs.declared.outcomes.Put.TheVariants.{Added, Taken}
 use Rattle.guard_engine.specs.Guarded.{Covers, Entries, Stays, key_hash}
 use Rattle.guard_engine.specs.Guarding.{AddsOnly, AllCover, PutsInBatch}
 use Rattle.guard_engine.specs.Puts.{IsPut}

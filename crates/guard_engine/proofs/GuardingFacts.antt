@@ -2,7 +2,7 @@
 -- don't hold. A filter of the word 17180000256 and two hashes has the key 1, one of 131072 hasn't.
 use Rattle.std.proofs.Common.{◌≡◌, ◌⊎◌, inl, inr, [], ◌∷◌, refl, sym, ap, subst, ◌∙◌, arith}
 use Rattle.bloom_plain.specs.Data.{DefaultFilter}
-use Rattle.guard_engine.specs.declared.guard.Put.TheVariants.{Added, Taken}
+use Rattle.guard_engine.specs.declared.outcomes.Put.TheVariants.{Added, Taken}
 use Rattle.guard_engine.specs.Guarded.{Covers, Entries, key_hash}
 use Rattle.guard_engine.specs.Guarding.{AddsOnly, AllCover, IsGuarding, PutsInBatch, Watches}
 use Rattle.guard_engine.proofs.CoverFacts.{covers, covers-none, covers-off, filter, key_hash-one}

@@ -13,8 +13,8 @@ use Rattle.bloom_plain.specs.Replies.{InsertsAll}
 use Rattle.guard_engine.specs.Guarded.{Covers, Entries, HoldsKeys, IsMadeOf, LacksFilter, Lists, key_hash}
 use Rattle.guard_engine.specs.Room.{room_for}
 use Rattle.guard_parts.specs.declared.room.Room.{Room}
-use Rattle.guard_engine.specs.declared.guard.Refusal.{Refusal}
-use Rattle.guard_engine.specs.declared.guard.Refusal.TheVariants as refusal
+use Rattle.guard_engine.specs.declared.outcomes.Refusal.{Refusal}
+use Rattle.guard_engine.specs.declared.outcomes.Refusal.TheVariants as refusal
 
 -- two refusals of a filter that are the same have the same error
 pub filter-injective : {G E : Type 0} (error other : FilterError)

@@ -1,8 +1,8 @@
 -- Puts that are counted, one after the other.
 use Rattle.std.proofs.Common.{◌≡◌, ℕ, ◌+◌, ◌^◌, ◌<◌, refl, arith}
 use Rattle.guard_engine.specs.declared.counts.Counts.{Counts}
-use Rattle.guard_engine.specs.declared.guard.Put.{Put}
-use Rattle.guard_engine.specs.declared.guard.Put.TheVariants.{Added, Taken}
+use Rattle.guard_engine.specs.declared.outcomes.Put.{Put}
+use Rattle.guard_engine.specs.declared.outcomes.Put.TheVariants.{Added, Taken}
 use Rattle.guard_engine.specs.Counted.{CountsPuts}
 use Rattle.guard_engine.specs.Puts.{added_by, taken_by}
 

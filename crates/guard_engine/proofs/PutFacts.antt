@@ -1,7 +1,7 @@
 -- What became of an entry that was put: cases that hold, and ones that differ from one of these in
 -- one thing and don't hold.
 use Rattle.std.proofs.Common.{◌≡◌, [], ◌∷◌, refl}
-use Rattle.guard_engine.specs.declared.guard.Put.TheVariants.{Added, Taken}
+use Rattle.guard_engine.specs.declared.outcomes.Put.TheVariants.{Added, Taken}
 use Rattle.guard_engine.specs.Puts.{IsPut, added_by, taken_by}
 use Rattle.guard_engine.proofs.GuardedFacts.{each, gains, gains-two, none, one, stays, stays-less}
 

@@ -5,7 +5,7 @@ use Rattle.std.specs.Prelude.{IsUtf8}
 use Rattle.bloom_plain.specs.Data.{DefaultFilter}
 use Rattle.lines.specs.Reading.{KnowsEnd, TakesLine, TakesShort, Waiting, left_of}
 use Rattle.guard_engine.specs.declared.counts.Counts.{Counts}
-use Rattle.guard_engine.specs.declared.guard.Put.{Put}
+use Rattle.guard_engine.specs.declared.outcomes.Put.{Put}
 use Rattle.guard_engine.specs.declared.guard.loads.Loaded.{Loaded}
 use Rattle.guard_engine.specs.declared.line.BadLine.{BadLine}
 use Rattle.guard_engine.specs.Batches.{PutsLines, ReadsEntries, ReadsLines, ReadsPart}

@@ -3,7 +3,7 @@
 use Rattle.std.proofs.Common.{◌≡◌, ◌+◌, inl, inr, ℕ, List, [], ◌∷◌, ◌++◌, length, Some, refl, sym, ◌∙◌, subst, arith}
 use Rattle.std.specs.declared.io.ErrorKind.TheVariants as kind
 use Rattle.lines.proofs.LineLemmas.{lines_of-nil}
-use Rattle.guard_engine.specs.declared.guard.Fault.TheVariants as faults
+use Rattle.guard_engine.specs.declared.outcomes.Fault.TheVariants as faults
 use Rattle.guard_engine.specs.declared.guard.loads.Stop.{Stop}
 use Rattle.guard_engine.specs.declared.guard.loads.Why.TheVariants as why
 use Rattle.guard_engine.specs.declared.line.BadLine.TheVariants.{NoTab}

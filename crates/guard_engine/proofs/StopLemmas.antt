@@ -3,8 +3,8 @@ use Rattle.std.proofs.Common.{◌≡◌, ◌≤◌, ◌<◌, ◌+◌, ◌-◌, �
 use Rattle.std.proofs.lemmas.List.Elements.{All-append, All-nil}
 use Rattle.std.specs.Prelude.{All}
 use Rattle.guard_engine.specs.declared.counts.Counts.{Counts}
-use Rattle.guard_engine.specs.declared.guard.Fault.{Fault}
-use Rattle.guard_engine.specs.declared.guard.Fault.TheVariants as faults
+use Rattle.guard_engine.specs.declared.outcomes.Fault.{Fault}
+use Rattle.guard_engine.specs.declared.outcomes.Fault.TheVariants as faults
 use Rattle.guard_engine.specs.declared.guard.loads.Stop.{Stop}
 use Rattle.guard_engine.specs.declared.guard.loads.Why.{Why}
 use Rattle.guard_engine.specs.declared.guard.loads.Why.TheVariants.{Store, Kept, Line, Input, Memory}

@@ -4,8 +4,8 @@ use Rattle.std.proofs.lemmas.List.Elements.{filter-append}
 use Rattle.bloom_plain.specs.Data.{DefaultFilter}
 use Rattle.bloom_plain.specs.Filter.{contains}
 use Rattle.guard_engine.specs.declared.counts.Counts.{Counts}
-use Rattle.guard_engine.specs.declared.guard.Found.{Found}
-use Rattle.guard_engine.specs.declared.guard.Found.TheVariants.{Spared, FalseAlarm, Value}
+use Rattle.guard_engine.specs.declared.outcomes.Found.{Found}
+use Rattle.guard_engine.specs.declared.outcomes.Found.TheVariants.{Spared, FalseAlarm, Value}
 use Rattle.guard_engine.specs.Counted.{AreAbsent, Tallies, asked_keys, more_by, one_more, spared_keys}
 use Rattle.guard_engine.specs.Guarded.{Entries, Lacks, key_hash}
 

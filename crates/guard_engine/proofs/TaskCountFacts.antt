@@ -4,8 +4,8 @@ use Rattle.guard_engine.specs.declared.commands.Answer.{Answer}
 use Rattle.guard_engine.specs.declared.commands.Answer.TheVariants as answers
 use Rattle.guard_engine.specs.declared.commands.Trouble.TheVariants as troubles
 use Rattle.guard_engine.specs.declared.counts.Counts.{Counts}
-use Rattle.guard_engine.specs.declared.guard.Fault.TheVariants as faults
-use Rattle.guard_engine.specs.declared.guard.Found.TheVariants.{Spared, FalseAlarm, Value}
+use Rattle.guard_engine.specs.declared.outcomes.Fault.TheVariants as faults
+use Rattle.guard_engine.specs.declared.outcomes.Found.TheVariants.{Spared, FalseAlarm, Value}
 use Rattle.guard_engine.specs.declared.guard.loads.Loaded.{Loaded}
 use Rattle.guard_engine.specs.declared.guard.loads.Stop.{Stop}
 use Rattle.guard_engine.specs.declared.guard.loads.Why.TheVariants as why
@@ -16,7 +16,7 @@ use Rattle.guard_engine.specs.FilterRate.{IsRateOf}
 use Rattle.bloom_parts.specs.declared.math.bracket.Bracket.{Bracket}
 use Rattle.guard_engine.proofs.BadLineFacts.{bytes}
 use Rattle.guard_engine.proofs.CountLemmas.{puts-spared}
-use Rattle.guard_engine.specs.declared.guard.Put.TheVariants.{Added, Taken}
+use Rattle.guard_engine.specs.declared.outcomes.Put.TheVariants.{Added, Taken}
 use Rattle.guard_engine.proofs.CountOnceFacts.{asked-same, delete-alarm, delete-spared, spared-same}
 use Rattle.guard_engine.proofs.CountedFacts as counted
 use Rattle.guard_engine.proofs.CoverFacts.{filter}

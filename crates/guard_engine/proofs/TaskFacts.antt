@@ -4,9 +4,9 @@ use Rattle.std.proofs.Common.{◌≡◌, inr, ℕ, true, false, List, [], ◌∷
 use Rattle.guard_engine.specs.declared.commands.Answer.TheVariants as answers
 use Rattle.guard_engine.specs.declared.commands.Trouble.{Trouble}
 use Rattle.guard_engine.specs.declared.commands.Trouble.TheVariants as troubles
-use Rattle.guard_engine.specs.declared.guard.Fault.TheVariants as faults
-use Rattle.guard_engine.specs.declared.guard.Found.TheVariants.{Spared}
-use Rattle.guard_engine.specs.declared.guard.Put.TheVariants.{Added, Taken}
+use Rattle.guard_engine.specs.declared.outcomes.Fault.TheVariants as faults
+use Rattle.guard_engine.specs.declared.outcomes.Found.TheVariants.{Spared}
+use Rattle.guard_engine.specs.declared.outcomes.Put.TheVariants.{Added, Taken}
 use Rattle.guard_engine.specs.declared.guard.loads.Stop.{Stop}
 use Rattle.guard_engine.specs.declared.guard.loads.Why.{Why}
 use Rattle.guard_engine.specs.declared.guard.loads.Why.TheVariants as why

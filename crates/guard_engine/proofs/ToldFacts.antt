@@ -3,8 +3,8 @@ use Rattle.std.proofs.Common.{◌≡◌, ℕ, List, [], Option, None, Some, code
 use Rattle.std.specs.Fmt.{digits}
 use Rattle.guard_engine.specs.declared.commands.Answer.TheVariants as answers
 use Rattle.guard_engine.specs.declared.commands.Trouble.TheVariants as troubles
-use Rattle.guard_engine.specs.declared.guard.Fault.TheVariants as faults
-use Rattle.guard_engine.specs.declared.guard.Put.TheVariants.{Added, Taken}
+use Rattle.guard_engine.specs.declared.outcomes.Fault.TheVariants as faults
+use Rattle.guard_engine.specs.declared.outcomes.Put.TheVariants.{Added, Taken}
 use Rattle.guard_engine.specs.declared.guard.loads.Stop.{Stop}
 use Rattle.guard_engine.specs.declared.guard.loads.Why.{Why}
 use Rattle.guard_engine.specs.declared.guard.loads.Why.TheVariants as why

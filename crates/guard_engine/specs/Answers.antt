@@ -6,11 +6,11 @@ use Rattle.guard_engine.specs.declared.commands.Answer.TheVariants as answers
 use Rattle.guard_engine.specs.declared.commands.Trouble.{Trouble}
 use Rattle.guard_engine.specs.declared.commands.Trouble.TheVariants as troubles
 use Rattle.guard_engine.specs.declared.counts.Counts.{Counts}
-use Rattle.guard_engine.specs.declared.guard.Found.{Found}
-use Rattle.guard_engine.specs.declared.guard.Found.TheVariants.{Spared, FalseAlarm, Value}
-use Rattle.guard_engine.specs.declared.guard.Put.{Put}
-use Rattle.guard_engine.specs.declared.guard.Put.TheVariants.{Taken}
-use Rattle.guard_engine.specs.declared.guard.Fault.{Fault}
+use Rattle.guard_engine.specs.declared.outcomes.Found.{Found}
+use Rattle.guard_engine.specs.declared.outcomes.Found.TheVariants.{Spared, FalseAlarm, Value}
+use Rattle.guard_engine.specs.declared.outcomes.Put.{Put}
+use Rattle.guard_engine.specs.declared.outcomes.Put.TheVariants.{Taken}
+use Rattle.guard_engine.specs.declared.outcomes.Fault.{Fault}
 use Rattle.guard_engine.specs.declared.guard.loads.Loaded.{Loaded}
 use Rattle.guard_engine.specs.declared.guard.loads.Stop.{Stop}
 use Rattle.guard_engine.specs.declared.guard.loads.Why.TheVariants.{Line}

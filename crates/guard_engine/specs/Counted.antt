@@ -6,8 +6,8 @@ use Rattle.bloom_plain.specs.Data.{DefaultFilter}
 use Rattle.bloom_plain.specs.Filter.{contains}
 use Rattle.lines.specs.Reading.{IsReadFrom, IsReadWhole}
 use Rattle.guard_engine.specs.declared.counts.Counts.{Counts}
-use Rattle.guard_engine.specs.declared.guard.Found.{Found}
-use Rattle.guard_engine.specs.declared.guard.Found.TheVariants.{Spared, FalseAlarm, Value}
+use Rattle.guard_engine.specs.declared.outcomes.Found.{Found}
+use Rattle.guard_engine.specs.declared.outcomes.Found.TheVariants.{Spared, FalseAlarm, Value}
 use Rattle.guard_engine.specs.Guarded.{Entries, Lacks, key_hash}
 
 -- this many more, up to the greatest number of 64 bits

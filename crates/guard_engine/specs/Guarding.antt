@@ -4,7 +4,7 @@ use Rattle.std.specs.Prelude.{◌≡◌, ◌⊎◌, ℕ, List}
 use Rattle.bloom_plain.specs.Data.{DefaultFilter}
 use Rattle.guard_parts.specs.declared.room.Room.{Room}
 use Rattle.guard_engine.specs.declared.counts.Counts.{Counts}
-use Rattle.guard_engine.specs.declared.guard.Put.{Put}
+use Rattle.guard_engine.specs.declared.outcomes.Put.{Put}
 use Rattle.guard_engine.specs.Puts.{IsPut}
 use Rattle.guard_engine.specs.Guarded.{Covers, Entries, Stays, key_hash}
 use Rattle.guard_engine.specs.Stores.{IsInBatch, IsReady, Sight}

@@ -1,7 +1,7 @@
 -- What became of an entry that was to be put.
 use Rattle.std.specs.Prelude.{ℕ, List}
-use Rattle.guard_engine.specs.declared.guard.Put.{Put}
-use Rattle.guard_engine.specs.declared.guard.Put.TheVariants.{Added, Taken}
+use Rattle.guard_engine.specs.declared.outcomes.Put.{Put}
+use Rattle.guard_engine.specs.declared.outcomes.Put.TheVariants.{Added, Taken}
 use Rattle.guard_engine.specs.Guarded.{Entries, Gains, Lacks, Stays}
 
 -- what became of an entry: it came, and no other, at a key that had no value; or its key had a

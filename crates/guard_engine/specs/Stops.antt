@@ -5,8 +5,8 @@ use Rattle.std.specs.declared.io.ErrorKind.TheVariants.{OutOfMemory}
 use Rattle.bloom_plain.specs.Data.{DefaultFilter}
 use Rattle.lines.specs.Reading.{IsReadFrom}
 use Rattle.guard_engine.specs.declared.counts.Counts.{Counts}
-use Rattle.guard_engine.specs.declared.guard.Fault.{Fault}
-use Rattle.guard_engine.specs.declared.guard.Fault.TheVariants as faults
+use Rattle.guard_engine.specs.declared.outcomes.Fault.{Fault}
+use Rattle.guard_engine.specs.declared.outcomes.Fault.TheVariants as faults
 use Rattle.guard_engine.specs.declared.guard.loads.Stop.{Stop}
 use Rattle.guard_engine.specs.declared.guard.loads.Why.{Why}
 use Rattle.guard_engine.specs.declared.guard.loads.Why.TheVariants.{Store, Kept, Line, Input, Memory}

@@ -5,7 +5,7 @@ ghost use Rattle.guard_engine.specs.Guarding.{AddsOnly, AllCover, Watches};
 ghost use Rattle.guard_engine.specs.Room.{AllTell};
 ghost use Rattle.guard_engine.specs.Stores.{Commits, IsInBatch, TakesBack};
 
-use crate::guard::Fault;
+use crate::outcomes::Fault;
 use crate::store::Store;
 use bloom_plain::laws::{contained_stays, insert_answers_contains};
 use bloom_plain::{BloomFilter, DefaultHasher};

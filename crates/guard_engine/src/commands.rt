@@ -7,7 +7,8 @@ ghost use Rattle.guard_engine.specs.FilterRate.{IsRateOf};
 ghost use Rattle.guard_engine.specs.Told.{answer_text, counts_text};
 
 use crate::counts::Counts;
-use crate::guard::{Fault, Found, Guard, Loaded, Put, Stop};
+use crate::guard::{Guard, Loaded, Stop};
+use crate::outcomes::{Fault, Found, Put};
 use crate::rates::write_rate;
 use crate::store::Store;
 use crate::task::Task;

@@ -4,14 +4,15 @@ ghost use Rattle.std.specs.Prelude.{◌≡◌, ◌⊎◌, ◌↔◌, [], ◌∷�
 mod asks;
 mod loads;
 mod opening;
+mod parts;
 
 use crate::counts::Counts;
 use crate::desk::{find, put_alone, remove_alone};
 use crate::keys::hash_of;
+use crate::outcomes::{Fault, Found, Put};
 use crate::replacing::replace_alone;
 use crate::store::Store;
-use bloom_parts::math::Bracket;
-use bloom_plain::{BloomFilter, FilterError};
+use bloom_plain::BloomFilter;
 use guard_parts::{Kept, Room};
 pub use loads::{Loaded, Stop, Why};
 pub use opening::Origin;
@@ -47,94 +48,16 @@ impl<T: Store + Drop, K: Kept + Drop> Model for Guard<T, K> {
         → IsGuarding (T.Store.sight g.store) (K.Kept.may_have g.kept) g.filter };
 }
 
-/// What a look-up found, and whether the store was asked.
-#[derive(Drop)]
-pub enum Found {
-    /// The filter lacks the key, and the store wasn't asked.
-    Spared,
-    /// The filter has the key, and the store lacks it.
-    FalseAlarm,
-    /// The store has this value.
-    Value(String),
-}
-
-/// What became of an entry that was to be put.
-#[derive(Clone, Copy)]
-pub enum Put {
-    /// The entry came into the store.
-    Added,
-    /// The key had a value, which stays.
-    Taken,
-}
-
-/// Why a change wasn't made.
-#[derive(Drop)]
-pub enum Fault<E, F> {
-    Store(E),
-    /// The filter couldn't be saved.
-    Kept(F),
-}
-
-/// Why a guard couldn't be made.
-#[derive(Drop)]
-pub enum Refusal<E> {
-    Store(E),
-    Filter(FilterError),
-}
-
-impl Put {
-    ghost use Rattle.std.specs.Prelude.{◌≡◌};
-    ghost use Rattle.guard_engine.specs.Puts.{added_by};
-
-    // How many entries came.
-    pub(crate) fn added(self) -> u64
-        ensures { result ≡ added_by self }
-    {
-        match self {
-            Put::Added => 1,
-            Put::Taken => 0,
-        }
-    }
-}
-
 impl<T: Store + Drop, K: Kept + Drop> Guard<T, K> {
-    ghost use Rattle.bloom_parts.specs.Content.{content};
-    ghost use Rattle.bloom_parts.specs.FalsePositives.{HoldsPositives};
     ghost use Rattle.bloom_plain.specs.Data.{AnswerAlike};
-    ghost use Rattle.bloom_plain.specs.Filter.{contains, num_bits_of};
+    ghost use Rattle.bloom_plain.specs.Filter.{contains};
     ghost use Rattle.guard_engine.specs.Puts.{IsPut};
     ghost use Rattle.guard_engine.specs.Counted.{CountsDelete, CountsOnce, CountsPuts, asked_once, counts_after, one_more};
     ghost use Rattle.guard_engine.specs.Fills.{Fills};
-    ghost use Rattle.guard_engine.specs.FilterRate.{IsRateOf};
-    ghost use Rattle.guard_engine.specs.Guarding.{IsGuarding};
     ghost use Rattle.guard_engine.specs.Guarded.{IsSingle, Lacks, Loses, Stays, key_hash};
     ghost use Rattle.guard_engine.specs.Puts.{added_by, taken_by};
     ghost use Rattle.guard_engine.specs.Replaced.{IsReplaced};
     ghost use Rattle.guard_engine.specs.Room.{AllTell, CountsKeys, added_beside};
-
-    /// What the look-ups so far came to.
-    pub fn counts(&self) -> Counts
-        ensures { result ≡ self.now.counts }
-    {
-        self.counts
-    }
-
-    /// How many keys the filter is made for, and how many came into it.
-    pub fn room(&self) -> Room
-        ensures { result ≡ self.now.room }
-    {
-        self.room
-    }
-
-    /// Two bounds of the rate of false positives of the filter as it is: of the part of all
-    /// look-ups, each a draw of positions, for which it returns true.
-    pub fn rate(&self) -> Bracket
-        ensures holds { HoldsPositives result (num_bits_of self.now.filter)
-            self.now.filter.hashes (content self.now.filter.words) }
-        ensures ends { IsRateOf self.now.filter result }
-    {
-        self.filter.false_pos_now()
-    }
 
     /// Looks a key up, in the store only where the filter may have it.
     ///
@@ -303,24 +226,5 @@ impl<T: Store + Drop, K: Kept + Drop> Guard<T, K> {
         ensures known { K.is_known self.new.kept → K.is_known self.old.kept }
     {
         self.kept.save(&self.filter, self.room)
-    }
-
-    /// What the guard keeps true: its store is ready, its filter has each key of the store, and so
-    /// has each filter that may be found of what is committed.
-    pub fn guarding(&self)
-        ensures { T.is_known self.now.store → K.is_known self.now.kept
-            → IsGuarding (T.sight self.now.store) (K.may_have self.now.kept) self.now.filter }
-    {
-        let _ = &self.store;
-    }
-
-    /// Gives the store back, and what keeps the filter.
-    pub fn into_parts(self) -> (T, K)
-        ensures parts { result ≡ (self.store, self.kept) }
-        ensures guarding { T.is_known result.0 → K.is_known result.1
-            → IsGuarding (T.sight result.0) (K.may_have result.1) self.filter }
-    {
-        let Guard { store, kept, .. } = self;
-        (store, kept)
     }
 }

@@ -4,8 +4,9 @@ ghost use Rattle.std.specs.Fmt.{DisplaysOnOk};
 ghost use Rattle.guard_engine.specs.Told.{at_line_text, bad_text, fault_of, fault_of_why, stop_text, subject_of, subject_of_why, tail_text, told_text, unread_text};
 
 use crate::commands::Trouble;
-use crate::guard::{Fault, Stop, Why};
+use crate::guard::{Stop, Why};
 use crate::line::BadLine;
+use crate::outcomes::Fault;
 use lines::Reason;
 use std::fmt;
 use std::fmt::Display;

@@ -119,6 +119,86 @@ read-now old new filter passes has = record {
   is_own = subst (λ n. IsOwn n has.bytes) passes.store has.is_own;
 }
 
+-- what a crash at any moment of that leaves
+  pub saved-since : (old new : Sight) (other : DefaultFilter) (since : ℕ)
+      → Replaces old new (Some bytes) → since ≤ old.moment → HadSince new since other
+      → AnswerAlike filter other ⊎ HadSince old since other
+  saved-since old new other since replaces le had =
+      ⊎_elim
+      (λ before. inr (record {
+        bytes = had.bytes;
+        found = before;
+        is_file = had.is_file;
+        is_own = subst (λ n. IsOwn n had.bytes) replaces.store had.is_own;
+      }))
+      (λ is. inl (alike-content law bytes had.bytes filter other is_file alone had.is_file is))
+      (replaces.each since (Some had.bytes) le had.found)
+
+  -- after the file was replaced
+  pub saved-alone : (new : Sight) (other : DefaultFilter)
+      → ((c : Content) → new.may_find Standing c → c ≡ Some bytes) → MayHave new other
+      → AnswerAlike filter other
+  saved-alone new other only has =
+      alike-content law bytes has.bytes filter other is_file alone has.is_file
+      (only (Some has.bytes) has.found)
+
+-- the room of a file whose content tells this one
+told-content : (bytes other_bytes : List ℕ) (room other : Room)
+    → room_in bytes ≡ room → other ≡ room_in other_bytes
+    → Some other_bytes ≡ Some bytes → other ≡ room
+told-content bytes other_bytes room other told other_told same =
+    let e : other_bytes ≡ bytes = cc in
+    other_told ∙ ap room_in e ∙ told
+
+module _ (bytes : List ℕ) (room : Room) (told : room_in bytes ≡ room) where
+  -- what is told after the file was replaced
+  pub told-alone : (new : Sight) (other : Room)
+      → ((c : Content) → new.may_find Standing c → c ≡ Some bytes) → MayTell new other
+      → other ≡ room
+  told-alone new other only tells =
+      told-content bytes tells.bytes room other told tells.told
+      (only (Some tells.bytes) tells.found)
+
+  -- what may be told after the file may have been replaced
+  pub told-now : (old new : Sight) (other : Room) → Replaces old new (Some bytes)
+      → MayTell new other → (other ≡ room) ⊎ MayTell old other
+  told-now old new other replaces tells =
+      ⊎_elim
+      (λ before. inr (record { bytes = tells.bytes; found = before; told = tells.told }))
+      (λ is. inl (told-content bytes tells.bytes room other told tells.told is))
+      (replaces.now (Some tells.bytes) tells.found)
+
+-- a file that was read is one that may be found
+module _ (s : Sight) (items read : List ℕ) (at : Some items ≡ s.now Standing)
+    (there : s.may_find Standing (s.now Standing)) (same : read ≡ items) where
+  -- so may its filter
+  pub may-have : (filter : DefaultFilter) → IsLeftFile read filter
+      → IsOwn s.store read → MayHave s filter
+  may-have filter is_file is_own = record {
+    bytes = items;
+    found = subst (s.may_find Standing) (sym at) there;
+    is_file = subst (λ b. IsLeftFile b filter) same is_file;
+    is_own = subst (IsOwn s.store) same is_own;
+  }
+
+  -- and its room may be told
+  pub may-tell : (room : Room) → room ≡ room_in read → MayTell s room
+  may-tell room told = record {
+    bytes = items;
+    found = subst (s.may_find Standing) (sym at) there;
+    told = told ∙ ap room_in same;
+  }
+
+-- what may be found after the file stayed
+pub read-now : (old new : Sight) (filter : DefaultFilter) → Passes old new → MayHave new filter
+    → MayHave old filter
+read-now old new filter passes has = record {
+  bytes = has.bytes;
+  found = passes.now (Some has.bytes) has.found;
+  is_file = has.is_file;
+  is_own = subst (λ n. IsOwn n has.bytes) passes.store has.is_own;
+}
+
 -- and the rooms that may be told
 pub told-still : (old new : Sight) (room : Room) → Passes old new → MayTell new room
     → MayTell old room

@@ -6,81 +6,78 @@ use Rattle.bloom_plain.specs.FileRefusals.{file_refusal}
 use Rattle.guard_parts.specs.Filters.{HasOwn, IsFaultIn, IsFoundIn, IsLeftFile, IsRefusedFor, IsRefusedIn, form_refusal}
 use Rattle.guard_parts.specs.Rooms.{IsOwn, filter_part, room_in}
 use Rattle.guard_parts.specs.declared.room.Room.{Room}
-use Rattle.guard_parts.specs.declared.filter_file.FilterFault.TheVariants as faults
-use Rattle.guard_parts.specs.declared.form.FormFault.TheVariants.{Form, NoSeal}
+use Rattle.guard_parts.specs.declared.faults.FilterFault.TheVariants as faults
+use Rattle.guard_parts.specs.declared.faults.FormFault.TheVariants.{Form, NoSeal}
 
--- where there is no file no filter is found, whosever it would be
-found-none : IsFoundIn true 7 None None × IsFoundIn false 7 None None
-found-none = (refl, refl)
+-- where there is no file no filter is found
+found-none : IsFoundIn 7 None None
+found-none = refl
 
 -- a file isn't told as missing
-found-missed : (bytes : List ℕ) → IsFoundIn false 7 (Some bytes) None → ⊥
+found-missed : (bytes : List ℕ) → IsFoundIn 7 (Some bytes) None → ⊥
 found-missed bytes is = is
 
 -- where there is no file no filter comes from elsewhere
 found-nowhere : (filter : DefaultFilter) (room : Room)
-    → IsFoundIn false 7 None (Some (filter, room)) → ⊥
+    → IsFoundIn 7 None (Some (filter, room)) → ⊥
 found-nowhere filter room is = cc
 
 -- the store's own file has its filter, with the room that it tells
 found-own : (bytes : List ℕ) (filter : DefaultFilter) → IsLeftFile bytes filter
-    → IsOwn 7 bytes → IsFoundIn false 7 (Some bytes) (Some (filter, room_in bytes))
-found-own bytes filter is_file is_own = (refl, is_file, refl, is_own)
+    → IsOwn 7 bytes → IsFoundIn 7 (Some bytes) (Some (filter, room_in bytes))
+found-own bytes filter is_file is_own = (is_file, refl, is_own)
 
 -- a file that has another number isn't taken
 found-number : (bytes : List ℕ) (filter : DefaultFilter) (room : Room) → IsOwn 7 bytes
-    → IsFoundIn false 8 (Some bytes) (Some (filter, room)) → ⊥
+    → IsFoundIn 8 (Some bytes) (Some (filter, room)) → ⊥
 found-number bytes filter room is_own is =
-    let e : 7 ≡ 8 = sym is_own.1 ∙ is.3.1 in omega (arith, e)
+    let e : 7 ≡ 8 = sym is_own.1 ∙ is.2.1 in omega (arith, e)
 
 -- nor is one that is beside a store that has no number
 found-no_number : (bytes : List ℕ) (filter : DefaultFilter) (room : Room)
-    → IsFoundIn false 0 (Some bytes) (Some (filter, room)) → ⊥
-found-no_number bytes filter room is = is.3.0 refl
-
--- the filter of another store isn't taken
-found-other : (bytes : List ℕ) (filter : DefaultFilter) (room : Room)
-    → IsFoundIn true 7 (Some bytes) (Some (filter, room)) → ⊥
-found-other bytes filter room is = let e = is.0 in cc
+    → IsFoundIn 0 (Some bytes) (Some (filter, room)) → ⊥
+found-no_number bytes filter room is = is.2.0 refl
 
 -- another room isn't found
 found-room : (filter : DefaultFilter)
-    → IsFoundIn false 7 (Some []) (Some (filter, record { total = 0; taken = 1 })) → ⊥
+    → IsFoundIn 7 (Some []) (Some (filter, record { total = 0; taken = 1 })) → ⊥
 found-room filter is =
-    let one : 1 ≡ 0 = ap (λ (r : Room). r.taken) is.2 in
+    let one : 1 ≡ 0 = ap (λ (r : Room). r.taken) is.1 in
     absurd (omega (arith, one))
 
--- a file that is another store's is told as that
-fault-other : IsFaultIn {E = ℕ} true 7 (Some []) faults.OtherStore
-fault-other = inl refl
-
--- so is one that would be taken, but for its number
+-- a file that would be taken, but for its number, is told as another store's
 fault-number : (bytes : List ℕ) → IsRefusedIn bytes None → IsOwn 7 bytes
-    → IsFaultIn {E = ℕ} false 8 (Some bytes) faults.OtherStore
+    → IsFaultIn {E = ℕ} 8 (Some bytes) faults.OtherStore
 fault-number bytes taken is_own =
-    inr (taken, λ is. let e : 7 ≡ 8 = sym is_own.1 ∙ is.1 in omega (arith, e))
+    (taken, λ is. let e : 7 ≡ 8 = sym is_own.1 ∙ is.1 in omega (arith, e))
 
 -- the store's own isn't
 fault-own : (bytes : List ℕ) → IsOwn 7 bytes
-    → IsFaultIn {E = ℕ} false 7 (Some bytes) faults.OtherStore → ⊥
-fault-own bytes is_own (inl is) = cc
-fault-own bytes is_own (inr is) = is.1 is_own
+    → IsFaultIn {E = ℕ} 7 (Some bytes) faults.OtherStore → ⊥
+fault-own bytes is_own is = is.1 is_own
 
 -- nor is a file that isn't there
-fault-nowhere : IsFaultIn {E = ℕ} true 7 None faults.OtherStore → ⊥
+fault-nowhere : IsFaultIn {E = ℕ} 7 None faults.OtherStore → ⊥
 fault-nowhere is = is
 
 -- bytes that aren't taken are told by why they aren't
 fault-bytes : (bytes : List ℕ) → file_refusal (filter_part bytes) ≡ Some Cut
-    → IsFaultIn {E = ℕ} false 7 (Some bytes) (faults.Refused (Form Cut))
-fault-bytes bytes is = (refl, inl (inl (sym (ap (form_refusal (filter_part bytes)) is))))
+    → IsFaultIn {E = ℕ} 7 (Some bytes) (faults.Refused (Form Cut))
+fault-bytes bytes is = inl (inl (sym (ap (form_refusal (filter_part bytes)) is)))
+
+-- bytes that are cut aren't taken
+not_refused : (bytes : List ℕ) → file_refusal (filter_part bytes) ≡ Some Cut
+    → IsRefusedFor (filter_part bytes) None → ⊥
+not_refused bytes is (inl same) =
+    let e : None ≡ Some (Form Cut) = same ∙ ap (form_refusal (filter_part bytes)) is in cc
+not_refused bytes is (inr memory) = let e = memory.0 in cc
 
 -- and by no other reason
 fault-seal : (bytes : List ℕ) → file_refusal (filter_part bytes) ≡ Some Cut
-    → IsFaultIn {E = ℕ} false 7 (Some bytes) (faults.Refused NoSeal) → ⊥
-fault-seal bytes is fault = elim fault.1 [
+    → IsFaultIn {E = ℕ} 7 (Some bytes) (faults.Refused NoSeal) → ⊥
+fault-seal bytes is fault = elim fault [
   | inl file ↦ of_seal file
-  | inr room ↦ of_none room.0
+  | inr room ↦ not_refused bytes is room.0
 ]
   where
     of_seal : IsRefusedFor (filter_part bytes) (Some NoSeal) → ⊥
@@ -89,21 +86,17 @@ fault-seal bytes is fault = elim fault.1 [
         cc
     of_seal (inr memory) = let e = memory.0 in cc
 
-    of_none : IsRefusedFor (filter_part bytes) None → ⊥
-    of_none (inl same) =
-        let e : None ≡ Some (Form Cut) = same ∙ ap (form_refusal (filter_part bytes)) is in cc
-    of_none (inr memory) = let e = memory.0 in cc
-
--- of another store's file its bytes aren't told
-fault-bytes_other : IsFaultIn {E = ℕ} true 7 (Some []) (faults.Refused (Form Cut)) → ⊥
-fault-bytes_other is = let e = is.0 in cc
+-- a damaged file isn't told as another store's
+fault-damaged : (bytes : List ℕ) → file_refusal (filter_part bytes) ≡ Some Cut
+    → IsFaultIn {E = ℕ} 7 (Some bytes) faults.OtherStore → ⊥
+fault-damaged bytes is fault = not_refused bytes is fault.0.0
 
 -- a read may fail of any name
-fault-read : (error : ℕ) → IsFaultIn true 7 None (faults.Unread error)
+fault-read : (error : ℕ) → IsFaultIn 7 None (faults.Unread error)
 fault-read error = tt
 
 -- a load doesn't tell what a save does
-fault-save : IsFaultIn {E = ℕ} false 0 (Some []) faults.NoNumber → ⊥
+fault-save : IsFaultIn {E = ℕ} 0 (Some []) faults.NoNumber → ⊥
 fault-save is = is
 
 -- a file of the store's number is its own, and no file isn't

@@ -2,7 +2,7 @@
 use Rattle.std.proofs.Common.{◌≡◌, ℕ, List, [], ◌∷◌, ◌++◌, Some, None, refl}
 use Rattle.bloom_plain.specs.declared.file.error.FileError.TheVariants.{Cut}
 use Rattle.guard_parts.specs.Filters.{form_refusal, left_refusal}
-use Rattle.guard_parts.specs.declared.form.FormFault.TheVariants.{Form, NoSeal, OtherKey, ManyHashes}
+use Rattle.guard_parts.specs.declared.faults.FormFault.TheVariants.{Form, NoSeal, OtherKey, ManyHashes}
 
 -- a small number as eight bytes
 abbrev low : ℕ → List ℕ
@@ -14,27 +14,27 @@ head hashes k0 k1 seal =
     low 0 ++ low hashes ++ low 1 ++ low k0 ++ low k1 ++ low seal ++ low 0 ++ low 0
 
 -- a guard's own
-left-own : left_refusal (head 64 0 0 7) ≡ None
+left-own : left_refusal (head 128 0 0 7) ≡ None
 left-own = refl
 
 -- no seal
-left-seal : left_refusal (head 64 0 0 0) ≡ Some NoSeal
+left-seal : left_refusal (head 128 0 0 0) ≡ Some NoSeal
 left-seal = refl
 
 -- another key
-left-key : (left_refusal (head 64 1 0 7) ≡ Some OtherKey)
-    × (left_refusal (head 64 0 1 7) ≡ Some OtherKey)
+left-key : (left_refusal (head 128 1 0 7) ≡ Some OtherKey)
+    × (left_refusal (head 128 0 1 7) ≡ Some OtherKey)
 left-key = (refl, refl)
 
 -- one hash too many
-left-hashes : left_refusal (head 65 0 0 7) ≡ Some ManyHashes
+left-hashes : left_refusal (head 129 0 0 7) ≡ Some ManyHashes
 left-hashes = refl
 
 -- of all three the first counts
-left-first : (left_refusal (head 65 1 0 0) ≡ Some NoSeal)
-    × (left_refusal (head 65 1 0 7) ≡ Some OtherKey)
+left-first : (left_refusal (head 129 1 0 0) ≡ Some NoSeal)
+    × (left_refusal (head 129 1 0 7) ≡ Some OtherKey)
 left-first = (refl, refl)
 
 -- what is no file of a filter is refused for that
-form-cut : form_refusal (head 64 0 0 0) (Some Cut) ≡ Some (Form Cut)
+form-cut : form_refusal (head 128 0 0 0) (Some Cut) ≡ Some (Form Cut)
 form-cut = refl

@@ -1,7 +1,7 @@
 -- Rooms and stores that bytes tell, and bytes that differ in one and are refused.
 use Rattle.std.proofs.Common.{◌≡◌, ◌^◌, ◌-◌, ℕ, List, [], ◌∷◌, ◌++◌, Some, None, refl}
 use Rattle.guard_parts.specs.Rooms.{first_room, room_bytes, room_refusal, store_in, sum_of}
-use Rattle.guard_parts.specs.declared.form.FormFault.TheVariants as faults
+use Rattle.guard_parts.specs.declared.faults.FormFault.TheVariants as faults
 use Rattle.guard_parts.specs.declared.room.Room.{Room}
 
 -- a small number as eight bytes

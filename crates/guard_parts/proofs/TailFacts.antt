@@ -4,7 +4,7 @@ use Rattle.bloom_plain.specs.Data.{DefaultFilter}
 use Rattle.bloom_plain.specs.Filter.{Inserts}
 use Rattle.guard_parts.specs.Filters.{IsLeftFile, IsSealedFile}
 use Rattle.guard_parts.specs.Rooms.{IsOwn, added_bytes, check_of, file_size, filter_part, hashes_in, later_part, room_in, room_part, tail_refusal}
-use Rattle.guard_parts.specs.declared.form.FormFault.TheVariants as faults
+use Rattle.guard_parts.specs.declared.faults.FormFault.TheVariants as faults
 
 -- a small number as eight bytes
 abbrev low : ℕ → List ℕ

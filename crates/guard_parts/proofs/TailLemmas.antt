@@ -7,8 +7,8 @@ use Rattle.std.specs.List.{flat_map}
 use Rattle.std.specs.Simd.{first_chunks}
 use Rattle.guard_parts.specs.Numbers.{number_in}
 use Rattle.guard_parts.specs.Rooms.{added, all_added, is_whole, later_part, room_part, room_refusal, sum_in, tail_part, tail_refusal}
-use Rattle.guard_parts.specs.declared.form.FormFault.{FormFault}
-use Rattle.guard_parts.specs.declared.form.FormFault.TheVariants.{Torn, Room, Added}
+use Rattle.guard_parts.specs.declared.faults.FormFault.{FormFault}
+use Rattle.guard_parts.specs.declared.faults.FormFault.TheVariants.{Torn, Room, Added}
 
 -- ---- why it isn't taken
 

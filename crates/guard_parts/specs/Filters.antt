@@ -5,10 +5,10 @@ use Rattle.bloom_plain.specs.declared.file.error.FileError.TheVariants.{Memory}
 use Rattle.bloom_plain.specs.Data.{DefaultFilter}
 use Rattle.bloom_plain.specs.File.{IsFileOf}
 use Rattle.bloom_plain.specs.FileRefusals.{file_refusal}
-use Rattle.guard_parts.specs.declared.filter_file.FilterFault.{FilterFault}
-use Rattle.guard_parts.specs.declared.filter_file.FilterFault.TheVariants as faults
-use Rattle.guard_parts.specs.declared.form.FormFault.{FormFault}
-use Rattle.guard_parts.specs.declared.form.FormFault.TheVariants.{Form, NoSeal, OtherKey, ManyHashes}
+use Rattle.guard_parts.specs.declared.faults.FilterFault.{FilterFault}
+use Rattle.guard_parts.specs.declared.faults.FilterFault.TheVariants as faults
+use Rattle.guard_parts.specs.declared.faults.FormFault.{FormFault}
+use Rattle.guard_parts.specs.declared.faults.FormFault.TheVariants.{Form, NoSeal, OtherKey, ManyHashes}
 use Rattle.guard_parts.specs.declared.folder.Name.TheVariants.{Standing}
 use Rattle.guard_parts.specs.declared.room.Room.{Room}
 use Rattle.guard_parts.specs.Folders.{Content, IsLonger, Sight}
@@ -35,7 +35,7 @@ abbrev pub left_refusal : List ℕ → Option FormFault
 left_refusal bytes =
     if nat_eq (number_in bytes 5) 0 then Some NoSeal
     else if not (nat_eq (number_in bytes 3) 0 && nat_eq (number_in bytes 4) 0) then Some OtherKey
-    else if nat_lt 64 (number_in bytes 1) then Some ManyHashes
+    else if nat_lt 128 (number_in bytes 1) then Some ManyHashes
     else None
 
 -- the same, where the bytes are refused as a file already, or aren't
@@ -59,29 +59,25 @@ IsRefusedIn bytes (Some fault) =
     ⊎ (IsRefusedFor (filter_part bytes) None × (tail_refusal bytes ≡ Some fault))
 
 -- what is found by a name with this content, beside a store of this number: no filter where there
--- is no file, and that of a file that isn't another store's and has the number, with its room
-abbrev pub IsFoundIn : Bool → ℕ → Content → Option (DefaultFilter × Room) → Type 0
-IsFoundIn is_of_another store None found = found ≡ None
-IsFoundIn is_of_another store (Some bytes) None = ⊥
-IsFoundIn is_of_another store (Some bytes) (Some found) =
-    (is_of_another ≡ false) × IsLeftFile bytes found.0 × (found.1 ≡ room_in bytes)
-    × IsOwn store bytes
+-- is no file, and that of a file that has the number, with its room
+abbrev pub IsFoundIn : ℕ → Content → Option (DefaultFilter × Room) → Type 0
+IsFoundIn store None found = found ≡ None
+IsFoundIn store (Some bytes) None = ⊥
+IsFoundIn store (Some bytes) (Some found) =
+    IsLeftFile bytes found.0 × (found.1 ≡ room_in bytes) × IsOwn store bytes
 
 -- why nothing is found by a name with this content, beside a store of this number. A read that
--- failed says nothing of it. A file that is known as another store's is told as that, whatever its
--- bytes are, and any other as why its bytes aren't taken, or as another store's where they would
--- be, but for the number; where there is no file, neither is told
-abbrev pub IsFaultIn : {E : Type 0} → Bool → ℕ → Content → FilterFault E → Type 0
-IsFaultIn is_of_another store content (faults.Unread error) = ⊤
-IsFaultIn is_of_another store None faults.OtherStore = ⊥
-IsFaultIn is_of_another store (Some bytes) faults.OtherStore =
-    (is_of_another ≡ true) ⊎ (IsRefusedIn bytes None × (¬ IsOwn store bytes))
-IsFaultIn is_of_another store None (faults.Refused fault) = ⊥
-IsFaultIn is_of_another store (Some bytes) (faults.Refused fault) =
-    (is_of_another ≡ false) × IsRefusedIn bytes (Some fault)
-IsFaultIn is_of_another store content (faults.Unsaved error) = ⊥
-IsFaultIn is_of_another store content faults.NoNumber = ⊥
-IsFaultIn is_of_another store content faults.Memory = ⊥
+-- failed says nothing of it. A file is told as why its bytes aren't taken, or as another store's
+-- where they would be, but for the number; where there is no file, neither is told
+abbrev pub IsFaultIn : {E : Type 0} → ℕ → Content → FilterFault E → Type 0
+IsFaultIn store content (faults.Unread error) = ⊤
+IsFaultIn store None faults.OtherStore = ⊥
+IsFaultIn store (Some bytes) faults.OtherStore = IsRefusedIn bytes None × (¬ IsOwn store bytes)
+IsFaultIn store None (faults.Refused fault) = ⊥
+IsFaultIn store (Some bytes) (faults.Refused fault) = IsRefusedIn bytes (Some fault)
+IsFaultIn store content (faults.Unsaved error) = ⊥
+IsFaultIn store content faults.NoNumber = ⊥
+IsFaultIn store content faults.Memory = ⊥
 
 -- there is a file, and it belongs to the store that has this number
 abbrev pub HasOwn : ℕ → Content → Type 0

@@ -6,8 +6,8 @@
 use Rattle.std.specs.Prelude.{◌≡◌, ◌≢◌, ℕ, ◌+◌, ◌-◌, ◌*◌, ◌/◌, ◌%◌, ◌^◌, min, Bool, true, ◌&&◌, List, [], ◌∷◌, ◌++◌, length, map, take, drop, Option, Some, None, nat_eq, nat_le, not, if◌then◌else◌}
 use Rattle.std.specs.Int.{w64, to_le_bytes}
 use Rattle.std.specs.Simd.{first_chunks}
-use Rattle.guard_parts.specs.declared.form.FormFault.{FormFault}
-use Rattle.guard_parts.specs.declared.form.FormFault.TheVariants as faults
+use Rattle.guard_parts.specs.declared.faults.FormFault.{FormFault}
+use Rattle.guard_parts.specs.declared.faults.FormFault.TheVariants as faults
 use Rattle.guard_parts.specs.declared.room.Room.{Room}
 use Rattle.guard_parts.specs.Numbers.{number_in}
 

@@ -1,54 +1,34 @@
 //! A filter that is kept in a file.
-ghost use Rattle.std.specs.Prelude.{◌≡◌, ◌⊎◌, ◌≤◌, ℕ, [], ◌∷◌, true, None, Some, IfErr, IfOk, IfSome, OnErr, OnOk};
+ghost use Rattle.std.specs.Prelude.{◌≡◌, ◌⊎◌, ◌≤◌, ℕ, [], true, None, Some, IfErr, IfOk, IfSome, OnErr, OnOk};
 ghost use Rattle.std.proofs.Props.{props};
 ghost use Rattle.bloom_plain.specs.Data.{AnswerAlike, DefaultFilter};
 ghost use Rattle.bloom_plain.specs.File.{IsFileOf};
 ghost use Rattle.guard_parts.specs.Filters.{HadSince, HasOwn, IsFaultIn, IsFoundIn, MayHave, MayLack, MayTell, Passes, is_whole_in};
 ghost use Rattle.guard_parts.specs.Folders.{Content, bytes_in};
-ghost use Rattle.guard_parts.specs.Growth.{Grows, HasMore};
 ghost use Rattle.guard_parts.specs.Rooms.{IsOwn, filter_part, later_part, room_in};
 ghost use Rattle.guard_parts.specs.declared.folder.Name.TheVariants.{Standing};
 ghost use Rattle.guard_parts.specs.declared.room.Room.{Room as ARoom};
 
+use crate::faults::FilterFault;
 use crate::folder::{Folder, Name};
-use crate::form::{FormFault, count_added, file_with, filled_of, is_own, piece_of};
+use crate::form::{count_added, filled_of, is_own, piece_of};
 use crate::kept::Kept;
 use crate::lengthening::append_synced;
+use crate::numbered::{bytes_of, read_both};
 use crate::replacing::replace_or_clear;
 use crate::room::Room;
 use bloom_plain::BloomFilter;
 use bloom_plain::laws::file_reads_back;
 use std::alloc::Global;
-use std::fmt;
-use std::fmt::Display;
 
 // How many hashes are added to a file before it is written anew: each is read at every load.
 const MOST_ADDED: usize = 4096;
-
-/// Why a filter isn't found, or isn't saved.
-#[derive(Clone, Copy, Debug, PartialEq, Eq, Drop)]
-pub enum FilterFault<E> {
-    /// The file can't be read.
-    Unread(E),
-    /// The file is that of another store.
-    OtherStore,
-    /// What the file has isn't taken.
-    Refused(FormFault),
-    /// The file can't be written, or made durable, or the number of its store can't be read.
-    Unsaved(E),
-    /// The store has no number, so no filter could be told to be its own.
-    NoNumber,
-    /// There is no memory for the bytes of the file.
-    Memory,
-}
 
 /// The file that keeps a filter, in any folder.
 #[derive(Drop)]
 pub struct FilterFile<D: Folder + Drop> {
     alloc: Global,
     folder: D,
-    // The file that is there, if there is one, isn't this store's.
-    is_of_another: bool,
     // The file that is there ends with a piece, so that one more can come behind it.
     is_whole: bool,
     // How many hashes were added to it.
@@ -57,28 +37,14 @@ pub struct FilterFile<D: Folder + Drop> {
         → is_whole_in ((D.Folder.sight folder).now Standing) ≡ true } by { Prim.hlevel props },
 }
 
-impl<E: Display> Display for FilterFault<E> {
-    fn fmt<W: fmt::Write>(&self, f: &mut fmt::Formatter<W>) -> fmt::Result {
-        match self {
-            FilterFault::Unread(error) => write!(f, "it can't be read: {error}"),
-            FilterFault::OtherStore => f.write_str("it is another store's"),
-            FilterFault::Refused(fault) => write!(f, "{fault}"),
-            FilterFault::Unsaved(error) => write!(f, "it can't be saved: {error}"),
-            FilterFault::NoNumber => f.write_str("it can't be saved: the store has no number"),
-            FilterFault::Memory => f.write_str("it can't be saved: out of memory"),
-        }
-    }
-}
-
 impl<D: Folder + Drop> FilterFile<D> {
-    /// The file of a folder. If it is another store's, a file that is there is refused.
-    pub fn new(alloc: Global, folder: D, is_of_another: bool) -> Self
+    /// The file of a folder.
+    pub fn new(alloc: Global, folder: D) -> Self
         ensures { result.folder ≡ folder }
     {
         FilterFile {
             alloc,
             folder,
-            is_of_another,
             is_whole: false,
             added: 0,
         }
@@ -90,53 +56,6 @@ impl<D: Folder + Drop> FilterFile<D> {
     {
         let FilterFile { folder, .. } = self;
         folder
-    }
-}
-
-// Reads the number of the store, and then the file. What the file says was true of the store when
-// its number was read, also where another store is put in its place between.
-fn read_both<D: Folder>(folder: &mut D) -> Result<(u64, Option<Vec<u8>>), D::Error>
-    ensures known { D.is_known folder.new → D.is_known folder.old }
-    ensures passes { D.is_known folder.new → Passes (D.sight folder.old) (D.sight folder.new) }
-    ensures number { D.is_known folder.new → IfOk result
-        (λ it. it.0 ≡ (D.sight folder.old).store) }
-    ensures found { D.is_known folder.new → IfOk result
-        (λ it. bytes_in it.1 ≡ (D.sight folder.old).now Standing) }
-    ensures still { D.is_known folder.new
-        → (D.sight folder.new).now Standing ≡ (D.sight folder.old).now Standing }
-{
-    let number = folder.number()?;
-    let found = folder.read(Name::Standing)?;
-    Ok((number, found))
-}
-
-// The bytes of a filter's file, with the number that its store has.
-fn bytes_of<D: Folder>(
-    folder: &mut D,
-    alloc: Global,
-    filter: &BloomFilter,
-    room: Room,
-) -> Result<Vec<u8>, FilterFault<D::Error>>
-    ensures known { D.is_known folder.new → D.is_known folder.old }
-    ensures passes { D.is_known folder.new → Passes (D.sight folder.old) (D.sight folder.new) }
-    ensures file { IfOk result (λ bytes. IsFileOf (filter_part bytes.items) filter.now) }
-    ensures alone { IfOk result (λ bytes. later_part bytes.items ≡ []) }
-    ensures room { IfOk result (λ bytes. room_in bytes.items ≡ room) }
-    ensures own { D.is_known folder.new → IfOk result
-        (λ bytes. IsOwn (D.sight folder.old).store bytes.items) }
-    ensures still { D.is_known folder.new
-        → (D.sight folder.new).now Standing ≡ (D.sight folder.old).now Standing }
-{
-    let store = match folder.number() {
-        Ok(store) => store,
-        Err(error) => return Err(FilterFault::Unsaved(error)),
-    };
-    if store == 0 {
-        return Err(FilterFault::NoNumber);
-    }
-    match file_with(alloc, filter, room, store) {
-        Ok(bytes) => Ok(bytes),
-        Err(_) => Err(FilterFault::Memory),
     }
 }
 
@@ -188,23 +107,16 @@ impl<D: Folder + Drop> Kept for FilterFile<D> {
             → since ≤ (D.sight self.old.folder).moment
             → HadSince (D.sight self.new.folder) since filter
             → HadSince (D.sight self.old.folder) since filter }
-        // No filter is found just where there is no file, also where a file that is there would be
-        // another store's.
+        // No filter is found just where there is no file.
         ensures taken { D.is_known self.new.folder → IfOk result
-            (IsFoundIn self.old.is_of_another (D.sight self.old.folder).store
-            ((D.sight self.old.folder).now Standing)) }
+            (IsFoundIn (D.sight self.old.folder).store ((D.sight self.old.folder).now Standing)) }
         ensures fault { D.is_known self.new.folder → IfErr result
-            (IsFaultIn self.old.is_of_another (D.sight self.old.folder).store
-            ((D.sight self.old.folder).now Standing)) }
-        ensures same { self.new.is_of_another ≡ self.old.is_of_another }
+            (IsFaultIn (D.sight self.old.folder).store ((D.sight self.old.folder).now Standing)) }
     {
         self.is_whole = false;
         match read_both(&mut self.folder) {
             Ok((_, None)) => Ok(None),
             Ok((store, Some(bytes))) => {
-                if self.is_of_another {
-                    return Err(FilterFault::OtherStore);
-                }
                 match filled_of(self.alloc, &bytes) {
                     Ok(found) => {
                         if !is_own(store, &bytes) {
@@ -257,7 +169,6 @@ impl<D: Folder + Drop> Kept for FilterFile<D> {
         self.is_whole = false;
         match replace_or_clear(&mut self.folder, &bytes) {
             Ok(()) => {
-                self.is_of_another = false;
                 let added = count_added(&bytes);
                 self.is_whole = added.is_some();
                 self.added = added.unwrap_or(0);

@@ -9,54 +9,20 @@ ghost use Rattle.guard_parts.specs.Growth.{Comes};
 ghost use Rattle.guard_parts.specs.Numbers.{number_in};
 ghost use Rattle.guard_parts.specs.Rooms.{IsOwn, added_bytes, added_room, all_added, check_of, file_size, filter_part, first_room, hash_in, is_whole, last_room, later_part, room_bytes, room_in, room_part, room_refusal, store_in};
 
+use crate::faults::FormFault;
 use crate::room::Room;
-use bloom_plain::file::FileError;
 use bloom_plain::{BloomFilter, FilterError};
 use std::alloc::{AllocError, Global};
-use std::fmt;
-use std::fmt::Display;
 
-// The most hashes that a filter may have: each costs time at every look-up.
-const MOST_HASHES: u64 = 64;
+// The most hashes that a filter may have: each costs time at every look-up. A guard makes none with
+// more than 89, which a filter for one key has at the smallest rate.
+const MOST_HASHES: u64 = 128;
 
 // How many bytes come before a filter's words.
 const HEAD: u64 = 64;
 
 // How many bytes a piece has that stands behind a filter's own file.
 const PIECE: usize = 32;
-
-/// Why the bytes of a file aren't taken for a guard's filter.
-#[derive(Clone, Copy, Debug, PartialEq, Eq, Drop)]
-pub enum FormFault {
-    /// They are no file of a filter, or there is no memory for it.
-    Form(FileError),
-    /// They have no seal, so that it can't be told whether they were changed.
-    NoSeal,
-    /// The filter's key isn't zero.
-    OtherKey,
-    /// A look-up in the filter would take too long.
-    ManyHashes,
-    /// What tells its room or its store is cut off, or what was added is.
-    Torn,
-    /// The count of keys isn't the one that was written.
-    Room,
-    /// What was added isn't what was written.
-    Added,
-}
-
-impl Display for FormFault {
-    fn fmt<W: fmt::Write>(&self, f: &mut fmt::Formatter<W>) -> fmt::Result {
-        match self {
-            FormFault::Form(error) => write!(f, "{error}"),
-            FormFault::NoSeal => f.write_str("it has no seal"),
-            FormFault::OtherKey => f.write_str("it has another key"),
-            FormFault::ManyHashes => f.write_str("it has more than 64 hashes"),
-            FormFault::Torn => f.write_str("its end is cut off"),
-            FormFault::Room => f.write_str("its count of keys was changed"),
-            FormFault::Added => f.write_str("a hash that was added to it was changed"),
-        }
-    }
-}
 
 // The number at an index in a file, counted from 0, or 0 where there are fewer bytes.
 fn number_in(bytes: &[u8], place: usize) -> u64

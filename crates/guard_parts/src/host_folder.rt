@@ -5,16 +5,16 @@ ghost use Rattle.std.proofs.Common.{inl};
 ghost use Rattle.guard_parts.specs.Laws.{counts, only};
 ghost use Rattle.guard_parts.specs.Replay.{IsHonest, sight_of};
 
+use crate::faults::HostFault;
 use crate::folder::{Folder, Name};
 use crate::noted::Record;
 use crate::world::World;
 use lines::{Reason, read_some};
-use std::fmt::Display;
 use std::fs::{File, OpenOptions};
 use std::io::{ErrorKind, Read, Write};
 use std::marker::PhantomData;
 use std::os::unix::fs::PermissionsExt;
-use std::{fmt, fs, io};
+use std::{fs, io};
 
 /// The paths of a file that is replaced.
 #[derive(Clone, Copy)]
@@ -29,15 +29,6 @@ pub struct Paths<'a> {
     pub store: &'a str,
 }
 
-/// Why a call of the system failed.
-#[derive(Clone, Copy, Debug, PartialEq, Eq, Drop)]
-pub enum HostFault {
-    /// There is a folder or a device where the file should be.
-    NoFile,
-    /// What the system tells.
-    Failed(Reason),
-}
-
 /// A folder of the operating system.
 #[derive(Drop)]
 pub struct HostFolder<'a, W: World> {
@@ -49,21 +40,6 @@ pub struct HostFolder<'a, W: World> {
     is_sure: bool,
     log: Record,
     world: PhantomData<W>,
-}
-
-impl Display for HostFault {
-    fn fmt<W: fmt::Write>(&self, f: &mut fmt::Formatter<W>) -> fmt::Result {
-        match self {
-            HostFault::NoFile => f.write_str("it is no regular file"),
-            HostFault::Failed(reason) => write!(f, "{reason}"),
-        }
-    }
-}
-
-impl From<io::Error> for HostFault {
-    fn from(error: io::Error) -> Self {
-        HostFault::Failed(Reason(error.kind()))
-    }
 }
 
 fn path_of<'a>(paths: &Paths<'a>, name: Name) -> &'a str {

@@ -1,6 +1,7 @@
 //! Where a guard keeps its filter: a file that is replaced safely, in any folder.
 #![tactic(auto)]
 
+mod faults;
 mod filter_file;
 mod folder;
 mod form;
@@ -10,16 +11,17 @@ mod lengthening;
 mod memory_folder;
 mod memory_slot;
 mod noted;
+mod numbered;
 mod replacing;
 mod room;
 mod world;
 
-pub use filter_file::{FilterFault, FilterFile};
+pub use faults::{FilterFault, FormFault, HostFault, MemoryFault};
+pub use filter_file::FilterFile;
 pub use folder::{Folder, Name};
-pub use form::FormFault;
-pub use host_folder::{HostFault, HostFolder, Paths, store_number};
+pub use host_folder::{HostFolder, Paths, store_number};
 pub use kept::Kept;
-pub use memory_folder::{MemoryFault, MemoryFolder};
+pub use memory_folder::MemoryFolder;
 pub use memory_slot::MemorySlot;
 pub use noted::Record;
 pub use room::Room;

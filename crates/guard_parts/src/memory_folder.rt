@@ -1,6 +1,5 @@
 //! A folder in memory.
-ghost use Rattle.std.specs.Prelude.{◌≡◌, ◌≢◌, ⊤, refl, IfOk, List, ◌∷◌};
-ghost use Rattle.guard_parts.specs.Folders.{bytes_in};
+ghost use Rattle.std.specs.Prelude.{◌≡◌, ◌≢◌, ⊤, refl, List, ◌∷◌};
 ghost use Rattle.std.proofs.Common.{inl};
 ghost use Rattle.std.proofs.Props.{props};
 ghost use Rattle.guard_parts.specs.declared.folder.Name.TheVariants.{Standing, New};
@@ -10,21 +9,11 @@ ghost use Rattle.guard_parts.specs.Replay.{sight_of};
 ghost use Rattle.guard_parts.specs.Empty.{empty};
 ghost use Rattle.guard_parts.specs.Shows.{Mirrors};
 
+use crate::faults::MemoryFault;
 use crate::folder::{Folder, Name};
-use crate::memory_slot::MemorySlot;
+use crate::memory_slot::{MemorySlot, copy_of};
 use crate::noted::Record;
 use std::alloc::Global;
-
-/// Why a call failed.
-#[derive(Clone, Copy, Debug, PartialEq, Eq, Drop)]
-pub enum MemoryFault {
-    /// A test wanted it to.
-    Injected,
-    /// There is no such file, or there is one.
-    File,
-    /// Out of memory.
-    Memory,
-}
 
 // The number of its store.
 const STORE: u64 = 1;
@@ -88,19 +77,6 @@ fn spend(calls_left: &mut u64, failures: &mut u64) -> bool {
         false
     } else {
         true
-    }
-}
-
-// A copy of what a name holds.
-fn copy_of(alloc: Global, content: &Option<Vec<u8>>) -> Result<Option<Vec<u8>>, MemoryFault>
-    ensures { IfOk result (λ copy. bytes_in copy ≡ bytes_in content.now) }
-{
-    match content {
-        Some(bytes) => match bytes.as_slice().to_vec(alloc) {
-            Ok(copy) => Ok(Some(copy)),
-            Err(_) => Err(MemoryFault::Memory),
-        },
-        None => Ok(None),
     }
 }
 

@@ -1,8 +1,9 @@
 //! One name of a folder in memory.
-ghost use Rattle.std.specs.Prelude.{◌≡◌, ◌||◌, ◌++◌, ◌∷◌, [], None, true, false, not, if◌then◌else◌};
+ghost use Rattle.std.specs.Prelude.{◌≡◌, ◌||◌, ◌++◌, ◌∷◌, [], IfOk, None, true, false, not, if◌then◌else◌};
 ghost use Rattle.guard_parts.specs.Folders.{behind, bytes_in};
 ghost use Rattle.guard_parts.specs.Shows.{Same};
 
+use crate::faults::MemoryFault;
 use std::alloc::Global;
 
 /// What a name holds, and what may be found by it after a crash.
@@ -113,5 +114,21 @@ impl MemorySlot {
             self.others.clear();
             self.is_any = false;
         }
+    }
+}
+
+/// A copy of what a name holds.
+///
+/// # Errors
+/// `Memory` where there is no room for it.
+pub fn copy_of(alloc: Global, content: &Option<Vec<u8>>) -> Result<Option<Vec<u8>>, MemoryFault>
+    ensures { IfOk result (λ copy. bytes_in copy ≡ bytes_in content.now) }
+{
+    match content {
+        Some(bytes) => match bytes.as_slice().to_vec(alloc) {
+            Ok(copy) => Ok(Some(copy)),
+            Err(_) => Err(MemoryFault::Memory),
+        },
+        None => Ok(None),
     }
 }

@@ -11,9 +11,10 @@ ghost use Rattle.guard_engine.specs.Stops.{ComesNext, CountsStop, IsUnreadFor, w
 
 mod batches;
 
-use super::{Fault, Guard, Put};
+use super::Guard;
 use crate::counts::Counts;
 use crate::line::BadLine;
+use crate::outcomes::{Fault, Put};
 use crate::store::Store;
 use batches::load_batch;
 use bloom_plain::laws::lists_join;

@@ -4,9 +4,10 @@ ghost use Rattle.guard_engine.specs.Guarded.{Covers, IsMadeOf, LacksFilter};
 ghost use Rattle.guard_engine.specs.Room.{HasRoom};
 ghost use Rattle.guard_engine.specs.Stores.{IsReady, TakesBack};
 
-use super::{Guard, Refusal};
+use super::Guard;
 use crate::counts::Counts;
 use crate::keys::insert_keys;
+use crate::outcomes::Refusal;
 use crate::rooms::has_room;
 use crate::store::Store;
 use bloom_plain::{BloomFilter, FilterError, Rate};

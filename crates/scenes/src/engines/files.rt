@@ -82,7 +82,7 @@ const MORE: Room = Room {
 // A folder after the hash 2 is added to the file in it, and whether that came about. The filter has
 // the hash.
 fn added(alloc: Global, folder: MemoryFolder, filter: &BloomFilter) -> (MemoryFolder, bool) {
-    let mut file = FilterFile::new(alloc, folder, false);
+    let mut file = FilterFile::new(alloc, folder);
     let _ = file.load();
     let is_added = file.add(filter, 2, MORE).is_ok();
     (file.into_folder(), is_added)
@@ -169,7 +169,7 @@ fn lengthened(
     filter: &mut BloomFilter,
     adds: u64,
 ) -> MemoryFolder {
-    let mut file = FilterFile::new(alloc, folder, false);
+    let mut file = FilterFile::new(alloc, folder);
     add_many(&mut file, filter, adds);
     file.into_folder()
 }
@@ -204,21 +204,13 @@ fn a_file_is_written_anew_once_4096_hashes_were_added(rt: HostRuntime) {
     }
 }
 
-// Whether a file tells that a read fails, and then that it is another store's, and is saved.
-fn tells(file: &mut FilterFile<MemoryFolder>, filter: &BloomFilter) -> bool {
-    let is_unread = file.load().err() == Some(FilterFault::Unread(MemoryFault::Injected));
-    let is_other = file.load().err() == Some(FilterFault::OtherStore);
-    is_unread & is_other & file.save(filter, ROOM).is_ok()
-}
-
-// Whether a read that fails is told, and then that the file of this filter is another store's,
-// until one is saved.
+// Whether a read that fails is told, and the file of this filter is found by the next one.
 fn is_told_of(alloc: Global, filter: &BloomFilter) -> bool {
     let (mut folder, is_left) = saved(alloc, MemoryFolder::new(alloc), filter);
     folder.fail_after(0, 1);
-    let mut file = FilterFile::new(alloc, folder, true);
-    let is_told = tells(&mut file, filter);
-    is_left & is_told & finds(alloc, file.into_folder(), filter, ROOM)
+    let mut file = FilterFile::new(alloc, folder);
+    let is_unread = file.load().err() == Some(FilterFault::Unread(MemoryFault::Injected));
+    is_left & is_unread & finds(alloc, file.into_folder(), filter, ROOM)
 }
 
 // The same, of a filter that is made.
@@ -230,7 +222,7 @@ fn is_told(alloc: Global) -> Result<bool, FilterError> {
 }
 
 #[test]
-fn a_failed_read_and_the_filter_of_another_store_are_told(rt: HostRuntime) {
+fn a_failed_read_is_told_and_the_next_finds_the_filter(rt: HostRuntime) {
     assert!(rt; matches!(is_told(rt.alloc()), Ok(true)));
 }
 

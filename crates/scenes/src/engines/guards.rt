@@ -117,7 +117,7 @@ fn guard_over<T: Store + Drop>(
     // No clause speaks of the entries of these stores.
     requires { ¬ T.is_known store }
 {
-    let kept = FilterFile::new(alloc, folder, false);
+    let kept = FilterFile::new(alloc, folder);
     match Guard::open(alloc, store, kept, rate, 0, 10) {
         Ok((guard, _origin)) => Some(guard),
         Err(_refusal) => None,

@@ -14,10 +14,11 @@ ghost use Rattle.guard_engine.specs.Stores.{Fails, IsInBatch};
 
 use super::{Loaded, MOST, Stop, Why, stopped};
 use crate::counts::Counts;
-use crate::desk::{end_batch, put};
-use crate::guard::Put;
+use crate::desk::put;
+use crate::ending::end_batch;
 use crate::keys::hash_of;
 use crate::line::{BadLine, entry_of};
+use crate::outcomes::Put;
 use crate::rooms::count_keys;
 use crate::store::Store;
 use bloom_plain::laws::lists_join;

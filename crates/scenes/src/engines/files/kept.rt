@@ -22,7 +22,7 @@ pub(super) fn saved(
     folder: MemoryFolder,
     filter: &BloomFilter,
 ) -> (MemoryFolder, bool) {
-    let mut file = FilterFile::new(alloc, folder, false);
+    let mut file = FilterFile::new(alloc, folder);
     let is_saved = file.save(filter, ROOM).is_ok();
     (file.into_folder(), is_saved)
 }
@@ -47,7 +47,7 @@ pub(super) fn finds(
     filter: &BloomFilter,
     wanted: Room,
 ) -> bool {
-    let mut file = FilterFile::new(alloc, folder, false);
+    let mut file = FilterFile::new(alloc, folder);
     let are_found = loads(&mut file, filter, wanted);
     drop(file);
     are_found

@@ -19,7 +19,7 @@ fn fault_of(
         folder,
         store: "scene.store",
     };
-    let mut file = FilterFile::new(rt.alloc(), HostFolder::new(rt, paths, Unknown), false);
+    let mut file = FilterFile::new(rt.alloc(), HostFolder::new(rt, paths, Unknown));
     let fault = match filter {
         Some(filter) => file.save(filter, ROOM).err(),
         None => file.load().err(),

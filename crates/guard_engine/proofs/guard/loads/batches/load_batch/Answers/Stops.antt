@@ -1,6 +1,6 @@
 -- Where `load_batch` stops, what was counted, and which hashes came.
 use Rattle.std.proofs.Common.{refl, arith, ap}
-use Rattle.guard_engine.specs.declared.guard.Fault.TheVariants as faults
+use Rattle.guard_engine.specs.declared.outcomes.Fault.TheVariants as faults
 use Rattle.guard_engine.proofs.FillLemmas.{FillsFrom-none, FillsFrom-read}
 use Rattle.guard_engine.proofs.StopLemmas.{ComesNext-done, CountsMany-nil, CountsMany-puts, stop-fault}
 use Rattle.guard_engine.proofs.guard.loads.batches.load_batch.Goals as goal

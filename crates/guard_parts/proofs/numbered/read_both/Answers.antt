@@ -1,7 +1,7 @@
 -- Reads change nothing.
 use Rattle.guard_parts.proofs.ReplaceLemmas.{passes-call, passes-then}
 use Rattle.guard_parts.specs.declared.folder.Name.TheVariants.{Standing}
-use Rattle.guard_parts.proofs.filter_file.read_both.Goals as goal
+use Rattle.guard_parts.proofs.numbered.read_both.Goals as goal
 
 pub returns-in_err-number-clause-passes : goal.returns-in_err-number-clause-passes
 returns-in_err-number-clause-passes g c k =

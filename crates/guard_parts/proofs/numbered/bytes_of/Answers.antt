@@ -1,7 +1,7 @@
 -- A read changes nothing.
 use Rattle.guard_parts.proofs.ReplaceLemmas.{passes-call}
 use Rattle.guard_parts.specs.declared.folder.Name.TheVariants.{Standing}
-use Rattle.guard_parts.proofs.filter_file.bytes_of.Goals as goal
+use Rattle.guard_parts.proofs.numbered.bytes_of.Goals as goal
 
 pub returns-in-Err-clause-passes : goal.returns-in-Err-clause-passes
 returns-in-Err-clause-passes g c k =
