@@ -42,6 +42,10 @@ offsets-three (suc (suc (suc i))) within = absurd (omega (arith, within))
 offsets-none : AreOffsets 0 []
 offsets-none i within = absurd (omega (arith, within))
 
+-- nor does one, wherever it points
+offsets-one : AreOffsets 0 (5 ∷ [])
+offsets-one i within = absurd (omega (arith, within))
+
 -- an item doesn't end before it begins
 offsets-falling : AreOffsets 3 (0 ∷ 2 ∷ 1 ∷ []) → ⊥
 offsets-falling are = omega (arith, (are 1 (omega arith)).0)

@@ -1,12 +1,12 @@
 -- What calls on words that threads share tell: cases that hold, and cases that differ from one of
 -- these in one thing and don't hold.
-use Rattle.std.proofs.Common.{◌≡◌, ◌^◌, ◌*◌, ◌==◌, ℕ, Bool, false, [], ◌∷◌, refl, sym, ap, arith, lit<}
+use Rattle.std.proofs.Common.{◌≡◌, ◌^◌, ◌*◌, ◌==◌, ℕ, Bool, true, false, [], ◌∷◌, refl, sym, ap, arith, lit<}
 use Rattle.std.proofs.lemmas.Bool.{both_ways}
 use denote.RawPtr.{block_ptr}
 use Rattle.bloom_parts.specs.Content.{content}
 use Rattle.bloom_parts.specs.Made.{SharedWords}
 use Rattle.bloom_parts.proofs.PublishedLemmas.{content-zeros}
-use Rattle.fastbloom_c.specs.Shared.{MakesInserts, TellsEach, WasInserted}
+use Rattle.fastbloom_c.specs.Shared.{MakesInsert, MakesInserts, MakesLook, TellsEach, TellsInserts, TellsLooks, WasInserted}
 use Rattle.passed_words.specs.Passed.{MakeFilter, vector_of}
 
 -- one word makes a filter, and so does the greatest number
@@ -62,3 +62,32 @@ tells-past told = both_ways false refl (sym (told.rest 1 (omega arith)))
 -- each hash of a list was inserted, the last one too
 inserts-each : (v : SharedWords) → MakesInserts v 1 (5 ∷ 6 ∷ []) → WasInserted v 1 6
 inserts-each v made = made.each 1 0 (omega arith)
+
+-- no hash was looked up, and no bit is set
+looks-none : (v : SharedWords) → TellsLooks v 1 [] (0 ∷ [])
+looks-none v = record {
+  each = λ i within. absurd (omega (arith, within));
+  rest = λ i past. content-zeros 1 i;
+}
+
+-- each bit tells what the look-up of its hash returned
+looks-each : (v : SharedWords) → TellsLooks v 1 (5 ∷ 6 ∷ []) (2 ∷ [])
+    → MakesLook v 1 5 false × MakesLook v 1 6 true
+unfolding content
+looks-each v told = (told.each 0 (omega arith), told.each 1 (omega arith))
+
+-- a bit with no hash isn't set
+looks-rest : (v : SharedWords) → TellsLooks v 1 (5 ∷ []) (2 ∷ []) → ⊥
+unfolding content
+looks-rest v told = both_ways false refl (sym (told.rest 1 (omega arith)))
+
+-- a bit that is set tells that the insert set a bit, and one that is clear that it set none
+replies-each : (v : SharedWords) → TellsInserts v 1 (5 ∷ 6 ∷ []) (1 ∷ [])
+    → MakesInsert v 1 5 false × MakesInsert v 1 6 true
+unfolding content
+replies-each v told = (told.each 0 (omega arith), told.each 1 (omega arith))
+
+-- a bit with no hash isn't set
+replies-rest : (v : SharedWords) → TellsInserts v 1 [] (1 ∷ []) → ⊥
+unfolding content
+replies-rest v told = both_ways false refl (sym (told.rest 0 (omega arith)))
