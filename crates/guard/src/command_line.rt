@@ -33,7 +33,7 @@ const PROGRAM: &'static [Row] = &[
     (
         "STORE",
         Kind::Word,
-        "A SQLite file, which put and load make where there is none",
+        "A SQLite file, which put, replace and load make where there is none",
     ),
 ];
 
