@@ -1,5 +1,8 @@
 mod BitLemmas
+mod BlockedDataFacts
 mod BlockedFacts
+mod BlockedLawFacts
+mod BlockedMadeFacts
 mod BlockedSizingFacts
 mod BuilderLemmas
 mod FilterLemmas

@@ -1,7 +1,7 @@
 -- What calls on shared blocked filters are said to do: cases that hold, and cases that differ from
 -- one of these in one thing and don't hold. Hash 0 lies in line 0, and its positions are all
 -- position 0.
-use Rattle.std.proofs.Common.{◌≡◌, ℕ, ◌<◌, Bool, true, false, [], ◌∷◌, length, Some, slice_get, refl, ap, arith, lit<}
+use Rattle.std.proofs.Common.{◌≡◌, ◌↔◌, ℕ, ◌+◌, ◌<◌, Bool, true, false, [], ◌∷◌, length, Option, Some, slice_get, refl, sym, ap, subst, arith, lit<}
 use Rattle.std.proofs.lemmas.Bool.{both_ways}
 use Rattle.bloom_parts.specs.Chain.{chain}
 use Rattle.bloom_parts.specs.Content.{bit_is_on, content}
@@ -9,13 +9,15 @@ use Rattle.bloom_parts.specs.Made.{SharedWords}
 use Rattle.bloom_parts.specs.Places.{positions}
 use Rattle.bloom_plain.specs.Builders.{Start}
 use Rattle.bloom_plain.specs.Filter.{Filter}
+use Rattle.bloom_steps.specs.declared.steps.vocabulary.Call.{Call}
 use Rattle.bloom_steps.specs.declared.steps.vocabulary.Step.TheVariants.{Load, Take, Zero}
+use Rattle.bloom_steps.specs.LiveSteps.{MakesCallOn}
 use Rattle.bloom_steps.specs.Scripts.{Taken}
 use Rattle.bloom_blocked.specs.BlockedLaws.{InsertsOneByOne}
 use Rattle.bloom_blocked.specs.BlockedSizing.{sized_in_lines}
 use Rattle.bloom_blocked.specs.Keeping.{kept_after}
 use Rattle.bloom_blocked.specs.LineSteps.{HaveAll, LooksInLine, SetsInLine}
-use Rattle.bloom_blocked.specs.SharedBlocked.{BeganAsLines, HaveSameLines, SharedBlockedFilter}
+use Rattle.bloom_blocked.specs.SharedBlocked.{BeganAsLines, HaveSameLines, MakesCallOnLines, MakesInsertInLine, MakesInsertsInLines, MakesLookUpInLine, SharedBlockedFilter, WasInsertedInLine}
 
 module _ (v : SharedWords) (reply : Bool) where
   -- an insert of hash 0 sets the first bit of its line, and no other
@@ -55,6 +57,34 @@ shared count hashes hasher = record {
   hashes = hashes;
   hasher = hasher;
 }
+
+module _ (f other : SharedBlockedFilter ℕ) (hash : ℕ) (reply : Bool) where
+  -- a call on a filter is one on its words, with its number of hashes
+  calls : (call : Call) (told : Option Bool)
+      → MakesCallOnLines f other call told ↔ MakesCallOn f.words other.words f.hashes call told
+  calls call told = (λ made. made, λ made. made)
+
+  inserts : MakesInsertInLine f hash reply ↔ SetsInLine f.words f.hashes hash reply
+  inserts = (λ made. made, λ made. made)
+
+  looks : MakesLookUpInLine f hash reply ↔ LooksInLine f.words f.hashes hash reply
+  looks = (λ made. made, λ made. made)
+
+  -- a hash was inserted where its insert had some reply
+  was-inserted : MakesInsertInLine f hash reply → WasInsertedInLine f hash
+  was-inserted made = (reply, made)
+
+  insert-was : WasInsertedInLine f hash → (some : Bool) × SetsInLine f.words f.hashes hash some
+  insert-was was = was
+
+-- each of two items is inserted by its hash under the filter's hasher, here 7
+inserts-two : (f : SharedBlockedFilter ℕ) → f.hasher ≡ 7
+    → MakesInsertsInLines (λ h x. h + x) f (3 ∷ 4 ∷ [])
+    → WasInsertedInLine f 10 × WasInsertedInLine f 11
+inserts-two f seven all = (
+  subst (λ s. WasInsertedInLine f (s + 3)) seven (all 0 0 (omega arith)),
+  subst (λ s. WasInsertedInLine f (s + 4)) seven (all 1 0 (omega arith)),
+)
 
 -- filters of one shape may have different hashers, and no other numbers
 same-other : HaveSameLines (shared 8 2 7) (shared 8 2 8)

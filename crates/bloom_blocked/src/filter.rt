@@ -22,8 +22,8 @@ use std::marker::Model;
 use std::slice;
 
 /// A Bloom filter in lines of 512 bits. All positions of a hash lie in one of them, so an insert or
-/// a look-up reads one line of the cache, and not one for each position. In return, false positives
-/// are more frequent.
+/// a look-up reads 64 bytes that lie together, and not a line of the cache for each position. In
+/// return, false positives are more frequent.
 ///
 /// Contracts see its words, its number of hashes and its hasher. Words that begin at a multiple of
 /// 64 bytes are read quickest.

@@ -1,15 +1,16 @@
 -- Why a run ended early: of each relation cases that hold, and near ones that don't.
-use Rattle.std.proofs.Common.{◌≡◌, ℕ, suc, List, [], ◌∷◌, ◌++◌, length, get_or, Some, refl, sym, ◌∙◌, ap, subst, arith}
+use Rattle.std.proofs.Common.{◌≡◌, ℕ, suc, List, [], ◌∷◌, ◌++◌, length, get_or, Option, Some, None, refl, sym, ◌∙◌, ap, subst, arith}
 use Rattle.std.specs.Prelude.{codes}
 use Rattle.std.specs.declared.io.ErrorKind.{ErrorKind}
 use Rattle.std.specs.declared.io.ErrorKind.TheVariants as kind
 use Rattle.lines.specs.Lines.{lines_by}
+use Rattle.lines.specs.Reading.{Ends}
 use Rattle.bloom_parts.specs.declared.error.FilterError.TheVariants as filter
 use Rattle.bloom_plain.specs.declared.growing.error.GrowingError.{GrowingError}
 use Rattle.bloom_plain.specs.declared.growing.error.GrowingError.TheVariants.{RateOverflow, Filter}
 use Rattle.duplicates_engine.specs.declared.fault.Fault.{Fault}
 use Rattle.duplicates_engine.specs.declared.fault.Fault.TheVariants.{TooLong, Memory, Full, Open, Input, Output}
-use Rattle.duplicates_engine.specs.Causes.{TellsRead, TellsOpen, TellsWrite, TellsRefusal, IsOfStep, AreOfFirst, IsCaused}
+use Rattle.duplicates_engine.specs.Causes.{TellsRead, TellsOpen, TellsWrite, TellsRefusal, RefusesLine, FailsToOpen, FailsBehind, IsOfStep, AreOfFirst, IsCaused}
 use Rattle.duplicates_engine.specs.Inputs.{lines_in}
 
 -- a read that failed is told with its kind, and with no other
@@ -143,3 +144,49 @@ step-full is = is
 
 step-long : IsOfStep (λ fault. ⊥) (TooLong 1) → ⊥
 step-long is = is
+
+-- ---- a line, and an open
+
+-- a sieve is full at the line that it refuses
+refused : RefusesLine refuses tt (codes "b") Full
+refused = record { error = RateOverflow; refused = (refl, refl); told = λ is. cc }
+
+-- it isn't out of memory
+refused-memory : RefusesLine refuses tt (codes "b") Memory → ⊥
+refused-memory is = let error = is.refused.1 in let told = is.told in cc
+
+-- and takes another line
+refused-other : RefusesLine refuses tt (codes "a") Full → ⊥
+refused-other is =
+    let letter : 97 ≡ 98 = ap (λ l. get_or l 0 0) is.refused.0 in omega (arith, letter)
+
+-- inputs by their number, whose next open finds nothing
+abbrev lacks : ℕ → ℕ → ErrorKind → Type 0
+lacks old new is = (new ≡ suc old) × (is ≡ kind.NotFound)
+
+fails-open : FailsToOpen lacks 1 2 (Open kind.NotFound)
+fails-open = record { kind = kind.NotFound; failed = (refl, refl); told = (refl, λ is. cc) }
+
+-- it isn't told with another kind
+fails-kind : FailsToOpen lacks 1 2 (Open kind.PermissionDenied) → ⊥
+fails-kind is = cc (is.told.0 ∙ is.failed.1)
+
+-- nor as a read
+fails-input : FailsToOpen lacks 1 2 (Input kind.NotFound) → ⊥
+fails-input is = is.told
+
+-- and it leaves the inputs as an open does
+fails-same : FailsToOpen lacks 1 1 (Open kind.NotFound) → ⊥
+fails-same is = let wrong : 1 ≡ 2 = is.failed.0 in omega (arith, wrong)
+
+-- an open fails behind an input that has ended
+behind : FailsBehind lacks (Some []) 1 2 (Open kind.NotFound)
+behind = record { last = Some []; ends = record { nothing = refl; end = refl }; opening = fails-open }
+
+-- and not before a byte that is left
+behind-left : FailsBehind lacks (Some (97 ∷ [])) 1 2 (Open kind.NotFound) → ⊥
+behind-left is = by is.last is.ends
+  where
+    by : (last : Option (List ℕ)) → Ends (Some (97 ∷ [])) last → ⊥
+    by None ends = ends.nothing
+    by (Some more) ends = let left = ends.nothing in let none = ends.end in cc

@@ -1,8 +1,9 @@
 -- What is read of several inputs: of each relation cases that hold, and near ones that don't.
-use Rattle.std.proofs.Common.{◌≡◌, ℕ, List, [], ◌∷◌, length, get_or, Option, Some, None, refl, ap, arith}
+use Rattle.std.proofs.Common.{◌≡◌, ℕ, List, [], ◌∷◌, length, get_or, Bool, true, false, Option, Some, None, refl, ap, arith}
 use Rattle.std.specs.Prelude.{codes}
 use Rattle.lines.specs.Lines.{lines_by}
-use Rattle.duplicates_engine.specs.Inputs.{Opens, NoneComes, lines_in, AreAllRead, AreFirstRead, AreReadToLong}
+use Rattle.lines.specs.Reading.{Waiting}
+use Rattle.duplicates_engine.specs.Inputs.{Opens, NoneComes, lines_in, AreAllRead, AreFirstRead, AreReadToLong, IsFresh}
 
 -- two inputs, of which the first lacks the end of its last line
 abbrev inputs : List (List ℕ)
@@ -83,3 +84,25 @@ long = record {
 -- no line is number 0
 long-none : AreReadToLong 10 1 0 None [] → ⊥
 long-none is = omega (arith, is.is_number)
+
+-- a reader of lines of at most nine bytes, with what it read and didn't give yet
+abbrev reader : List ℕ → Bool → Waiting
+reader bytes ended = record { line = []; bytes = bytes; ended = ended; longest = 9 }
+
+-- nothing was read yet
+fresh : IsFresh 9 (reader [] false) 0
+fresh = record { empty = refl; untold = refl; has_longest = refl; none_read = refl }
+
+-- no byte, no end and no line was
+fresh-byte : IsFresh 9 (reader (97 ∷ []) false) 0 → ⊥
+fresh-byte is = let wrong : 1 ≡ 0 = ap length is.empty in omega (arith, wrong)
+
+fresh-end : IsFresh 9 (reader [] true) 0 → ⊥
+fresh-end is = let wrong : true ≡ false = is.untold in cc
+
+fresh-line : IsFresh 9 (reader [] false) 1 → ⊥
+fresh-line is = let wrong : 1 ≡ 0 = is.none_read in omega (arith, wrong)
+
+-- a line may have as many bytes as was asked for
+fresh-longest : IsFresh 8 (reader [] false) 0 → ⊥
+fresh-longest is = let wrong : 9 ≡ 8 = is.has_longest in omega (arith, wrong)

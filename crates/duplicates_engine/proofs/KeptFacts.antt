@@ -10,7 +10,7 @@ use Rattle.duplicates_engine.specs.declared.options.Written.{Written}
 use Rattle.duplicates_engine.specs.declared.options.Written.TheVariants.{New, HeldBack, Nothing}
 use Rattle.duplicates_engine.specs.declared.tally.Tally.{Tally}
 use Rattle.duplicates_engine.specs.Kept.{chosen, text_of, piece, Writes}
-use Rattle.duplicates_engine.specs.Longer.{limit_of, longer_lines, short_lines, short_replies}
+use Rattle.duplicates_engine.specs.Longer.{is_longer, limit_of, longer_lines, short_lines, short_replies}
 use Rattle.duplicates_engine.specs.Plain.{line_hash}
 use Rattle.duplicates_engine.specs.Told.{held_back, new_lines, Counts}
 
@@ -63,6 +63,10 @@ text-longer-nothing = refl
 -- a line of as many bytes as it may have is no longer one
 text-as-long : text_of 10 (passing New) (codes "b" ∷ []) (true ∷ []) ≡ []
 text-as-long = refl
+
+-- a line of two bytes is longer than one, and not than two
+longer-by : (is_longer 1 (codes "bb") ≡ true) × (is_longer 2 (codes "bb") ≡ false)
+longer-by = (refl, refl)
 
 -- one of the lines is longer
 longer-one : longer_lines 1 long ≡ 1

@@ -4,12 +4,14 @@ use Rattle.std.proofs.lemmas.List.Elements.{All-nil}
 use Rattle.std.specs.Prelude.{codes}
 use Rattle.lines.specs.Lines.{lines_by}
 use Rattle.lines.specs.Reading.{AreShort}
-use Rattle.duplicates_engine.specs.declared.fault.Fault.TheVariants.{Memory}
+use Rattle.bloom_plain.specs.declared.growing.error.GrowingError.{GrowingError}
+use Rattle.std.specs.declared.io.ErrorKind.{ErrorKind}
+use Rattle.duplicates_engine.specs.declared.fault.Fault.TheVariants.{Full, Memory}
 use Rattle.duplicates_engine.specs.declared.options.Options.{Options}
 use Rattle.duplicates_engine.specs.declared.options.Written.TheVariants.{New}
 use Rattle.duplicates_engine.specs.declared.tally.Total.{Total}
 use Rattle.duplicates_engine.specs.Inputs.{lines_in}
-use Rattle.duplicates_engine.specs.Kept.{text_of, KeepsNew, KeepsUntil}
+use Rattle.duplicates_engine.specs.Kept.{text_of, KeepsNew, KeepsUntil, EndsEarly}
 use Rattle.duplicates_engine.proofs.SiftLemmas.{sifted-nil}
 
 -- a sieve of which nothing is said
@@ -93,3 +95,24 @@ until-not run = none run.lines run.replies run.reached.later run.reached.cut (ru
         → [] ≡ lines ++ later → codes "a\n" ≡ text_of 10 asked lines replies → ⊥
     none [] replies later cut text = let more : 2 ≡ 0 = ap length text in omega (arith, more)
     none (line ∷ lines) replies later cut text = cc cut
+
+-- a sieve that refuses nothing, and inputs that open
+abbrev refuses : Unit {0} → List ℕ → GrowingError → Type 0
+refuses sieve line error = ⊥
+
+abbrev fails : Unit {0} → Unit {0} → ErrorKind → Type 0
+fails old new kind = ⊥
+
+-- that run ended early, and for no other reason
+ends : EndsEarly has sifts refuses fails 10 asked (Some (codes "a\n" ∷ [])) tt tt tt (Some [])
+    (Some []) None None None None Memory
+ends = record { until = until; caused = tt }
+
+ends-full : EndsEarly has sifts refuses fails 10 asked (Some (codes "a\n" ∷ [])) tt tt tt (Some [])
+    (Some []) None None None None Full → ⊥
+ends-full run = run.caused.refusal.refused
+
+-- it wrote no line that it didn't read
+ends-not : EndsEarly has sifts refuses fails 10 asked (Some []) tt tt tt (Some [])
+    (Some (codes "a\n")) None None None None Memory → ⊥
+ends-not run = until-not run.until

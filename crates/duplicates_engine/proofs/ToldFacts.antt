@@ -1,7 +1,7 @@
 -- What a progress is told: of each relation cases that hold, and near ones that don't.
-use Rattle.std.proofs.Common.{◌≡◌, ◌-◌, ◌^◌, min, Bool, true, false, List, [], ◌∷◌, length, map, take, get_or, Some, None, refl, ap, subst, arith}
+use Rattle.std.proofs.Common.{◌≡◌, ℕ, ◌-◌, ◌^◌, min, Bool, true, false, List, [], ◌∷◌, length, map, take, get_or, Some, None, refl, ap, subst, arith}
 use Rattle.duplicates_engine.specs.declared.tally.Tally.{Tally}
-use Rattle.duplicates_engine.specs.Told.{Tells, held_back, millions, tally_after, TellsMillions, TellsOf}
+use Rattle.duplicates_engine.specs.Told.{Tells, held_back, millions, tally_after, TellsMillions, TellsOf, CountsLine}
 
 -- the counts at a million lines
 abbrev one : Tally
@@ -95,3 +95,69 @@ of-replies replies size tells =
     let told = subst (TellsMillions (Some []) (Some []) replies) number tells in
     let more : 0 ≡ 1 = ap length told in
     omega (arith, more)
+
+-- ---- one line
+
+-- the counts of this many lines
+abbrev tally : ℕ → ℕ → Tally
+tally read held = record { read = read; held = held }
+
+-- one that was held back counts as such
+counts-held : CountsLine (tally 2 1) (tally 3 2) (Some 4) (Some 4) (Some []) (Some []) (Some [])
+    (Some []) true
+counts-held = record {
+  read = refl;
+  held = refl;
+  told = λ whole. absurd (omega (arith, whole));
+  quiet = λ part. refl;
+  warns = (refl, refl);
+}
+
+counts-unheld : CountsLine (tally 2 1) (tally 3 1) (Some 4) (Some 4) (Some []) (Some []) (Some [])
+    (Some []) true → ⊥
+counts-unheld is = let wrong : 1 ≡ 2 = is.held in omega (arith, wrong)
+
+-- no line counts twice
+counts-twice : CountsLine (tally 2 1) (tally 4 2) (Some 4) (Some 4) (Some []) (Some []) (Some [])
+    (Some []) true → ⊥
+counts-twice is = let wrong : 4 ≡ 3 = is.read in omega (arith, wrong)
+
+-- a new one takes room
+counts-new : CountsLine (tally 2 1) (tally 3 1) (Some 4) (Some 3) (Some []) (Some []) (Some [])
+    (Some []) false
+counts-new = record {
+  read = refl;
+  held = refl;
+  told = λ whole. absurd (omega (arith, whole));
+  quiet = λ part. refl;
+  warns = (refl, refl);
+}
+
+counts-room : CountsLine (tally 2 1) (tally 3 1) (Some 4) (Some 4) (Some []) (Some []) (Some [])
+    (Some []) false → ⊥
+counts-room is =
+    let wrong : ◌≡◌ {A = ℕ} 4 3 = (let same = is.warns.0 in cc) in omega (arith, wrong)
+
+-- where there is none it is warned of
+counts-warned : CountsLine (tally 2 1) (tally 3 1) (Some 0) None (Some []) (Some []) (Some [])
+    (Some (tally 3 1 ∷ [])) false
+counts-warned = record {
+  read = refl;
+  held = refl;
+  told = λ whole. absurd (omega (arith, whole));
+  quiet = λ part. refl;
+  warns = (refl, refl);
+}
+
+counts-unwarned : CountsLine (tally 2 1) (tally 3 1) (Some 0) None (Some []) (Some []) (Some [])
+    (Some []) false → ⊥
+counts-unwarned is = let wrong : 0 ≡ 1 = ap length is.warns.1 in omega (arith, wrong)
+
+-- three lines aren't told, and a million are
+counts-told : CountsLine (tally 2 1) (tally 3 2) (Some 4) (Some 4) (Some [])
+    (Some (tally 3 2 ∷ [])) (Some []) (Some []) true → ⊥
+counts-told is = let wrong = is.quiet (λ whole. omega (arith, whole)) in cc
+
+counts-million : CountsLine (tally 999999 1) (tally 1000000 2) None None (Some []) (Some [])
+    (Some []) (Some []) true → ⊥
+counts-million is = let wrong : 0 ≡ 1 = ap length (is.told refl) in omega (arith, wrong)

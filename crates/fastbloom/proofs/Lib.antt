@@ -1,10 +1,12 @@
 mod CallFacts
 mod DataLemmas
+mod DrawLawFacts
 mod FillFacts
 mod FillLawFacts
 mod FillLawLemmas
 pub mod FillLemmas
 mod FormLemmas
+mod GrowthFacts
 mod InsertedLemmas
 mod LiveStoreFacts
 mod LoadedFacts

@@ -9,6 +9,7 @@ mod LetterLemmas
 mod ListLemmas
 mod ListedLemmas
 mod NumberFacts
+mod OpenedFacts
 mod OpenedLemmas
 mod ProbedLemmas
 mod ReadLemmas

@@ -1,13 +1,15 @@
 -- What looks like a store's file: cases that hold, and ones that differ in one thing.
 use Rattle.std.proofs.Common.{◌≡◌, ℕ, List, [], ◌∷◌, ◌++◌, codes, get_or, length, pos, zero, suc, refl, ap, subst, inl, inr, lit<, lt_irrefl, arith}
 use Rattle.std.proofs.Math.Logic.{∥∥₁_elim}
+use Rattle.sqlite.specs.Files.{IsNothing}
 use Rattle.sqlite_trees.specs.Tree.{Trees}
 use Rattle.sqlite_value.specs.Order.{Row}
 use Rattle.sqlite_value.specs.declared.value.Value.TheVariants.{Int, Null, Text}
 use Rattle.sqlite_wal.specs.Recovery.{Image}
 use Rattle.guard_store.specs.FirstLaws.{sound_empty}
-use Rattle.guard_store.specs.Opened.{AreFoundAt, IsEmptyStore, IsUnfinishedAt}
-use Rattle.guard_store.specs.StoreFile.{entry_sql, AreSoundIfStore, IsEntryText, ListEntries}
+use Rattle.guard_store.specs.Found.{AreFound, HoldsStore}
+use Rattle.guard_store.specs.Opened.{AreFoundAt, HoldsStoreAt, IsEmptyStore, IsUnfinishedAt}
+use Rattle.guard_store.specs.StoreFile.{entry_sql, AreSoundIfStore, IsEntryText, ListEntries, ListEntriesAs}
 
 -- ---- the text of the table
 
@@ -87,6 +89,16 @@ lists-three is = let more = ap length is.objects in omega (arith, more)
 lists-turned : ListEntries (index_row ∷ table_row entry_sql ∷ []) → ⊥
 lists-turned is = let objects = is.objects in cc
 
+-- they are listed with the text that they have, and with no other
+lists-as : ListEntriesAs entry_sql (table_row entry_sql ∷ index_row ∷ [])
+lists-as = refl
+
+lists-as_other : ListEntriesAs lax_sql (table_row entry_sql ∷ index_row ∷ []) → ⊥
+lists-as_other is =
+    let same : entry_sql ≡ lax_sql = (let objects = is in cc) in
+    let shorter = ap length same in
+    omega (arith, shorter)
+
 -- ---- the files
 
 -- an empty file is sound, since it doesn't look like a store's
@@ -120,3 +132,24 @@ found-nothing size log db (inr begun) =
 found-begun : (size : ℕ) (left : Image) → ∥ IsUnfinishedAt size left ∥₁
     → AreFoundAt size left no_rows
 found-begun size left begun = inr (begun, empty)
+
+-- an empty file holds no store
+holds-at_nothing : (size : ℕ) (log : List ℕ) (db : Trees)
+    → HoldsStoreAt size (record { log = log; db = [] }) db → ⊥
+holds-at_nothing size log db held = lt_irrefl 0 held.found.present
+
+holds-nothing : (log : List ℕ) (db : Trees) → HoldsStore (record { log = log; db = [] }) db → ⊥
+holds-nothing log db (size, held) = holds-at_nothing size log db held
+
+-- the trees of a store are found
+found-store : (size : ℕ) (image : Image) (db : Trees) → HoldsStoreAt size image db
+    → AreFound image db
+found-store size image db held = inl (size, held)
+
+-- where there is no store yet, they have no row
+found-none : (image : Image) → IsNothing image → AreFound image no_rows
+found-none image nothing = inr (inl nothing, empty)
+
+found-row : AreFound (record { log = []; db = [] }) one_row → ⊥
+found-row (inl held) = holds-nothing [] one_row held
+found-row (inr made) = empty-one made.1

@@ -1,1 +1,4 @@
+mod BatchFacts
+mod PieceFacts
+mod SlotFacts
 mod TallyFacts

@@ -9,7 +9,7 @@ use Rattle.bloom_parts.specs.declared.math.bracket.Bracket.{Bracket}
 use Rattle.bloom_parts.specs.declared.math.estimate.Estimate.{Estimate}
 use Rattle.summaries_engine.specs.declared.stop.Stop.TheVariants.{Memory, Worker}
 use Rattle.summaries_engine.specs.declared.kinds.AnyFilter.TheVariants.{Classic, Blocked}
-use Rattle.summaries_engine.specs.Comparing.{ComparesNamed, StopsComparing, TellsBoth, TellsTwo, compared_text, least_share, likeness_text, most_share}
+use Rattle.summaries_engine.specs.Comparing.{ComparesNamed, StopsComparing, TellsBoth, TellsTwo, bits_text, compared_text, least_share, likeness_text, most_share, ones_of_both}
 use Rattle.summaries_engine.specs.Kinds.{parts_of}
 use Rattle.summaries_engine.proofs.NamedFacts.{counted}
 use Rattle.summaries_engine.proofs.TextFacts.{filter, from, from_to}
@@ -88,6 +88,18 @@ compares text tells_both = record {
   fits = record { kind = refl; shape = record { words = refl; hashes = refl }; key = refl };
   tells = tells_both;
 }
+
+-- one bit is set in both of two words, and two are in both where they are one
+ones-both : (ones_of_both (filter 3) (filter 6) ≡ 1) × (ones_of_both (filter 3) (filter 3) ≡ 2)
+unfolding content count_on
+ones-both = (refl, refl)
+
+-- the four lines of bits
+lines-four : bits_text 1 2 3 4
+    ≡ codes "bits set in first: 1\nbits set in second: 2\n"
+    ++ codes "bits set in union: 3\nbits set in both: 4\n"
+unfolding digits
+lines-four = refl
 
 -- of blocked filters the bits are told that are set in each, in either and in both
 tells-blocked : TellsTwo (Blocked (filter 3)) (Blocked (filter 6))

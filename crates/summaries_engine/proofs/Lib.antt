@@ -10,6 +10,7 @@ mod CuttingLemmas
 mod FilledLemmas
 mod InputFacts
 mod InputLemmas
+mod InputStopFacts
 mod KeyLemmas
 mod KindFacts
 mod LoadedFacts

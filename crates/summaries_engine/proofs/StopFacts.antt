@@ -13,7 +13,7 @@ use Rattle.summaries_engine.specs.declared.answers.Told.{Told}
 use Rattle.summaries_engine.specs.declared.stop.Stop.{Stop}
 use Rattle.summaries_engine.specs.declared.stop.Stop.TheVariants.{Memory, Worker, Input, Bad, Output}
 use Rattle.summaries_engine.specs.Refusals.{too_long_text}
-use Rattle.summaries_engine.specs.Stops.{IsReasonAfter, Says, SaysOver, StopsAfter, StopsAnswers, StopsHashing}
+use Rattle.summaries_engine.specs.Stops.{IsMemory, IsOutput, IsReasonAfter, IsUnreadable, Says, SaysOver, StopsAfter, StopsAnswers, StopsHashing}
 use Rattle.summaries_engine.proofs.StopLemmas.{stops-none}
 
 -- an error that says one text says no other
@@ -26,6 +26,31 @@ says-other is text said told other uncut (inr dots) = uncut (subst (EndsInDots 1
 pub no-whole : EndsInDots 120 (codes "no") → ⊥
 no-whole ends =
     let byte : ◌≡◌ {A = ℕ} 110 46 = ap (λ t. get_or t 0 0) ends in absurd (omega (arith, byte))
+
+-- memory is no worker, and no error that is said
+memory : IsMemory Memory
+memory = tt
+
+memory-worker : IsMemory Worker → ⊥
+memory-worker is = is
+
+memory-input : (said : Error) → IsMemory (Input said) → ⊥
+memory-input said is = is
+
+-- a failed write is of an output, and says what is said of it
+output : (P : Error → Type 0) (said : Error) → P said → IsOutput P (Output said)
+output P said is = is
+
+output-input : (P : Error → Type 0) (said : Error) → IsOutput P (Input said) → ⊥
+output-input P said is = is
+
+-- a read that failed may be out of memory, and is no write
+unread-memory : IsUnreadable (codes "k") Memory
+unread-memory = inl tt
+
+unread-output : (said : Error) → IsUnreadable (codes "k") (Output said) → ⊥
+unread-output said (inl none) = none
+unread-output said (inr none) = none
 
 -- memory was out
 hashing-room : StopsHashing 10 (codes "k") (Some []) Memory

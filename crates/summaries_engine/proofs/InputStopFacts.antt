@@ -1,0 +1,112 @@
+-- Why no summary of several inputs is made: cases that hold, and some that nearly do. The inputs "j"
+-- and "k" are there, and none of another name.
+use Rattle.std.proofs.Common.{◌≡◌, ℕ, List, [], ◌∷◌, codes, Option, Some, refl, sym, inl, inr}
+use Rattle.anyhow.specs.declared.error.Error.{Error}
+use Rattle.summaries_engine.specs.declared.answers.Told.TheVariants.{Found}
+use Rattle.summaries_engine.specs.declared.kinds.AnyFilter.{AnyFilter}
+use Rattle.summaries_engine.specs.declared.stop.Stop.{Stop}
+use Rattle.summaries_engine.specs.declared.stop.Stop.TheVariants.{Memory, Output, Worker}
+use Rattle.summaries_engine.specs.Answers.{told_text}
+use Rattle.summaries_engine.specs.Inputs.{StopsAsking, StopsBuilding, StopsHashes}
+use Rattle.summaries_engine.specs.Stops.{IsReasonAfter}
+use Rattle.summaries_engine.proofs.InputFacts.{at-none, both, two}
+use Rattle.summaries_engine.proofs.StopLemmas.{stops-none}
+
+-- no input of this name is there
+abbrev missing : List ℕ → Stop → Type 0
+missing name stop = name ≡ codes "x"
+
+-- memory may be out at the first input
+hashes-memory : StopsHashes two missing 10 (codes "j" ∷ codes "k" ∷ []) Memory
+hashes-memory = record {
+  parts = [];
+  before = [];
+  name = codes "j";
+  after = codes "k" ∷ [];
+  are = refl;
+  keys = tt;
+  within = inr (
+    Some (97 ∷ []),
+    inl (refl, refl),
+    stops-none 10 (codes "j") (Some (97 ∷ [])) (λ keys. Unit {0}) tt,
+  );
+}
+
+-- or an input isn't there
+hashes-missing : (stop : Stop) → StopsHashes two missing 10 (codes "x" ∷ []) stop
+hashes-missing stop = record {
+  parts = [];
+  before = [];
+  name = codes "x";
+  after = [];
+  are = refl;
+  keys = tt;
+  within = inl refl;
+}
+
+-- nothing stops a run over no input
+hashes-nowhere : (stop : Stop) → StopsHashes two missing 10 [] stop → ⊥
+hashes-nowhere stop is = at-none _ is
+
+-- within an input no worker is asked for
+hashes-worker : StopsHashes two (λ name stop. ⊥) 10 (codes "j" ∷ []) Worker → ⊥
+hashes-worker is = elim is.within [
+  | inl none ↦ none
+  | inr (read, lies, stop) ↦ by is.name read stop.keys stop.reason
+]
+  where
+    by : (name : List ℕ) (read : Option (List ℕ)) (keys : List (List ℕ))
+        → IsReasonAfter 10 name read keys Worker → ⊥
+    by name read keys (inl (inl memory)) = memory
+    by name read keys (inl (inr over)) = over
+    by name read keys (inr (inl long)) = long.1
+    by name read keys (inr (inr many)) = many.1
+
+-- a filter isn't built where memory is out or a worker can't be started, and for no fault of an
+-- output
+builds-memory : StopsBuilding two missing 10 [] Memory
+builds-memory = inr (inl tt)
+
+builds-worker : StopsBuilding two missing 10 [] Worker
+builds-worker = inr (inr tt)
+
+builds-output : (said : Error) → StopsBuilding two missing 10 [] (Output said) → ⊥
+builds-output said (inl at_input) = at-none _ at_input
+builds-output said (inr (inl memory)) = memory
+builds-output said (inr (inr worker)) = worker
+
+module _ (f : AnyFilter) where
+  -- memory may be out before the first key, where nothing was written yet
+  asks-memory : StopsAsking two missing f Found 10 (codes "j" ∷ []) (Some []) (Some []) Memory
+  asks-memory = record {
+    parts = [];
+    before = [];
+    name = codes "j";
+    after = [];
+    are = refl;
+    keys = tt;
+    within = inr (
+      Some (97 ∷ []),
+      inl (refl, refl),
+      inl (stops-none 10 (codes "j") (Some (97 ∷ []))
+          (λ keys. [] ≡ told_text f Found 10 keys) refl),
+    );
+  }
+
+  -- or the second input isn't there, once the reply for "a" was written
+  asks-missing : (stop : Stop) → told_text f Found 10 ((97 ∷ []) ∷ []) ≡ 97 ∷ 10 ∷ []
+      → StopsAsking two missing f Found 10 (codes "j" ∷ codes "x" ∷ []) (Some [])
+      (Some (97 ∷ 10 ∷ [])) stop
+  asks-missing stop told = record {
+    parts = ((97 ∷ []) ∷ []) ∷ [];
+    before = codes "j" ∷ [];
+    name = codes "x";
+    after = [];
+    are = refl;
+    keys = (both.0, tt);
+    within = inl (refl, sym told);
+  }
+
+  asks-nowhere : (stop : Stop)
+      → StopsAsking two missing f Found 10 [] (Some []) (Some []) stop → ⊥
+  asks-nowhere stop is = at-none _ is
