@@ -16,7 +16,7 @@ use Rattle.guard_engine.specs.Answers.{CountsRoom}
 use Rattle.guard_engine.specs.Batches.{IsReading, IsWithin, LoadsMany, ReadsPart}
 use Rattle.guard_engine.specs.Counted.{asked_once, counts_after}
 use Rattle.guard_engine.specs.Guarded.{Entries}
-use Rattle.guard_engine.specs.Loaded.{HasEntry, Loads}
+use Rattle.guard_engine.specs.Loaded.{HasEntry}
 use Rattle.guard_engine.specs.Room.{AgainLaw, AllTell, HasRoom, more_keys, room_for}
 
 -- ---- look-ups

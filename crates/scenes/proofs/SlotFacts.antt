@@ -1,5 +1,5 @@
 -- What a guard's file and its folder tell (`guard_parts`): cases that hold, and near ones that don't.
-use Rattle.std.proofs.Common.{◌≡◌, ◌∙◌, ◌≤◌, ◌||◌, ℕ, Bool, true, false, List, [], ◌∷◌, ◌++◌, length, Option, Some, None, refl, sym, ap, subst, arith}
+use Rattle.std.proofs.Common.{◌≡◌, ◌∙◌, ◌≤◌, ◌||◌, ℕ, true, false, List, [], ◌∷◌, ◌++◌, length, Option, Some, None, refl, sym, ap, subst, arith}
 use Rattle.std.specs.Prelude.{Vec, ⊤}
 use Rattle.std.specs.declared.alloc.Global.{Global}
 use Rattle.bloom_plain.specs.Data.{DefaultFilter}
