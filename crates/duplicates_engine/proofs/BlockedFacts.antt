@@ -1,13 +1,13 @@
 -- A blocked filter as a sieve: cases that hold, and near ones that don't. The line of text has hash
 -- 1. With two hashes its positions in a line of the cache are 162 and 13, which are bits of the
 -- words 8192 and 17179869184.
-use Rattle.std.proofs.Common.{◌≡◌, ◌≤◌, ◌<◌, ◌*◌, ◌^◌, ℕ, Bool, true, false, ◌||◌, List, [], ◌∷◌, refl, sym, subst, ap, ◌∙◌, arith, lit<}
+use Rattle.std.proofs.Common.{◌≡◌, ◌≤◌, ℕ, Bool, true, false, ◌||◌, List, [], ◌∷◌, refl, sym, subst, ap, ◌∙◌, arith, lit<}
 use Rattle.std.specs.declared.hash.Hasher as hasher
 use Rattle.bloom_parts.specs.Chain.{chain}
 use Rattle.bloom_parts.specs.Content.{content}
 use Rattle.bloom_parts.specs.Places.{positions, are_in}
 use Rattle.bloom_plain.specs.Filter.{Filter}
-use Rattle.bloom_plain.proofs.CaseLemmas.{alike_below, content-case, content-past}
+use Rattle.bloom_plain.proofs.CaseLemmas.{content-case, content-past}
 use Rattle.bloom_blocked.specs.Blocked.{InsertsInLine, contains_in_line}
 use Rattle.bloom_blocked.specs.Lines.{LineRangeLaw, line_positions}
 use Rattle.duplicates_engine.specs.Blocked.{has_line_in_lines, inserts_line_in_lines}

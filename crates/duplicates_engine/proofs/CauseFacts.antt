@@ -181,7 +181,11 @@ fails-same is = let wrong : 1 ≡ 2 = is.failed.0 in omega (arith, wrong)
 
 -- an open fails behind an input that has ended
 behind : FailsBehind lacks (Some []) 1 2 (Open kind.NotFound)
-behind = record { last = Some []; ends = record { nothing = refl; end = refl }; opening = fails-open }
+behind = record {
+  last = Some [];
+  ends = record { nothing = refl; end = refl };
+  opening = fails-open;
+}
 
 -- and not before a byte that is left
 behind-left : FailsBehind lacks (Some (97 ∷ [])) 1 2 (Open kind.NotFound) → ⊥

@@ -16,10 +16,12 @@ mod KeptFacts
 mod LineStepLemmas
 mod LongerLemmas
 mod PlaceLemmas
+mod PlainFacts
 mod PlainLemmas
 mod RunFacts
 mod SieveFacts
 mod SiftLemmas
+mod StepFacts
 mod TextLemmas
 mod ToldFacts
 mod ToldLemmas
