@@ -1,5 +1,5 @@
--- What is counted of a guard's look-ups and keys, and what one batch of a load does (`guard_engine`):
--- cases that hold, and near ones that don't.
+-- What is counted of a guard's look-ups and keys, and what one batch of a load does
+-- (`guard_engine`): cases that hold, and near ones that don't.
 use Rattle.std.proofs.Common.{◌≡◌, ◌^◌, ◌-◌, ℕ, true, false, List, [], ◌∷◌, ◌++◌, length, length-append, Option, Some, Contains, refl, inl, ap, arith, lit<, lit≤}
 use Rattle.std.proofs.lemmas.List.Elements.{All-nil}
 use Rattle.std.specs.Prelude.{⊤}

@@ -1,4 +1,5 @@
--- What a guard's file and its folder tell (`guard_parts`): cases that hold, and near ones that don't.
+-- What a guard's file and its folder tell (`guard_parts`): cases that hold, and near ones that
+-- don't.
 use Rattle.std.proofs.Common.{◌≡◌, ◌∙◌, ◌≤◌, ◌||◌, ℕ, true, false, List, [], ◌∷◌, ◌++◌, length, Option, Some, None, refl, sym, ap, subst, arith}
 use Rattle.std.specs.Prelude.{Vec, ⊤}
 use Rattle.std.specs.declared.alloc.Global.{Global}
@@ -39,8 +40,8 @@ torn : (is_whole (file ++ low 6) ≡ false) × (is_whole (file ++ (added ++ 0 �
     × (is_whole (low 9 ++ low 1 ++ low 0 ++ low 0 ++ low 0 ++ low 5 ++ low 0 ++ low 0) ≡ false)
 torn = (refl, refl, refl)
 
--- a folder in which just this file may be found, now and had a crash come up to moment 3, of a store
--- with this number
+-- a folder in which just this file may be found, now and had a crash come up to moment 3, of a
+-- store with this number
 abbrev folder : ℕ → Sight
 folder store = record {
   now = λ name. Some file;

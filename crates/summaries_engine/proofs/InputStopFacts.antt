@@ -1,5 +1,5 @@
--- Why no summary of several inputs is made: cases that hold, and some that nearly do. The inputs "j"
--- and "k" are there, and none of another name.
+-- Why no summary of several inputs is made: cases that hold, and some that nearly do. The inputs
+-- "j" and "k" are there, and none of another name.
 use Rattle.std.proofs.Common.{◌≡◌, ℕ, List, [], ◌∷◌, codes, Option, Some, refl, sym, inl, inr}
 use Rattle.anyhow.specs.declared.error.Error.{Error}
 use Rattle.summaries_engine.specs.declared.answers.Told.TheVariants.{Found}

@@ -13,7 +13,7 @@ use Rattle.summaries_engine.specs.declared.answers.Told.{Told}
 use Rattle.summaries_engine.specs.declared.stop.Stop.{Stop}
 use Rattle.summaries_engine.specs.declared.stop.Stop.TheVariants.{Memory, Worker, Input, Bad, Output}
 use Rattle.summaries_engine.specs.Refusals.{too_long_text}
-use Rattle.summaries_engine.specs.Stops.{IsMemory, IsOutput, IsReasonAfter, IsUnreadable, Says, SaysOver, StopsAfter, StopsAnswers, StopsHashing}
+use Rattle.summaries_engine.specs.Stops.{IsBad, IsMemory, IsOutput, IsReasonAfter, IsUnreadable, Says, SaysOver, StopsAfter, StopsAnswers, StopsHashing}
 use Rattle.summaries_engine.proofs.StopLemmas.{stops-none}
 
 -- an error that says one text says no other
@@ -43,6 +43,16 @@ output P said is = is
 
 output-input : (P : Error → Type 0) (said : Error) → IsOutput P (Input said) → ⊥
 output-input P said is = is
+
+-- a bad input says what is said of it, and no failed read or want of memory is one
+bad : (P : Error → Type 0) (said : Error) → P said → IsBad P (Bad said)
+bad P said is = is
+
+bad-input : (P : Error → Type 0) (said : Error) → IsBad P (Input said) → ⊥
+bad-input P said is = is
+
+bad-memory : (P : Error → Type 0) → IsBad P Memory → ⊥
+bad-memory P is = is
 
 -- a read that failed may be out of memory, and is no write
 unread-memory : IsUnreadable (codes "k") Memory

@@ -6,6 +6,7 @@ mod blocked;
 mod comparing;
 mod facts;
 mod form;
+mod head;
 mod inputs;
 mod keys;
 mod kinds;

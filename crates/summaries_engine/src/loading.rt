@@ -6,13 +6,13 @@ ghost use Rattle.bloom_plain.specs.declared.file.layout.Layout.TheVariants.{Whol
 ghost use Rattle.fastbloom.specs.BlockedFile.{IsLineFileOf};
 ghost use Rattle.fastbloom.specs.File.{IsFileOf};
 ghost use Rattle.summaries_engine.specs.declared.kinds.AnyFilter.TheVariants.{Classic, Blocked};
-ghost use Rattle.bloom_plain.specs.FileRefusals.{number_at};
 ghost use Rattle.summaries_engine.specs.Answers.{IsKeyed};
 ghost use Rattle.summaries_engine.specs.Kinds.{IsFileOfKind, parts_of};
-ghost use Rattle.summaries_engine.specs.Loaded.{IsInForm, IsRightIn, IsRightOf, IsRightWith, IsToldOf, IsToldOfText, IsUnloaded, IsUnread, SaysNone, file_form, hashes_text, head_layout};
+ghost use Rattle.summaries_engine.specs.Loaded.{IsInForm, IsRightIn, IsRightOf, IsRightWith, IsToldOf, IsToldOfText, IsUnloaded, IsUnread, SaysNone, hashes_text};
 ghost use Rattle.summaries_engine.specs.Stops.{IsBad};
 
 use crate::form::Form;
+use crate::head::{form_of, layout_of};
 use crate::keys::unread;
 use crate::kinds::AnyFilter;
 use crate::stop::Stop;
@@ -154,50 +154,6 @@ fn load_text<R: Read>(
     match io::read_to_string(alloc, start.chain(input)) {
         Ok(text) => filter_of(alloc, name, text.as_str()),
         Err(error) => Err(untold(name, error)),
-    }
-}
-
-// The seal in the head of a file, which is 0 where it has none.
-fn seal_of(head: &[u8; 64]) -> u64
-    ensures { result ≡ number_at head.now 5 }
-{
-    let (numbers, _rest) = head.as_chunks::<8>();
-    match numbers.get(5) {
-        Some(number) => u64::from_le_bytes(*number),
-        None => 0,
-    }
-}
-
-// The form of a file, by its head.
-fn form_of(head: &[u8; 64]) -> Form
-    ensures { result ≡ file_form (number_at head.now 5) }
-{
-    if seal_of(head) == 0 {
-        Form::Unsealed
-    } else {
-        Form::Sealed
-    }
-}
-
-// The number in the head of a file that tells the layout of its words.
-fn layout_number(head: &[u8; 64]) -> u64
-    ensures { result ≡ number_at head.now 6 }
-{
-    let (numbers, _rest) = head.as_chunks::<8>();
-    match numbers.get(6) {
-        Some(number) => u64::from_le_bytes(*number),
-        None => 0,
-    }
-}
-
-// The layout that a head tells, of which this many bytes were read.
-fn layout_of(count: usize, head: &[u8; 64]) -> Layout
-    ensures { result ≡ head_layout count head.now }
-{
-    if count == 64 && layout_number(head) == 1 {
-        Layout::Lines
-    } else {
-        Layout::Whole
     }
 }
 
