@@ -1,4 +1,2 @@
-mod BatchFacts
 mod PieceFacts
-mod SlotFacts
 mod TallyFacts

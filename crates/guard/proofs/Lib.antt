@@ -1,4 +1,0 @@
-mod LeftFacts
-mod LeftLemmas
-mod StatusFacts
-mod UncoveredFacts
