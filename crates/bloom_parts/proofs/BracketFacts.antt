@@ -1,6 +1,7 @@
 -- The ends of brackets at values from outside: a wrong constant fails here.
-use Rattle.std.proofs.Common.{◌≡◌, ◌^◌, refl}
-use Rattle.bloom_parts.specs.Powers.{rounded_power, lower_power_of, upper_power_of}
+use Rattle.std.proofs.Common.{◌≡◌, ◌^◌, refl, arith}
+use lib.Count.{count_leading_zeros, ones}
+use Rattle.bloom_parts.specs.Powers.{rounded_power, lower_power_of, upper_power_of, products_of}
 use Rattle.bloom_parts.specs.Brackets.{density_low, density_high, rate_low, rate_high}
 
 -- the density of 64 bits after one was turned on is exactly 1 / 64
@@ -74,6 +75,23 @@ lower_power-none = refl
 upper_power-none : upper_power_of 0 0 ≡ 9223372036854775808
 unfolding rounded_power
 upper_power-none = refl
+
+-- the power to 0 takes no product, and that to 5, whose digits are 101, takes five
+products-none : products_of 0 ≡ 0
+unfolding count_leading_zeros ones
+products-none = refl
+
+products-five : products_of 5 ≡ 5
+unfolding count_leading_zeros ones
+products-five = refl
+
+-- that to 4, whose digits are 100, takes four, and not two for each digit
+products-four : products_of 4 ≡ 4
+unfolding count_leading_zeros ones
+products-four = refl
+
+products-four-near : products_of 4 ≡ 6 → ⊥
+products-four-near six = absurd (omega (arith, six, products-four))
 
 -- the rate of 64 bits and two hashes after one item
 rate_low-one : rate_low 64 2 2 ≡ 8867011522199552

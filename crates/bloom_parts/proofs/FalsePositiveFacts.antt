@@ -1,5 +1,5 @@
 -- The ends of rates of false positives at values from outside, and which rates brackets hold.
-use Rattle.std.proofs.Common.{◌≡◌, ℕ, ◌≤◌, Bool, eqb, refl, arith, lit≤}
+use Rattle.std.proofs.Common.{◌≡◌, ℕ, Bool, eqb, refl, arith, lit≤}
 use Rattle.bloom_parts.specs.declared.math.bracket.Bracket.{Bracket}
 use Rattle.bloom_parts.specs.Counts.{count_on}
 use Rattle.bloom_parts.specs.Draws.{sum_below, sum_draws, is_drawn, all_in}

@@ -1,10 +1,12 @@
 -- The binary digits of an exponent, from the highest on.
-use Rattle.std.proofs.Common.{◌≡◌, ℕ, zero, suc, ◌+◌, ◌-◌, ◌*◌, ◌/◌, ◌%◌, ◌^◌, ◌<◌, ◌≤◌, refl, arith, sym, ◌∙◌, inl, inr, lit<}
-use Rattle.std.proofs.Math.Nat.{two-pow-succ, pow-le-pow_right, div-one}
-use Rattle.std.proofs.lemmas.Nat.{shr-shr, leading_length}
+use Rattle.std.proofs.Common.{◌≡◌, ℕ, zero, suc, ◌+◌, ◌-◌, ◌*◌, ◌/◌, ◌%◌, ◌^◌, ◌<◌, ◌≤◌, refl, arith, sym, ◌∙◌, ap, inl, inr, lit<}
+use Rattle.std.proofs.Math.Nat.{two-pow-succ, pow-le-pow_right, div-one, div-eq_of_lt}
+use Rattle.std.proofs.lemmas.Nat.{shr-shr, leading_length, ones_le_self}
 use Rattle.std.proofs.lemmas.Bool.{cases_lt}
+use Rattle.std.specs.Int.Count.{ones_step}
+use Rattle.std.specs.Int.RustNames.{count_ones}
 use lib.Count.{count_leading_zeros}
-use Rattle.bloom_parts.specs.Powers.{next_power, rounded_power}
+use Rattle.bloom_parts.specs.Powers.{next_power, rounded_power, products_of}
 
 -- half an exponent has one digit less
 pub half-below : (digits e : ℕ) → e < 2 ^ suc digits → e / 2 < 2 ^ digits
@@ -32,6 +34,20 @@ digits-needed e digits fits below =
       | inr enough ↦ omega (arith, enough, sum)
     ]
 
+-- no digits are left of an exponent behind its highest, so none of them is 1
+ones-start : (e : ℕ) → e < 2 ^ 128 → count_ones (e / 2 ^ digits_of e) ≡ 0
+ones-start e fits =
+    let none : e / 2 ^ digits_of e ≡ 0 = div-eq_of_lt (digits-enough e fits) in
+    rw none (omega (arith, ones_le_self 0))
+
+-- the ones down to a digit are those above it and the digit
+ones-next : (e i : ℕ) → 0 < i →
+    count_ones (e / 2 ^ (i - 1)) ≡ e / 2 ^ (i - 1) % 2 + count_ones (e / 2 ^ i)
+ones-next e i some =
+    let place : i - 1 + 1 ≡ i = omega (arith, some) in
+    let half : e / 2 ^ (i - 1) / 2 ≡ e / 2 ^ i = shr-shr e (i - 1) 1 ∙ rw place refl in
+    ones_step (e / 2 ^ (i - 1)) ∙ ap (λ n. e / 2 ^ (i - 1) % 2 + count_ones n) half
+
 -- the power to the highest digits of an exponent, all but the i lowest
 abbrev power_down_to : ℕ → (ℕ → ℕ → ℕ) → ℕ → ℕ → ℕ → ℕ
 power_down_to whole product base e i =
@@ -41,6 +57,7 @@ power_down_to whole product base e i =
 pub record IsSoFar (whole : ℕ) (product : ℕ → ℕ → ℕ) (base e i power count : ℕ) : Type 0 where
   pub value : power ≡ power_down_to whole product base e i
   pub products : count ≤ 2 * (digits_of e - i)
+  pub exact : count ≡ digits_of e - i + count_ones (e / 2 ^ i)
   pub fits : power ≤ whole
 
 -- a product that was rounded and counted
@@ -53,14 +70,15 @@ IsProduct whole product x y result before after = record {
 
 module _ (whole : ℕ) (product : ℕ → ℕ → ℕ) (base e : ℕ) where
   -- no digit at all: the power is one whole
-  pub power-start : {count : ℕ} → count ≡ 0 →
+  pub power-start : {count : ℕ} → e < 2 ^ 128 → count ≡ 0 →
       IsSoFar whole product base e (digits_of e) whole count
   unfolding rounded_power
-  power-start none = record {
+  power-start below none = record {
     value =
         let no_digit : digits_of e - digits_of e ≡ 0 = omega arith in
         rw no_digit refl;
     products = omega (arith, none);
+    exact = omega (arith, none, ones-start e below);
     fits = omega arith;
   }
 
@@ -90,6 +108,17 @@ module _ (whole : ℕ) (product : ℕ → ℕ → ℕ) (base e : ℕ) where
           value = multiplied.value ∙ rw squared.value (sym (rw digit at next));
           products =
               omega (arith, multiplied.products, squared.products, is.products, some, within);
+          exact =
+              omega (
+                arith,
+                multiplied.products,
+                squared.products,
+                is.exact,
+                some,
+                within,
+                digit,
+                ones-next e i some,
+              );
           fits = multiplied.fits;
         }
 
@@ -102,6 +131,8 @@ module _ (whole : ℕ) (product : ℕ → ℕ → ℕ) (base e : ℕ) where
         record {
           value = squared.value ∙ sym (rw digit at next);
           products = omega (arith, squared.products, is.products, some, within);
+          exact =
+              omega (arith, squared.products, is.exact, some, within, digit, ones-next e i some);
           fits = squared.fits;
         }
 
@@ -132,6 +163,7 @@ module _ (whole : ℕ) (product : ℕ → ℕ → ℕ) (base e : ℕ) where
           value : power ≡ rounded_power whole product base 128 e;
           fits : power ≤ whole;
           products : (digits : ℕ) → e < 2 ^ digits → count ≤ 2 * digits;
+          exact : count ≡ products_of e;
         }
     power-end {i} is fits last =
         let none : i ≡ 0 = omega arith in
@@ -143,4 +175,5 @@ module _ (whole : ℕ) (product : ℕ → ℕ → ℕ) (base e : ℕ) where
           fits = is.fits;
           products = λ digits below.
               omega (arith, is.products, digits-needed e digits fits below);
+          exact = is.exact ∙ rw (all, same) refl;
         }

@@ -1,8 +1,10 @@
 -- Powers of fractions in units of 2^-63, by repeated squares (D. E. Knuth, The Art of Computer
 -- Programming 2, section 4.6.3), with each product rounded. They decide the exact ends of brackets.
 -- The unit and the rounding are this project's choice.
-use Rattle.std.specs.Prelude.{ℕ, zero, suc, ◌*◌, ◌/◌, ◌%◌, ◌^◌}
+use Rattle.std.specs.Prelude.{ℕ, zero, suc, ◌+◌, ◌-◌, ◌*◌, ◌/◌, ◌%◌, ◌^◌}
 use Rattle.std.specs.Int.{div_ceil}
+use Rattle.std.specs.Int.Count.{count_leading_zeros}
+use Rattle.std.specs.Int.RustNames.{count_ones}
 
 -- the product of two fractions, rounded down
 abbrev pub down_of : ℕ → ℕ → ℕ
@@ -34,3 +36,8 @@ lower_power_of base exponent = power_of down_of base exponent
 -- the power to an exponent below 2^128, each product rounded up
 abbrev pub upper_power_of : ℕ → ℕ → ℕ
 upper_power_of base exponent = power_of up_of base exponent
+
+-- how many products such a power takes: one for each binary digit of its exponent, and one more for
+-- each digit that is 1
+abbrev pub products_of : ℕ → ℕ
+products_of exponent = 128 - count_leading_zeros 128 exponent + count_ones exponent

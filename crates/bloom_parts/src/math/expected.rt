@@ -4,7 +4,7 @@ ghost use Rattle.bloom_parts.specs.Brackets.{low_of, high_of, width_of, Holds, H
 ghost use Rattle.bloom_parts.specs.Powers.{lower_power_of, upper_power_of};
 
 use super::bracket::Bracket;
-use super::powers::{Down, UNIT, Up, power};
+use super::powers::{UNIT, lower_power, upper_power};
 
 // The lower end of the expected density after `sets` positions were set.
 pub(super) fn low_end(bits: usize, sets: u128) -> u64
@@ -13,8 +13,8 @@ pub(super) fn low_end(bits: usize, sets: u128) -> u64
     ensures fits { result ≤ 2 ^ 63 }
 {
     let off = (UNIT as u128 * (bits as u128 - 1)).div_ceil(bits as u128);
-    let mut up = Up::new();
-    UNIT - power(off as u64, sets, &mut up)
+    let mut products = 0;
+    UNIT - upper_power(off as u64, sets, &mut products)
 }
 
 // The upper end of the expected density after `sets` positions were set.
@@ -24,8 +24,8 @@ pub(super) fn high_end(bits: usize, sets: u128) -> u64
     ensures fits { result ≤ 2 ^ 63 }
 {
     let off = UNIT as u128 * (bits as u128 - 1) / bits as u128;
-    let mut down = Down::new();
-    UNIT - power(off as u64, sets, &mut down)
+    let mut products = 0;
+    UNIT - lower_power(off as u64, sets, &mut products)
 }
 
 /// The expected share of `bits` bits that is set after `items` items with `hashes` positions each.
@@ -54,8 +54,8 @@ pub fn expected_false_pos(hashes: u32, density: Bracket) -> Bracket
     ensures width { width_of result ≤ hashes * (width_of density + 1) }
     ensures width_none { 0 < hashes → high_of density ≡ 0 → width_of result ≡ 0 }
 {
-    let (mut down, mut up) = (Down::new(), Up::new());
-    let low = power(density.low(), hashes as u128, &mut down);
-    let high = power(density.high(), hashes as u128, &mut up);
+    let (mut down, mut up) = (0, 0);
+    let low = lower_power(density.low(), hashes as u128, &mut down);
+    let high = upper_power(density.high(), hashes as u128, &mut up);
     Bracket::new(low, high)
 }
