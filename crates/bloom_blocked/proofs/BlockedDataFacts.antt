@@ -1,5 +1,5 @@
--- Data of blocked filters: cases that hold, and cases that nearly do. A form is given by what is seen
--- of it.
+-- Data of blocked filters: cases that hold, and cases that nearly do. A form is given by what is
+-- seen of it.
 use Rattle.std.proofs.Common.{◌≡◌, ℕ, List, Some, None, [], ◌∷◌, refl, arith, ap}
 use Rattle.std.specs.Prelude.{vec_len}
 use Rattle.bloom_parts.specs.Keys.{key_of}

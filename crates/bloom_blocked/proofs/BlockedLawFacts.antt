@@ -1,6 +1,6 @@
--- What the laws of blocked filters say of one line, at values from outside: what each of them gives,
--- from premises that other facts hold in place. In one line hash 1 has the positions 162 and 13, so
--- that with two hashes it sets the words 8192 and 17179869184.
+-- What the laws of blocked filters say of one line, at values from outside: what each of them
+-- gives, from premises that other facts hold in place. In one line hash 1 has the positions 162 and
+-- 13, so that with two hashes it sets the words 8192 and 17179869184.
 use Rattle.std.proofs.Common.{◌≡◌, ◌/◌, ℕ, Bool, true, false, [], ◌∷◌, refl, sym, ◌∙◌, arith, lit<, lit≤}
 use Rattle.bloom_parts.specs.Chain.{chain}
 use Rattle.bloom_parts.specs.Content.{content}
@@ -120,7 +120,8 @@ one_by_one-used : OneByOneLaw ℕ → (one all : Filter ℕ) → InsertsOneByOne
 one_by_one-used law one all did at_once = law zeros one all (1 ∷ 5 ∷ []) did at_once 162
 
 -- one of two hashes isn't left out
-one_by_one-few : (new : Filter ℕ) → InsertsOneByOne zeros (1 ∷ []) new → content new.words 162 ≡ true
+one_by_one-few : (new : Filter ℕ) → InsertsOneByOne zeros (1 ∷ []) new →
+    content new.words 162 ≡ true
 unfolding content positions chain
 one_by_one-few new (mid, reply, did, same) = sym (same_bits mid new same) ∙ did.bits 162
   where

@@ -17,8 +17,8 @@ lines_for-two = refl
 line_words_for-two : line_words_for 513 ≡ 16
 line_words_for-two = refl
 
--- the hundredths that come on top: up to 8, 10, 12, 16, 20, 24 and 28 bits for each of 100 items, and
--- above
+-- the hundredths that come on top: up to 8, 10, 12, 16, 20, 24 and 28 bits for each of 100 items,
+-- and above
 more-eight : (hundredths_more 800 100 ≡ 2) × (hundredths_more 801 100 ≡ 4)
 more-eight = (refl, refl)
 

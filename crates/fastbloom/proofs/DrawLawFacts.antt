@@ -1,5 +1,5 @@
--- What the laws of draws say at small numbers, and which brackets the rate of a set has, and that of
--- one of two tests: cases that hold, and near ones that don't.
+-- What the laws of draws say at small numbers, and which brackets the rate of a set has, and that
+-- of one of two tests: cases that hold, and near ones that don't.
 use Rattle.std.proofs.Common.{◌≡◌, ◌∙◌, ◌^◌, ◌≤◌, ◌||◌, ℕ, Bool, eqb, refl, sym, ap, subst, arith, lit<, lit≤}
 use Rattle.bloom_parts.specs.declared.math.bracket.Bracket.{Bracket}
 use Rattle.bloom_parts.specs.Brackets.{Holds}

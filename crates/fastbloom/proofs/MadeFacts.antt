@@ -1,5 +1,5 @@
--- Which fact a step of each kind has, and what a call on a filter is: the facts are opaque, so each is
--- told apart by its name.
+-- Which fact a step of each kind has, and what a call on a filter is: the facts are opaque, so each
+-- is told apart by its name.
 use Rattle.std.proofs.Common.{◌≡◌, ◌↔◌, ℕ, Bool, List, Option}
 use Rattle.bloom_parts.specs.Made.{SharedWords, FoundByLoad, FoundByOr, FoundByAnd, MadeZero, FoundBySwap, InTurn}
 use Rattle.bloom_steps.specs.declared.steps.vocabulary.Step.TheVariants.{Load, Or, And, Zero, Other, Take}
