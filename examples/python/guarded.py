@@ -2,7 +2,8 @@
 
 A key that the filter lacks isn't in the table, so the table isn't asked for it. This pays where the
 table is far larger than memory. Other programs may write to the table without the filter. Assumed
-is that nobody writes the token, turns triggers off, or gives the table another name.
+is that the table is as it is made here, and that nobody writes the token, turns triggers off, or
+gives the table another name.
 """
 
 import os
