@@ -13,11 +13,11 @@ import re
 import subprocess
 
 TOP = os.path.dirname(os.path.dirname(os.path.realpath(__file__)))
-PROGRAMS = ("bloom", "duplicates", "summaries", "guard")
+PROGRAMS = ("bloom", "duplicates", "summaries")
 # What the programs are installed as. Their own names are common words, and links beside these.
 INSTALLED = {name: f"fastbloom-{name}" for name in PROGRAMS}
 # The names of values that are files.
-FILES = {"FILE", "FILTER", "OTHER", "STORE"}
+FILES = {"FILE", "FILTER", "OTHER"}
 
 
 class Failed(Exception):

@@ -1,2 +1,3 @@
+mod GuardedFacts
 mod KnownFacts
 mod KnownLemmas

@@ -1,7 +1,7 @@
 //! One filter that many workers fill.
 
 use fastbloom::{BloomFilter, FilterError, Gate, Shape, fill};
-use std::alloc::{AllocError, Global};
+use std::alloc::Global;
 use std::sync::Arc;
 use std::thread::Threads;
 

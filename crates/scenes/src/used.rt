@@ -1,5 +1,6 @@
 //! The examples of README and of docs/CALLING.md: each does what its comments say.
 
+mod guarded;
 mod shared;
 
 use crate::telling::tell_row;
@@ -14,6 +15,7 @@ use examples::saved::{Parts, parts_of};
 use examples::sets::keep_common;
 use examples::{growing, plain, saved};
 use fastbloom::{BloomFilter, FilterError};
+use guarded::values_of;
 use shared::{count_new, finds_all, is_filled, is_rotated};
 use std::alloc::Global;
 use std::fs;
@@ -207,6 +209,19 @@ fn shared_filters_find_what_threads_inserted(rt: HostRuntime) {
     assert!(rt; matches!(count_new(rt.alloc()), Ok(2)));
     assert!(rt; is_rotated(rt.alloc()));
     assert!(rt; is_filled(&rt, rt.alloc()));
+}
+
+// Whether a filter before a map has the key that was put, and the map its value.
+fn is_guarded(alloc: Global) -> bool {
+    match values_of(alloc) {
+        Ok(values) => values == [(Some(10), true), (None, false)],
+        Err(_refusal) => false,
+    }
+}
+
+#[test]
+fn a_filter_before_a_store_has_its_keys(rt: HostRuntime) {
+    assert!(rt; is_guarded(rt.alloc()));
 }
 
 // Whether two bits of 64 by two hashes are more than one item and fewer than two.
