@@ -34,6 +34,8 @@ class Rotating(unittest.TestCase):
                 seen.add(item)
         with self.assertRaises(ValueError):
             seen.add_hash(2**64)
+        with self.assertRaises(TypeError):
+            seen.__init__(1, "1/2")
         self.assertEqual((seen.taken, seen.older.count_ones()), (0, 0))
 
     def test_rates(self):

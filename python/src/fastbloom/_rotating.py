@@ -34,6 +34,8 @@ class RotatingFilter:
 
         It raises as `Filter`, and ValueError where half the rate has a part of 2^64 or more.
         """
+        if hasattr(self, "_lock"):  # a call under way may use the filters that it has
+            raise TypeError("a filter is made once")
         self._items, self._taken = _number_of_items(items), 0
         num, den = _parts(rate)
         self._newer = Filter(self._items, Fraction(num, 2 * den), key)
