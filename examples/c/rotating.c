@@ -1,11 +1,11 @@
-/* Writes each line of standard input, but one that came again before ITEMS different lines came
- * behind it: `rotating ITEMS`.
+/* Writes lines of standard input, but none that is among the last ITEMS different ones:
+ * `rotating ITEMS`.
  *
- * It is for a stream without end. Two filters take turns, each for this many lines at half the
- * rate, and a look-up asks both. A line goes into the newer one, also where the older one has it.
- * Once the newer one took as many as it is for, it becomes the older, and the older is cleared. So
- * no memory is asked for after the start. A line that is new may be held back, at a rate of 1/1000
- * at most. */
+ * It is for a stream without end, since no memory is asked for after the start. Two filters take
+ * turns, each for this many items at half the rate, and a look-up asks both. An item goes into the
+ * newer one, also where the older one contains it. Once the newer one took as many as it is for, it
+ * becomes the older, and the older one is cleared. Of the other lines those are held back that the
+ * older one still contains, and false positives, at a rate of 1/1000. */
 #define _POSIX_C_SOURCE 200809L
 #include "fastbloom.h"
 
@@ -20,8 +20,9 @@ struct rotating {
     uint8_t key[16];
 };
 
-/* Makes both filters, for this many items at the rate num / den. What was made is freed by free of
- * both. Where a number is refused, or half the rate has a lower part of 2^64 or more, none is. */
+/* Makes both filters, which are empty: for this many last items, where 0 counts as 1, at the rate
+ * num / den. Whatever it returns, free takes both. A rate is refused as FASTBLOOM_SIZE_OVERFLOW
+ * where twice its lower part is 2^64 or more. */
 static uint8_t rotating_make(struct rotating *made, uint64_t num, uint64_t den, size_t items,
                              const uint8_t key[16]) {
     memset(made, 0, sizeof *made);
@@ -48,7 +49,7 @@ static bool rotating_insert(struct rotating *seen, const uint8_t *bytes, size_t 
     return held;
 }
 
-/* Writes the lines that are new. A last line without an end gets one. */
+/* Writes the lines that aren't contained. A last line without an end gets one. */
 static uint8_t take_lines(struct rotating *seen) {
     char *line = NULL;
     size_t room = 0;

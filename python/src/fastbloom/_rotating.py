@@ -14,10 +14,10 @@ from ._rates import rounded_outward
 class RotatingFilter:
     """The last items of a stream without end, in memory that stays the same.
 
-    An item is contained as long as fewer than `items` different ones came behind its last add. Two
-    filters take turns, each for this many items at half the rate, and a look-up asks both. An item
-    goes into the newer one, also where the older one contains it, so that one that comes again
-    stays. Once the newer one took `items`, it becomes the older, and the older is cleared.
+    An item is contained at least as long as fewer than `items` different ones came behind its last
+    add. Two filters take turns, each for this many items at half the rate, and a look-up asks both.
+    An item goes into the newer one, also where the older one contains it. Once the newer one took
+    `items`, it becomes the older, and the older one is cleared.
 
     Items and what is raised are as of a `Filter`. Threads may call one filter at once.
     """

@@ -7,11 +7,10 @@ const ONE: u64 = 1 << 63;
 
 /// The last items of a stream without end, in memory that stays the same.
 ///
-/// An item is contained as long as fewer different ones than it is for came behind its last insert.
-/// Two filters take turns, each for this many items at half the rate, and a look-up asks both. An
-/// item goes into the newer one, also where the older one contains it, so that one that comes again
-/// stays. Once the newer one took as many as it is for, it becomes the older, and the older is
-/// cleared.
+/// An item is contained at least as long as fewer different ones came behind its last insert than
+/// the filter is for. Two filters take turns, each for this many items at half the rate, and a
+/// look-up asks both. An item goes into the newer one, also where the older one contains it. Once
+/// the newer one took as many as it is for, it becomes the older, and the older one is cleared.
 ///
 /// ```
 /// use fastbloom_c::{Error, Rate, RotatingFilter};
