@@ -653,6 +653,110 @@ private:
     detail::mapping file_;
 };
 
+// The last items of a stream without end, in memory that stays the same. An item is contained at
+// least as long as fewer different ones came behind its last insert than the filter is for.
+//
+// Two filters take turns, each for this many items at half the rate, and a look-up asks both. An
+// item goes into the newer one, also where the older one contains it. Once the newer one took as
+// many as it is for, it becomes the older, and the older one is cleared.
+class rotating_filter {
+public:
+    // No words: it contains nothing.
+    rotating_filter() noexcept = default;
+
+    // The empty filter for this many last items, where 0 counts as 1, at the rate num / den of
+    // false positives, which is below 1. A rate is refused as `status::size_overflow` where twice
+    // its lower part is 2^64 or more.
+    static result<rotating_filter> make(std::uint64_t num, std::uint64_t den, std::size_t items,
+                                        const key_bytes &key = {}) noexcept {
+        if (den != 0 && num >= den) return status::rate_too_large;
+        if (den > UINT64_MAX / 2) return status::size_overflow;
+        auto newer = filter::make(num, 2 * den, items, key);
+        if (!newer) return newer.status();
+        auto older = newer->clone();
+        if (!older) return older.status();
+        rotating_filter made;
+        made.older_ = *std::move(older);
+        made.newer_ = *std::move(newer);
+        made.items_ = items;
+        return made;
+    }
+
+    rotating_filter(rotating_filter &&other) noexcept { swap(other); }
+    rotating_filter &operator=(rotating_filter &&other) noexcept {
+        rotating_filter(std::move(other)).swap(*this);
+        return *this;
+    }
+
+    void swap(rotating_filter &other) noexcept {
+        older_.swap(other.older_);
+        newer_.swap(other.newer_);
+        std::swap(taken_, other.taken_);
+        std::swap(items_, other.items_);
+    }
+
+    // Inserts an item, which is anything that `hash` of a filter takes, and returns whether it was
+    // contained before. True may be a false positive.
+    template <typename Item> bool insert(const Item &item) noexcept {
+        return insert_hash(hash(item));
+    }
+    bool insert(const void *bytes, std::size_t size) noexcept {
+        return insert_hash(hash(bytes, size));
+    }
+
+    // Whether an item is contained. True may be a false positive.
+    template <typename Item> bool contains(const Item &item) const noexcept {
+        return contains_hash(hash(item));
+    }
+    bool contains(const void *bytes, std::size_t size) const noexcept {
+        return contains_hash(hash(bytes, size));
+    }
+
+    // The hash of an item: SipHash-1-3 of its bytes under the key.
+    template <typename Item> std::uint64_t hash(const Item &item) const noexcept {
+        return newer_.hash(item);
+    }
+    std::uint64_t hash(const void *bytes, std::size_t size) const noexcept {
+        return newer_.hash(bytes, size);
+    }
+
+    // The same by hash.
+    bool insert_hash(std::uint64_t hash) noexcept {
+        if (newer_.insert_hash(hash)) return true;
+        const bool held = older_.contains_hash(hash);
+        if (++taken_ >= items_) {
+            older_.swap(newer_);
+            newer_.clear();
+            taken_ = 0;
+        }
+        return held;
+    }
+    bool contains_hash(std::uint64_t hash) const noexcept {
+        return newer_.contains_hash(hash) || older_.contains_hash(hash);
+    }
+
+    // Both filters, and how many items the newer one took that it didn't contain.
+    const filter &older() const noexcept { return older_; }
+    const filter &newer() const noexcept { return newer_; }
+    std::size_t taken() const noexcept { return taken_; }
+
+    // Two bounds of the rate of false positives as both filters are. A look-up errs where one of
+    // the two does. How their replies depend on each other isn't known: the lower bound is the
+    // greater of theirs, and the upper one their sum, at most 1. A filter with no words has none.
+    std::optional<rate_bounds> false_positive_rate() const noexcept {
+        const auto older = older_.false_positive_rate(), newer = newer_.false_positive_rate();
+        if (!older || !newer) return std::nullopt;
+        constexpr std::uint64_t one = std::uint64_t{1} << 63;
+        return rate_bounds{older->low < newer->low ? newer->low : older->low,
+                           older->high > one - newer->high ? one : older->high + newer->high};
+    }
+
+private:
+    filter older_, newer_;
+    std::size_t taken_ = 0;
+    std::size_t items_ = 0;
+};
+
 } // namespace fastbloom
 
 #endif

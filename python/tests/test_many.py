@@ -13,7 +13,7 @@ from unittest import mock
 
 import fastbloom
 from fastbloom import (
-    AnyFilter, BlockedFilter, Filter, Mask, SharedBlockedFilter, SharedFilter)
+    AnyFilter, BlockedFilter, Filter, Mask, RotatingFilter, SharedBlockedFilter, SharedFilter)
 from fastbloom import _library as library
 
 try:
@@ -335,7 +335,8 @@ class Types(unittest.TestCase):
             self.assertNotIsInstance(other, AnyFilter)
 
     def test_the_types_of_each_call_are_found(self):
-        for cls in (Filter, SharedFilter, BlockedFilter, SharedBlockedFilter, Mask, AnyFilter):
+        for cls in (Filter, SharedFilter, BlockedFilter, SharedBlockedFilter, RotatingFilter, Mask,
+                    AnyFilter):
             calls = [call for _, call in inspect.getmembers(cls, inspect.isroutine)
                      if (getattr(call, "__module__", None) or "").startswith("fastbloom")]
             calls += [it.fget for _, it in inspect.getmembers(cls, lambda it: isinstance(it, property))]

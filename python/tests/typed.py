@@ -10,7 +10,8 @@ from pathlib import Path
 from typing import List, Optional, Tuple
 
 from fastbloom import (
-    AnyFilter, BlockedFilter, Filter, Mask, Refusal, SharedBlockedFilter, SharedFilter)
+    AnyFilter, BlockedFilter, Filter, Mask, Refusal, RotatingFilter, SharedBlockedFilter,
+    SharedFilter)
 
 
 class Own(Filter):
@@ -73,6 +74,13 @@ def in_lines(theirs: BlockedFilter) -> Tuple[BlockedFilter, Mask]:
     return lines & theirs.copy(), lines.contains_hashes(array("Q", [1]))
 
 
+def last(names: List[str]) -> Tuple[Filter, int, float]:
+    seen = RotatingFilter(10, "1/1000", key=bytes(16))
+    fresh = [name for name in names if not seen.add(name)]
+    print(fresh, "a text" in seen, seen.add_hash(seen.hash(b"bytes")), seen.contains_hash(1))
+    return seen.older, seen.taken, seen.false_positive_rate()[1]
+
+
 def refused(mine: Filter, ours: SharedFilter, lines: BlockedFilter) -> None:
     lines.add(5)  # type: ignore[arg-type]
     lines |= mine  # type: ignore[arg-type]
@@ -81,5 +89,6 @@ def refused(mine: Filter, ours: SharedFilter, lines: BlockedFilter) -> None:
     mine.update([5])  # type: ignore[list-item]
     fill(set(), [])  # type: ignore[arg-type]
     mine.issubset({"a text"})  # type: ignore[arg-type]
+    RotatingFilter(10, "1/2").add(5)  # type: ignore[arg-type]
     Filter(1000, None)  # type: ignore[arg-type]
     mine.num_words = 3  # type: ignore[misc]

@@ -6,11 +6,12 @@ each by the number with which its name begins. Each FILE is to be one of the ite
 """
 
 import os
+import subprocess
 import sys
 from fractions import Fraction
 from pathlib import Path
 
-from fastbloom import BlockedFilter, Filter
+from fastbloom import BlockedFilter, Filter, RotatingFilter
 
 COUNTING_KEY = bytes(range(16))
 NAMES = [f"item{i}" for i in range(101_000)]
@@ -138,11 +139,29 @@ def refused(file, folder):
             assert why_refused(Filter.load, path) == reason, path
 
 
+def rotating():
+    """Rotating filters answer as the table of the model says, which is up to date."""
+    tests = Path(__file__).resolve().parents[1]
+    table = (tests / "rotating.txt").read_text()
+    made = subprocess.check_output([sys.executable, tests / "rotating.py"], text=True)
+    assert table == made and table.count("\n") == 200
+    for row in table.splitlines():
+        number, rate, key, stream, replies, taken, wanted = row.split()
+        seen = RotatingFilter(int(number), rate, bytes([int(key)] * 16))
+        for item, reply in zip(stream, replies):
+            assert (item in seen) == (reply == "+") == seen.add(item), row
+        digest = 1469598103934665603
+        for word in seen.older.words() + seen.newer.words():
+            digest = (digest ^ word) * 1099511628211 % 2**64
+        assert (seen.taken, f"{digest:016x}") == (int(taken), wanted), row
+
+
 def main():
     folder = Path(sys.argv[1])
     seen = items()
     rates()
     sets(seen)
+    rotating()
     mapped(seen, folder / "python.bloom")
     worked(folder)
     refused((folder / "python.bloom").read_bytes(), folder / "refused")

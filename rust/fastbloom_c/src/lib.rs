@@ -89,6 +89,7 @@ mod raw;
 mod raw_blocked;
 #[allow(unsafe_code)]
 mod raw_shared;
+mod rotating;
 mod shared;
 
 pub use blocked::{
@@ -102,4 +103,5 @@ pub use estimates::Estimate;
 pub use mapped::{MappedBlockedFilter, MappedFilter, MappedWords};
 pub use pieces::Hasher;
 pub use rate::{Bracket, Rate};
+pub use rotating::RotatingFilter;
 pub use shared::AtomicBloomFilter;

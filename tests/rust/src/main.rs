@@ -4,7 +4,7 @@
 //! FOLDER/rust.blocked. Each FILE is to be one of the items too. One in a folder `refused` is to be
 //! refused by the number with which its name begins.
 
-use fastbloom_c::{hash, BlockedBloomFilter, BloomFilter, Error, Rate};
+use fastbloom_c::{hash, BlockedBloomFilter, BloomFilter, Error, Rate, RotatingFilter};
 use std::path::Path;
 
 const ZERO_KEY: [u8; 16] = [0; 16];
@@ -18,6 +18,12 @@ fn empty() -> Result<BloomFilter, Error> {
     BloomFilter::with_false_pos(Rate::new(1, 1000)?).expected_items(1000)
 }
 
+fn digest(words: impl Iterator<Item = u64>) -> u64 {
+    words.fold(1_469_598_103_934_665_603, |digest, word| {
+        (digest ^ word).wrapping_mul(1_099_511_628_211)
+    })
+}
+
 /// The filter that each language builds; what its calls return is printed.
 fn items() -> Result<BloomFilter, Error> {
     let mut seen = empty()?;
@@ -28,11 +34,7 @@ fn items() -> Result<BloomFilter, Error> {
     }
     let others = (1000..101_000).map(|number| format!("item{number}"));
     let wrong = others.filter(|name| seen.contains(name)).count();
-    let digest = seen
-        .iter()
-        .fold(1_469_598_103_934_665_603u64, |digest, word| {
-            (digest ^ word).wrapping_mul(1_099_511_628_211)
-        });
+    let digest = digest(seen.iter());
     let counting = counting_key();
     println!("words {} hashes {}", seen.iter().len(), seen.num_hashes());
     println!("hash {:016x}", hash(&counting, &counting[..15]));
@@ -65,6 +67,31 @@ fn sets(seen: &BloomFilter) -> Result<(), Error> {
     even.clear();
     assert!(even == empty && !even.contains("item1"));
     Ok(())
+}
+
+/// A rotating filter answers as a row of the table of the model in tests/rotating.py says.
+fn play(row: &str) -> Result<(), Box<dyn std::error::Error>> {
+    let told: Vec<_> = row.split(' ').collect();
+    let [items, rate, byte, stream, replies, taken, wanted] = told[..] else {
+        return Err(row.into());
+    };
+    let seed = u128::from_be_bytes([byte.parse()?; 16]);
+    let mut seen = RotatingFilter::seeded(rate.parse()?, items.parse()?, &seed)?;
+    for (item, reply) in stream.bytes().zip(replies.bytes()) {
+        assert_eq!(seen.contains(&[item]), reply == b'+', "{row}");
+        assert_eq!(seen.insert(&[item]), reply == b'+', "{row}");
+    }
+    assert_eq!(seen.taken(), taken.parse()?, "{row}");
+    let words = seen.older().iter().chain(seen.newer().iter());
+    assert_eq!(digest(words), u64::from_str_radix(wanted, 16)?, "{row}");
+    Ok(())
+}
+
+/// Rotating filters.
+fn rotating() -> Result<(), Box<dyn std::error::Error>> {
+    let table = include_str!("../../rotating.txt");
+    assert_eq!(table.lines().count(), 200);
+    table.lines().try_for_each(play)
 }
 
 /// Plans and words that are refused.
@@ -111,6 +138,7 @@ fn main() -> Result<(), Box<dyn std::error::Error>> {
     let folder = words.next().ok_or("usage: check FOLDER [FILE..]")?;
     let seen = items()?;
     sets(&seen)?;
+    rotating()?;
     refused()?;
     worked()?;
     std::fs::write(Path::new(&folder).join("rust.bloom"), seen.to_bytes())?;

@@ -1,0 +1,76 @@
+"""What a rotating filter refuses, its rates, and threads that share it."""
+
+import sys
+import threading
+import unittest
+from fractions import Fraction
+
+from fastbloom import Refusal, RotatingFilter
+
+
+class Rotating(unittest.TestCase):
+
+    def test_last_items(self):
+        seen = RotatingFilter(2, "1/1000000000", key=bytes(range(16)))
+        self.assertEqual([seen.add(name) for name in ("crab", b"eel", "crab", "prawn")],
+                         [False, False, True, False])
+        self.assertIn("crab", seen)
+        self.assertNotIn("eel", seen)
+        self.assertEqual((seen.older.key, seen.newer.key), 2 * (bytes(range(16)),))
+
+    def test_refused(self):
+        for arguments in ((-1, "1/2"), (2**64, "1/2"), (1, 1), (1, "1/9223372036854775808"),
+                          (1, "1/2", b"short")):
+            with self.assertRaises(ValueError):
+                RotatingFilter(*arguments)
+        for code, arguments in ((4, (1, 0)), (5, (2**64 - 1, "1/2"))):
+            with self.assertRaises(Refusal) as caught:
+                RotatingFilter(*arguments)
+            self.assertEqual(caught.exception.code, code)
+        RotatingFilter(0, "2/18446744073709551615")  # half of it is a fraction of such parts
+        seen = RotatingFilter(1, "1/2")
+        for item in (5, None):
+            with self.assertRaises(TypeError):
+                seen.add(item)
+        with self.assertRaises(ValueError):
+            seen.add_hash(2**64)
+        with self.assertRaises(TypeError):
+            seen.__init__(1, "1/2")
+        self.assertEqual((seen.taken, seen.older.count_ones()), (0, 0))
+
+    def test_rates(self):
+        # Filters of 64 bits and one hash. After the turn the older one has 36 of them, and then
+        # the newer one gets as many again, so that the sum of the rates passes 1.
+        seen = RotatingFilter(36, "9/10")
+        self.assertEqual((seen.newer.num_bits, seen.newer.num_hashes), (64, 1))
+        for place in range(36):
+            rate = Fraction(place, 64)
+            self.assertEqual(seen.exact_false_positive_rate(), (rate, rate))
+            self.assertFalse(seen.add_hash(place << 58))
+        for place in range(35):
+            self.assertEqual(seen.false_positive_rate(), (36 / 64, min(1, (36 + place) / 64)))
+            self.assertTrue(seen.add_hash(place << 58))
+
+    def test_threads_take_turns(self):
+        seen = RotatingFilter(997, "1/1000000000")
+
+        def add(thread):
+            for number in range(3000):
+                seen.add(f"{thread} {number}")
+
+        interval = sys.getswitchinterval()
+        sys.setswitchinterval(1e-6)
+        try:
+            threads = [threading.Thread(target=add, args=(name,)) for name in range(4)]
+            for thread in threads:
+                thread.start()
+            for thread in threads:
+                thread.join()
+        finally:
+            sys.setswitchinterval(interval)
+        # All were new, and each one was counted.
+        self.assertEqual(seen.taken, 4 * 3000 % 997)
+
+
+if __name__ == "__main__":
+    unittest.main()
