@@ -2,8 +2,8 @@
 use crate::telling::{NO_ROOM, is_given, say, word_without};
 use bloom_parts::bit_vector::{AtomicBitVec, BitVec, index};
 use fastbloom::{
-    Bracket, Call, FilterError, Machine, MemoryStore, RandomDefaultHasher, Rate, Shape, drive,
-    expected_density, expected_false_pos, optimal_hashes, optimal_size,
+    Bracket, Call, FilterError, Machine, MemoryStore, RandomDefaultHasher, Rate, Shape, Step,
+    drive, expected_density, expected_false_pos, optimal_hashes, optimal_size,
 };
 use std::alloc::{AllocError, Global};
 use std::hash::Hasher;
@@ -28,11 +28,22 @@ fn store_of(alloc: Global) -> Result<MemoryStore, AllocError> {
     Ok(MemoryStore::new(words, [0].to_vec(alloc)?))
 }
 
-// Whether an insert into a filter of one word sets its bits, and the machine of a union asks.
+// Whether the machine of a clear asks for its one step, and ends without an answer.
+fn is_asked() -> bool {
+    let mut machine = Machine::new(Call::Clear, 1, 2);
+    match machine.ask() {
+        Some(step) => {
+            machine.reply(0);
+            (step == Step::Zero(0)) & machine.ask().is_none() & machine.answer().is_none()
+        }
+        None => false,
+    }
+}
+
+// Whether an insert into a filter of one word sets its bits, and a clear by a machine ends.
 fn are_driven(store: &mut MemoryStore) -> bool {
     let was_there = drive(store, Call::Insert(1), 2);
-    let asks = Machine::new(Call::Union, 1, 2).ask().is_some();
-    asks & (store.words() == [1048577].as_slice()) & (was_there == Some(false))
+    is_asked() & (store.words() == [1048577].as_slice()) & (was_there == Some(false))
 }
 
 // How sizes and steps ended.

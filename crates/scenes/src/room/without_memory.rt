@@ -112,12 +112,11 @@ fn are_built(given: Given) -> Result<bool, FilterError> {
         form,
     } = given;
     let hashed = BloomFilter::from_vec(hashed)?.seed(&42).hashes(2);
-    let zero_key = DefaultHasher::seeded(&[0; 16]);
     let expected = BloomFilter::from_vec(expected)?
-        .hasher(zero_key)
+        .hasher(DefaultHasher::seeded(&[0; 16]))
         .expected_items(2);
     let filled = BloomFilter::from_vec(filled)?.items(&[1u64, 2]);
-    let shared = AtomicBloomFilter::from_vec(shared)?.seed(&42);
+    let shared = AtomicBloomFilter::from_vec(shared)?.hasher(DefaultHasher::seeded(&[0; 16]));
     let is_sized = (expected.num_hashes() == 22) & (filled.num_hashes() == 22);
     let is_filled = filled.contains(&1u64) & filled.contains(&2u64);
     let is_kept = (expected.as_slice() == [5].as_slice()) & (shared == shared);
