@@ -20,7 +20,10 @@ use span_store::SpanStore;
 use std::alloc::Global;
 use std::marker::Model;
 
-/// A blocked Bloom filter that threads share: each call takes `&self`, and none waits for another.
+/// A blocked Bloom filter that threads share: each call takes `&self`.
+///
+/// No call takes a lock or waits for a thread. An insert's `|` on a word is tried again only where
+/// another thread changed that word in between, so some thread always gets on (lock-free).
 ///
 /// Contracts see the vector of its words, its number of hashes and its hasher. Each call is made of
 /// atomic operations on single words, so calls of several threads may come between one another's.

@@ -28,8 +28,8 @@ fn steps_passed(steps: &[u64], num_bits: usize, num_items: usize) -> u32
     passed
 }
 
-/// The number of hashes that suits a blocked filter of `num_bits` bits that `num_items` items go
-/// into: the number with the least rate of false positives, from 1 to 16.
+/// The number of hashes, from 1 to 16, that a table of this crate gives to a blocked filter of
+/// `num_bits` bits that `num_items` items go into.
 pub fn optimal_hashes_in_lines(num_bits: usize, num_items: usize) -> u32
     ensures value { result ≡ hashes_in_lines num_bits num_items }
     ensures least { 1 ≤ result }

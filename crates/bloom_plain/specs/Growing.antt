@@ -13,8 +13,9 @@ use Rattle.bloom_plain.specs.Builders.{RateStart, IsMadeFor}
 use Rattle.bloom_plain.specs.Filter.{Filter, contains}
 use Rattle.bloom_plain.specs.Replies.{CarriesOut}
 
--- what was asked for: a rate, which the rates of all filters together stay below, the room of the
--- first filter, which is the number of items that it is made for, and the hasher of all
+-- what was asked for: a rate, which the rates that the filters are sized for stay below together,
+-- the room of the first filter, which is the number of items that it is made for, and the hasher of
+-- all
 pub record Plan (S : Type 0) : Type 0 where
   pub rate : Rate
   pub room : ℕ

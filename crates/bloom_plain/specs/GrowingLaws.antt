@@ -21,14 +21,16 @@ abbrev pub GrowingFoundLaw : (S : Type 0) → Type 0
 GrowingFoundLaw S = (old new : Growing S) (earlier later : List ℕ) (hash : ℕ)
     → TakesAll old (earlier ++ hash ∷ later) new → has new hash ≡ true
 
--- the sum of the rates of the first m filters, as a fraction: its upper and its lower part
+-- the sum of the rates that the first m filters are sized for, as a fraction: its upper and its
+-- lower part
 abbrev pub sum_of_rates : Rate → ℕ → ℕ × ℕ
 sum_of_rates rate zero = (0, 1)
 sum_of_rates rate (suc m) =
     let sum = sum_of_rates rate m in
     (sum.0 * den_at rate m + num_of rate * sum.1, sum.1 * den_at rate m)
 
--- the rates of the filters, however many they are, sum to less than the rate asked for
+-- the rates that the filters are sized for, however many they are, sum to less than the rate asked
+-- for
 abbrev pub RatesBelowLaw : Type 0
 RatesBelowLaw = (rate : Rate) (m : ℕ)
     → (sum_of_rates rate m).0 * den_of rate < num_of rate * (sum_of_rates rate m).1

@@ -27,7 +27,10 @@ use std::mem;
 /// A Bloom filter for a number of items that isn't known. Once its newest filter took as many new
 /// items as it was made for, the next one begins, for twice the items at half the rate.
 ///
-/// The rates of all its filters stay below the one that it was made with, however many come.
+/// The rates that its filters are sized for, however many come, sum to less than the one that it
+/// was made with. The rate that comes of it can lie above that one: each filter takes only items
+/// that set a bit, so it has more bits set than its size is reckoned for.
+///
 /// Contracts see what was asked for, the filters, and how many new items the newest one took.
 #[derive(Debug, Drop)]
 pub struct GrowingFilter {
@@ -66,7 +69,7 @@ impl Model for GrowingFilter {
 
 impl GrowingFilter {
     /// A filter for this many items at first, where 0 counts as 1, under the zero key. However many
-    /// come, the rates of all its filters sum to less than this one.
+    /// come, the rates that its filters are sized for sum to less than this one.
     ///
     /// ```
     /// let mut seen = GrowingFilter::new(alloc, Rate::new(1, 1000)?, 1000)?;

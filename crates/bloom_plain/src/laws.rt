@@ -102,8 +102,8 @@ pub fn growing_inserted_stays_found<S>()
     ensures found { GrowingFoundLaw S }
 {}
 
-/// The rates of the filters of one that grows, however many they are, sum to less than the rate
-/// that was asked for.
+/// The rates that the filters of one that grows are sized for, however many they are, sum to less
+/// than the rate that was asked for.
 pub fn growing_rates_stay_below()
     ensures { RatesBelowLaw }
 {}

@@ -3,8 +3,8 @@
 use fastbloom::{GrowingError, GrowingFilter, Rate};
 use std::alloc::Global;
 
-/// How many of the names were there before, from filters that together have a rate of false
-/// positives of one in a thousand, and how many filters these are. The first is for two names.
+/// How many of the names were there before, and from how many filters that is told. The rates that
+/// these are sized for sum to less than one in a thousand. The first is for two names.
 pub fn count_repeated(
     alloc: Global,
     key: &u128,

@@ -1,4 +1,4 @@
-//! The Bloom filter that threads share, and change without waiting for one another.
+//! The Bloom filter that threads share, and change with no lock.
 ghost use Rattle.std.specs.Prelude.{◌≡◌, ◌*◌, ◌≤◌, max, Some};
 ghost use Rattle.bloom_steps.specs.declared.steps.vocabulary.Call.TheVariants.{Contains};
 ghost use Rattle.fastbloom.specs.Shared.{MakesCall, MakesInsert};
@@ -19,7 +19,10 @@ use bloom_steps::{Call, drive};
 use live_store::LiveStore;
 use std::marker::Model;
 
-/// A Bloom filter that threads share: each call takes `&self`, and none waits for another.
+/// A Bloom filter that threads share: each call takes `&self`.
+///
+/// No call takes a lock or waits for a thread. An insert's `|` on a word is tried again only where
+/// another thread changed that word in between, so some thread always gets on (lock-free).
 ///
 /// Contracts see the vector of its words, its number of hashes and its hasher. Each call is made of
 /// atomic operations on single words, so calls of several threads may come between one another's.

@@ -3,7 +3,8 @@
 //! C passes these words by value, as a pointer and a number, and any thread may call while others
 //! do. Each call is made of atomic operations on single words, as the clauses say. `num_hashes` 0
 //! counts as 1. Where there are no words, or more than 2^58 - 1, a call returns false and does
-//! nothing.
+//! nothing. None takes a lock or waits for a thread: an insert's `|` on a word is tried again only
+//! where another thread changed that word in between.
 ghost use Rattle.std.specs.Prelude.{◌≡◌, ◌↔◌, ◌≤◌, false, IsTrue, max, nat_lt};
 ghost use Rattle.bloom_parts.specs.Keys.{key_low, key_high};
 ghost use Rattle.bloom_parts.specs.Sip.{sip};

@@ -151,9 +151,9 @@ fn are_compared<T: PartialEq + Drop>(one: T, same: T, other: T) -> bool {
     (one == same) & (one != other)
 }
 
-// Whether rates keep their parts and are equal by their value, and so are builders of them,
-// whatever their seeds.
-fn rates_are_compared() -> Result<bool, FilterError> {
+/// Whether rates keep their parts and are equal by their value, and so are builders of them,
+/// whatever their seeds.
+pub(crate) fn rates_are_compared() -> Result<bool, FilterError> {
     let (half, same, third) = (Rate::new(1, 2)?, Rate::new(2, 4)?, Rate::new(1, 3)?);
     let has_parts = (same.num() == 2) & (same.den() == 4);
     let plain = are_compared(

@@ -54,9 +54,13 @@ fn holds(alloc: Global, pair: &mut Pair, line: &Line) -> Result<bool, Refused> {
     }
 }
 
-// The first line from which a filter doesn't return what it says, or after which the filters
-// differ.
-fn first_broken(alloc: Global, pair: &mut Pair, lines: &[Line]) -> Result<Option<usize>, Refused> {
+/// The first line from which a filter doesn't return what it says, or after which the filters
+/// differ.
+pub(crate) fn first_broken(
+    alloc: Global,
+    pair: &mut Pair,
+    lines: &[Line],
+) -> Result<Option<usize>, Refused> {
     'lines: for (i, line) in lines.iter().enumerate() {
         let held = holds(alloc, pair, line);
         if !are_alike(pair) {

@@ -48,8 +48,8 @@ pub(crate) fn words_of(alloc: Global, words: &[u64]) -> Result<Vec<u64>, Refused
     }
 }
 
-// Data of these words and this key.
-fn data_of(
+/// Data of these words and this key.
+pub(crate) fn data_of(
     alloc: Global,
     words: &[u64],
     num_hashes_minus_one: u32,

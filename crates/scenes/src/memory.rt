@@ -47,8 +47,8 @@ fn meet_shared(filter: &AtomicBloomFilter, other: &AtomicBloomFilter, unites: bo
     true
 }
 
-// Unites or intersects both filters with others, if they have their shape.
-fn meet_both(pair: &mut Pair, other: &Pair, unites: bool) -> bool {
+/// Unites or intersects both filters with others, if they have their shape.
+pub(crate) fn meet_both(pair: &mut Pair, other: &Pair, unites: bool) -> bool {
     meet_plain(&mut pair.plain, &other.plain, unites)
         & meet_shared(&pair.shared, &other.shared, unites)
 }
@@ -68,14 +68,14 @@ pub(crate) fn meet(
     }
 }
 
-// Whether both filters have the shape of others, or haven't.
-fn have_same_shape(pair: &Pair, other: &Pair, said: bool) -> bool {
+/// Whether both filters have the shape of others, or haven't.
+pub(crate) fn have_same_shape(pair: &Pair, other: &Pair, said: bool) -> bool {
     let plain = pair.plain.same_shape(&other.plain) == said;
     plain & (pair.shared.same_shape(&other.shared) == said)
 }
 
-// Whether both filters have the shape and words of others, or haven't.
-fn have_same_words(pair: &Pair, other: &Pair, said: bool) -> bool {
+/// Whether both filters have the shape and words of others, or haven't.
+pub(crate) fn have_same_words(pair: &Pair, other: &Pair, said: bool) -> bool {
     let is_equal = (pair.plain == other.plain) == said;
     let differs = (pair.plain != other.plain) != said;
     let is_same = pair.shared.same_words(&other.shared) == said;

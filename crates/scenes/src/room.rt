@@ -3,7 +3,9 @@
 //! compares.
 
 mod calls;
+mod parts;
 mod seated;
+mod without_memory;
 
 use crate::fills::{THREE, Watching, gate_of, parts_of};
 use crate::telling::{NO_ROOM, say, word_of};

@@ -31,8 +31,10 @@ pub(crate) fn has_text<T: Display>(alloc: Global, value: &T, text: &str) -> bool
 /// The end of a call that gave another result than its full one.
 pub(crate) const WRONG: &'static str = "wrong";
 
-/// The end of calls that ask for no memory.
-pub(crate) const WITHOUT_MEMORY: &'static str = "without memory";
+// The ends of calls that ask for no memory, where there is some and where there is none.
+const WITHOUT_MEMORY: &'static str = "without memory";
+
+const NONE_LEFT: &'static str = "with no memory left";
 
 /// The end of a test that is itself refused memory.
 pub(crate) const NO_ROOM: &'static str = "no room for the test";
@@ -41,6 +43,22 @@ pub(crate) const NO_ROOM: &'static str = "no room for the test";
 pub(crate) fn say(rt: &HostRuntime, call: &str, ended: &str) -> bool {
     let printed = println!(rt; "{call}: {ended}");
     printed.is_ok() & (ended != WRONG)
+}
+
+/// Whether one more request for memory is given. dev/starve refuses it, and all behind it.
+pub(crate) fn is_given(alloc: Global) -> bool {
+    Vec::<u64>::with_capacity(alloc, 1).is_ok()
+}
+
+/// How calls that ask for no memory ended, where some was left or none.
+pub(crate) fn word_without(is_left: bool, is_right: bool) -> &'static str {
+    if !is_right {
+        WRONG
+    } else if is_left {
+        WITHOUT_MEMORY
+    } else {
+        NONE_LEFT
+    }
 }
 
 /// How a call ended: with the full result, with another, or with a refusal.

@@ -22,8 +22,9 @@ _EMPTY_WORDS, _TOO_MANY_WORDS = 2, 3
 class SharedFilter:
     """A set of texts or bytes that threads and processes fill at once, and that loses nothing.
 
-    Each call is made of atomic operations on single words. So none waits for another, and the
-    interpreter's lock is let go while one runs. The words are memory of the filter's own, which
+    Each call is made of atomic operations on single words. It takes no lock, waits for no thread,
+    and lets the interpreter's lock go while it runs. An add's `|` on a word is tried again only
+    where another thread changed that word in between, so some thread always gets on. The words are memory of the filter's own, which
     processes share that are forked of this one; or a buffer, as of `multiprocessing.shared_memory`,
     by `over`; or a file, by `map`. While any process uses such words, nothing but shared filters
     touches them.

@@ -52,8 +52,8 @@
 //!
 //! A [`BloomFilter`] is `Send` and `Sync`: a call that changes it takes `&mut self`, and threads
 //! look up at once through `&self`. An [`AtomicBloomFilter`] is for threads that insert at once:
-//! each call takes `&self`, and none waits for another. Where one thread inserts, take the first,
-//! whose inserts are quicker. A [`BlockedBloomFilter`] and an [`AtomicBlockedBloomFilter`] are as
+//! each call takes `&self`, takes no lock, and waits for no thread. Where one thread inserts, take
+//! the first, whose inserts are quicker. A [`BlockedBloomFilter`] and an [`AtomicBlockedBloomFilter`] are as
 //! these two.
 //!
 //! # Panics

@@ -1,11 +1,14 @@
-//! The filter that threads share, and change without waiting for one another.
+//! The filter that threads share, and change with no lock.
 
 use crate::many::{insert_all, push_bits, Bits, AT_ONCE};
 use crate::{hash, raw, raw_shared, BloomFilter, Bracket, Error};
 use std::fmt;
 use std::sync::atomic::{AtomicU64, Ordering};
 
-/// A set of texts and bytes that threads share: each call takes `&self`, and none waits for another.
+/// A set of texts and bytes that threads share: each call takes `&self`.
+///
+/// No call takes a lock or waits for a thread. An insert's `|` on a word is tried again only where
+/// another thread changed that word in between, so some thread always gets on (lock-free).
 ///
 /// Each call is made of atomic operations on single words, so no insert is lost, and calls of several
 /// threads may come between one another's. The words are a box of the filter's own; or anything else

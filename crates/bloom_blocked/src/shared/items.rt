@@ -76,6 +76,10 @@ impl<S: BuildHasher> AtomicBlockedBloomFilter<S> {
     }
 
     /// Inserts every item that an iterator lends, in order.
+    ///
+    /// In a filter of four mebibytes or more it takes 64 items at a time from the iterator,
+    /// and loads words of all of them before it inserts the first, so that memory fetches them side
+    /// by side. Its clause doesn't tell these loads.
     pub fn insert_all<'a, T: Hash + 'a, I: IntoIterator<Item = &'a T>>(&self, iter: I)
         // The iterator ends.
         requires { IsFiniteIterable
@@ -88,6 +92,10 @@ impl<S: BuildHasher> AtomicBlockedBloomFilter<S> {
     }
 
     /// Inserts every item that an iterator gives, in order.
+    ///
+    /// In a filter of four mebibytes or more it takes 64 items at a time from the iterator,
+    /// and loads words of all of them before it inserts the first, so that memory fetches them side
+    /// by side. Its clause doesn't tell these loads.
     pub fn extend<T: Hash + Drop, I: IntoIterator<Item = T>>(&self, iter: I)
         // The iterator ends.
         requires { IsFiniteIterable

@@ -18,6 +18,9 @@ use std::sync::atomic::{AtomicU64, Ordering};
 ///
 /// Contracts see how many there are, and a name that no clause fixes, which tells one vector from
 /// another. They say nothing of what the words hold, since any thread may change them.
+///
+/// The name is a convention of proofs: the fact of a step names its vector, and holds as long as
+/// none but the proofs of these operations cite the lemmas that make such facts.
 #[derive(Drop)]
 pub struct AtomicBitVec {
     words: Vec<AtomicU64>,

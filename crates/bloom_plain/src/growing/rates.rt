@@ -18,7 +18,7 @@ fn rate_now(filters: &[BloomFilter]) -> Bracket
     rate
 }
 
-// The mean rate of these filters together, each once it took its room.
+// The mean rate of these filters together, each after as many draws as its room.
 fn rate_full(filters: &[BloomFilter], first_room: usize) -> Bracket
     requires { room_at first_room (length filters.now) < 2 ^ 64 }
     ensures { BoundsAny (parts_full first_room 0 filters.now) result }
@@ -32,8 +32,9 @@ fn rate_full(filters: &[BloomFilter], first_room: usize) -> Bracket
 }
 
 impl GrowingFilter {
-    /// Two bounds of the mean rate of false positives of all the filters together, each once it
-    /// took as many new items as it did.
+    /// Two bounds of the mean rate of false positives of all the filters together, each after as
+    /// many draws as it took new items. Only items that set a bit are new, so more bits are set
+    /// than by as many draws, and the rate can lie above both bounds.
     ///
     /// A look-up errs if one of the filters does. Each has its own rate. How their replies to one
     /// look-up depend on each other isn't known, so the upper bound is the sum of theirs, and the

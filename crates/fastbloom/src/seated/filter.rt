@@ -20,7 +20,10 @@ use std::marker::Model;
 ///
 /// Each thread has a `Pass` of the filter. Contracts see which filter it is, with its number of
 /// words, the number of hashes, and how many passes there are at most. Between any two steps of any
-/// threads the words keep `SeatedRule`. No call waits for another thread.
+/// threads the words keep `SeatedRule`.
+///
+/// No call takes a lock or waits for a thread. An insert's `|` on a word is tried again only where
+/// another thread changed that word in between, so some thread always gets on (lock-free).
 #[derive(Drop)]
 pub struct SeatedBloomFilter {
     table: FilterTable,

@@ -1,13 +1,13 @@
-//! What the program `bloom` is to do: `serve` over odd readers and writers, and the text and the
-//! status of each fault. Cases of the program have its arguments.
+//! What the program `bloom` is to do: `arguments`, `serve` over odd readers and writers, and the
+//! text and the status of each fault.
 mod rows;
 
 use super::faulty::{NARROW, ROOMY, Reading, SLOW, Seen, Sink, Source, WHOLE, Writing};
 use crate::telling::{has_text, tell_row};
-use bloom_engine::{Fault, serve};
+use bloom_engine::{Fault, arguments, serve};
 use bloom_plain::{BloomFilter, FilterError};
-use rows::{FAULTS, Failing, RUNS, Row, TEXTS};
-use std::alloc::Global;
+use rows::{ARGUMENTS, Asked, FAULTS, Failing, Given, RUNS, Row, TEXTS};
+use std::alloc::{AllocError, Global};
 
 /// A filter of this many words of zeros, with this many hashes.
 pub(crate) fn filter_of(
@@ -16,6 +16,46 @@ pub(crate) fn filter_of(
     hashes: u32,
 ) -> Result<BloomFilter, FilterError> {
     Ok(BloomFilter::from_vec(vec![in alloc; 0u64; words]?)?.hashes(hashes))
+}
+
+/// The words after the program's name.
+pub(super) fn words_of(alloc: Global, given: &[&'static str]) -> Result<Vec<String>, AllocError> {
+    let mut words = Vec::new(alloc);
+    for word in given {
+        words.push(word.to_string(alloc)?)?;
+    }
+    Ok(words)
+}
+
+// Whether a fault was to come, with this text and this status.
+fn is_told(alloc: Global, fault: &Fault, asked: &Asked) -> bool {
+    match asked {
+        Ok(_numbers) => false,
+        Err((text, status)) => has_text(alloc, fault, text) & (fault.status() == *status),
+    }
+}
+
+// Whether what comes of words is as their row says.
+fn asks(alloc: Global, words: &[String], asked: &Asked) -> bool {
+    match arguments(words) {
+        Ok(numbers) => *asked == Ok(numbers),
+        Err(fault) => is_told(alloc, &fault, asked),
+    }
+}
+
+// Whether what comes of a row's words is as the row says.
+fn is_asked(alloc: Global, row: &Given) -> bool {
+    match words_of(alloc, row.0) {
+        Ok(words) => asks(alloc, words.as_slice(), &row.1),
+        Err(_error) => false,
+    }
+}
+
+#[test]
+fn arguments_are_two_numbers_within_their_limits(rt: HostRuntime) {
+    for (i, row) in ARGUMENTS.iter().enumerate() {
+        assert!(rt; tell_row(&rt, i, is_asked(rt.alloc(), row)));
+    }
 }
 
 // How a run ends, and the first word of its filter.

@@ -147,7 +147,17 @@ pub(crate) const NARROW: Writing = Writing {
     flushes: 1 << 40,
 };
 
-/// The same, but it fails behind three bytes.
+/// A writer whose first write fails.
+pub(crate) const SHUT: Writing = Writing {
+    piece: 65536,
+    room: 0,
+    interrupts: false,
+    takes_none: false,
+    flushes: 1 << 40,
+};
+
+/// A writer that takes a byte a write, with an interrupted write before each. It fails behind three
+/// bytes.
 pub(crate) const FULL: Writing = Writing {
     piece: 1,
     room: 3,

@@ -1,11 +1,11 @@
 //! Runs whose own requests for memory may be refused. Their readers and writers take none.
 ghost use Rattle.summaries_engine.specs.Answers.{IsKeyed};
 
-use super::bloom::filter_of;
+use super::bloom::{filter_of, words_of};
 use super::faulty::{ROOMY, SLOW, Seen, Sink, Source, WHOLE};
 use super::summaries::{A, Odd, built, loaded, write_found};
-use crate::telling::{NO_ROOM, WRONG, say};
-use bloom_engine::{Fault, serve};
+use crate::telling::{NO_ROOM, WRONG, is_given, say, word_without};
+use bloom_engine::{Fault, arguments, serve};
 use bloom_plain::BloomFilter;
 use std::alloc::Global;
 use std::thread::Threads;
@@ -68,6 +68,23 @@ fn a_run_is_whole_or_refused_before_its_first_line(rt: HostRuntime) {
     let seen = Seen::new();
     let mut output = Sink::new(rt.alloc(), ROOMY, &seen);
     assert!(rt; say(&rt, "serve", served(rt.alloc(), &mut output, &seen)));
+}
+
+// How the reading of the arguments "1" and "3" ended, and the status of a fault.
+fn read_arguments(alloc: Global) -> &'static str {
+    match words_of(alloc, &["1", "3"]) {
+        Ok(words) => {
+            let is_left = is_given(alloc);
+            let is_read = arguments(words.as_slice()) == Ok((1, 3));
+            word_without(is_left, is_read & (Fault::Memory.status() == 3))
+        }
+        Err(_error) => NO_ROOM,
+    }
+}
+
+#[test]
+fn arguments_take_no_memory(rt: HostRuntime) {
+    assert!(rt; say(&rt, "arguments", read_arguments(rt.alloc())));
 }
 
 // How a call ended that stopped early.

@@ -1,7 +1,7 @@
 //! A seated filter that is made, called by two passes and closed.
 ghost use Rattle.std.specs.Prelude.{◌≡◌};
 
-use crate::telling::{WRONG, word_of};
+use crate::telling::{WRONG, is_given, word_of, word_without};
 use fastbloom::{FilterError, Pass, SeatedBloomFilter};
 use std::alloc::Global;
 
@@ -48,4 +48,18 @@ pub(super) fn closed(alloc: Global) -> Result<&'static str, FilterError> {
         return Ok(WRONG);
     }
     Ok(word_of(&is_closed(filter.close(alloc, second))))
+}
+
+/// How the calls by two passes ended, if there was room for the filter.
+pub(super) fn called(alloc: Global) -> Result<&'static str, FilterError> {
+    let words = [0].to_vec(alloc)?;
+    let (filter, mut passes) = SeatedBloomFilter::new(alloc, words, 2, 3)?;
+    let Some(mut first) = passes.pop() else {
+        unreachable!()
+    };
+    let Some(mut second) = passes.pop() else {
+        unreachable!()
+    };
+    let is_left = is_given(alloc);
+    Ok(word_without(is_left, is_shared(&filter, &mut first, &mut second)))
 }

@@ -1,6 +1,6 @@
-//! The runs of the program, and what each fault tells.
+//! The arguments and the runs of the program, and what each fault tells.
 use crate::engines::faulty::{
-    FAILING, FLUSHED_ONCE, FULL, ROOMY, Reading, STUCK, UNFLUSHED, WHOLE, Writing,
+    FAILING, FLUSHED_ONCE, FULL, ROOMY, Reading, SHUT, STUCK, UNFLUSHED, WHOLE, Writing,
 };
 use bloom_engine::Fault;
 
@@ -10,6 +10,42 @@ type Ended = Result<(), Fault>;
 const WELL: Ended = Ok(());
 
 const BAD: Ended = Err(Fault::Line(1));
+
+/// The numbers of words and of hashes, or the text and the status of the fault.
+pub(super) type Asked = Result<(usize, u32), (&'static str, u8)>;
+
+/// The words after the program's name, and what comes of them.
+pub(super) type Given = (&'static [&'static str], Asked);
+
+const USAGE: Asked = Err(("usage: bloom WORDS HASHES", 2));
+
+/// Two numbers of 1 to 20 digits are taken: 1 to 1048576 words, and 0 to 4294967295 hashes.
+pub(super) const ARGUMENTS: &'static [Given] = &[
+    (&["1", "3"], Ok((1, 3))),
+    (&["1", "2"], Ok((1, 2))),
+    (&["2", "3"], Ok((2, 3))),
+    (&["1", "1"], Ok((1, 1))),
+    (&["1", "0"], Ok((1, 0))),
+    (&["1048576", "4294967295"], Ok((1048576, 4294967295))),
+    (&["00000000000000000001", "3"], Ok((1, 3))),
+    (&["1", "00000000000000000003"], Ok((1, 3))),
+    (&[], USAGE),
+    (&["1"], USAGE),
+    (&["1", "1", "1"], USAGE),
+    (&["0", "3"], USAGE),
+    (&["1048577", "1"], USAGE),
+    (&["1", "4294967296"], USAGE),
+    (&["18446744073709551617", "3"], USAGE),
+    (&["1", "18446744073709551616"], USAGE),
+    (&["000000000000000000001", "3"], USAGE),
+    (&["1", "000000000000000000003"], USAGE),
+    (&["x", "3"], USAGE),
+    (&["+1", "3"], USAGE),
+    (&["1", "-0"], USAGE),
+    (&["1", ""], USAGE),
+    (&[" 1", "3"], USAGE),
+    (&["1 3"], USAGE),
+];
 
 /// A run over a filter.
 pub(super) type Row = (usize, u32, &'static str, &'static str, Ended);
@@ -108,6 +144,8 @@ pub(super) const FAULTS: &'static [Failing] = &[
     ("i 1\nc 1\n", FAILING, ROOMY, TWO, INPUT, WORD),
     ("i 1\nc 1\nw", FAILING, ROOMY, TWO, INPUT, WORD),
     ("i 1\nc 1\nw\n", FAILING, ROOMY, ALL, INPUT, WORD),
+    ("c 1\n", WHOLE, SHUT, "", OUTPUT, 0),
+    ("i 1\n", WHOLE, SHUT, "", OUTPUT, WORD),
     ("c 1\n", WHOLE, FULL, "fal", OUTPUT, 0),
     ("c 1\n", WHOLE, STUCK, "fal", OUTPUT, 0),
     // The first flush comes before the first read.

@@ -1,10 +1,7 @@
 //! The tables of scenes that are run again and again.
-use crate::scene::Op::{
-    Build, Clear, Clone, Compare, ContainsItem, Data, Extend, Insert, InsertItem, IsEmpty, Meet,
-    Replay, Shape, Take, UniteWithItself, Words,
-};
+use crate::scene::Op::{Build, Clone, Data, Replay, Take, Words};
 use crate::scene::Size::{Expected, Hashes, Numbers};
-use crate::scene::{Item, Make, SEED_42, Scene};
+use crate::scene::{Make, SEED_42, Scene};
 
 // The words 5 and 6 under three hashes and the key of seed 42.
 const STANDING: Make = Make::Words(&[5, 6], 42, Hashes(3));
@@ -58,16 +55,6 @@ const MADE: &'static [Called] = &[
             (Words(&[5, 6]), true),
         ),
     ),
-    (
-        &[],
-        scene!(
-            "plain filters of words",
-            STANDING,
-            (Build(Make::Words(&[5], 42, Expected(2)), 64, 22), true),
-            (Build(Make::Words(&[5], 42, Numbers(&[1, 2])), 64, 22), true),
-            (Words(&[5, 6]), true),
-        ),
-    ),
 ];
 
 // Scenes of calls on filters that stand.
@@ -97,33 +84,6 @@ const CALLED: &'static [Called] = &[
             (Words(&[0, 0]), true),
             (Replay(&[false, false, true, true, false]), true),
             (Words(&[0, 0]), true),
-        ),
-    ),
-    (
-        &[],
-        scene!(
-            "calls with items and another filter",
-            STANDING,
-            (InsertItem(Item::Number(2)), false),
-            (Extend(3, 7), true),
-            (ContainsItem(Item::Number(6)), true),
-            (Insert(1), false),
-            (Meet(&[5, 6], true), true),
-            (Meet(&[5, 6], false), true),
-            (Words(&[5, 6]), true),
-        ),
-    ),
-    (
-        &[],
-        scene!(
-            "comparisons and clears",
-            STANDING,
-            (Compare(&[5, 6], 3, true), true),
-            (UniteWithItself, true),
-            (Words(&[5, 6]), true),
-            (Shape(128, 3), true),
-            (Clear, true),
-            (IsEmpty, true),
         ),
     ),
 ];

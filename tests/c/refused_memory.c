@@ -1,0 +1,45 @@
+/* Loaded into a program by LD_PRELOAD, it refuses requests for memory: with REFUSED=3 the third, and
+ * with REFUSED=3.. also each one behind it. It tells each refusal on standard error. Requests count
+ * that come from between the two addresses in ALLOCATOR, which begin with the program, so that those
+ * of C code, as for a thread's start, are left alone. */
+#define _GNU_SOURCE
+#include <dlfcn.h>
+#include <errno.h>
+#include <stdatomic.h>
+#include <stdlib.h>
+#include <sys/auxv.h>
+#include <unistd.h>
+
+extern void *__libc_malloc(size_t size);
+extern void *__libc_realloc(void *old, size_t size);
+
+/* Whether an address lies between the two that a text has. */
+static int is_between(const char *text, const char *address) {
+    Dl_info program;
+    char *rest;
+    if (!text || !dladdr((void *)getauxval(AT_ENTRY), &program))
+        return 0;
+    unsigned long offset = (unsigned long)(address - (const char *)program.dli_fbase);
+    return strtoul(text, &rest, 0) <= offset && offset < strtoul(rest, NULL, 0);
+}
+
+static int is_refused(const void *caller) {
+    static atomic_ulong requests;
+    const char *refused = getenv("REFUSED");
+    char *rest;
+    if (!refused || !is_between(getenv("ALLOCATOR"), caller))
+        return 0;
+    unsigned long number = atomic_fetch_add(&requests, 1) + 1, first = strtoul(refused, &rest, 10);
+    if (number < first || (number > first && *rest != '.'))
+        return 0;
+    errno = ENOMEM;
+    return write(STDERR_FILENO, "refused\n", 8) > 0;
+}
+
+void *malloc(size_t size) {
+    return is_refused(__builtin_return_address(0)) ? NULL : __libc_malloc(size);
+}
+
+void *realloc(void *old, size_t size) {
+    return is_refused(__builtin_return_address(0)) ? NULL : __libc_realloc(old, size);
+}
