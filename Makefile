@@ -5,7 +5,7 @@
 #   make install    installs them; DESTDIR goes before each folder
 #   make uninstall  removes what `make install` put there with the same variables
 #   make man        makes the manual pages anew, of what the programs print for --help
-#   make release    makes the files of a release (docs/RELEASE.md)
+#   make release LOG=..  makes the files of a release (docs/RELEASE.md)
 # docs/INSTALL.md says what is installed where.
 
 SHELL = /bin/bash
@@ -76,7 +76,7 @@ $(ARCHIVE): $(SOURCES) $(C_SOURCES)
 	touch $@
 
 check: ; .ci/run
-release: ; dev/release
+release: ; dev/release '$(LOG)'
 
 # help2man runs a link by the long name, which it takes for the program's. The pages have no date.
 MAN = man
