@@ -41,9 +41,11 @@ def version():
     return field(PACKAGE / "__init__.py", '^__version__ = "(.*)"$')
 
 
-def license_text():
-    own = HERE / "LICENSE"
-    return (own if own.exists() else HERE.parent / "LICENSE").read_bytes()
+def notices():
+    """The licence and what is owed to others, which each file that is built has."""
+    found = {name: HERE / name for name in ("LICENSE", "NOTICE")}
+    return {name: (own if own.exists() else HERE.parent / name).read_bytes()
+            for name, own in found.items()}
 
 
 def library_file(settings):
@@ -96,7 +98,7 @@ def write_wheel(folder, files, tag):
     files[f"{info}/METADATA"] = metadata()
     files[f"{info}/WHEEL"] = (f"Wheel-Version: 1.0\nGenerator: backend.py\n"
                               f"Root-Is-Purelib: {pure}\nTag: {tag}\n").encode()
-    files[f"{info}/LICENSE"] = license_text()
+    files.update({f"{info}/{name}": data for name, data in notices().items()})
     files[f"{info}/RECORD"] = record(files, f"{info}/RECORD")
     name = f"fastbloom-{version()}-{tag}.whl"
     with zipfile.ZipFile(Path(folder) / name, "w", zipfile.ZIP_DEFLATED) as wheel:
@@ -129,7 +131,7 @@ def build_sdist(sdist_directory, config_settings=None):
     """The sources by themselves. The library isn't in them: it is proved in the repository."""
     files = {str(path.relative_to(HERE)): path.read_bytes()
              for pattern in SOURCES for path in sorted(HERE.glob(pattern))}
-    files.update({"LICENSE": license_text(), TOLD: metadata()})
+    files.update({**notices(), TOLD: metadata()})
     name = f"fastbloom-{version()}"
     output = io.BytesIO()
     with tarfile.open(fileobj=output, mode="w", format=tarfile.GNU_FORMAT) as archive:

@@ -1,0 +1,148 @@
+# Builds and installs the programs, the library for C and the Python package.
+#
+#   make            proves and builds the programs and the library
+#   make check      the full check
+#   make install    installs them; DESTDIR goes before each folder
+#   make uninstall  removes what `make install` put there with the same variables
+#   make man        makes the manual pages anew, of what the programs print for --help
+#   make release LOG=..  makes the files of a release (docs/RELEASE.md)
+# docs/INSTALL.md says what is installed where.
+
+SHELL = /bin/bash
+.SHELLFLAGS = -euo pipefail -c
+
+PREFIX ?= /usr/local
+prefix = $(PREFIX)
+bindir = $(prefix)/bin
+libdir = $(prefix)/lib
+includedir = $(prefix)/include
+datadir = $(prefix)/share
+mandir = $(datadir)/man
+bashdir = $(datadir)/bash-completion/completions
+zshdir = $(datadir)/zsh/site-functions
+fishdir = $(datadir)/fish/vendor_completions.d
+
+# Whether each program has its short name, too. These are common words, so a system may do without.
+SHORT_NAMES = yes
+
+# The Python package goes where this Python looks below the prefix.
+PYTHON = python3
+pythondir := $(shell command -v '$(PYTHON)' > /dev/null && $(PYTHON) -c "import site, sys; \
+  below, all = '$(prefix)/lib/', [site.getusersitepackages(), *site.getsitepackages()]; \
+  usual = below + 'python%d.%d/site-packages' % sys.version_info[:2]; \
+  print(next((it for it in all if it.startswith(below)), usual))")
+
+# For the library. CC is the compiler with its options.
+export CC CFLAGS LDFLAGS
+
+PROGRAMS = bloom duplicates summaries
+PAGES = $(PROGRAMS) $(patsubst %,summaries-%,build unite ask info compare)
+HEADERS = $(patsubst %,fastbloom%,.h .hpp _blocked.hpp _blocked_shared.hpp _shared.hpp)
+VERSION := $(shell sed -n 's/^\#define FASTBLOOM_VERSION "\(.*\)"$$/\1/p' include/fastbloom.h)
+MAJOR = $(firstword $(subst ., ,$(VERSION)))
+SHARED = libfastbloom_c.so
+SONAME = $(SHARED).$(MAJOR)
+DESCRIPTIONS = pkgconfig/fastbloom.pc cmake/fastbloom/fastbloom-config.cmake \
+  cmake/fastbloom/fastbloom-config-version.cmake
+
+BINARIES = $(foreach it,$(PROGRAMS),crates/$(it)/out/$(it))
+ARCHIVE = out/c/libfastbloom_c.a
+SOURCES := crates.txt $(shell find crates -name out -prune -o -regex '.*\.\(rt\|antt\)' -print)
+C_SOURCES = bin/build-c c/fastbloom_files.c include/fastbloom.symbols $(HEADERS:%=include/%)
+
+# What is installed, beside the Python package.
+SHORT = $(filter yes,$(SHORT_NAMES))
+NAMES = $(PROGRAMS:%=fastbloom-%) $(if $(SHORT),$(PROGRAMS))
+PAGE_NAMES = $(PAGES:%=fastbloom-%) $(if $(SHORT),$(PAGES))
+LIBRARIES = libfastbloom_c.a $(SHARED) $(SONAME) $(SHARED).$(VERSION) $(DESCRIPTIONS)
+FILES = $(NAMES:%=$(bindir)/%) $(PAGE_NAMES:%=$(mandir)/man1/%.1) $(NAMES:%=$(bashdir)/%) \
+  $(PROGRAMS:%=$(zshdir)/_fastbloom-%) $(NAMES:%=$(fishdir)/%.fish) \
+  $(HEADERS:%=$(includedir)/%) $(LIBRARIES:%=$(libdir)/%)
+FOLDERS = $(sort $(patsubst %/,%,$(dir $(FILES))))
+
+# The path from one folder to another.
+between = $(shell realpath -ms --relative-to='$(1)' '$(2)')
+
+.PHONY: all check install man names release uninstall
+all: $(BINARIES) $(ARCHIVE)
+
+# bin/NAME proves and builds a program that isn't up to date.
+$(BINARIES): $(SOURCES)
+	bin/$(@F) --help > /dev/null
+	touch $@
+
+$(ARCHIVE): $(SOURCES) $(C_SOURCES)
+	bin/build-c
+	touch $@
+
+check: ; .ci/run
+release: ; dev/release '$(LOG)'
+
+# help2man runs a link by the long name, which it takes for the program's. The pages have no date.
+MAN = man
+man: $(BINARIES)
+	mkdir -p '$(MAN)'; work=$$(mktemp -d); trap 'rm -rf "$$work"' EXIT; \
+	for page in $(PAGES); do \
+	  IFS=- read -r name command <<< "$$page"; run=$$work/fastbloom-$$name; \
+	  ln -sf "$$PWD/crates/$$name/out/$$name" "$$run"; \
+	  about=$$("$$run" $$command --help | sed -n 1p); \
+	  printf '[name]\nfastbloom-%s \\- %s\n' "$$page" "$$about" > "$$work/name"; \
+	  help2man --no-info --manual=fastbloom --version-string=$(VERSION) --include="$$work/name" \
+	    --include=man/common.h2m --help-option="$$command --help" "$$run" | \
+	    sed '/^\.TH/s/"1" "[^"]*"/1 ""/; /^\.\\" DO NOT/s/ [0-9.]*$$/./' > '$(MAN)'/$$page.1; \
+	done
+
+# A program of another's that has a short name stays as it is.
+names:
+	for name in $(if $(SHORT),$(PROGRAMS)); do \
+	  file='$(DESTDIR)$(bindir)'/$$name; \
+	  [[ ! -e $$file || $$(readlink -- "$$file") = fastbloom-$$name ]] || \
+	    { echo "make: $$file is another program: set SHORT_NAMES=no" >&2; exit 1; }; \
+	done
+
+install: names all
+	install -d $(FOLDERS:%='$(DESTDIR)%')
+	for name in $(PROGRAMS); do \
+	  install crates/$$name/out/$$name '$(DESTDIR)$(bindir)'/fastbloom-$$name; \
+	  install -m 644 completions/$$name.bash '$(DESTDIR)$(bashdir)'/fastbloom-$$name; \
+	  install -m 644 completions/_$$name '$(DESTDIR)$(zshdir)'/_fastbloom-$$name; \
+	  install -m 644 completions/$$name.fish '$(DESTDIR)$(fishdir)'/fastbloom-$$name.fish; \
+	  $(if $(SHORT),ln -sf fastbloom-$$name '$(DESTDIR)$(bindir)'/$$name; \
+	  ln -sf fastbloom-$$name '$(DESTDIR)$(bashdir)'/$$name; \
+	  ln -sf fastbloom-$$name.fish '$(DESTDIR)$(fishdir)'/$$name.fish;) \
+	done
+	for name in $(PAGES); do \
+	  install -m 644 man/$$name.1 '$(DESTDIR)$(mandir)'/man1/fastbloom-$$name.1; \
+	  $(if $(SHORT),ln -sf fastbloom-$$name.1 '$(DESTDIR)$(mandir)'/man1/$$name.1;) \
+	done
+	install -m 644 $(HEADERS:%=include/%) '$(DESTDIR)$(includedir)'
+	install -m 644 $(ARCHIVE) '$(DESTDIR)$(libdir)'
+	if [ -e out/c/$(SHARED) ]; then \
+	  install out/c/$(SHARED).$(VERSION) '$(DESTDIR)$(libdir)'; \
+	  ln -sf $(SHARED).$(VERSION) '$(DESTDIR)$(libdir)'/$(SONAME); \
+	  ln -sf $(SONAME) '$(DESTDIR)$(libdir)'/$(SHARED); \
+	fi
+	include=$(call between,$(libdir),$(includedir)); for file in $(DESCRIPTIONS); do \
+	  sed "s|@VERSION@|$(VERSION)|; s|@MAJOR@|$(MAJOR)|; s|@INCLUDE@|$$include|" c/$${file##*/}.in | \
+	    install -m 644 /dev/stdin '$(DESTDIR)$(libdir)'/$$file; \
+	done
+ifneq ($(pythondir),)
+	[ -e out/c/$(SHARED) ] || { echo 'make: no shared library, so no Python package' >&2; exit; }; \
+	work=$$(mktemp -d); trap 'rm -rf "$$work"' EXIT; umask 022; \
+	PYTHONPATH=python $(PYTHON) -Bc 'import backend, sys; \
+	  backend.build_wheel(sys.argv[1], {"library": "none"})' "$$work"; \
+	$(PYTHON) -m zipfile -e "$$work"/*.whl "$$work/unpacked"; \
+	install -d '$(DESTDIR)$(pythondir)'; cp -R "$$work"/unpacked/* '$(DESTDIR)$(pythondir)'; \
+	ln -sf '$(call between,$(pythondir)/fastbloom,$(libdir))/$(SONAME)' \
+	  '$(DESTDIR)$(pythondir)/fastbloom'
+endif
+
+# Folders that are empty then go too, unless the prefix is the system's own.
+uninstall: names
+	rm -f $(FILES:%='$(DESTDIR)%')
+	rm -rf '$(DESTDIR)$(libdir)'/cmake/fastbloom \
+	  $(if $(pythondir),'$(DESTDIR)$(pythondir)'/fastbloom '$(DESTDIR)$(pythondir)'/fastbloom-*.dist-info)
+ifeq ($(filter /usr /usr/local,$(prefix)),)
+	cd '$(DESTDIR)$(prefix)' && rmdir -p --ignore-fail-on-non-empty 2> /dev/null \
+	  $(foreach it,$(FOLDERS) $(pythondir),'$(call between,$(prefix),$(it))') || :
+endif
