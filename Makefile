@@ -140,9 +140,12 @@ endif
 # Folders that are empty then go too, unless the prefix is the system's own.
 uninstall: names
 	rm -f $(FILES:%='$(DESTDIR)%')
-	rm -rf '$(DESTDIR)$(libdir)'/cmake/fastbloom \
-	  $(if $(pythondir),'$(DESTDIR)$(pythondir)'/fastbloom '$(DESTDIR)$(pythondir)'/fastbloom-*.dist-info)
+ifneq ($(pythondir),)
+	rm -rf '$(DESTDIR)$(pythondir)'/fastbloom '$(DESTDIR)$(pythondir)'/fastbloom-*.dist-info
+endif
 ifeq ($(filter /usr /usr/local,$(prefix)),)
 	cd '$(DESTDIR)$(prefix)' && rmdir -p --ignore-fail-on-non-empty 2> /dev/null \
 	  $(foreach it,$(FOLDERS) $(pythondir),'$(call between,$(prefix),$(it))') || :
+else
+	rmdir '$(DESTDIR)$(libdir)'/cmake/fastbloom
 endif
