@@ -1,12 +1,10 @@
-# Builds and installs the programs, the library for C and the Python package.
-#
+# Builds and installs the programs, the library for C and the Python package (docs/INSTALL.md).
 #   make            proves and builds the programs and the library
 #   make check      the full check
 #   make install    installs them; DESTDIR goes before each folder
 #   make uninstall  removes what `make install` put there with the same variables
 #   make man        makes the manual pages anew, of what the programs print for --help
 #   make release LOG=..  makes the files of a release (docs/RELEASE.md)
-# docs/INSTALL.md says what is installed where.
 
 SHELL = /bin/bash
 .SHELLFLAGS = -euo pipefail -c
@@ -140,9 +138,12 @@ endif
 # Folders that are empty then go too, unless the prefix is the system's own.
 uninstall: names
 	rm -f $(FILES:%='$(DESTDIR)%')
-	rm -rf '$(DESTDIR)$(libdir)'/cmake/fastbloom \
-	  $(if $(pythondir),'$(DESTDIR)$(pythondir)'/fastbloom '$(DESTDIR)$(pythondir)'/fastbloom-*.dist-info)
+ifneq ($(pythondir),)
+	rm -rf '$(DESTDIR)$(pythondir)'/fastbloom '$(DESTDIR)$(pythondir)'/fastbloom-*.dist-info
+endif
 ifeq ($(filter /usr /usr/local,$(prefix)),)
 	cd '$(DESTDIR)$(prefix)' && rmdir -p --ignore-fail-on-non-empty 2> /dev/null \
 	  $(foreach it,$(FOLDERS) $(pythondir),'$(call between,$(prefix),$(it))') || :
+else
+	rmdir '$(DESTDIR)$(libdir)'/cmake/fastbloom
 endif
