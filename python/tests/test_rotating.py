@@ -52,24 +52,27 @@ class Rotating(unittest.TestCase):
             self.assertTrue(seen.add_hash(place << 58))
 
     def test_threads_take_turns(self):
-        seen = RotatingFilter(997, "1/1000000000")
+        seen = RotatingFilter(3, "1/1000000000")
+        names = [f"{thread} {number}" for thread in range(4) for number in range(100)]
 
         def add(thread):
-            for number in range(3000):
-                seen.add(f"{thread} {number}")
+            for name in names[thread::4]:
+                seen.add(name)
 
         interval = sys.getswitchinterval()
         sys.setswitchinterval(1e-6)
         try:
-            threads = [threading.Thread(target=add, args=(name,)) for name in range(4)]
-            for thread in threads:
-                thread.start()
-            for thread in threads:
-                thread.join()
+            for _ in range(100):
+                threads = [threading.Thread(target=add, args=(thread,)) for thread in range(4)]
+                for thread in threads:
+                    thread.start()
+                for thread in threads:
+                    thread.join()
+                # Each item is counted in the filter that took it.
+                self.assertEqual(sum(name in seen.newer for name in names), seen.taken)
+                self.assertEqual(sum(name in seen.older for name in names), 3)
         finally:
             sys.setswitchinterval(interval)
-        # All were new, and each one was counted.
-        self.assertEqual(seen.taken, 4 * 3000 % 997)
 
 
 if __name__ == "__main__":

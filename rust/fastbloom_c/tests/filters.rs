@@ -3,7 +3,7 @@
 
 use fastbloom_c::{
     hash, AtomicBlockedBloomFilter, AtomicBloomFilter, BlockedBloomFilter, BloomFilter, Error,
-    Hasher, Rate,
+    Hasher, Rate, RotatingFilter,
 };
 
 const ZERO_KEY: [u8; 16] = [0; 16];
@@ -494,4 +494,29 @@ fn builders_compare_by_words_or_rate_and_by_key() {
     let rate = |num, den| BloomFilter::with_false_pos(Rate::new(num, den).expect("a rate"));
     assert_eq!(rate(1, 2), rate(2, 4));
     assert_ne!(rate(1, 2), rate(1, 3));
+}
+
+#[test]
+fn rates_of_filters_in_turn_are_the_greater_and_the_sum() {
+    // Filters of 64 bits and one hash. After the turn the older one has 36 of them, and then the
+    // newer one gets as many again, so that the sum of the rates passes 1.
+    let rate = Rate::new(9, 10).expect("a rate");
+    let mut seen = RotatingFilter::new(rate, 36).expect("room");
+    assert_eq!(
+        (seen.newer().num_bits(), seen.newer().num_hashes()),
+        (64, 1)
+    );
+    for place in 0..36u64 {
+        let now = seen.false_pos_now();
+        assert_eq!((now.low(), now.high()), (place << 57, place << 57));
+        assert!(!seen.insert_hash(place << 58));
+    }
+    for place in 0..35u64 {
+        let now = seen.false_pos_now();
+        assert_eq!(
+            (now.low(), now.high()),
+            (36 << 57, (36 + place).min(64) << 57)
+        );
+        assert!(seen.insert_hash(place << 58));
+    }
 }
