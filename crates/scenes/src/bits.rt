@@ -1,5 +1,5 @@
-//! Bits of a vector by position, and the operations on the words of one that threads share. Position
-//! p is bit p mod 64 of word p / 64, where bit 0 is the lowest.
+//! Bits of a vector by position, and the operations on the words of one that threads share.
+//! Position p is bit p mod 64 of word p / 64, where bit 0 is the lowest.
 use bloom_parts::bit_vector::{AtomicBitVec, BitVec};
 use bloom_parts::error::FilterError;
 use std::alloc::Global;

@@ -1,5 +1,6 @@
-//! Many hashes at once in a Bloom filter of one word and two hashes. Hash 0 has the position 0 alone
-//! there, hash 1 the positions 0 and 20, and the greatest hash 63 and 43, by a model in Python.
+//! Many hashes at once in a Bloom filter of one word and two hashes. Hash 0 has the position 0
+//! alone there, hash 1 the positions 0 and 20, and the greatest hash 63 and 43, by a model in
+//! Python.
 use fastbloom::{BloomFilter, FilterError};
 use std::alloc::Global;
 

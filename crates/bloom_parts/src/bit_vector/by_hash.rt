@@ -40,8 +40,8 @@ impl BitVec {
         many::insert_hashes(self.words.as_mut_slice(), num_hashes, hashes);
     }
 
-    /// Sets the first `num_hashes` positions of each of these hashes, one after the other, and bit i
-    /// of `fresh` where not all of those of hash i were set just before. Clears every other bit.
+    /// Sets the first `num_hashes` positions of each of these hashes, one after the other, and bit
+    /// i of `fresh` where not all of those of hash i were set just before. Clears every other bit.
     pub fn insert_hashes_tell_new(&mut self, num_hashes: u32, hashes: &[u64], fresh: &mut [u64])
         requires { length hashes.now ≤ 64 * length fresh.old }
         ensures fresh { TellsNew (64 * length self.old) num_hashes (content self.old) hashes.now

@@ -1,6 +1,6 @@
 //! Calls on many hashes over words that lie anywhere, which may tell of each by a bit set that the
-//! caller owns. Where the words are larger than a cache, those of sixteen hashes are looked up before
-//! any is written, so that the memory brings them side by side.
+//! caller owns. Where the words are larger than a cache, those of sixteen hashes are looked up
+//! before any is written, so that the memory brings them side by side.
 ghost use Rattle.std.specs.Prelude.{◌≡◌, ℕ, ◌*◌, ◌%◌, ◌^◌, ◌<◌, ◌≤◌, ◌||◌, ◌&&◌, ◌==◌, length, if◌then◌else◌};
 ghost use Rattle.std.specs.List.{list_all, list_any};
 ghost use Rattle.bloom_parts.specs.Content.{content};

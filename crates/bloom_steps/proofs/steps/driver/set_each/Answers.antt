@@ -21,6 +21,7 @@ places-preserved g c =
           set-next _ _ _ _ _ _ _ before.places _ _ _ _ _ _ _ _ _ _ before.set
           (omega (arith, before.split, c.places-test.true)) before.words
           refl (next.word _ _ before.set.stands) refl (next.mask _ _ before.set.stands)
-          c.step-found.ensures (c.is_set-all_on.ensures _ (next.mask _ _ before.set.stands)) (next.moved _ _ before.set.stands);
+          c.step-found.ensures (c.is_set-all_on.ensures _ (next.mask _ _ before.set.stands))
+          (next.moved _ _ before.set.stands);
       words = before.words;
     }
