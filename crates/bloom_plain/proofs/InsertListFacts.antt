@@ -1,6 +1,6 @@
 -- Lists of inserts, at values from outside: cases that hold, and cases that differ from one of
--- these in one thing and don't hold. Among 64 bits and with two hashes, hash 0 has position 0 alone,
--- and hash 1 has the positions 0 and 20.
+-- these in one thing and don't hold. Among 64 bits and with two hashes, hash 0 has position 0
+-- alone, and hash 1 has the positions 0 and 20.
 use Rattle.std.proofs.Common.{◌≡◌, ◌-◌, true, false, [], ◌∷◌, refl, lit<}
 use Rattle.bloom_parts.specs.Chain.{chain}
 use Rattle.bloom_parts.specs.Content.{content}

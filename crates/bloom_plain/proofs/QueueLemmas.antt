@@ -67,33 +67,33 @@ module _ {F : Type 0} (Took : F → List ℕ → F → Type 0) where
 
     module _ {T : Type 0} (hash_of : F → T → ℕ)
         (keeps : (xs : List ℕ) (item : T) → Took old xs mid → hash_of mid item ≡ hash_of old item)
-        where
-      -- the hashes of items and of one more, where inserts keep how items are hashed
-      hashes-next : (items : List T) (item : T) (hash : ℕ) (before : List ℕ) → Took old before mid
-          → hash ≡ hash_of mid item
-          → map (hash_of old) (items ++ item ∷ []) ≡ map (hash_of old) items ++ hash ∷ []
-      hashes-next items item hash before did is =
-          map-append (hash_of old) items (item ∷ [])
-          ∙ ap (λ h. map (hash_of old) items ++ h ∷ []) (sym (is ∙ keeps before item did))
+      where
+        -- the hashes of items and of one more, where inserts keep how items are hashed
+        hashes-next : (items : List T) (item : T) (hash : ℕ) (before : List ℕ) → Took old before mid
+            → hash ≡ hash_of mid item
+            → map (hash_of old) (items ++ item ∷ []) ≡ map (hash_of old) items ++ hash ∷ []
+        hashes-next items item hash before did is =
+            map-append (hash_of old) items (item ∷ [])
+            ∙ ap (λ h. map (hash_of old) items ++ h ∷ []) (sym (is ∙ keeps before item did))
 
-      -- one more item joins those that wait by its hash
-      pub queued-item : (n : ℕ) (items : List T) (item : T) (waiting more : List ℕ) (hash : ℕ)
-          → AreQueued n old (map (hash_of old) items) waiting mid → hash ≡ hash_of mid item
-          → Queues Took mid waiting hash new more → length more < n
-          → AreQueued n old (map (hash_of old) (items ++ item ∷ [])) more new
-      queued-item n items item waiting more hash before is next room =
-          subst (λ l. AreQueued n old l more new)
-          (sym (hashes-next items item hash before.before before.did is))
-          (queued-next n (map (hash_of old) items) waiting more hash before next room)
+        -- one more item joins those that wait by its hash
+        pub queued-item : (n : ℕ) (items : List T) (item : T) (waiting more : List ℕ) (hash : ℕ)
+            → AreQueued n old (map (hash_of old) items) waiting mid → hash ≡ hash_of mid item
+            → Queues Took mid waiting hash new more → length more < n
+            → AreQueued n old (map (hash_of old) (items ++ item ∷ [])) more new
+        queued-item n items item waiting more hash before is next room =
+            subst (λ l. AreQueued n old l more new)
+            (sym (hashes-next items item hash before.before before.did is))
+            (queued-next n (map (hash_of old) items) waiting more hash before next room)
 
-      -- one more item is inserted by its hash
-      pub took-item : (items : List T) (item : T) (hash : ℕ)
-          → Took old (map (hash_of old) items) mid → hash ≡ hash_of mid item
-          → Took mid (hash ∷ []) new → Took old (map (hash_of old) (items ++ item ∷ [])) new
-      took-item items item hash before is next =
-          let hashes = map (hash_of old) items in
-          subst (λ l. Took old l new) (sym (hashes-next items item hash hashes before is))
-          (join old mid new hashes (hash ∷ []) before next)
+        -- one more item is inserted by its hash
+        pub took-item : (items : List T) (item : T) (hash : ℕ)
+            → Took old (map (hash_of old) items) mid → hash ≡ hash_of mid item
+            → Took mid (hash ∷ []) new → Took old (map (hash_of old) (items ++ item ∷ [])) new
+        took-item items item hash before is next =
+            let hashes = map (hash_of old) items in
+            subst (λ l. Took old l new) (sym (hashes-next items item hash hashes before is))
+            (join old mid new hashes (hash ∷ []) before next)
 
   -- when the iterator has ended, those were all its items
   pub took-whole : {T I : Type 0} (hash_of : T → ℕ) (old new : F) (comes : I → Type 0)
