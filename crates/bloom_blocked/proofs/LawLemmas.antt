@@ -12,7 +12,8 @@ use Rattle.bloom_blocked.specs.Blocked.{num_lines_of, contains_in_line, InsertsA
 use Rattle.bloom_blocked.specs.BlockedData.{AnswerAlikeInLines, LineDataLaw}
 use Rattle.bloom_blocked.specs.BlockedLaws.{InsertInLineLaw, KeptByInsertInLineLaw, KeptByInsertsInLinesLaw, KeptByUnionOfLinesLaw, UnionOfLinesLaw, IntersectionOfLinesLaw, ClearOfLinesLaw, InsertsOneByOne, OneByOneLaw}
 use Rattle.bloom_blocked.proofs.PositionLemmas.{line-greater, line-inserted, line-both}
-use Rattle.bloom_blocked.proofs.FilterLemmas.{inserts_all-none, inserts_all-join, inserts_all-one}
+use Rattle.bloom_blocked.specs.InsertLaws.{inserts_all-none, inserts_all-join}
+use Rattle.bloom_blocked.proofs.FilterLemmas.{inserts_all-one}
 
 -- a look-up in a filter of the same shape is the look-up with the first filter's numbers
 contains-shape : {S : Type 0} (old new : Filter S) (hash : ℕ) → SameShape old new

@@ -12,13 +12,10 @@ mod LineFileFacts
 mod LineFileLemmas
 mod LineLemmas
 mod LineStepFacts
-pub mod LineStepLemmas
+mod LineStepLemmas
 mod ManyLemmas
 mod PositionLemmas
 mod SharedBlockedFacts
-mod SharedInsertLemmas
-mod SharedQueueLemmas
 mod SizingLemmas
-pub mod SpanLemmas
-mod TakenLemmas
+mod SpanLemmas
 mod TellLemmas

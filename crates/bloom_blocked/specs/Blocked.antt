@@ -1,7 +1,7 @@
 -- What contracts see of a blocked filter, and what its calls do. It has the parts of a Bloom filter
 -- (`bloom_plain` Filter): clear, union, intersection, equality and counts are the same of both
 -- kinds. Only the positions of a hash are others. This project's own.
-use Rattle.std.specs.Prelude.{◌≡◌, ℕ, ◌/◌, ◌%◌, ◌^◌, ◌<◌, ◌≤◌, Bool, ◌||◌, List, [], ◌∷◌, ◌++◌, length, map}
+use Rattle.std.specs.Prelude.{◌≡◌, ℕ, ◌/◌, ◌%◌, ◌^◌, ◌<◌, ◌≤◌, Bool, ◌||◌, List, length, map}
 use Rattle.bloom_parts.specs.Content.{content}
 use Rattle.bloom_plain.specs.Filter.{Filter, SameShape}
 use Rattle.bloom_blocked.specs.Lines.{line_positions, are_in_line}
@@ -55,11 +55,3 @@ abbrev pub InsertsItemsInLines :
     {S T : Type 0} → (S → T → ℕ) → Filter S → List T → Filter S → Type 0
 InsertsItemsInLines hash_of old items new =
     InsertsAllInLines old (map (hash_of old.hasher) items) new
-
--- a hash joined those that wait to be inserted: from old to new the first of all these were
--- inserted, and the others still wait
-pub record QueuesInLines {S : Type 0} (old : Filter S) (waiting : List ℕ) (hash : ℕ)
-    (new : Filter S) (more : List ℕ) : Type 0 where
-  pub gone : List ℕ
-  pub cut : waiting ++ hash ∷ [] ≡ gone ++ more
-  pub did : InsertsAllInLines old gone new

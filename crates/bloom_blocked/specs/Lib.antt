@@ -3,7 +3,7 @@ pub mod BlockedData
 pub mod BlockedFile
 pub mod BlockedLaws
 pub mod BlockedSizing
-pub mod Keeping
+pub mod InsertLaws
 pub mod LineRefusals
 pub mod LineSteps
 pub mod Lines

@@ -1,6 +1,6 @@
 -- What contracts see of a blocked filter that threads share, and which steps its calls make.
 -- Contracts don't see its words, since any thread may change them at any time. This project's own.
-use Rattle.std.specs.Prelude.{◌≡◌, ℕ, Bool, List, [], ◌∷◌, ◌++◌, length, map, All, Option}
+use Rattle.std.specs.Prelude.{◌≡◌, ℕ, Bool, List, length, map, All, Option}
 use Rattle.bloom_parts.specs.Made.{SharedWords, BeganWith}
 use Rattle.bloom_plain.specs.Filter.{Filter}
 use Rattle.bloom_steps.specs.declared.steps.vocabulary.Call.{Call}
@@ -42,14 +42,6 @@ MakesLookUpInLine f hash reply = LooksInLine f.words f.hashes hash reply
 -- a hash was inserted, whatever the reply
 abbrev pub WasInsertedInLine : {S : Type 0} → SharedBlockedFilter S → ℕ → Type 0
 WasInsertedInLine f hash = (reply : Bool) × MakesInsertInLine f hash reply
-
--- a hash joined the end of a queue of hashes: those at the front were inserted, and the others
--- still wait
-pub record QueuesInsertInLine {S : Type 0} (f : SharedBlockedFilter S) (waiting : List ℕ)
-    (hash : ℕ) (more : List ℕ) : Type 0 where
-  pub gone : List ℕ
-  pub cut : waiting ++ hash ∷ [] ≡ gone ++ more
-  pub did : All (WasInsertedInLine f) gone
 
 -- each item of a list was inserted by its hash under the hasher
 abbrev pub MakesInsertsInLines :

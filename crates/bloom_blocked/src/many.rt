@@ -12,16 +12,16 @@ ghost use Rattle.bloom_blocked.specs.Many.{positions_of_all, all_are_in_lines, T
 mod telling;
 
 use crate::words::{LINE, contains_hash, inner, line_start};
-use bloom_parts::bit_vector::word_and_bit_of_hash;
+use bloom_parts::bit_vector::word_and_mask_of_hash;
 use bloom_parts::hasher::DoubleHasher;
 use bloom_parts::slices::{clear, contains_by_count};
 pub use telling::insert_hashes_tell_new;
 
 /// From this many words on, which are one mebibyte, the ends of lines are read first.
-pub const MANY_WORDS: usize = 1 << 17;
+pub const WORDS_TO_READ_AHEAD: usize = 1 << 17;
 
-/// How many hashes are taken together.
-pub const TOGETHER: usize = 64;
+/// How many hashes are taken together, each with a line of its own.
+pub const LINES_TOGETHER: usize = 64;
 
 // Whether the first and the last word of the line of each of these hashes are full. The compiler
 // can't tell what this decides, so it keeps the loads.
@@ -68,10 +68,10 @@ fn set_position(words: &mut [u64], hash: u64, common: &mut u64)
         ≡ (content words.old p || p == index_of (64 * length words.old) hash) }
     ensures shape { length words.new ≡ length words.old }
 {
-    let (word, bit) = word_and_bit_of_hash(words.len(), hash);
+    let (word, mask) = word_and_mask_of_hash(words.len(), hash);
     let before = words[word];
     *common &= before;
-    words[word] = before | 1 << bit;
+    words[word] = before | mask;
 }
 
 // Sets all positions of a hash, and clears in `common` what was clear in one of their words.
@@ -126,7 +126,7 @@ fn insert_unless_full(words: &mut [u64], num_hashes: u32, hashes: &[u64], look_u
         || positions_of_all (length words.old / 8) num_hashes hashes.now p) }
     ensures shape { length words.new ≡ length words.old }
 {
-    let ends = words.len() >= MANY_WORDS && ends_are_full(words, hashes);
+    let ends = words.len() >= WORDS_TO_READ_AHEAD && ends_are_full(words, hashes);
     if (ends || look_up) && all_are_set(words, num_hashes, hashes) {
         return true;
     }
@@ -140,13 +140,18 @@ pub fn insert_hashes(words: &mut [u64], num_hashes: u32, hashes: &[u64])
         || positions_of_all (length words.old / 8) num_hashes hashes.now p) }
     ensures shape { length words.new ≡ length words.old }
 {
-    let turns = hashes.len() / TOGETHER;
+    let turns = hashes.len() / LINES_TOGETHER;
     let mut look_up = false;
     'turns: for turn in 0..turns {
-        let at = TOGETHER * turn;
-        look_up = insert_unless_full(words, num_hashes, &hashes[at..at + TOGETHER], look_up);
+        let at = LINES_TOGETHER * turn;
+        look_up = insert_unless_full(words, num_hashes, &hashes[at..at + LINES_TOGETHER], look_up);
     }
-    insert_unless_full(words, num_hashes, &hashes[TOGETHER * turns..], look_up);
+    insert_unless_full(
+        words,
+        num_hashes,
+        &hashes[LINES_TOGETHER * turns..],
+        look_up,
+    );
 }
 
 // The mask of a bit, or 0.
@@ -199,7 +204,7 @@ fn find_word(words: &[u64], num_hashes: u32, hashes: &[u64]) -> u64
     ensures { TellsFound (length words.now / 8) num_hashes (content words.now) hashes.now
         (result ∷ []) }
 {
-    if words.len() >= MANY_WORDS && ends_are_full(words, hashes) {
+    if words.len() >= WORDS_TO_READ_AHEAD && ends_are_full(words, hashes) {
         found_bits_by_stops(words, num_hashes, hashes)
     } else {
         found_bits(words, num_hashes, hashes)

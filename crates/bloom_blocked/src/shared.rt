@@ -1,22 +1,16 @@
 //! The blocked Bloom filter that threads share, and change without waiting for one another.
-ghost use Rattle.std.specs.Prelude.{◌≡◌, ◌%◌, ◌*◌, ◌^◌, ◌<◌, ◌≤◌, All, IfOk, IsOkUnless};
-ghost use Rattle.bloom_blocked.specs.SharedBlocked.{BeganAsLines, MakesCallOnLines, MakesInsertInLine, MakesLookUpInLine, WasInsertedInLine};
+ghost use Rattle.std.specs.Prelude.{◌≡◌, ◌*◌, ◌≤◌, All, IfOk, IsOkUnless};
+ghost use Rattle.bloom_blocked.specs.SharedBlocked.{BeganAsLines, MakesInsertInLine, MakesLookUpInLine, WasInsertedInLine};
 
 mod items;
-mod keeping_store;
-mod line;
 mod sets;
-mod span_store;
 
 use crate::filter::BlockedBloomFilter;
-use crate::many::{MANY_WORDS, TOGETHER};
-use crate::words::{LINE, line_start};
-use bloom_parts::bit_vector::{AtomicBitVec, LentWords};
+use crate::line;
+use crate::many::WORDS_TO_READ_AHEAD;
+use bloom_parts::bit_vector::AtomicBitVec;
 use bloom_parts::error::FilterError;
 use bloom_parts::hasher::DefaultHasher;
-use bloom_steps::{Call, drive};
-use line::{looks_in_line, set_in_line};
-use span_store::SpanStore;
 use std::alloc::Global;
 use std::marker::Model;
 
@@ -44,19 +38,6 @@ impl<S> Model for AtomicBlockedBloomFilter<S> {
 
     ghost invariant = { λ f. (8 ≤ f.words.count) × (f.words.count % 8 ≡ 0)
         × (1 ≤ f.num_hashes) × (f.num_hashes < 2 ^ 32) };
-}
-
-// Loads the first and the last word of the line of each of these hashes. Nothing depends on what
-// they hold, so no load waits for another.
-#[inline(always)]
-fn touch_lines(words: &LentWords<'_>, hashes: &[u64])
-    requires { 8 ≤ words.now.count }
-{
-    'touches: for hash in hashes {
-        let at = line_start(words.len(), *hash);
-        words.load(at);
-        words.load(at + (LINE - 1));
-    }
 }
 
 impl<S: Drop> AtomicBlockedBloomFilter<S> {
@@ -103,16 +84,6 @@ impl<S> AtomicBlockedBloomFilter<S> {
         &self.hasher
     }
 
-    // Makes all steps of a call on all words, in order.
-    #[inline(always)]
-    fn make(&self, other: &Self, call: Call) -> Option<bool>
-        requires { other.now.words.count ≡ self.now.words.count }
-        ensures made { MakesCallOnLines self.now other.now call result }
-    {
-        let mut store = SpanStore::whole(&self.words, &other.words);
-        drive(&mut store, call, self.num_hashes)
-    }
-
     /// Sets all positions of a hash, and returns whether its own steps found all of them set. So it
     /// returns false exactly if it set a bit itself. It makes one step for each word that has
     /// positions.
@@ -120,7 +91,7 @@ impl<S> AtomicBlockedBloomFilter<S> {
     pub fn insert_hash(&self, hash: u64) -> bool
         ensures { MakesInsertInLine self.now hash result }
     {
-        set_in_line(&self.words.lent(), self.num_hashes.max(1), hash)
+        line::set_in_line(&self.words.lent(), self.num_hashes.max(1), hash)
     }
 
     /// Whether all positions of a hash were found set, one after the other.
@@ -131,46 +102,18 @@ impl<S> AtomicBlockedBloomFilter<S> {
     pub fn contains_hash(&self, hash: u64) -> bool
         ensures { MakesLookUpInLine self.now hash result }
     {
-        looks_in_line(&self.words, self.num_hashes, hash)
-    }
-
-    // Whether many hashes are taken together.
-    fn is_large(&self) -> bool {
-        self.words.len() >= MANY_WORDS
-    }
-
-    // Loads the ends of the lines of all these hashes, and then inserts the hashes, in order.
-    fn load_then_insert(&self, hashes: &[u64])
-        ensures { All (WasInsertedInLine self.now) hashes.now }
-    {
-        touch_lines(&self.words.lent(), hashes);
-        'inserts: for hash in hashes {
-            self.insert_hash(*hash);
-        }
+        line::looks_in_line(&self.words.lent(), self.num_hashes, hash)
     }
 
     /// Inserts hashes, in order.
     pub fn insert_hashes(&self, hashes: &[u64])
         ensures { All (WasInsertedInLine self.now) hashes.now }
     {
-        if self.is_large() {
-            self.insert_hashes_together(hashes);
-            return;
+        let words = self.words.lent();
+        if self.words.len() >= WORDS_TO_READ_AHEAD {
+            line::insert_together(&words, self.num_hashes, hashes);
+        } else {
+            line::insert_each(&words, self.num_hashes, hashes);
         }
-        'inserts: for hash in hashes {
-            self.insert_hash(*hash);
-        }
-    }
-
-    // Inserts hashes, in order, 64 at a time.
-    fn insert_hashes_together(&self, hashes: &[u64])
-        ensures { All (WasInsertedInLine self.now) hashes.now }
-    {
-        let turns = hashes.len() / TOGETHER;
-        'turns: for turn in 0..turns {
-            let at = TOGETHER * turn;
-            self.load_then_insert(&hashes[at..at + TOGETHER]);
-        }
-        self.load_then_insert(&hashes[TOGETHER * turns..]);
     }
 }

@@ -3,13 +3,11 @@ ghost use Rattle.std.specs.Prelude.{◌≡◌, ℕ, ◌+◌, ◌*◌, ◌/◌, �
 ghost use Rattle.bloom_parts.specs.Content.{content, AreWords};
 ghost use Rattle.bloom_blocked.specs.Lines.{line_of, inner_of, line_positions, are_in_line};
 
+use bloom_parts::hasher::MULTIPLIER;
 use bloom_parts::slices::{contains_in_few_words, insert_in_few_words};
 
 /// The number of words in a line.
 pub const LINE: usize = 8;
-
-// An odd number whose bits have no pattern, which the chain of a hash uses too.
-const MULTIPLIER: u64 = 0x517c_c1b7_2722_0a95;
 
 // The same words, with the fact that each has 64 bits: a slice that was read from a field lacks it.
 pub(crate) fn with_range(words: &[u64]) -> &[u64]

@@ -11,17 +11,19 @@ mod by_hash;
 mod gathered;
 mod lent;
 mod loads;
+mod turn_words;
 mod words;
 
 use crate::error::FilterError;
 use crate::slices;
-pub use crate::slices::one_bit::word_and_bit_of_hash;
+pub use crate::slices::one_bit::{is_set, next_place, word_and_mask_of_hash};
 pub use atomic::{AtomicBitVec, AtomicWords};
 pub use gathered::gather;
-pub use lent::{LentWords, Turn};
+pub use lent::LentWords;
 pub use loads::Loads;
 use std::alloc::Global;
 use std::marker::Model;
+pub use turn_words::{Turn, TurnWords};
 pub use words::Words;
 
 /// The greatest number of words, so that the number of bits fits 64 bits.
@@ -131,7 +133,7 @@ impl BitVec {
         ensures { result ≡ content self.now position }
     {
         let (word, mask) = word_and_mask(position);
-        self.words[word] & mask > 0
+        is_set(self.words[word], mask)
     }
 
     /// Sets a position, and returns whether it was set before.
@@ -142,7 +144,7 @@ impl BitVec {
         ensures shape { length self.new ≡ length self.old }
     {
         let (word, mask) = word_and_mask(position);
-        let was_on = self.words[word] & mask > 0;
+        let was_on = is_set(self.words[word], mask);
         self.words[word] |= mask;
         was_on
     }

@@ -5,7 +5,7 @@ ghost use Rattle.bloom_parts.specs.Keys.{HasKey, key_of, key_low, key_high};
 mod chain;
 mod sip;
 
-pub use chain::DoubleHasher;
+pub use chain::{DoubleHasher, MULTIPLIER};
 pub use sip::RandomDefaultHasher;
 use std::hash::{BuildHasher, Hasher};
 

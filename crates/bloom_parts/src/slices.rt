@@ -7,20 +7,22 @@ ghost use Rattle.std.specs.Int.Count.{ones};
 ghost use Rattle.bloom_parts.specs.Content.{content};
 ghost use Rattle.bloom_parts.specs.Counts.{count_on};
 
-mod few_words;
 mod kernels;
+pub mod many;
 pub(crate) mod one_bit;
 mod positions;
 
-pub use few_words::{contains_in_few_words, insert_in_few_words};
 use kernels::{and_words, clear_words, or_words, same_words};
-pub use positions::{contains_by_count, contains_positions, insert_positions};
+pub use positions::{
+    contains_by_count, contains_in_few_words, contains_positions, insert_in_few_words,
+    insert_positions,
+};
 
 /// From this many words on, which are four mebibytes, a filter counts as larger than a cache.
-pub const MANY_WORDS: usize = 1 << 19;
+pub const WORDS_BEYOND_CACHE: usize = 1 << 19;
 
-/// How many hashes are looked up together where a filter is larger than a cache.
-pub const GROUP: usize = 16;
+/// How many hashes are taken together where a filter is larger than a cache.
+pub const HASHES_TOGETHER: usize = 16;
 
 /// Clears every position.
 pub fn clear(words: &mut [u64])

@@ -16,7 +16,7 @@ use Rattle.bloom_plain.specs.Builders.{words_for}
 use Rattle.bloom_plain.specs.Filter.{Filter, num_bits_of, contains, Inserts}
 use Rattle.bloom_plain.specs.Growing.{Plan, Growing, room_at, den_at, IsNumber, any_contains, has, Took, AreFull}
 use Rattle.bloom_plain.specs.Replies.{CarriesOut}
-use Rattle.bloom_plain.proofs.ListLemmas.{carries_out-append}
+use Rattle.bloom_plain.specs.ListLaws.{carries_out-append}
 use Rattle.bloom_plain.proofs.ReplyLemmas.{carries_out-insert}
 use Rattle.bloom_plain.proofs.TogetherLemmas.{contained-insert}
 

@@ -16,7 +16,7 @@ use Rattle.bloom_plain.proofs.FilterFacts.{filter}
 use Rattle.bloom_plain.proofs.InsertFacts.{inserts-rest, inserts-zero}
 use Rattle.bloom_plain.proofs.InsertListFacts.{inserts_all}
 use Rattle.bloom_plain.proofs.ListFacts.{with_others, carried_out-others, carried_out-clear, eight}
-use Rattle.bloom_plain.proofs.ListLemmas.{carries_out-append}
+use Rattle.bloom_plain.specs.ListLaws.{carries_out-append}
 use Rattle.bloom_plain.proofs.ReplyLemmas.{carries_out-insert, carries_out-contains}
 use Rattle.bloom_plain.proofs.SetFacts.{clears, unites, unites-words, intersects}
 

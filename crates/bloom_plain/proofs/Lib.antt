@@ -43,6 +43,7 @@ mod ListLemmas
 mod NumberLemmas
 mod OnesFacts
 mod OnesLemmas
+mod QueueLemmas
 mod RateFacts
 mod RateLemmas
 mod ReadLemmas

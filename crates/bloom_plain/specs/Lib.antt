@@ -12,6 +12,8 @@ pub mod GrowingInserts
 pub mod GrowingLaws
 pub mod GrowingRates
 pub mod Laws
+pub mod ListLaws
 pub mod Ones
+pub mod Queues
 pub mod Replies
 pub mod SourceHash

@@ -31,11 +31,3 @@ InsertsAll old hashes new = (given : List Bool) × CarriesOut old (map Insert ha
 -- from old to new the items of a list were inserted, in order, each by its hash under the hasher
 abbrev pub InsertsItems : {S T : Type 0} → (S → T → ℕ) → Filter S → List T → Filter S → Type 0
 InsertsItems hash_of old items new = InsertsAll old (map (hash_of old.hasher) items) new
-
--- a hash joined those that wait to be inserted: from old to new the first of all these were
--- inserted, and the others still wait
-pub record Queues {S : Type 0} (old : Filter S) (waiting : List ℕ) (hash : ℕ) (new : Filter S)
-    (more : List ℕ) : Type 0 where
-  pub gone : List ℕ
-  pub cut : waiting ++ hash ∷ [] ≡ gone ++ more
-  pub did : InsertsAll old gone new

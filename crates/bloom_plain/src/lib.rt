@@ -6,10 +6,9 @@ pub mod builder;
 pub mod file;
 mod growing;
 pub mod laws;
+pub mod queue;
 
-pub use bloom::{
-    BitsData, BloomFilter, Command, FilterData, expected_rate, insert_hashes, shape_of_data,
-};
+pub use bloom::{BitsData, BloomFilter, Command, FilterData, expected_rate, shape_of_data};
 pub use bloom_parts::error::FilterError;
 pub use bloom_parts::hasher::{CloneBuildHasher, DefaultHasher, RandomDefaultHasher};
 pub use bloom_parts::math::{Estimate, Rate};

@@ -5,5 +5,6 @@ pub mod laws;
 mod steps;
 
 pub use steps::{
-    Call, End, Event, Machine, MemoryStore, Record, Step, Trace, WordStore, drive, run,
+    Call, End, Event, Machine, MemoryStore, Record, SpanStore, Step, Trace, WordStore, calls,
+    drive, run,
 };

@@ -1,16 +1,12 @@
--- What calls on shared filters tell, and which hashes wait: cases that hold, and cases that nearly
--- do.
-use Rattle.std.proofs.Common.{◌≡◌, ◌∙◌, ◌↔◌, ℕ, ◌*◌, ◌/◌, ◌%◌, ◌^◌, ◌<◌, ◌≤◌, Bool, true, false, List, [], ◌∷◌, ◌++◌, length, sym, subst, ap, refl, arith, append-nil}
-use Rattle.std.specs.List.{All}
+-- What calls on shared filters tell: cases that hold, and cases that nearly do.
+use Rattle.std.proofs.Common.{◌≡◌, ◌∙◌, ◌↔◌, ℕ, ◌*◌, ◌/◌, ◌%◌, ◌^◌, ◌<◌, ◌≤◌, Bool, true, false, sym, subst, ap, refl, arith}
 use Rattle.std.proofs.lemmas.Option.{same_Some, slice_get_within}
-use Rattle.std.proofs.lemmas.List.{length-append}
-use Rattle.std.proofs.lemmas.List.Elements.{All-from_recursion}
 use Rattle.bloom_parts.specs.Content.{bit_is_on}
 use Rattle.bloom_parts.specs.Made.{FoundByOr, made-in_turn}
 use Rattle.bloom_parts.specs.Places.{place}
 use Rattle.bloom_steps.specs.Scripts.{Any, answer_of_end}
 use Rattle.bloom_steps.specs.LiveSteps.{IsMade}
-use Rattle.fastbloom.specs.Shared.{SharedFilter, MakesInsert, WasInserted, QueuesInsert}
+use Rattle.fastbloom.specs.Shared.{SharedFilter, MakesInsert, WasInserted}
 use Rattle.fastbloom.proofs.SharedFacts.{insert-turns-on-each}
 use Rattle.fastbloom.proofs.ScriptLemmas.{member}
 use Rattle.bloom_steps.proofs.LiveLemmas.{last-of, made-at}
@@ -78,37 +74,3 @@ module _ {S : Type 0} (f : SharedFilter S) (hash : ℕ) where
       → let p = place (64 * f.words.count) hash i in
       (found : ℕ) × FoundByOr f.words (p / 64) (2 ^ (p % 64)) found
   was-inserted did i within = insert-turns-on-each f hash did.0 did.1 i within
-
-module _ (f : SharedFilter ℕ) where
-  -- a hash may join those that wait, in order
-  queues-waits : QueuesInsert f (1 ∷ []) 2 (1 ∷ 2 ∷ [])
-  queues-waits = record {
-    gone = [];
-    cut = refl;
-    did = λ k d within. absurd (omega (arith, within));
-  }
-
-  -- those that wait may all be inserted
-  queues-inserts : WasInserted f 1 → WasInserted f 2 → QueuesInsert f (1 ∷ []) 2 []
-  queues-inserts one two = record {
-    gone = 1 ∷ 2 ∷ [];
-    cut = refl;
-    did = All-from_recursion (WasInserted f) (1 ∷ 2 ∷ []) (one, (two, tt));
-  }
-
-  -- where none waits afterwards, each hash was inserted
-  queues-inserted : QueuesInsert f (1 ∷ []) 2 [] → WasInserted f 1 × WasInserted f 2
-  queues-inserted queues =
-      let gone : queues.gone ≡ 1 ∷ 2 ∷ [] = sym (queues.cut ∙ append-nil queues.gone) in
-      let did = subst (All (WasInserted f)) gone queues.did in
-      (did 0 0 (omega arith), did 1 0 (omega arith))
-
-  -- the hash that came isn't lost while an earlier one waits
-  queues-loses : QueuesInsert f (1 ∷ []) 2 (1 ∷ []) → ⊥
-  queues-loses queues = lost queues.gone queues.cut
-    where
-      lost : (gone : List ℕ) → 1 ∷ 2 ∷ [] ≡ gone ++ 1 ∷ [] → ⊥
-      lost [] cut = cc
-      lost (hash ∷ []) cut = cc
-      lost (hash ∷ (other ∷ gone)) cut =
-          omega (arith, ap length cut, length-append gone (1 ∷ []))

@@ -1,37 +1,9 @@
 -- Many items of an iterator, each inserted into a filter that threads share.
-use Rattle.std.proofs.Common.{◌≡◌, ℕ, zero, suc, arith, List, [], ◌∷◌, ◌++◌, Bool, map, sym, subst, Option, None}
-use Rattle.std.specs.List.{All}
-use Rattle.std.specs.Iterator.{Yields}
+use Rattle.std.proofs.Common.{◌≡◌, ℕ, Option, subst}
 use Rattle.std.specs.Iterator.Runs.{WholeRun}
-use Rattle.std.proofs.iter.runs.Made.{run_of_exit}
-use Rattle.std.proofs.lemmas.List.{map-append}
-use Rattle.std.proofs.lemmas.List.Elements.{All-append}
-use Rattle.fastbloom.specs.Shared.{SharedFilter, WasInserted, MakesInsert, MakesInserts}
-
--- what holds of one element holds of a list of it
-all-one : {X : Type 0} (P : X → Type 0) (x : X) → P x → All P (x ∷ [])
-all-one P x holds zero d within = holds
-all-one P x holds (suc k) d within = absurd (omega (arith, within))
+use Rattle.fastbloom.specs.Shared.{SharedFilter, MakesInserts}
 
 module _ {S T : Type 0} (hash_of : S → T → ℕ) (f : SharedFilter S) where
-  -- one more item
-  pub made_inserts-next : (items : List T) (item : T) (reply : Bool) → MakesInserts hash_of f items
-      → MakesInsert f (hash_of f.hasher item) reply → MakesInserts hash_of f (items ++ item ∷ [])
-  made_inserts-next items item reply did next =
-      subst (All (WasInserted f)) (sym (map-append (hash_of f.hasher) items (item ∷ [])))
-      (All-append (WasInserted f) (map (hash_of f.hasher) items) (hash_of f.hasher item ∷ []) did
-      (all-one (WasInserted f) (hash_of f.hasher item) (reply, next)))
-
-  -- when the iterator has ended, those were all its items
-  pub made_inserts-whole : {I : Type 0} (comes : I → Type 0) (steps : I → Option T → I → Type 0)
-      (start last end : I) (items : List T) → comes start → Yields steps start items last
-      → steps last None end → MakesInserts hash_of f items
-      → (it : I) × comes it × WholeRun steps it (λ run. MakesInserts hash_of f run.items)
-  made_inserts-whole comes steps start last end items first came ended did =
-      let made = run_of_exit steps start items last came end ended in
-      let all = subst (MakesInserts hash_of f) (sym made.3.0) did in
-      (start, first, (made.0, made.1, made.2, all))
-
   -- a filter has the form for as many items as an iterator has left, and the items of an equal
   -- iterator were inserted into it
   pub made_inserts-same : {I : Type 0} (comes : I → Type 0) (form : ℕ → Type 0) (left : I → ℕ)

@@ -18,6 +18,4 @@ mod SeatedFacts
 mod SeatedLemmas
 mod SharedFacts
 mod SharedFormFacts
-mod TakenLemmas
-mod TogetherLemmas
 mod TurnFacts

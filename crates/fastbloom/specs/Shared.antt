@@ -1,7 +1,7 @@
 -- What contracts see of a filter that threads share, and which steps its calls make. Contracts
 -- don't see its words, since any thread may change them at any time. Which steps make up a call is
 -- said once for all vectors (`bloom_steps`). These definitions are this project's own.
-use Rattle.std.specs.Prelude.{◌≡◌, ◌≢◌, ℕ, ◌<◌, Bool, List, [], ◌∷◌, ◌++◌, length, map, All, Option, Some}
+use Rattle.std.specs.Prelude.{◌≡◌, ◌≢◌, ℕ, ◌<◌, Bool, List, length, map, All, Option, Some}
 use Rattle.bloom_parts.specs.Made.{SharedWords, BeganWith, FoundByLoad}
 use Rattle.bloom_plain.specs.Builders.{RateStart, IsSizeOf, sized_filter, empty_start}
 use Rattle.bloom_plain.specs.Filter.{Filter}
@@ -47,14 +47,6 @@ MakesInsert f hash reply = MakesCall f f (Insert hash) (Some reply)
 -- a hash was inserted, whatever the reply
 abbrev pub WasInserted : {S : Type 0} → SharedFilter S → ℕ → Type 0
 WasInserted f hash = (reply : Bool) × MakesInsert f hash reply
-
--- a hash joined the end of a queue of hashes: those at the front were inserted, and the others
--- still wait
-pub record QueuesInsert {S : Type 0} (f : SharedFilter S) (waiting : List ℕ) (hash : ℕ)
-    (more : List ℕ) : Type 0 where
-  pub gone : List ℕ
-  pub cut : waiting ++ hash ∷ [] ≡ gone ++ more
-  pub did : All (WasInserted f) gone
 
 -- each item of a list was inserted by its hash under the hasher
 abbrev pub MakesInserts : {S T : Type 0} → (S → T → ℕ) → SharedFilter S → List T → Type 0

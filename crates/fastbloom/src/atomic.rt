@@ -5,18 +5,14 @@ ghost use Rattle.fastbloom.specs.Shared.{MakesCall, MakesInsert};
 
 mod data;
 mod items;
-mod keeping_store;
-mod live_store;
 mod ones;
 mod rates;
 mod sets;
-mod together;
 mod words;
 
 use bloom_parts::bit_vector::AtomicBitVec;
 use bloom_parts::hasher::DefaultHasher;
-use bloom_steps::{Call, drive};
-use live_store::LiveStore;
+use bloom_steps::calls;
 use std::marker::Model;
 
 /// A Bloom filter that threads share: each call takes `&self`.
@@ -58,17 +54,6 @@ impl<S> AtomicBloomFilter<S> {
         }
     }
 
-    // Makes all steps of a call, in order, and returns the call's reply.
-    #[inline(always)]
-    fn make(&self, other: &Self, call: Call) -> Option<bool>
-        requires { other.now.words.count ≡ self.now.words.count }
-        ensures made { MakesCall self.now other.now call result }
-        ensures hashes { 1 ≤ self.now.hashes }
-    {
-        let mut store = LiveStore::new(&self.words, &other.words);
-        drive(&mut store, call, self.num_hashes)
-    }
-
     /// The number of hashes, and so of positions of each hash, which may coincide.
     pub fn num_hashes(&self) -> u32
         ensures value { result ≡ self.now.hashes }
@@ -98,10 +83,7 @@ impl<S> AtomicBloomFilter<S> {
     pub fn insert_hash(&self, hash: u64) -> bool
         ensures { MakesInsert self.now hash result }
     {
-        match self.make(self, Call::Insert(hash)) {
-            Some(all_on) => all_on,
-            None => unreachable!(),
-        }
+        calls::insert_hash(&self.words.lent(), self.num_hashes, hash)
     }
 
     /// Whether all positions of a hash were found set, one after the other.
@@ -112,9 +94,6 @@ impl<S> AtomicBloomFilter<S> {
     pub fn contains_hash(&self, hash: u64) -> bool
         ensures { MakesCall self.now self.now (Contains hash) (Some result) }
     {
-        match self.make(self, Call::Contains(hash)) {
-            Some(all_on) => all_on,
-            None => unreachable!(),
-        }
+        calls::contains_hash(&self.words.lent(), self.num_hashes, hash)
     }
 }

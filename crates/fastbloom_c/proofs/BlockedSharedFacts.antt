@@ -5,7 +5,7 @@ use Rattle.bloom_parts.specs.Made.{SharedWords}
 use Rattle.fastbloom_c.specs.BlockedShared.{SetsInLines, TellsLooksInLines, TellsSetsInLines, WasSetInLine}
 use Rattle.bloom_blocked.specs.LineSteps.{LooksInLine, SetsInLine}
 use Rattle.bloom_parts.specs.Content.{content}
-use Rattle.passed_words.specs.Passed.{MakeLines}
+use Rattle.fastbloom_c.specs.Passed.{MakeLines}
 
 -- eight words make a line, and so does the greatest number
 lines-least : MakeLines 8

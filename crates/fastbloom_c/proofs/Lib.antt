@@ -1,13 +1,11 @@
-mod BitLemmas
 mod BlockedPlanFacts
 mod BlockedPlanLemmas
 mod BlockedSharedFacts
 mod EstimateFacts
+mod Fields
 mod FileFacts
 mod ItemFacts
 mod ItemLemmas
-mod ManyFacts
-mod ManyLemmas
 mod NoWordLemmas
 mod PieceFacts
 mod PlanFacts
@@ -15,3 +13,4 @@ mod RateFacts
 mod SameBitsLemmas
 mod SharedFacts
 mod SharedLemmas
+mod Steps

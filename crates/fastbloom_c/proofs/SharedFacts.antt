@@ -7,7 +7,7 @@ use Rattle.bloom_parts.specs.Content.{content}
 use Rattle.bloom_parts.specs.Made.{SharedWords}
 use Rattle.bloom_parts.proofs.PublishedLemmas.{content-zeros}
 use Rattle.fastbloom_c.specs.Shared.{MakesInsert, MakesInserts, MakesLook, TellsEach, TellsInserts, TellsLooks, WasInserted}
-use Rattle.passed_words.specs.Passed.{MakeFilter, vector_of}
+use Rattle.fastbloom_c.specs.Passed.{MakeFilter, vector_of}
 
 -- one word makes a filter, and so does the greatest number
 filter-least : MakeFilter 1

@@ -3,7 +3,8 @@ pub mod BlockedShared
 pub mod Estimates
 pub mod Files
 pub mod Items
-pub mod Many
+pub mod Passed
 pub mod Plans
 pub mod Rates
 pub mod Shared
+pub use Rattle.bloom_parts.specs.Many

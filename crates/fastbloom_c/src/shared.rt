@@ -9,12 +9,13 @@ ghost use Rattle.std.specs.Prelude.{◌≡◌, ◌↔◌, ◌≤◌, false, IsTr
 ghost use Rattle.bloom_parts.specs.Keys.{key_low, key_high};
 ghost use Rattle.bloom_parts.specs.Sip.{sip};
 ghost use Rattle.fastbloom_c.specs.Shared.{MakesInsert, MakesLook};
-ghost use Rattle.passed_words.specs.Passed.{MakeFilter, vector_of};
+ghost use Rattle.fastbloom_c.specs.Passed.{MakeFilter, vector_of};
 
+use crate::lent::LentWords;
 use crate::texts::fastbloom_hash;
+use crate::words::{PassedWords, RawWords};
 use bloom_parts::bit_vector::MAX_WORDS;
-use passed_words::calls::{contains_hash, insert_hash};
-use passed_words::words::{PassedWords, RawWords};
+use bloom_steps::calls::{contains_hash, insert_hash};
 
 // Whether there are words, and at most 2^58 - 1.
 #[inline(always)]
@@ -40,7 +41,7 @@ pub extern "C" fn fastbloom_shared_insert_hash(
     if !make_filter(&words) {
         return false;
     }
-    insert_hash(&words, num_hashes.max(1), hash)
+    insert_hash(&LentWords::new(&words), num_hashes.max(1), hash)
 }
 
 // Returns the number of hashes if all positions of a hash were found set, one after the other, and
@@ -52,7 +53,7 @@ pub(crate) fn found_hashes(words: &RawWords, num_hashes: u32, hash: u64) -> u32
     requires hashes { 1 ≤ num_hashes }
     ensures { MakesLook (vector_of words.now.at words.now.len) num_hashes hash (nat_lt 0 result) }
 {
-    if contains_hash(words, num_hashes, hash) {
+    if contains_hash(&LentWords::new(words), num_hashes, hash) {
         num_hashes
     } else {
         0
@@ -66,7 +67,7 @@ fn found_hashes_of(words: RawWords, num_hashes: u32, hash: u64) -> u32
     requires hashes { 1 ≤ num_hashes }
     ensures { MakesLook (vector_of words.at words.len) num_hashes hash (nat_lt 0 result) }
 {
-    if contains_hash(&words, num_hashes, hash) {
+    if contains_hash(&LentWords::new(&words), num_hashes, hash) {
         num_hashes
     } else {
         0

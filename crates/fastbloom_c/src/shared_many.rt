@@ -1,64 +1,15 @@
 //! Calls on many hashes, on words that threads share.
 ghost use Rattle.std.specs.Prelude.{◌≡◌, ◌↔◌, ◌*◌, ◌≤◌, false, IsTrue, length, max};
 ghost use Rattle.fastbloom_c.specs.Shared.{MakesInserts, TellsInserts, TellsLooks};
-ghost use Rattle.passed_words.specs.Passed.{MakeFilter, vector_of};
+ghost use Rattle.fastbloom_c.specs.Passed.{MakeFilter, vector_of};
 
-use crate::many::{have_room, turn_on_where};
+use crate::lent::LentWords;
+use crate::many::have_room;
 use crate::shared::{found_hashes, make_filter};
-use bloom_parts::bit_vector::word_and_bit_of_hash;
-use bloom_parts::hasher::DoubleHasher;
-use bloom_parts::slices::{GROUP, MANY_WORDS, clear};
-use passed_words::calls::insert_hash;
-use passed_words::words::{PassedWords, RawWords};
-
-// Loads the words of a hash. Nothing depends on what they hold, so no load waits for another.
-#[inline(always)]
-fn touch(words: &RawWords, num_hashes: u32, hash: u64)
-    requires { MakeFilter words.now.len }
-{
-    let num_words = words.len();
-    let mut chain = DoubleHasher::new(hash);
-    'places: for _place in 0..num_hashes {
-        let (word, _bit) = word_and_bit_of_hash(num_words, chain.next());
-        words.load(word);
-    }
-}
-
-// Loads the words of each of these hashes.
-fn touch_each(words: &RawWords, num_hashes: u32, hashes: &[u64])
-    requires { MakeFilter words.now.len }
-{
-    'touches: for hash in hashes {
-        touch(words, num_hashes, *hash);
-    }
-}
-
-// Inserts each of these hashes, in order.
-fn insert_each(words: &RawWords, num_hashes: u32, hashes: &[u64])
-    requires filter { MakeFilter words.now.len }
-    requires hashes { 1 ≤ num_hashes }
-    ensures { MakesInserts (vector_of words.now.at words.now.len) num_hashes hashes.now }
-{
-    'hashes: for hash in hashes {
-        insert_hash(words, num_hashes, *hash);
-    }
-}
-
-// Inserts each of these hashes, sixteen at a time: their words are loaded first, so that memory
-// fetches them side by side.
-fn insert_together(words: &RawWords, num_hashes: u32, hashes: &[u64])
-    requires filter { MakeFilter words.now.len }
-    requires hashes { 1 ≤ num_hashes }
-    ensures { MakesInserts (vector_of words.now.at words.now.len) num_hashes hashes.now }
-{
-    let turns = hashes.len() / GROUP;
-    'turns: for turn in 0..turns {
-        let at = GROUP * turn;
-        touch_each(words, num_hashes, &hashes[at..at + GROUP]);
-        insert_each(words, num_hashes, &hashes[at..at + GROUP]);
-    }
-    insert_each(words, num_hashes, &hashes[GROUP * turns..]);
-}
+use crate::words::{PassedWords, RawWords};
+use bloom_parts::slices::many::turn_on_where;
+use bloom_parts::slices::{WORDS_BEYOND_CACHE, clear};
+use bloom_steps::calls::{insert_each, insert_hash, insert_together};
 
 /// Inserts each of these hashes, and returns whether there are words.
 ///
@@ -78,10 +29,12 @@ pub extern "C" fn fastbloom_shared_insert_hashes(
     if !make_filter(&words) {
         return false;
     }
-    if words.len() >= MANY_WORDS {
-        insert_together(&words, num_hashes.max(1), hashes);
+    let lent = LentWords::new(&words);
+    let num_hashes = num_hashes.max(1);
+    if words.len() >= WORDS_BEYOND_CACHE {
+        insert_together(&lent, num_hashes, hashes);
     } else {
-        insert_each(&words, num_hashes.max(1), hashes);
+        insert_each(&lent, num_hashes, hashes);
     }
     true
 }
@@ -143,7 +96,7 @@ fn insert_each_telling(words: &RawWords, num_hashes: u32, hashes: &[u64], fresh:
     clear(fresh);
     let mut i: usize = 0;
     'hashes: for hash in hashes {
-        let was_on = insert_hash(words, num_hashes, *hash);
+        let was_on = insert_hash(&LentWords::new(words), num_hashes, *hash);
         turn_on_where(!was_on, fresh, i);
         i += 1;
     }

@@ -3,11 +3,12 @@ ghost use Rattle.std.specs.Prelude.{◌≡◌, ◌↔◌, false, IsTrue, length,
 ghost use Rattle.bloom_steps.specs.LiveSteps.{MakesCallOn, TakesWordsOf};
 ghost use Rattle.bloom_steps.specs.Loaded.{CountsLoaded, WereLoaded};
 ghost use Rattle.bloom_steps.specs.declared.steps.vocabulary.Call.TheVariants as call;
-ghost use Rattle.passed_words.specs.Passed.{MakeFilter, vector_of};
+ghost use Rattle.fastbloom_c.specs.Passed.{MakeFilter, vector_of};
 
+use crate::lent::LentWords;
 use crate::shared::make_filter;
-use passed_words::calls::{clear, count_ones, intersect, load_into, take_into, union};
-use passed_words::words::PassedWords;
+use crate::words::PassedWords;
+use bloom_steps::calls::{clear, count_ones, intersect, load_into, take_into, union};
 
 /// Clears every position, one word after the other, and returns whether there are words.
 #[unsafe(no_mangle)]
@@ -20,7 +21,7 @@ pub extern "C" fn fastbloom_shared_clear(words: PassedWords) -> bool
     if !make_filter(&words) {
         return false;
     }
-    clear(&words);
+    clear(&LentWords::new(&words), 1);
     true
 }
 
@@ -38,7 +39,7 @@ pub extern "C" fn fastbloom_shared_union(words: PassedWords, other: PassedWords)
     if !make_filter(&words) || other.len() != words.len() {
         return false;
     }
-    union(&words, &other);
+    union(&LentWords::new(&words), &LentWords::new(&other), 1);
     true
 }
 
@@ -57,7 +58,7 @@ pub extern "C" fn fastbloom_shared_intersect(words: PassedWords, other: PassedWo
     if !make_filter(&words) || other.len() != words.len() {
         return false;
     }
-    intersect(&words, &other);
+    intersect(&LentWords::new(&words), &LentWords::new(&other), 1);
     true
 }
 
@@ -74,7 +75,7 @@ pub extern "C" fn fastbloom_shared_take(words: PassedWords, taken: &mut [u64]) -
     if !make_filter(&words) || taken.len() != words.len() {
         return false;
     }
-    take_into(&words, taken);
+    take_into(&LentWords::new(&words), 1, taken);
     true
 }
 
@@ -91,7 +92,7 @@ pub extern "C" fn fastbloom_shared_load(words: PassedWords, loaded: &mut [u64]) 
     if !make_filter(&words) || loaded.len() != words.len() {
         return false;
     }
-    load_into(&words, loaded);
+    load_into(&LentWords::new(&words), loaded);
     true
 }
 
@@ -106,5 +107,5 @@ pub extern "C" fn fastbloom_shared_count_ones(words: PassedWords) -> usize
     if !make_filter(&words) {
         return 0;
     }
-    count_ones(&words)
+    count_ones(&LentWords::new(&words))
 }

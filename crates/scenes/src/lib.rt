@@ -16,6 +16,8 @@ macro_rules! scene {
 #[cfg(test)]
 mod answers;
 #[cfg(test)]
+mod bits;
+#[cfg(test)]
 mod blocked;
 #[cfg(test)]
 mod concrete;
@@ -37,6 +39,8 @@ mod growing;
 mod hashing;
 #[cfg(test)]
 mod making;
+#[cfg(test)]
+mod many;
 #[cfg(test)]
 mod memory;
 #[cfg(test)]

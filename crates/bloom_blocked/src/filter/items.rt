@@ -1,38 +1,15 @@
 //! The calls that take items. Each is the call of the item's source hash.
-ghost use Rattle.std.specs.Prelude.{◌≡◌, ◌<◌, ℕ, List, IsTrue};
-ghost use Rattle.arrayvec.specs.ArrayVec.{array_vec_len};
+ghost use Rattle.std.specs.Prelude.{◌≡◌, ℕ, List, IsTrue};
 ghost use Rattle.std.specs.Iterator.{IsFiniteIterable};
 ghost use Rattle.std.specs.Iterator.Runs.{WholeRun};
 ghost use Rattle.std.specs.List.{concat};
 ghost use Rattle.bloom_plain.specs.SourceHash.{source_hash_of, lent_hash_of, IsFunctionOfBytes};
-ghost use Rattle.bloom_blocked.specs.Blocked.{contains_in_line, InsertsInLine, InsertsItemsInLines, QueuesInLines};
+ghost use Rattle.bloom_blocked.specs.Blocked.{contains_in_line, InsertsInLine, InsertsItemsInLines};
 
 use super::BlockedBloomFilter;
-use crate::many::{MANY_WORDS, TOGETHER};
-use arrayvec::ArrayVec;
+use crate::many::{LINES_TOGETHER, WORDS_TO_READ_AHEAD};
+use bloom_plain::queue::{TakesHashes, insert_items};
 use std::hash::{BuildHasher, Hash, Hasher};
-
-impl<S> BlockedBloomFilter<S> {
-    // Whether many hashes are taken together.
-    fn is_large(&self) -> bool {
-        self.words.len() >= MANY_WORDS
-    }
-
-    // Lets a hash wait, and inserts all that wait once they are 64.
-    #[inline(always)]
-    fn insert_later(&mut self, waiting: &mut ArrayVec<u64, TOGETHER>, hash: u64)
-        requires { array_vec_len waiting.old < 64 }
-        ensures queues { QueuesInLines self.old waiting.old.items hash
-            self.new waiting.new.items }
-        ensures room { array_vec_len waiting.new < 64 }
-    {
-        waiting.push(hash);
-        if waiting.is_full() {
-            self.insert_hashes(waiting);
-            waiting.clear();
-        }
-    }
-}
 
 impl<S: BuildHasher> BlockedBloomFilter<S> {
     /// The source hash of an item: what a fresh hasher returns once the item is hashed into it.
@@ -111,29 +88,47 @@ impl<S: BuildHasher> BlockedBloomFilter<S> {
             InsertsItemsInLines (source_hash_of S.BuildHasher S.Hasher.Hasher T.hash_input)
             self.old run.items self.new) }
     {
-        if self.is_large() {
-            self.insert_items_together(iter);
-            return;
-        }
-        'given: for item in iter {
-            self.insert(&item);
+        insert_items(self, iter);
+    }
+}
+
+impl<S: BuildHasher> TakesHashes for BlockedBloomFilter<S> {
+    ghost use Rattle.std.specs.Prelude.{◌≡◌};
+    ghost use Rattle.std.proofs.Common.{ap};
+    ghost use Rattle.bloom_plain.specs.SourceHash.{hash_by};
+    ghost use Rattle.bloom_blocked.specs.Blocked.{InsertsAllInLines};
+    ghost use Rattle.bloom_blocked.specs.InsertLaws.{inserts_all-none, inserts_all-join};
+
+    ghost took = { InsertsAllInLines };
+
+    ghost hash_of = { λ f writes. hash_by S.Hasher.Hasher (S.build_hasher f.hasher) writes };
+
+    ghost none = { inserts_all-none };
+
+    ghost join = { inserts_all-join };
+
+    ghost keeps = { λ x y xs writes did.
+        ap (λ b. hash_by S.Hasher.Hasher (S.build_hasher b) writes) did.hasher };
+
+    fn num_together(&self) -> usize {
+        if self.words.len() >= WORDS_TO_READ_AHEAD {
+            LINES_TOGETHER
+        } else {
+            1
         }
     }
 
-    // Inserts every item that an iterator gives, in order, 64 at a time.
-    fn insert_items_together<T: Hash + Drop, I: IntoIterator<Item = T>>(&mut self, iter: I)
-        requires { IsFiniteIterable
-            I.into_iter_gives I.IntoIter.can_next I.IntoIter.remaining iter }
-        ensures { (it : I.IntoIter) × I.into_iter_gives iter it
-            × WholeRun I.IntoIter.next_gives it (λ run.
-            InsertsItemsInLines (source_hash_of S.BuildHasher S.Hasher.Hasher T.hash_input)
-            self.old run.items self.new) }
-    {
-        let mut waiting = ArrayVec::<u64, TOGETHER>::new();
-        'given: for item in iter {
-            let hash = self.source_hash(&item);
-            self.insert_later(&mut waiting, hash);
-        }
-        self.insert_hashes(&waiting);
+    #[inline(always)]
+    fn hash_item<T: Hash>(&self, val: &T) -> u64 {
+        self.source_hash(val)
+    }
+
+    #[inline(always)]
+    fn insert_one(&mut self, hash: u64) {
+        self.insert_hash(hash);
+    }
+
+    fn insert_many(&mut self, hashes: &[u64]) {
+        self.insert_hashes(hashes);
     }
 }

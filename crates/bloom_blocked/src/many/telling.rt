@@ -3,7 +3,7 @@ ghost use Rattle.std.specs.Prelude.{◌≡◌, ℕ, ◌*◌, ◌/◌, ◌≤◌,
 ghost use Rattle.bloom_parts.specs.Content.{content};
 ghost use Rattle.bloom_blocked.specs.Many.{positions_of_all, TellsNew};
 
-use super::{MANY_WORDS, all_are_set, ends_are_full, mask_where};
+use super::{WORDS_TO_READ_AHEAD, all_are_set, ends_are_full, mask_where};
 use crate::words::insert_hash;
 use bloom_parts::slices::clear;
 
@@ -41,7 +41,7 @@ fn insert_word_telling(words: &mut [u64], num_hashes: u32, hashes: &[u64]) -> u6
         || positions_of_all (length words.old / 8) num_hashes hashes.now p) }
     ensures shape { length words.new ≡ length words.old }
 {
-    if words.len() >= MANY_WORDS
+    if words.len() >= WORDS_TO_READ_AHEAD
         && ends_are_full(words, hashes)
         && all_are_set(words, num_hashes, hashes)
     {

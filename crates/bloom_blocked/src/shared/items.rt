@@ -1,32 +1,16 @@
 //! The calls that take items: those of their source hashes.
-ghost use Rattle.std.specs.Prelude.{◌≡◌, ◌<◌, ℕ, List, IsTrue};
-ghost use Rattle.arrayvec.specs.ArrayVec.{array_vec_len};
+ghost use Rattle.std.specs.Prelude.{◌≡◌, ℕ, List, IsTrue};
 ghost use Rattle.std.specs.List.{concat};
 ghost use Rattle.std.specs.Iterator.{IsFiniteIterable};
 ghost use Rattle.std.specs.Iterator.Runs.{WholeRun};
 ghost use Rattle.bloom_plain.specs.SourceHash.{source_hash_of, lent_hash_of, IsFunctionOfBytes};
-ghost use Rattle.bloom_blocked.specs.SharedBlocked.{MakesInsertInLine, MakesInsertsInLines, MakesLookUpInLine, QueuesInsertInLine};
+ghost use Rattle.bloom_blocked.specs.SharedBlocked.{MakesInsertInLine, MakesInsertsInLines, MakesLookUpInLine};
 
 use super::AtomicBlockedBloomFilter;
-use crate::many::TOGETHER;
-use arrayvec::ArrayVec;
+use crate::line::load_then_insert;
+use crate::many::{LINES_TOGETHER, WORDS_TO_READ_AHEAD};
+use bloom_plain::queue::{TakesHashes, insert_items};
 use std::hash::{BuildHasher, Hash, Hasher};
-
-impl<S> AtomicBlockedBloomFilter<S> {
-    // Lets a hash wait, and once 64 wait inserts them all.
-    #[inline(always)]
-    fn insert_later(&self, waiting: &mut ArrayVec<u64, TOGETHER>, hash: u64)
-        requires { array_vec_len waiting.old < 64 }
-        ensures queues { QueuesInsertInLine self.now waiting.old.items hash waiting.new.items }
-        ensures room { array_vec_len waiting.new < 64 }
-    {
-        waiting.push(hash);
-        if waiting.is_full() {
-            self.load_then_insert(waiting);
-            waiting.clear();
-        }
-    }
-}
 
 impl<S: BuildHasher> AtomicBlockedBloomFilter<S> {
     /// The source hash of an item: what a fresh hasher returns once the item is hashed into it.
@@ -77,7 +61,7 @@ impl<S: BuildHasher> AtomicBlockedBloomFilter<S> {
 
     /// Inserts every item that an iterator lends, in order.
     ///
-    /// In a filter of four mebibytes or more it takes 64 items at a time from the iterator,
+    /// In a filter of one mebibyte or more it takes 64 items at a time from the iterator,
     /// and loads words of all of them before it inserts the first, so that memory fetches them side
     /// by side. Its clause doesn't tell these loads.
     pub fn insert_all<'a, T: Hash + 'a, I: IntoIterator<Item = &'a T>>(&self, iter: I)
@@ -93,7 +77,7 @@ impl<S: BuildHasher> AtomicBlockedBloomFilter<S> {
 
     /// Inserts every item that an iterator gives, in order.
     ///
-    /// In a filter of four mebibytes or more it takes 64 items at a time from the iterator,
+    /// In a filter of one mebibyte or more it takes 64 items at a time from the iterator,
     /// and loads words of all of them before it inserts the first, so that memory fetches them side
     /// by side. Its clause doesn't tell these loads.
     pub fn extend<T: Hash + Drop, I: IntoIterator<Item = T>>(&self, iter: I)
@@ -104,28 +88,52 @@ impl<S: BuildHasher> AtomicBlockedBloomFilter<S> {
             × WholeRun I.IntoIter.next_gives it (λ run. MakesInsertsInLines
             (source_hash_of S.BuildHasher S.Hasher.Hasher T.hash_input) self.now run.items) }
     {
-        if self.is_large() {
-            self.insert_items_together(iter);
-            return;
-        }
-        'given: for item in iter {
-            self.insert(&item);
+        let mut filter = self;
+        insert_items(&mut filter, iter);
+    }
+}
+
+impl<'a, S: BuildHasher> TakesHashes for &'a AtomicBlockedBloomFilter<S> {
+    ghost use Rattle.std.specs.Prelude.{◌≡◌, All};
+    ghost use Rattle.std.proofs.Common.{ap, refl, ◌∙◌, subst};
+    ghost use Rattle.std.proofs.lemmas.List.Elements.{All-nil, All-append};
+    ghost use Rattle.bloom_plain.specs.SourceHash.{hash_by};
+    ghost use Rattle.bloom_blocked.specs.SharedBlocked.{WasInsertedInLine};
+
+    ghost took = { λ old hashes new. (new ≡ old) × All (WasInsertedInLine old.now) hashes };
+
+    ghost hash_of = { λ f writes. hash_by S.Hasher.Hasher (S.build_hasher f.now.hasher) writes };
+
+    ghost none = { λ f. (refl, All-nil (WasInsertedInLine f.now)) };
+
+    ghost join = { λ x y z xs ys first second. (
+      second.0 ∙ first.0,
+      All-append (WasInsertedInLine x.now) xs ys first.1
+          (subst (λ f. All (WasInsertedInLine f.now) ys) first.0 second.1),
+    ) };
+
+    ghost keeps = { λ x y xs writes did.
+        ap (λ f. hash_by S.Hasher.Hasher (S.build_hasher f.now.hasher) writes) did.0 };
+
+    fn num_together(&self) -> usize {
+        if self.words.len() >= WORDS_TO_READ_AHEAD {
+            LINES_TOGETHER
+        } else {
+            1
         }
     }
 
-    // Inserts every item that an iterator gives, in order, 64 at a time.
-    fn insert_items_together<T: Hash + Drop, I: IntoIterator<Item = T>>(&self, iter: I)
-        requires { IsFiniteIterable
-            I.into_iter_gives I.IntoIter.can_next I.IntoIter.remaining iter }
-        ensures { (it : I.IntoIter) × I.into_iter_gives iter it
-            × WholeRun I.IntoIter.next_gives it (λ run. MakesInsertsInLines
-            (source_hash_of S.BuildHasher S.Hasher.Hasher T.hash_input) self.now run.items) }
-    {
-        let mut waiting = ArrayVec::<u64, TOGETHER>::new();
-        'given: for item in iter {
-            let hash = self.source_hash(&item);
-            self.insert_later(&mut waiting, hash);
-        }
-        self.load_then_insert(&waiting);
+    #[inline(always)]
+    fn hash_item<T: Hash>(&self, val: &T) -> u64 {
+        self.source_hash(val)
+    }
+
+    #[inline(always)]
+    fn insert_one(&mut self, hash: u64) {
+        self.insert_hash(hash);
+    }
+
+    fn insert_many(&mut self, hashes: &[u64]) {
+        load_then_insert(&self.words.lent(), self.num_hashes, hashes);
     }
 }

@@ -1,44 +1,10 @@
 //! The words of a vector that threads share, lent as a slice to steps that are made in turn.
-ghost use Rattle.std.specs.Prelude.{◌≡◌, ◌^◌, ◌<◌, ◌≤◌};
-ghost use Rattle.bloom_parts.specs.Made.{FoundByLoad, FoundByOr, FoundByAnd, MadeZero, FoundBySwap, InTurn};
+ghost use Rattle.std.specs.Prelude.{◌≡◌};
 
 use super::atomic::{AtomicBitVec, and_into, load_from, or_into, swap_in, zero_in};
+use super::turn_words::{Turn, TurnWords};
 use std::marker::Model;
-use std::snapshot::Snapshot;
 use std::sync::atomic::AtomicU64;
-
-/// The turn of the step that comes next, among those of one call. It has no bytes.
-///
-/// Contracts see a name that no clause fixes. A step leads from its turn to the next one, so one
-/// step can't be taken for two.
-#[derive(Drop)]
-pub struct Turn {
-    name: Snapshot<u64>,
-}
-
-impl Model for Turn {
-    ghost use Rattle.std.specs.Prelude.{ℕ};
-
-    ghost Value = { ℕ };
-
-    ghost view = { λ t. t.name.value };
-}
-
-impl Turn {
-    /// The turn of a first step.
-    #[inline]
-    pub fn first() -> Self {
-        Turn {
-            name: Snapshot::of(&0),
-        }
-    }
-
-    // The turn of the next step. Its name is another to every caller, since no clause tells it.
-    #[inline(always)]
-    pub fn pass(&mut self) {
-        self.name = Snapshot::of(&0);
-    }
-}
 
 /// The words of a vector, with where they lie and how many there are.
 ///
@@ -75,77 +41,50 @@ impl AtomicBitVec {
     }
 }
 
-impl<'a> LentWords<'a> {
-    /// The number of words.
+impl<'a> TurnWords for LentWords<'a> {
+    ghost vector = { λ words. words };
+
     #[inline]
-    pub fn len(&self) -> usize
-        ensures value { result ≡ self.now.count }
-        ensures least { 1 ≤ result }
-        ensures most { result < 2 ^ 58 }
-    {
+    fn len(&self) -> usize {
         self.words.len()
     }
 
-    /// Reads a word, in no turn.
     #[inline]
-    pub fn load(&self, word: usize) -> u64
-        requires { word < self.now.count }
-        ensures { FoundByLoad self.now word result }
-    {
+    fn load(&self, word: usize) -> u64 {
         load_from(self.vector, self.words, word)
     }
 
-    /// Reads a word in its turn.
     #[inline]
     #[tactic(auto, using(crate::specs::Made::made_by_turn))]
-    pub fn load_in_turn(&self, turn: &mut Turn, word: usize) -> u64
-        requires { word < self.now.count }
-        ensures { InTurn (FoundByLoad self.now word result) turn.old turn.new }
-    {
+    fn load_in_turn(&self, turn: &mut Turn, word: usize) -> u64 {
         turn.pass();
         self.load(word)
     }
 
-    /// Sets the bits of a mask in a word, and returns the word as it was.
     #[inline]
     #[tactic(auto, using(crate::specs::Made::made_by_turn))]
-    pub fn fetch_or(&self, turn: &mut Turn, word: usize, mask: u64) -> u64
-        requires { word < self.now.count }
-        ensures { InTurn (FoundByOr self.now word mask result) turn.old turn.new }
-    {
+    fn fetch_or(&self, turn: &mut Turn, word: usize, mask: u64) -> u64 {
         turn.pass();
         or_into(self.vector, self.words, word, mask)
     }
 
-    /// Clears the bits of a word that a mask lacks, and returns the word as it was.
     #[inline]
     #[tactic(auto, using(crate::specs::Made::made_by_turn))]
-    pub fn fetch_and(&self, turn: &mut Turn, word: usize, mask: u64) -> u64
-        requires { word < self.now.count }
-        ensures { InTurn (FoundByAnd self.now word mask result) turn.old turn.new }
-    {
+    fn fetch_and(&self, turn: &mut Turn, word: usize, mask: u64) -> u64 {
         turn.pass();
         and_into(self.vector, self.words, word, mask)
     }
 
-    /// Clears every bit of a word.
     #[inline]
     #[tactic(auto, using(crate::specs::Made::made_by_turn))]
-    pub fn store_zero(&self, turn: &mut Turn, word: usize)
-        requires { word < self.now.count }
-        ensures { InTurn (MadeZero self.now word) turn.old turn.new }
-    {
+    fn store_zero(&self, turn: &mut Turn, word: usize) {
         turn.pass();
         zero_in(self.vector, self.words, word);
     }
 
-    /// Clears every bit of a word, and returns the word as it was.
     #[inline]
     #[tactic(auto, using(crate::specs::Made::made_by_turn))]
-    pub fn swap_zero(&self, turn: &mut Turn, word: usize) -> u64
-        requires { word < self.now.count }
-        ensures { InTurn (FoundBySwap self.now word result) turn.old turn.new }
-    {
+    fn swap_zero(&self, turn: &mut Turn, word: usize) -> u64 {
         turn.pass();
         swap_in(self.vector, self.words, word)
     }

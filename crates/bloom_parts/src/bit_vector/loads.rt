@@ -1,51 +1,48 @@
-//! Words that threads share, to be loaded and never changed.
-ghost use Rattle.std.specs.Prelude.{◌≡◌, ◌*◌, ◌<◌, ◌≤◌};
+//! Words that threads share, lent to be read ahead of steps.
+ghost use Rattle.std.specs.Prelude.{◌≡◌, ◌<◌, ◌≤◌};
 ghost use Rattle.bloom_parts.specs.Made.{FoundByLoad};
 
-use super::atomic::AtomicBitVec;
-use super::lent::LentWords;
+use super::turn_words::TurnWords;
 use std::marker::Model;
 
-/// The words of a vector that threads share, for code that may load them and no more.
+/// Words that can only be read through it, in no turn. Contracts see their vector.
 #[derive(Drop)]
-pub struct Loads<'a> {
-    words: LentWords<'a>,
+pub struct Loads<'a, W: TurnWords> {
+    words: &'a W,
 }
 
-impl<'a> Model for Loads<'a> {
+impl<'a, W: TurnWords> Model for Loads<'a, W> {
     ghost use Rattle.bloom_parts.specs.Made.{SharedWords};
 
     ghost Value = { SharedWords };
 
-    ghost view = { λ l. l.words };
+    ghost view = { λ l. W.vector l.words.now };
 }
 
-impl<'a> Loads<'a> {
-    /// The number of bits, 64 for each word.
-    #[inline]
-    pub fn num_bits(&self) -> usize
-        ensures value { result ≡ 64 * self.now.count }
-        ensures least { 64 ≤ result }
+impl<'a, W: TurnWords> Loads<'a, W> {
+    /// These words, to be read alone.
+    #[inline(always)]
+    pub fn of(words: &'a W) -> Self
+        ensures { result ≡ W.vector words.now }
     {
-        self.words.len() * 64
+        Loads { words }
+    }
+
+    /// The number of words.
+    #[inline(always)]
+    pub fn len(&self) -> usize
+        ensures value { result ≡ self.now.count }
+        ensures least { 1 ≤ result }
+    {
+        self.words.len()
     }
 
     /// Reads a word.
-    #[inline]
+    #[inline(always)]
     pub fn load(&self, word: usize) -> u64
         requires { word < self.now.count }
         ensures { FoundByLoad self.now word result }
     {
         self.words.load(word)
-    }
-}
-
-impl AtomicBitVec {
-    /// The words, to be loaded and never changed.
-    #[inline]
-    pub fn loads(&self) -> Loads<'_>
-        ensures { result ≡ self.now }
-    {
-        Loads { words: self.lent() }
     }
 }

@@ -2,8 +2,8 @@
 ghost use Rattle.std.specs.Prelude.{◌≡◌, ℕ, ◌+◌, ◌^◌, ◌<◌};
 ghost use Rattle.bloom_parts.specs.Chain.{chain, IsAt};
 
-// An odd number with no pattern in its bits, as in the crate's hasher.
-const MULTIPLIER: u64 = 0x517c_c1b7_2722_0a95;
+/// An odd number whose bits have no pattern, as in the crate's hasher.
+pub const MULTIPLIER: u64 = 0x517c_c1b7_2722_0a95;
 
 /// The hashes that follow from one source hash, without end.
 #[derive(Drop)]

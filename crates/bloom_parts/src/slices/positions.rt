@@ -9,7 +9,7 @@ use super::one_bit::{check_hash, set_hash};
 use crate::hasher::DoubleHasher;
 
 // Sets the next position of a hash. Returns 0 exactly if it was set before.
-pub(super) fn turn_on_next(words: &mut [u64], chain: &mut DoubleHasher) -> u64
+fn turn_on_next(words: &mut [u64], chain: &mut DoubleHasher) -> u64
     requires { 1 ≤ length words.old }
     ensures turns_on { TurnsOnNext 1 chain.old words.old words.new result }
     ensures moved { Advances 1 chain.old chain.new }
@@ -56,7 +56,7 @@ fn next_is_on(words: &[u64], chain: &mut DoubleHasher) -> bool
 
 // Whether the next `count` positions of a hash are set. It counts, which needs no branch.
 #[inline(always)]
-pub(super) fn all_are_on(words: &[u64], chain: &mut DoubleHasher, count: u32) -> bool
+fn next_are_on(words: &[u64], chain: &mut DoubleHasher, count: u32) -> bool
     requires { 1 ≤ length words.now }
     ensures found { TellsNext count chain.old words.now result }
     ensures moved { Advances count chain.old chain.new }
@@ -93,9 +93,9 @@ pub fn contains_positions(words: &[u64], num_hashes: u32, hash: u64) -> bool
 {
     let mut chain = DoubleHasher::new(hash);
     if num_hashes < 4 {
-        return all_are_on(words, &mut chain, num_hashes);
+        return next_are_on(words, &mut chain, num_hashes);
     }
-    if !all_are_on(words, &mut chain, 3) {
+    if !next_are_on(words, &mut chain, 3) {
         return false;
     }
     each_is_on(words, &mut chain, num_hashes - 3)
@@ -110,5 +110,53 @@ pub fn contains_by_count(words: &[u64], num_hashes: u32, hash: u64) -> bool
     ensures { result ≡ are_in (64 * length words.now) num_hashes hash (content words.now) }
 {
     let mut chain = DoubleHasher::new(hash);
-    all_are_on(words, &mut chain, num_hashes)
+    next_are_on(words, &mut chain, num_hashes)
+}
+
+/// Sets all positions of a hash, and returns whether all of them were set before. It is for words
+/// so few that they lie in the cache together, as those of one line do.
+///
+/// It is one loop, with no case of its own for few hashes: the shorter an insert is, the more of
+/// them a processor has at work.
+#[inline(always)]
+pub fn insert_in_few_words(words: &mut [u64], num_hashes: u32, hash: u64) -> bool
+    requires { 1 ≤ length words.old }
+    ensures reply { result ≡ are_in (64 * length words.old) num_hashes hash (content words.old) }
+    ensures content { (p : ℕ) → content words.new p
+        ≡ (content words.old p || positions (64 * length words.old) num_hashes hash p) }
+    ensures shape { length words.new ≡ length words.old }
+{
+    let mut chain = DoubleHasher::new(hash);
+    let mut off = 0;
+    'places: for _place in 0..num_hashes {
+        off |= turn_on_next(words, &mut chain);
+    }
+    off == 0
+}
+
+/// Whether all positions of a hash are set. It is for words so few that they lie in the cache
+/// together.
+///
+/// The first three are taken together, which tells apart most hashes that were never inserted. Of
+/// seven and more the next four are taken without a loop, since ten bits an item ask for seven.
+/// All others are taken together too, since no position waits long for its word.
+#[inline(always)]
+pub fn contains_in_few_words(words: &[u64], num_hashes: u32, hash: u64) -> bool
+    requires { 1 ≤ length words.now }
+    ensures { result ≡ are_in (64 * length words.now) num_hashes hash (content words.now) }
+{
+    let mut chain = DoubleHasher::new(hash);
+    if num_hashes < 4 {
+        return next_are_on(words, &mut chain, num_hashes);
+    }
+    if !next_are_on(words, &mut chain, 3) {
+        return false;
+    }
+    if num_hashes < 7 {
+        return next_are_on(words, &mut chain, num_hashes - 3);
+    }
+    if !next_are_on(words, &mut chain, 4) {
+        return false;
+    }
+    next_are_on(words, &mut chain, num_hashes - 7)
 }

@@ -9,6 +9,7 @@ ghost use Rattle.bloom_plain.specs.Replies.{CarriesOut, InsertsItems};
 ghost use Rattle.bloom_plain.specs.SourceHash.{source_hash_of, lent_hash_of, IsFunctionOfBytes};
 
 use crate::bloom::BloomFilter;
+use crate::queue::insert_items;
 use std::hash::{BuildHasher, Hash, Hasher};
 
 impl<S: BuildHasher> BloomFilter<S> {
@@ -96,12 +97,6 @@ impl<S: BuildHasher> BloomFilter<S> {
             InsertsItems (source_hash_of S.BuildHasher S.Hasher.Hasher T.hash_input)
             self.old run.items self.new) }
     {
-        if self.is_large() {
-            self.insert_items_together(iter);
-            return;
-        }
-        'given: for item in iter {
-            self.insert(&item);
-        }
+        insert_items(self, iter);
     }
 }

@@ -1,6 +1,5 @@
 //! A whole call over a store: a loop for each plan, which makes the plan's steps and no others.
-ghost use Rattle.std.specs.Prelude.{◌≡◌, ◌≤◌, ◌<◌, ◌^◌, ◌==◌, ℕ, Some, None, if◌then◌else◌};
-ghost use Rattle.std.specs.Int.{bit_at};
+ghost use Rattle.std.specs.Prelude.{◌≡◌, ◌≤◌, ℕ, Some, None, if◌then◌else◌};
 ghost use Rattle.bloom_steps.specs.declared.steps.vocabulary.Step.TheVariants as step;
 ghost use Rattle.bloom_steps.specs.Plans.{TurnsOn, LooksAt, EachWord, EachPair};
 ghost use Rattle.bloom_steps.specs.Scripts.{Drives, DrivesPlan};
@@ -8,26 +7,8 @@ ghost use Rattle.bloom_steps.specs.Steps.{word_index};
 
 use super::store::WordStore;
 use super::vocabulary::{Call, Step};
-use bloom_parts::bit_vector::word_and_bit_of_hash;
+use bloom_parts::bit_vector::{is_set, next_place};
 use bloom_parts::hasher::DoubleHasher;
-
-// The word that has one bit alone.
-#[inline(always)]
-fn mask_of(bit: u64) -> u64
-    requires { bit < 64 }
-    ensures { result ≡ 2 ^ bit }
-{
-    1 << bit
-}
-
-// Whether a bit of a word is set.
-#[inline(always)]
-fn is_set(word: u64, bit: u64) -> bool
-    requires { bit < 64 }
-    ensures { result ≡ (bit_at word bit == 1) }
-{
-    (word >> bit) % 2 == 1
-}
 
 // Sets the bit at each position of a hash, and returns whether each step found its bit set.
 #[inline(always)]
@@ -42,9 +23,9 @@ fn set_each<W: WordStore>(store: &mut W, num_hashes: u32, hash: u64) -> bool
     let mut all_on = true;
     let mut left = num_hashes;
     'places: while left > 0 {
-        let (word, bit) = word_and_bit_of_hash(num_words, chain.next());
-        let found = store.step(Step::Or(word, mask_of(bit)));
-        all_on &= is_set(found, bit);
+        let (word, mask) = next_place(&mut chain, num_words);
+        let found = store.step(Step::Or(word, mask));
+        all_on &= is_set(found, mask);
         left -= 1;
     }
     all_on
@@ -62,9 +43,9 @@ fn look_at_each<W: WordStore>(store: &mut W, num_hashes: u32, hash: u64) -> bool
     let num_words = store.num_words();
     let mut chain = DoubleHasher::new(hash);
     'places: for _place in 0..num_hashes {
-        let (word, bit) = word_and_bit_of_hash(num_words, chain.next());
+        let (word, mask) = next_place(&mut chain, num_words);
         let found = store.step(Step::Load(word));
-        if !is_set(found, bit) {
+        if !is_set(found, mask) {
             return false;
         }
     }

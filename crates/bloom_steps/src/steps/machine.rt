@@ -4,7 +4,7 @@ ghost use Rattle.bloom_parts.specs.Content.{bit_is_on};
 ghost use Rattle.bloom_steps.specs.Plans.{hash_of, most_steps, plan_of};
 
 use super::vocabulary::{Call, End, Step};
-use bloom_parts::bit_vector::{index, word_and_mask};
+use bloom_parts::bit_vector::{index, is_set, word_and_mask};
 use bloom_parts::hasher::DoubleHasher;
 
 /// A call under way: it says which step comes next, and is told what each step found.
@@ -35,7 +35,8 @@ pub struct Machine {
 fn is_on(word: u64, position: usize) -> bool
     ensures { result ≡ bit_is_on word position }
 {
-    (word >> (position % 64)) % 2 == 1
+    let (_word, mask) = word_and_mask(position);
+    is_set(word, mask)
 }
 
 // The hash of a call, or 0 where it has none.

@@ -1,4 +1,6 @@
-//! The calls that take items: those of their source hashes.
+//! The calls that take items: those of their source hashes. Many items are inserted together into a
+//! filter that is larger than a cache: a step that changes a word waits for that word, so the words
+//! are loaded before the first insert.
 ghost use Rattle.std.specs.Prelude.{◌≡◌, ℕ, List, Some, IsTrue};
 ghost use Rattle.std.specs.List.{concat};
 ghost use Rattle.std.specs.Iterator.{IsFiniteIterable};
@@ -8,6 +10,9 @@ ghost use Rattle.fastbloom.specs.Shared.{MakesCall, MakesInsert, MakesInserts};
 ghost use Rattle.bloom_plain.specs.SourceHash.{source_hash_of, lent_hash_of, IsFunctionOfBytes};
 
 use super::AtomicBloomFilter;
+use bloom_parts::slices::{HASHES_TOGETHER, WORDS_BEYOND_CACHE};
+use bloom_plain::queue::{TakesHashes, insert_items};
+use bloom_steps::calls;
 use std::hash::{BuildHasher, Hash, Hasher};
 
 impl<S: BuildHasher> AtomicBloomFilter<S> {
@@ -86,12 +91,52 @@ impl<S: BuildHasher> AtomicBloomFilter<S> {
             × WholeRun I.IntoIter.next_gives it (λ run. MakesInserts
             (source_hash_of S.BuildHasher S.Hasher.Hasher T.hash_input) self.now run.items) }
     {
-        if self.is_large() {
-            self.insert_items_together(iter);
-            return;
+        let mut filter = self;
+        insert_items(&mut filter, iter);
+    }
+}
+
+impl<'a, S: BuildHasher> TakesHashes for &'a AtomicBloomFilter<S> {
+    ghost use Rattle.std.specs.Prelude.{◌≡◌, All};
+    ghost use Rattle.std.proofs.Common.{ap, refl, ◌∙◌, subst};
+    ghost use Rattle.std.proofs.lemmas.List.Elements.{All-nil, All-append};
+    ghost use Rattle.bloom_plain.specs.SourceHash.{hash_by};
+    ghost use Rattle.fastbloom.specs.Shared.{WasInserted};
+
+    ghost took = { λ old hashes new. (new ≡ old) × All (WasInserted old.now) hashes };
+
+    ghost hash_of = { λ f writes. hash_by S.Hasher.Hasher (S.build_hasher f.now.hasher) writes };
+
+    ghost none = { λ f. (refl, All-nil (WasInserted f.now)) };
+
+    ghost join = { λ x y z xs ys first second. (
+      second.0 ∙ first.0,
+      All-append (WasInserted x.now) xs ys first.1
+          (subst (λ f. All (WasInserted f.now) ys) first.0 second.1),
+    ) };
+
+    ghost keeps = { λ x y xs writes did.
+        ap (λ f. hash_by S.Hasher.Hasher (S.build_hasher f.now.hasher) writes) did.0 };
+
+    fn num_together(&self) -> usize {
+        if self.words.len() >= WORDS_BEYOND_CACHE {
+            HASHES_TOGETHER
+        } else {
+            1
         }
-        'given: for item in iter {
-            self.insert(&item);
-        }
+    }
+
+    #[inline(always)]
+    fn hash_item<T: Hash>(&self, val: &T) -> u64 {
+        self.source_hash(val)
+    }
+
+    #[inline(always)]
+    fn insert_one(&mut self, hash: u64) {
+        self.insert_hash(hash);
+    }
+
+    fn insert_many(&mut self, hashes: &[u64]) {
+        calls::load_then_insert(&self.words.lent(), self.num_hashes, hashes);
     }
 }

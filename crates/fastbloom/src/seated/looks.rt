@@ -10,7 +10,7 @@ ghost use Rattle.fastbloom.specs.declared.seated.rule.Role.TheVariants.{Pass};
 use super::rule::{SeatedRule, Sets, Size};
 use super::steps::{FilterSeat, SharedWords, load, turn_on};
 use atomic_table::Table;
-use bloom_parts::bit_vector::{index, word_and_mask};
+use bloom_parts::bit_vector::{index, is_set, word_and_mask};
 use bloom_parts::hasher::DoubleHasher;
 use std::alloc::Global;
 
@@ -27,7 +27,7 @@ fn turn_on_position(shared: &SharedWords, seat: &mut FilterSeat, position: usize
         (sight_of seat.old) (sight_of seat.new) result }
 {
     let (word, mask) = word_and_mask(position);
-    turn_on(shared, seat, word, mask) & mask > 0
+    is_set(turn_on(shared, seat, word, mask), mask)
 }
 
 // Whether a position is set.
@@ -39,7 +39,7 @@ fn look_at_position(shared: &SharedWords, seat: &mut FilterSeat, position: usize
     ensures looks { LooksAt position (sight_of seat.old) (sight_of seat.new) result }
 {
     let (word, mask) = word_and_mask(position);
-    load(shared, seat, word) & mask > 0
+    is_set(load(shared, seat, word), mask)
 }
 
 /// Sets the positions of a hash, and returns whether each was found set.

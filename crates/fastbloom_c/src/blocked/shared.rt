@@ -7,13 +7,14 @@ ghost use Rattle.std.specs.Prelude.{◌≡◌, ◌↔◌, ◌<◌, false, IsTrue
 ghost use Rattle.bloom_parts.specs.Keys.{key_low, key_high};
 ghost use Rattle.bloom_parts.specs.Sip.{sip};
 ghost use Rattle.bloom_blocked.specs.LineSteps.{LooksInLine, SetsInLine};
-ghost use Rattle.passed_words.specs.Passed.{MakeLines, vector_of};
+ghost use Rattle.fastbloom_c.specs.Passed.{MakeLines, vector_of};
 
+use crate::lent::LentWords;
 use crate::texts::fastbloom_hash;
+use crate::words::{PassedWords, RawWords};
+use bloom_blocked::line::{looks_in_line, set_in_line};
 use bloom_blocked::words::LINE;
 use bloom_parts::bit_vector::MAX_WORDS;
-use passed_words::line::{contains_in_line, insert_in_line};
-use passed_words::words::{PassedWords, RawWords};
 
 // Whether there are eight words, and at most 2^58 - 1.
 #[inline(always)]
@@ -40,7 +41,7 @@ pub extern "C" fn fastbloom_blocked_shared_insert_hash(
     if !make_lines(&words) {
         return false;
     }
-    insert_in_line(&words, num_hashes.max(1), hash)
+    set_in_line(&LentWords::new(&words), num_hashes.max(1), hash)
 }
 
 /// Whether all positions of a hash were found set, one after the other, up to the first that isn't.
@@ -58,7 +59,7 @@ pub extern "C" fn fastbloom_blocked_shared_contains_hash(
     if !make_lines(&words) {
         false
     } else {
-        contains_in_line(&words, num_hashes.max(1), hash)
+        looks_in_line(&LentWords::new(&words), num_hashes.max(1), hash)
     }
 }
 

@@ -1,53 +1,16 @@
 //! Calls on many hashes, on a blocked filter that threads share.
 ghost use Rattle.std.specs.Prelude.{◌≡◌, ◌↔◌, ◌*◌, ◌≤◌, false, IsTrue, length, max};
 ghost use Rattle.fastbloom_c.specs.BlockedShared.{SetsInLines, TellsLooksInLines, TellsSetsInLines};
-ghost use Rattle.passed_words.specs.Passed.{MakeLines, vector_of};
+ghost use Rattle.fastbloom_c.specs.Passed.{MakeLines, vector_of};
 
 use super::many::have_room;
 use super::shared::make_lines;
-use crate::many::turn_on_where;
-use bloom_blocked::many::{MANY_WORDS, TOGETHER};
-use bloom_blocked::words::{LINE, line_start};
+use crate::lent::LentWords;
+use crate::words::{PassedWords, RawWords};
+use bloom_blocked::line::{insert_each, insert_together, looks_in_line, set_in_line};
+use bloom_blocked::many::WORDS_TO_READ_AHEAD;
 use bloom_parts::slices::clear;
-use passed_words::line::{contains_in_line, insert_in_line};
-use passed_words::words::{PassedWords, RawWords};
-
-// Loads the first and the last word of the line of each of these hashes. Nothing depends on what
-// they hold, so no load waits for another.
-fn touch_lines(words: &RawWords, hashes: &[u64])
-    requires { MakeLines words.now.len }
-{
-    'touches: for hash in hashes {
-        let at = line_start(words.len(), *hash);
-        words.load(at);
-        words.load(at + (LINE - 1));
-    }
-}
-
-// Inserts each of these hashes, in order.
-fn insert_each(words: &RawWords, num_hashes: u32, hashes: &[u64])
-    requires { MakeLines words.now.len }
-    ensures { SetsInLines (vector_of words.now.at words.now.len) num_hashes hashes.now }
-{
-    'hashes: for hash in hashes {
-        insert_in_line(words, num_hashes, *hash);
-    }
-}
-
-// Inserts each of these hashes, 64 at a time: the ends of their lines are loaded first, so that
-// memory fetches them side by side.
-fn insert_together(words: &RawWords, num_hashes: u32, hashes: &[u64])
-    requires { MakeLines words.now.len }
-    ensures { SetsInLines (vector_of words.now.at words.now.len) num_hashes hashes.now }
-{
-    let turns = hashes.len() / TOGETHER;
-    'turns: for turn in 0..turns {
-        let at = TOGETHER * turn;
-        touch_lines(words, &hashes[at..at + TOGETHER]);
-        insert_each(words, num_hashes, &hashes[at..at + TOGETHER]);
-    }
-    insert_each(words, num_hashes, &hashes[TOGETHER * turns..]);
-}
+use bloom_parts::slices::many::turn_on_where;
 
 /// Inserts each of these hashes, in order, and returns whether there is a line.
 ///
@@ -67,10 +30,12 @@ pub extern "C" fn fastbloom_blocked_shared_insert_hashes(
     if !make_lines(&words) {
         return false;
     }
-    if words.len() >= MANY_WORDS {
-        insert_together(&words, num_hashes.max(1), hashes);
+    let lent = LentWords::new(&words);
+    let num_hashes = num_hashes.max(1);
+    if words.len() >= WORDS_TO_READ_AHEAD {
+        insert_together(&lent, num_hashes, hashes);
     } else {
-        insert_each(&words, num_hashes.max(1), hashes);
+        insert_each(&lent, num_hashes, hashes);
     }
     true
 }
@@ -87,7 +52,11 @@ fn find_each(words: &RawWords, num_hashes: u32, hashes: &[u64], found: &mut [u64
     clear(found);
     let mut i: usize = 0;
     'looks: for hash in hashes {
-        turn_on_where(contains_in_line(words, num_hashes, *hash), found, i);
+        turn_on_where(
+            looks_in_line(&LentWords::new(words), num_hashes, *hash),
+            found,
+            i,
+        );
         i += 1;
     }
 }
@@ -131,7 +100,7 @@ fn insert_each_telling(words: &RawWords, num_hashes: u32, hashes: &[u64], fresh:
     clear(fresh);
     let mut i: usize = 0;
     'hashes: for hash in hashes {
-        let was_set = insert_in_line(words, num_hashes, *hash);
+        let was_set = set_in_line(&LentWords::new(words), num_hashes, *hash);
         turn_on_where(!was_set, fresh, i);
         i += 1;
     }

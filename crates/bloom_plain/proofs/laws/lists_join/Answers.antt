@@ -1,4 +1,4 @@
-use Rattle.bloom_plain.proofs.ListLemmas.{carries_out-append}
+use Rattle.bloom_plain.specs.ListLaws.{carries_out-append}
 use Rattle.bloom_plain.proofs.laws.lists_join.Goals as goal
 
 pub returns : goal.returns

@@ -1,5 +1,5 @@
 -- What the step that loads a word does to what a pass knows.
-use Rattle.std.proofs.Common.{◌≡◌, ℕ, ◌+◌, ◌/◌, ◌%◌, ◌^◌, Bool, false, ltb, bit_and, inl, inr, refl, sym, ap, ◌∙◌, subst, arith}
+use Rattle.std.proofs.Common.{◌≡◌, ℕ, ◌+◌, ◌/◌, Bool, false, inl, inr, refl, sym, ap, ◌∙◌, subst, arith}
 use Rattle.std.proofs.lemmas.Bool.{both_ways, cases_lt, or_cases, or_left, or_right, false_from_ne_true}
 use Rattle.atomic_table.specs.Seated.{TableId}
 use Rattle.bloom_parts.specs.Content.{bit_is_on, content}
@@ -9,7 +9,7 @@ use Rattle.fastbloom.specs.Loads.{LooksAt, Views}
 use Rattle.fastbloom.specs.Passes.{sight_of}
 use Rattle.fastbloom.specs.declared.seated.rule.Sets.{Sets}
 use Rattle.fastbloom.proofs.SeatedLemmas.Sets.{in-left, in-right, in-either, on-from, on-to}
-use Rattle.fastbloom.proofs.SeatedLemmas.Passes.Positions.{seen, mask_of, tested}
+use Rattle.fastbloom.proofs.SeatedLemmas.Passes.Positions.{seen}
 
 -- the step that loads the word of a position
 module _ (table : TableId) (v : Sets) (q found : ℕ) (shown : Shows v (q / 64) found) where
@@ -47,18 +47,15 @@ module _ (table : TableId) (v : Sets) (q found : ℕ) (shown : Shows v (q / 64) 
   }
 
 -- from old to new a seat loaded the word of a position, as its step tells
-pub by-load : (old new : FilterSeat) (q word mask found : ℕ) → word ≡ q / 64 → mask ≡ 2 ^ (q % 64)
-    → new.table_id ≡ old.table_id
+pub by-load : (old new : FilterSeat) (q word found : ℕ) (on : Bool) → word ≡ q / 64
+    → on ≡ bit_is_on found q → new.table_id ≡ old.table_id
     → (new.me.0 ≡ after_load old.me.0 word found) × Shows old.me.0 word found
-    → LooksAt q (sight_of old) (sight_of new) (ltb 0 (bit_and found mask))
-by-load old new q word mask found is_word is_mask table told =
-    subst (λ (z : ℕ × ℕ). (new.me.0 ≡ after_load old.me.0 z.0 found) × Shows old.me.0 z.0 found
-    → LooksAt q (sight_of old) (sight_of new) (ltb 0 (bit_and found z.1)))
-    (λ i. (sym is_word i, sym is_mask i))
-    (λ t. subst (λ (z : TableId × Sets). LooksAt q (sight_of old) (seen z.0 z.1)
-    (ltb 0 (bit_and found (mask_of q found)))) (λ i. (sym table i, sym t.0 i))
-    (looks-one old.table_id old.me.0 q found t.1 (ltb 0 (bit_and found (mask_of q found)))
-    (tested q found))) told
+    → LooksAt q (sight_of old) (sight_of new) on
+by-load old new q word found on is_word is_on table told =
+    subst (λ w. (new.me.0 ≡ after_load old.me.0 w found) × Shows old.me.0 w found
+    → LooksAt q (sight_of old) (sight_of new) on) (sym is_word)
+    (λ t. subst (λ (z : TableId × Sets). LooksAt q (sight_of old) (seen z.0 z.1) on)
+    (λ i. (sym table i, sym t.0 i)) (looks-one old.table_id old.me.0 q found t.1 on is_on)) told
 
 -- a seat looked at one word more, as its load tells
 pub views-next : (old mid new : FilterSeat) (word found : ℕ) → new.table_id ≡ mid.table_id

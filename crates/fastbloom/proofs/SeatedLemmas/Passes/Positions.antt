@@ -1,9 +1,8 @@
 -- A view as a pass, and a position by its word and its mask.
-use Rattle.std.proofs.Common.{◌≡◌, ℕ, ◌/◌, ◌%◌, ◌^◌, eqb, ltb, bit_and, sym, ap, ◌∙◌}
+use Rattle.std.proofs.Common.{◌≡◌, ℕ, ◌/◌, ◌%◌, ◌^◌, eqb, sym, ap, ◌∙◌}
 use Rattle.std.proofs.lemmas.Bool.{eqb-true}
 use Rattle.atomic_table.specs.Seated.{TableId}
-use Rattle.bloom_parts.specs.Content.{bit_is_on}
-use Rattle.bloom_parts.proofs.PublishedLemmas.{test-bit, bit_is_on-mask}
+use Rattle.bloom_parts.proofs.PublishedLemmas.{bit_is_on-mask}
 use Rattle.fastbloom.specs.Sets.{set_of, on_in}
 use Rattle.fastbloom.specs.Passes.{Sight}
 use Rattle.fastbloom.specs.declared.seated.rule.Sets.{Sets}
@@ -18,10 +17,6 @@ module _ (q found : ℕ) where
   -- the mask of the position
   abbrev pub mask_of : ℕ
   mask_of = 2 ^ (q % 64)
-
-  -- the test that the code makes of the position
-  pub tested : ltb 0 (bit_and found mask_of) ≡ bit_is_on found q
-  tested = test-bit found (q % 64)
 
   -- the position alone is on in its mask
   pub mask-alone : (p : ℕ) → set_of (on_in (q / 64) mask_of) p ≡ eqb p q

@@ -1,5 +1,5 @@
 -- What the step that turns a position on does to what a pass knows and gained.
-use Rattle.std.proofs.Common.{◌≡◌, ℕ, ◌/◌, ◌%◌, ◌^◌, Bool, true, false, ◌||◌, eqb, ltb, bit_and, inl, inr, refl, sym, ap, ◌∙◌, subst}
+use Rattle.std.proofs.Common.{◌≡◌, ℕ, ◌/◌, ◌%◌, ◌^◌, Bool, true, false, ◌||◌, eqb, inl, inr, refl, sym, ap, ◌∙◌, subst}
 use Rattle.std.proofs.lemmas.Bool.{both_ways, or_right, eqb-true, eq-eqb, false_from_ne_true}
 use Rattle.atomic_table.specs.Seated.{TableId}
 use Rattle.bloom_parts.specs.Content.{bit_is_on, content}
@@ -10,7 +10,7 @@ use Rattle.fastbloom.specs.Plays.{FilterSeat, sure_in, Shows, after_or}
 use Rattle.fastbloom.specs.Passes.{sight_of, InsertsAs}
 use Rattle.fastbloom.specs.declared.seated.rule.Sets.{Sets}
 use Rattle.fastbloom.proofs.SeatedLemmas.Sets.{in-left, in-right, in-either, set_of-append, fresh-from, fresh-to}
-use Rattle.fastbloom.proofs.SeatedLemmas.Passes.Positions.{seen, mask_of, tested, mask-alone}
+use Rattle.fastbloom.proofs.SeatedLemmas.Passes.Positions.{seen, mask_of, mask-alone}
 
 -- the step that turns a position on
 module _ (table : TableId) (v : Sets) (q found : ℕ) (shown : Shows v (q / 64) found)
@@ -69,17 +69,16 @@ module _ (table : TableId) (v : Sets) (q found : ℕ) (shown : Shows v (q / 64) 
   }
 
 -- from old to new a seat turned a position on, as its step tells
-pub by-turn : (old new : FilterSeat) (q word mask found : ℕ) → word ≡ q / 64 → mask ≡ 2 ^ (q % 64)
-    → new.table_id ≡ old.table_id
+pub by-turn : (old new : FilterSeat) (q word mask found : ℕ) (on : Bool) → word ≡ q / 64
+    → mask ≡ 2 ^ (q % 64) → on ≡ bit_is_on found q → new.table_id ≡ old.table_id
     → (new.me.0 ≡ after_or old.me.0 word mask found) × Shows old.me.0 word found
     × IsPart (set_of old.me.0.gained) (set_of old.me.0.known)
-    → InsertsAs (λ p. eqb p q) (sight_of old) (sight_of new) (ltb 0 (bit_and found mask))
-by-turn old new q word mask found is_word is_mask table told =
+    → InsertsAs (λ p. eqb p q) (sight_of old) (sight_of new) on
+by-turn old new q word mask found on is_word is_mask is_on table told =
     subst (λ (z : ℕ × ℕ). (new.me.0 ≡ after_or old.me.0 z.0 z.1 found) × Shows old.me.0 z.0 found
     × IsPart (set_of old.me.0.gained) (set_of old.me.0.known)
-    → InsertsAs (λ p. eqb p q) (sight_of old) (sight_of new) (ltb 0 (bit_and found z.1)))
+    → InsertsAs (λ p. eqb p q) (sight_of old) (sight_of new) on)
     (λ i. (sym is_word i, sym is_mask i))
-    (λ t. subst (λ (z : TableId × Sets). InsertsAs (λ p. eqb p q) (sight_of old) (seen z.0 z.1)
-    (ltb 0 (bit_and found (mask_of q found)))) (λ i. (sym table i, sym t.0 i))
-    (inserts-one old.table_id old.me.0 q found t.1 t.2 (ltb 0 (bit_and found (mask_of q found)))
-    (tested q found))) told
+    (λ t. subst (λ (z : TableId × Sets). InsertsAs (λ p. eqb p q) (sight_of old) (seen z.0 z.1) on)
+    (λ i. (sym table i, sym t.0 i))
+    (inserts-one old.table_id old.me.0 q found t.1 t.2 on is_on)) told

@@ -1,5 +1,5 @@
 use Rattle.std.proofs.Common.{◌≡◌, length}
-use Rattle.passed_words.specs.Passed.{vector_of}
+use Rattle.fastbloom_c.specs.Passed.{vector_of}
 use Rattle.fastbloom_c.specs.Shared.{MakesLook}
 use Rattle.fastbloom_c.proofs.SharedLemmas.{ToldFirst}
 use Rattle.fastbloom_c.proofs.shared_many.find_each.Given as goal

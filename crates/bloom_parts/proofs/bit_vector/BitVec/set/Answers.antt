@@ -6,7 +6,7 @@ pub returns-clause-reply : goal.returns-clause-reply
 returns-clause-reply c =
     let at = c.word_and_mask-word.ensures in
     content-test _ _ c.self.view_is _ _ _ c.args.position at.word at.mask c.index.ensures
-    (omega (arith, c.requires, at.word))
+    (omega (arith, c.requires, at.word)) (c.is_set-was_on.ensures _ at.mask)
 
 pub returns-clause-content : goal.returns-clause-content
 returns-clause-content c =

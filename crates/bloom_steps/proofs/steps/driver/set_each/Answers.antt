@@ -1,4 +1,4 @@
-use Rattle.std.proofs.Common.{◌+◌, arith}
+use Rattle.std.proofs.Common.{◌+◌, arith, refl}
 use Rattle.bloom_steps.proofs.StepLemmas.Driven.{set-next, set-none}
 use Rattle.bloom_steps.proofs.steps.driver.set_each.Goals as goal
 
@@ -13,15 +13,15 @@ places-init g c = record {
 pub places-preserved : goal.places-preserved
 places-preserved g c =
     let before = c.places.invariant in
-    let next = c.next.ensures in
-    let at = c.word_and_bit_of_hash-word.ensures in
+    let next = c.next_place-word.ensures in
     record {
       places = before.places + 1;
       split = omega (arith, before.split, c.places-test.true);
       set =
           set-next _ _ _ _ _ _ _ before.places _ _ _ _ _ _ _ _ _ _ before.set
           (omega (arith, before.split, c.places-test.true)) before.words
-          (next.value _ _ before.set.stands) at.word at.bit c.mask_of.ensures
-          c.step-found.ensures c.is_set-all_on.ensures (next.moved _ _ before.set.stands);
+          refl (next.word _ _ before.set.stands) refl (next.mask _ _ before.set.stands)
+          c.step-found.ensures (c.is_set-all_on.ensures _ (next.mask _ _ before.set.stands))
+          (next.moved _ _ before.set.stands);
       words = before.words;
     }

@@ -1,5 +1,5 @@
 use Rattle.std.proofs.Common.{◌≡◌, not, length}
-use Rattle.passed_words.specs.Passed.{vector_of}
+use Rattle.fastbloom_c.specs.Passed.{vector_of}
 use Rattle.bloom_blocked.specs.LineSteps.{SetsInLine}
 use Rattle.fastbloom_c.proofs.SharedLemmas.{ToldFirst}
 use Rattle.fastbloom_c.proofs.blocked.shared_many.insert_each_telling.Given as goal

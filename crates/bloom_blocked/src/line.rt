@@ -1,0 +1,126 @@
+//! Calls by hash on the line of a hash, among words that threads share, wherever they lie.
+ghost use Rattle.std.specs.Prelude.{◌≡◌, ◌↔◌, ℕ, ◌<◌, ◌≤◌, true, length, All};
+ghost use Rattle.bloom_parts.specs.Content.{content, AreWords};
+ghost use Rattle.bloom_parts.specs.Places.{positions};
+ghost use Rattle.bloom_blocked.specs.Lines.{inner_of};
+ghost use Rattle.bloom_blocked.specs.LineSteps.{HasAll, LooksInLine, SetsInLine, TellsMask, WasSetInLine};
+
+use crate::many::LINES_TOGETHER;
+use crate::words::{LINE, inner, line_start, with_range};
+use bloom_parts::bit_vector::{Loads, Turn, TurnWords};
+use bloom_parts::slices::insert_in_few_words;
+use bloom_steps::{Call, SpanStore, drive};
+
+// The words of a line where the positions of a hash are set, and no other.
+#[inline(always)]
+fn masks_of(num_hashes: u32, hash: u64) -> [u64; LINE]
+    ensures bits { (q : ℕ) → content result q ≡ positions 512 num_hashes (inner_of hash) q }
+    ensures shape { length result ≡ 8 }
+    ensures range { AreWords result }
+{
+    let mut masks = [0; LINE];
+    insert_in_few_words(&mut masks, num_hashes, inner(hash));
+    let _words = with_range(&masks);
+    masks
+}
+
+// Whether a word has all bits of a mask.
+#[inline(always)]
+fn has_all(word: u64, mask: u64) -> bool
+    ensures { (result ≡ true) ↔ HasAll word mask }
+{
+    word & mask == mask
+}
+
+// Sets the bits of a mask in a word, and returns whether all were found set. An empty mask takes no
+// step.
+#[inline(always)]
+fn set_mask<W: TurnWords>(words: &W, turn: &mut Turn, word: usize, mask: u64) -> bool
+    requires { word < (W.vector words.now).count }
+    ensures { TellsMask (W.vector words.now) word mask turn.old turn.new result }
+{
+    if mask == 0 {
+        return true;
+    }
+    has_all(words.fetch_or(turn, word, mask), mask)
+}
+
+/// Sets all positions of a hash in its line, and returns whether its own steps found all of them
+/// set already. It makes one step for each word that has positions.
+#[inline(always)]
+pub fn set_in_line<W: TurnWords>(words: &W, num_hashes: u32, hash: u64) -> bool
+    requires { 8 ≤ (W.vector words.now).count }
+    ensures { SetsInLine (W.vector words.now) num_hashes hash result }
+{
+    let masks = masks_of(num_hashes, hash);
+    let start = line_start(words.len(), hash);
+    let mut turn = Turn::first();
+    let mut all_set = true;
+    'words: for i in 0..LINE {
+        all_set &= set_mask(words, &mut turn, start + i, masks[i]);
+    }
+    all_set
+}
+
+/// Whether all positions of a hash are found set in its line, one after the other, up to the first
+/// that isn't.
+#[inline(always)]
+pub fn looks_in_line<W: TurnWords>(words: &W, num_hashes: u32, hash: u64) -> bool
+    requires words { 8 ≤ (W.vector words.now).count }
+    requires hashes { 1 ≤ num_hashes }
+    ensures { LooksInLine (W.vector words.now) num_hashes hash result }
+{
+    let mut store = SpanStore::new(words, words, line_start(words.len(), hash), LINE);
+    match drive(&mut store, Call::Contains(inner(hash)), num_hashes) {
+        Some(all_set) => all_set,
+        None => unreachable!(),
+    }
+}
+
+// Loads the first and the last word of the line of each of these hashes. Nothing depends on what
+// they hold, so no load waits for another.
+#[inline(always)]
+fn touch_lines<W: TurnWords>(words: &Loads<'_, W>, hashes: &[u64])
+    requires { 8 ≤ words.now.count }
+{
+    'touches: for hash in hashes {
+        let at = line_start(words.len(), *hash);
+        words.load(at);
+        words.load(at + (LINE - 1));
+    }
+}
+
+/// Inserts each of these hashes, in order.
+pub fn insert_each<W: TurnWords>(words: &W, num_hashes: u32, hashes: &[u64])
+    requires { 8 ≤ (W.vector words.now).count }
+    ensures { All (WasSetInLine (W.vector words.now) num_hashes) hashes.now }
+{
+    'hashes: for hash in hashes {
+        set_in_line(words, num_hashes, *hash);
+    }
+}
+
+/// Loads the ends of the lines of each of these hashes, so that memory fetches them side by side,
+/// and then inserts the hashes, in order.
+#[inline(always)]
+pub fn load_then_insert<W: TurnWords>(words: &W, num_hashes: u32, hashes: &[u64])
+    requires { 8 ≤ (W.vector words.now).count }
+    ensures { All (WasSetInLine (W.vector words.now) num_hashes) hashes.now }
+{
+    touch_lines(&Loads::of(words), hashes);
+    insert_each(words, num_hashes, hashes);
+}
+
+/// Inserts each of these hashes, in order, 64 at a time: the ends of their lines are loaded first.
+#[inline(always)]
+pub fn insert_together<W: TurnWords>(words: &W, num_hashes: u32, hashes: &[u64])
+    requires { 8 ≤ (W.vector words.now).count }
+    ensures { All (WasSetInLine (W.vector words.now) num_hashes) hashes.now }
+{
+    let turns = hashes.len() / LINES_TOGETHER;
+    'turns: for turn in 0..turns {
+        let at = LINES_TOGETHER * turn;
+        load_then_insert(words, num_hashes, &hashes[at..at + LINES_TOGETHER]);
+    }
+    load_then_insert(words, num_hashes, &hashes[LINES_TOGETHER * turns..]);
+}

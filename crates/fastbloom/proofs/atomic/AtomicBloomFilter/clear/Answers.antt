@@ -1,5 +1,0 @@
-use Rattle.bloom_steps.proofs.LiveLemmas.{call-silent}
-use Rattle.fastbloom.proofs.atomic.AtomicBloomFilter.clear.Goals as goal
-
-pub returns : goal.returns
-returns g c = call-silent _ _ _ _ _ c.make.ensures.made (λ t done. done)

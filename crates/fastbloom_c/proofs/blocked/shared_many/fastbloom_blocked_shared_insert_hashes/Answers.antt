@@ -1,0 +1,35 @@
+use Rattle.std.proofs.Common.{◌≡◌, ◌∙◌, max, ap, rules, subst}
+use Rattle.std.specs.List.{All}
+use Rattle.fastbloom_c.specs.Passed.{vector_of}
+use Rattle.fastbloom_c.specs.BlockedShared.{WasSetInLine}
+use Rattle.fastbloom_c.proofs.blocked.shared_many.fastbloom_blocked_shared_insert_hashes.Goals as goal
+
+pub returns-then-len-ge-MANY_WORDS-clause-made : goal.returns-then-len-ge-MANY_WORDS-clause-made
+returns-then-len-ge-MANY_WORDS-clause-made c = λ _.
+    let words = c.args.words in
+    let hashes = c.args.hashes.now in
+    let k : c.max-num_hashes.result ≡ max 1 c.args.num_hashes = search rules in
+    let vector : c.new-lent.result ≡ vector_of words.at words.len =
+    c.new-lent.ensures
+    ∙ ap (λ at. vector_of at c.shared-words.result.len) c.shared-words.ensures.at
+    ∙ ap (vector_of words.at) c.shared-words.ensures.len in
+    record {
+      each =
+          subst (λ v. All (WasSetInLine v (max 1 c.args.num_hashes)) hashes) vector
+          (subst (λ n. All (WasSetInLine c.new-lent.result n) hashes) k c.insert_together.ensures);
+    }
+
+pub returns-else-len-ge-MANY_WORDS-clause-made : goal.returns-else-len-ge-MANY_WORDS-clause-made
+returns-else-len-ge-MANY_WORDS-clause-made c = λ _.
+    let words = c.args.words in
+    let hashes = c.args.hashes.now in
+    let k : c.max-num_hashes.result ≡ max 1 c.args.num_hashes = search rules in
+    let vector : c.new-lent.result ≡ vector_of words.at words.len =
+    c.new-lent.ensures
+    ∙ ap (λ at. vector_of at c.shared-words.result.len) c.shared-words.ensures.at
+    ∙ ap (vector_of words.at) c.shared-words.ensures.len in
+    record {
+      each =
+          subst (λ v. All (WasSetInLine v (max 1 c.args.num_hashes)) hashes) vector
+          (subst (λ n. All (WasSetInLine c.new-lent.result n) hashes) k c.insert_each.ensures);
+    }

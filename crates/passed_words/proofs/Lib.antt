@@ -1,4 +1,0 @@
-pub mod Fields
-pub mod Steps
-mod ReadLemmas
-mod TakenLemmas
