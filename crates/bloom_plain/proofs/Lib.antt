@@ -6,6 +6,7 @@ mod BuilderLemmas
 pub mod CaseLemmas
 mod DataFacts
 mod DataLemmas
+mod DifferentLemmas
 mod EqualityFacts
 mod FileErrorFacts
 mod FileFacts
@@ -46,8 +47,12 @@ mod OnesLemmas
 mod RateFacts
 mod RateLemmas
 mod ReadLemmas
+mod RecentLemmas
 mod RefusalLemmas
 mod ReplyLemmas
+mod RotatingFacts
+mod RotatingLemmas
+mod RotatingRuleFacts
 mod SealLemmas
 mod SetFacts
 mod SetLawFacts

@@ -14,4 +14,5 @@ pub mod GrowingRates
 pub mod Laws
 pub mod Ones
 pub mod Replies
+pub mod Rotating
 pub mod SourceHash

@@ -6,6 +6,7 @@ pub mod builder;
 pub mod file;
 mod growing;
 pub mod laws;
+mod rotating;
 
 pub use bloom::{
     BitsData, BloomFilter, Command, FilterData, expected_rate, insert_hashes, shape_of_data,
@@ -16,3 +17,4 @@ pub use bloom_parts::math::{Estimate, Rate};
 pub use bloom_parts::text::Text;
 pub use builder::{BuilderWithBits, BuilderWithFalsePositiveRate};
 pub use growing::{GrowingError, GrowingFilter};
+pub use rotating::RotatingFilter;
