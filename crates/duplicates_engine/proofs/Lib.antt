@@ -19,6 +19,7 @@ mod LongerLemmas
 mod PlaceLemmas
 mod PlainFacts
 mod PlainLemmas
+mod RotatingFacts
 mod RotatingLemmas
 mod RunFacts
 mod SieveFacts

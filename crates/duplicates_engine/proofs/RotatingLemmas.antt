@@ -14,7 +14,7 @@ module _ (hash_of : List ℕ → ℕ) where
   hash-in : (lines : List (List ℕ)) (line : List ℕ) → is_member bytes_eq lines line ≡ true
       → is_member nat_eq (map hash_of lines) (hash_of line) ≡ true
   hash-in [] line is = is
-  hash-in (l ∷ lines) line is = by (bytes_eq line l) refl
+  hash-in (l ∷ lines) line is = by (hash-in lines line) (bytes_eq line l) refl
     where
       rest : (a b : Bool) → (a || b) ≡ true → a ≡ false → b ≡ true
       rest true b told out = absurd (true≢false out)
@@ -28,17 +28,19 @@ module _ (hash_of : List ℕ → ℕ) where
       second true b is = refl
       second false b is = is
 
-      by : (b : Bool) → bytes_eq line l ≡ b
+      by : (is_member bytes_eq lines line ≡ true
+          → is_member nat_eq (map hash_of lines) (hash_of line) ≡ true)
+          → (b : Bool) → bytes_eq line l ≡ b
           → is_member nat_eq (map hash_of (l ∷ lines)) (hash_of line) ≡ true
-      by true same =
+      by later true same =
           first (nat_eq (hash_of line) (hash_of l))
           (is_member nat_eq (map hash_of lines) (hash_of line))
           ((unsigned_Decides (hash_of line) (hash_of l)).1
           (ap hash_of ((bytes_eq-Decides line l).0 same)))
-      by false differs =
+      by later false differs =
           second (nat_eq (hash_of line) (hash_of l))
           (is_member nat_eq (map hash_of lines) (hash_of line))
-          (hash-in lines line (rest (bytes_eq line l) (is_member bytes_eq lines line) is differs))
+          (later (rest (bytes_eq line l) (is_member bytes_eq lines line) is differs))
 
   -- lines have at most as many different hashes as there are different lines
   few-hashes : (lines : List (List ℕ))
