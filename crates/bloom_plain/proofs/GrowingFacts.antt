@@ -147,7 +147,7 @@ none-took : Took plan (with_one ∷ []) 0 (filter (0 ∷ []) 22 7)
 none-took = took-none plan (with_one ∷ []) (filter (0 ∷ []) 22 7) number-one
 
 -- a filter that has nothing took no list of at least one hash
-took-list : {S : Type 0} (plan : Plan S) (i : ℕ) (made filter : Filter S) (hashes : List ℕ)
+pub took-list : {S : Type 0} (plan : Plan S) (i : ℕ) (made filter : Filter S) (hashes : List ℕ)
     → IsNumber plan i filter
     → CarriesOut made (map Insert hashes) filter (map (λ _. false) hashes)
     → 1 ≤ length hashes → ⊥

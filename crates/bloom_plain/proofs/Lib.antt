@@ -6,6 +6,7 @@ mod BuilderLemmas
 pub mod CaseLemmas
 mod DataFacts
 mod DataLemmas
+mod DifferentLemmas
 mod EqualityFacts
 mod FileErrorFacts
 mod FileFacts
@@ -47,8 +48,12 @@ mod QueueLemmas
 mod RateFacts
 mod RateLemmas
 mod ReadLemmas
+mod RecentLemmas
 mod RefusalLemmas
 mod ReplyLemmas
+mod RotatingFacts
+mod RotatingLemmas
+mod RotatingRuleFacts
 mod SealLemmas
 mod SetFacts
 mod SetLawFacts

@@ -16,4 +16,5 @@ pub mod ListLaws
 pub mod Ones
 pub mod Queues
 pub mod Replies
+pub mod Rotating
 pub mod SourceHash

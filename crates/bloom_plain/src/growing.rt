@@ -11,7 +11,7 @@ ghost use Rattle.bloom_plain.specs.GrowingInserts.{IsBegun, Begins, Adds, Takes,
 mod error;
 mod items;
 mod looks;
-mod parts;
+pub(crate) mod parts;
 mod rates;
 
 use crate::bloom::BloomFilter;

@@ -10,6 +10,7 @@ ghost use Rattle.bloom_plain.specs.FileRefusals.{ReadableLaw};
 ghost use Rattle.bloom_plain.specs.Filter.{Unites, Intersects};
 ghost use Rattle.bloom_plain.specs.GrowingLaws.{GrowingKeptLaw, GrowingFoundLaw, RatesBelowLaw};
 ghost use Rattle.bloom_plain.specs.Laws.{InsertLaw, KeptByInsertLaw, KeptByUnionLaw, KeptByListLaw, KeptByInsertsLaw, IntersectionLaw, UnionLaw, ClearLaw, IsCommutative, IsAssociative, IsIdempotent, RebuiltLaw, EqualityLaw, EqualContentLaw, EqualStartsLaw, EqualRateStartsLaw, JoinedListsLaw, UnitedInsertsLaw, FoundLaw, FoundAfterInsertsLaw, FoundAfterReplayLaw};
+ghost use Rattle.bloom_plain.specs.Rotating.{RecentFoundLaw};
 ghost use Rattle.bloom_plain.specs.SourceHash.{source_hash_of, IsFunctionOfBytes};
 
 use bloom_parts::hasher::{DefaultHasher, RandomDefaultHasher};
@@ -106,6 +107,12 @@ pub fn growing_inserted_stays_found<S>()
 /// than the rate that was asked for.
 pub fn growing_rates_stay_below()
     ensures { RatesBelowLaw }
+{}
+
+/// In a filter that rotates a hash that came is contained as long as fewer different ones came behind
+/// it than each of its filters is for.
+pub fn rotating_recent_stays_found<S>()
+    ensures { RecentFoundLaw S }
 {}
 
 /// Under the default hasher a source hash is SipHash-1-3 of the bytes that the item writes.

@@ -7,6 +7,7 @@ pub mod file;
 mod growing;
 pub mod laws;
 pub mod queue;
+mod rotating;
 
 pub use bloom::{BitsData, BloomFilter, Command, FilterData, expected_rate, shape_of_data};
 pub use bloom_parts::error::FilterError;
@@ -15,3 +16,4 @@ pub use bloom_parts::math::{Estimate, Rate};
 pub use bloom_parts::text::Text;
 pub use builder::{BuilderWithBits, BuilderWithFalsePositiveRate};
 pub use growing::{GrowingError, GrowingFilter};
+pub use rotating::RotatingFilter;

@@ -1,7 +1,7 @@
 //! How full a filter is, as a terminal is told.
 
 use bloom_blocked::BlockedBloomFilter;
-use bloom_plain::{BloomFilter, GrowingFilter};
+use bloom_plain::{BloomFilter, GrowingFilter, RotatingFilter};
 
 /// A filter that tells how full it is. Half of the bits are set where a filter is as full as it was
 /// made for.
@@ -47,6 +47,18 @@ impl Gauge for GrowingFilter {
         let (taken, room) = (self.taken(), self.room());
         let _ = eprintln!(rt;
             "filter {number} has {taken} of {room} lines: {whole}.{part} % of its bits are set"
+        );
+    }
+}
+
+impl Gauge for RotatingFilter {
+    fn tell_full(&self, rt: &HostRuntime) {
+        let older = self.older();
+        let share = share_of(older.count_ones(), older.num_bits());
+        let (whole, part) = (share / 10, share % 10);
+        let turns = self.turns();
+        let _ = eprintln!(rt;
+            "the filters turned over {turns} times: {whole}.{part} % of the older one's bits are set"
         );
     }
 }

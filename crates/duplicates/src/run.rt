@@ -7,7 +7,7 @@ use crate::telling::{
     DONE, OVERFULL, Teller, tell_fault, tell_no_room, tell_output, tell_unwritten,
 };
 use bloom_blocked::BlockedBloomFilter;
-use bloom_plain::{BloomFilter, FilterError, GrowingError, GrowingFilter};
+use bloom_plain::{BloomFilter, FilterError, GrowingError, GrowingFilter, RotatingFilter};
 use duplicates_engine::{Fault, Options, Sieve, Total, Written, keep_new};
 use std::io;
 use std::io::{BufWriter, IsTerminal};
@@ -122,7 +122,12 @@ pub fn run(rt: &HostRuntime, request: &Request) -> Result<u8, &'static str> {
         return Ok(tell_output(rt, name));
     }
     let items = request.items as usize;
-    let refusal = if request.blocked {
+    let refusal = if let Some(last) = request.last {
+        match RotatingFilter::new(rt.alloc(), request.rate, last as usize) {
+            Ok(mut filter) => return Ok(sift(rt, request, &mut filter)),
+            Err(refusal) => refusal,
+        }
+    } else if request.blocked {
         match BlockedBloomFilter::with_false_pos(request.rate).expected_items(rt.alloc(), items) {
             Ok(mut filter) => return Ok(sift(rt, request, &mut filter)),
             Err(refusal) => GrowingError::Filter(refusal),

@@ -13,19 +13,21 @@ use Rattle.duplicates_engine.specs.Kept.{chosen, EndsEarly, KeepsNew, KeepsUntil
 use Rattle.duplicates_engine.proofs.FlushLemmas.{all-flushed, until-flushed}
 use Rattle.duplicates_engine.proofs.PlaceLemmas.{is-choice}
 
-module _ {V : Type 0} (has : V → List ℕ → Type 0) (sifts : V → List ℕ → Bool → V → Type 0)
+module _ {V : Type 0} (span : V → Option ℕ) (recalls : V → List (List ℕ) → Type 0)
+    (sifts : V → List ℕ → Bool → V → Type 0)
     (end : ℕ) (options : Options) (come : Option (List (List ℕ))) (old new : V)
     (from to : Option (List ℕ)) (before after calm warned : Option (List Tally)) where
   -- a whole run writes a choice of all lines
   writes-choice : (left : Option (List (List ℕ))) (total : Total)
-      → KeepsNew has sifts end options come left old new from to before after calm warned total
-      → WritesChoice end options come left from to
+      → KeepsNew span recalls sifts end options come left old new from to before after calm warned
+      total
+      → WritesChoice (span old) end options come left from to
   writes-choice left total run = record {
     lines = run.lines;
     chosen = chosen options run.lines run.replies;
     whole = run.whole;
     is_choice =
-        is-choice options run.lines run.replies run.sifted.count run.sifted.are_new
+        is-choice (span old) options run.lines run.replies run.sifted.count run.sifted.are_new
         options.written refl;
     short = run.short;
     text = run.text;
@@ -33,14 +35,15 @@ module _ {V : Type 0} (has : V → List ℕ → Type 0) (sifts : V → List ℕ 
 
   -- a run up to a fault writes a choice of the first lines
   pub writes-until : (fault : Fault)
-      → KeepsUntil has sifts end options come old new from to before after calm warned fault
-      → WritesChoiceUntil end options come from to fault
+      → KeepsUntil span recalls sifts end options come old new from to before after calm warned
+      fault
+      → WritesChoiceUntil (span old) end options come from to fault
   writes-until fault run = record {
     lines = run.lines;
     chosen = chosen options run.lines run.replies;
     reached = run.reached;
     is_choice =
-        is-choice options run.lines run.replies run.sifted.count run.sifted.are_new
+        is-choice (span old) options run.lines run.replies run.sifted.count run.sifted.are_new
         options.written refl;
     short = run.short;
     written = run.written;
@@ -48,22 +51,26 @@ module _ {V : Type 0} (has : V → List ℕ → Type 0) (sifts : V → List ℕ 
     is_text = run.is_text;
   }
 
-module _ {V : Type 0} (has : V → List ℕ → Type 0) (sifts : V → List ℕ → Bool → V → Type 0)
+module _ {V : Type 0} (span : V → Option ℕ) (recalls : V → List (List ℕ) → Type 0)
+    (sifts : V → List ℕ → Bool → V → Type 0)
     (end : ℕ) (options : Options) (come : Option (List (List ℕ))) (old new : V)
     (from to kept : Option (List ℕ)) (before after calm warned : Option (List Tally))
     (keeps : Keeps to kept) where
   -- behind a flush too, a run that went well wrote a choice
   pub choice-flushed : (left : Option (List (List ℕ))) (result : Result Total Fault)
       → IfOk result
-      (KeepsNew has sifts end options come left old new from to before after calm warned)
-      → IfOk result (λ total. WritesChoice end options come left from kept)
+      (KeepsNew span recalls sifts end options come left old new from to before after calm warned)
+      → IfOk result (λ total. WritesChoice (span old) end options come left from kept)
   choice-flushed left (Ok total) run =
-      writes-choice has sifts end options come old new from kept before after calm warned left total
-      (all-flushed has sifts end options come old new from to kept before after calm warned keeps
+      writes-choice span recalls sifts end options come old new from kept before after calm warned
+      left total
+      (all-flushed span recalls sifts end options come old new from to kept before after calm
+      warned keeps
       left total run)
   choice-flushed left (Err fault) run = tt
 
-module _ {V I : Type 0} (has : V → List ℕ → Type 0) (sifts : V → List ℕ → Bool → V → Type 0)
+module _ {V I : Type 0} (span : V → Option ℕ) (recalls : V → List (List ℕ) → Type 0)
+    (sifts : V → List ℕ → Bool → V → Type 0)
     (refuses : V → List ℕ → GrowingError → Type 0) (fails : I → I → ErrorKind → Type 0)
     (end : ℕ) (options : Options) (come : Option (List (List ℕ))) (inputs : I) (old new : V)
     (from to kept : Option (List ℕ)) (before after calm warned : Option (List Tally))
@@ -71,11 +78,14 @@ module _ {V I : Type 0} (has : V → List ℕ → Type 0) (sifts : V → List �
   -- so did a run that came to a fault
   pub until-flushed-choice : {A : Type 0} (result : Result A Fault)
       → IfErr result
-      (EndsEarly has sifts refuses fails end options come inputs old new from to before after calm
+      (EndsEarly span recalls sifts refuses fails end options come inputs old new from to before
+      after calm
       warned)
-      → IfErr result (WritesChoiceUntil end options come from kept)
+      → IfErr result (WritesChoiceUntil (span old) end options come from kept)
   until-flushed-choice (Ok value) ends = tt
   until-flushed-choice (Err fault) ends =
-      writes-until has sifts end options come old new from kept before after calm warned fault
-      (until-flushed has sifts end options come old new from to kept before after calm warned keeps
+      writes-until span recalls sifts end options come old new from kept before after calm warned
+      fault
+      (until-flushed span recalls sifts end options come old new from to kept before after calm
+      warned keeps
       fault ends.until)

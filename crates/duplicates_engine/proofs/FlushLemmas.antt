@@ -29,14 +29,17 @@ first-lines end longest (Open kind) come lines is = is
 first-lines end longest (Input kind) come lines is = is
 first-lines end longest (Output kind) come lines is = is
 
-module _ {V : Type 0} (has : V → List ℕ → Type 0) (sifts : V → List ℕ → Bool → V → Type 0)
+module _ {V : Type 0} (span : V → Option ℕ) (recalls : V → List (List ℕ) → Type 0)
+    (sifts : V → List ℕ → Bool → V → Type 0)
     (end : ℕ) (options : Options) (come : Option (List (List ℕ))) (old new : V)
     (from to kept : Option (List ℕ)) (before after calm warned : Option (List Tally))
     (keeps : Keeps to kept) where
   -- a flush changes nothing
   pub all-flushed : (left : Option (List (List ℕ))) (total : Total)
-      → KeepsNew has sifts end options come left old new from to before after calm warned total
-      → KeepsNew has sifts end options come left old new from kept before after calm warned total
+      → KeepsNew span recalls sifts end options come left old new from to before after calm warned
+      total
+      → KeepsNew span recalls sifts end options come left old new from kept before after calm
+      warned total
   all-flushed left total run = record {
     lines = run.lines;
     replies = run.replies;
@@ -51,8 +54,10 @@ module _ {V : Type 0} (has : V → List ℕ → Type 0) (sifts : V → List ℕ 
   }
 
   pub until-flushed : (fault : Fault)
-      → KeepsUntil has sifts end options come old new from to before after calm warned fault
-      → KeepsUntil has sifts end options come old new from kept before after calm warned fault
+      → KeepsUntil span recalls sifts end options come old new from to before after calm warned
+      fault
+      → KeepsUntil span recalls sifts end options come old new from kept before after calm warned
+      fault
   until-flushed fault run = record {
     lines = run.lines;
     replies = run.replies;
@@ -69,8 +74,10 @@ module _ {V : Type 0} (has : V → List ℕ → Type 0) (sifts : V → List ℕ 
   module _ (fault : Fault) (is : IsOfWriter fault) where
     -- where the flush behind a whole run fails, the run ended at that
     pub all-broken : (left : Option (List (List ℕ))) (total : Total)
-        → KeepsNew has sifts end options come left old new from to before after calm warned total
-        → KeepsUntil has sifts end options come old new from kept before after calm warned fault
+        → KeepsNew span recalls sifts end options come left old new from to before after calm
+        warned total
+        → KeepsUntil span recalls sifts end options come old new from kept before after calm warned
+        fault
     all-broken left total run =
         let text = text_of end options run.lines run.replies in
         record {
@@ -90,8 +97,10 @@ module _ {V : Type 0} (has : V → List ℕ → Type 0) (sifts : V → List ℕ 
 
     -- where the flush behind a run up to a fault fails, the run ended at the later fault
     pub until-broken : (first : Fault)
-        → KeepsUntil has sifts end options come old new from to before after calm warned first
-        → KeepsUntil has sifts end options come old new from kept before after calm warned fault
+        → KeepsUntil span recalls sifts end options come old new from to before after calm warned
+        first
+        → KeepsUntil span recalls sifts end options come old new from kept before after calm warned
+        fault
     until-broken first run =
         let text = text_of end options run.lines run.replies in
         record {
@@ -110,7 +119,8 @@ module _ {V : Type 0} (has : V → List ℕ → Type 0) (sifts : V → List ℕ 
           warns = run.warns;
         }
 
-module _ {V I : Type 0} (has : V → List ℕ → Type 0) (sifts : V → List ℕ → Bool → V → Type 0)
+module _ {V I : Type 0} (span : V → Option ℕ) (recalls : V → List (List ℕ) → Type 0)
+    (sifts : V → List ℕ → Bool → V → Type 0)
     (refuses : V → List ℕ → GrowingError → Type 0) (fails : I → I → ErrorKind → Type 0)
     (end : ℕ) (options : Options) (come : Option (List (List ℕ))) (inputs : I) (old new : V)
     (from to kept : Option (List ℕ)) (before after calm warned : Option (List Tally))
@@ -118,16 +128,19 @@ module _ {V I : Type 0} (has : V → List ℕ → Type 0) (sifts : V → List �
   -- a run that ended early did so behind a flush too
   pub ends-flushed : {A : Type 0} (result : Result A Fault)
       → IfErr result
-      (EndsEarly has sifts refuses fails end options come inputs old new from to before after calm
+      (EndsEarly span recalls sifts refuses fails end options come inputs old new from to before
+      after calm
       warned)
       → IfErr result
-      (EndsEarly has sifts refuses fails end options come inputs old new from kept before after calm
+      (EndsEarly span recalls sifts refuses fails end options come inputs old new from kept before
+      after calm
       warned)
   unfolding until-flushed
   ends-flushed (Ok value) ends = tt
   ends-flushed (Err fault) ends = record {
     until =
-        until-flushed has sifts end options come old new from to kept before after calm warned keeps
+        until-flushed span recalls sifts end options come old new from to kept before after calm
+        warned keeps
         fault ends.until;
     caused = ends.caused;
   }
@@ -136,23 +149,27 @@ module _ {V I : Type 0} (has : V → List ℕ → Type 0) (sifts : V → List �
   pub broken : (fault : Fault) (is : IsOfWriter fault) (left : Option (List (List ℕ)))
       (result : Result Total Fault)
       → IfOk result
-      (KeepsNew has sifts end options come left old new from to before after calm warned)
+      (KeepsNew span recalls sifts end options come left old new from to before after calm warned)
       → IfErr result
-      (EndsEarly has sifts refuses fails end options come inputs old new from to before after calm
+      (EndsEarly span recalls sifts refuses fails end options come inputs old new from to before
+      after calm
       warned)
-      → EndsEarly has sifts refuses fails end options come inputs old new from kept before after
+      → EndsEarly span recalls sifts refuses fails end options come inputs old new from kept before
+      after
       calm warned fault
   unfolding all-broken until-broken
   broken fault is left (Ok total) all ends = record {
     until =
-        all-broken has sifts end options come old new from to kept before after calm warned keeps
+        all-broken span recalls sifts end options come old new from to kept before after calm
+        warned keeps
         fault is left total all;
     caused =
         caused-writer refuses fails end options.longest come new all.lines inputs fault is;
   }
   broken fault is left (Err first) all ends = record {
     until =
-        until-broken has sifts end options come old new from to kept before after calm warned keeps
+        until-broken span recalls sifts end options come old new from to kept before after calm
+        warned keeps
         fault is first ends.until;
     caused =
         caused-writer refuses fails end options.longest come new ends.until.lines inputs fault is;

@@ -17,7 +17,8 @@ use Rattle.duplicates_engine.proofs.SiftLemmas.{sifted-nil}
 use Rattle.duplicates_engine.proofs.ToldLemmas.{told-nil}
 use Rattle.duplicates_engine.proofs.WarnLemmas.{counts-nil, warns-nil, room-nil}
 
-module _ {V : Type 0} (has : V → List ℕ → Type 0) (sifts : V → List ℕ → Bool → V → Type 0)
+module _ {V : Type 0} (span : V → Option ℕ) (recalls : V → List (List ℕ) → Type 0)
+    (sifts : V → List ℕ → Bool → V → Type 0)
     (end : ℕ) (options : Options) (come : Option (List (List ℕ))) (old : V) (from : Option (List ℕ))
     (before calm : Option (List Tally)) where
   -- half-way: these lines were sifted, the chosen ones written, and each was counted and told
@@ -25,7 +26,7 @@ module _ {V : Type 0} (has : V → List ℕ → Type 0) (sifts : V → List ℕ 
       (tally : Tally) (longer : ℕ) (room : Option ℕ) (lines : List (List ℕ))
       (replies : List Bool) : Type 0
     where
-      pub sifted : HasSifted has sifts options.longest old now lines replies
+      pub sifted : HasSifted span recalls sifts options.longest old now lines replies
       pub text : Appends from to (text_of end options lines replies)
       pub short : AreShort (limit_of options) lines
       pub counts : Counts replies tally
@@ -38,7 +39,7 @@ module _ {V : Type 0} (has : V → List ℕ → Type 0) (sifts : V → List ℕ 
   sifting-nil : (tally : Tally) → tally.read ≡ 0 → tally.held ≡ 0
       → IsSifting old from before calm tally 0 options.most [] []
   sifting-nil tally none_read none_held = record {
-    sifted = sifted-nil has sifts options.longest old;
+    sifted = sifted-nil span recalls sifts options.longest old;
     text = Appends-nil from;
     short = All-nil (λ line. length line ≤ limit_of options);
     counts = counts-nil tally none_read none_held;

@@ -22,17 +22,19 @@ use Rattle.duplicates_engine.proofs.WarnLemmas.{counts-nil, warns-nil}
 use Rattle.duplicates_engine.proofs.WriteLemmas.{written-all, reached-at}
 use Rattle.duplicates_engine.proofs.HalfwayLemmas.{IsKeeping}
 
-module _ {V : Type 0} (has : V → List ℕ → Type 0) (sifts : V → List ℕ → Bool → V → Type 0)
+module _ {V : Type 0} (span : V → Option ℕ) (recalls : V → List (List ℕ) → Type 0)
+    (sifts : V → List ℕ → Bool → V → Type 0)
     (end : ℕ) (options : Options) (come : Option (List (List ℕ))) (old : V) (from : Option (List ℕ))
     (before calm : Option (List Tally)) where
   -- no input came
   pub keeps-none : (left : Option (List (List ℕ))) (total : Total) → NoneComes come left
       → total.tally.read ≡ 0 → total.tally.held ≡ 0 → total.longer ≡ 0
-      → KeepsNew has sifts end options come left old old from from before before calm calm total
+      → KeepsNew span recalls sifts end options come left old old from from before before calm calm
+      total
   keeps-none left total none none_read none_held none_longer = record {
     lines = [];
     replies = [];
-    sifted = sifted-nil has sifts options.longest old;
+    sifted = sifted-nil span recalls sifts options.longest old;
     text = Appends-nil from;
     whole = none-read end come left none;
     short = All-nil (λ line. length line ≤ limit_of options);
@@ -44,11 +46,12 @@ module _ {V : Type 0} (has : V → List ℕ → Type 0) (sifts : V → List ℕ 
 
   -- before any line a fault may come
   unfoldable pub until-none : (fault : Fault) → IsOfSystem fault
-      → KeepsUntil has sifts end options come old old from from before before calm calm fault
+      → KeepsUntil span recalls sifts end options come old old from from before before calm calm
+      fault
   until-none fault is = record {
     lines = [];
     replies = [];
-    sifted = sifted-nil has sifts options.longest old;
+    sifted = sifted-nil span recalls sifts options.longest old;
     written = [];
     text = Appends-nil from;
     is_text = written-all fault [];
@@ -61,7 +64,8 @@ module _ {V : Type 0} (has : V → List ℕ → Type 0) (sifts : V → List ℕ 
   module _ {waiting : Waiting} {rest : Option (List ℕ)} {coming : Option (List (List ℕ))}
       {number : ℕ} {now : V} {to : Option (List ℕ)} {after warned : Option (List Tally)}
       {tally : Tally} {longer : ℕ} {room : Option ℕ}
-      (so_far : IsKeeping has sifts end options come old from before calm waiting rest coming
+      (so_far : IsKeeping span recalls sifts end options come old from before calm waiting rest
+      coming
       number now to after warned tally longer room)
       (kept : Option (List ℕ)) (keeps : Keeps to kept) where
     -- the text so far, behind a flush
@@ -71,7 +75,8 @@ module _ {V : Type 0} (has : V → List ℕ → Type 0) (sifts : V → List ℕ 
     -- all inputs have ended
     pub keeps-all : (left : Option (List (List ℕ))) (total : Total)
         → EndsAll (left_of waiting rest) coming left → total.tally ≡ tally → total.longer ≡ longer
-        → KeepsNew has sifts end options come left old now from kept before after calm warned total
+        → KeepsNew span recalls sifts end options come left old now from kept before after calm
+        warned total
     keeps-all left total ends is_tally is_longer = record {
       lines = so_far.lines;
       replies = so_far.replies;
@@ -89,7 +94,8 @@ module _ {V : Type 0} (has : V → List ℕ → Type 0) (sifts : V → List ℕ 
 
     -- a fault came before the next line
     unfoldable pub until-fault : (fault : Fault) → IsOfSystem fault
-        → KeepsUntil has sifts end options come old now from kept before after calm warned fault
+        → KeepsUntil span recalls sifts end options come old now from kept before after calm warned
+        fault
     until-fault fault is = record {
       lines = so_far.lines;
       replies = so_far.replies;
@@ -109,7 +115,7 @@ module _ {V : Type 0} (has : V → List ℕ → Type 0) (sifts : V → List ℕ 
     pub until-long : (new : Option (List ℕ)) (same next : ℕ)
         → FindsLong end (limit_of options) (left_of waiting rest) new number same
         → next ≡ min (same + 1) (2 ^ 64 - 1)
-        → KeepsUntil has sifts end options come old now from kept before after calm warned
+        → KeepsUntil span recalls sifts end options come old now from kept before after calm warned
         (TooLong next)
     until-long new same next long counts = record {
       lines = so_far.lines;
@@ -133,7 +139,8 @@ module _ {V : Type 0} (has : V → List ℕ → Type 0) (sifts : V → List ℕ 
         (left : Option (List (List ℕ))) (first : ℕ)
         → OpensNext (left_of waiting rest) (left_of next input) coming left first
         → KnowsEnd next.ended input → next.longest ≡ limit_of options
-        → IsKeeping has sifts end options come old from before calm next input left first now kept
+        → IsKeeping span recalls sifts end options come old from before calm next input left first
+        now kept
         after warned tally longer room
     keeping-next next input left first opened knows has_longest = record {
       lines = so_far.lines;

@@ -1,3 +1,4 @@
+mod AlwaysLemmas
 mod BlockedFacts
 mod CauseFacts
 mod CauseLemmas
@@ -18,6 +19,8 @@ mod LongerLemmas
 mod PlaceLemmas
 mod PlainFacts
 mod PlainLemmas
+mod RotatingFacts
+mod RotatingLemmas
 mod RunFacts
 mod SieveFacts
 mod SiftLemmas

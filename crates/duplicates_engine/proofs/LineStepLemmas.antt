@@ -1,5 +1,5 @@
 -- One more line of a run.
-use Rattle.std.proofs.Common.{◌≡◌, ℕ, ◌+◌, ◌-◌, ◌^◌, ◌≤◌, min, length, Bool, true, List, [], ◌∷◌, ◌++◌, Option, Ok, Err, sym, ◌∙◌, ap, subst, arith}
+use Rattle.std.proofs.Common.{◌≡◌, ℕ, ◌+◌, ◌-◌, ◌^◌, ◌≤◌, min, length, Bool, false, List, [], ◌∷◌, ◌++◌, Option, Ok, Err, sym, ◌∙◌, ap, subst, arith}
 use Rattle.std.proofs.lemmas.List.Elements.{All-append, All-from_recursion}
 use Rattle.std.specs.Prelude.{if◌then◌else◌}
 use Rattle.std.specs.Io.KnownBytes.{Appends, Keeps}
@@ -13,7 +13,7 @@ use Rattle.duplicates_engine.specs.Faults.{IsWrittenAt}
 use Rattle.duplicates_engine.specs.Inputs.{AreFirstRead, TakesNext}
 use Rattle.duplicates_engine.specs.Kept.{text_of, piece, Writes, KeepsUntil}
 use Rattle.duplicates_engine.specs.Longer.{is_longer, limit_of}
-use Rattle.duplicates_engine.specs.Sieves.{SiftsShort, HasSifted}
+use Rattle.duplicates_engine.specs.Sieves.{SiftsShort, IsNew, HasSifted}
 use Rattle.duplicates_engine.specs.Told.{Counts, CountsLine, TellsOf, WarnsOf, HasRoom}
 use Rattle.duplicates_engine.proofs.InputLemmas.{IsReading, reading-more}
 use Rattle.duplicates_engine.proofs.EndLemmas.{first-read}
@@ -25,13 +25,15 @@ use Rattle.duplicates_engine.proofs.WarnLemmas.{counts-more, warns-more}
 use Rattle.duplicates_engine.proofs.WriteLemmas.{from-begins, to-begins, writer-system, reached-at}
 use Rattle.duplicates_engine.proofs.HalfwayLemmas.{IsKeeping}
 
-module _ {V : Type 0} (has : V → List ℕ → Type 0) (sifts : V → List ℕ → Bool → V → Type 0)
+module _ {V : Type 0} (span : V → Option ℕ) (recalls : V → List (List ℕ) → Type 0)
+    (sifts : V → List ℕ → Bool → V → Type 0)
     (end : ℕ) (options : Options) (come : Option (List (List ℕ))) (old : V) (from : Option (List ℕ))
     (before calm : Option (List Tally)) where
   module _ {waiting : Waiting} {rest : Option (List ℕ)} {coming : Option (List (List ℕ))}
       {number : ℕ} {now : V} {to : Option (List ℕ)} {after warned : Option (List Tally)}
       {tally : Tally} {longer : ℕ} {room : Option ℕ}
-      (so_far : IsKeeping has sifts end options come old from before calm waiting rest coming
+      (so_far : IsKeeping span recalls sifts end options come old from before calm waiting rest
+      coming
       number now to after warned tally longer room)
       (kept : Option (List ℕ)) (keeps : Keeps to kept) where
     -- the text so far, behind a flush
@@ -59,9 +61,12 @@ module _ {V : Type 0} (has : V → List ℕ → Type 0) (sifts : V → List ℕ 
         coming left number next after_line.line)
         {line : List ℕ} (is_line : line ≡ after_line.line) {new : V} {reply : Bool}
         (sifted : SiftsShort sifts options.longest now line reply new)
-        (seen : has now line → reply ≡ true)
-        (taken : length line ≤ options.longest → has new line)
-        (stays : (other : List ℕ) → has now other → has new other)
+        (none : recalls old [])
+        (is_new : reply ≡ false → (lines : List (List ℕ)) → recalls now lines
+        → IsNew (span now) lines line)
+        (taken : length line ≤ options.longest → (lines : List (List ℕ)) → recalls now lines
+        → recalls new (lines ++ line ∷ []))
+        (spans : span new ≡ span now)
         {more : Tally} {room_left : Option ℕ} {tells alarmed : Option (List Tally)}
         (counted : CountsLine tally more room room_left after tells warned alarmed reply)
         {most : ℕ} (is_longer_now : most ≡ (if is_longer options.longest line
@@ -82,11 +87,11 @@ module _ {V : Type 0} (has : V → List ℕ → Type 0) (sifts : V → List ℕ 
           (All-from_recursion (λ l. length l ≤ limit_of options) (line ∷ [])
           (subst (λ l. length l ≤ limit_of options) (sym is_line) took.takes.short, tt))
 
-      pub all_sifted : HasSifted has sifts options.longest old new all
+      pub all_sifted : HasSifted span recalls sifts options.longest old new all
           (so_far.replies ++ reply ∷ [])
       all_sifted =
-          sifted-more has sifts options.longest old now so_far.lines so_far.replies
-          so_far.sifting.sifted new line reply sifted seen taken stays
+          sifted-more span recalls sifts options.longest old now so_far.lines so_far.replies
+          so_far.sifting.sifted none new line reply sifted is_new taken spans
 
       pub all_told : TellsOf before tells (so_far.replies ++ reply ∷ [])
       all_told =
@@ -118,7 +123,8 @@ module _ {V : Type 0} (has : V → List ℕ → Type 0) (sifts : V → List ℕ 
       pub keeping-more : (final : Option (List ℕ)) → KnowsEnd after_line.ended input
           → after_line.longest ≡ limit_of options
           → Writes (piece end options line reply) kept final (Ok tt)
-          → IsKeeping has sifts end options come old from before calm after_line input left next new
+          → IsKeeping span recalls sifts end options come old from before calm after_line input
+          left next new
           final tells alarmed more most room_left
       keeping-more final knows has_longest wrote = record {
         lines = all;
@@ -146,7 +152,8 @@ module _ {V : Type 0} (has : V → List ℕ → Type 0) (sifts : V → List ℕ 
       -- the writer failed
       unfoldable pub until-writer : (final : Option (List ℕ)) (fault : Fault)
           → Writes (piece end options line reply) kept final (Err fault)
-          → KeepsUntil has sifts end options come old new from final before tells calm alarmed fault
+          → KeepsUntil span recalls sifts end options come old new from final before tells calm
+          alarmed fault
       until-writer final fault wrote =
           let text = text_of end options so_far.lines so_far.replies in
           let is = wrote.told.0 in

@@ -1,7 +1,13 @@
 -- Longer lines, counted one after the other.
-use Rattle.std.proofs.Common.{◌≡◌, ℕ, ◌+◌, ◌-◌, ◌^◌, min, Bool, true, false, cond, List, [], ◌∷◌, ◌++◌, length, ◌<◌, ◌≤◌, arith}
+use Rattle.std.proofs.Common.{◌≡◌, ℕ, ◌+◌, ◌-◌, ◌^◌, min, Bool, true, false, not, cond, List, [], ◌∷◌, ◌++◌, length, drop, take, ◌<◌, ◌≤◌, refl, ap, arith}
 use Rattle.std.proofs.lemmas.Bool.{lt-ltb, le-ltb}
-use Rattle.duplicates_engine.specs.Longer.{is_longer, longer_lines}
+use Rattle.std.proofs.lemmas.List.{length-drop, length-take}
+use Rattle.std.proofs.lemmas.List.Elements.{filter-append}
+use Rattle.std.proofs.lemmas.List.Filters.{length-filter_both}
+use Rattle.std.proofs.lemmas.Map.Made.{distinct_count-le}
+use Rattle.std.specs.Str.{bytes_eq}
+use Rattle.duplicates_engine.specs.Choices.{LastLinesLaw}
+use Rattle.duplicates_engine.specs.Longer.{is_longer, longer_lines, short_lines}
 
 -- one more in front of a sum
 in-front : (b : Bool) (first last all : ℕ) → all ≡ first + last
@@ -42,3 +48,40 @@ longer-is longest line long = lt-ltb longest (length line) long
 pub not-longer : (longest : ℕ) (line : List ℕ) → length line ≤ longest
     → is_longer longest line ≡ false
 not-longer longest line short = le-ltb longest (length line) short
+
+-- lines that aren't longer, of lines one behind the other
+pub short-append : (longest : ℕ) (lines more : List (List ℕ))
+    → short_lines longest (lines ++ more) ≡ short_lines longest lines ++ short_lines longest more
+short-append longest lines more = filter-append (λ line. not (is_longer longest line)) lines more
+
+pub short-long : (longest : ℕ) (line : List ℕ) (lines : List (List ℕ)) → longest < length line
+    → short_lines longest (line ∷ lines) ≡ short_lines longest lines
+short-long longest line lines long =
+    ap (λ b. cond (not b) (line ∷ short_lines longest lines) (short_lines longest lines))
+    (longer-is longest line long)
+
+pub short-short : (longest : ℕ) (line : List ℕ) (lines : List (List ℕ)) → length line ≤ longest
+    → short_lines longest (line ∷ lines) ≡ line ∷ short_lines longest lines
+short-short longest line lines short =
+    ap (λ b. cond (not b) (line ∷ short_lines longest lines) (short_lines longest lines))
+    (not-longer longest line short)
+
+-- fewer different lines came between than lines
+pub last-lines : LastLinesLaw
+last-lines span longest lines place is earlier before near =
+    let between : List (List ℕ) = drop (earlier + 1) (take place lines) in
+    is earlier before
+    (omega (
+      arith,
+      near,
+      before,
+      distinct_count-le bytes_eq (short_lines longest between),
+      length-filter_both (λ line. not (is_longer longest line)) (λ line. is_longer longest line)
+          (λ line. twice (is_longer longest line)) between,
+      length-drop (earlier + 1) (take place lines),
+      length-take place lines,
+    ))
+  where
+    twice : (b : Bool) → b ≡ not (not b)
+    twice true = refl
+    twice false = refl

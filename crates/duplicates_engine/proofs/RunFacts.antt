@@ -15,8 +15,11 @@ use Rattle.duplicates_engine.specs.Kept.{text_of, KeepsNew, KeepsUntil, EndsEarl
 use Rattle.duplicates_engine.proofs.SiftLemmas.{sifted-nil}
 
 -- a sieve of which nothing is said
-abbrev has : Unit {0} → List ℕ → Type 0
-has sieve line = ⊥
+abbrev span : Unit {0} → Option ℕ
+span sieve = None
+
+abbrev recalls : Unit {0} → List (List ℕ) → Type 0
+recalls sieve lines = ⊥
 
 abbrev sifts : Unit {0} → List ℕ → Bool → Unit {0} → Type 0
 sifts old line reply new = reply ≡ false
@@ -29,12 +32,12 @@ abbrev none_read : Total
 none_read = record { tally = record { read = 0; held = 0 }; longer = 0 }
 
 -- a run over nothing
-keeps : KeepsNew has sifts 10 asked (Some []) (Some []) tt tt (Some []) (Some []) None None
+keeps : KeepsNew span recalls sifts 10 asked (Some []) (Some []) tt tt (Some []) (Some []) None None
     None None none_read
 keeps = record {
   lines = [];
   replies = [];
-  sifted = sifted-nil has sifts 1 tt;
+  sifted = sifted-nil span recalls sifts 1 tt;
   text = refl;
   whole = record { are_lines = refl; none_left = refl };
   short = All-nil (λ line. length line ≤ 1);
@@ -46,12 +49,13 @@ keeps = record {
 
 module _ (total : Total) (to : Option (List ℕ)) where
   -- a whole run leaves no input
-  keeps-left : KeepsNew has sifts 10 asked (Some (codes "a" ∷ [])) (Some (codes "b" ∷ [])) tt tt
+  keeps-left : KeepsNew span recalls sifts 10 asked (Some (codes "a" ∷ [])) (Some (codes "b" ∷ []))
+      tt tt
       (Some []) to None None None None total → ⊥
   keeps-left run = cc run.whole.none_left
 
   -- a whole run has no line that is too long
-  keeps-long : KeepsNew has sifts 10 asked (Some (codes "ab\n" ∷ [])) (Some []) tt tt
+  keeps-long : KeepsNew span recalls sifts 10 asked (Some (codes "ab\n" ∷ [])) (Some []) tt tt
       (Some []) to None None None None total → ⊥
   unfolding lines_by
   keeps-long run =
@@ -60,7 +64,8 @@ module _ (total : Total) (to : Option (List ℕ)) where
       omega (arith, short 0 [] (omega arith))
 
 -- a run over one line counts it
-keeps-count : KeepsNew has sifts 10 asked (Some (codes "a\n" ∷ [])) (Some []) tt tt (Some [])
+keeps-count : KeepsNew span recalls sifts 10 asked (Some (codes "a\n" ∷ [])) (Some []) tt tt (Some
+    [])
     (Some (codes "a\n")) None None None None none_read → ⊥
 unfolding lines_by
 keeps-count run =
@@ -70,12 +75,13 @@ keeps-count run =
     omega (arith, one, none)
 
 -- a run that was out of memory
-until : KeepsUntil has sifts 10 asked (Some (codes "a\n" ∷ [])) tt tt (Some []) (Some []) None None
+until : KeepsUntil span recalls sifts 10 asked (Some (codes "a\n" ∷ [])) tt tt (Some []) (Some [])
+    None None
     None None Memory
 until = record {
   lines = [];
   replies = [];
-  sifted = sifted-nil has sifts 1 tt;
+  sifted = sifted-nil span recalls sifts 1 tt;
   written = [];
   text = refl;
   is_text = refl;
@@ -86,7 +92,8 @@ until = record {
 }
 
 -- a run writes no line that it didn't read
-until-not : KeepsUntil has sifts 10 asked (Some []) tt tt (Some []) (Some (codes "a\n")) None None
+until-not : KeepsUntil span recalls sifts 10 asked (Some []) tt tt (Some []) (Some (codes "a\n"))
+    None None
     None None Memory → ⊥
 until-not run = none run.lines run.replies run.reached.later run.reached.cut (run.text
     ∙ run.is_text)
@@ -104,15 +111,17 @@ abbrev fails : Unit {0} → Unit {0} → ErrorKind → Type 0
 fails old new kind = ⊥
 
 -- that run ended early, and for no other reason
-ends : EndsEarly has sifts refuses fails 10 asked (Some (codes "a\n" ∷ [])) tt tt tt (Some [])
+ends : EndsEarly span recalls sifts refuses fails 10 asked (Some (codes "a\n" ∷ [])) tt tt tt (Some
+    [])
     (Some []) None None None None Memory
 ends = record { until = until; caused = tt }
 
-ends-full : EndsEarly has sifts refuses fails 10 asked (Some (codes "a\n" ∷ [])) tt tt tt (Some [])
+ends-full : EndsEarly span recalls sifts refuses fails 10 asked (Some (codes "a\n" ∷ [])) tt tt tt
+    (Some [])
     (Some []) None None None None Full → ⊥
 ends-full run = run.caused.refusal.refused
 
 -- it wrote no line that it didn't read
-ends-not : EndsEarly has sifts refuses fails 10 asked (Some []) tt tt tt (Some [])
+ends-not : EndsEarly span recalls sifts refuses fails 10 asked (Some []) tt tt tt (Some [])
     (Some (codes "a\n")) None None None None Memory → ⊥
 ends-not run = until-not run.until

@@ -48,13 +48,14 @@ text_of end options lines replies = lines_text end (chosen options lines replies
 
 -- a whole run: all lines of the inputs were sifted, but for longer ones, the chosen ones were
 -- written, each million of them was told, and a warning where there were too many new ones
-pub record KeepsNew {V : Type 0} (has : V → List ℕ → Type 0)
+pub record KeepsNew {V : Type 0} (span : V → Option ℕ)
+    (recalls : V → List (List ℕ) → Type 0)
     (sifts : V → List ℕ → Bool → V → Type 0) (end : ℕ) (options : Options)
     (come left : Option (List (List ℕ))) (old new : V) (from to : Option (List ℕ))
     (before after calm warned : Option (List Tally)) (total : Total) : Type 0 where
   pub lines : List (List ℕ)
   pub replies : List Bool
-  pub sifted : HasSifted has sifts options.longest old new lines replies
+  pub sifted : HasSifted span recalls sifts options.longest old new lines replies
   pub text : Appends from to (text_of end options lines replies)
   pub whole : AreAllRead end come left lines
   pub short : AreShort (limit_of options) lines
@@ -65,13 +66,14 @@ pub record KeepsNew {V : Type 0} (has : V → List ℕ → Type 0)
 
 -- a run up to a fault: the first lines of the inputs were sifted, and the chosen ones were written,
 -- at a fault of the writer as far as it took them
-pub record KeepsUntil {V : Type 0} (has : V → List ℕ → Type 0)
+pub record KeepsUntil {V : Type 0} (span : V → Option ℕ)
+    (recalls : V → List (List ℕ) → Type 0)
     (sifts : V → List ℕ → Bool → V → Type 0) (end : ℕ) (options : Options)
     (come : Option (List (List ℕ))) (old new : V) (from to : Option (List ℕ))
     (before after calm warned : Option (List Tally)) (fault : Fault) : Type 0 where
   pub lines : List (List ℕ)
   pub replies : List Bool
-  pub sifted : HasSifted has sifts options.longest old new lines replies
+  pub sifted : HasSifted span recalls sifts options.longest old new lines replies
   pub written : List ℕ
   pub text : Appends from to written
   pub is_text : IsWrittenAt fault (text_of end options lines replies) written
@@ -81,12 +83,14 @@ pub record KeepsUntil {V : Type 0} (has : V → List ℕ → Type 0)
   pub warns : WarnsOf options.most calm warned replies
 
 -- the same, and why the run ended behind those lines
-pub record EndsEarly {V I : Type 0} (has : V → List ℕ → Type 0)
+pub record EndsEarly {V I : Type 0} (span : V → Option ℕ)
+    (recalls : V → List (List ℕ) → Type 0)
     (sifts : V → List ℕ → Bool → V → Type 0) (refuses : V → List ℕ → GrowingError → Type 0)
     (fails : I → I → ErrorKind → Type 0) (end : ℕ) (options : Options)
     (come : Option (List (List ℕ))) (inputs : I) (old new : V) (from to : Option (List ℕ))
     (before after calm warned : Option (List Tally)) (fault : Fault) : Type 0 where
-  pub until : KeepsUntil has sifts end options come old new from to before after calm warned fault
+  pub until : KeepsUntil span recalls sifts end options come old new from to before after calm
+      warned fault
   pub caused : IsCaused refuses fails end options.longest come until.lines new inputs fault
 
 -- what one line writes that had this reply

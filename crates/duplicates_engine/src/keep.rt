@@ -24,12 +24,12 @@ fn keep_lines<V: Sieve, I: Inputs, W: Write, P: Progress, const END: u8>(
     output: &mut W,
     progress: &mut P,
 ) -> Result<Total, Fault>
-    ensures all { IfOk result (KeepsNew V.has V.sifts END options
+    ensures all { IfOk result (KeepsNew V.span V.recalls V.sifts END options
         (I.coming inputs.old) (I.coming inputs.new) sieve.old sieve.new
         (W.contents output.old) (W.contents output.new)
         (P.tells progress.old) (P.tells progress.new)
         (P.warnings progress.old) (P.warnings progress.new)) }
-    ensures fault { IfErr result (EndsEarly V.has V.sifts V.refuses I.fails END options
+    ensures fault { IfErr result (EndsEarly V.span V.recalls V.sifts V.refuses I.fails END options
         (I.coming inputs.old) inputs.new sieve.old sieve.new
         (W.contents output.old) (W.contents output.new)
         (P.tells progress.old) (P.tells progress.new)
@@ -62,10 +62,10 @@ fn keep_lines<V: Sieve, I: Inputs, W: Write, P: Progress, const END: u8>(
 /// Sifts each line of the inputs, and writes those that are asked for, each with its end.
 ///
 /// A new line is held back only where it is a false positive of the sieve. No line is called new
-/// twice, in whichever inputs it stands. Where longer lines are passed on, they are written with
-/// the new ones, and not sifted. What was written is flushed before each read and open that may
-/// wait, and before the call returns. `progress` is told each million lines, and warned once where
-/// more new lines came than the most.
+/// twice, in whichever inputs it stands, as far back as the sieve tells. Where longer lines are
+/// passed on, they are written with the new ones, and not sifted. What was written is flushed
+/// before each read and open that may wait, and before the call returns. `progress` is told each
+/// million lines, and warned once where more new lines came than the most.
 ///
 /// # Errors
 /// `TooLong` at the first line that has more bytes than a line may have, where longer lines aren't
@@ -81,28 +81,29 @@ pub fn keep_new<V: Sieve, I: Inputs, W: Write, P: Progress, const END: u8>(
     progress: &mut P,
 ) -> Result<Total, Fault>
     // All lines were sifted in order, but for longer ones. Each line for which the sieve returned
-    // false differs from every line before it. Those that are asked for were written, and progress
-    // was told what there was to tell.
-    ensures all { IfOk result (KeepsNew V.has V.sifts END options
+    // false differs from every line before it, as far back as the sieve's span reaches. Those that
+    // are asked for were written, and progress was told what there was to tell.
+    ensures all { IfOk result (KeepsNew V.span V.recalls V.sifts END options
         (I.coming inputs.old) (I.coming inputs.new) sieve.old sieve.new
         (W.contents output.old) (W.contents output.new)
         (P.tells progress.old) (P.tells progress.new)
         (P.warnings progress.old) (P.warnings progress.new)) }
     // The same of the lines before a fault, which is the fault of what came behind them: the sieve
     // refused the next line, an open failed, or a line is too long.
-    ensures fault { IfErr result (EndsEarly V.has V.sifts V.refuses I.fails END options
+    ensures fault { IfErr result (EndsEarly V.span V.recalls V.sifts V.refuses I.fails END options
         (I.coming inputs.old) inputs.new sieve.old sieve.new
         (W.contents output.old) (W.contents output.new)
         (P.tells progress.old) (P.tells progress.new)
         (P.warnings progress.old) (P.warnings progress.new)) }
-    // In words of lines alone: where the new lines are asked for, each line that is written differs
-    // from every line before it; where those held back are, each line that is left out does. A line
-    // that is passed on, since it is longer, is written there and left out here.
-    ensures choice { IfOk result (λ _. WritesChoice END options
+    // In words of lines and the span alone: where the new lines are asked for, each line that is
+    // written differs from every line before it, or, with a span of N, from every one behind which
+    // fewer than N different lines came; where those held back are, each line that is left out
+    // does. A line that is passed on, since it is longer, is written there and left out here.
+    ensures choice { IfOk result (λ _. WritesChoice (V.span sieve.old) END options
         (I.coming inputs.old) (I.coming inputs.new)
         (W.contents output.old) (W.contents output.new)) }
     // The same of the lines before a fault.
-    ensures choice_until { IfErr result (WritesChoiceUntil END options
+    ensures choice_until { IfErr result (WritesChoiceUntil (V.span sieve.old) END options
         (I.coming inputs.old) (W.contents output.old) (W.contents output.new)) }
 {
     let kept = keep_lines::<V, I, W, P, END>(alloc, sieve, options, inputs, output, progress);

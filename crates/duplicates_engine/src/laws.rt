@@ -1,4 +1,5 @@
 //! Laws of sieves. These functions do nothing: their contracts are the laws.
+ghost use Rattle.duplicates_engine.specs.Choices.{LastLinesLaw};
 ghost use Rattle.duplicates_engine.specs.Plain.{SiftedLaw};
 
 use bloom_plain::laws::lists_join;
@@ -10,3 +11,9 @@ pub fn plain_filter_inserts<S: BuildHasher>()
 {
     lists_join::<S>();
 }
+
+/// A line that is new, as far back as a sieve of some span tells, differs from each of so many
+/// lines before it.
+pub fn last_lines_differ()
+    ensures { LastLinesLaw }
+{}

@@ -13,6 +13,7 @@ mod options;
 mod output;
 mod plain;
 mod progress;
+mod rotating;
 mod sieve;
 mod tally;
 

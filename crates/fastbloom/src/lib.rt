@@ -24,7 +24,7 @@ pub use bloom_parts::text::Text;
 pub use bloom_plain::builder::{BuilderWithBits, BuilderWithFalsePositiveRate};
 pub use bloom_plain::file::FileError;
 pub use bloom_plain::{
-    BitsData, BloomFilter, Command, FilterData, GrowingError, GrowingFilter, file,
+    BitsData, BloomFilter, Command, FilterData, GrowingError, GrowingFilter, RotatingFilter, file,
 };
 pub use bloom_steps::{
     Call, End, Event, Machine, MemoryStore, Record, Step, Trace, WordStore, drive, run,

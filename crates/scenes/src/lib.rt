@@ -50,6 +50,8 @@ mod overstated;
 #[cfg(test)]
 mod room;
 #[cfg(test)]
+mod rotating;
+#[cfg(test)]
 mod rows;
 #[cfg(test)]
 mod scene;

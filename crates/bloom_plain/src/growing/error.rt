@@ -1,10 +1,11 @@
-//! Why a filter that grows can't have its next filter.
+//! Why a filter that grows can't have its next filter, or one that rotates can't be made.
 use bloom_parts::error::FilterError;
 use std::alloc::AllocError;
 use thiserror::Error;
 
-/// Why a filter that grows can't have its first or its next filter. Of several reasons the first is
-/// told, in the order of the variants. After a refusal every filter is as it was before the call.
+/// Why a filter that grows can't have its first or its next filter, or one that rotates its two. Of
+/// several reasons the first is told, in the order of the variants. After a refusal every filter is
+/// as it was before the call.
 #[derive(Clone, Copy, Debug, PartialEq, Eq, Drop, Error)]
 pub enum GrowingError {
     /// The rate can't be halved, since its lower part would be 2^64 or more.

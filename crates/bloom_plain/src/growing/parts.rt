@@ -17,7 +17,7 @@ use bloom_parts::math::Rate;
 use std::alloc::Global;
 
 // Half of a rate, with the same upper part.
-pub(super) fn half(rate: Rate) -> Result<Rate, GrowingError>
+pub(crate) fn half(rate: Rate) -> Result<Rate, GrowingError>
     ensures num { IfOk result (λ half. num_of half ≡ num_of rate) }
     ensures den { IfOk result (λ half. den_of half ≡ den_of rate * 2) }
     ensures fits { IfOk result (λ half. den_of half < 2 ^ 64) }
@@ -40,7 +40,7 @@ fn copy_of(hasher: &DefaultHasher) -> DefaultHasher
 }
 
 // The filter that the builders make for this many items at this rate, under the same key.
-pub(super) fn make(
+pub(crate) fn make(
     alloc: Global,
     rate: Rate,
     items: usize,
@@ -58,7 +58,7 @@ pub(super) fn make(
 
 // Whether one of these filters contains a hash.
 #[inline(always)]
-pub(super) fn any_contains(filters: &[BloomFilter], hash: u64) -> bool
+pub(crate) fn any_contains(filters: &[BloomFilter], hash: u64) -> bool
     ensures { result ≡ growing.any_contains filters.now hash }
 {
     'filters: for filter in filters {
@@ -71,7 +71,7 @@ pub(super) fn any_contains(filters: &[BloomFilter], hash: u64) -> bool
 
 // Inserts a hash, and returns whether it was contained. If so, the filter stays as it was.
 #[inline(always)]
-pub(super) fn insert_once(filter: &mut BloomFilter, hash: u64) -> bool
+pub(crate) fn insert_once(filter: &mut BloomFilter, hash: u64) -> bool
     ensures inserts { Inserts filter.old hash filter.new result }
     ensures held { result ≡ true → filter.new ≡ filter.old }
 {

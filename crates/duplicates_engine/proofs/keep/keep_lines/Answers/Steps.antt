@@ -17,7 +17,8 @@ error-input g c =
     rw same
     (record {
       until =
-          until-none g.V.Sieve.has g.V.Sieve.sifts g.row.END c.args.options _ _ _ _ _ _
+          until-none g.V.Sieve.span g.V.Sieve.recalls g.V.Sieve.sifts g.row.END c.args.options _ _
+          _ _ _ _
           (opening-system g.I.Inputs.fails _ _ _ c.in_err-input.ensures.fault);
       caused =
           caused-first g.V.Sieve.refuses g.I.Inputs.fails g.row.END c.args.options.longest _ _ _ _ _
@@ -32,19 +33,22 @@ error-opened g c =
     (rw c.in_err-opened.ensures.fault
     (record {
       until =
-          until-none g.V.Sieve.has g.V.Sieve.sifts g.row.END c.args.options _ _ _ _ _ _ tt;
+          until-none g.V.Sieve.span g.V.Sieve.recalls g.V.Sieve.sifts g.row.END c.args.options _ _
+          _ _ _ _ tt;
       caused = tt;
     }))
 
 pub none-comes : goal.returns-in_default-clause-all
 none-comes g c =
-    keeps-none g.V.Sieve.has g.V.Sieve.sifts g.row.END c.args.options _ _ _ _ _ _ _
+    keeps-none g.V.Sieve.span g.V.Sieve.recalls g.V.Sieve.sifts g.row.END c.args.options _ _ _ _ _
+    _ _
     (rw c.in_default.is at c.in_ok-input.ensures.opened)
     (rw c.total.ensures.tally refl) (rw c.total.ensures.tally refl) c.total.ensures.longer
 
 pub first-opened : goal.steps-init
 first-opened g c =
-    keeping-first g.V.Sieve.has g.V.Sieve.sifts g.row.END c.args.options _ _ _ _ _ _ _ _ _ _
+    keeping-first g.V.Sieve.span g.V.Sieve.recalls g.V.Sieve.sifts g.row.END c.args.options _ _ _ _
+    _ _ _ _ _ _
     (rw c.in-Some.is at c.in_ok-input.ensures.opened)
     c.in_ok-opened.ensures.fresh refl refl
 
@@ -57,7 +61,8 @@ error-step g c =
     rw same
     (record {
       until =
-          until-fault g.V.Sieve.has g.V.Sieve.sifts g.row.END c.args.options _ _ _ _ _
+          until-fault g.V.Sieve.span g.V.Sieve.recalls g.V.Sieve.sifts g.row.END c.args.options _ _
+          _ _ _
           c.steps.invariant _ c.next_step.ensures.kept _
           (step-system
           (FailsBehind g.I.Inputs.fails
@@ -71,13 +76,15 @@ error-step g c =
 
 pub all-ended : goal.returns-in-End-clause-all
 all-ended g c =
-    keeps-all g.V.Sieve.has g.V.Sieve.sifts g.row.END c.args.options _ _ _ _ _ c.steps.invariant _
+    keeps-all g.V.Sieve.span g.V.Sieve.recalls g.V.Sieve.sifts g.row.END c.args.options _ _ _ _ _
+    c.steps.invariant _
     c.next_step.ensures.kept _ _ (rw c.in-End.is at c.in_ok-next_step.ensures.step)
     c.total-in-End.ensures.tally c.total-in-End.ensures.longer
 
 pub next-opened : goal.steps-preserved-in-Opened
 next-opened g c =
-    keeping-next g.V.Sieve.has g.V.Sieve.sifts g.row.END c.args.options _ _ _ _ _ c.steps.invariant
+    keeping-next g.V.Sieve.span g.V.Sieve.recalls g.V.Sieve.sifts g.row.END c.args.options _ _ _ _
+    _ c.steps.invariant
     _
     c.next_step.ensures.kept _ _ _ _ (rw c.in-Opened.is at c.in_ok-next_step.ensures.step)
     c.in_ok-next_step.ensures.knows c.in_ok-next_step.ensures.limit
@@ -86,7 +93,8 @@ pub error-long : goal.returns-in-TooLong-clause-fault
 error-long g c =
     record {
       until =
-          until-long g.V.Sieve.has g.V.Sieve.sifts g.row.END c.args.options _ _ _ _ _
+          until-long g.V.Sieve.span g.V.Sieve.recalls g.V.Sieve.sifts g.row.END c.args.options _ _
+          _ _ _
           c.steps.invariant _ c.next_step.ensures.kept
           (left_of c.next_step.new.opened.lines
           (g.I.Input.Read.remaining c.next_step.new.input)) _ _
@@ -98,7 +106,8 @@ pub error-timed : goal.returns-clause-fault
 error-timed g c =
     record {
       until =
-          until-fault g.V.Sieve.has g.V.Sieve.sifts g.row.END c.args.options _ _ _ _ _
+          until-fault g.V.Sieve.span g.V.Sieve.recalls g.V.Sieve.sifts g.row.END c.args.options _ _
+          _ _ _
           c.steps.invariant _ (Keeps-refl (g.W.Write.contents c.steps.output)) _ tt;
       caused = λ same. cc;
     }
@@ -112,12 +121,14 @@ error-sieve g c =
     rw (same, c.in_err-is_held.ensures.same)
     (record {
       until =
-          until-fault g.V.Sieve.has g.V.Sieve.sifts g.row.END c.args.options _ _ _ _ _
+          until-fault g.V.Sieve.span g.V.Sieve.recalls g.V.Sieve.sifts g.row.END c.args.options _ _
+          _ _ _
           c.steps.invariant _ c.next_step.ensures.kept _
           (refusal-system g.V.Sieve.refuses _ _ _ is);
       caused =
           caused-line g.V.Sieve.refuses g.I.Inputs.fails g.row.END c.args.options.longest _ _ _ _
-          _ _ (next-first g.V.Sieve.has g.V.Sieve.sifts g.row.END c.args.options _ _ _ _ _
+          _ _ (next-first g.V.Sieve.span g.V.Sieve.recalls g.V.Sieve.sifts g.row.END c.args.options
+          _ _ _ _ _
           c.steps.invariant _ c.next_step.ensures.kept c.next_step.new.opened.lines _ _ _
           (rw c.in-Line.is at c.in_ok-next_step.ensures.step) c.line-line.ensures)
           c.in_err-is_held.ensures.short is;
@@ -132,11 +143,12 @@ error-output g c =
     rw same
     (record {
       until =
-          until-writer g.V.Sieve.has g.V.Sieve.sifts g.row.END c.args.options _ _ _ _ _
+          until-writer g.V.Sieve.span g.V.Sieve.recalls g.V.Sieve.sifts g.row.END c.args.options _
+          _ _ _ _
           c.steps.invariant _ c.next_step.ensures.kept c.next_step.new.opened.lines _ _ _
           (rw c.in-Line.is at c.in_ok-next_step.ensures.step) c.line-line.ensures
-          c.in_ok-is_held.ensures.sifted c.in_ok-is_held.ensures.seen c.in_ok-is_held.ensures.taken
-          c.in_ok-is_held.ensures.stays c.count_line.ensures.told
+          c.in_ok-is_held.ensures.sifted (g.met.V.Sieve.none _) c.in_ok-is_held.ensures.new
+          c.in_ok-is_held.ensures.taken c.in_ok-is_held.ensures.span c.count_line.ensures.told
           (rw c.is_longer.ensures at c.count_line.ensures.longer) _ _ wrote;
       caused =
           caused-writer g.V.Sieve.refuses g.I.Inputs.fails g.row.END c.args.options.longest _ _ _ _
@@ -145,12 +157,13 @@ error-output g c =
 
 pub line-kept : goal.steps-preserved
 line-kept g c =
-    keeping-more g.V.Sieve.has g.V.Sieve.sifts g.row.END c.args.options _ _ _ _ _ c.steps.invariant
+    keeping-more g.V.Sieve.span g.V.Sieve.recalls g.V.Sieve.sifts g.row.END c.args.options _ _ _ _
+    _ c.steps.invariant
     _
     c.next_step.ensures.kept c.next_step.new.opened.lines _ _ _
     (rw c.in-Line.is at c.in_ok-next_step.ensures.step) c.line-line.ensures
-    c.in_ok-is_held.ensures.sifted c.in_ok-is_held.ensures.seen c.in_ok-is_held.ensures.taken
-    c.in_ok-is_held.ensures.stays c.count_line.ensures.told
+    c.in_ok-is_held.ensures.sifted (g.met.V.Sieve.none _) c.in_ok-is_held.ensures.new
+    c.in_ok-is_held.ensures.taken c.in_ok-is_held.ensures.span c.count_line.ensures.told
     (rw c.is_longer.ensures at c.count_line.ensures.longer)
     _ c.in_ok-next_step.ensures.knows c.in_ok-next_step.ensures.limit
     (rw c.in_ok-put_chosen.was at c.put_chosen.ensures)

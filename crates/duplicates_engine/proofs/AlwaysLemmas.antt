@@ -1,0 +1,40 @@
+-- Sieves that tell of a line however many came behind it.
+use Rattle.std.proofs.Common.{◌≡◌, ◌<◌, ℕ, Bool, true, false, List, [], ◌∷◌, ◌++◌, length, None, sym, ◌∙◌, subst, length-append, arith}
+use Rattle.std.specs.Prelude.{All}
+use Rattle.std.proofs.lemmas.Bool.{true≢false}
+use Rattle.std.proofs.lemmas.List.Elements.{All-get_or, All-push, All-weaker}
+use Rattle.std.proofs.Math.Seq.{get_or-append_seam}
+use Rattle.duplicates_engine.specs.Sieves.{IsNew}
+
+-- a sieve that has these lines, and answers true of a line that it has
+pub always-new : (P : List ℕ → Type 0) (line : List ℕ) (reply : Bool) → (P line → reply ≡ true)
+    → reply ≡ false → (lines : List (List ℕ)) → All P lines → IsNew None lines line
+always-new P line reply seen is lines had front behind other cut reach same =
+    let at : length front < length (front ++ other ∷ behind) =
+    omega (arith, length-append front (other ∷ behind)) in
+    true≢false
+    (sym (seen (subst P (get_or-append_seam front other behind [] ∙ same)
+    (All-get_or P (front ++ other ∷ behind) (length front) [] at (subst (All P) cut had))))
+    ∙ is)
+
+-- behind one more line, it has that too
+pub always-more : (P Q : List ℕ → Type 0) (line : List ℕ) → Q line
+    → ((other : List ℕ) → P other → Q other) → (lines : List (List ℕ)) → All P lines
+    → All Q (lines ++ line ∷ [])
+always-more P Q line here stays lines had = All-push Q lines line (All-weaker P Q stays lines had)
+    here
+
+-- a sieve that has a line by its hash
+module _ {V S : Type 0} (contains : V → ℕ → Bool) (hash_of : S → List ℕ → ℕ) (hasher_of : V → S)
+    (old new : V) (line : List ℕ) (same : hasher_of new ≡ hasher_of old)
+    (here : contains new (hash_of (hasher_of old) line) ≡ true)
+    (stays : (hash : ℕ) → contains old hash ≡ true → contains new hash ≡ true) where
+  pub hashed-more : (lines : List (List ℕ))
+      → All (λ l. contains old (hash_of (hasher_of old) l) ≡ true) lines
+      → All (λ l. contains new (hash_of (hasher_of new) l) ≡ true) (lines ++ line ∷ [])
+  hashed-more =
+      always-more (λ l. contains old (hash_of (hasher_of old) l) ≡ true)
+      (λ l. contains new (hash_of (hasher_of new) l) ≡ true) line
+      (subst (λ s. contains new (hash_of s line) ≡ true) (sym same) here)
+      (λ other was. subst (λ s. contains new (hash_of s other) ≡ true) (sym same)
+      (stays (hash_of (hasher_of old) other) was))

@@ -1,0 +1,118 @@
+-- What one line does to a filter that rotates.
+use Rattle.std.proofs.Common.{◌≡◌, ◌≤◌, ℕ, suc, Bool, true, false, ◌||◌, cond, List, [], ◌∷◌, ◌++◌, length, map, Some, nat_eq, refl, sym, ◌∙◌, ap, subst, arith}
+use Rattle.std.proofs.lemmas.Bool.{true≢false}
+use Rattle.std.proofs.lemmas.List.{map-append}
+use Rattle.std.proofs.lemmas.Slice.Eq.{bytes_eq-Decides}
+use Rattle.std.specs.Cmp.{unsigned_Decides}
+use Rattle.std.specs.Set.{distinct_count, unique_keys, is_member}
+use Rattle.std.specs.Str.{bytes_eq}
+use Rattle.bloom_plain.specs.Rotating.{Rotating, either_contains, Receives, ReceivesAll, RecentFoundLaw}
+use Rattle.duplicates_engine.specs.Sieves.{IsNew}
+
+module _ (hash_of : List ℕ → ℕ) where
+  -- a line that is there has its hash there
+  hash-in : (lines : List (List ℕ)) (line : List ℕ) → is_member bytes_eq lines line ≡ true
+      → is_member nat_eq (map hash_of lines) (hash_of line) ≡ true
+  hash-in [] line is = is
+  hash-in (l ∷ lines) line is = by (hash-in lines line) (bytes_eq line l) refl
+    where
+      rest : (a b : Bool) → (a || b) ≡ true → a ≡ false → b ≡ true
+      rest true b told out = absurd (true≢false out)
+      rest false b told out = told
+
+      first : (a b : Bool) → a ≡ true → (a || b) ≡ true
+      first true b is = refl
+      first false b is = absurd (true≢false (sym is))
+
+      second : (a b : Bool) → b ≡ true → (a || b) ≡ true
+      second true b is = refl
+      second false b is = is
+
+      by : (is_member bytes_eq lines line ≡ true
+          → is_member nat_eq (map hash_of lines) (hash_of line) ≡ true)
+          → (b : Bool) → bytes_eq line l ≡ b
+          → is_member nat_eq (map hash_of (l ∷ lines)) (hash_of line) ≡ true
+      by later true same =
+          first (nat_eq (hash_of line) (hash_of l))
+          (is_member nat_eq (map hash_of lines) (hash_of line))
+          ((unsigned_Decides (hash_of line) (hash_of l)).1
+          (ap hash_of ((bytes_eq-Decides line l).0 same)))
+      by later false differs =
+          second (nat_eq (hash_of line) (hash_of l))
+          (is_member nat_eq (map hash_of lines) (hash_of line))
+          (later (rest (bytes_eq line l) (is_member bytes_eq lines line) is differs))
+
+  -- lines have at most as many different hashes as there are different lines
+  few-hashes : (lines : List (List ℕ))
+      → distinct_count nat_eq (map hash_of lines) ≤ distinct_count bytes_eq lines
+  few-hashes [] = omega arith
+  few-hashes (line ∷ lines) = by (few-hashes lines) (is_member bytes_eq lines line) refl
+    where
+      hashes : List ℕ
+      hashes = map hash_of lines
+
+      more : (b : Bool)
+          → length (cond b (unique_keys nat_eq hashes) (hash_of line ∷ unique_keys nat_eq hashes))
+          ≤ suc (distinct_count nat_eq hashes)
+      more true = omega arith
+      more false = omega arith
+
+      by : distinct_count nat_eq hashes ≤ distinct_count bytes_eq lines
+          → (b : Bool) → is_member bytes_eq lines line ≡ b
+          → distinct_count nat_eq (hash_of line ∷ hashes) ≤ distinct_count bytes_eq (line ∷ lines)
+      by rest true is =
+          omega (
+            arith,
+            rest,
+            ap (λ b. length (cond b (unique_keys nat_eq hashes)
+                (hash_of line ∷ unique_keys nat_eq hashes))) (hash-in lines line is),
+            ap (λ b. length (cond b (unique_keys bytes_eq lines)
+                (line ∷ unique_keys bytes_eq lines))) is,
+          )
+      by rest false out =
+          omega (
+            arith,
+            rest,
+            more (is_member nat_eq hashes (hash_of line)),
+            ap (λ b. length (cond b (unique_keys bytes_eq lines)
+                (line ∷ unique_keys bytes_eq lines))) out,
+          )
+
+  -- a reply that is false tells that a line is new
+  pub told-new : {S : Type 0} (start r : Rotating S) (line : List ℕ) (reply : Bool)
+      → RecentFoundLaw S → reply ≡ either_contains r (hash_of line) → reply ≡ false
+      → (lines : List (List ℕ)) → ReceivesAll start (map hash_of lines) r
+      → IsNew (Some r.plan.room) lines line
+  told-new start r line reply law answers is lines came front behind other cut few same =
+      let found : either_contains r (hash_of other) ≡ true =
+      law start r (map hash_of front) (map hash_of behind) (hash_of other)
+      (subst (λ l. ReceivesAll start l r)
+      (ap (map hash_of) cut ∙ map-append hash_of front (other ∷ behind)) came)
+      (omega (arith, few, few-hashes behind)) in
+      true≢false
+      (sym found ∙ ap (λ l. either_contains r (hash_of l)) same ∙ sym answers ∙ is)
+
+-- one more hash came
+receives-next : {S : Type 0} (start old new : Rotating S) (hashes : List ℕ) (hash : ℕ)
+    (reply : Bool) → ReceivesAll start hashes old → Receives old hash new reply
+    → ReceivesAll start (hashes ++ hash ∷ []) new
+receives-next start old new [] hash reply all did =
+    (new, reply, subst (λ r. Receives r hash new reply) all did, refl)
+receives-next start old new (h ∷ hashes) hash reply all did =
+    (all.0, all.1, all.2, receives-next all.0 old new hashes hash reply all.3 did)
+
+-- one more line came
+pub recalls-more : {S : Type 0} (hash_of : S → List ℕ → ℕ) (old new : Rotating S)
+    (lines : List (List ℕ)) (line : List ℕ) (reply : Bool)
+    → Receives old (hash_of old.plan.hasher line) new reply
+    → (start : Rotating S) × ReceivesAll start (map (hash_of old.plan.hasher) lines) old
+    → (start : Rotating S)
+    × ReceivesAll start (map (hash_of new.plan.hasher) (lines ++ line ∷ [])) new
+recalls-more hash_of old new lines line reply did came = (
+  came.0,
+  subst (λ p. ReceivesAll came.0 (map (hash_of p.hasher) (lines ++ line ∷ [])) new) (sym did.plan)
+      (subst (λ l. ReceivesAll came.0 l new)
+      (sym (map-append (hash_of old.plan.hasher) lines (line ∷ [])))
+      (receives-next came.0 old new (map (hash_of old.plan.hasher) lines)
+      (hash_of old.plan.hasher line) reply came.1 did)),
+)

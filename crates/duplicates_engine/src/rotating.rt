@@ -1,0 +1,30 @@
+//! A filter that rotates as a sieve, which tells of the last lines of an input without end.
+ghost use Rattle.std.specs.Prelude.{Some, refl};
+ghost use Rattle.duplicates_engine.specs.Rotating.{rotating_recalls, rotating_receives};
+
+use crate::sieve::Sieve;
+use bloom_plain::laws::rotating_recent_stays_found;
+use bloom_plain::{DefaultHasher, GrowingError, RandomDefaultHasher, RotatingFilter, Text};
+use std::alloc::Global;
+use std::hash::{BuildHasher, Hasher};
+
+/// A line stands in a filter that rotates by the hash of its bytes.
+impl Sieve for RotatingFilter {
+    ghost span = { λ r. Some r.plan.room };
+
+    ghost recalls = { rotating_recalls ⟦<RandomDefaultHasher as Hasher>⟧
+        ⟦<DefaultHasher as BuildHasher>⟧.build_hasher };
+
+    ghost sifts = { rotating_receives ⟦<RandomDefaultHasher as Hasher>⟧
+        ⟦<DefaultHasher as BuildHasher>⟧.build_hasher };
+
+    // No line is refused.
+    ghost refuses = { λ _ _ _. ⊥ };
+
+    fn sift(&mut self, _alloc: Global, line: &[u8]) -> Result<bool, GrowingError> {
+        rotating_recent_stays_found::<DefaultHasher>();
+        Ok(self.insert(&Text(line)))
+    }
+
+    ghost none = { λ r. (r, refl) };
+}

@@ -1,0 +1,50 @@
+//! Filters that rotate, at the smallest, an odd and a large number of items.
+
+use crate::drawn::spread;
+use crate::telling::tell_row;
+use fastbloom::{BloomFilter, Rate, RotatingFilter};
+use std::alloc::Global;
+
+// Numbers of items, the room of each filter for a rate of 1/10, and its bits and hashes. Each is
+// sized for 1/20. To come to that one is halved 4.32 times. Times the items, and by the logarithm
+// of 2, these are 6, 44 and 6244 bits, which are rounded up to words.
+const FILTERS: &'static [(usize, usize, usize, u32)] =
+    &[(0, 1, 64, 44), (7, 7, 64, 6), (1000, 1000, 6272, 4)];
+
+// Whether a filter has this shape.
+fn is_sized(filter: &BloomFilter, bits: usize, hashes: u32) -> bool {
+    (filter.num_bits() == bits) & (filter.num_hashes() == hashes)
+}
+
+// Whether each of some hashes, three times as many as the room, is found once it came. Behind them
+// the filter turned over.
+fn takes(filter: &mut RotatingFilter, room: usize) -> bool {
+    let mut is_right = filter.turns() == 0;
+    for i in 0..room as u64 * 3 {
+        filter.insert_hash(spread(i));
+        is_right &= filter.contains_hash(spread(i));
+    }
+    let held = filter.insert(&"crab");
+    is_right & !held & filter.insert(&"crab") & filter.contains(&"crab") & (filter.turns() >= 2)
+}
+
+// Whether a filter of a row is made and used so.
+fn rotates(alloc: Global, row: &(usize, usize, usize, u32)) -> bool {
+    let (items, room, bits, hashes) = *row;
+    let Ok(rate) = Rate::new(1, 10) else {
+        return false;
+    };
+    let Ok(mut filter) = RotatingFilter::new(alloc, rate, items) else {
+        return false;
+    };
+    let is_older = is_sized(filter.older(), bits, hashes);
+    let is_newer = is_sized(filter.newer(), bits, hashes);
+    is_older & is_newer & (filter.room() == room) & takes(&mut filter, room)
+}
+
+#[test]
+fn a_filter_that_rotates_is_of_its_size_and_finds_what_just_came(rt: HostRuntime) {
+    for (i, row) in FILTERS.iter().enumerate() {
+        assert!(rt; tell_row(&rt, i, rotates(rt.alloc(), row)));
+    }
+}
