@@ -19,7 +19,7 @@ SET_OF_POSITIONS = runpy.run_path(f'{TOP}/dev/compare')['Filter']
 SIP, DRAWN = map(runpy.run_path(f'{TOP}/dev/blocked-model').get, ('sip', 'drawn'))
 LENGTH = 64
 LETTERS = 'abcdefghijklmnopqrstuvwxyzABCDEFGHIJKLMNOPQRSTUVWXYZ0123456789'
-RATES = [(1, 2), (2, 3), (9, 10), (1, 10), (3, 100), (1, 1000), (1, 10 ** 6), (5, 2 ** 63 - 1)]
+RATES = [(1, 2), (2, 3), (9, 10), (1, 10), (3, 100), (1, 1000), (1, 10**6), (5, 2**63 - 1)]
 LN_TWO = 6243314768165359  # 2^53 times the natural logarithm of 2, as the nearest double has it
 
 
@@ -30,26 +30,26 @@ def shape(items, num, den):
         root = 2 ** (2048 + parts % 64)
         for _ in range(6):
             root = math.isqrt(root)
-        if den * 2 ** 32 <= num * 2 ** (parts // 64) * root:
+        if den * 2**32 <= num * 2 ** (parts // 64) * root:
             break
         parts += 1
-    size = max(64, 8 * -(-items * parts * 2 ** 44 // LN_TWO))
+    size = max(64, 8 * -(-items * parts * 2**44 // LN_TWO))
     words = -(-size // 64)
-    return words, max(1, (2 * 64 * words * LN_TWO + items * 2 ** 53) // (items * 2 ** 54))
+    return words, max(1, (2 * 64 * words * LN_TWO + items * 2**53) // (items * 2**54))
 
 
 def digest(filters):
     fold = 1469598103934665603
     for filter in filters:
         for word in filter.text().split():
-            fold = (fold ^ int(word, 16)) * 1099511628211 % 2 ** 64
+            fold = (fold ^ int(word, 16)) * 1099511628211 % 2**64
     return fold
 
 
 def check_promise(stream, at, items):
-    """Wants fewer than that many different items since the last time that this one came."""
+    """Wants at least so many different items since this one came last, which isn't contained."""
     last = stream.rfind(stream[at], 0, at)
-    assert last < 0 or len(set(stream[last + 1:at])) >= items, (stream, at, items)
+    assert last < 0 or len(set(stream[last + 1 : at])) >= items, (stream, at, items)
 
 
 def row(number):
@@ -62,7 +62,7 @@ def row(number):
     form = shape(room, num, 2 * den)
     older, newer, taken, replies = SET_OF_POSITIONS(*form), SET_OF_POSITIONS(*form), 0, ''
     for at, letter in enumerate(stream):
-        source = SIP(2 * [key * (2 ** 64 // 255)], letter.encode())
+        source = SIP(2 * [key * (2**64 // 255)], letter.encode())
         seen = newer.contains(source) or older.contains(source)
         if not seen:
             check_promise(stream, at, room)

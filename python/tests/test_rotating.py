@@ -9,18 +9,24 @@ from fastbloom import Refusal, RotatingFilter
 
 
 class Rotating(unittest.TestCase):
-
     def test_last_items(self):
         seen = RotatingFilter(2, "1/1000000000", key=bytes(range(16)))
-        self.assertEqual([seen.add(name) for name in ("crab", b"eel", "crab", "prawn")],
-                         [False, False, True, False])
+        self.assertEqual(
+            [seen.add(name) for name in ("crab", b"eel", "crab", "prawn")],
+            [False, False, True, False],
+        )
         self.assertIn("crab", seen)
         self.assertNotIn("eel", seen)
         self.assertEqual((seen.older.key, seen.newer.key), 2 * (bytes(range(16)),))
 
     def test_refused(self):
-        for arguments in ((-1, "1/2"), (2**64, "1/2"), (1, 1), (1, "1/9223372036854775808"),
-                          (1, "1/2", b"short")):
+        for arguments in (
+            (-1, "1/2"),
+            (2**64, "1/2"),
+            (1, 1),
+            (1, "1/9223372036854775808"),
+            (1, "1/2", b"short"),
+        ):
             with self.assertRaises(ValueError):
                 RotatingFilter(*arguments)
         for code, arguments in ((4, (1, 0)), (5, (2**64 - 1, "1/2"))):
