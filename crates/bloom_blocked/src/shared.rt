@@ -105,12 +105,20 @@ impl<S> AtomicBlockedBloomFilter<S> {
         line::looks_in_line(&self.words.lent(), self.num_hashes, hash)
     }
 
+    // Loads the ends of the lines of all these hashes, and then inserts the hashes, in order.
+    fn load_then_insert(&self, hashes: &[u64])
+        ensures { All (WasInsertedInLine self.now) hashes.now }
+    {
+        line::load_then_insert(&self.words.lent(), self.num_hashes, hashes);
+    }
+
     /// Inserts hashes, in order.
     pub fn insert_hashes(&self, hashes: &[u64])
         ensures { All (WasInsertedInLine self.now) hashes.now }
     {
         let words = self.words.lent();
-        if self.words.len() >= WORDS_TO_READ_AHEAD {
+        let is_large = self.words.len() >= WORDS_TO_READ_AHEAD;
+        if is_large {
             line::insert_together(&words, self.num_hashes, hashes);
         } else {
             line::insert_each(&words, self.num_hashes, hashes);

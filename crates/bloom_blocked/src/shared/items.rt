@@ -7,7 +7,6 @@ ghost use Rattle.bloom_plain.specs.SourceHash.{source_hash_of, lent_hash_of, IsF
 ghost use Rattle.bloom_blocked.specs.SharedBlocked.{MakesInsertInLine, MakesInsertsInLines, MakesLookUpInLine};
 
 use super::AtomicBlockedBloomFilter;
-use crate::line::load_then_insert;
 use crate::many::{LINES_TOGETHER, WORDS_TO_READ_AHEAD};
 use bloom_plain::queue::{TakesHashes, insert_items};
 use std::hash::{BuildHasher, Hash, Hasher};
@@ -134,6 +133,6 @@ impl<'a, S: BuildHasher> TakesHashes for &'a AtomicBlockedBloomFilter<S> {
     }
 
     fn insert_many(&mut self, hashes: &[u64]) {
-        load_then_insert(&self.words.lent(), self.num_hashes, hashes);
+        self.load_then_insert(hashes);
     }
 }

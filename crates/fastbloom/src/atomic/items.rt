@@ -1,12 +1,12 @@
 //! The calls that take items: those of their source hashes. Many items are inserted together into a
 //! filter that is larger than a cache: a step that changes a word waits for that word, so the words
 //! are loaded before the first insert.
-ghost use Rattle.std.specs.Prelude.{◌≡◌, ℕ, List, Some, IsTrue};
+ghost use Rattle.std.specs.Prelude.{◌≡◌, ℕ, List, Some, IsTrue, All};
 ghost use Rattle.std.specs.List.{concat};
 ghost use Rattle.std.specs.Iterator.{IsFiniteIterable};
 ghost use Rattle.std.specs.Iterator.Runs.{WholeRun};
 ghost use Rattle.bloom_steps.specs.declared.steps.vocabulary.Call.TheVariants.{Contains};
-ghost use Rattle.fastbloom.specs.Shared.{MakesCall, MakesInsert, MakesInserts};
+ghost use Rattle.fastbloom.specs.Shared.{MakesCall, MakesInsert, MakesInserts, WasInserted};
 ghost use Rattle.bloom_plain.specs.SourceHash.{source_hash_of, lent_hash_of, IsFunctionOfBytes};
 
 use super::AtomicBloomFilter;
@@ -96,6 +96,15 @@ impl<S: BuildHasher> AtomicBloomFilter<S> {
     }
 }
 
+impl<S> AtomicBloomFilter<S> {
+    // Loads the words of all these hashes, and then inserts the hashes, in order.
+    fn load_then_insert(&self, hashes: &[u64])
+        ensures { All (WasInserted self.now) hashes.now }
+    {
+        calls::load_then_insert(&self.words.lent(), self.num_hashes, hashes);
+    }
+}
+
 impl<'a, S: BuildHasher> TakesHashes for &'a AtomicBloomFilter<S> {
     ghost use Rattle.std.specs.Prelude.{◌≡◌, All};
     ghost use Rattle.std.proofs.Common.{ap, refl, ◌∙◌, subst};
@@ -137,6 +146,6 @@ impl<'a, S: BuildHasher> TakesHashes for &'a AtomicBloomFilter<S> {
     }
 
     fn insert_many(&mut self, hashes: &[u64]) {
-        calls::load_then_insert(&self.words.lent(), self.num_hashes, hashes);
+        self.load_then_insert(hashes);
     }
 }
