@@ -8,7 +8,8 @@ _fastbloom_duplicates() {
     *)
       if [[ $word == -* ]]; then
         mapfile -t COMPREPLY < <(compgen -W '--items --rate --longest --skip-longer --fixed
-          --blocked --last --held-back --count -z --zero -q --quiet -h --help -V --version' -- "$word")
+          --blocked --last --held-back --count -z --zero -q --quiet -h --help -V --version' \
+          -- "$word")
       else
         compopt -o filenames
         mapfile -t COMPREPLY < <(compgen -f -- "$word")

@@ -7,7 +7,7 @@ for name in duplicates fastbloom-duplicates
     complete -c $name -l skip-longer -d 'Prints longer lines with the new ones, unsifted'
     complete -c $name -l fixed -d 'Keeps one filter for the expected lines'
     complete -c $name -l blocked -d 'As --fixed, by a blocked filter'
-    complete -c $name -l last -x -d 'Keeps the last lines'
+    complete -c $name -l last -x -d 'Prints each line that is not among the last different ones'
     complete -c $name -l held-back -d 'Prints the lines that are held back'
     complete -c $name -l count -d 'Prints how many lines were read and held back'
     complete -c $name -s z -l zero -d 'Lines end in a zero byte'
