@@ -130,7 +130,11 @@ def test_an_editable_installation(tmp_path):
     python = tmp_path / "bin/python"
     assert install(python, "-e", TOP / "python")[0] == 0
     told = run(
-        python, "-c", "import fastbloom; print(fastbloom.__file__)", cwd="/", env=environment()
+        python,
+        "-c",
+        "import fastbloom; print(fastbloom.__file__)",
+        cwd="/",
+        env=environment(FASTBLOOM_LIB=LIBRARY),
     )
     assert told == (0, f"{TOP}/python/src/fastbloom/__init__.py\n", "")
 

@@ -35,7 +35,8 @@ def test_the_numbers_of_refusals_are_those_of_the_sources():
         )
     ]
     numbers = {
-        int(number): re.sub("([a-z])([A-Z])", r"\1_\2", name).upper() for name, number in rows
+        int(number): re.sub("(?<=[a-z])(?=[A-Z])|(?<=[A-Z])(?=[A-Z][a-z])", "_", name).upper()
+        for name, number in rows
     }
     numbers.update({0: "OK", 10: "UNKNOWN_VERSION"})
     listed = re.search(r"^enum fastbloom_status \{(.*?)^\};", HEADER, re.M | re.S)[1]
