@@ -121,6 +121,11 @@ def test_a_line_that_c_could_not_write_comes_again(tmp_path):
     assert run(*words, input="crab\n")[1] == "crab\n"
 
 
+def test_c_leaves_out_lines_that_are_among_the_last():
+    lines = "crab\neel\ncrab\nprawn\neel\n"
+    assert run(program("rotating"), 2, input=lines)[:2] == (0, "crab\neel\nprawn\neel\n")
+
+
 def test_a_guard_before_a_store(tmp_path):
     words = [program("guard", "threads"), tmp_path / "guard.bloom", 10_000]
     for _ in range(2):

@@ -4,9 +4,16 @@ import os
 
 import pytest
 from conftest import TOP, run
-from fastbloom import BlockedFilter, Filter, Refusal
+from fastbloom import BlockedFilter, Filter, Refusal, RotatingFilter
 
 NAMES = [f"item{i}" for i in range(101_000)]
+
+
+def digest(words):
+    folded = 1469598103934665603
+    for word in words:
+        folded = (folded ^ word) * 1099511628211 % 2**64
+    return folded
 
 
 @pytest.fixture(scope="module")
@@ -19,15 +26,12 @@ def seen():
 
 
 def test_values_from_outside(seen):
-    digest = 1469598103934665603
-    for word in seen.words():
-        digest = (digest ^ word) * 1099511628211 % 2**64
     keyed = Filter(1, "1/2", key=bytes(range(16)))
     wanted = (TOP / "tests/items.text").read_text()
     assert wanted == (
         f"words {seen.num_words} hashes {seen.num_hashes}\n"
         f"hash {keyed.hash(bytes(range(15))):016x}\n"
-        f"digest {digest:016x}\n"
+        f"digest {digest(seen.words()):016x}\n"
         f"false {sum(name in seen for name in NAMES[1000:])} of 100000\n"
     )
 
@@ -76,3 +80,16 @@ def test_refused_files(seen, tmp_path):
             with pytest.raises(Refusal) as told:
                 Filter.load(path, mapped=is_mapped)
             assert told.value.code == int(path.name.split("-")[0]), path
+
+
+def test_filters_in_turn_answer_as_the_model():
+    """The table of its answers is up to date."""
+    table = (TOP / "tests/rotating.txt").read_text()
+    assert run(TOP / "tests/rotating.py") == (0, table, "") and table.count("\n") == 200
+    for row in table.splitlines():
+        number, rate, key, stream, replies, taken, wanted = row.split()
+        seen = RotatingFilter(int(number), rate, bytes([int(key)] * 16))
+        for item, reply in zip(stream, replies):
+            assert (item in seen) == (reply == "+") == seen.add(item), row
+        words = seen.older.words() + seen.newer.words()
+        assert (seen.taken, f"{digest(words):016x}") == (int(taken), wanted), row

@@ -113,8 +113,7 @@ def test_no_function_of_the_headers_is_static(tmp_path):
 
 
 @pytest.mark.parametrize(
-    "words",
-    [["--none"], ["a", "b"], ["--", "a", "b"], ["--", ""], [""], ["--prefix", ""], [__file__]],
+    "words", [["--none"], ["a", "b"], ["--", "a", "b"], ["--", ""], [""], [__file__]]
 )
 def test_a_call_is_refused(words, tmp_path):
     assert run(BUILD, *words, cwd=tmp_path)[0] == 2
