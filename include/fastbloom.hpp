@@ -300,7 +300,7 @@ public:
     filter(const filter &) = delete;
     filter &operator=(const filter &) = delete;
     ~filter() {
-        if (num_words_ != 0) std::free(words_);
+        if (words_ != &detail::no_words) std::free(words_);
     }
 
     void swap(filter &other) noexcept {

@@ -113,7 +113,7 @@ public:
     blocked_filter(const blocked_filter &) = delete;
     blocked_filter &operator=(const blocked_filter &) = delete;
     ~blocked_filter() {
-        if (num_words_ != 0) std::free(words_);
+        if (words_ != &detail::no_words) std::free(words_);
     }
 
     void swap(blocked_filter &other) noexcept {

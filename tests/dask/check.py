@@ -47,10 +47,10 @@ class Checks:
     def check(self, what, wanted, found):
         if wanted == found:
             self.passed += 1
-            print(f"test-dask: {what}", flush=True)
+            print(what, flush=True)
         else:
             self.failed += 1
-            print(f"test-dask: failed: {what}\n  wanted {wanted!r}\n  got    {found!r}", flush=True)
+            print(f"failed: {what}\n  wanted {wanted!r}\n  got    {found!r}", flush=True)
 
     def check_file(self, what, out):
         """The file is that of all keys, byte for byte."""
@@ -298,7 +298,7 @@ def main(summaries):
                 checks.check(f"{part.__name__} ends well", None, error)
         checks.check("no process is left", [], none_left())
     checks.check("no file is left in the tree", tree, files_here())
-    print(f"test-dask: {checks.passed} passed, {checks.failed} failed")
+    print(f"{checks.passed} passed, {checks.failed} failed")
     sys.exit(checks.failed > 0)
 
 

@@ -31,7 +31,7 @@ def namespaces():
                 subprocess.run(["ip", *step.split()], check=True, stderr=subprocess.PIPE, text=True)
         except (OSError, subprocess.CalledProcessError) as error:
             why = getattr(error, "stderr", None) or error
-            print(f"test-dask: skipped: two network namespaces: {str(why).strip()}", flush=True)
+            print(f"skipped: two network namespaces: {str(why).strip()}", flush=True)
             yield [], [], "127.0.0.1", "127.0.0.1"
         else:
             enter = ["ip", "netns", "exec"]
