@@ -32,7 +32,8 @@ pub extern "C" fn fastbloom_blocked_shared_insert_hashes(
     }
     let lent = LentWords::new(&words);
     let num_hashes = num_hashes.max(1);
-    if words.len() >= WORDS_TO_READ_AHEAD {
+    let is_large = words.len() >= WORDS_TO_READ_AHEAD;
+    if is_large {
         insert_together(&lent, num_hashes, hashes);
     } else {
         insert_each(&lent, num_hashes, hashes);

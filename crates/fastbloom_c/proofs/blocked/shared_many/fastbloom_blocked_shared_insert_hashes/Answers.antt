@@ -4,8 +4,8 @@ use Rattle.fastbloom_c.specs.Passed.{vector_of}
 use Rattle.fastbloom_c.specs.BlockedShared.{WasSetInLine}
 use Rattle.fastbloom_c.proofs.blocked.shared_many.fastbloom_blocked_shared_insert_hashes.Goals as goal
 
-pub returns-then-len-ge-MANY_WORDS-clause-made : goal.returns-then-len-ge-MANY_WORDS-clause-made
-returns-then-len-ge-MANY_WORDS-clause-made c = λ _.
+pub returns-then-is_large-clause-made : goal.returns-then-is_large-clause-made
+returns-then-is_large-clause-made c = λ _.
     let words = c.args.words in
     let hashes = c.args.hashes.now in
     let k : c.max-num_hashes.result ≡ max 1 c.args.num_hashes = search rules in
@@ -19,8 +19,8 @@ returns-then-len-ge-MANY_WORDS-clause-made c = λ _.
           (subst (λ n. All (WasSetInLine c.new-lent.result n) hashes) k c.insert_together.ensures);
     }
 
-pub returns-else-len-ge-MANY_WORDS-clause-made : goal.returns-else-len-ge-MANY_WORDS-clause-made
-returns-else-len-ge-MANY_WORDS-clause-made c = λ _.
+pub returns-else-is_large-clause-made : goal.returns-else-is_large-clause-made
+returns-else-is_large-clause-made c = λ _.
     let words = c.args.words in
     let hashes = c.args.hashes.now in
     let k : c.max-num_hashes.result ≡ max 1 c.args.num_hashes = search rules in
