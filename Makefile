@@ -46,7 +46,7 @@ DESCRIPTIONS = pkgconfig/fastbloom.pc cmake/fastbloom/fastbloom-config.cmake \
 BINARIES = $(foreach it,$(PROGRAMS),crates/$(it)/out/$(it))
 ARCHIVE = out/c/libfastbloom_c.a
 SOURCES := crates.txt $(shell find crates -name out -prune -o -regex '.*\.\(rt\|antt\)' -print)
-C_SOURCES = bin/build-c c/fastbloom_files.c include/fastbloom.symbols $(HEADERS:%=include/%)
+C_SOURCES = bin/build-c $(wildcard c/*) include/fastbloom.symbols $(HEADERS:%=include/%)
 
 # What is installed, beside the Python package.
 SHORT = $(filter yes,$(SHORT_NAMES))
@@ -142,8 +142,8 @@ ifneq ($(pythondir),)
 	rm -rf '$(DESTDIR)$(pythondir)'/fastbloom '$(DESTDIR)$(pythondir)'/fastbloom-*.dist-info
 endif
 ifeq ($(filter /usr /usr/local,$(prefix)),)
-	cd '$(DESTDIR)$(prefix)' && rmdir -p --ignore-fail-on-non-empty 2> /dev/null \
-	  $(foreach it,$(FOLDERS) $(pythondir),'$(call between,$(prefix),$(it))') || :
+	{ cd '$(DESTDIR)$(prefix)' && rmdir -p --ignore-fail-on-non-empty \
+	  $(foreach it,$(FOLDERS) $(pythondir),'$(call between,$(prefix),$(it))'); } 2> /dev/null || :
 else
-	rmdir '$(DESTDIR)$(libdir)'/cmake/fastbloom
+	rmdir '$(DESTDIR)$(libdir)'/cmake/fastbloom 2> /dev/null || :
 endif
