@@ -5,7 +5,6 @@ use Rattle.std.proofs.lemmas.List.{append-nil, append_assoc}
 use Rattle.std.specs.Cmp.{unsigned_Decides}
 use Rattle.std.specs.Set.{distinct_count, is_member}
 use Rattle.bloom_plain.specs.Filter.{Filter, contains, Inserts}
-use Rattle.bloom_plain.specs.Laws.{InsertLaw, KeptByInsertLaw}
 use Rattle.bloom_plain.specs.Rotating.{Rotating, either_contains, Fills, Turns, Receives, ReceivesAll, RecentFoundLaw}
 use Rattle.bloom_plain.proofs.DifferentLemmas.{cut-last, cons-out, suffix, one-more, some-more, last-at}
 use Rattle.bloom_plain.proofs.LawLemmas.{insert_law, kept_by_insert_law}

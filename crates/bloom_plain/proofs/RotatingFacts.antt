@@ -1,15 +1,14 @@
 -- Filters that rotate, at values from outside: cases that hold, and cases that differ from one of
 -- these in one thing and don't hold. Hash 1 has the positions 0 and 20 among 64.
-use Rattle.std.proofs.Common.{◌≡◌, ◌+◌, ◌<◌, ◌≤◌, ℕ, true, false, [], ◌∷◌, length, nat_eq, refl, ap, arith, lit<, lit≤}
-use Rattle.std.specs.Set.{distinct_count}
+use Rattle.std.proofs.Common.{◌≡◌, ℕ, true, false, [], ◌∷◌, refl, ap, arith, lit<, lit≤}
 use Rattle.bloom_parts.specs.Chain.{chain}
 use Rattle.bloom_parts.specs.Content.{content}
 use Rattle.bloom_parts.specs.Places.{positions, are_in}
 use Rattle.bloom_plain.specs.Filter.{Filter}
-use Rattle.bloom_plain.specs.Growing.{plan_of, IsNumber}
-use Rattle.bloom_plain.specs.Rotating.{Rotating, older_taken, either_contains, IsRotating, IsUnused, Fills, Turns, Receives, ReceivesAll, RecentFoundLaw, both_now, both_taken}
+use Rattle.bloom_plain.specs.Growing.{plan_of}
+use Rattle.bloom_plain.specs.Rotating.{Rotating, older_taken, either_contains, Fills, Turns, Receives, ReceivesAll}
 use Rattle.bloom_plain.proofs.FilterFacts.{filter}
-use Rattle.bloom_plain.proofs.GrowingFacts.{four, rate, with_one, with_none, only-number, halvings-none}
+use Rattle.bloom_plain.proofs.GrowingFacts.{four, with_one, with_none}
 use Rattle.bloom_plain.proofs.InsertFacts.{inserts-first}
 use Rattle.bloom_plain.proofs.SetFacts.{clears}
 

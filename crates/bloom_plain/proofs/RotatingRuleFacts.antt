@@ -1,12 +1,10 @@
 -- The rule and the rates of filters that rotate, and how long a hash stays, at values from outside:
 -- cases that hold, and near ones that don't. A filter of one word for one item has 44 hashes. Hash
 -- 0 has the position 0 twice, and hash 1 the positions 0 and 20.
-use Rattle.std.proofs.Common.{◌≡◌, ◌⊎◌, ◌+◌, ◌<◌, ℕ, true, false, [], ◌∷◌, nat_eq, refl, ap, arith, lit<, lit≤}
-use Rattle.std.specs.Set.{distinct_count}
+use Rattle.std.proofs.Common.{◌≡◌, ℕ, true, false, [], ◌∷◌, refl, ap, arith, lit<, lit≤}
 use Rattle.bloom_parts.specs.Chain.{chain}
 use Rattle.bloom_parts.specs.Content.{content}
-use Rattle.bloom_parts.specs.Places.{positions, are_in}
-use Rattle.bloom_parts.specs.declared.math.rate.Rate.{Rate}
+use Rattle.bloom_parts.specs.Places.{are_in}
 use Rattle.bloom_plain.specs.Filter.{Filter, Clears}
 use Rattle.bloom_plain.specs.Growing.{Plan, plan_of, IsNumber}
 use Rattle.bloom_plain.specs.GrowingRates.{part_now, part_after}

@@ -109,8 +109,8 @@ pub fn growing_rates_stay_below()
     ensures { RatesBelowLaw }
 {}
 
-/// In a filter that rotates a hash that came is contained as long as fewer different ones came behind
-/// it than each of its filters is for.
+/// In a filter that rotates a hash that came is contained as long as fewer different ones came
+/// behind it than each of its filters is for.
 pub fn rotating_recent_stays_found<S>()
     ensures { RecentFoundLaw S }
 {}

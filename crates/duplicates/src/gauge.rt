@@ -58,7 +58,7 @@ impl Gauge for RotatingFilter {
         let (whole, part) = (share / 10, share % 10);
         let turns = self.turns();
         let _ = eprintln!(rt;
-            "the filters turned over {turns} times: {whole}.{part} % of the older one's bits are set"
+            "number of turns: {turns}; {whole}.{part} % of the older filter's bits are set"
         );
     }
 }
