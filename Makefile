@@ -57,7 +57,7 @@ FILES = $(NAMES:%=$(bindir)/%) $(PAGE_NAMES:%=$(mandir)/man1/%.1) $(NAMES:%=$(ba
   $(PROGRAMS:%=$(zshdir)/_fastbloom-%) $(NAMES:%=$(fishdir)/%.fish) \
   $(HEADERS:%=$(includedir)/%) $(LIBRARIES:%=$(libdir)/%)
 FOLDERS = $(sort $(patsubst %/,%,$(dir $(FILES))))
-
+MODULES = '$(DESTDIR)$(pythondir)'/fastbloom '$(DESTDIR)$(pythondir)'/fastbloom-*.dist-info
 # The path from one folder to another.
 between = $(shell realpath -ms --relative-to='$(1)' '$(2)')
 
@@ -117,8 +117,7 @@ install: names all
 	install -m 644 $(ARCHIVE) '$(DESTDIR)$(libdir)'
 	if [ -e out/c/$(SHARED) ]; then \
 	  install out/c/$(SHARED).$(VERSION) '$(DESTDIR)$(libdir)'; \
-	  ln -sf $(SHARED).$(VERSION) '$(DESTDIR)$(libdir)'/$(SONAME); \
-	  ln -sf $(SONAME) '$(DESTDIR)$(libdir)'/$(SHARED); \
+	  cp -df out/c/$(SONAME) out/c/$(SHARED) '$(DESTDIR)$(libdir)'; \
 	fi
 	include=$(call between,$(libdir),$(includedir)); for file in $(DESCRIPTIONS); do \
 	  sed "s|@VERSION@|$(VERSION)|; s|@MAJOR@|$(MAJOR)|; s|@INCLUDE@|$$include|" c/$${file##*/}.in | \
@@ -130,7 +129,8 @@ ifneq ($(pythondir),)
 	PYTHONPATH=python $(PYTHON) -Bc 'import backend, sys; \
 	  backend.build_wheel(sys.argv[1], {"library": "none"})' "$$work"; \
 	$(PYTHON) -m zipfile -e "$$work"/*.whl "$$work/unpacked"; \
-	install -d '$(DESTDIR)$(pythondir)'; cp -R "$$work"/unpacked/* '$(DESTDIR)$(pythondir)'; \
+	rm -rf $(MODULES); install -d '$(DESTDIR)$(pythondir)'; \
+	cp -R "$$work"/unpacked/* '$(DESTDIR)$(pythondir)'; \
 	ln -sf '$(call between,$(pythondir)/fastbloom,$(libdir))/$(SONAME)' \
 	  '$(DESTDIR)$(pythondir)/fastbloom'
 endif
@@ -139,7 +139,7 @@ endif
 uninstall: names
 	rm -f $(FILES:%='$(DESTDIR)%')
 ifneq ($(pythondir),)
-	rm -rf '$(DESTDIR)$(pythondir)'/fastbloom '$(DESTDIR)$(pythondir)'/fastbloom-*.dist-info
+	rm -rf $(MODULES)
 endif
 ifeq ($(filter /usr /usr/local,$(prefix)),)
 	{ cd '$(DESTDIR)$(prefix)' && rmdir -p --ignore-fail-on-non-empty \
