@@ -28,9 +28,7 @@ enum {
     MOST_AT_ONCE = 1 << 30 /* bytes that are read or written by one call of the system */
 };
 
-const char *fastbloom_version(void) {
-    return FASTBLOOM_VERSION;
-}
+const char *fastbloom_version(void) { return FASTBLOOM_VERSION; }
 
 const char *fastbloom_strerror(uint8_t code) {
     switch (code) {
@@ -134,8 +132,7 @@ static const struct kind blocked = {fastbloom_blocked_head_read, fastbloom_block
 /* Reads the head of a file of this kind and size, of which the first bytes are given, as many as
  * there are and at most 64. It returns the first reason to refuse the file. */
 static uint8_t read_head(const struct kind *kind, const uint8_t *bytes, size_t size,
-                         const fastbloom_limits *limits, fastbloom_filter *filter,
-                         uint64_t *seal) {
+                         const fastbloom_limits *limits, fastbloom_filter *filter, uint64_t *seal) {
     /* A copy of the numbers that are there, with good ones for those that a truncated file lacks.
      * The last bytes, by which the kinds differ, are read after the size. */
     uint8_t head[HEAD] = {[8] = 1, [16] = 1};
@@ -300,8 +297,7 @@ static int open_part(const char *path, char *part, size_t room, bool replaces) {
 /* Gives a file the owner, group and mode of another one, as far as this is allowed. */
 static bool give_rights(int file, const struct statx *old) {
     mode_t mode = old->stx_mode & 0777;
-    if (fchown(file, old->stx_uid, old->stx_gid) != 0 &&
-        fchown(file, (uid_t)-1, old->stx_gid) != 0)
+    if (fchown(file, old->stx_uid, old->stx_gid) != 0 && fchown(file, (uid_t)-1, old->stx_gid) != 0)
         mode &= 0707; /* not to the members of another group */
     return fchmod(file, mode) == 0;
 }

@@ -33,16 +33,14 @@ static double now(void) {
     return (double)time.tv_sec * 1e9 + (double)time.tv_nsec;
 }
 
-static double smaller(double one, double other) {
-    return one < other ? one : other;
-}
+static double smaller(double one, double other) { return one < other ? one : other; }
 
 /* Inserts the keys one a call, and returns how many inserts returned true. */
 static uint64_t insert_one_a_call(struct filter filter, uint64_t keys) {
     uint64_t answers = 0;
     for (uint64_t key = 0; key < keys; key++)
-        answers += fastbloom_insert_hash(filter.words, filter.num_words, filter.num_hashes,
-                                         hash_of(key));
+        answers +=
+            fastbloom_insert_hash(filter.words, filter.num_words, filter.num_hashes, hash_of(key));
     return answers;
 }
 
@@ -111,8 +109,8 @@ static uint64_t find_shared_at_once(struct filter filter, uint64_t keys) {
     for (uint64_t key = 0; key < keys;) {
         size_t count = 0;
         for (; count < 1000 && key < keys; key++) hashes[count++] = hash_of(key);
-        found += fastbloom_shared_contains_hashes(words, filter.num_hashes, hashes, count, bits,
-                                                  16);
+        found +=
+            fastbloom_shared_contains_hashes(words, filter.num_hashes, hashes, count, bits, 16);
     }
     return found;
 }

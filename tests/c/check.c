@@ -99,11 +99,10 @@ static void hashes(void) {
     static const struct {
         size_t len;
         uint64_t hash;
-    } rows[] = {
-        {0, 12370263754033579228u}, {1, 3398045899470988360u},  {2, 16731370823898788679u},
-        {3, 17733595345121169605u}, {7, 14029210848122290102u}, {8, 6796821499482615526u},
-        {9, 2778229878666693074u},  {15, 6323795259543584655u}, {16, 5333367587329558403u},
-        {17, 12612916429403578116u}};
+    } rows[] = {{0, 12370263754033579228u}, {1, 3398045899470988360u},  {2, 16731370823898788679u},
+                {3, 17733595345121169605u}, {7, 14029210848122290102u}, {8, 6796821499482615526u},
+                {9, 2778229878666693074u},  {15, 6323795259543584655u}, {16, 5333367587329558403u},
+                {17, 12612916429403578116u}};
     uint8_t bytes[17];
     for (size_t i = 0; i < sizeof bytes; i++) bytes[i] = (uint8_t)(3 + 7 * i);
     for (size_t i = 0; i < sizeof rows / sizeof *rows; i++) {
@@ -135,8 +134,8 @@ static void items_together(void) {
         const uint64_t *offsets = well[row];
         CHECK(fastbloom_hash_items(counting_key, bytes, sizeof bytes, offsets, 4, hashes, 3));
         for (size_t i = 0; i < 3; i++)
-            CHECK(hashes[i] == fastbloom_hash(counting_key, bytes + offsets[i],
-                                              offsets[i + 1] - offsets[i]));
+            CHECK(hashes[i] ==
+                  fastbloom_hash(counting_key, bytes + offsets[i], offsets[i + 1] - offsets[i]));
     }
     /* The value of SipHash-1-3 of no bytes under the key bytes 0 to 15. */
     CHECK(fastbloom_hash_items(counting_key, NULL, 0, (const uint64_t[]){0, 0}, 2, hashes, 1));
@@ -211,9 +210,7 @@ static void garbage(void) {
     }
 }
 
-static size_t size_of(const char *text) {
-    return (size_t)strtoull(text, NULL, 10);
-}
+static size_t size_of(const char *text) { return (size_t)strtoull(text, NULL, 10); }
 
 /* One session: the lines of its input, and then of its output. */
 static void session(char **line, char **end) {
@@ -366,8 +363,7 @@ static void many(size_t num_words) {
         memset(bits, 0xa5, sizeof bits);
         CHECK(fastbloom_insert_hashes_tell_new(words, num_words, 3, hashes, count, bits, room));
         for (size_t i = 0; i < 64 * room; i++) {
-            bool fresh =
-                i < count && !fastbloom_insert_hash(one_by_one, num_words, 3, hashes[i]);
+            bool fresh = i < count && !fastbloom_insert_hash(one_by_one, num_words, 3, hashes[i]);
             CHECK((bits[i / 64] >> i % 64 & 1) == fresh);
         }
         CHECK(bits[room] == 0xa5a5a5a5a5a5a5a5u);
@@ -409,15 +405,20 @@ static void estimates(void) {
     static const struct {
         uint32_t hashes;
         size_t ones, low, high;
-    } by_hand[] = {{1, 0, 0, 0}, {1, 1, 1, 1}, {0, 1, 1, 1}, {2, 2, 1, 2},
-                   {3, 3, 1, 2}, {1, 3, 3, 4}, {1, 64, SIZE_MAX, SIZE_MAX}};
+    } by_hand[] = {{1, 0, 0, 0},
+                   {1, 1, 1, 1},
+                   {0, 1, 1, 1},
+                   {2, 2, 1, 2},
+                   {3, 3, 1, 2},
+                   {1, 3, 3, 4},
+                   {1, 64, SIZE_MAX, SIZE_MAX}};
     static const struct {
         size_t words;
         uint32_t hashes;
         size_t ones, items;
-    } rows[] = {{1, 1, 31, 42},         {1, 3, 29, 12},        {2, 2, 5, 2},
-                {3, 5, 160, 68},        {16, 1, 688, 1140},    {16, 7, 997, 531},
-                {225, 10, 1328, 139},   {225, 1, 14022, 52415}, {1000, 4, 19094, 5668},
+    } rows[] = {{1, 1, 31, 42},         {1, 3, 29, 12},           {2, 2, 5, 2},
+                {3, 5, 160, 68},        {16, 1, 688, 1140},       {16, 7, 997, 531},
+                {225, 10, 1328, 139},   {225, 1, 14022, 52415},   {1000, 4, 19094, 5668},
                 {1000, 30, 21284, 862}, {4096, 7, 167610, 38195}, {4096, 2, 58962, 33396}};
     uint64_t *words = zero_words(4096);
     size_t low, high;
@@ -450,11 +451,11 @@ static void in_common(void) {
         uint64_t first, second;
         size_t union_low, union_high, low, high;
         uint64_t part_low, part_high;
-    } rows[] = {{1, 1, 1, 1, 1, 1, unit, unit},         {1, 2, 2, 3, 0, 0, 0, 0},
-                {1, 0, 1, 1, 0, 0, 0, 0},               {0, 0, 0, 0, 0, 0, 0, unit},
-                {3, 6, 3, 4, 0, 3, 0, unit},            {7, 7, 3, 4, 2, 5, unit / 2, unit},
-                {1, 3, 2, 3, 0, 2, 0, unit},
-                {1, UINT64_MAX, SIZE_MAX, SIZE_MAX, 0, SIZE_MAX, 0, unit}};
+    } rows[] = {
+        {1, 1, 1, 1, 1, 1, unit, unit}, {1, 2, 2, 3, 0, 0, 0, 0},
+        {1, 0, 1, 1, 0, 0, 0, 0},       {0, 0, 0, 0, 0, 0, 0, unit},
+        {3, 6, 3, 4, 0, 3, 0, unit},    {7, 7, 3, 4, 2, 5, unit / 2, unit},
+        {1, 3, 2, 3, 0, 2, 0, unit},    {1, UINT64_MAX, SIZE_MAX, SIZE_MAX, 0, SIZE_MAX, 0, unit}};
     size_t low, high;
     uint64_t from, to;
     for (size_t i = 0; i < sizeof rows / sizeof *rows; i++) {
@@ -468,8 +469,8 @@ static void in_common(void) {
         CHECK(from == rows[i].part_low && to == rows[i].part_high);
     }
     uint64_t words[2] = {1, 1};
-    static const size_t sizes[][2] = {
-        {0, 0}, {0, 1}, {1, 0}, {1, 2}, {2, 1}, {(size_t)1 << 58, (size_t)1 << 58}};
+    static const size_t sizes[][2] = {{0, 0}, {0, 1}, {1, 0},
+                                      {1, 2}, {2, 1}, {(size_t)1 << 58, (size_t)1 << 58}};
     for (size_t i = 0; i < sizeof sizes / sizeof *sizes; i++) {
         size_t m = sizes[i][0], n = sizes[i][1];
         low = 7, high = 9, from = 11, to = 13;
@@ -497,14 +498,20 @@ static void heads(const uint8_t file[72]) {
     static const struct {
         size_t place;
         uint8_t byte, code;
-    } rows[] = {
-        {0, 'F', FASTBLOOM_NOT_A_FILTER},    {6, 1, FASTBLOOM_NOT_A_FILTER},
-        {7, '2', FASTBLOOM_UNKNOWN_VERSION}, {8, 0, FASTBLOOM_HASH_COUNT},
-        {12, 1, FASTBLOOM_HASH_COUNT},       {16, 0, FASTBLOOM_EMPTY_WORDS},
-        {23, 4, FASTBLOOM_TOO_MANY_WORDS},   {48, 2, FASTBLOOM_RESERVED},
-        {63, 128, FASTBLOOM_RESERVED},       {23, 3, 0},
-        {48, 1, FASTBLOOM_BLOCKED},          {49, 1, FASTBLOOM_RESERVED},
-        {24, 9, 0},                          {47, 0, 0}};
+    } rows[] = {{0, 'F', FASTBLOOM_NOT_A_FILTER},
+                {6, 1, FASTBLOOM_NOT_A_FILTER},
+                {7, '2', FASTBLOOM_UNKNOWN_VERSION},
+                {8, 0, FASTBLOOM_HASH_COUNT},
+                {12, 1, FASTBLOOM_HASH_COUNT},
+                {16, 0, FASTBLOOM_EMPTY_WORDS},
+                {23, 4, FASTBLOOM_TOO_MANY_WORDS},
+                {48, 2, FASTBLOOM_RESERVED},
+                {63, 128, FASTBLOOM_RESERVED},
+                {23, 3, 0},
+                {48, 1, FASTBLOOM_BLOCKED},
+                {49, 1, FASTBLOOM_RESERVED},
+                {24, 9, 0},
+                {47, 0, 0}};
     for (size_t i = 0; i < sizeof rows / sizeof *rows; i++) {
         uint8_t head[64], key[16] = {42};
         size_t num_words = 7;

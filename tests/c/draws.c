@@ -34,9 +34,12 @@ static double counted(size_t b, size_t t, unsigned k) {
 
 /* Filters of random hashes are asked for others. */
 static void rates(void) {
-    static const struct { size_t words, filters, items; unsigned hashes; } rows[] = {
-        {1, 100000, 11, 4}, {1, 100000, 6, 7}, {4, 100000, 25, 7}, {16, 100000, 100, 7},
-        {64, 10000, 405, 7}, {256, 1000, 1622, 7}, {4096, 10, 25957, 7}, {156250, 1, 990210, 7}};
+    static const struct {
+        size_t words, filters, items;
+        unsigned hashes;
+    } rows[] = {{1, 100000, 11, 4},   {1, 100000, 6, 7},     {4, 100000, 25, 7},
+                {16, 100000, 100, 7}, {64, 10000, 405, 7},   {256, 1000, 1622, 7},
+                {4096, 10, 25957, 7}, {156250, 1, 990210, 7}};
     const size_t asked = 1000000, group = 64;
     for (size_t i = 0; i < sizeof rows / sizeof *rows; i++) {
         size_t words = rows[i].words, bits = 64 * words, found = 0;
@@ -103,9 +106,9 @@ static void positions(void) {
             char text[24];
             uint64_t hash = n, chain[PLACES];
             if (which == 0)
-                hash = fastbloom_hash(key, (const uint8_t *)text,
-                                      (size_t)snprintf(text, sizeof text, "%llu",
-                                                       (unsigned long long)n));
+                hash = fastbloom_hash(
+                    key, (const uint8_t *)text,
+                    (size_t)snprintf(text, sizeof text, "%llu", (unsigned long long)n));
             if (which == 1) hash = drawn();
             chain[0] = hash;
             for (int i = 1; i < PLACES; i++)

@@ -61,8 +61,7 @@ int main(void) {
     wants("shared insert_hashes", 0, fastbloom_shared_insert_hashes(none, 1, NULL, 0));
     wants("shared contains_hash", 0, fastbloom_shared_contains_hash(none, 1, 5));
     wants("shared contains_hashes", 0, fastbloom_shared_contains_hashes(none, 1, NULL, 0, NULL, 0));
-    wants("shared tell_new", 0,
-          fastbloom_shared_insert_hashes_tell_new(none, 1, NULL, 0, NULL, 0));
+    wants("shared tell_new", 0, fastbloom_shared_insert_hashes_tell_new(none, 1, NULL, 0, NULL, 0));
     wants("shared insert", 0, fastbloom_shared_insert(none, 1, key, NULL, 0));
     wants("shared contains", 0, fastbloom_shared_contains(none, 1, key, NULL, 0));
     wants("shared clear", 0, fastbloom_shared_clear(none));

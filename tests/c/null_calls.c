@@ -92,8 +92,8 @@ bool fastbloom_insert_hashes_tell_new(uint64_t *words, size_t num_words, uint32_
     return num_words > 0;
 }
 
-bool fastbloom_insert(uint64_t *words, size_t num_words, uint32_t num_hashes,
-                      const uint8_t key[16], const uint8_t *bytes, size_t len) {
+bool fastbloom_insert(uint64_t *words, size_t num_words, uint32_t num_hashes, const uint8_t key[16],
+                      const uint8_t *bytes, size_t len) {
     (void)num_words, (void)num_hashes, (void)len;
     some("words", words);
     some("key", key);

@@ -84,9 +84,7 @@ static uint64_t look_up_by_libbloom(void *of, const struct key *keys, size_t cou
     return answers;
 }
 
-static void clear_by_libbloom(void *of) {
-    bloom_reset(of);
-}
+static void clear_by_libbloom(void *of) { bloom_reset(of); }
 
 /* A word that is spread evenly: the finish of splitmix64. */
 static inline uint64_t spread(uint64_t number) {
@@ -156,16 +154,28 @@ int main(int argc, char **argv) {
     struct bloom bloom;
     /* (libbloom counts keys and bits in an int, and makes no filter of fewer keys) */
     if (keys < 1000 || keys > 100000000 || rounds == 0) return 2;
-    if (fastbloom_plan(1, 1000, (size_t)keys, &filter.num_words, &filter.num_hashes)
-        != FASTBLOOM_OK)
+    if (fastbloom_plan(1, 1000, (size_t)keys, &filter.num_words, &filter.num_hashes) !=
+        FASTBLOOM_OK)
         return 1;
     filter.words = calloc(filter.num_words, sizeof(uint64_t));
     if (filter.words == NULL || bloom_init(&bloom, (int)keys, 0.001) != 0) return 1;
     struct library libraries[2] = {
-        {"fastbloom", &filter, fastbloom_num_bits(filter.num_words), filter.num_hashes,
-         clear_by_fastbloom, insert_by_fastbloom, look_up_by_fastbloom, {{0, 0}}},
-        {"libbloom", &bloom, (uint64_t)bloom.bits, (uint32_t)bloom.hashes, clear_by_libbloom,
-         insert_by_libbloom, look_up_by_libbloom, {{0, 0}}},
+        {"fastbloom",
+         &filter,
+         fastbloom_num_bits(filter.num_words),
+         filter.num_hashes,
+         clear_by_fastbloom,
+         insert_by_fastbloom,
+         look_up_by_fastbloom,
+         {{0, 0}}},
+        {"libbloom",
+         &bloom,
+         (uint64_t)bloom.bits,
+         (uint32_t)bloom.hashes,
+         clear_by_libbloom,
+         insert_by_libbloom,
+         look_up_by_libbloom,
+         {{0, 0}}},
     };
     bool found = compare(libraries, keys, rounds);
     free(filter.words);

@@ -17,8 +17,7 @@ extern void *__libc_realloc(void *old, size_t size);
 static int is_between(const char *text, const char *address) {
     Dl_info program;
     char *rest;
-    if (!text || !dladdr((void *)getauxval(AT_ENTRY), &program))
-        return 0;
+    if (!text || !dladdr((void *)getauxval(AT_ENTRY), &program)) return 0;
     unsigned long offset = (unsigned long)(address - (const char *)program.dli_fbase);
     return strtoul(text, &rest, 0) <= offset && offset < strtoul(rest, NULL, 0);
 }
@@ -27,11 +26,9 @@ static int is_refused(const void *caller) {
     static atomic_ulong requests;
     const char *refused = getenv("REFUSED");
     char *rest;
-    if (!refused || !is_between(getenv("ALLOCATOR"), caller))
-        return 0;
+    if (!refused || !is_between(getenv("ALLOCATOR"), caller)) return 0;
     unsigned long number = atomic_fetch_add(&requests, 1) + 1, first = strtoul(refused, &rest, 10);
-    if (number < first || (number > first && *rest != '.'))
-        return 0;
+    if (number < first || (number > first && *rest != '.')) return 0;
     errno = ENOMEM;
     return write(STDERR_FILENO, "refused\n", 8) > 0;
 }

@@ -270,9 +270,9 @@ static void try_worked(const char *hex, const std::string &path) {
         std::size_t at;
         char byte;
         status why;
-    } const rows[] = {{48, 0, status::not_blocked}, {48, 2, status::reserved},
-                      {63, 1, status::reserved},    {127, 1, status::seal},
-                      {64, 1, status::seal},        {8, 0, status::hash_count},
+    } const rows[] = {{48, 0, status::not_blocked},    {48, 2, status::reserved},
+                      {63, 1, status::reserved},       {127, 1, status::seal},
+                      {64, 1, status::seal},           {8, 0, status::hash_count},
                       {8, 65, status::too_many_hashes}};
     for (const auto &row : rows) {
         std::vector<char> changed = wanted;

@@ -245,8 +245,8 @@ static void ranges() {
     std::string bytes;
     std::vector<std::uint64_t> offsets{0}, hashes(names.size());
     for (const std::string &name : names) offsets.push_back((bytes += name).size());
-    CHECK(seen.hash_items(bytes.data(), bytes.size(), offsets.data(), offsets.size(),
-                          hashes.data(), hashes.size()));
+    CHECK(seen.hash_items(bytes.data(), bytes.size(), offsets.data(), offsets.size(), hashes.data(),
+                          hashes.size()));
     for (std::size_t i = 0; i < names.size(); i++) CHECK(hashes[i] == seen.hash(names[i]));
     CHECK(!seen.hash_items(bytes.data(), bytes.size() - 1, offsets.data(), offsets.size(),
                            hashes.data(), hashes.size()));

@@ -7,19 +7,16 @@
 
 using namespace fastbloom;
 
-template <class Type, class Call>
-constexpr bool can(Call) {
+template <class Type, class Call> constexpr bool can(Call) {
     return std::is_invocable_v<Call, Type &>;
 }
 
 // Whether a call of this class takes these arguments.
-#define TAKES(type, call, ...)                                   \
-    can<type>([](auto &it) -> decltype(it.call(__VA_ARGS__)) {   \
-        return it.call(__VA_ARGS__);                             \
-    })
+#define TAKES(type, call, ...)                                                                     \
+    can<type>([](auto &it) -> decltype(it.call(__VA_ARGS__)) { return it.call(__VA_ARGS__); })
 
-#define TAKES_ITEMS(type, call)                                                 \
-    static_assert(TAKES(type, call, "crab") && TAKES(type, call, nullptr, 0));  \
+#define TAKES_ITEMS(type, call)                                                                    \
+    static_assert(TAKES(type, call, "crab") && TAKES(type, call, nullptr, 0));                     \
     static_assert(!TAKES(type, call, 0) && !TAKES(type, call, nullptr))
 
 TAKES_ITEMS(hasher, update);

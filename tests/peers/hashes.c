@@ -218,8 +218,8 @@ int main(int argc, char **argv) {
             if (strcmp(row->call, "insert") == 0 || row->threads != 0)
                 memset(filter.words, 0, filter.num_words * 8);
             double spent = row->threads != 0
-                ? measure_threads(row->make, filter, keys, row->threads)
-                : measure(row->make, filter, keys * row->first, keys, &found);
+                               ? measure_threads(row->make, filter, keys, row->threads)
+                               : measure(row->make, filter, keys * row->first, keys, &found);
             keep(row, spent, found);
         }
     printf("%-14s %-6s %9s %11s %9s\n", "library", "call", "keys", "nanoseconds", "true");

@@ -5,7 +5,7 @@ import shutil
 import sys
 
 import pytest
-from conftest import BUILT, TOP, run
+from conftest import BUILT, LIBRARY, TOP, run
 
 EXAMPLES = TOP / "examples"
 ENVIRONMENT = {**os.environ, "ASAN_OPTIONS": "detect_leaks=0"}
@@ -35,6 +35,7 @@ def rust_program():
         manifest,
         "--target-dir",
         BUILT / "target",
+        env={**os.environ, "FASTBLOOM_LIB": str(LIBRARY)},
     )
     assert status == 0, errors
     return lambda name: BUILT / "target/debug/examples" / name
