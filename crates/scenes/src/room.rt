@@ -84,6 +84,8 @@ fn a_filter_that_grows_is_whole_or_refused(rt: HostRuntime) {
     let begun = by_builders(begun(rt.alloc()));
     assert!(rt; say(&rt, "GrowingFilter::new", word_of(&begun)));
     assert!(rt; say(&rt, "insert_hash that grows", grows(rt.alloc())));
+    let rotating = by_builders(crate::rotating::is_made(rt.alloc()));
+    assert!(rt; say(&rt, "RotatingFilter::new", word_of(&rotating)));
 }
 
 // A line that threads share, with hash 1.

@@ -2,18 +2,29 @@
 
 use crate::drawn::spread;
 use crate::telling::tell_row;
-use fastbloom::{BloomFilter, Rate, RotatingFilter};
+use fastbloom::{BloomFilter, GrowingError, Rate, RotatingFilter};
 use std::alloc::Global;
 
 // Numbers of items, the room of each filter for a rate of 1/10, and its bits and hashes. Each is
 // sized for 1/20. To come to that one is halved 4.32 times. Times the items, and by the logarithm
 // of 2, these are 6, 44 and 6244 bits, which are rounded up to words.
-const FILTERS: &'static [(usize, usize, usize, u32)] =
-    &[(0, 1, 64, 44), (7, 7, 64, 6), (1000, 1000, 6272, 4)];
+const FILTERS: &'static [(usize, usize, usize, u32)] = &[
+    (0, 1, 64, 44),
+    (7, 7, 64, 6),
+    (1000, 1000, 6272, 4),
+];
 
 // Whether a filter has this shape.
 fn is_sized(filter: &BloomFilter, bits: usize, hashes: u32) -> bool {
     (filter.num_bits() == bits) & (filter.num_hashes() == hashes)
+}
+
+/// Whether a filter for one item has its two filters.
+pub(crate) fn is_made(alloc: Global) -> Result<bool, GrowingError> {
+    match RotatingFilter::new(alloc, Rate::new(4, 1)?, 1) {
+        Ok(filter) => Ok(is_sized(filter.older(), 64, 44) & is_sized(filter.newer(), 64, 44)),
+        Err(refusal) => Err(refusal),
+    }
 }
 
 // Whether each of some hashes, three times as many as the room, is found once it came. Behind them
