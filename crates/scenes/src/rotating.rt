@@ -5,13 +5,17 @@ use crate::telling::tell_row;
 use fastbloom::{BloomFilter, GrowingError, Rate, RotatingFilter};
 use std::alloc::Global;
 
-// Numbers of items, the room of each filter for a rate of 1/10, and its bits and hashes. Each is
-// sized for 1/20. To come to that one is halved 4.32 times. Times the items, and by the logarithm
-// of 2, these are 6, 44 and 6244 bits, which are rounded up to words.
-const FILTERS: &'static [(usize, usize, usize, u32)] = &[
-    (0, 1, 64, 44),
-    (7, 7, 64, 6),
-    (1000, 1000, 6272, 4),
+// Numbers of items, the room of each filter for a rate of 1/10, its bits and hashes, and how often
+// it turned over in the end. Each is sized for 1/20. To come to that one is halved 4.32 times.
+// Times the items, and by the logarithm of 2, these are 6, 44 and 6244 bits, which are rounded up
+// to words. The turns were counted by a program apart, from the positions of the hashes: some
+// hashes are false positives of the newer filter, which doesn't take them.
+type Row = (usize, usize, usize, u32, u64);
+
+const FILTERS: &'static [Row] = &[
+    (0, 1, 64, 44, 5),
+    (7, 7, 64, 6, 3),
+    (1000, 1000, 6272, 4, 2),
 ];
 
 // Whether a filter has this shape.
@@ -27,8 +31,8 @@ pub(crate) fn is_made(alloc: Global) -> Result<bool, GrowingError> {
     }
 }
 
-// Whether each of some hashes, three times as many as the room, is found once it came. Behind them
-// the filter turned over.
+// Whether each of some hashes, three times as many as the room, is found once it came, and an item
+// that comes twice behind them is, the second time.
 fn takes(filter: &mut RotatingFilter, room: usize) -> bool {
     let mut is_right = filter.turns() == 0;
     for i in 0..room as u64 * 3 {
@@ -36,12 +40,12 @@ fn takes(filter: &mut RotatingFilter, room: usize) -> bool {
         is_right &= filter.contains_hash(spread(i));
     }
     let held = filter.insert(&"crab");
-    is_right & !held & filter.insert(&"crab") & filter.contains(&"crab") & (filter.turns() >= 2)
+    is_right & !held & filter.insert(&"crab") & filter.contains(&"crab")
 }
 
 // Whether a filter of a row is made and used so.
-fn rotates(alloc: Global, row: &(usize, usize, usize, u32)) -> bool {
-    let (items, room, bits, hashes) = *row;
+fn rotates(alloc: Global, row: &Row) -> bool {
+    let (items, room, bits, hashes, turns) = *row;
     let Ok(rate) = Rate::new(1, 10) else {
         return false;
     };
@@ -50,7 +54,8 @@ fn rotates(alloc: Global, row: &(usize, usize, usize, u32)) -> bool {
     };
     let is_older = is_sized(filter.older(), bits, hashes);
     let is_newer = is_sized(filter.newer(), bits, hashes);
-    is_older & is_newer & (filter.room() == room) & takes(&mut filter, room)
+    let is_made = is_older & is_newer & (filter.room() == room);
+    is_made & takes(&mut filter, room) & (filter.turns() == turns)
 }
 
 #[test]
