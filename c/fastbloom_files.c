@@ -10,12 +10,14 @@
 
 #include <errno.h>
 #include <fcntl.h>
+#include <limits.h>
 #include <stdio.h>
 #include <stdlib.h>
 #include <string.h>
 #include <sys/mman.h>
 #include <sys/random.h>
 #include <sys/stat.h>
+#include <sys/xattr.h>
 #include <time.h>
 #include <unistd.h>
 
@@ -25,6 +27,7 @@ enum {
     LINE = 64,             /* bytes; words that begin at a multiple of them begin a line */
     TRIES = 100,           /* names of a new file that are drawn at most */
     DRAWN = 16,            /* digits of such a name */
+    LIST = 4096,           /* bytes of a list of access rights that is copied, at most */
     MOST_AT_ONCE = 1 << 30 /* bytes that are read or written by one call of the system */
 };
 
@@ -72,9 +75,18 @@ static void free_quietly(void *memory) {
     errno = why;
 }
 
-/* Opens a file and tells its size. A folder, a device or a pipe is refused, and not waited for. */
+/* Opens a file. A pipe isn't waited for, but a process that has a lease on a file is. */
+static int open_file(const char *path, int flags) {
+    struct statx about;
+    int file = open(path, flags | O_CLOEXEC | O_NONBLOCK | O_NOCTTY);
+    if (file >= 0 || errno != EWOULDBLOCK) return file;
+    if (statx(AT_FDCWD, path, 0, STATX_TYPE, &about) != 0 || !S_ISREG(about.stx_mode)) return -1;
+    return open(path, flags | O_CLOEXEC | O_NOCTTY);
+}
+
+/* Opens a file and tells its size. A folder, a device or a pipe is refused. */
 static uint8_t open_to_read(const char *path, int flags, int *file, size_t *size) {
-    *file = open(path, flags | O_CLOEXEC | O_NONBLOCK | O_NOCTTY);
+    *file = open_file(path, flags);
     if (*file < 0) return FASTBLOOM_INPUT;
     struct statx about;
     bool is_known = statx(*file, "", AT_EMPTY_PATH, STATX_TYPE | STATX_SIZE, &about) == 0;
@@ -282,11 +294,21 @@ static uint64_t draw(void) {
     return ((uint64_t)now.tv_sec << 30 ^ (uint64_t)now.tv_nsec) + ((uint64_t)getpid() << 40);
 }
 
+/* How many bytes of a path the name of a new file beside it begins with: all, unless the last part
+ * of the path is so long that no name has room for more. */
+static int size_of_stem(const char *path) {
+    const char *slash = strrchr(path, '/');
+    size_t folder = slash == NULL ? 0 : (size_t)(slash + 1 - path);
+    size_t name = strlen(path + folder), most = NAME_MAX - (sizeof "..part" - 1 + DRAWN);
+    return (int)(folder + (name < most ? name : most));
+}
+
 /* Opens a new file beside the one at the path, and writes its name. A link of that name isn't
  * followed. Until it has the rights of the old file, no other user may read it. */
 static int open_part(const char *path, char *part, size_t room, bool replaces) {
+    int stem = size_of_stem(path);
     for (int tries = 0; tries < TRIES; tries++) {
-        snprintf(part, room, "%s.%016llx.part", path, (unsigned long long)draw());
+        snprintf(part, room, "%.*s.%016llx.part", stem, path, (unsigned long long)draw());
         int file = open(part, O_WRONLY | O_CREAT | O_EXCL | O_CLOEXEC | O_NOFOLLOW,
                         replaces ? 0600 : 0666);
         if (file >= 0 || errno != EEXIST) return file;
@@ -294,11 +316,31 @@ static int open_part(const char *path, char *part, size_t room, bool replaces) {
     return -1;
 }
 
-/* Gives a file the owner, group and mode of another one, as far as this is allowed. */
-static bool give_rights(int file, const struct statx *old) {
+/* The list of access rights of a file, as Linux names and keeps it. Where there is one, the group's
+ * bits of the mode aren't the rights of the group: they bound those that the list gives. */
+static const char access_list[] = "system.posix_acl_access";
+
+/* Whether the last call on a list failed because there is none. */
+static bool has_no_list(void) { return errno == ENODATA || errno == EOPNOTSUPP; }
+
+/* Gives a file the owner, group, and list of access rights or mode of the one at the path, as far as
+ * this is allowed. Where it isn't, nobody gets more: of a list that can't be copied only the owner's
+ * bits are kept, and what a group that can't be kept has no right to do, others haven't either. */
+static bool give_rights(int file, const char *path, const struct statx *old) {
+    uint8_t list[LIST];
     mode_t mode = old->stx_mode & 0777;
-    if (fchown(file, old->stx_uid, old->stx_gid) != 0 && fchown(file, (uid_t)-1, old->stx_gid) != 0)
-        mode &= 0707; /* not to the members of another group */
+    bool has_group =
+        fchown(file, old->stx_uid, old->stx_gid) == 0 || fchown(file, (uid_t)-1, old->stx_gid) == 0;
+    ssize_t size = getxattr(path, access_list, list, sizeof list);
+    if (size < 0 && has_no_list()) {
+        if (!has_group) mode &= 0700 | (mode >> 3 & 7);
+    } else {
+        if (size >= 0 && has_group && fsetxattr(file, access_list, list, (size_t)size, 0) == 0)
+            return true;
+        mode &= 0700;
+    }
+    /* (a list that the folder gave the new file) */
+    if (fremovexattr(file, access_list) != 0 && !has_no_list()) mode &= 0700;
     return fchmod(file, mode) == 0;
 }
 
@@ -317,10 +359,10 @@ static bool flush_folder(char *path) {
 
 /* Writes a new file whole, with the rights of the old one where there is one, and flushes it. */
 static bool write_part(int file, const uint8_t head[HEAD], const fastbloom_filter *filter,
-                       const struct statx *old) {
+                       const char *path, const struct statx *old) {
     return write_bytes(file, head, HEAD) &&
            write_bytes(file, filter->words, 8 * filter->num_words) &&
-           (old == NULL || give_rights(file, old)) && fsync(file) == 0;
+           (old == NULL || give_rights(file, path, old)) && fsync(file) == 0;
 }
 
 /* Gives a new file that is whole the name of the old one, and else removes it. */
@@ -368,7 +410,7 @@ static uint8_t save(const struct kind *kind, const char *path, const fastbloom_f
     int file = open_part(path, part, room, replaces);
     bool saved = file >= 0;
     if (saved) {
-        bool is_whole = write_part(file, head, filter, old);
+        bool is_whole = write_part(file, head, filter, path, old);
         close_quietly(file); /* what was flushed is safe */
         saved = put_in_place(part, path, is_whole);
     }

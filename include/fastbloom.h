@@ -501,9 +501,10 @@ FASTBLOOM_MUST_USE uint8_t fastbloom_map(const char *path, enum fastbloom_map_mo
 void fastbloom_unmap(fastbloom_filter *filter);
 
 /* Writes a file, whole or not at all, with a seal or without one. The bytes go into a new file
- * beside it, which is flushed to the disk and then takes the name, with the owner and mode of the
- * file that had it. A link there is replaced. But a folder, a device, a pipe or a socket is refused
- * by FASTBLOOM_OUTPUT, also where a link leads to it. Last the folder is flushed.
+ * beside it, which is flushed to the disk and then takes the name, with the owner, mode and ACL of
+ * the file that had it, as far as this is allowed. A link there is replaced. But a folder, a device,
+ * a pipe or a socket is refused by FASTBLOOM_OUTPUT, also where a link leads to it. Last the folder
+ * is flushed.
  *
  * It returns FASTBLOOM_OK; or FASTBLOOM_EMPTY_WORDS, FASTBLOOM_TOO_MANY_WORDS, FASTBLOOM_MEMORY or
  * FASTBLOOM_OUTPUT, and then the old file is as it was. Only where the flush of the folder failed,

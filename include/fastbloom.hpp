@@ -125,9 +125,28 @@ inline std::uint64_t *not_null_words(std::uint64_t *words) noexcept {
     return words == nullptr ? &no_words : words;
 }
 
-// The limits of a reader of files.
-inline fastbloom_limits hashes_up_to(std::uint32_t max_hashes) noexcept {
-    return {SIZE_MAX, max_hashes};
+// Hashes for a filter, which gets 256 at once, and the last ones at the end of this.
+template <typename Filter> class batch {
+public:
+    explicit batch(Filter &filter) noexcept : filter_(filter) {}
+    batch(const batch &) = delete;
+    batch &operator=(const batch &) = delete;
+    ~batch() { filter_.insert_hashes(hashes_, count_); }
+
+    void add(std::uint64_t hash) noexcept {
+        hashes_[count_++] = hash;
+        if (count_ == 256) filter_.insert_hashes(hashes_, std::exchange(count_, 0));
+    }
+
+private:
+    Filter &filter_;
+    std::uint64_t hashes_[256];
+    std::size_t count_ = 0;
+};
+
+template <typename Filter, typename Items> void insert_range(Filter &filter, Items &items) {
+    batch<Filter> hashes(filter);
+    for (const auto &item : items) hashes.add(filter.hash(item));
 }
 
 inline key_bytes key_of(const fastbloom_filter &filter) noexcept {
@@ -166,15 +185,15 @@ public:
     mapping() noexcept = default;
     mapping(mapping &&other) noexcept : file_(std::exchange(other.file_, fastbloom_filter{})) {}
     mapping &operator=(mapping &&other) noexcept {
-        std::swap(file_, other.file_);
+        mapping taken(std::move(other));
+        std::swap(file_, taken.file_);
         return *this;
     }
     ~mapping() { fastbloom_unmap(&file_); }
 
-    status map(const char *path, fastbloom_map_mode mode, std::uint32_t max_hashes,
+    status map(const char *path, fastbloom_map_mode mode, const fastbloom_limits &limits,
                file_mapper mapper = fastbloom_map) noexcept {
         fastbloom_unmap(&file_);
-        const fastbloom_limits limits = hashes_up_to(max_hashes);
         return static_cast<status>(mapper(path, mode, &limits, &file_));
     }
     const fastbloom_filter &filter() const noexcept { return file_; }
@@ -253,14 +272,16 @@ public:
     }
 
     // The filter of a file's bytes, which are copied. A file with more than max_hashes hashes is
-    // refused, since each call takes as many steps.
+    // refused, since each call takes as many steps, and so is one with more than max_words words.
     static result<filter> from_bytes(const void *bytes, std::size_t size,
-                                     std::uint32_t max_hashes = 64) noexcept {
+                                     std::uint32_t max_hashes = 64,
+                                     std::size_t max_words = SIZE_MAX) noexcept {
         fastbloom_filter read{};
         std::uint64_t seal = 0;
         const std::uint8_t code = detail::read_head(bytes, size, fastbloom_head_read, read, seal);
         if (code != FASTBLOOM_OK) return static_cast<fastbloom::status>(code);
         if (read.num_hashes > max_hashes) return status::too_many_hashes;
+        if (read.num_words > max_words) return status::too_many_words;
         auto made = with_shape(read.num_words, read.num_hashes, detail::key_of(read));
         if (!made) return made;
         std::memcpy(made->words_, static_cast<const char *>(bytes) + 64, 8 * read.num_words);
@@ -270,8 +291,9 @@ public:
 
     // The filter of a file, which is read whole. It is refused as by `from_bytes`, and where it
     // can't be read: `status::input`, and errno says why.
-    static result<filter> load(const char *path, std::uint32_t max_hashes = 64) noexcept {
-        const fastbloom_limits limits = detail::hashes_up_to(max_hashes);
+    static result<filter> load(const char *path, std::uint32_t max_hashes = 64,
+                               std::size_t max_words = SIZE_MAX) noexcept {
+        const fastbloom_limits limits{max_words, max_hashes};
         fastbloom_filter read;
         const std::uint8_t code = fastbloom_load(path, &limits, &read);
         if (code != FASTBLOOM_OK) return static_cast<fastbloom::status>(code);
@@ -374,15 +396,10 @@ public:
         if (count != 0) fastbloom_insert_hashes(words_, num_words_, num_hashes_, hashes, count);
     }
 
-    // Inserts each item of a range: a container or a view of what `insert` takes.
+    // Inserts each item of a range: a container or a view of what `insert` takes. Where the range
+    // throws, the items before are inserted.
     template <typename Items> void insert_range(Items &&items) {
-        std::uint64_t hashes[256];
-        std::size_t count = 0;
-        for (const auto &item : items) {
-            hashes[count++] = hash(item);
-            if (count == 256) insert_hashes(hashes, std::exchange(count, 0));
-        }
-        insert_hashes(hashes, count);
+        detail::insert_range(*this, items);
     }
 
     // Calls on many hashes that tell of each, in a bit set that the caller owns: `bit_of(found, i)`
@@ -595,9 +612,10 @@ public:
     mapped_filter() noexcept = default;
 
     // Maps a file, which is refused as by `filter::load`. Only a sealed one is read whole for it.
-    static result<mapped_filter> map(const char *path, std::uint32_t max_hashes = 64) noexcept {
+    static result<mapped_filter> map(const char *path, std::uint32_t max_hashes = 64,
+                                     std::size_t max_words = SIZE_MAX) noexcept {
         mapped_filter made;
-        const auto why = made.file_.map(path, FASTBLOOM_MAP_READ, max_hashes);
+        const auto why = made.file_.map(path, FASTBLOOM_MAP_READ, {max_words, max_hashes});
         if (why != status::ok) return why;
         return made;
     }

@@ -22,6 +22,8 @@
 
 #include "fastbloom.hpp"
 
+#include <memory>
+
 namespace fastbloom {
 
 class shared_blocked_filter;
@@ -50,11 +52,13 @@ public:
                                              const key_bytes &key = {}) noexcept {
         if (num_lines == 0) return status::empty_words;
         if (num_lines > SIZE_MAX / 512) return status::too_many_words; // 2^58 - 8 words
-        // A line begins where one of the cache does.
-        void *words = std::aligned_alloc(bytes_of_a_line, bytes_of_a_line * num_lines);
-        if (words == nullptr) return status::memory;
-        std::memset(words, 0, bytes_of_a_line * num_lines);
+        // A line begins where one of the cache does. Memory of zeros takes no pages yet.
+        std::size_t room = bytes_of_a_line * (num_lines + 1);
+        void *memory = std::calloc(1, room), *words = memory;
+        if (memory == nullptr) return status::memory;
+        std::align(bytes_of_a_line, bytes_of_a_line * num_lines, words, room);
         blocked_filter made;
+        made.memory_ = memory;
         made.words_ = static_cast<std::uint64_t *>(words);
         made.num_words_ = words_of_a_line * num_lines;
         made.num_hashes_ = num_hashes == 0 ? 1 : num_hashes;
@@ -63,16 +67,18 @@ public:
     }
 
     // The filter of a file's bytes, which are copied. A file with more than max_hashes hashes is
-    // refused, since each call takes as many steps, and so is that of a filter that isn't blocked:
-    // `status::not_blocked`.
+    // refused, since each call takes as many steps, and so is one with more than max_words words,
+    // and that of a filter that isn't blocked: `status::not_blocked`.
     static result<blocked_filter> from_bytes(const void *bytes, std::size_t size,
-                                             std::uint32_t max_hashes = 64) noexcept {
+                                             std::uint32_t max_hashes = 64,
+                                             std::size_t max_words = SIZE_MAX) noexcept {
         fastbloom_filter read{};
         std::uint64_t seal = 0;
         const std::uint8_t code =
             detail::read_head(bytes, size, fastbloom_blocked_head_read, read, seal);
         if (code != FASTBLOOM_OK) return static_cast<fastbloom::status>(code);
         if (read.num_hashes > max_hashes) return status::too_many_hashes;
+        if (read.num_words > max_words) return status::too_many_words;
         auto made =
             with_lines(read.num_words / words_of_a_line, read.num_hashes, detail::key_of(read));
         if (!made) return made;
@@ -83,12 +89,14 @@ public:
 
     // The filter of a file, which is read whole. It is refused as by `from_bytes`, and where it
     // can't be read: `status::input`, and errno says why.
-    static result<blocked_filter> load(const char *path, std::uint32_t max_hashes = 64) noexcept {
-        const fastbloom_limits limits = detail::hashes_up_to(max_hashes);
+    static result<blocked_filter> load(const char *path, std::uint32_t max_hashes = 64,
+                                       std::size_t max_words = SIZE_MAX) noexcept {
+        const fastbloom_limits limits{max_words, max_hashes};
         fastbloom_filter read;
         const std::uint8_t code = fastbloom_blocked_load(path, &limits, &read);
         if (code != FASTBLOOM_OK) return static_cast<fastbloom::status>(code);
         blocked_filter made;
+        made.memory_ = read.words;
         made.words_ = read.words;
         made.num_words_ = read.num_words;
         made.num_hashes_ = read.num_hashes;
@@ -112,11 +120,10 @@ public:
     }
     blocked_filter(const blocked_filter &) = delete;
     blocked_filter &operator=(const blocked_filter &) = delete;
-    ~blocked_filter() {
-        if (words_ != &detail::no_words) std::free(words_);
-    }
+    ~blocked_filter() { std::free(memory_); }
 
     void swap(blocked_filter &other) noexcept {
+        std::swap(memory_, other.memory_);
         std::swap(words_, other.words_);
         std::swap(num_words_, other.num_words_);
         std::swap(num_hashes_, other.num_hashes_);
@@ -186,15 +193,10 @@ public:
             fastbloom_blocked_insert_hashes(words_, num_words_, num_hashes_, hashes, count);
     }
 
-    // Inserts each item of a range: a container or a view of what `insert` takes.
+    // Inserts each item of a range: a container or a view of what `insert` takes. Where the range
+    // throws, the items before are inserted.
     template <typename Items> void insert_range(Items &&items) {
-        std::uint64_t hashes[256];
-        std::size_t count = 0;
-        for (const auto &item : items) {
-            hashes[count++] = hash(item);
-            if (count == 256) insert_hashes(hashes, std::exchange(count, 0));
-        }
-        insert_hashes(hashes, count);
+        detail::insert_range(*this, items);
     }
 
     // Calls on many hashes that tell of each, in a bit set that the caller owns, as those of
@@ -325,6 +327,7 @@ private:
         return fastbloom_blocked_seal(words_, num_words_, num_hashes_, key_.data());
     }
 
+    void *memory_ = nullptr; // what is to be freed
     std::uint64_t *words_ = &detail::no_words;
     std::size_t num_words_ = 0;
     std::uint32_t num_hashes_ = 1;
@@ -340,11 +343,11 @@ public:
 
     // Maps a file, which is refused as by `blocked_filter::load`. Only a sealed one is read whole
     // for it.
-    static result<mapped_blocked_filter> map(const char *path,
-                                             std::uint32_t max_hashes = 64) noexcept {
+    static result<mapped_blocked_filter> map(const char *path, std::uint32_t max_hashes = 64,
+                                             std::size_t max_words = SIZE_MAX) noexcept {
         mapped_blocked_filter made;
-        const auto why =
-            made.file_.map(path, FASTBLOOM_MAP_READ, max_hashes, fastbloom_blocked_map);
+        const auto why = made.file_.map(path, FASTBLOOM_MAP_READ, {max_words, max_hashes},
+                                        fastbloom_blocked_map);
         if (why != status::ok) return why;
         return made;
     }

@@ -72,9 +72,10 @@ public:
 
     // The filter of a file without a seal, whose words all processes fill that map it: what is
     // inserted goes into the file. It is refused as by `filter::load`, and where it has a seal.
-    static result<shared_filter> map(const char *path, std::uint32_t max_hashes = 64) noexcept {
+    static result<shared_filter> map(const char *path, std::uint32_t max_hashes = 64,
+                                     std::size_t max_words = SIZE_MAX) noexcept {
         shared_filter made;
-        const auto why = made.mapped_.map(path, FASTBLOOM_MAP_SHARE, max_hashes);
+        const auto why = made.mapped_.map(path, FASTBLOOM_MAP_SHARE, {max_words, max_hashes});
         if (why != status::ok) return why;
         const fastbloom_filter &file = made.mapped_.filter();
         made.words_ = {file.words, file.num_words};
@@ -149,15 +150,10 @@ public:
                                     detail::not_null_words(hashes), count);
     }
 
-    // Inserts each item of a range: a container or a view of what `insert` takes.
+    // Inserts each item of a range: a container or a view of what `insert` takes. Where the range
+    // throws, the items before are inserted.
     template <typename Items> void insert_range(Items &&items) const {
-        std::uint64_t hashes[256];
-        std::size_t count = 0;
-        for (const auto &item : items) {
-            hashes[count++] = hash(item);
-            if (count == 256) insert_hashes(hashes, std::exchange(count, 0));
-        }
-        insert_hashes(hashes, count);
+        detail::insert_range(*this, items);
     }
 
     // Inserts many hashes, which costs less than a call for each.

@@ -82,7 +82,9 @@ static uint8_t take_lines(const fastbloom_filter *filter) {
         else if (block.count == BLOCK && !write_new(&block, filter))
             code = FASTBLOOM_OUTPUT;
     }
-    if (code == FASTBLOOM_OK && ferror(stdin)) code = FASTBLOOM_INPUT;
+    /* Without a line the input is at its end, a read failed, or there is no room for the line. */
+    if (code == FASTBLOOM_OK && !feof(stdin))
+        code = ferror(stdin) ? FASTBLOOM_INPUT : FASTBLOOM_MEMORY;
     if (code == FASTBLOOM_OK && (!write_new(&block, filter) || fflush(stdout) != 0))
         code = FASTBLOOM_OUTPUT;
     free(line);

@@ -4,9 +4,9 @@
  * Files of both kinds of filters are written, read and mapped, and those with faults are refused:
  * one that is truncated at each length or goes on, one of the other kind, a folder, a pipe, a
  * socket, a device, no file, no room, no right to read or write, and limits. The reasons are those
- * of docs/FILE.md.
+ * of docs/FILE.md. A new file has the rights of the old one, and no other user gets more.
  */
-#define _DEFAULT_SOURCE
+#define _GNU_SOURCE
 #include "fastbloom.h"
 
 #include <errno.h>
@@ -20,6 +20,7 @@
 #include <sys/stat.h>
 #include <sys/un.h>
 #include <sys/wait.h>
+#include <sys/xattr.h>
 #include <unistd.h>
 
 static unsigned checks;
@@ -323,6 +324,126 @@ static void rights(void) {
     CHECK(unlink("link") == 0 && unlink("to") == 0 && unlink("made") == 0);
 }
 
+/* A list of access rights as the system keeps it, in 44 bytes. The owner reads and writes, the user
+ * 1234 and the mask have these rights, the group reads, and others have none. */
+static void list_of(uint16_t user, uint8_t list[44]) {
+    const uint16_t rows[5][2] = {{1, 6}, {2, user}, {4, 4}, {16, user}, {32, 0}};
+    memset(list, 0, 44);
+    list[0] = 2;
+    for (size_t i = 0; i < 5; i++) {
+        memcpy(list + 4 + 8 * i, rows[i], 4);
+        memset(list + 8 + 8 * i, 255, 4);
+    }
+    memcpy(list + 16, (const uint32_t[]){1234}, 4);
+}
+
+/* A file keeps its list of access rights. One that had none gets none from its folder, whose list
+ * for new files opens them to a user. Where the file system has no lists, nothing is tried. */
+static void lists(void) {
+    static const char *const access = "system.posix_acl_access";
+    uint8_t list[44], read[64];
+    list_of(0, list);
+    CHECK(mkdir("folder", 0755) == 0 && kind->save("folder/made", &filter, true) == FASTBLOOM_OK);
+    CHECK(chmod("folder/made", 0644) == 0);
+    if (setxattr("folder/made", access, list, sizeof list, 0) == 0) {
+        CHECK(mode_of("folder/made") == 0600);
+        list_of(4, list);
+        CHECK(setxattr("folder/made", access, list, sizeof list, 0) == 0);
+        CHECK(mode_of("folder/made") == 0640);
+        CHECK(kind->save("folder/made", &filter, true) == FASTBLOOM_OK);
+        CHECK(getxattr("folder/made", access, read, sizeof read) == sizeof list);
+        CHECK(memcmp(read, list, sizeof list) == 0 && mode_of("folder/made") == 0640);
+        CHECK(removexattr("folder/made", access) == 0 && chmod("folder/made", 0664) == 0);
+        CHECK(setxattr("folder", "system.posix_acl_default", list, sizeof list, 0) == 0);
+        CHECK(kind->save("folder/made", &filter, true) == FASTBLOOM_OK);
+        CHECK(getxattr("folder/made", access, read, sizeof read) < 0 && errno == ENODATA);
+        CHECK(mode_of("folder/made") == 0664);
+    }
+    CHECK(unlink("folder/made") == 0 && rmdir("folder") == 0);
+}
+
+/* Another user, who can't keep the group of a file, gives none of its rights to others: neither
+ * those that its mode gives the group, nor those that it denies to it. In a process of its own, and
+ * only where this one may become another user. */
+static void other_group(void) {
+    static const mode_t modes[][2] = {{0604, 0600}, {0664, 0604}, {0640, 0600}, {0646, 0604}};
+    uint8_t list[44];
+    if (geteuid() != 0) return;
+    CHECK(mkdir("folder", 0777) == 0 && chmod("folder", 0777) == 0);
+    for (size_t i = 0; i < 5; i++) {
+        CHECK(kind->save("folder/made", &filter, true) == FASTBLOOM_OK);
+        CHECK(chown("folder/made", 0, 4321) == 0 && chmod("folder/made", modes[i % 4][0]) == 0);
+        if (i == 4) {
+            list_of(4, list);
+            if (setxattr("folder/made", "system.posix_acl_access", list, sizeof list, 0) != 0)
+                break;
+        }
+        pid_t child = fork();
+        CHECK(child >= 0);
+        if (child == 0) {
+            if (setresgid(1235, 1235, 1235) != 0 || setresuid(1235, 1235, 1235) != 0) _exit(2);
+            _exit(kind->save("folder/made", &filter, true) == FASTBLOOM_OK ? 0 : 1);
+        }
+        int status;
+        CHECK(waitpid(child, &status, 0) == child);
+        if (WIFEXITED(status) && WEXITSTATUS(status) == 2) break;
+        CHECK(status == 0 && mode_of("folder/made") == (i == 4 ? 0600 : modes[i][1]));
+        struct stat about;
+        CHECK(stat("folder/made", &about) == 0 && about.st_gid == 1235);
+    }
+    CHECK(unlink("folder/made") == 0 && rmdir("folder") == 0);
+}
+
+/* A name as long as the system allows is read and written. */
+static void long_names(void) {
+    char name[257];
+    fastbloom_filter read;
+    memset(name, 'n', sizeof name);
+    for (size_t size = 230; size <= 256; size++) {
+        name[size] = 0;
+        bool fits = size <= 255;
+        uint8_t code = kind->save(name, &filter, true);
+        CHECK(fits ? code == FASTBLOOM_OK : code == FASTBLOOM_OUTPUT && errno == ENAMETOOLONG);
+        if (fits) {
+            CHECK(kind->load(name, NULL, &read) == FASTBLOOM_OK && is_this(&read));
+            fastbloom_unload(&read);
+            CHECK(unlink(name) == 0);
+        }
+        name[size] = 'n';
+    }
+}
+
+static bool read_one(int file, uint8_t *byte) { return read(file, byte, 1) == 1; }
+
+/* A file that another process has a lease on is read once that one has given the lease up. */
+static void give_up(int signal) {
+    (void)signal;
+    _exit(0);
+}
+
+static void lease(void) {
+    fastbloom_filter read;
+    int ready[2];
+    uint8_t has_lease = 0;
+    CHECK(kind->save("leased", &filter, true) == FASTBLOOM_OK && pipe(ready) == 0);
+    pid_t child = fork();
+    CHECK(child >= 0);
+    if (child == 0) {
+        signal(SIGIO, give_up);
+        int file = open("leased", O_RDWR);
+        has_lease = file >= 0 && fcntl(file, F_SETLEASE, F_WRLCK) == 0;
+        if (write(ready[1], &has_lease, 1) != 1 || !has_lease) _exit(1);
+        for (;;) pause();
+    }
+    CHECK(close(ready[1]) == 0);
+    if (read_one(ready[0], &has_lease) && has_lease) {
+        CHECK(kind->load("leased", NULL, &read) == FASTBLOOM_OK && is_this(&read));
+        fastbloom_unload(&read);
+    }
+    kill(child, SIGKILL);
+    CHECK(waitpid(child, NULL, 0) == child && close(ready[0]) == 0 && unlink("leased") == 0);
+}
+
 /* Where there is no room the old file stays, and nothing else: in a process of its own. */
 static void no_room(void) {
     fastbloom_filter large = filter;
@@ -381,6 +502,10 @@ int main(int argc, char **argv) {
         no_files();
         kept_paths();
         rights();
+        lists();
+        other_group();
+        long_names();
+        lease();
         no_room();
     }
     part_of_a_line("kept");

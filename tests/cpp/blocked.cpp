@@ -191,6 +191,11 @@ static void try_refusals() {
     CHECK(blocked_filter::make(0, 1, 10).status() == status::zero_rate);
     CHECK(blocked_filter::make(1, 1, 10).status() == status::rate_too_large);
     CHECK(blocked_filter::make(1, 2, SIZE_MAX).status() == status::size_overflow);
+    for (std::size_t lines = 1; lines <= 1 << 16; lines *= 2) {
+        const auto made = blocked_filter::with_lines(lines, 1);
+        CHECK(made && reinterpret_cast<std::uintptr_t>(made->data()) % 64 == 0);
+        CHECK(made->num_lines() == lines && made->count_ones() == 0);
+    }
     CHECK(blocked_filter::with_lines(0, 1).status() == status::empty_words);
     CHECK(blocked_filter::with_lines(std::size_t{1} << 55, 1).status() == status::too_many_words);
     blocked_filter none, some = of_items({"crab"});
@@ -299,6 +304,22 @@ static void try_files(const std::string &path) {
     std::uint64_t found = 0;
     CHECK(moved.contains_hash(hash) && moved.contains_hashes(&hash, 1, &found, 1) && found == 1);
     CHECK(*moved.clone() == seen && mapped->num_words() == 0 && !mapped->contains("crab"));
+    auto other = fastbloom::mapped_blocked_filter::map(path.c_str());
+    auto onto = fastbloom::mapped_blocked_filter::map(path.c_str());
+    CHECK(other && onto);
+    *onto = *std::move(other);
+    CHECK(onto->contains("crab") && other->num_words() == 0 && !other->contains("crab"));
+    // As many words as are allowed, and one more.
+    const std::size_t words = seen.num_words();
+    const std::vector<char> bytes = bytes_of(seen);
+    for (const std::size_t most : {words, words - 1}) {
+        const status why = most == words ? status::ok : status::too_many_words;
+        CHECK(blocked_filter::from_bytes(bytes.data(), bytes.size(), 64, most).status() == why);
+        CHECK(blocked_filter::load(path.c_str(), 64, most).status() == why);
+        CHECK(fastbloom::mapped_blocked_filter::map(path.c_str(), 64, most).status() == why);
+    }
+    CHECK(shared_blocked_filter::map(path.c_str(), 64, words - 1).status() ==
+          status::too_many_words);
 #ifdef __cpp_lib_span
     CHECK(moved.words().data() == moved.data() && moved.words().size() == seen.num_words());
     const std::vector<std::uint64_t> hashes{seen.hash("crab"), seen.hash("whale")};

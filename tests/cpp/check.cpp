@@ -265,6 +265,15 @@ static void files(const std::string &folder, const filter &seen) {
     const fastbloom::mapped_filter moved = *std::move(mapped);
     CHECK(moved.contains_hash(seen.hash("item2")) && *moved.clone() == seen);
     CHECK(mapped->num_words() == 0 && !mapped->contains("item1") && !mapped->clone());
+    // What is moved onto another filter leaves none behind.
+    auto one = fastbloom::mapped_filter::map(path.c_str());
+    auto other = fastbloom::mapped_filter::map(path.c_str());
+    CHECK(one && other);
+    *one = *std::move(other);
+    CHECK(one->contains("item1") && other->num_words() == 0 && !other->contains("item1"));
+    fastbloom::mapped_filter &same = *one;
+    *one = std::move(same);
+    CHECK(one->contains("item1"));
 #ifdef __cpp_lib_span
     CHECK(moved.words().data() == moved.data() && moved.words().size() == seen.num_words());
     CHECK(mapped->words().empty());
@@ -273,6 +282,13 @@ static void files(const std::string &folder, const filter &seen) {
     CHECK(moved.contains_hashes(hashes, found) && found[0] == 1);
 #endif
     CHECK(filter::load(path.c_str(), 1).status() == status::too_many_hashes);
+    const std::size_t words = seen.num_words();
+    CHECK(filter::load(path.c_str(), 64, words) &&
+          fastbloom::mapped_filter::map(path.c_str(), 64, words));
+    CHECK(filter::load(path.c_str(), 64, words - 1).status() == status::too_many_words);
+    CHECK(fastbloom::mapped_filter::map(path.c_str(), 64, words - 1).status() ==
+          status::too_many_words);
+    CHECK(shared_filter::map(path.c_str(), 64, words - 1).status() == status::too_many_words);
     CHECK(filter::load(folder.c_str()).status() == status::input);
     CHECK(seen.save(folder.c_str()) == status::output);
     CHECK(filter{}.save(path.c_str()) == status::empty_words);
@@ -342,6 +358,8 @@ static void limits() {
         const auto read = filter::from_bytes(bytes.data(), bytes.size(), 65);
         CHECK(read && *read == *made);
         CHECK(filter::from_bytes(bytes.data(), bytes.size()).status() == status::too_many_hashes);
+        CHECK(filter::from_bytes(bytes.data(), bytes.size(), 65, 0).status() ==
+              status::too_many_words);
     }
 }
 

@@ -1,10 +1,10 @@
 //! Files of blocked filters, whose heads say that their words are lines.
 
-use crate::in_file::{self, InFile, MAX_HASHES};
+use crate::in_file::{self, InFile};
 use crate::paths::{load, save};
 use crate::raw::{Head, Key, Kind};
 use crate::raw_blocked::Line;
-use crate::{BlockedBloomFilter, Error};
+use crate::{BlockedBloomFilter, Error, Limits};
 use std::io::{self, Read, Write};
 use std::path::Path;
 
@@ -70,7 +70,7 @@ impl BlockedBloomFilter {
     /// As [`BloomFilter::from_bytes`](crate::BloomFilter::from_bytes); but [`Error::NotBlocked`]
     /// where the filter isn't blocked, and then [`Error::PartOfALine`].
     pub fn from_bytes(bytes: &[u8]) -> Result<BlockedBloomFilter, Error> {
-        in_file::from_bytes(bytes, MAX_HASHES)
+        in_file::from_bytes(bytes, &Limits::default())
     }
 
     /// As [`from_bytes`](Self::from_bytes), with at most this many hashes.
@@ -90,7 +90,11 @@ impl BlockedBloomFilter {
         bytes: &[u8],
         max_hashes: u32,
     ) -> Result<BlockedBloomFilter, Error> {
-        in_file::from_bytes(bytes, max_hashes)
+        let limits = Limits {
+            hashes: max_hashes,
+            ..Limits::default()
+        };
+        in_file::from_bytes(bytes, &limits)
     }
 
     /// Writes the file of this filter, sealed.
@@ -107,7 +111,7 @@ impl BlockedBloomFilter {
     /// # Errors
     /// That of a write that failed.
     pub fn write_file(&self, output: &mut impl Write) -> io::Result<()> {
-        in_file::write(self, output, true)
+        in_file::write(self, output)
     }
 
     /// Reads a file to its end, which has at most 64 hashes. Memory is asked for as words come.
@@ -121,10 +125,33 @@ impl BlockedBloomFilter {
     /// ```
     ///
     /// # Errors
-    /// As [`from_bytes`](Self::from_bytes), but [`Error::Memory`] may come before [`Error::Cut`]
-    /// and what is told after it; and [`Error::Input`] where a read failed.
+    /// As [`from_bytes`](Self::from_bytes), but [`Error::Memory`], and what limits refuse, may come
+    /// before [`Error::Cut`] and what is told after it; and [`Error::Input`] where a read failed.
     pub fn read_file(input: &mut impl Read) -> Result<BlockedBloomFilter, Error> {
-        in_file::read(input)
+        in_file::read(input, &Limits::default())
+    }
+
+    /// As [`read_file`](Self::read_file), of a file within these limits.
+    ///
+    /// ```
+    /// # use fastbloom_c::{BlockedBloomFilter, Error, Limits};
+    /// let bytes = BlockedBloomFilter::with_num_bits(1024)?.hashes(65).to_bytes();
+    /// let mut limits = Limits { hashes: 65, words: 16 };
+    /// let seen = BlockedBloomFilter::read_file_with_limits(&mut &bytes[..], &limits)?;
+    /// assert_eq!(seen.to_bytes(), bytes);
+    /// limits.words = 15;
+    /// let refused = BlockedBloomFilter::read_file_with_limits(&mut &bytes[..], &limits);
+    /// assert_eq!(refused, Err(Error::TooManyWords));
+    /// # Ok::<(), Error>(())
+    /// ```
+    ///
+    /// # Errors
+    /// As [`read_file`](Self::read_file).
+    pub fn read_file_with_limits(
+        input: &mut impl Read,
+        limits: &Limits,
+    ) -> Result<BlockedBloomFilter, Error> {
+        in_file::read(input, limits)
     }
 
     /// Writes the file of this filter, sealed, whole or not at all, as
@@ -143,7 +170,7 @@ impl BlockedBloomFilter {
     /// # Errors
     /// As [`BloomFilter::save`](crate::BloomFilter::save).
     pub fn save(&self, path: impl AsRef<Path>) -> io::Result<()> {
-        save(path.as_ref(), |file| in_file::write(self, file, true))
+        save(self, path.as_ref(), true)
     }
 
     /// As [`save`](Self::save), without a seal: a file that
@@ -165,7 +192,7 @@ impl BlockedBloomFilter {
     /// # Errors
     /// As [`save`](Self::save).
     pub fn save_unsealed(&self, path: impl AsRef<Path>) -> io::Result<()> {
-        save(path.as_ref(), |file| in_file::write(self, file, false))
+        save(self, path.as_ref(), false)
     }
 
     /// Reads the file at a path, as [`BloomFilter::load`](crate::BloomFilter::load).
@@ -185,6 +212,29 @@ impl BlockedBloomFilter {
     /// As [`from_bytes`](Self::from_bytes); and [`Error::Input`] as
     /// [`BloomFilter::load`](crate::BloomFilter::load).
     pub fn load(path: impl AsRef<Path>) -> Result<BlockedBloomFilter, Error> {
-        load(path.as_ref())
+        load(path.as_ref(), &Limits::default())
+    }
+
+    /// As [`load`](Self::load), of a file within these limits.
+    ///
+    /// ```
+    /// # use fastbloom_c::{BlockedBloomFilter, Error, Limits};
+    /// # let name = format!("lines_load.{}.bloom", std::process::id());
+    /// # let path = std::env::temp_dir().join(name);
+    /// BlockedBloomFilter::with_num_bits(1024)?.hashes(65).save(&path)?;
+    /// assert_eq!(BlockedBloomFilter::load(&path), Err(Error::TooManyHashes));
+    /// let limits = Limits { hashes: 65, words: 16 };
+    /// assert_eq!(BlockedBloomFilter::load_with_limits(&path, &limits)?.num_hashes(), 65);
+    /// # std::fs::remove_file(&path)?;
+    /// # Ok::<(), Box<dyn std::error::Error>>(())
+    /// ```
+    ///
+    /// # Errors
+    /// As [`load`](Self::load).
+    pub fn load_with_limits(
+        path: impl AsRef<Path>,
+        limits: &Limits,
+    ) -> Result<BlockedBloomFilter, Error> {
+        load(path.as_ref(), limits)
     }
 }

@@ -61,6 +61,8 @@ pub enum Error {
     PartOfALine,
     /// A number or a text is no rate above 0 and below 1 whose parts are below 2^64.
     NotARate,
+    /// The library refuses by this number, which a newer release has and this crate doesn't know.
+    Unknown(u8),
 }
 
 impl Error {
@@ -93,6 +95,7 @@ impl Error {
             Error::Blocked => fastbloom_c_sys::FASTBLOOM_BLOCKED,
             Error::NotBlocked => fastbloom_c_sys::FASTBLOOM_NOT_BLOCKED,
             Error::TooManyHashes => fastbloom_c_sys::FASTBLOOM_TOO_MANY_HASHES,
+            Error::Unknown(code) => *code,
             Error::OtherShape | Error::NotARate => return None,
         })
     }
@@ -118,7 +121,7 @@ impl Error {
             fastbloom_c_sys::FASTBLOOM_PART_OF_A_LINE => Error::PartOfALine,
             fastbloom_c_sys::FASTBLOOM_BLOCKED => Error::Blocked,
             fastbloom_c_sys::FASTBLOOM_NOT_BLOCKED => Error::NotBlocked,
-            _ => unreachable!("the library returns no other number"),
+            code => Error::Unknown(code),
         })
     }
 }
@@ -147,6 +150,7 @@ impl fmt::Display for Error {
             Error::OtherShape => "the filters differ in words, hashes or keys",
             Error::PartOfALine => "words that are no whole lines",
             Error::NotARate => "a rate is above 0 and below 1, with parts below 2^64",
+            Error::Unknown(code) => return write!(f, "an unknown refusal, {code}"),
         })
     }
 }
@@ -188,7 +192,9 @@ impl Error {
 
 impl PartialEq for Error {
     fn eq(&self, other: &Error) -> bool {
-        mem::discriminant(self) == mem::discriminant(other) && self.kind() == other.kind()
+        mem::discriminant(self) == mem::discriminant(other)
+            && self.code() == other.code()
+            && self.kind() == other.kind()
     }
 }
 
@@ -197,6 +203,30 @@ impl Eq for Error {}
 impl Hash for Error {
     fn hash<H: Hasher>(&self, state: &mut H) {
         mem::discriminant(self).hash(state);
+        self.code().hash(state);
         self.kind().hash(state);
+    }
+}
+
+#[cfg(test)]
+mod tests {
+    use super::Error;
+    use std::collections::HashSet;
+
+    /// Each number that isn't 0 is an error with this number, also one that no release has yet.
+    #[test]
+    fn each_number_is_an_error_with_it() {
+        assert_eq!(Error::check(0), Ok(()));
+        let errors = (1..=255).filter(|code| *code != fastbloom_c_sys::FASTBLOOM_INPUT);
+        let errors: HashSet<_> = errors
+            .map(|code| {
+                let error = Error::check(code).expect_err("a refusal");
+                assert_eq!(error.code(), Some(code));
+                error
+            })
+            .collect();
+        assert_eq!(errors.len(), 254);
+        let unknown = Error::check(200).expect_err("a refusal");
+        assert_eq!(unknown.to_string(), "an unknown refusal, 200");
     }
 }

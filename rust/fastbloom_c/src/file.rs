@@ -1,8 +1,8 @@
 //! Files of filters: a head of 64 bytes, and then the words.
 
-use crate::in_file::{self, InFile, MAX_HASHES};
+use crate::in_file::{self, InFile};
 use crate::raw::{Head, Key, Kind};
-use crate::{BloomFilter, Error};
+use crate::{BloomFilter, Error, Limits};
 use std::io::{self, Read, Write};
 
 impl InFile for BloomFilter {
@@ -65,7 +65,7 @@ impl BloomFilter {
     /// Of several reasons the first, as `docs/FILE.md` says; then [`Error::TooManyHashes`]; and
     /// then [`Error::Memory`] or [`Error::Seal`].
     pub fn from_bytes(bytes: &[u8]) -> Result<BloomFilter, Error> {
-        BloomFilter::from_bytes_with_hashes(bytes, MAX_HASHES)
+        in_file::from_bytes(bytes, &Limits::default())
     }
 
     /// As [`from_bytes`](Self::from_bytes), with at most this many hashes.
@@ -81,7 +81,11 @@ impl BloomFilter {
     /// # Errors
     /// As [`from_bytes`](Self::from_bytes).
     pub fn from_bytes_with_hashes(bytes: &[u8], max_hashes: u32) -> Result<BloomFilter, Error> {
-        in_file::from_bytes(bytes, max_hashes)
+        let limits = Limits {
+            hashes: max_hashes,
+            ..Limits::default()
+        };
+        in_file::from_bytes(bytes, &limits)
     }
 
     /// Writes the file of this filter, sealed.
@@ -98,7 +102,7 @@ impl BloomFilter {
     /// # Errors
     /// That of a write that failed.
     pub fn write_file(&self, output: &mut impl Write) -> io::Result<()> {
-        in_file::write(self, output, true)
+        in_file::write(self, output)
     }
 
     /// Reads a file to its end, which has at most 64 hashes. Memory is asked for as words come.
@@ -111,9 +115,32 @@ impl BloomFilter {
     /// ```
     ///
     /// # Errors
-    /// As [`from_bytes`](Self::from_bytes), but [`Error::Memory`] may come before [`Error::Cut`]
-    /// and what is told after it; and [`Error::Input`] where a read failed.
+    /// As [`from_bytes`](Self::from_bytes), but [`Error::Memory`], and what limits refuse, may come
+    /// before [`Error::Cut`] and what is told after it; and [`Error::Input`] where a read failed.
     pub fn read_file(input: &mut impl Read) -> Result<BloomFilter, Error> {
-        in_file::read(input)
+        in_file::read(input, &Limits::default())
+    }
+
+    /// As [`read_file`](Self::read_file), of a file within these limits.
+    ///
+    /// ```
+    /// # use fastbloom_c::{BloomFilter, Error, Limits};
+    /// let bytes = BloomFilter::with_num_bits(1024)?.hashes(65).to_bytes();
+    /// let mut limits = Limits { hashes: 65, words: 16 };
+    /// let seen = BloomFilter::read_file_with_limits(&mut &bytes[..], &limits)?;
+    /// assert_eq!(seen.to_bytes(), bytes);
+    /// limits.words = 15;
+    /// let refused = BloomFilter::read_file_with_limits(&mut &bytes[..], &limits);
+    /// assert_eq!(refused, Err(Error::TooManyWords));
+    /// # Ok::<(), Error>(())
+    /// ```
+    ///
+    /// # Errors
+    /// As [`read_file`](Self::read_file).
+    pub fn read_file_with_limits(
+        input: &mut impl Read,
+        limits: &Limits,
+    ) -> Result<BloomFilter, Error> {
+        in_file::read(input, limits)
     }
 }

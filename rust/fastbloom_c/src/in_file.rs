@@ -6,8 +6,52 @@ use crate::raw_blocked::{Line, LINE};
 use crate::Error;
 use std::io::{self, ErrorKind, Read, Write};
 
-/// A file with more hashes is refused, unless the caller allows them.
-pub(crate) const MAX_HASHES: u32 = 64;
+/// What a reader of files takes at most. Set it for files that others made: each call on a filter
+/// takes as many steps as it has hashes, and a file of few bytes on a disk can have any number of
+/// words.
+///
+/// ```
+/// use fastbloom_c::Limits;
+///
+/// let megabyte = Limits { words: 1 << 17, ..Limits::default() };
+/// assert_eq!(megabyte.hashes, 64);
+/// ```
+#[derive(Clone, Copy, Debug, PartialEq, Eq)]
+pub struct Limits {
+    /// A file with more hashes is refused by [`Error::TooManyHashes`].
+    ///
+    /// ```
+    /// assert_eq!(fastbloom_c::Limits::default().hashes, 64);
+    /// ```
+    pub hashes: u32,
+    /// A file with more words is refused by [`Error::TooManyWords`].
+    ///
+    /// ```
+    /// assert_eq!(fastbloom_c::Limits::default().words, usize::MAX);
+    /// ```
+    pub words: usize,
+}
+
+impl Default for Limits {
+    fn default() -> Limits {
+        Limits {
+            hashes: 64,
+            words: usize::MAX,
+        }
+    }
+}
+
+impl Limits {
+    fn check(&self, head: &Head) -> Result<(), Error> {
+        if head.num_hashes > self.hashes {
+            return Err(Error::TooManyHashes);
+        }
+        if head.num_words > self.words {
+            return Err(Error::TooManyWords);
+        }
+        Ok(())
+    }
+}
 
 /// The part of a head that is read before the words. Then come sixteen bytes by which the kinds
 /// differ.
@@ -88,9 +132,9 @@ pub(crate) fn to_bytes(filter: &impl InFile) -> Vec<u8> {
     bytes
 }
 
-/// Writes the file of a filter, with a seal or without one.
-pub(crate) fn write(filter: &impl InFile, output: &mut impl Write, sealed: bool) -> io::Result<()> {
-    output.write_all(&head(filter, sealed))?;
+/// Writes the file of a filter, sealed.
+pub(crate) fn write(filter: &impl InFile, output: &mut impl Write) -> io::Result<()> {
+    output.write_all(&head(filter, true))?;
     let mut buffer = [0; 8 * AT_ONCE];
     for words in filter.parts().0.chunks(AT_ONCE) {
         for (place, word) in buffer.chunks_exact_mut(8).zip(words) {
@@ -115,15 +159,15 @@ fn fill(input: &mut impl Read, buffer: &mut [u8]) -> Result<usize, Error> {
     Ok(there)
 }
 
-/// The number of words that a head tells, of which this many bytes are there.
-fn num_words_of(bytes: &HeadBytes, there: usize) -> Result<usize, Error> {
+/// The numbers that a head tells, of which this many bytes are there.
+fn numbers_of(bytes: &HeadBytes, there: usize) -> Result<Head, Error> {
     // Where the head is truncated, good numbers stand for those that it lacks. The last two, by which
     // the kinds differ, are read later.
     let mut good = [0; 64];
     (good[8], good[16]) = (1, 1);
     let whole = there.min(NUMBERS) / 8 * 8;
     good[..whole].copy_from_slice(&bytes[..whole]);
-    Ok(raw::read_head(Kind::Whole, &good)?.num_words)
+    raw::read_head(Kind::Whole, &good)
 }
 
 /// Reads this many words, as far as they are whole units. Memory is asked for as they come, but for
@@ -155,12 +199,10 @@ fn read_units<U: Unit>(
     Ok(units)
 }
 
-/// What a whole head tells, which is refused for its last bytes, or for its hashes.
-fn whole_head(kind: Kind, bytes: &HeadBytes, max_hashes: u32) -> Result<Head, Error> {
+/// What a whole head tells, which is refused for its last bytes, or by limits.
+fn whole_head(kind: Kind, bytes: &HeadBytes, limits: &Limits) -> Result<Head, Error> {
     let head = raw::read_head(kind, bytes)?;
-    if head.num_hashes > max_hashes {
-        return Err(Error::TooManyHashes);
-    }
+    limits.check(&head)?;
     Ok(head)
 }
 
@@ -174,19 +216,19 @@ fn unsealed<F: InFile>(head: Head, units: Vec<F::Unit>) -> Result<F, Error> {
 }
 
 /// The filter of a file's bytes.
-pub(crate) fn from_bytes<F: InFile>(bytes: &[u8], max_hashes: u32) -> Result<F, Error> {
-    read_sized(&mut &*bytes, bytes.len() as u64, max_hashes)
+pub(crate) fn from_bytes<F: InFile>(bytes: &[u8], limits: &Limits) -> Result<F, Error> {
+    read_sized(&mut &*bytes, bytes.len() as u64, limits)
 }
 
 /// Reads a file of this size, which is compared before memory is asked for.
 pub(crate) fn read_sized<F: InFile>(
     input: &mut impl Read,
     size: u64,
-    max_hashes: u32,
+    limits: &Limits,
 ) -> Result<F, Error> {
     let mut head = [0; 64];
     let there = fill(input, &mut head)?;
-    let num_words = num_words_of(&head, there)?;
+    let num_words = numbers_of(&head, there)?.num_words;
     let wanted = 64 + 8 * num_words as u64;
     // (a file may have become shorter since its size was told)
     if size < wanted || there < head.len() {
@@ -195,21 +237,25 @@ pub(crate) fn read_sized<F: InFile>(
     if size > wanted {
         return Err(Error::TooLong);
     }
-    let head = whole_head(F::KIND, &head, max_hashes)?;
+    let head = whole_head(F::KIND, &head, limits)?;
     unsealed(head, read_units(input, num_words, num_words)?)
 }
 
-/// Reads a file to its end.
-pub(crate) fn read<F: InFile>(input: &mut impl Read) -> Result<F, Error> {
-    let mut head = [0; 64];
-    let there = fill(input, &mut head)?;
-    let num_words = num_words_of(&head, there)?;
-    if there < head.len() {
+/// Reads a file to its end. One that is beyond a limit is refused by its head.
+pub(crate) fn read<F: InFile>(input: &mut impl Read, limits: &Limits) -> Result<F, Error> {
+    let mut bytes = [0; 64];
+    let there = fill(input, &mut bytes)?;
+    let numbers = numbers_of(&bytes, there)?;
+    if there < bytes.len() {
         return Err(Error::Cut);
     }
-    let units = read_units(input, num_words, 0)?;
+    let head = whole_head(F::KIND, &bytes, limits);
+    if limits.check(&numbers).is_err() {
+        head.as_ref().map_err(Error::clone)?;
+    }
+    let units = read_units(input, numbers.num_words, 0)?;
     if fill(input, &mut [0])? > 0 {
         return Err(Error::TooLong);
     }
-    unsealed(whole_head(F::KIND, &head, MAX_HASHES)?, units)
+    unsealed(head?, units)
 }

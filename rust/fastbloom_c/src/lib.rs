@@ -100,6 +100,7 @@ pub use bloom::{hash, BloomFilter};
 pub use builder::{BuilderWithBits, BuilderWithFalsePositiveRate};
 pub use error::Error;
 pub use estimates::Estimate;
+pub use in_file::Limits;
 pub use mapped::{MappedBlockedFilter, MappedFilter, MappedWords};
 pub use pieces::Hasher;
 pub use rate::{Bracket, Rate};

@@ -4,11 +4,9 @@
 use crate::raw::Kind;
 use crate::{
     hash, raw, raw_blocked, AtomicBlockedBloomFilter, AtomicBloomFilter, BlockedBloomFilter,
-    BloomFilter, Error,
+    BloomFilter, Error, Limits,
 };
 use fastbloom_c_sys as sys;
-use std::ffi::CString;
-use std::os::unix::ffi::OsStrExt;
 use std::path::Path;
 use std::sync::atomic::AtomicU64;
 use std::{fmt, io, ptr, slice};
@@ -23,14 +21,18 @@ unsafe impl Send for Mapping {}
 unsafe impl Sync for Mapping {}
 
 impl Mapping {
-    /// Maps a file of this kind, of at most 64 hashes.
+    /// Maps a file of this kind, within limits.
     ///
     /// # Safety
     /// While it is mapped nobody makes the file shorter. Nobody writes into a file that is mapped
     /// to be read. Into one that is mapped to be shared nobody writes but by atomic operations.
-    unsafe fn open(kind: Kind, path: &Path, mode: u32) -> Result<Mapping, Error> {
+    unsafe fn open(kind: Kind, path: &Path, mode: u32, limits: &Limits) -> Result<Mapping, Error> {
         raw::check_processor();
-        let path = CString::new(path.as_os_str().as_bytes()).map_err(io::Error::from)?;
+        let path = raw::c_path(path)?;
+        let limits = sys::fastbloom_limits {
+            max_words: limits.words,
+            max_hashes: limits.hashes,
+        };
         let mut filter = sys::fastbloom_filter {
             words: ptr::null_mut(),
             num_words: 0,
@@ -41,8 +43,8 @@ impl Mapping {
             Kind::Whole => sys::fastbloom_map,
             Kind::Blocked => sys::fastbloom_blocked_map,
         };
-        // SAFETY: the path ends in a zero byte, null limits are allowed, and the filter is written.
-        let code = unsafe { call(path.as_ptr(), mode, ptr::null(), &mut filter) };
+        // SAFETY: the path ends in a zero byte, the limits are read, and the filter is written.
+        let code = unsafe { call(path.as_ptr(), mode, &limits, &mut filter) };
         if code == sys::FASTBLOOM_INPUT {
             return Err(io::Error::last_os_error().into());
         }
@@ -115,7 +117,39 @@ impl MappedFilter {
     /// name meanwhile, as by [`BloomFilter::save`].
     pub unsafe fn open(path: impl AsRef<Path>) -> Result<MappedFilter, Error> {
         // SAFETY: the caller keeps the same rule.
-        let mapping = unsafe { Mapping::open(Kind::Whole, path.as_ref(), sys::FASTBLOOM_MAP_READ) };
+        unsafe { MappedFilter::open_with_limits(path, &Limits::default()) }
+    }
+
+    /// As [`open`](Self::open), of a file within these limits.
+    ///
+    /// ```
+    /// # use fastbloom_c::{BloomFilter, Error, Limits, MappedFilter};
+    /// # let name = format!("mappedfilter_limits.{}.bloom", std::process::id());
+    /// # let path = std::env::temp_dir().join(name);
+    /// BloomFilter::with_num_bits(1024)?.hashes(65).save(&path)?;
+    /// let mut limits = Limits { hashes: 65, words: 16 };
+    /// // SAFETY: nobody else knows the file.
+    /// assert!(unsafe { MappedFilter::open_with_limits(&path, &limits) }.is_ok());
+    /// limits.words = 15;
+    /// // SAFETY: as above.
+    /// let refused = unsafe { MappedFilter::open_with_limits(&path, &limits) };
+    /// assert_eq!(refused.err(), Some(Error::TooManyWords));
+    /// # std::fs::remove_file(&path)?;
+    /// # Ok::<(), Box<dyn std::error::Error>>(())
+    /// ```
+    ///
+    /// # Errors
+    /// As [`open`](Self::open).
+    ///
+    /// # Safety
+    /// As [`open`](Self::open).
+    pub unsafe fn open_with_limits(
+        path: impl AsRef<Path>,
+        limits: &Limits,
+    ) -> Result<MappedFilter, Error> {
+        // SAFETY: the caller keeps the same rule.
+        let mapping =
+            unsafe { Mapping::open(Kind::Whole, path.as_ref(), sys::FASTBLOOM_MAP_READ, limits) };
         mapping.map(MappedFilter)
     }
 
@@ -323,8 +357,45 @@ impl MappedBlockedFilter {
     /// As [`MappedFilter::open`].
     pub unsafe fn open(path: impl AsRef<Path>) -> Result<MappedBlockedFilter, Error> {
         // SAFETY: the caller keeps the same rule.
-        let mapping =
-            unsafe { Mapping::open(Kind::Blocked, path.as_ref(), sys::FASTBLOOM_MAP_READ) };
+        unsafe { MappedBlockedFilter::open_with_limits(path, &Limits::default()) }
+    }
+
+    /// As [`open`](Self::open), of a file within these limits.
+    ///
+    /// ```
+    /// # use fastbloom_c::{BlockedBloomFilter, Error, Limits, MappedBlockedFilter};
+    /// # let name = format!("mappedblockedfilter_limits.{}.bloom", std::process::id());
+    /// # let path = std::env::temp_dir().join(name);
+    /// BlockedBloomFilter::with_num_bits(1024)?.hashes(65).save(&path)?;
+    /// let mut limits = Limits { hashes: 65, words: 16 };
+    /// // SAFETY: nobody else knows the file.
+    /// assert!(unsafe { MappedBlockedFilter::open_with_limits(&path, &limits) }.is_ok());
+    /// limits.words = 15;
+    /// // SAFETY: as above.
+    /// let refused = unsafe { MappedBlockedFilter::open_with_limits(&path, &limits) };
+    /// assert_eq!(refused.err(), Some(Error::TooManyWords));
+    /// # std::fs::remove_file(&path)?;
+    /// # Ok::<(), Box<dyn std::error::Error>>(())
+    /// ```
+    ///
+    /// # Errors
+    /// As [`open`](Self::open).
+    ///
+    /// # Safety
+    /// As [`open`](Self::open).
+    pub unsafe fn open_with_limits(
+        path: impl AsRef<Path>,
+        limits: &Limits,
+    ) -> Result<MappedBlockedFilter, Error> {
+        // SAFETY: the caller keeps the same rule.
+        let mapping = unsafe {
+            Mapping::open(
+                Kind::Blocked,
+                path.as_ref(),
+                sys::FASTBLOOM_MAP_READ,
+                limits,
+            )
+        };
         mapping.map(MappedBlockedFilter)
     }
 
@@ -552,8 +623,39 @@ impl AtomicBloomFilter<MappedWords> {
     /// process ends by a signal.
     pub unsafe fn map(path: impl AsRef<Path>) -> Result<AtomicBloomFilter<MappedWords>, Error> {
         // SAFETY: the caller keeps the same rule.
+        unsafe { AtomicBloomFilter::map_with_limits(path, &Limits::default()) }
+    }
+
+    /// As [`map`](Self::map), of a file within these limits.
+    ///
+    /// ```
+    /// # use fastbloom_c::{AtomicBloomFilter, BloomFilter, Error, Limits};
+    /// # let name = format!("atomicbloomfilter_limits.{}.bloom", std::process::id());
+    /// # let path = std::env::temp_dir().join(name);
+    /// BloomFilter::with_num_bits(1024)?.hashes(65).save_unsealed(&path)?;
+    /// let mut limits = Limits { hashes: 65, words: 16 };
+    /// // SAFETY: nobody else knows the file.
+    /// assert!(unsafe { AtomicBloomFilter::map_with_limits(&path, &limits) }.is_ok());
+    /// limits.words = 15;
+    /// // SAFETY: as above.
+    /// let refused = unsafe { AtomicBloomFilter::map_with_limits(&path, &limits) };
+    /// assert_eq!(refused.err(), Some(Error::TooManyWords));
+    /// # std::fs::remove_file(&path)?;
+    /// # Ok::<(), Box<dyn std::error::Error>>(())
+    /// ```
+    ///
+    /// # Errors
+    /// As [`map`](Self::map).
+    ///
+    /// # Safety
+    /// As [`map`](Self::map).
+    pub unsafe fn map_with_limits(
+        path: impl AsRef<Path>,
+        limits: &Limits,
+    ) -> Result<AtomicBloomFilter<MappedWords>, Error> {
+        // SAFETY: the caller keeps the same rule.
         let mapping =
-            unsafe { Mapping::open(Kind::Whole, path.as_ref(), sys::FASTBLOOM_MAP_SHARE)? };
+            unsafe { Mapping::open(Kind::Whole, path.as_ref(), sys::FASTBLOOM_MAP_SHARE, limits)? };
         let (num_hashes, key) = (mapping.0.num_hashes, mapping.0.key);
         let filter = AtomicBloomFilter::from_words(MappedWords(mapping), num_hashes)?;
         Ok(filter.seed(&u128::from_be_bytes(key)))
@@ -586,8 +688,45 @@ impl AtomicBlockedBloomFilter<MappedWords> {
         path: impl AsRef<Path>,
     ) -> Result<AtomicBlockedBloomFilter<MappedWords>, Error> {
         // SAFETY: the caller keeps the same rule.
-        let mapping =
-            unsafe { Mapping::open(Kind::Blocked, path.as_ref(), sys::FASTBLOOM_MAP_SHARE)? };
+        unsafe { AtomicBlockedBloomFilter::map_with_limits(path, &Limits::default()) }
+    }
+
+    /// As [`map`](Self::map), of a file within these limits.
+    ///
+    /// ```
+    /// # use fastbloom_c::{AtomicBlockedBloomFilter, BlockedBloomFilter, Error, Limits};
+    /// # let name = format!("atomicblockedbloomfilter_limits.{}.bloom", std::process::id());
+    /// # let path = std::env::temp_dir().join(name);
+    /// BlockedBloomFilter::with_num_bits(1024)?.hashes(65).save_unsealed(&path)?;
+    /// let mut limits = Limits { hashes: 65, words: 16 };
+    /// // SAFETY: nobody else knows the file.
+    /// assert!(unsafe { AtomicBlockedBloomFilter::map_with_limits(&path, &limits) }.is_ok());
+    /// limits.words = 15;
+    /// // SAFETY: as above.
+    /// let refused = unsafe { AtomicBlockedBloomFilter::map_with_limits(&path, &limits) };
+    /// assert_eq!(refused.err(), Some(Error::TooManyWords));
+    /// # std::fs::remove_file(&path)?;
+    /// # Ok::<(), Box<dyn std::error::Error>>(())
+    /// ```
+    ///
+    /// # Errors
+    /// As [`map`](Self::map).
+    ///
+    /// # Safety
+    /// As [`map`](Self::map).
+    pub unsafe fn map_with_limits(
+        path: impl AsRef<Path>,
+        limits: &Limits,
+    ) -> Result<AtomicBlockedBloomFilter<MappedWords>, Error> {
+        // SAFETY: the caller keeps the same rule.
+        let mapping = unsafe {
+            Mapping::open(
+                Kind::Blocked,
+                path.as_ref(),
+                sys::FASTBLOOM_MAP_SHARE,
+                limits,
+            )?
+        };
         let (num_hashes, key) = (mapping.0.num_hashes, mapping.0.key);
         let filter = AtomicBlockedBloomFilter::from_words(MappedWords(mapping), num_hashes)?;
         Ok(filter.seed(&u128::from_be_bytes(key)))

@@ -11,6 +11,10 @@ use crate::Error;
 use fastbloom_c_sys as sys;
 use std::alloc::{alloc_zeroed, Layout};
 use std::arch::is_x86_feature_detected;
+use std::ffi::CString;
+use std::io;
+use std::os::unix::ffi::OsStrExt;
+use std::path::Path;
 
 /// The sixteen bytes of a key.
 pub type Key = [u8; 16];
@@ -396,4 +400,38 @@ pub fn read_head(kind: Kind, bytes: &HeadBytes) -> Result<Head, Error> {
         )
     })?;
     Ok(head)
+}
+
+/// A path as C takes it.
+pub fn c_path(path: &Path) -> io::Result<CString> {
+    Ok(CString::new(path.as_os_str().as_bytes())?)
+}
+
+/// Writes a file, whole or not at all.
+pub fn save(
+    kind: Kind,
+    path: &Path,
+    (words, num_hashes, key): (&[u64], u32, &Key),
+    sealed: bool,
+) -> io::Result<()> {
+    let path = c_path(path)?;
+    let filter = sys::fastbloom_filter {
+        words: words.as_ptr().cast_mut(),
+        num_words: words.len(),
+        num_hashes,
+        key: *key,
+    };
+    let call = match kind {
+        Kind::Whole => sys::fastbloom_save,
+        Kind::Blocked => sys::fastbloom_blocked_save,
+    };
+    // SAFETY: the path ends in a zero byte, and the filter's words are a slice of this length, which
+    // the call reads.
+    match unsafe { call(path.as_ptr(), &filter, sealed) } {
+        sys::FASTBLOOM_OUTPUT => Err(io::Error::last_os_error()),
+        code => Error::check(code).map_err(|refused| match refused {
+            Error::Memory => io::ErrorKind::OutOfMemory.into(),
+            other => io::Error::other(other),
+        }),
+    }
 }

@@ -1,6 +1,6 @@
 //! Files that are written, read and refused. The form is that of docs/FILE.md.
 
-use fastbloom_c::{BloomFilter, Error};
+use fastbloom_c::{BlockedBloomFilter, BloomFilter, Error, Limits};
 use std::error::Error as _;
 use std::io::{self, ErrorKind, Read};
 
@@ -196,6 +196,36 @@ fn a_file_with_many_hashes_is_refused() {
     // What is told before it, and after it.
     assert_eq!(read(&changed(&many, 50, 1)), Err(Error::Reserved));
     assert_eq!(read(&changed(&many, 64, 1)), Err(Error::TooManyHashes));
+}
+
+/// Words come without end behind these heads. Each is refused before a word is read.
+#[test]
+fn what_is_beyond_a_limit_is_refused_by_the_head() {
+    let head = |hashes, words: u64, layout| {
+        let mut head = changed(&worked()[..64], 8, hashes);
+        head[16..24].copy_from_slice(&words.to_le_bytes());
+        changed(&head, 48, layout)
+    };
+    let refused = |head: &[u8], limits| {
+        let whole = BloomFilter::read_file_with_limits(&mut head.chain(io::repeat(0)), limits);
+        let lines =
+            BlockedBloomFilter::read_file_with_limits(&mut head.chain(io::repeat(0)), limits);
+        [whole.expect_err("limits"), lines.expect_err("limits")]
+    };
+    let limits = Limits {
+        hashes: 3,
+        words: 16,
+    };
+    let (words, hashes) = (Error::TooManyWords, Error::TooManyHashes);
+    let many = 1 << 50;
+    for (number, first) in [(3, &words), (4, &hashes)] {
+        let whole = refused(&head(number, many, 0), &limits);
+        assert_eq!(whole, [first.clone(), Error::NotBlocked]);
+        let lines = refused(&head(number, many, 1), &limits);
+        assert_eq!(lines, [Error::Blocked, first.clone()]);
+    }
+    let usual = refused(&head(65, many, 0), &Limits::default());
+    assert_eq!(usual, [hashes, Error::NotBlocked]);
 }
 
 /// Fails where the bytes are at their end.

@@ -2,10 +2,11 @@
 
 use fastbloom_c::{BlockedBloomFilter, BloomFilter, Error, Rate};
 use std::error::Error as _;
+use std::io::{BufRead, BufReader};
 use std::os::unix::fs::{symlink, FileTypeExt, PermissionsExt};
 use std::os::unix::net::UnixListener;
-use std::path::PathBuf;
-use std::process::Command;
+use std::path::{Path, PathBuf};
+use std::process::{Command, Stdio};
 use std::{env, fs, io, panic, process};
 
 /// A folder that is removed in the end.
@@ -57,21 +58,86 @@ fn a_file_is_saved_whole_with_the_mode_of_the_old_one() {
 }
 
 #[test]
-fn a_part_that_was_left_is_no_obstacle_and_no_link_is_followed() {
-    let folder = Folder::new("parts");
-    let path = folder.0.join("seen.bloom");
-    let other = folder.0.join("other");
+fn a_link_is_replaced_and_not_what_it_leads_to() {
+    let folder = Folder::new("links");
+    let (path, other) = (folder.0.join("seen.bloom"), folder.0.join("other"));
     fs::write(&other, "other").unwrap();
-    for number in 0..20 {
-        let part = folder
-            .0
-            .join(format!("seen.bloom.{}.{number}.part", process::id()));
-        symlink(&other, part).unwrap();
-    }
+    symlink(&other, &path).unwrap();
     seen().save(&path).unwrap();
     assert_eq!(fs::read(&other).unwrap(), b"other");
+    assert!(path.symlink_metadata().unwrap().is_file());
     assert_eq!(BloomFilter::load(&path).unwrap(), seen());
-    assert_eq!(folder.names().len(), 22);
+    assert_eq!(folder.names(), ["other", "seen.bloom"]);
+}
+
+#[test]
+fn a_name_as_long_as_the_system_allows_is_saved() {
+    let folder = Folder::new("long");
+    for size in [233, 234, 255] {
+        let path = folder.0.join("n".repeat(size));
+        seen().save(&path).unwrap();
+        assert_eq!(BloomFilter::load(&path).unwrap(), seen());
+    }
+    assert_eq!(folder.names().len(), 3);
+}
+
+/// A program in Python, which gets a path.
+fn python(program: &str, path: &Path) -> Command {
+    let mut command = Command::new("python3");
+    command.arg("-c").arg(program).arg(path);
+    command
+}
+
+/// A list of access rights, under which the mode's bits of the group bound the rights of a user and
+/// of the group, which has none. Where the file system has no lists, nothing is tried.
+#[test]
+fn a_list_of_access_rights_is_kept() {
+    const SET: &str = r#"
+import os, struct, sys
+rows = (1, 6, -1), (2, 4, 1234), (4, 0, -1), (16, 4, -1), (32, 0, -1)
+value = struct.pack("<I", 2) + b"".join(struct.pack("<HHi", *row) for row in rows)
+os.setxattr(sys.argv[1], "system.posix_acl_access", value)
+"#;
+    const GET: &str = r#"
+import os, sys
+print(os.getxattr(sys.argv[1], "system.posix_acl_access").hex())
+"#;
+    let folder = Folder::new("lists");
+    let path = folder.0.join("seen.bloom");
+    seen().save(&path).unwrap();
+    if !python(SET, &path).status().unwrap().success() {
+        return;
+    }
+    let list = || String::from_utf8(python(GET, &path).output().unwrap().stdout).unwrap();
+    let before = list();
+    assert_eq!(before.trim().len(), 2 * 44);
+    seen().save(&path).unwrap();
+    assert_eq!(list(), before);
+}
+
+/// Where the file system has no leases, nothing is tried.
+#[test]
+fn a_lease_of_another_process_is_waited_for() {
+    const LEASE: &str = r#"
+import fcntl, os, signal, sys
+signal.signal(signal.SIGIO, lambda *_: os._exit(0))
+file = open(sys.argv[1], "r+b")
+fcntl.fcntl(file, fcntl.F_SETLEASE, fcntl.F_WRLCK)
+print("leased", flush=True)
+signal.pause()
+"#;
+    let folder = Folder::new("lease");
+    let path = folder.0.join("seen.bloom");
+    seen().save(&path).unwrap();
+    let mut command = python(LEASE, &path);
+    let mut holder = command.stdout(Stdio::piped()).spawn().unwrap();
+    let mut line = String::new();
+    let mut output = BufReader::new(holder.stdout.take().unwrap());
+    output.read_line(&mut line).unwrap();
+    if !line.is_empty() {
+        assert_eq!(BloomFilter::load(&path).unwrap(), seen());
+    }
+    holder.wait().unwrap();
 }
 
 #[test]
