@@ -21,8 +21,14 @@ HERE = Path(__file__).resolve().parent
 PACKAGE = HERE / "src" / "fastbloom"
 LIBRARY = "libfastbloom_c.so.0"
 # What is in the sources by themselves, and the file that tells that they are.
-SOURCES = ("pyproject.toml", "backend.py", "README.md", "src/fastbloom/*.py",
-           "src/fastbloom/py.typed", "tests/*.py")
+SOURCES = (
+    "pyproject.toml",
+    "backend.py",
+    "README.md",
+    "src/fastbloom/*.py",
+    "src/fastbloom/py.typed",
+    "tests/*.py",
+)
 TOLD = "PKG-INFO"
 # The oldest time that a file in a wheel may have. One of its own would make each wheel another file.
 LONG_AGO = 315532800
@@ -44,8 +50,10 @@ def version():
 def notices():
     """The licence and what is owed to others, which each file that is built has."""
     found = {name: HERE / name for name in ("LICENSE", "NOTICE")}
-    return {name: (own if own.exists() else HERE.parent / name).read_bytes()
-            for name, own in found.items()}
+    return {
+        name: (own if own.exists() else HERE.parent / name).read_bytes()
+        for name, own in found.items()
+    }
 
 
 def library_file(settings):
@@ -59,8 +67,10 @@ def library_file(settings):
     if file.is_dir():
         file = file / LIBRARY
     if not file.is_file():
-        raise SystemExit(f"there is no {file}: run bin/build-c first, or name the library in "
-                         "FASTBLOOM_LIB, or install with --config-settings library=none")
+        raise SystemExit(
+            f"there is no {file}: run bin/build-c first, or name the library in "
+            "FASTBLOOM_LIB, or install with --config-settings library=none"
+        )
     return file
 
 
@@ -70,16 +80,20 @@ def keywords():
     for name, told in (("keywords", "Keywords"), ("classifiers", "Classifier")):
         listed = re.search(rf"^{name} = \[(.*?)\]$", text, re.MULTILINE | re.DOTALL).group(1)
         values = re.findall('"(.*?)"', listed)
-        yield from [(told, ",".join(values))] if name == "keywords" else [(told, it) for it in values]
+        yield from [(told, ",".join(values))] if name == "keywords" else [
+            (told, it) for it in values
+        ]
 
 
 def metadata():
     lists = "".join(f"{name}: {value}\n" for name, value in keywords())
-    return (f"Metadata-Version: 2.1\nName: {project('name')}\nVersion: {version()}\n"
-            f"Summary: {project('description')}\nLicense: {project('license')}\n{lists}"
-            f"Requires-Python: {project('requires-python')}\n"
-            "Description-Content-Type: text/markdown\n\n"
-            + (HERE / project("readme")).read_text(encoding="utf-8")).encode()
+    return (
+        f"Metadata-Version: 2.1\nName: {project('name')}\nVersion: {version()}\n"
+        f"Summary: {project('description')}\nLicense: {project('license')}\n{lists}"
+        f"Requires-Python: {project('requires-python')}\n"
+        "Description-Content-Type: text/markdown\n\n"
+        + (HERE / project("readme")).read_text(encoding="utf-8")
+    ).encode()
 
 
 def record(files, name):
@@ -96,8 +110,9 @@ def write_wheel(folder, files, tag):
     info = f"fastbloom-{version()}.dist-info"
     pure = "true" if tag.endswith("any") else "false"
     files[f"{info}/METADATA"] = metadata()
-    files[f"{info}/WHEEL"] = (f"Wheel-Version: 1.0\nGenerator: backend.py\n"
-                              f"Root-Is-Purelib: {pure}\nTag: {tag}\n").encode()
+    files[f"{info}/WHEEL"] = (
+        f"Wheel-Version: 1.0\nGenerator: backend.py\n" f"Root-Is-Purelib: {pure}\nTag: {tag}\n"
+    ).encode()
     files.update({f"{info}/{name}": data for name, data in notices().items()})
     files[f"{info}/RECORD"] = record(files, f"{info}/RECORD")
     name = f"fastbloom-{version()}-{tag}.whl"
@@ -112,8 +127,10 @@ def write_wheel(folder, files, tag):
 
 def build_wheel(wheel_directory, config_settings=None, metadata_directory=None):
     settings = config_settings or {}
-    files = {f"fastbloom/{path.name}": path.read_bytes()
-             for path in sorted([*PACKAGE.glob("*.py"), PACKAGE / "py.typed"])}
+    files = {
+        f"fastbloom/{path.name}": path.read_bytes()
+        for path in sorted([*PACKAGE.glob("*.py"), PACKAGE / "py.typed"])
+    }
     tag, library = "py3-none-any", library_file(settings)
     if library:
         files[f"fastbloom/{LIBRARY}"] = library.read_bytes()
@@ -129,8 +146,11 @@ def build_editable(wheel_directory, config_settings=None, metadata_directory=Non
 
 def build_sdist(sdist_directory, config_settings=None):
     """The sources by themselves. The library isn't in them: it is proved in the repository."""
-    files = {str(path.relative_to(HERE)): path.read_bytes()
-             for pattern in SOURCES for path in sorted(HERE.glob(pattern))}
+    files = {
+        str(path.relative_to(HERE)): path.read_bytes()
+        for pattern in SOURCES
+        for path in sorted(HERE.glob(pattern))
+    }
     files.update({**notices(), TOLD: metadata()})
     name = f"fastbloom-{version()}"
     output = io.BytesIO()

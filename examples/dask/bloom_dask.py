@@ -110,7 +110,7 @@ def _tree(filters):
         raise ValueError("there is no filter")
     while len(filters) > 1:
         pairs = zip(filters[::2], filters[1::2])
-        filters = [_union(*pair) for pair in pairs] + filters[len(filters) // 2 * 2:]
+        filters = [_union(*pair) for pair in pairs] + filters[len(filters) // 2 * 2 :]
     return filters[0]
 
 

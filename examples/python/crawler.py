@@ -39,8 +39,10 @@ def links_of(folder, page):
         text = (folder / page).read_text(encoding="utf-8")
     except (OSError, UnicodeDecodeError):  # no page, as a folder is none
         return []
-    found = (os.path.normpath(os.path.join(os.path.dirname(page), link))
-             for link in re.findall(r'href="([^"#:]+)["#]', text))
+    found = (
+        os.path.normpath(os.path.join(os.path.dirname(page), link))
+        for link in re.findall(r'href="([^"#:]+)["#]', text)
+    )
     return [link for link in found if not link.startswith(("..", "/"))]
 
 

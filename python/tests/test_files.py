@@ -20,11 +20,12 @@ COUNTING_KEY = bytes(range(16))
 # which docs/FILE.md explains.
 WORKED = bytes.fromhex(
     "66626c6f6f6d0031 0300000000000000 0100000000000000 0001020304050607 08090a0b0c0d0e0f"
-    "a81b0ad4ee8d9d5d 0000000000000000 0000000000000000 0014004080008010")
+    "a81b0ad4ee8d9d5d 0000000000000000 0000000000000000 0014004080008010"
+)
 
 
 def changed(file, place, byte):
-    return file[:place] + bytes([byte]) + file[place + 1:]
+    return file[:place] + bytes([byte]) + file[place + 1 :]
 
 
 def refused_files(file):
@@ -35,8 +36,15 @@ def refused_files(file):
         7: [changed(file, 8, 0), changed(file, 12, 1), changed(file, 8, 0)[:16]],
         9: [b"", file[:7], changed(file, 0, 70), changed(changed(file, 6, 1), 7, 50)],
         10: [changed(file, 7, 50), changed(changed(file, 7, 50), 8, 0)[:8]],
-        11: [file[:8], changed(file, 8, 0)[:15], file[:63], file[:64], file[:-1],
-             changed(file, 48, 1)[:60], changed(file, 23, 3)],
+        11: [
+            file[:8],
+            changed(file, 8, 0)[:15],
+            file[:63],
+            file[:64],
+            file[:-1],
+            changed(file, 48, 1)[:60],
+            changed(file, 23, 3),
+        ],
         12: [file + b"\0", changed(file, 63, 1) + b"\0"],
         13: [changed(file, 48, 2), changed(file, 63, 128)],
         17: [changed(file, 48, 1)],
@@ -113,14 +121,20 @@ class Files(unittest.TestCase):
     def test_a_loaded_file_may_be_written_and_cut(self):
         """A process that touches a mapping of a file that was truncated ends by a signal."""
         self.path.write_bytes(WORKED)
-        code = ("import sys; from fastbloom import Filter\n"
-                "seen = Filter.load(sys.argv[1])\n"
-                "with open(sys.argv[1], 'r+b') as file: file.write(bytes(72))\n"
-                "print(seen.contains_many(['crab', 'lobster']))\n"
-                "with open(sys.argv[1], 'wb'): pass\n"
-                "print('crab' in seen, seen.count_ones(), seen.to_bytes().hex())\n")
-        run = subprocess.run([sys.executable, "-c", code, str(self.path)], timeout=60, check=False,
-                             stdout=subprocess.PIPE)
+        code = (
+            "import sys; from fastbloom import Filter\n"
+            "seen = Filter.load(sys.argv[1])\n"
+            "with open(sys.argv[1], 'r+b') as file: file.write(bytes(72))\n"
+            "print(seen.contains_many(['crab', 'lobster']))\n"
+            "with open(sys.argv[1], 'wb'): pass\n"
+            "print('crab' in seen, seen.count_ones(), seen.to_bytes().hex())\n"
+        )
+        run = subprocess.run(
+            [sys.executable, "-c", code, str(self.path)],
+            timeout=60,
+            check=False,
+            stdout=subprocess.PIPE,
+        )
         wanted = f"[True, True]\nTrue 6 {WORKED.hex()}\n"
         self.assertEqual((run.returncode, run.stdout.decode()), (0, wanted))
 
@@ -173,8 +187,9 @@ class Files(unittest.TestCase):
             os.chown(self.path, 12345, 23456)
             seen.save(self.path)
             found = self.path.stat()
-            self.assertEqual((found.st_uid, found.st_gid, stat.S_IMODE(found.st_mode)),
-                             (12345, 23456, 0o666))
+            self.assertEqual(
+                (found.st_uid, found.st_gid, stat.S_IMODE(found.st_mode)), (12345, 23456, 0o666)
+            )
 
     def test_nobody_else_reads_a_secret_file_while_it_is_written(self):
         self.path.write_bytes(WORKED)

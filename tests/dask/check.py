@@ -41,7 +41,9 @@ class Checks:
         self.files = sorted(self.keys.glob("*.keys"))
         self.whole = subprocess.run(
             list(map(str, [summaries, "build", *SIZE, *self.files])),
-            stdout=subprocess.PIPE, check=True).stdout
+            stdout=subprocess.PIPE,
+            check=True,
+        ).stdout
         self.summaries = summaries
 
     def check(self, what, wanted, found):
@@ -61,8 +63,11 @@ class Checks:
         before = sorted(self.folder.rglob("*.bloom*"))
         status, output, errors = run(*words)
         found = [piece for piece in pieces if piece in errors]
-        self.check(what, (1, "", 1, pieces, before), (status, output, errors.count("\n"), found,
-                                                      sorted(self.folder.rglob("*.bloom*"))))
+        self.check(
+            what,
+            (1, "", 1, pieces, before),
+            (status, output, errors.count("\n"), found, sorted(self.folder.rglob("*.bloom*"))),
+        )
 
 
 def write_keys(folder):
@@ -72,7 +77,7 @@ def write_keys(folder):
     """
     folder.mkdir()
     (folder / ".01.keys.swp").write_text("".join(f"other{key}\n" for key in range(1000)))
-    cuts = [KEYS * number * number // (FILES - 1)**2 for number in range(FILES)]
+    cuts = [KEYS * number * number // (FILES - 1) ** 2 for number in range(FILES)]
     (folder / "00.keys").write_text("")
     for number, (first, last) in enumerate(zip(cuts, cuts[1:]), 1):
         lines = "\n".join(f"key{key}" for key in range(max(0, first - 100), last))
@@ -81,8 +86,14 @@ def write_keys(folder):
 
 def run(*words):
     """The status, output and errors of a command."""
-    done = subprocess.run(list(map(str, words)), stdin=subprocess.DEVNULL, capture_output=True,
-                          text=True, timeout=600, check=False)
+    done = subprocess.run(
+        list(map(str, words)),
+        stdin=subprocess.DEVNULL,
+        capture_output=True,
+        text=True,
+        timeout=600,
+        check=False,
+    )
     return done.returncode, done.stdout, done.stderr
 
 
@@ -99,31 +110,60 @@ def on_other_machines(checks):
     folder, out = checks.folder, checks.folder / "killed.bloom"
     with namespaces() as (near, far, here, there):
         with cluster(folder, near, far, here, there) as address:
-            status, output, errors = run(*near, sys.executable, TOP / "tests/dask/killing.py",
-                                         address, checks.keys, KEYS, out)
+            status, output, errors = run(
+                *near,
+                sys.executable,
+                TOP / "tests/dask/killing.py",
+                address,
+                checks.keys,
+                KEYS,
+                out,
+            )
             killed, parts, done = map(int, output.split()) if status == 0 else (0, 0, 0)
-            checks.check(f"{killed} workers are killed, and {done} tasks do {parts} parts",
-                         (0, "", 3, FILES + 1, True), (status, errors, killed, parts, done > parts))
+            checks.check(
+                f"{killed} workers are killed, and {done} tasks do {parts} parts",
+                (0, "", 3, FILES + 1, True),
+                (status, errors, killed, parts, done > parts),
+            )
             checks.check_file("the filter is that of all keys, though workers were killed", out)
             out = folder / "address.bloom"
-            status, output, errors = run(*near, *SHARDS, checks.keys, *SIZE, "--scheduler", address,
-                                         "--out", out)
-            checks.check("shards.py --scheduler", (0, "64 parts by 4 workers in "),
-                         (status, output[:25]) if status == 0 else (status, errors))
+            status, output, errors = run(
+                *near, *SHARDS, checks.keys, *SIZE, "--scheduler", address, "--out", out
+            )
+            checks.check(
+                "shards.py --scheduler",
+                (0, "64 parts by 4 workers in "),
+                (status, output[:25]) if status == 0 else (status, errors),
+            )
             checks.check_file("the filter of shards.py --scheduler is that of all keys", out)
         # These workers don't find the package, by which they would add keys.
         with cluster(folder, near, far, here, there, PYTHONPATH="") as address:
-            checks.fails("workers that lack the package refuse", ["shards: ", "fastbloom"],
-                         [*near, *SHARDS, checks.keys, *SIZE, "--scheduler", address,
-                          "--out", folder / "refused.bloom"])
+            checks.fails(
+                "workers that lack the package refuse",
+                ["shards: ", "fastbloom"],
+                [
+                    *near,
+                    *SHARDS,
+                    checks.keys,
+                    *SIZE,
+                    "--scheduler",
+                    address,
+                    "--out",
+                    folder / "refused.bloom",
+                ],
+            )
 
 
 def on_own_workers(checks):
     """A scheduler and workers that shards.py starts, with a terminal, and what it refuses."""
     out, seen = Path(f"{checks.keys}.bloom"), b""
     terminal, other_end = pty.openpty()
-    with subprocess.Popen(list(map(str, [*SHARDS, checks.keys, *SIZE])), stdout=other_end,
-                          stderr=other_end, stdin=subprocess.DEVNULL) as process:
+    with subprocess.Popen(
+        list(map(str, [*SHARDS, checks.keys, *SIZE])),
+        stdout=other_end,
+        stderr=other_end,
+        stdin=subprocess.DEVNULL,
+    ) as process:
         os.close(other_end)
         try:
             while piece := os.read(terminal, 65536):
@@ -131,31 +171,58 @@ def on_own_workers(checks):
         except OSError:  # how a terminal ends
             pass
         os.close(terminal)
-    checks.check("shards.py shows a bar", (0, True),
-                 (process.returncode, b"100% Completed" in seen or seen))
+    checks.check(
+        "shards.py shows a bar", (0, True), (process.returncode, b"100% Completed" in seen or seen)
+    )
     checks.check_file("the filter of shards.py is that of all keys", out)
     out.unlink()
     (checks.folder / "bad").mkdir()
     (checks.folder / "bad" / "a.keys").write_text("a\n")
     (checks.folder / "bad" / "b.keys").symlink_to("none")
-    checks.fails("a part that can't be read",
-                 [f"shards: {checks.folder}/bad/b.keys: No such file or directory\n"],
-                 [*SHARDS, checks.folder / "bad", *SIZE])
-    checks.fails("a folder that isn't there", ["No such file or directory"],
-                 [*SHARDS, checks.folder / "none", *SIZE])
+    checks.fails(
+        "a part that can't be read",
+        [f"shards: {checks.folder}/bad/b.keys: No such file or directory\n"],
+        [*SHARDS, checks.folder / "bad", *SIZE],
+    )
+    checks.fails(
+        "a folder that isn't there",
+        ["No such file or directory"],
+        [*SHARDS, checks.folder / "none", *SIZE],
+    )
     (checks.folder / "bad" / "b.keys").unlink()
     inside = checks.folder / "bad" / "out.bloom"
-    checks.fails("a filter's file among the parts", [f"shards: {inside} lies in "],
-                 [*SHARDS, checks.folder / "bad", *SIZE, "--out", inside])
+    checks.fails(
+        "a filter's file among the parts",
+        [f"shards: {inside} lies in "],
+        [*SHARDS, checks.folder / "bad", *SIZE, "--out", inside],
+    )
     os.mkfifo(checks.folder / "bad" / "pipe")
-    checks.fails("a pipe", [f"shards: {checks.folder}/bad/pipe is no file\n"],
-                 [*SHARDS, checks.folder / "bad", *SIZE])
-    checks.fails("a folder with hidden files alone", ["/hidden has no file\n"],
-                 ["sh", "-c", 'mkdir hidden; touch hidden/.keys; exec "$@"', "sh",
-                  *SHARDS, "hidden", *SIZE])
-    checks.fails("a filter for which there is no memory", ["shards: MemoryError\n"],
-                 ["sh", "-c", 'ulimit -v 8000000; exec "$@"', "sh", *SHARDS, checks.keys,
-                  "--items", 10**12, "--rate", "1/1000"])
+    checks.fails(
+        "a pipe",
+        [f"shards: {checks.folder}/bad/pipe is no file\n"],
+        [*SHARDS, checks.folder / "bad", *SIZE],
+    )
+    checks.fails(
+        "a folder with hidden files alone",
+        ["/hidden has no file\n"],
+        ["sh", "-c", 'mkdir hidden; touch hidden/.keys; exec "$@"', "sh", *SHARDS, "hidden", *SIZE],
+    )
+    checks.fails(
+        "a filter for which there is no memory",
+        ["shards: MemoryError\n"],
+        [
+            "sh",
+            "-c",
+            'ulimit -v 8000000; exec "$@"',
+            "sh",
+            *SHARDS,
+            checks.keys,
+            "--items",
+            10**12,
+            "--rate",
+            "1/1000",
+        ],
+    )
     long = checks.folder / "long"
     long.write_bytes(b"\n" * LINES)
     for number in signal.SIGINT, signal.SIGTERM, signal.SIGKILL:
@@ -172,8 +239,11 @@ def is_ended_by(checks, number, long):
         process.send_signal(number)
         process.wait(PATIENCE)
         left = none_left()
-    checks.check(f"{number.name} leaves no worker behind, and no file", (True, [], False),
-                 (process.returncode != 0, left, Path(f"{folder}.bloom").exists()))
+    checks.check(
+        f"{number.name} leaves no worker behind, and no file",
+        (True, [], False),
+        (process.returncode != 0, left, Path(f"{folder}.bloom").exists()),
+    )
 
 
 def load_frames():
@@ -203,16 +273,26 @@ def by_the_module(checks):
         thirds = [bloom_dask.build(client, files[third::3], KEYS, "1/1000") for third in range(3)]
         before = client.gather(thirds)
         united = bloom_dask.unite(client, [*thirds[:2], *thirds]).result()
-        checks.check("three filters are united, two of them twice, and stay as they were",
-                     (True, before), (united == whole, client.gather(thirds)))
+        checks.check(
+            "three filters are united, two of them twice, and stay as they were",
+            (True, before),
+            (united == whole, client.gather(thirds)),
+        )
         asked = dask.bag.from_sequence(asked_for, npartitions=5)
         wanted = subprocess.run(
-            [checks.summaries, "ask", checks.keys.parent / "whole.bloom"], stdout=subprocess.PIPE,
-            input="".join(f"{key}\n" for key in asked_for), text=True, check=True)
+            [checks.summaries, "ask", checks.keys.parent / "whole.bloom"],
+            stdout=subprocess.PIPE,
+            input="".join(f"{key}\n" for key in asked_for),
+            text=True,
+            check=True,
+        )
         for name, given in ("a future", built), ("a filter", whole):
             found = client.gather(bloom_dask.ask(client, given, asked))
-            checks.check(f"{name} answers as summaries ask", wanted.stdout.split(),
-                         [key for part in found for key in part])
+            checks.check(
+                f"{name} answers as summaries ask",
+                wanted.stdout.split(),
+                [key for part in found for key in part],
+            )
         failures(checks, client, files[1])
         refusals(checks, client, frame, built)
 
@@ -234,8 +314,11 @@ def failures(checks, client, file):
         bag = dask.bag.from_delayed([fails_at_first(str(checks.folder / f"mark{retries}"))])
         options = {} if retries is None else {"retries": retries}
         build = bloom_dask.build(client, bag, KEYS, "1/1000", **options)
-        checks.check(f"a part that fails at first, retries {retries}", wanted,
-                     why(lambda: build.result() == one))
+        checks.check(
+            f"a part that fails at first, retries {retries}",
+            wanted,
+            why(lambda: build.result() == one),
+        )
     part = bloom_dask.build(client, [file], KEYS, "1/1000").result()
     with mock.patch.object(client, "nthreads", return_value={}):
         built = bloom_dask.build(client, [file], KEYS, "1/1000")
@@ -248,28 +331,58 @@ def refusals(checks, client, frame, built):
     """What the module refuses."""
     size, rate = KEYS, "1/1000"
     for what, wanted, call in [
-        ("a filter of another size", "ValueError: the filters differ in num_words",
-         lambda: bloom_dask.unite(client, [built, Filter(1, rate), built]).result()),
-        ("a filter of another number of hashes", "ValueError: the filters differ in num_hashes",
-         lambda: bloom_dask.unite(client, [Filter(1, rate), Filter(2, rate)]).result()),
-        ("a filter of another key", "ValueError: the filters differ in key",
-         lambda: bloom_dask.unite(client, [built, Filter(size, rate, b"k" * 16)]).result()),
-        ("numbers", "PartError: part 1 of 1: an item is a str or a bytes-like object, not int",
-         lambda: bloom_dask.build(client, dask.bag.from_sequence([1]), size, rate).result()),
-        ("a text with no UTF-8", "PartError: part 1 of 1: 'utf-8' codec can't encode character "
-         "'\\ud800' in position 0: surrogates not allowed",
-         lambda: bloom_dask.build(client, dask.bag.from_sequence(["\ud800"]), 1, rate).result()),
-        ("a table", "TypeError: this is a table, and one column of it is wanted",
-         lambda: bloom_dask.build(client, frame, size, rate)),
-        ("one file", "TypeError: this is one part, and a list is wanted",
-         lambda: bloom_dask.build(client, "keys", size, rate)),
-        ("no part", "ValueError: there is no part",
-         lambda: bloom_dask.build(client, [], size, rate)),
+        (
+            "a filter of another size",
+            "ValueError: the filters differ in num_words",
+            lambda: bloom_dask.unite(client, [built, Filter(1, rate), built]).result(),
+        ),
+        (
+            "a filter of another number of hashes",
+            "ValueError: the filters differ in num_hashes",
+            lambda: bloom_dask.unite(client, [Filter(1, rate), Filter(2, rate)]).result(),
+        ),
+        (
+            "a filter of another key",
+            "ValueError: the filters differ in key",
+            lambda: bloom_dask.unite(client, [built, Filter(size, rate, b"k" * 16)]).result(),
+        ),
+        (
+            "numbers",
+            "PartError: part 1 of 1: an item is a str or a bytes-like object, not int",
+            lambda: bloom_dask.build(client, dask.bag.from_sequence([1]), size, rate).result(),
+        ),
+        (
+            "a text with no UTF-8",
+            "PartError: part 1 of 1: 'utf-8' codec can't encode character "
+            "'\\ud800' in position 0: surrogates not allowed",
+            lambda: bloom_dask.build(client, dask.bag.from_sequence(["\ud800"]), 1, rate).result(),
+        ),
+        (
+            "a table",
+            "TypeError: this is a table, and one column of it is wanted",
+            lambda: bloom_dask.build(client, frame, size, rate),
+        ),
+        (
+            "one file",
+            "TypeError: this is one part, and a list is wanted",
+            lambda: bloom_dask.build(client, "keys", size, rate),
+        ),
+        (
+            "no part",
+            "ValueError: there is no part",
+            lambda: bloom_dask.build(client, [], size, rate),
+        ),
         ("no filter", "ValueError: there is no filter", lambda: bloom_dask.unite(client, [])),
-        ("a rate of zero", "Refusal: rate with a zero part",
-         lambda: bloom_dask.build(client, ["keys"], size, 0)),
-        ("a part that can't be read, at look-ups", "PartError: /none: No such file or directory",
-         lambda: client.gather(bloom_dask.ask(client, built, ["/none"]))),
+        (
+            "a rate of zero",
+            "Refusal: rate with a zero part",
+            lambda: bloom_dask.build(client, ["keys"], size, 0),
+        ),
+        (
+            "a part that can't be read, at look-ups",
+            "PartError: /none: No such file or directory",
+            lambda: client.gather(bloom_dask.ask(client, built, ["/none"])),
+        ),
     ]:
         checks.check(f"refused: {what}", wanted, why(call))
 

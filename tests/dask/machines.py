@@ -20,11 +20,17 @@ def namespaces():
     Where they can't be made, both are this machine.
     """
     near, far = (f"dask-{os.getpid()}-{end}" for end in ("near", "far"))
-    steps = [f"netns add {near}", f"netns add {far}",
-             f"link add near netns {near} type veth peer name far netns {far}"]
+    steps = [
+        f"netns add {near}",
+        f"netns add {far}",
+        f"link add near netns {near} type veth peer name far netns {far}",
+    ]
     for name, wire, address in (near, "near", "10.0.0.1/30"), (far, "far", "10.0.0.2/30"):
-        steps += [f"-n {name} address add {address} dev {wire}", f"-n {name} link set {wire} up",
-                  f"-n {name} link set lo up"]
+        steps += [
+            f"-n {name} address add {address} dev {wire}",
+            f"-n {name} link set {wire} up",
+            f"-n {name} link set lo up",
+        ]
     try:
         try:
             for step in steps:
@@ -46,8 +52,12 @@ def namespaces():
 def started(words, log, **environment):
     """A process that is ended at the end."""
     with open(log, "wb") as file, subprocess.Popen(
-            list(map(str, words)), stdout=file, stderr=file, stdin=subprocess.DEVNULL,
-            env={**os.environ, **environment}) as process:
+        list(map(str, words)),
+        stdout=file,
+        stderr=file,
+        stdin=subprocess.DEVNULL,
+        env={**os.environ, **environment},
+    ) as process:
         try:
             yield process
         finally:
@@ -69,11 +79,41 @@ def cluster(folder, near, far, here, there, **environment):
     """The address of a scheduler, whose workers are in the other namespace."""
     told = folder / f"scheduler-{time.monotonic_ns()}.json"
     command = [sys.executable, "-m"]
-    with started([*near, *command, "distributed.cli.dask_scheduler", "--host", here, "--port", 0,
-                  "--no-dashboard", "--scheduler-file", told], folder / "scheduler.log"):
-        with started([*far, *command, "distributed.cli.dask_worker", "--scheduler-file", told,
-                      "--host", there, "--nworkers", WORKERS, "--nthreads", 1, "--no-dashboard",
-                      "--local-directory", folder], folder / "workers.log", **environment):
+    with started(
+        [
+            *near,
+            *command,
+            "distributed.cli.dask_scheduler",
+            "--host",
+            here,
+            "--port",
+            0,
+            "--no-dashboard",
+            "--scheduler-file",
+            told,
+        ],
+        folder / "scheduler.log",
+    ):
+        with started(
+            [
+                *far,
+                *command,
+                "distributed.cli.dask_worker",
+                "--scheduler-file",
+                told,
+                "--host",
+                there,
+                "--nworkers",
+                WORKERS,
+                "--nthreads",
+                1,
+                "--no-dashboard",
+                "--local-directory",
+                folder,
+            ],
+            folder / "workers.log",
+            **environment,
+        ):
             yield wait_for(lambda: address_in(told))
 
 

@@ -11,8 +11,7 @@ from typing import Any, Callable, Iterable, List, NoReturn, Union
 from . import _library as library
 from ._blocked import _LINE, BlockedFilter
 from ._files import Path, map_file, open_regular, shared_memory
-from ._filter import (
-    _HEAD, Refusal, _check, _check_file, _hash_value, _number_of_items, _parts)
+from ._filter import _HEAD, Refusal, _check, _check_file, _hash_value, _number_of_items, _parts
 from ._items import Buffer, Item, Rate, bytes_of, check_many, plain_bytes
 from ._many import Hashes, each_part, told, words_of
 from ._mask import Mask
@@ -65,7 +64,8 @@ class SharedBlockedFilter:
         with open_regular(path, "r+b") as file:
             head, size = file.read(_HEAD), os.fstat(file.fileno()).st_size
             _, num_hashes, key, seal = _check_file(
-                head, size, max_hashes, library.blocked_head_read)
+                head, size, max_hashes, library.blocked_head_read
+            )
             if seal:
                 raise ValueError("the file has a seal, which adds would make wrong")
             memory = map_file(file, size, mmap.ACCESS_WRITE)
@@ -136,7 +136,8 @@ class SharedBlockedFilter:
         """
         data = bytes_of(item)
         return library.blocked_shared_insert(
-            self._words, self._num_hashes, self._key, data, len(data))
+            self._words, self._num_hashes, self._key, data, len(data)
+        )
 
     def __contains__(self, item: Item) -> bool:
         """Whether an item is contained. True may be a false positive.
@@ -145,7 +146,8 @@ class SharedBlockedFilter:
         """
         data = bytes_of(item)
         return library.blocked_shared_contains(
-            self._words, self._num_hashes, self._key, data, len(data))
+            self._words, self._num_hashes, self._key, data, len(data)
+        )
 
     def hash(self, item: Item) -> int:
         """The hash of an item: SipHash-1-3 of its bytes under the key."""
@@ -188,8 +190,14 @@ class SharedBlockedFilter:
     def contains_many(self, items: Iterable[Item]) -> List[bool]:
         """Whether each item of an iterable is contained, in their order, many by one call."""
         answers: List[bool] = []
-        each_part(items, self._key, "in", lambda hashes: answers.extend(
-            self._tell(library.blocked_shared_contains_hashes, hashes).tolist()))
+        each_part(
+            items,
+            self._key,
+            "in",
+            lambda hashes: answers.extend(
+                self._tell(library.blocked_shared_contains_hashes, hashes).tolist()
+            ),
+        )
         return answers
 
     def add_hashes(self, hashes: Buffer) -> None:
@@ -270,7 +278,9 @@ class SharedBlockedFilter:
         return self
 
     def __reduce__(self) -> NoReturn:
-        raise TypeError("a shared filter isn't pickled: hand its memory or its file on, or `load()`")
+        raise TypeError(
+            "a shared filter isn't pickled: hand its memory or its file on, or `load()`"
+        )
 
     def __repr__(self) -> str:
         """The size, and whether there is a key. The key itself isn't shown: it may be secret."""

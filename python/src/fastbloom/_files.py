@@ -87,8 +87,9 @@ def _give_rights(descriptor: int, before: os.stat_result) -> None:
 
 def open_regular(path: Path, mode: str = "rb") -> Any:
     """Opens a file. A folder, a device or a pipe raises OSError, and isn't waited for."""
-    file = open(path, mode, opener=lambda name, flags: os.open(
-        name, flags | os.O_NONBLOCK | os.O_NOCTTY))
+    file = open(
+        path, mode, opener=lambda name, flags: os.open(name, flags | os.O_NONBLOCK | os.O_NOCTTY)
+    )
     try:
         _check_regular(os.fstat(file.fileno()), path)
     except BaseException:
@@ -100,8 +101,8 @@ def open_regular(path: Path, mode: str = "rb") -> Any:
 def read_whole(file: io.BufferedReader, head: bytes, size: int) -> Optional[bytearray]:
     """The bytes of a file of this size, of which the head was read. None: it has become shorter."""
     memory = bytearray(size)
-    memory[:len(head)] = head
-    with memoryview(memory)[len(head):] as rest:
+    memory[: len(head)] = head
+    with memoryview(memory)[len(head) :] as rest:
         return memory if file.readinto(rest) == len(rest) else None
 
 

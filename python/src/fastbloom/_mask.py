@@ -27,15 +27,18 @@ class Mask(Sequence[bool]):
     @property
     def bits(self) -> memoryview:
         """The bits, from the lowest of each byte. Those past the last value are zero."""
-        return memoryview(self._bits)[:(self._count + 7) // 8].toreadonly()
+        return memoryview(self._bits)[: (self._count + 7) // 8].toreadonly()
 
     def __len__(self) -> int:
         return self._count
 
     @overload
-    def __getitem__(self, at: int) -> bool: ...
+    def __getitem__(self, at: int) -> bool:
+        ...
+
     @overload
-    def __getitem__(self, at: slice) -> List[bool]: ...
+    def __getitem__(self, at: slice) -> List[bool]:
+        ...
 
     def __getitem__(self, at: Union[int, slice]) -> Union[bool, List[bool]]:
         if isinstance(at, slice):
@@ -53,7 +56,7 @@ class Mask(Sequence[bool]):
     def tolist(self) -> List[bool]:
         """The values as a list."""
         values = [bit for byte in self.bits for bit in _BITS[byte]]
-        del values[self._count:]
+        del values[self._count :]
         return values
 
     def count(self, value: Any = True) -> int:

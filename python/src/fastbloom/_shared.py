@@ -11,7 +11,15 @@ from typing import Any, Callable, Iterable, List, NoReturn, Union
 from . import _library as library
 from ._files import Path, map_file, open_regular, shared_memory
 from ._filter import (
-    _HEAD, Filter, Refusal, _check, _check_file, _hash_value, _number_of_items, _parts)
+    _HEAD,
+    Filter,
+    Refusal,
+    _check,
+    _check_file,
+    _hash_value,
+    _number_of_items,
+    _parts,
+)
 from ._items import Buffer, Item, Rate, bytes_of, check_many, plain_bytes
 from ._many import Hashes, each_part, told, words_of
 from ._mask import Mask
@@ -183,8 +191,14 @@ class SharedFilter:
     def contains_many(self, items: Iterable[Item]) -> List[bool]:
         """Whether each item of an iterable is contained, in their order, many by one call."""
         answers: List[bool] = []
-        each_part(items, self._key, "in", lambda hashes: answers.extend(
-            self._tell(library.shared_contains_hashes, hashes).tolist()))
+        each_part(
+            items,
+            self._key,
+            "in",
+            lambda hashes: answers.extend(
+                self._tell(library.shared_contains_hashes, hashes).tolist()
+            ),
+        )
         return answers
 
     def add_hashes(self, hashes: Buffer) -> None:
@@ -265,10 +279,11 @@ class SharedFilter:
         return self
 
     def __reduce__(self) -> NoReturn:
-        raise TypeError("a shared filter isn't pickled: hand its memory or its file on, or `load()`")
+        raise TypeError(
+            "a shared filter isn't pickled: hand its memory or its file on, or `load()`"
+        )
 
     def __repr__(self) -> str:
         """The size, and whether there is a key. The key itself isn't shown: it may be secret."""
         key = "a key" if any(self._key) else "the zero key"
         return f"<{type(self).__name__}: {self.num_bits} bits, {self._num_hashes} hashes, {key}>"
-
