@@ -9,6 +9,7 @@ import random
 import sys
 import typing
 import unittest
+from fractions import Fraction
 from unittest import mock
 
 import fastbloom
@@ -22,6 +23,7 @@ from fastbloom import (
     SharedFilter,
 )
 from fastbloom import _library as library
+from fastbloom._many import words_of
 
 try:
     import numpy
@@ -85,8 +87,41 @@ class Masks(unittest.TestCase):
         self.assertRaises(TypeError, mask.bits.__setitem__, 0, 1)
         self.assertRaises(ValueError, Mask, bytearray(1), 9)
 
+    def test_a_mask_counts_as_a_list_does(self):
+        values = [True, False, True]
+        mask = Mask(bytearray(b"\x05"), 3)
+        for value in (True, False, 1, 0, 1.0, 0.0, Fraction(1), 2, 0.5, None, [True], "True"):
+            self.assertEqual(mask.count(value), values.count(value), value)
+
+    def test_a_mask_has_no_bits_but_its_own(self):
+        for bits, count in ((b"\x08", 3), (b"\xff\x02", 9), (b"", -1), (b"\x01", -8)):
+            self.assertRaises(ValueError, Mask, bytearray(bits), count)
+        self.assertRaises(TypeError, Mask, bytearray(1), 1.0)
+        bits = bytearray(b"\x05\xff")
+        mask = Mask(bits, 3)
+        bits[0] = 255
+        self.assertEqual((mask, bytes(mask.bits)), ([True, False, True], b"\x05"))
+
+    @unittest.skipUnless(numpy, "numpy isn't there")
+    def test_an_array_of_a_mask_is_a_copy(self):
+        mask = Mask(bytearray(b"\x05"), 3)
+        self.assertRaises(ValueError, mask.__array__, copy=False)
+        self.assertEqual(mask.__array__(copy=True).tolist(), [True, False, True])
+
 
 class Hashes(unittest.TestCase):
+    def test_words_that_are_not_aligned_are_copied(self):
+        """The library is handed addresses that are multiples of 8, as its header wants."""
+        for first in range(8):
+            view = memoryview(bytearray(24))[first : first + 16].cast("Q")
+            view[0], view[1] = 5, 2**64 - 1
+            words, count = words_of(view)
+            self.assertEqual((ctypes.addressof(words) % 8, count), (0, 2))
+            self.assertEqual(list(words), [5, 2**64 - 1])
+            seen = small()
+            self.assertEqual(seen.add_hashes_tell_new(view), [True, True])
+            self.assertTrue(seen.contains_hash(5) and seen.contains_hash(2**64 - 1))
+
     def test_hashes_of_a_buffer_are_those_of_one_by_one(self):
         names = [f"item{number}" for number in range(3000)]
         for make in (small, shared):

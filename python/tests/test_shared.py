@@ -5,6 +5,7 @@ import mmap
 import multiprocessing
 import os
 import pickle
+import sys
 import tempfile
 import threading
 import unittest
@@ -269,6 +270,45 @@ class Calls(unittest.TestCase):
         with self.assertRaises(Refusal):
             seen.load()
         memory.close()
+
+    def test_a_call_that_a_release_interrupts_ends_with_the_words_that_it_had(self):
+        """What is called for each function of Python releases the filter, once a call has begun."""
+        for filters in (SharedFilter, SharedBlockedFilter):
+            for name in ("contains_hashes", "add_hashes_tell_new"):
+                memory = mmap.mmap(-1, 4096)
+                seen = filters.over(memory, 1)
+                seen.add_hashes(array.array("Q", [5]))
+                closed = []
+
+                def release(frame, event, _):
+                    if frame.f_code.co_name == "told":
+                        sys.settrace(None)
+                        seen.release()
+                        try:
+                            memory.close()
+                        except BufferError as error:
+                            closed.append(str(error))
+
+                before = sys.gettrace()
+                try:
+                    sys.settrace(release)
+                    told = getattr(seen, name)(array.array("Q", [5, 6]))
+                finally:
+                    sys.settrace(before)
+                self.assertEqual(told[0], name == "contains_hashes")
+                self.assertEqual((len(closed), seen.num_words), (1, 0))
+                memory.close()
+
+    def test_a_buffer_that_was_refused_is_not_kept(self):
+        for filters in (SharedFilter, SharedBlockedFilter):
+            for size, hashes, key in ((0, 1, bytes(16)), (9, 1, bytes(16)), (64, 1, bytes(15))):
+                memory = bytearray(size)
+                try:
+                    filters.over(memory, hashes, key)
+                except ValueError:
+                    memory.append(1)  # which a view of it would refuse
+                else:
+                    self.fail("it wasn't refused")
 
     def test_a_number_that_releases_the_words_changes_nothing(self):
         for filters, size in ((SharedFilter, 8), (SharedBlockedFilter, 64)):

@@ -27,7 +27,7 @@ class SharedBlockedFilter:
     than those of a `SharedFilter`. It takes no filter of another kind in.
     """
 
-    __slots__ = ("_owner", "_view", "_words", "_num_hashes", "_key", "__weakref__")
+    __slots__ = ("_view", "_words", "_num_hashes", "_key", "__weakref__")
 
     def __init__(self, items: int, rate: Rate, key: Buffer = bytes(16)) -> None:
         """The empty filter for this many items, at a rate of false positives: as `BlockedFilter`."""
@@ -79,17 +79,19 @@ class SharedBlockedFilter:
         key = plain_bytes(key, "a key is a bytes-like object")
         if len(key) != 16:
             raise ValueError("a key is sixteen bytes")
-        # The view keeps the memory where it is.
         view = memoryview(memory).cast("B")
-        if view.nbytes == 0:
-            raise Refusal(_EMPTY_WORDS)
-        if view.nbytes // 8 >= 2**58:
-            raise Refusal(_TOO_MANY_WORDS)
-        at = ctypes.addressof(ctypes.c_char.from_buffer(view))
-        if view.nbytes % _LINE or at % 8:
-            raise ValueError("lines are of 64 bytes, and aligned to eight")
-        self._owner, self._view = memory, view
-        self._words = library.SharedWords(at, view.nbytes // 8)
+        try:
+            if view.nbytes == 0:
+                raise Refusal(_EMPTY_WORDS)
+            if view.nbytes // 8 >= 2**58:
+                raise Refusal(_TOO_MANY_WORDS)
+            words = library.SharedWords(view)
+            if view.nbytes % _LINE or words.words % 8:
+                raise ValueError("lines are of 64 bytes, and aligned to eight")
+        except BaseException:
+            view.release()  # or the error would keep the memory in use
+            raise
+        self._view, self._words = view, words
         self._num_hashes, self._key = num_hashes, key
 
     def release(self) -> None:
@@ -98,9 +100,8 @@ class SharedBlockedFilter:
         It then has no words: it contains nothing, and keeps nothing that is added. `load` and
         `take` raise Refusal.
         """
-        self._words = library.SharedWords(None, 0)
-        self._view.release()
-        self._owner = None
+        self._words = library.SharedWords(memoryview(b""))
+        self._view = self._words.memory
 
     @property
     def num_words(self) -> int:
@@ -243,12 +244,13 @@ class SharedBlockedFilter:
         return self._plain(library.shared_load)
 
     def _plain(self, call: Callable[..., bool]) -> BlockedFilter:
-        count = self.num_words
+        words = self._words
+        count = words.num_words
         if count == 0:  # it was released
             raise Refusal(_EMPTY_WORDS)
         plain = BlockedFilter.__new__(BlockedFilter)
-        plain._set(self.num_lines, self._num_hashes, self._key)
-        call(self._words, plain._at, count)
+        plain._set(count // 8, self._num_hashes, self._key)
+        call(words, plain._at, count)
         return plain
 
     def _check_shape(self, other: SharedBlockedFilter) -> None:

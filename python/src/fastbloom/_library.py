@@ -140,9 +140,18 @@ blocked_seal: Callable[..., int] = _call(
 
 
 class SharedWords(ctypes.Structure):
-    """Words that threads and processes share, as the calls on them take them."""
+    """Words that threads and processes share, as the calls on them take them.
+
+    It keeps their memory where it is, so a call that was handed it may end after a release.
+    """
 
     _fields_ = [("words", ctypes.c_void_p), ("num_words", ctypes.c_size_t)]
+
+    def __init__(self, memory: memoryview) -> None:
+        """The words of memory that can be written. Other memory raises TypeError."""
+        at = ctypes.addressof(ctypes.c_char.from_buffer(memory)) if memory.nbytes else None
+        super().__init__(at, memory.nbytes // 8)
+        self.memory = memory
 
 
 def _shared(name: str, result: Any, *kinds: Any) -> Any:

@@ -78,9 +78,12 @@ def words_of(hashes: Buffer) -> Hashes:
         if not view.contiguous:
             raise TypeError("hashes lie one behind the other")
         count = view.nbytes // 8
+        words = ctypes.c_uint64 * count
         if view.readonly or count == 0:
-            return (ctypes.c_uint64 * count).from_buffer_copy(view), count
-        return (ctypes.c_uint64 * count).from_buffer(view), count
+            return words.from_buffer_copy(view), count
+        lent = words.from_buffer(view)
+        aligned = ctypes.addressof(lent) % 8 == 0
+        return lent if aligned else words.from_buffer_copy(view), count
 
 
 def told(call: Callable[..., bool], before: Tuple[Any, ...], hashes: Hashes) -> Mask:
