@@ -30,7 +30,8 @@ SOURCES = (
     "tests/*.py",
 )
 TOLD = "PKG-INFO"
-# The oldest time that a file in a wheel may have. One of its own would make each wheel another file.
+SETTINGS = {"library", "platform"}
+# The oldest time that a file in a wheel may have. With one of its own each wheel would differ.
 LONG_AGO = 315532800
 
 
@@ -49,11 +50,24 @@ def version():
 
 def notices():
     """The licence and what is owed to others, which each file that is built has."""
+    if not (HERE / TOLD).exists() and not (HERE.parent / "LICENSE").exists():
+        raise SystemExit(
+            "this is a copy of the folder, without the repository around it. pip below 21.3 makes "
+            "one: take a later pip, or give `--use-feature=in-tree-build` to one from 21.1 on"
+        )
     found = {name: HERE / name for name in ("LICENSE", "NOTICE")}
     return {
         name: (own if own.exists() else HERE.parent / name).read_bytes()
         for name, own in found.items()
     }
+
+
+def check_settings(settings):
+    """Refuses settings that aren't known, and another library than none."""
+    for name in sorted({*(settings or {})} - SETTINGS):
+        raise SystemExit(f"there is no setting {name}: there are {', '.join(sorted(SETTINGS))}")
+    if (settings or {}).get("library", "none") != "none":
+        raise SystemExit("the setting library is none: another one is named in FASTBLOOM_LIB")
 
 
 def library_file(settings):
@@ -127,6 +141,7 @@ def write_wheel(folder, files, tag):
 
 def build_wheel(wheel_directory, config_settings=None, metadata_directory=None):
     settings = config_settings or {}
+    check_settings(settings)
     files = {
         f"fastbloom/{path.name}": path.read_bytes()
         for path in sorted([*PACKAGE.glob("*.py"), PACKAGE / "py.typed"])
@@ -140,12 +155,14 @@ def build_wheel(wheel_directory, config_settings=None, metadata_directory=None):
 
 def build_editable(wheel_directory, config_settings=None, metadata_directory=None):
     """A wheel by which Python reads the modules here. The library is found as elsewhere."""
+    check_settings(config_settings)
     path = f"{PACKAGE.parent}\n".encode()
     return write_wheel(wheel_directory, {"fastbloom.pth": path}, "py3-none-any")
 
 
 def build_sdist(sdist_directory, config_settings=None):
     """The sources by themselves. The library isn't in them: it is proved in the repository."""
+    check_settings(config_settings)
     files = {
         str(path.relative_to(HERE)): path.read_bytes()
         for pattern in SOURCES

@@ -150,17 +150,19 @@ def files_of(folder):
 
 def check_out(out, folder):
     """Refuses a file that can't be written, or that a later run would take for a part."""
+    if not os.path.basename(out) or os.path.exists(out) and not os.path.isfile(out):
+        raise ValueError(f"{out!r} is no file")
     place = os.path.realpath(os.path.dirname(os.path.abspath(out)))
     if place == os.path.realpath(folder):
         raise ValueError(f"{out} lies in {folder}, where each file is a part")
-    if not os.access(place, os.W_OK):
+    if not os.path.isdir(place) or not os.access(place, os.W_OK):
         raise PermissionError(f"{out} can't be written")
 
 
 def run(chosen):
     """Builds the filter and writes it."""
     folder = os.path.abspath(chosen.folder)
-    out = chosen.out or folder + ".bloom"
+    out = folder + ".bloom" if chosen.out is None else chosen.out
     files = files_of(folder)
     check_out(out, folder)
     with client_of(chosen) as client:
